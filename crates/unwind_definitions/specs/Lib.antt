@@ -1,0 +1,9 @@
+pub mod Faults
+pub mod Input
+pub mod Forms
+pub mod Pointers
+pub mod Instructions
+pub mod Entries
+pub mod Row
+pub mod Scan
+pub mod Caller

@@ -1,0 +1,88 @@
+-- Pointers in call frame bytes: an encoding byte says the format, what the value is relative to, and whether it is the
+-- address of the pointer. LSB, section on DWARF exception header encoding.
+use Rattle.std.specs.Prelude.{ℕ, ◌+◌, ◌/◌, ◌%◌, ◌^◌, Bool, ◌&&◌, ◌||◌, Option, Some, None, Result, Ok, Err, nat_lt, nat_le, ◌==◌, if◌then◌else◌}
+use Rattle.std.specs.Int.{Width, w8, w16, w32, w64}
+use Rattle.unwind_definitions.specs.Faults.{Fault, UnsupportedPointerEncoding, UndefinedBase, CannotParseOmitPointerEncoding, UnknownPointerEncoding, ◌>>=◌, unless}
+use Rattle.unwind_definitions.specs.Input.{Reads, address_of, number, signed, uleb, sleb}
+
+-- what a pointer may be relative to
+pub record Bases : Type 0 where
+  pub text : Option ℕ
+  pub data_base : Option ℕ
+  pub func : Option ℕ
+  pub hdr : Option ℕ
+  pub frame : Option ℕ
+
+pub data Pointer : Type 0 where
+  Direct Indirect : ℕ → Pointer
+
+-- the low four bits
+abbrev pub format_of : ℕ → ℕ
+format_of e = e % 16
+
+-- the bits 0x70
+abbrev pub application_of : ℕ → ℕ
+application_of e = (e / 16) % 8
+
+abbrev pub is_indirect : ℕ → Bool
+is_indirect e = nat_le 128 e && nat_lt e 255
+
+abbrev pub is_known : ℕ → Bool
+is_known e = (e == 255) || ((nat_le (format_of e) 4 || (nat_le 9 (format_of e) && nat_le (format_of e) 12)) && nat_le (application_of e) 5)
+
+-- an encoding byte
+abbrev pub encoding : Reads ℕ
+encoding c = do
+  e ← number w8 c
+  if is_known e.0 then Ok e else Err UnknownPointerEncoding
+
+abbrev pub signed_number : Width → ℕ → Reads ℕ
+signed_number w bits c = do
+  n ← number w c
+  Ok (signed bits n.0, n.1)
+
+-- the number of a format: absptr, uleb128, udata2, udata4, udata8, sleb128, sdata2, sdata4, sdata8
+abbrev pub value : ℕ → Reads ℕ
+value format =
+    if format == 0 then number w64
+    else (if format == 1 then uleb
+    else (if format == 2 then number w16
+    else (if format == 3 then number w32
+    else (if format == 4 then number w64
+    else (if format == 9 then sleb
+    else (if format == 10 then signed_number w16 16
+    else (if format == 11 then signed_number w32 32
+    else number w64)))))))
+
+abbrev pub known : Option ℕ → Result ℕ Fault
+known None = Err UndefinedBase
+known (Some base) = Ok base
+
+-- What an application adds, for a pointer whose first byte is at an address: nothing, that address, the text, the data
+-- or the function. An aligned pointer isn't read.
+abbrev pub base_of : Bases → ℕ → ℕ → Result ℕ Fault
+base_of bases at application =
+    if application == 0 then Ok 0
+    else (if application == 1 then Ok at
+    else (if application == 2 then known bases.text
+    else (if application == 3 then known bases.data_base
+    else (if application == 4 then known bases.func
+    else Err UnsupportedPointerEncoding))))
+
+abbrev pub pointer : ℕ → Bases → Reads Pointer
+pointer e bases c = if e == 255 then Err CannotParseOmitPointerEncoding else (do
+  _ ← unless (is_known e) UnknownPointerEncoding
+  base ← base_of bases (address_of c) (application_of e)
+  n ← value (format_of e) c
+  Ok ((if is_indirect e then Indirect ((base + n.0) % 2 ^ 64) else Direct ((base + n.0) % 2 ^ 64)), n.1))
+
+abbrev pub direct_target : Pointer → Result ℕ Fault
+direct_target (Direct a) = Ok a
+direct_target (Indirect a) = Err UnsupportedPointerEncoding
+
+-- a pointer that must not be indirect, which shows once it is read
+abbrev pub direct : ℕ → Bases → Reads ℕ
+direct e bases c = do
+  p ← pointer e bases c
+  a ← direct_target p.0
+  Ok (a, p.1)
