@@ -1,2 +1,5 @@
+pub mod Booleans
+pub mod Faultless
 pub mod Push
 pub mod Reading
+pub mod Undo
