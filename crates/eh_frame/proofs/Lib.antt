@@ -1,1 +1,2 @@
 mod Leb
+pub mod RuleLists

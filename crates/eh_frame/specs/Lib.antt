@@ -1,2 +1,4 @@
 pub mod Readers
 pub mod View
+pub mod Rules
+pub mod Running

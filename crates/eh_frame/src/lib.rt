@@ -4,5 +4,9 @@
 #![tactic(auto)]
 
 mod cursor;
+mod program;
+mod rule;
+mod rules;
 
+pub use rule::{CfaRule, Register, RegisterRule};
 pub use unwind_definitions::Error;
