@@ -1,1 +1,2 @@
 mod Leb
+mod CieParts

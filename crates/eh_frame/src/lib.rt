@@ -3,6 +3,13 @@
 //! Source: the LSB section on `.eh_frame`, and DWARF 5 section 6.4.
 #![tactic(auto)]
 
+mod bases;
+mod cie;
 mod cursor;
+mod encoding;
+mod register;
 
+pub use bases::Bases;
+pub use cie::Cie;
+pub use register::Register;
 pub use unwind_definitions::Error;
