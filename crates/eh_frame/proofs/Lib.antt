@@ -1,2 +1,3 @@
 mod Leb
 mod CieParts
+mod FdeParts

@@ -4,6 +4,7 @@ use Rattle.unwind_definitions.specs.Pointers.{Bases}
 use Rattle.unwind_definitions.specs.Entries.{Letters, Cie, Fde}
 use Rattle.eh_frame.specs.declared.bases.Bases.{Bases as CodeBases}
 use Rattle.eh_frame.specs.declared.cie.Cie.{Cie as CodeCie}
+use Rattle.eh_frame.specs.declared.fde.Fde.{Fde as CodeFde}
 use Rattle.eh_frame.specs.View.{at}
 
 abbrev pub bases_of : CodeBases → Bases
@@ -23,4 +24,14 @@ cie_of c = record {
   augmentation = c.augmentation.now;
   letters = plain_letters c.address_encoding;
   program = at c.program;
+}
+
+abbrev pub fde_of : CodeFde → Fde
+fde_of f = record {
+  offset = f.offset;
+  cie = cie_of f.cie;
+  start = f.initial_address;
+  size = f.len;
+  language = None;
+  program = at f.program;
 }

@@ -4,7 +4,7 @@ ghost use Rattle.std.specs.Prelude.{◌≡◌, ◌∷◌, []};
 ghost use Rattle.std.specs.Bool.{OnTrue};
 ghost use Rattle.unwind_definitions.specs.Forms.{plain, is_plain_augmentation};
 ghost use Rattle.unwind_definitions.specs.Pointers.{Bases};
-ghost use Rattle.unwind_definitions.specs.Entries.{cie_body, augmentation_data};
+ghost use Rattle.unwind_definitions.specs.Entries.{cie_body, augmentation_data, address_encoding};
 ghost use Rattle.eh_frame.specs.Readers.{Gives, GivesOr, Answers};
 ghost use Rattle.eh_frame.specs.View.{at};
 ghost use Rattle.eh_frame.specs.Views.{cie_of, plain_letters};
@@ -59,6 +59,21 @@ impl<'a> Cie<'a> {
             address_encoding,
             program: input,
         })
+    }
+
+    /// The augmentation, without its zero byte: which fields the entry and its descriptions have
+    /// beside those that all have.
+    pub fn augmentation(&self) -> &'a [u8]
+        ensures { result.now ≡ (cie_of self.now).augmentation }
+    {
+        self.augmentation
+    }
+
+    // How the addresses of a description are encoded.
+    pub(crate) fn address_encoding(&self) -> u8
+        ensures { result ≡ address_encoding (cie_of self.now) }
+    {
+        self.address_encoding
     }
 }
 

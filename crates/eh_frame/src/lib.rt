@@ -7,9 +7,11 @@ mod bases;
 mod cie;
 mod cursor;
 mod encoding;
+mod fde;
 mod register;
 
 pub use bases::Bases;
 pub use cie::Cie;
+pub use fde::Fde;
 pub use register::Register;
 pub use unwind_definitions::Error;
