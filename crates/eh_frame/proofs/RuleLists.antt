@@ -7,7 +7,7 @@ use Rattle.unwind_definitions.specs.Instructions.{Rule}
 use Rattle.std.proofs.lemmas.List.{length-map, map-set, append-nil, take_all, drop_all}
 use Rattle.std.proofs.Math.ListN.{get_or-map}
 use Rattle.std.specs.List.{refill}
-use Rattle.eh_frame.specs.declared.rule.Register.{Register}
+use Rattle.eh_frame.specs.declared.register.Register.{Register}
 use Rattle.eh_frame.specs.declared.rule.RegisterRule.{RegisterRule}
 use Rattle.eh_frame.specs.Rules.{entry_of, rule_meaning, rule_in, find_in, with_rule, AscendsFrom, is_room}
 

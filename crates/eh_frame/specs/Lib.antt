@@ -1,4 +1,5 @@
 pub mod Readers
 pub mod View
+pub mod Views
 pub mod Rules
 pub mod Running

@@ -17,3 +17,8 @@ GivesOr view (Err e) read new = read ≡ Err e
 -- so many bytes are there, and are passed
 abbrev pub passes : ℕ → Reads (Unit {0})
 passes n c = if nat_lt (length c.bytes) n then Err UnexpectedEof else Ok (tt, skip n c)
+
+-- An answer is what a definition gives, seen by a view, or its fault.
+abbrev pub Answers : {X Y : Type 0} → (X → Y) → Result X Fault → Result Y Fault → Type 0
+Answers view (Ok x) given = given ≡ Ok (view x)
+Answers view (Err e) given = given ≡ Err e

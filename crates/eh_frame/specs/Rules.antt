@@ -4,7 +4,7 @@ use Rattle.unwind_definitions.specs.Instructions.{Rule, Undefined, SameValue, Of
 use Rattle.unwind_definitions.specs.Row.{CfaRule, ColumnAndOffset, ByExpression}
 use Rattle.eh_frame.specs.declared.rule.CfaRule.{CfaRule as CodedCfa}
 use Rattle.eh_frame.specs.declared.rule.CfaRule.TheVariants as cfa
-use Rattle.eh_frame.specs.declared.rule.Register.{Register}
+use Rattle.eh_frame.specs.declared.register.Register.{Register}
 use Rattle.eh_frame.specs.declared.rule.RegisterRule.{RegisterRule}
 use Rattle.eh_frame.specs.declared.rule.RegisterRule.TheVariants as rules
 

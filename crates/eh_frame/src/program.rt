@@ -3,7 +3,8 @@
 
 ghost use Rattle.std.specs.Prelude.{◌≡◌};
 
-use crate::rule::{CfaRule, Register, RegisterRule};
+use crate::register::Register;
+use crate::rule::{CfaRule, RegisterRule};
 use crate::rules::RegisterRules;
 use unwind_definitions::Error;
 

@@ -1,8 +1,6 @@
 //! Rules by which a row finds the caller's registers. DWARF 5 section 6.4.1.
 
-/// A column of the unwind tables, by the machine's DWARF register number.
-#[derive(Clone, Copy, Debug, Default, PartialEq, Eq, Drop)]
-pub struct Register(pub u16);
+use crate::register::Register;
 
 /// How the canonical frame address (CFA) is found.
 #[derive(Clone, Copy, Debug, Drop)]

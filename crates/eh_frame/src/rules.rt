@@ -2,7 +2,8 @@
 
 ghost use Rattle.std.specs.Prelude.{◌≡◌, ◌<◌, ℕ, List, length, IfOk, IfErr};
 
-use crate::rule::{Register, RegisterRule};
+use crate::register::Register;
+use crate::rule::RegisterRule;
 use arrayvec::ArrayVec;
 use std::marker::Model;
 use unwind_definitions::Error;
