@@ -3,3 +3,4 @@ pub mod View
 pub mod Views
 pub mod Rules
 pub mod Running
+pub mod Decoded

@@ -8,6 +8,7 @@ mod cie;
 mod cursor;
 mod encoding;
 mod fde;
+mod instruction;
 mod program;
 mod register;
 mod rule;
