@@ -1,0 +1,5 @@
+mod Leb
+mod CieParts
+mod FdeParts
+pub mod RuleLists
+pub mod Pushed

@@ -1,0 +1,71 @@
+//! Frame description entries: where a function's code lies, and how its frame is undone.
+
+ghost use Rattle.std.specs.Prelude.{◌≡◌, ℕ, None};
+ghost use Rattle.unwind_definitions.specs.Forms.{plain};
+ghost use Rattle.unwind_definitions.specs.Pointers.{Bases};
+ghost use Rattle.unwind_definitions.specs.Entries.{fde_body, fde_data};
+ghost use Rattle.unwind_definitions.specs.Row.{covers_pc};
+ghost use Rattle.eh_frame.specs.Readers.{GivesOr, Answers};
+ghost use Rattle.eh_frame.specs.View.{at};
+ghost use Rattle.eh_frame.specs.Views.{cie_of, fde_of};
+
+use crate::cie::Cie;
+use crate::cursor::Cursor;
+use crate::encoding::{RELATIVE_SDATA4, read_relative, read_sdata4};
+use unwind_definitions::Error;
+
+/// A frame description entry (FDE): the addresses of a function, and the program of its rows.
+///
+/// Source: LSB, section on `.eh_frame`; DWARF 5 section 6.4.1.
+#[derive(Clone, Copy)]
+pub struct Fde<'a> {
+    offset: u64,
+    cie: Cie<'a>,
+    initial_address: u64,
+    len: u64,
+    program: Cursor<'a>,
+}
+
+impl<'a> Fde<'a> {
+    // What stands behind the first four bytes of the entry at `offset`, which names `cie`.
+    pub(crate) fn read(cie: Cie<'a>, offset: u64, body: Cursor<'a>) -> Result<Fde<'a>, Error>
+        ensures { (bases : Bases) → Answers fde_of result (fde_body plain bases (cie_of cie.entry) offset (at body.entry)) }
+    {
+        if cie.address_encoding() != RELATIVE_SDATA4 {
+            return Err(Error::UnsupportedPointerEncoding);
+        }
+        let mut input = body;
+        let initial_address = read_relative(&mut input)?;
+        let len = read_sdata4(&mut input)?;
+        if len > u64::MAX - initial_address {
+            return Err(Error::AddressOverflow);
+        }
+        skip_augmentation_data(&cie, &mut input)?;
+        Ok(Fde {
+            offset,
+            cie,
+            initial_address,
+            len,
+            program: input,
+        })
+    }
+
+    /// Whether the function's code contains the address `pc`: it begins at `initial_address` and
+    /// has `len` bytes.
+    pub fn contains(&self, pc: u64) -> bool
+        ensures { result ≡ covers_pc (fde_of self.now) pc }
+    {
+        self.initial_address <= pc && pc - self.initial_address < self.len
+    }
+}
+
+// The bytes of an augmentation, where there is one: their number, and so many.
+fn skip_augmentation_data(cie: &Cie, input: &mut Cursor) -> Result<(), Error>
+    ensures { (bases : Bases) (start : ℕ) → GivesOr (λ x. None) result (fde_data bases (cie_of cie.now) start (at input.old)) (at input.new) }
+{
+    if cie.augmentation().is_empty() {
+        return Ok(());
+    }
+    let count = input.read_uleb128()?;
+    input.skip(count)
+}

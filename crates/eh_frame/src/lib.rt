@@ -1,0 +1,22 @@
+//! Call frame information of ELF modules: the entries of `.eh_frame`, read in place.
+//!
+//! Source: the LSB section on `.eh_frame`, and DWARF 5 section 6.4.
+#![tactic(auto)]
+
+mod bases;
+mod cie;
+mod cursor;
+mod encoding;
+mod fde;
+mod instruction;
+mod program;
+mod register;
+mod rule;
+mod rules;
+
+pub use bases::Bases;
+pub use cie::Cie;
+pub use fde::Fde;
+pub use register::Register;
+pub use rule::{CfaRule, RegisterRule};
+pub use unwind_definitions::Error;

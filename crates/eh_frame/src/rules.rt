@@ -1,0 +1,106 @@
+//! The registers that have a rule, by ascending column.
+
+ghost use Rattle.std.specs.Prelude.{◌≡◌, ◌<◌, ℕ, List, length, IfOk, IfErr};
+
+use crate::register::Register;
+use crate::rule::RegisterRule;
+use arrayvec::ArrayVec;
+use std::marker::Model;
+use unwind_definitions::Error;
+
+/// The registers that have a rule, each with its rule, at most 32.
+#[derive(Drop)]
+pub(crate) struct RegisterRules<'a> {
+    entries: ArrayVec<(Register, RegisterRule<'a>), 32>,
+}
+
+impl<'a> Model for RegisterRules<'a> {
+    ghost use Rattle.std.specs.Prelude.{ℕ, List, length, map, ◌≤◌};
+    ghost use Rattle.unwind_definitions.specs.Instructions.{Rule};
+
+    ghost Value = { List (ℕ × Rule) };
+
+    ghost use Rattle.eh_frame.specs.Rules.{entry_of, AscendsFrom};
+
+    ghost view = { λ a. map entry_of a.entries.items };
+
+    ghost invariant = { λ a. AscendsFrom 0 (map entry_of a.entries.items) × (length a.entries.items ≤ 32) };
+}
+
+impl<'a> RegisterRules<'a> {
+    ghost use Rattle.std.specs.Prelude.{[], Some, None, OnOk, OnErr, true, false};
+    ghost use Rattle.std.specs.Option.{option_map};
+    ghost use Rattle.eh_frame.specs.Rules.{entry_of, rule_in, find_in, with_rule, rule_meaning, AscendsFrom, is_room};
+
+    /// No rules.
+    pub(crate) fn new() -> RegisterRules<'a>
+        ensures { result ≡ [] }
+    {
+        RegisterRules {
+            entries: ArrayVec::new(),
+        }
+    }
+
+    // the index of a register's entry, or where it can be put
+    fn find(&self, register: Register) -> Result<usize, usize>
+        ensures { result ≡ find_in register.0 0 self.now }
+    {
+        for (i, entry) in self.entries.iter().enumerate() {
+            if register.0 <= entry.0.0 {
+                return if entry.0.0 == register.0 { Ok(i) } else { Err(i) };
+            }
+        }
+        Err(self.entries.len())
+    }
+
+    /// The rule of a register.
+    pub(crate) fn get(&self, register: Register) -> Option<RegisterRule<'a>>
+        ensures { option_map rule_meaning result ≡ rule_in self.now register.0 }
+    {
+        match self.find(register) {
+            Ok(i) => Some(self.entries[i].1),
+            Err(_) => None,
+        }
+    }
+
+    /// Gives a register a rule, in place of the one that it has.
+    pub(crate) fn set(&mut self, register: Register, rule: RegisterRule<'a>) -> Result<(), Error>
+        ensures ascending { AscendsFrom 0 self.old }
+        ensures ok { OnOk result ((c : ℕ) → rule_in self.new c ≡ with_rule register.0 (Some (rule_meaning rule.entry)) self.old c) }
+        ensures room { OnOk result (is_room register.0 self.old ≡ true) }
+        ensures full { OnErr result (is_room register.0 self.old ≡ false) }
+        ensures err { IfErr result (λ e. e ≡ Error.TooManyRegisterRules) }
+    {
+        match self.find(register) {
+            Ok(i) => self.entries[i] = (register, rule),
+            Err(i) => {
+                if self.entries.is_full() {
+                    return Err(Error::TooManyRegisterRules);
+                }
+                self.entries.insert(i, (register, rule));
+            }
+        }
+        Ok(())
+    }
+
+    /// Takes a register's rule away.
+    pub(crate) fn remove(&mut self, register: Register)
+        ensures { (c : ℕ) → rule_in self.new c ≡ with_rule register.0 None self.old c }
+    {
+        match self.find(register) {
+            Ok(i) => {
+                self.entries.remove(i);
+            }
+            Err(_) => {}
+        }
+    }
+
+    /// The same rules.
+    pub(crate) fn copy(&self) -> RegisterRules<'a>
+        ensures { result ≡ self.now }
+    {
+        let mut entries = ArrayVec::new();
+        let _ = entries.try_extend_from_slice(self.entries.as_slice());
+        RegisterRules { entries }
+    }
+}
