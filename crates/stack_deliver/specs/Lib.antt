@@ -1,0 +1,4 @@
+pub mod Modules
+pub mod Nearest
+pub mod Resumes
+pub mod Delivering
