@@ -1,13 +1,14 @@
--- What a delivery gives: for now that of at most one call, which pushed RBX.
-use Rattle.std.specs.Prelude.{◌≡◌, ℕ, ◌+◌, ◌%◌, ◌^◌, ◌==◌, List, [], ◌∷◌, Option, Some, None, Result, Ok, Err, slice_set, slice_index, if◌then◌else◌, ◌⊎◌}
-use Rattle.memory_image.specs.Image.{word_at}
+-- What a delivery gives: the states from its start outwards. No frame names a handler yet, so the search ends with the stack.
+use Rattle.std.specs.Prelude.{◌≡◌, ◌⊎◌, ℕ, zero, suc, Bool, false, List, [], ◌∷◌, Option, Some, None, Result, Ok, Err}
 use Rattle.stack_deliver.specs.declared.x86_64.Context.{Context}
 use Rattle.stack_deliver.specs.declared.delivery.Trail.{Trail}
+use Rattle.stack_deliver.specs.declared.delivery.Stepped.{Stepped}
 use Rattle.stack_deliver.specs.declared.delivery.Outcome.{Outcome}
 use Rattle.stack_deliver.specs.declared.delivery.Outcome.TheVariants.{EndOfStack}
 use Rattle.stack_deliver.specs.declared.delivery.DeliverError.{DeliverError}
-use Rattle.stack_deliver.specs.declared.delivery.DeliverError.TheVariants.{NoMemory, Unmapped, FrameLimit}
+use Rattle.stack_deliver.specs.declared.delivery.DeliverError.TheVariants.{NoMemory, FrameLimit}
 use Rattle.stack_deliver.specs.Modules.{SpaceValue}
+use Rattle.stack_deliver.specs.Stepping.{step_of}
 
 -- the states that the search visited, the cleanups that ran, how it ended, and the state at the handler
 pub record Delivered : Type 0 where
@@ -17,26 +18,29 @@ pub record Delivered : Type 0 where
   pub landing : Option Context
 
 -- the answer, unless memory ran out
-abbrev pub Delivers : Result Delivered DeliverError → Result Delivered DeliverError → Type 0
+abbrev pub Delivers : {A : Type 0} → Result A DeliverError → Result A DeliverError → Type 0
 Delivers result answer = (result ≡ Err NoMemory) ⊎ (result ≡ answer)
 
-abbrev pub caller_by : Context → ℕ → Option ℕ → Option ℕ → Result Context DeliverError
-caller_by s sp None ra = Err (Unmapped sp)
-caller_by s sp (Some b) None = Err (Unmapped ((sp + 8) % 2 ^ 64))
-caller_by s sp (Some b) (Some ra) = Ok (record s { registers = slice_set (slice_set s.registers 3 b) 7 ((sp + 16) % 2 ^ 64); ra = ra })
+abbrev pub with_first : Context → Result (List Context) DeliverError → Result (List Context) DeliverError
+with_first c (Ok cs) = Ok (c ∷ cs)
+with_first c (Err e) = Err e
 
-abbrev pub caller_of : SpaceValue → Context → Result Context DeliverError
-caller_of space s = caller_by s (slice_index s.registers 7) (word_at space.image (slice_index s.registers 7)) (word_at space.image ((slice_index s.registers 7 + 8) % 2 ^ 64))
+-- what follows a context: nothing at the end of the stack, or its caller
+abbrev pub line_after : Context → Result (Option Stepped) DeliverError → (Context → Bool → Result (List Context) DeliverError) → Result (List Context) DeliverError
+line_after c (Err e) outer = Err e
+line_after c (Ok None) outer = Ok (c ∷ [])
+line_after c (Ok (Some s)) outer = with_first c (outer s.context s.signal)
 
-abbrev pub ended : List Context → Delivered
-ended states = record { visited = states; trail = []; outcome = EndOfStack; landing = None }
+-- The contexts from one outwards, each the caller of the one before, where there is room for so many. The mark says whether a
+-- context was interrupted where it stands, as behind a signal's frame, and not behind a call.
+abbrev pub line_of : SpaceValue → ℕ → Context → Bool → Result (List Context) DeliverError
+line_of space zero c interrupted = Err FrameLimit
+line_of space (suc room) c interrupted = line_after c (step_of space c interrupted) (line_of space room)
 
-abbrev pub delivery_with : Context → ℕ → Result Context DeliverError → Result Delivered DeliverError
-delivery_with s limit (Err e) = Err e
-delivery_with s limit (Ok t) = if limit == 1 then Err FrameLimit else Ok (ended (s ∷ t ∷ []))
+abbrev pub ended : Result (List Context) DeliverError → Result Delivered DeliverError
+ended (Ok visited) = Ok (record { visited = visited; trail = []; outcome = EndOfStack; landing = None })
+ended (Err e) = Err e
 
--- what a delivery from a state gives: the space, the state, the exception, the return addresses by pad, and the most states of a pass
+-- what a delivery from a context gives: the space, the context, the exception, the return addresses by pad, and the most states of a pass
 unfoldable pub delivery_of : SpaceValue → Context → ℕ → List (ℕ × ℕ) → ℕ → Result Delivered DeliverError
-delivery_of space s exception resumes limit =
-    if limit == 0 then Err FrameLimit
-    else (if s.ra == 0 then Ok (ended (s ∷ [])) else delivery_with s limit (caller_of space s))
+delivery_of space c exception resumes limit = ended (line_of space limit c false)

@@ -2,8 +2,8 @@
 ghost use Rattle.std.specs.Prelude.{◌≡◌, length, slice_get};
 ghost use Rattle.stack_deliver.specs.declared.delivery.DeliverError.TheVariants.{NoMemory};
 
-use crate::error::Error;
 use crate::x86_64::Context;
+use eh_frame::Error;
 use std::alloc::AllocFailed;
 use std::marker::Model;
 

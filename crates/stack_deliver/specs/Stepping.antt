@@ -1,0 +1,80 @@
+-- From a frame to its caller, by the frame table of the module that holds it.
+use Rattle.std.specs.Prelude.{ℕ, ◌-◌, ◌==◌, Bool, Option, Some, None, Result, Ok, Err, List, if◌then◌else◌}
+use Rattle.memory_image.specs.Image.{Span, table_at}
+use Rattle.unwind_definitions.specs.declared.error.Error.{Error as Fault}
+use Rattle.unwind_definitions.specs.declared.error.Error.TheVariants.{NoUnwindInfoForAddress, UnknownInstruction}
+use Rattle.unwind_definitions.specs.Forms.{plain}
+use Rattle.unwind_definitions.specs.Input.{Input}
+use Rattle.unwind_definitions.specs.Pointers.{Bases}
+use Rattle.unwind_definitions.specs.Entries.{Fde}
+use Rattle.unwind_definitions.specs.Row.{Run, row_at}
+use Rattle.unwind_definitions.specs.Scan.{scan}
+use Rattle.unwind_definitions.specs.Caller.{Columns, Evaluates, StepFault, x86_64, caller_of}
+use Rattle.unwind_definitions.specs.Caller as calls
+use Rattle.stack_deliver.specs.declared.x86_64.Context.{Context}
+use Rattle.stack_deliver.specs.declared.delivery.Stepped.{Stepped}
+use Rattle.stack_deliver.specs.declared.delivery.DeliverError.{DeliverError}
+use Rattle.stack_deliver.specs.declared.delivery.DeliverError.TheVariants.{Table, Unmapped}
+use Rattle.stack_deliver.specs.declared.space.FrameInfo.{FrameInfo}
+use Rattle.stack_deliver.specs.declared.space.FrameInfoKind.{FrameInfoKind}
+use Rattle.stack_deliver.specs.declared.space.FrameInfoKind.TheVariants.{EhFrame, EhFrameHdr}
+use Rattle.stack_deliver.specs.declared.space.Module.{Module}
+use Rattle.stack_deliver.specs.Contexts.{columns_of, context_of}
+use Rattle.stack_deliver.specs.Modules.{SpaceValue, module_at}
+
+-- the address that a description is sought for: behind a call that of the byte before
+abbrev pub address_asked : Context → Bool → ℕ
+address_asked c interrupted = if interrupted then c.ra else c.ra - 1
+
+-- what pointers in a module's frame table may be relative to
+abbrev pub bases_of : Option ℕ → ℕ → Bases
+bases_of text frame = record { text = text; data_base = None; func = None; hdr = None; frame = Some frame }
+
+-- the frame table at an address
+abbrev pub table_of : List Span → ℕ → Input
+table_of image a = record { base = a; offset = 0; bytes = table_at image a }
+
+-- expressions aren't evaluated yet
+abbrev pub no_expressions : Evaluates
+no_expressions = λ bytes stack columns. Err (calls.Table UnknownInstruction)
+
+abbrev pub refusal_of : StepFault → DeliverError
+refusal_of (calls.Table e) = Table e
+refusal_of (calls.Unmapped a) = Unmapped a
+
+-- the caller's context
+abbrev pub context_by : Result Columns StepFault → Result Context DeliverError
+context_by (Ok columns) = Ok (context_of columns)
+context_by (Err e) = Err (refusal_of e)
+
+abbrev pub stepped : Bool → Result Context DeliverError → Result (Option Stepped) DeliverError
+stepped signal (Ok c) = Ok (Some (record { context = c; signal = signal }))
+stepped signal (Err e) = Err e
+
+-- by a row
+abbrev pub called : List Span → Context → Bool → Result Run Fault → Result (Option Stepped) DeliverError
+called image c signal (Ok run) = stepped signal (context_by (caller_of x86_64 no_expressions image (columns_of c) run))
+called image c signal (Err e) = Err (Table e)
+
+-- an address that no description contains ends the stack
+abbrev pub uncovered : Fault → Result (Option Stepped) DeliverError
+uncovered NoUnwindInfoForAddress = Ok None
+uncovered e = Err (Table e)
+
+-- by what a scan finds
+abbrev pub described : List Span → Context → ℕ → Bases → Result Fde Fault → Result (Option Stepped) DeliverError
+described image c a bases (Ok fde) = called image c fde.cie.letters.signal (row_at plain bases fde a)
+described image c a bases (Err e) = uncovered e
+
+-- by the frame table that a module names; header tables aren't read yet
+abbrev pub by_table : List Span → Context → ℕ → Option ℕ → FrameInfoKind → Result (Option Stepped) DeliverError
+by_table image c a text (EhFrame frame) = described image c a (bases_of text frame) (scan plain (bases_of text frame) (table_of image frame) a)
+by_table image c a text (EhFrameHdr header) = Ok None
+
+abbrev pub in_module : List Span → Context → ℕ → Option Module → Result (Option Stepped) DeliverError
+in_module image c a None = Ok None
+in_module image c a (Some m) = by_table image c a m.frame.text_base m.frame.kind
+
+-- The caller of the frame that a context shows, None at the end of the stack.
+unfoldable pub step_of : SpaceValue → Context → Bool → Result (Option Stepped) DeliverError
+step_of space c interrupted = if c.ra == 0 then Ok None else in_module space.image c (address_asked c interrupted) (module_at space.modules (address_asked c interrupted))
