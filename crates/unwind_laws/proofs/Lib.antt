@@ -5,3 +5,5 @@ pub mod Reading
 pub mod Ruled
 pub mod Undo
 pub mod Scanned
+pub mod Found
+pub mod Walk
