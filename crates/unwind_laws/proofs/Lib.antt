@@ -7,3 +7,4 @@ pub mod Undo
 pub mod Scanned
 pub mod Found
 pub mod Walk
+pub mod InPrologue
