@@ -1,6 +1,7 @@
 pub mod Booleans
 pub mod Faultless
 pub mod Push
+pub mod Remember
 pub mod Reading
 pub mod Ruled
 pub mod Undo
