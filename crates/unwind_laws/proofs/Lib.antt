@@ -9,3 +9,6 @@ pub mod Scanned
 pub mod Found
 pub mod Walk
 pub mod InPrologue
+pub mod Rows
+pub mod Steady
+pub mod PushingValid
