@@ -1,7 +1,14 @@
 pub mod Booleans
 pub mod Faultless
 pub mod Push
+pub mod Remember
 pub mod Reading
 pub mod Ruled
 pub mod Undo
 pub mod Scanned
+pub mod Found
+pub mod Walk
+pub mod InPrologue
+pub mod Rows
+pub mod Steady
+pub mod PushingValid

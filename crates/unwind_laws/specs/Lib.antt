@@ -1,2 +1,5 @@
 pub mod Reached
 pub mod Undoes
+pub mod Walked
+pub mod Pushing
+pub mod Columns
