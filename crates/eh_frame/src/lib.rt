@@ -7,11 +7,13 @@ mod bases;
 mod cie;
 mod cursor;
 mod encoding;
+mod entries;
 mod fde;
 mod register;
 
 pub use bases::Bases;
 pub use cie::Cie;
+pub use entries::EhFrame;
 pub use fde::Fde;
 pub use register::Register;
 pub use unwind_definitions::Error;
