@@ -1,3 +1,4 @@
 mod Leb
 mod CieParts
 mod FdeParts
+mod EntryParts

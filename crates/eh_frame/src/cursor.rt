@@ -43,7 +43,11 @@ impl<'a> Cursor<'a> {
         ensures { at result ≡ skip offset (record { base = address; offset = 0; bytes = bytes.now }) }
     {
         let start = offset.min(bytes.len() as u64);
-        Cursor { bytes: &bytes[start as usize..], base: address, offset }
+        Cursor {
+            bytes: &bytes[start as usize..],
+            base: address,
+            offset,
+        }
     }
 
     /// The next byte.

@@ -10,11 +10,10 @@ ghost use Rattle.eh_frame.specs.Readers.{GivesOr, Answers};
 ghost use Rattle.eh_frame.specs.View.{at};
 ghost use Rattle.eh_frame.specs.Views.{cie_of, entry_of, found_of, table_of};
 
-use unwind_definitions::Error;
-
 use crate::cie::Cie;
 use crate::cursor::Cursor;
 use crate::fde::Fde;
+use unwind_definitions::Error;
 
 /// A frame table: the bytes of `.eh_frame`.
 ///
@@ -64,7 +63,10 @@ impl<'a> EhFrame<'a> {
             None => Ok(None),
             Some(body) => {
                 let entry = self.entry_in(offset, body)?;
-                Ok(Some(Found { entry, next: input.offset() }))
+                Ok(Some(Found {
+                    entry,
+                    next: input.offset(),
+                }))
             }
         }
     }
@@ -73,15 +75,16 @@ impl<'a> EhFrame<'a> {
     fn entry_in(&self, offset: u64, body: Cursor<'a>) -> Result<Entry<'a>, Error>
         ensures { (bases : KnownBases) → Answers entry_of result (entry_in plain bases (table_of self.now) offset (at body.entry)) }
     {
+        let place = body.offset();
         let mut input = body;
         let id = input.read_u32()? as u64;
         if id == 0 {
             return Ok(Entry::Cie(Cie::read(offset, input)?));
         }
-        if id > body.offset() {
+        if id > place {
             return Err(Error::NotCie);
         }
-        let cie = self.cie_at(body.offset() - id)?;
+        let cie = self.cie_at(place - id)?;
         Ok(Entry::Fde(Fde::read(cie, offset, input)?))
     }
 
