@@ -2,3 +2,4 @@ mod Leb
 mod CieParts
 mod FdeParts
 mod EntryParts
+mod Scanning

@@ -1,15 +1,17 @@
 //! The entries of a frame table, one after another.
 
-ghost use Rattle.std.specs.Prelude.{◌≡◌};
-ghost use Rattle.std.specs.Option.{option_map};
+ghost use Rattle.std.specs.Prelude.{◌≡◌, Result};
+ghost use Rattle.std.specs.Option.{option_map, option_map_or};
 ghost use Rattle.unwind_definitions.specs.Forms.{plain};
 ghost use Rattle.unwind_definitions.specs.Input.{skip};
 ghost use Rattle.unwind_definitions.specs.Pointers.{Bases as KnownBases};
-ghost use Rattle.unwind_definitions.specs.Entries.{body, cie_at, cie_in, entry_in, entry_at};
+ghost use Rattle.unwind_definitions.specs.Entries.{Fde as Described, body, cie_at, cie_in, entry_in, entry_at};
+ghost use Rattle.unwind_definitions.specs.Scan.{found_or, scan};
 ghost use Rattle.eh_frame.specs.Readers.{GivesOr, Answers};
 ghost use Rattle.eh_frame.specs.View.{at};
-ghost use Rattle.eh_frame.specs.Views.{cie_of, entry_of, found_of, table_of};
+ghost use Rattle.eh_frame.specs.Views.{bases_of, cie_of, fde_of, entry_of, found_of, table_of};
 
+use crate::bases::Bases;
 use crate::cie::Cie;
 use crate::cursor::Cursor;
 use crate::fde::Fde;
@@ -25,6 +27,7 @@ pub struct EhFrame<'a> {
 }
 
 /// An entry of a frame table.
+#[derive(Clone, Copy)]
 pub(crate) enum Entry<'a> {
     /// What several descriptions share.
     Cie(Cie<'a>),
@@ -32,8 +35,9 @@ pub(crate) enum Entry<'a> {
     Fde(Fde<'a>),
 }
 
-/// An entry, and where the next one begins.
-pub(crate) struct Found<'a> {
+// An entry, and where the next one begins.
+#[derive(Clone, Copy)]
+struct Found<'a> {
     entry: Entry<'a>,
     next: u64,
 }
@@ -44,6 +48,36 @@ impl<'a> EhFrame<'a> {
         ensures { table_of result ≡ record { base = address; offset = 0; bytes = bytes.now } }
     {
         EhFrame { bytes, address }
+    }
+
+    /// The first frame description entry, in the table's order, that contains the address `pc`.
+    ///
+    /// # Errors
+    ///
+    /// The error of the first entry before it that can't be read, or
+    /// `NoUnwindInfoForAddress` where all entries can be read and none contains `pc`.
+    pub fn fde_for_address(&self, bases: &Bases, pc: u64) -> Result<Fde<'a>, Error>
+        ensures { Answers fde_of result (scan plain (bases_of bases.now) (table_of self.now) pc) }
+    {
+        self.scan(pc)
+    }
+
+    // The first description that contains an address.
+    fn scan(&self, pc: u64) -> Result<Fde<'a>, Error>
+        ensures { (bases : KnownBases) → Answers fde_of result (scan plain bases (table_of self.now) pc) }
+    {
+        let mut offset = 0;
+        // An entry takes a byte at least, so a table has no more entries than bytes.
+        for _turn in 0..self.bytes.len() + 1 {
+            let Some(found) = self.entry_at(offset)? else {
+                return Err(Error::NoUnwindInfoForAddress);
+            };
+            if let Some(fde) = found.entry.containing(pc) {
+                return Ok(fde);
+            }
+            offset = found.next;
+        }
+        Err(Error::NoUnwindInfoForAddress)
     }
 
     // The table from an offset on.
@@ -96,6 +130,19 @@ impl<'a> EhFrame<'a> {
         match read_body(&mut input)? {
             None => Err(Error::NotCie),
             Some(body) => cie_in(offset, body),
+        }
+    }
+}
+
+impl<'a> Entry<'a> {
+    // The entry, where it is a description that contains an address.
+    fn containing(self, pc: u64) -> Option<Fde<'a>>
+        ensures { (later : Result Described Error) →
+            found_or pc (entry_of self.entry) later ≡ option_map_or (λ fde. Ok (fde_of fde)) result later }
+    {
+        match self {
+            Entry::Fde(fde) if fde.contains(pc) => Some(fde),
+            _ => None,
         }
     }
 }
