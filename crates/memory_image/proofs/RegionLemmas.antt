@@ -1,6 +1,6 @@
 -- The entries of the map of regions: what a search by key finds, and what one more entry changes.
 use denote.Ref.{Bor}
-use Rattle.std.proofs.Common.{◌≡◌, ℕ, ◌+◌, ◌-◌, ◌^◌, ◌<◌, ◌≤◌, Bool, true, false, List, [], ◌∷◌, ◌++◌, Option, Some, None, unwrap_or, refl, sym, ap, ◌∙◌, arith, ltb, inl, inr, length}
+use Rattle.std.proofs.Common.{◌≡◌, ℕ, ◌+◌, ◌^◌, ◌<◌, ◌≤◌, Bool, true, false, List, [], ◌∷◌, ◌++◌, Option, Some, None, unwrap_or, refl, sym, ap, ◌∙◌, arith, ltb, inl, inr, length}
 use Rattle.std.proofs.lemmas.Bool.Decides.{nat_tests, leb_tells}
 use Rattle.std.specs.declared.cmp.Ordering.TheVariants.{Less, Equal, Greater}
 use Rattle.std.specs.declared.ops.Bound.TheVariants.{Included, Excluded, Unbounded}
@@ -13,7 +13,6 @@ use Rattle.std.specs.Ordering.{nat_cmp}
 use Rattle.memory_image.specs.Image.{Span, end_of, IsLaidOut, lowest_overlap, with_span, AddsRegion}
 use Rattle.memory_image.specs.Regions.{span_of, spans_of, span_below, start_above}
 use Rattle.memory_image.proofs.SpanAdds.{apart, laid-with_span, adds-with_span}
-use Rattle.memory_image.proofs.SpanLemmas.{found}
 
 -- a first address and the bytes from there
 abbrev pub Entry : Type 0
@@ -140,14 +139,13 @@ added old new a bytes laid some below none is =
       adds = adds-with_span (span_of (a, bytes)) (spans_of old) (spans_of new) laid some none spans;
     }
 
--- ---- the span below an address doesn't reach it
+-- ---- the span below an address x ends at or below a
 
-pub ends_before-found : (ss : List Span) (a start : ℕ) (bytes : Bor (List ℕ)) → IsLaidOut 0 ss → Some (span_of (start, bytes)) ≡ span_below ss a → length bytes.now ≤ a - start → (t : Span) → span_below ss a ≡ Some t → end_of t ≤ a
-ends_before-found ss a start bytes laid is short t e =
-    let at = (found ss 0 a t laid e).at_or_below in
-    let same : span_of (start, bytes) ≡ t = cc in
-    let at' : start ≤ a = rw (sym same) at at in
-    rw (sym same) (omega arith)
+pub ends_by-found : (ss : List Span) (x a start : ℕ) (bytes : Bor (List ℕ)) → Some (span_of (start, bytes)) ≡ span_below ss x → start + length bytes.now ≤ a → (t : Span) → span_below ss x ≡ Some t → end_of t ≤ a
+ends_by-found ss x a start bytes is ends t e = let same : span_of (start, bytes) ≡ t = cc in rw (sym same) ends
 
-pub ends_before-none : (ss : List Span) (a : ℕ) → None ≡ span_below ss a → (t : Span) → span_below ss a ≡ Some t → end_of t ≤ a
-ends_before-none ss a is t e = let bad : None ≡ Some t = is ∙ e in cc
+pub ends_by-none : (ss : List Span) (x a : ℕ) → None ≡ span_below ss x → (t : Span) → span_below ss x ≡ Some t → end_of t ≤ a
+ends_by-none ss x a is t e = let bad : None ≡ Some t = is ∙ e in cc
+
+pub past_end : (a n : ℕ) → (n ≤ a → false ≡ true) → a < n
+past_end a n h = elim (leb_tells n a) [ inl p ↦ let bad = h p.1 in cc | inr p ↦ p.1 ]
