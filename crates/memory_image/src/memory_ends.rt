@@ -164,4 +164,3 @@ impl<'a> Sink for MemorySink<'a> {
         }
     }
 }
-

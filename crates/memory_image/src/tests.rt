@@ -12,10 +12,9 @@ struct Entry {
 }
 
 impl Record for Entry {
-    ghost use Rattle.std.specs.Prelude.{ℕ, ◌≡◌, ◌≤◌, List, length, drop};
-    ghost use Rattle.std.proofs.Common.{lit≤};
-    ghost use Rattle.memory_image.specs.Words.{u16_at, u32_at};
-    ghost use Rattle.memory_image.proofs.TestRecords.{same_entry};
+    ghost use Rattle.std.proofs.Common.{ℕ, ◌≡◌, ◌∙◌, ◌+◌, ◌≤◌, List, length, drop, ap, sym, subst, lit≤};
+    ghost use Rattle.memory_image.specs.Words.{u16_at, u32_at, same_from_u16_at, same_from_u32_at, same_end};
+    ghost use Rattle.memory_image.specs.declared.tests.Entry.{Entry as Value};
 
     const SIZE: usize = 6;
 
@@ -32,7 +31,10 @@ impl Record for Entry {
 
     ghost has_size = { lit≤ tt };
 
-    ghost keeps_all = { λ xs ys m n b c e. same_entry xs ys m n b c e };
+    ghost keeps_all = { λ xs ys m n b c e.
+        let same : length xs ≡ length ys = m ∙ sym n in
+        let sizes : drop 4 xs ≡ drop 4 ys = same_from_u16_at xs ys 4 same (subst (λ l. 6 ≤ l) (sym m) (lit≤ tt)) b c (ap (λ (v : Value). v.size) e) (same_end 6 xs ys m n) in
+        same_from_u32_at xs ys 0 same (subst (λ l. 4 ≤ l) (sym m) (lit≤ tt)) b c (ap (λ (v : Value). v.address) e) sizes };
 }
 
 #[test]
@@ -42,9 +44,15 @@ fn regions_are_taken_or_refused(rt: HostRuntime) -> Result<(), Fail> {
     assert_eq!(rt; image.add(u64::MAX, &[7]), Ok(()));
     assert_eq!(rt; image.add(u64::MAX, &[7, 8]), Err(ImageError::Wraps));
     assert_eq!(rt; image.add(0x7000, &[0xaa; 16]), Ok(()));
-    assert_eq!(rt; image.add(0x7008, &[0; 16]), Err(ImageError::Overlap(0x7000)));
+    assert_eq!(rt;
+        image.add(0x7008, &[0; 16]),
+        Err(ImageError::Overlap(0x7000))
+    );
     assert_eq!(rt; image.add(0x7010, &[1, 2, 3, 4]), Ok(()));
-    assert_eq!(rt; image.add(0x6fff, &[9; 100]), Err(ImageError::Overlap(0x7000)));
+    assert_eq!(rt;
+        image.add(0x6fff, &[9; 100]),
+        Err(ImageError::Overlap(0x7000))
+    );
     assert_eq!(rt; image.read_u64(0x7008), Some(0xaaaa_aaaa_aaaa_aaaa));
     assert_eq!(rt; image.read_u64(0x700c), Some(0x0403_0201_aaaa_aaaa));
     assert_eq!(rt; image.read_u64(0x700d), None);
@@ -64,7 +72,10 @@ fn errors_are_told(rt: HostRuntime) -> Result<(), Fail> {
     for (error, text) in [
         (ImageError::Empty, "empty region"),
         (ImageError::Wraps, "region past the last address"),
-        (ImageError::Overlap(0x7000), "region overlaps the one at 0x7000"),
+        (
+            ImageError::Overlap(0x7000),
+            "region overlaps the one at 0x7000",
+        ),
         (ImageError::NoMemory, "no memory"),
     ] {
         assert_eq!(rt; format!(in rt.alloc(); "{error}")?.as_str(), text);
@@ -78,9 +89,7 @@ fn first<T: Record>(records: &Records<'_, T>) -> Option<T> {
 
 #[test]
 fn records_are_read(rt: HostRuntime) -> Result<(), Fail> {
-    let bytes = [
-        9, 0x10, 0x20, 0x40, 0, 3, 0, 0x11, 0x20, 0x40, 0, 4, 1, 9,
-    ];
+    let bytes = [9, 0x10, 0x20, 0x40, 0, 3, 0, 0x11, 0x20, 0x40, 0, 4, 1, 9];
     let records = Records::<Entry>::over(&bytes, 1, 2).ok_or("fits")?;
     let second = Entry {
         address: 0x40_2011,
@@ -94,7 +103,10 @@ fn records_are_read(rt: HostRuntime) -> Result<(), Fail> {
     assert_eq!(rt; Records::<Entry>::over(&bytes, 3, 2).is_none(), true);
     assert_eq!(rt; Records::<Entry>::over(&bytes, 14, 0).is_some(), true);
     assert_eq!(rt; Records::<Entry>::over(&bytes, u64::MAX, 0).is_none(), true);
-    assert_eq!(rt; Records::<Entry>::over(&bytes, 0, usize::MAX).is_none(), true);
+    assert_eq!(rt;
+        Records::<Entry>::over(&bytes, 0, usize::MAX).is_none(),
+        true
+    );
     Ok(())
 }
 

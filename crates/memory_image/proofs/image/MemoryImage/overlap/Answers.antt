@@ -13,7 +13,7 @@ pub returns-then-ends_by : goal.returns-then-ends_by
 returns-then-ends_by c =
     sym
     (overlap-none c.args.self.now 0 c.args.address c.args.count c.requires.nonempty c.region_below.ensures.laid_out
-      (ends_by-found c.args.self.now (c.args.address + (c.args.count - 1)) c.args.address c.in_ok-start.start c.in_ok-start.bytes c.in_ok-start.ensures.below (c.if-ends_by.ensures.0 refl)))
+    (ends_by-found c.args.self.now (c.args.address + (c.args.count - 1)) c.args.address c.in_ok-start.start c.in_ok-start.bytes c.in_ok-start.ensures.below (c.if-ends_by.ensures.0 refl)))
 
 pub returns : goal.returns
 returns c =
