@@ -1,10 +1,7 @@
-mod Leb
 mod CieParts
-mod FdeParts
-<<<<<<< HEAD
-pub mod RuleLists
-pub mod Pushed
-=======
 mod EntryParts
+mod FdeParts
+mod Leb
 mod Scanning
->>>>>>> fca202ba05405388bb2ae4b28ffc97222b64869b
+pub mod Pushed
+pub mod RuleLists

@@ -3,5 +3,7 @@ pub mod Contexts
 pub mod Delivering
 pub mod Modules
 pub mod Nearest
+pub mod Processes
 pub mod Resumes
 pub mod Stepping
+pub mod Undone

@@ -1,10 +1,11 @@
 -- From a frame to its caller, by the frame table of the module that holds it.
 use Rattle.std.specs.Prelude.{ℕ, ◌-◌, ◌==◌, Bool, Option, Some, None, Result, Ok, Err, List, if◌then◌else◌}
-use Rattle.memory_image.specs.Image.{Span, table_at}
+use Rattle.memory_image.specs.Image.{Span}
 use Rattle.unwind_definitions.specs.declared.error.Error.{Error as Fault}
 use Rattle.unwind_definitions.specs.declared.error.Error.TheVariants.{NoUnwindInfoForAddress, UnknownInstruction}
 use Rattle.unwind_definitions.specs.Forms.{plain}
-use Rattle.unwind_definitions.specs.Input.{Input}
+use Rattle.unwind_definitions.specs.LanguageTable.{input_at}
+use Rattle.unwind_definitions.specs.Module.{bases_of}
 use Rattle.unwind_definitions.specs.Pointers.{Bases}
 use Rattle.unwind_definitions.specs.Entries.{Fde}
 use Rattle.unwind_definitions.specs.Row.{Run, row_at}
@@ -15,24 +16,16 @@ use Rattle.stack_deliver.specs.declared.x86_64.Context.{Context}
 use Rattle.stack_deliver.specs.declared.delivery.Stepped.{Stepped}
 use Rattle.stack_deliver.specs.declared.delivery.DeliverError.{DeliverError}
 use Rattle.stack_deliver.specs.declared.delivery.DeliverError.TheVariants.{Table, Unmapped}
-use Rattle.stack_deliver.specs.declared.space.FrameInfo.{FrameInfo}
 use Rattle.stack_deliver.specs.declared.space.FrameInfoKind.{FrameInfoKind}
 use Rattle.stack_deliver.specs.declared.space.FrameInfoKind.TheVariants.{EhFrame, EhFrameHdr}
 use Rattle.stack_deliver.specs.declared.space.Module.{Module}
 use Rattle.stack_deliver.specs.Contexts.{columns_of, context_of}
 use Rattle.stack_deliver.specs.Modules.{SpaceValue, module_at}
+use Rattle.stack_deliver.specs.Processes.{module_of}
 
 -- the address that a description is sought for: behind a call that of the byte before
 abbrev pub address_asked : Context → Bool → ℕ
 address_asked c interrupted = if interrupted then c.ra else c.ra - 1
-
--- what pointers in a module's frame table may be relative to
-abbrev pub bases_of : Option ℕ → ℕ → Bases
-bases_of text frame = record { text = text; data_base = None; func = None; hdr = None; frame = Some frame }
-
--- the frame table at an address
-abbrev pub table_of : List Span → ℕ → Input
-table_of image a = record { base = a; offset = 0; bytes = table_at image a }
 
 -- expressions aren't evaluated yet
 abbrev pub no_expressions : Evaluates
@@ -67,13 +60,13 @@ described image c a bases (Ok fde) = called image c fde.cie.letters.signal (row_
 described image c a bases (Err e) = uncovered e
 
 -- by the frame table that a module names; header tables aren't read yet
-abbrev pub by_table : List Span → Context → ℕ → Option ℕ → FrameInfoKind → Result (Option Stepped) DeliverError
-by_table image c a text (EhFrame frame) = described image c a (bases_of text frame) (scan plain (bases_of text frame) (table_of image frame) a)
-by_table image c a text (EhFrameHdr header) = Ok None
+abbrev pub by_table : List Span → Context → ℕ → Module → FrameInfoKind → Result (Option Stepped) DeliverError
+by_table image c a m (EhFrame frame) = described image c a (bases_of (module_of m) frame) (scan plain (bases_of (module_of m) frame) (input_at image frame) a)
+by_table image c a m (EhFrameHdr header) = Ok None
 
 abbrev pub in_module : List Span → Context → ℕ → Option Module → Result (Option Stepped) DeliverError
 in_module image c a None = Ok None
-in_module image c a (Some m) = by_table image c a m.frame.text_base m.frame.kind
+in_module image c a (Some m) = by_table image c a m m.frame.kind
 
 -- The caller of the frame that a context shows, None at the end of the stack.
 unfoldable pub step_of : SpaceValue → Context → Bool → Result (Option Stepped) DeliverError
