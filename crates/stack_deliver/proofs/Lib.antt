@@ -3,3 +3,4 @@ pub mod Callers
 pub mod ContextLemmas
 pub mod Faults
 pub mod Returns
+pub mod StepUndone

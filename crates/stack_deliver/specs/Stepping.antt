@@ -1,5 +1,5 @@
 -- From a frame to its caller, by the frame table of the module that holds it.
-use Rattle.std.specs.Prelude.{ℕ, ◌-◌, ◌==◌, Bool, Option, Some, None, Result, Ok, Err, List, if◌then◌else◌}
+use Rattle.std.specs.Prelude.{ℕ, ◌-◌, ◌==◌, Bool, false, Option, Some, None, Result, Ok, Err, List, if◌then◌else◌}
 use Rattle.memory_image.specs.Image.{Span}
 use Rattle.unwind_definitions.specs.declared.error.Error.{Error as Fault}
 use Rattle.unwind_definitions.specs.declared.error.Error.TheVariants.{NoUnwindInfoForAddress, UnknownInstruction}
@@ -40,14 +40,15 @@ abbrev pub context_by : Result Columns StepFault → Result Context DeliverError
 context_by (Ok columns) = Ok (context_of columns)
 context_by (Err e) = Err (refusal_of e)
 
-abbrev pub stepped : Bool → Result Context DeliverError → Result (Option Stepped) DeliverError
-stepped signal (Ok c) = Ok (Some (record { context = c; signal = signal }))
-stepped signal (Err e) = Err e
+-- no form that is read so far marks a signal's frame
+abbrev pub stepped : Result Context DeliverError → Result (Option Stepped) DeliverError
+stepped (Ok c) = Ok (Some (record { context = c; signal = false }))
+stepped (Err e) = Err e
 
 -- by a row
-abbrev pub called : List Span → Context → Bool → Result Run Fault → Result (Option Stepped) DeliverError
-called image c signal (Ok run) = stepped signal (context_by (caller_of x86_64 no_expressions image (columns_of c) run))
-called image c signal (Err e) = Err (Table e)
+abbrev pub called : List Span → Context → Result Run Fault → Result (Option Stepped) DeliverError
+called image c (Ok run) = stepped (context_by (caller_of x86_64 no_expressions image (columns_of c) run))
+called image c (Err e) = Err (Table e)
 
 -- an address that no description contains ends the stack
 abbrev pub uncovered : Fault → Result (Option Stepped) DeliverError
@@ -56,7 +57,7 @@ uncovered e = Err (Table e)
 
 -- by what a scan finds
 abbrev pub described : List Span → Context → ℕ → Bases → Result Fde Fault → Result (Option Stepped) DeliverError
-described image c a bases (Ok fde) = called image c fde.cie.letters.signal (row_at plain bases fde a)
+described image c a bases (Ok fde) = called image c (row_at plain bases fde a)
 described image c a bases (Err e) = uncovered e
 
 -- by the frame table that a module names; header tables aren't read yet

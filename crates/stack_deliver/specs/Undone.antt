@@ -1,17 +1,21 @@
 -- What it is for a step to undo a call.
-use Rattle.std.specs.Prelude.{◌≡◌, false, List, Some, Result, Ok, Option, IsTrue}
-use Rattle.std.specs.List.{Contains}
+use Rattle.std.specs.Prelude.{◌≡◌, false, List, Some, None, Result, Ok, Option, IsTrue}
+use Rattle.std.specs.List.{Contains, AllByRecursion}
 use Rattle.unwind_definitions.specs.Forms.{plain}
 use Rattle.unwind_definitions.specs.Caller.{Columns}
 use Rattle.unwind_definitions.specs.State.{State, IsState, Shows, KeepsOthers}
 use Rattle.unwind_definitions.specs.Prologue.{SystemV}
 use Rattle.unwind_definitions.specs.Function.{Function, IsFunction}
-use Rattle.unwind_definitions.specs.Module.{Process}
+use Rattle.unwind_definitions.specs.Module.{Module, Process, header_of}
 use Rattle.unwind_definitions.specs.Chain.{Call, IsCalled}
 use Rattle.unwind_definitions.specs.Valid.{LiesDescribed}
 use Rattle.stack_deliver.specs.declared.delivery.DeliverError.{DeliverError}
 use Rattle.stack_deliver.specs.declared.delivery.Stepped.{Stepped}
 use Rattle.stack_deliver.specs.Contexts.{columns_of}
+
+-- each module names its frame table itself, and no header table
+abbrev pub HaveFrameTables : Process → Type 0
+HaveFrameTables p = AllByRecursion (λ (m : Module). header_of m.tables ≡ None) p.modules
 
 -- A state is stopped in the body of a listed function, which was called from its caller's state and which a module describes.
 -- The caller of an outermost function has the return address 0.
