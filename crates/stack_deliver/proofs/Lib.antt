@@ -2,5 +2,6 @@ pub mod Apart
 pub mod Callers
 pub mod ContextLemmas
 pub mod Faults
+pub mod LineShows
 pub mod Returns
 pub mod StepUndone

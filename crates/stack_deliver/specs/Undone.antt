@@ -1,5 +1,5 @@
 -- What it is for a step to undo a call.
-use Rattle.std.specs.Prelude.{◌≡◌, false, List, Some, None, Result, Ok, Option, IsTrue}
+use Rattle.std.specs.Prelude.{◌≡◌, false, List, [], ◌∷◌, Some, None, Result, Ok, Option, IsTrue}
 use Rattle.std.specs.List.{Contains, AllByRecursion}
 use Rattle.unwind_definitions.specs.Forms.{plain}
 use Rattle.unwind_definitions.specs.Caller.{Columns}
@@ -9,6 +9,7 @@ use Rattle.unwind_definitions.specs.Function.{Function, IsFunction}
 use Rattle.unwind_definitions.specs.Module.{Module, Process, header_of}
 use Rattle.unwind_definitions.specs.Chain.{Call, IsCalled}
 use Rattle.unwind_definitions.specs.Valid.{LiesDescribed}
+use Rattle.stack_deliver.specs.declared.x86_64.Context.{Context}
 use Rattle.stack_deliver.specs.declared.delivery.DeliverError.{DeliverError}
 use Rattle.stack_deliver.specs.declared.delivery.Stepped.{Stepped}
 use Rattle.stack_deliver.specs.Contexts.{columns_of}
@@ -34,3 +35,10 @@ pub record Undone (result : Result (Option Stepped) DeliverError) (columns : Col
   pub unmarked : next.signal ≡ false
   pub shows : Shows (columns_of next.context) t
   pub others : KeepsOthers columns (columns_of next.context)
+
+-- contexts show states, one by one
+abbrev pub EachShows : List Context → List State → Type 0
+EachShows [] [] = Unit {0}
+EachShows (c ∷ cs) (s ∷ ss) = Shows (columns_of c) s × EachShows cs ss
+EachShows [] (s ∷ ss) = ⊥
+EachShows (c ∷ cs) [] = ⊥
