@@ -3,3 +3,5 @@ mod CieParts
 mod FdeParts
 pub mod RuleLists
 pub mod Pushed
+pub mod Columns
+pub mod Steps
