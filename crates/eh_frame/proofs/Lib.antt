@@ -5,3 +5,5 @@ pub mod RuleLists
 pub mod Pushed
 pub mod Columns
 pub mod Steps
+pub mod Faulty
+pub mod Reading
