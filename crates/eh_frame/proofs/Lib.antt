@@ -1,9 +1,11 @@
 mod Leb
 mod CieParts
 mod FdeParts
-pub mod RuleLists
-pub mod Pushed
-pub mod Columns
-pub mod Steps
-pub mod Faulty
-pub mod Reading
+mod EntryParts
+mod Scanning
+mod RuleLists
+mod Pushed
+mod Columns
+mod Steps
+mod Faulty
+mod Reading

@@ -1,10 +1,15 @@
 -- The code's records as those of the definitions.
 use Rattle.std.specs.Prelude.{ℕ, Option, Some, None, false}
 use Rattle.unwind_definitions.specs.Pointers.{Bases}
-use Rattle.unwind_definitions.specs.Entries.{Letters, Cie, Fde}
+use Rattle.unwind_definitions.specs.Entries.{Letters, Cie, Fde, Entry, ACie, AFde, Found}
 use Rattle.eh_frame.specs.declared.bases.Bases.{Bases as CodeBases}
 use Rattle.eh_frame.specs.declared.cie.Cie.{Cie as CodeCie}
 use Rattle.eh_frame.specs.declared.fde.Fde.{Fde as CodeFde}
+use Rattle.eh_frame.specs.declared.entries.EhFrame.{EhFrame}
+use Rattle.eh_frame.specs.declared.entries.Entry.{Entry as CodeEntry}
+use Rattle.eh_frame.specs.declared.entries.Entry.TheVariants as entries
+use Rattle.eh_frame.specs.declared.entries.Found.{Found as CodeFound}
+use Rattle.unwind_definitions.specs.Input.{Input}
 use Rattle.eh_frame.specs.View.{at}
 
 abbrev pub bases_of : CodeBases → Bases
@@ -35,3 +40,13 @@ fde_of f = record {
   language = None;
   program = at f.program;
 }
+
+abbrev pub table_of : EhFrame → Input
+table_of t = record { base = t.address; offset = 0; bytes = t.bytes.now }
+
+abbrev pub entry_of : CodeEntry → Entry
+entry_of (entries.Cie cie) = ACie (cie_of cie)
+entry_of (entries.Fde fde) = AFde (fde_of fde)
+
+abbrev pub found_of : CodeFound → Found
+found_of f = record { entry = entry_of f.entry; next = f.next }

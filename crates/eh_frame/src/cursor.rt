@@ -38,6 +38,18 @@ impl<'a> Cursor<'a> {
         }
     }
 
+    /// The bytes of a table from an offset on, of which there are none behind its end.
+    pub(crate) fn from_offset(bytes: &'a [u8], address: u64, offset: u64) -> Cursor<'a>
+        ensures { at result ≡ skip offset (record { base = address; offset = 0; bytes = bytes.now }) }
+    {
+        let start = offset.min(bytes.len() as u64);
+        Cursor {
+            bytes: &bytes[start as usize..],
+            base: address,
+            offset,
+        }
+    }
+
     /// The next byte.
     pub(crate) fn read_u8(&mut self) -> Result<u8, Error>
         ensures { Gives (λ x. x) result (at self.old) (number w8) (at self.new) }
@@ -213,6 +225,13 @@ impl<'a> Cursor<'a> {
                 Ok(front)
             }
         }
+    }
+
+    /// How many of the table's bytes stand before the next one.
+    pub(crate) fn offset(&self) -> u64
+        ensures { result ≡ (at self.now).offset }
+    {
+        self.offset
     }
 
     /// Whether nothing is left.

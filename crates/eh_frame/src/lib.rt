@@ -7,6 +7,7 @@ mod bases;
 mod cie;
 mod cursor;
 mod encoding;
+mod entries;
 mod fde;
 mod instruction;
 mod program;
@@ -16,6 +17,7 @@ mod rules;
 
 pub use bases::Bases;
 pub use cie::Cie;
+pub use entries::EhFrame;
 pub use fde::Fde;
 pub use register::Register;
 pub use rule::{CfaRule, RegisterRule};
