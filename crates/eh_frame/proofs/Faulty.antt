@@ -10,7 +10,7 @@ use Rattle.unwind_definitions.specs.Row.{Run, CfaRule, ColumnAndOffset, rule_of,
 use Rattle.eh_frame.specs.Rules.{rule_in, cfa_meaning, AscendsFrom, is_room}
 use Rattle.eh_frame.specs.Running.{push, Represents, Follows}
 use Rattle.eh_frame.specs.declared.rule.CfaRule.{CfaRule as CodedCfa}
-use Rattle.eh_frame.specs.declared.program.Machine.{Machine}
+use Rattle.eh_frame.specs.declared.machine.Machine.{Machine}
 use Rattle.eh_frame.proofs.Columns.{crowded_is}
 
 module _ (start : ℕ) (m : Machine) (run : Run) (rep : Represents start m run) where
@@ -27,12 +27,12 @@ module _ (start : ℕ) (m : Machine) (run : Run) (rep : Represents start m run) 
   restore_fault b is = ap (λ b. fault_where (not b) faults.PopWithEmptyStack) (sym rep.opened ∙ is)
 
   -- a rule for a column
-  pub crowd_fault : (q : ℕ) (rule : Rule) (room : Bool) → AscendsFrom 0 m.said.rules → is_room q m.said.rules ≡ room → fault_where (is_crowded run q (Some rule)) faults.TooManyRegisterRules ≡ fault_where (not room) faults.TooManyRegisterRules
-  crowd_fault q rule room asc is = ap (λ b. fault_where b faults.TooManyRegisterRules) (crowded_is run m.said.rules q rule asc rep.said.rules ∙ ap not is)
+  pub crowd_fault : (q : ℕ) (rule : Rule) (room : Bool) → AscendsFrom 0 m.state.rules → is_room q m.state.rules ≡ room → fault_where (is_crowded run q (Some rule)) faults.TooManyRegisterRules ≡ fault_where (not room) faults.TooManyRegisterRules
+  crowd_fault q rule room asc is = ap (λ b. fault_where b faults.TooManyRegisterRules) (crowded_is run m.state.rules q rule asc rep.state.rules ∙ ap not is)
 
   -- a rule that is set, or doesn't fit
-  pub set_follows : (i : Instruction) (t : Machine) (q : ℕ) (rule : Rule) (r : Result (Unit {0}) Fault) → fault_of start run i ≡ fault_where (is_crowded run q (Some rule)) faults.TooManyRegisterRules → AscendsFrom 0 m.said.rules →
-      OnOk r (is_room q m.said.rules ≡ true) → OnErr r (is_room q m.said.rules ≡ false) → IfErr r (λ e. e ≡ faults.TooManyRegisterRules) → OnOk r (Represents start t (push run i)) → Follows start run i r t
+  pub set_follows : (i : Instruction) (t : Machine) (q : ℕ) (rule : Rule) (r : Result (Unit {0}) Fault) → fault_of start run i ≡ fault_where (is_crowded run q (Some rule)) faults.TooManyRegisterRules → AscendsFrom 0 m.state.rules →
+      OnOk r (is_room q m.state.rules ≡ true) → OnErr r (is_room q m.state.rules ≡ false) → IfErr r (λ e. e ≡ faults.TooManyRegisterRules) → OnOk r (Represents start t (push run i)) → Follows start run i r t
   set_follows i t q rule (Ok done) fault asc room full is rep' = (fault ∙ crowd_fault q rule true asc room, rep')
   set_follows i t q rule (Err e) fault asc room full is rep' = fault ∙ crowd_fault q rule false asc full ∙ ap (λ e. let o : Option Fault = Some e in o) (sym is)
 

@@ -1,155 +1,41 @@
 //! Running frame programs: that of a common information entry, and a description's own up to an
 //! address. DWARF 5 sections 6.4.1 and 6.4.3.
 
-ghost use Rattle.std.specs.Prelude.{◌≡◌, ℕ, Some, IfOk, IfErr, OnErr, false};
-ghost use Rattle.std.specs.Option.{option_map};
-ghost use Rattle.unwind_definitions.specs.Row.{ColumnAndOffset, has_column};
-ghost use Rattle.eh_frame.specs.Rules.{cfa_meaning};
+ghost use Rattle.std.specs.Prelude.{ℕ};
+ghost use Rattle.unwind_definitions.specs.Forms.{plain};
+ghost use Rattle.unwind_definitions.specs.Pointers.{Bases};
+ghost use Rattle.unwind_definitions.specs.Instructions.{program};
+ghost use Rattle.unwind_definitions.specs.Row.{Run};
+ghost use Rattle.eh_frame.specs.View.{at};
+ghost use Rattle.eh_frame.specs.Decoded.{coding_by};
+ghost use Rattle.eh_frame.specs.Running.{Represents, outcome, Ends};
 
-use crate::instruction::CallFrameInstruction;
-use crate::register::Register;
-use crate::rule::{CfaRule, RegisterRule};
-use crate::rules::RegisterRules;
+use crate::cursor::Cursor;
+use crate::instruction::{AlignmentFactors, read_instruction};
+use crate::machine::Machine;
 use unwind_definitions::Error;
 
-/// What the instructions so far say.
-#[derive(Drop)]
-pub(crate) struct Said<'a> {
-    cfa: Option<CfaRule<'a>>,
-    rules: RegisterRules<'a>,
-    saved_args_size: u64,
-}
-
-impl<'a> Said<'a> {
-    fn copy(&self) -> Said<'a>
-        ensures { result ≡ self.now }
-    {
-        Said {
-            cfa: self.cfa,
-            rules: self.rules.copy(),
-            saved_args_size: self.saved_args_size,
-        }
-    }
-}
-
-/// The virtual machine that runs frame programs.
-#[derive(Drop)]
-pub(crate) struct Machine<'a> {
-    location: u64,
-    said: Said<'a>,
-    // the state that a restore leads back to
-    remembered: Option<Said<'a>>,
-    // the rules that the CIE's program ends with
-    initial: RegisterRules<'a>,
-}
-
-impl<'a> Machine<'a> {
-    ghost use Rattle.unwind_definitions.specs.Instructions.{Advance, Write, Reset, Remember, Restore, CfaColumn, CfaOffset};
-    ghost use Rattle.unwind_definitions.specs.Row.{Run};
-    ghost use Rattle.eh_frame.specs.Rules.{rule_meaning};
-    ghost use Rattle.eh_frame.specs.Decoded.{meaning};
-    ghost use Rattle.eh_frame.specs.Running.{Represents, Follows};
-
-    // Raises the location.
-    fn advance(&mut self, delta: u128) -> Result<(), Error>
-        ensures { (start : ℕ) (run : Run) → Represents start self.old run → Follows start run (Advance delta) result self.new }
-    {
-        if delta > (u64::MAX - self.location) as u128 {
-            return Err(Error::AddressOverflow);
-        }
-        self.location += delta as u64;
-        Ok(())
-    }
-
-    fn set_rule(&mut self, register: Register, rule: RegisterRule<'a>) -> Result<(), Error>
-        ensures { (start : ℕ) (run : Run) → Represents start self.old run → Follows start run (Write register.0 (rule_meaning rule.entry)) result self.new }
-    {
-        self.said.rules.set(register, rule)
-    }
-
-    fn restore_initial_rule(&mut self, register: Register) -> Result<(), Error>
-        ensures { (start : ℕ) (run : Run) → Represents start self.old run → Follows start run (Reset register.0) result self.new }
-    {
-        match self.initial.get(register) {
-            Some(rule) => self.said.rules.set(register, rule),
-            None => {
-                self.said.rules.remove(register);
-                Ok(())
-            }
-        }
-    }
-
-    fn remember_state(&mut self) -> Result<(), Error>
-        ensures { (start : ℕ) (run : Run) → Represents start self.old run → Follows start run Remember result self.new }
-    {
-        match self.remembered {
-            Some(_) => Err(Error::StackFull),
-            None => {
-                self.remembered = Some(self.said.copy());
-                Ok(())
-            }
-        }
-    }
-
-    fn restore_state(&mut self) -> Result<(), Error>
-        ensures { (start : ℕ) (run : Run) → Represents start self.old run → Follows start run Restore result self.new }
-    {
-        match self.remembered.take() {
-            Some(said) => {
-                self.said = said;
-                Ok(())
-            }
-            None => Err(Error::PopWithEmptyStack),
-        }
-    }
-
-    fn set_cfa_register(&mut self, register: Register) -> Result<(), Error>
-        ensures { (start : ℕ) (run : Run) → Represents start self.old run → Follows start run (CfaColumn register.0) result self.new }
-    {
-        let (_, offset) = register_and_offset(self.said.cfa)?;
-        self.said.cfa = Some(CfaRule::RegisterAndOffset { register, offset });
-        Ok(())
-    }
-
-    fn set_cfa_offset(&mut self, offset: u64) -> Result<(), Error>
-        ensures { (start : ℕ) (run : Run) → Represents start self.old run → Follows start run (CfaOffset offset) result self.new }
-    {
-        let (register, _) = register_and_offset(self.said.cfa)?;
-        self.said.cfa = Some(CfaRule::RegisterAndOffset { register, offset });
-        Ok(())
-    }
-
-    // Runs one instruction. Behind a fault the machine isn't told.
-    fn run(&mut self, instruction: CallFrameInstruction<'a>) -> Result<(), Error>
-        ensures { (start : ℕ) (run : Run) → Represents start self.old run → Follows start run (meaning instruction.entry) result self.new }
-    {
-        match instruction {
-            CallFrameInstruction::Nop => Ok(()),
-            CallFrameInstruction::AdvanceLocation(delta) => self.advance(delta),
-            CallFrameInstruction::SetRule { register, rule } => self.set_rule(register, rule),
-            CallFrameInstruction::RestoreInitialRule(register) => {
-                self.restore_initial_rule(register)
-            }
-            CallFrameInstruction::RememberState => self.remember_state(),
-            CallFrameInstruction::RestoreState => self.restore_state(),
-            CallFrameInstruction::DefineCfa { register, offset } => {
-                self.said.cfa = Some(CfaRule::RegisterAndOffset { register, offset });
-                Ok(())
-            }
-            CallFrameInstruction::DefineCfaRegister(register) => self.set_cfa_register(register),
-            CallFrameInstruction::DefineCfaOffset(offset) => self.set_cfa_offset(offset),
-        }
-    }
-}
-
-// The register and the offset of a CFA that is found by them.
-fn register_and_offset(cfa: Option<CfaRule>) -> Result<(Register, u64), Error>
-    ensures ok { IfOk result (λ r. option_map cfa_meaning cfa.entry ≡ Some (ColumnAndOffset r.0.0 r.1)) }
-    ensures err { IfErr result (λ e. e ≡ Error.NoCfaRegister) }
-    ensures none { OnErr result (has_column (option_map cfa_meaning cfa.entry) ≡ false) }
+/// Runs a program, whole or up to the advance that leads past an address. Behind a fault the
+/// machine isn't told.
+pub(crate) fn run_program<'a>(
+    machine: &mut Machine<'a>,
+    bytes: Cursor<'a>,
+    factors: AlignmentFactors,
+    pc: Option<u64>,
+) -> Result<(), Error>
+    ensures { (start : ℕ) (run : Run) (address : ℕ) (bases : Bases) → Represents start machine.old run →
+        Ends start result machine.new (outcome start pc run (program plain (coding_by factors address bases) (at bytes.entry))) }
 {
-    match cfa {
-        Some(CfaRule::RegisterAndOffset { register, offset }) => Ok((register, offset)),
-        _ => Err(Error::NoCfaRegister),
+    let mut input = bytes;
+    for _turn in 0..bytes.len() {
+        if input.is_empty() {
+            return Ok(());
+        }
+        let instruction = read_instruction(&mut input, factors)?;
+        if machine.stops_before(instruction, pc) {
+            return Ok(());
+        }
+        machine.run(instruction)?;
     }
+    Ok(())
 }

@@ -2,7 +2,7 @@ use Rattle.std.proofs.Common.{refl, sym}
 use Rattle.unwind_definitions.specs.Instructions.{Cfa}
 use Rattle.eh_frame.proofs.Pushed.{cfa_whole}
 use Rattle.eh_frame.proofs.Steps.{step_nop, step_cfa}
-use Rattle.eh_frame.proofs.program.Machine.run.Goals as goal
+use Rattle.eh_frame.proofs.machine.Machine.run.Goals as goal
 
 pub returns-in-Nop : goal.returns-in-Nop
 returns-in-Nop c start run rep = rw c.in-Nop.is (refl, step_nop start c.args.self.now run rep)

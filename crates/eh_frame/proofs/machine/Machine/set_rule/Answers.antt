@@ -3,7 +3,7 @@ use Rattle.unwind_definitions.specs.Instructions.{Write}
 use Rattle.eh_frame.specs.Rules.{rule_meaning}
 use Rattle.eh_frame.proofs.Steps.{step_write}
 use Rattle.eh_frame.proofs.Faulty.{set_follows, on_ok}
-use Rattle.eh_frame.proofs.program.Machine.set_rule.Goals as goal
+use Rattle.eh_frame.proofs.machine.Machine.set_rule.Goals as goal
 
 pub returns : goal.returns
 returns c start run rep =
