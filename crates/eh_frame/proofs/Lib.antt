@@ -9,3 +9,4 @@ mod Columns
 mod Steps
 mod Faulty
 mod Reading
+mod Together

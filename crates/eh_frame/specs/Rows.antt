@@ -1,7 +1,8 @@
 -- Which rows a description has.
-use Rattle.std.specs.Prelude.{◌≡◌, ℕ, Option, Some, Result, Ok, Err}
+use Rattle.std.specs.Prelude.{◌≡◌, ℕ, Option, Some, None, Result, Ok, Err}
 use Rattle.unwind_definitions.specs.declared.error.Error.{Error as Fault}
 use Rattle.unwind_definitions.specs.Row.{Run, rule_of, cfa_rule, argument_size}
+use Rattle.unwind_definitions.specs.declared.error.Error.TheVariants.{NoCfaRegister}
 use Rattle.eh_frame.specs.Rules.{rule_in}
 use Rattle.eh_frame.specs.RowValue.{RowValue}
 
@@ -15,3 +16,8 @@ pub record IsRowOf (row : RowValue) (run : Run) : Type 0 where
 abbrev pub GivesRow : Result RowValue Fault → Result Run Fault → Type 0
 GivesRow (Ok row) due = (run : Run) × (due ≡ Ok run) × IsRowOf row run
 GivesRow (Err e) due = due ≡ Err e
+
+-- what programs end with: a row, unless there is no CFA
+abbrev pub IsLast : Run → Result RowValue Fault → Type 0
+IsLast run (Ok row) = IsRowOf row run
+IsLast run (Err e) = (e ≡ NoCfaRegister) × (cfa_rule run ≡ None)

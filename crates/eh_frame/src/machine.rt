@@ -8,6 +8,7 @@ ghost use Rattle.eh_frame.specs.Rules.{cfa_meaning};
 
 use crate::instruction::CallFrameInstruction;
 use crate::register::Register;
+use crate::row::Row;
 use crate::rule::{CfaRule, RegisterRule};
 use crate::rules::RegisterRules;
 use unwind_definitions::Error;
@@ -50,6 +51,7 @@ impl<'a> Machine<'a> {
     ghost use Rattle.eh_frame.specs.Rules.{rule_meaning};
     ghost use Rattle.eh_frame.specs.Decoded.{meaning};
     ghost use Rattle.eh_frame.specs.Running.{Represents, Follows, stops};
+    ghost use Rattle.eh_frame.specs.Rows.{IsLast};
 
     /// A machine that is to run the program of a common information entry.
     pub(crate) fn new() -> Machine<'a>
@@ -178,6 +180,27 @@ impl<'a> Machine<'a> {
             }
             CallFrameInstruction::DefineCfaRegister(register) => self.set_cfa_register(register),
             CallFrameInstruction::DefineCfaOffset(offset) => self.set_cfa_offset(offset),
+        }
+    }
+
+    /// The row that the programs end with.
+    pub(crate) fn into_row(self) -> Result<Row<'a>, Error>
+        ensures { (start : ℕ) (run : Run) → Represents start self.entry run → IsLast run result }
+    {
+        let Machine {
+            location: _,
+            state,
+            remembered: _,
+            initial: _,
+        } = self;
+        let RowState {
+            cfa,
+            rules,
+            saved_args_size,
+        } = state;
+        match cfa {
+            Some(cfa) => Ok(Row::new(cfa, rules, saved_args_size)),
+            None => Err(Error::NoCfaRegister),
         }
     }
 }

@@ -5,19 +5,40 @@ ghost use Rattle.std.specs.Prelude.{ℕ};
 ghost use Rattle.unwind_definitions.specs.Forms.{plain};
 ghost use Rattle.unwind_definitions.specs.Pointers.{Bases};
 ghost use Rattle.unwind_definitions.specs.Instructions.{program};
-ghost use Rattle.unwind_definitions.specs.Row.{Run};
+ghost use Rattle.unwind_definitions.specs.Row.{Run, row};
 ghost use Rattle.eh_frame.specs.View.{at};
 ghost use Rattle.eh_frame.specs.Decoded.{coding_by};
+ghost use Rattle.eh_frame.specs.Rows.{GivesRow};
 ghost use Rattle.eh_frame.specs.Running.{Represents, outcome, Ends};
 
 use crate::cursor::Cursor;
 use crate::instruction::{AlignmentFactors, read_instruction};
 use crate::machine::Machine;
+use crate::row::Row;
 use unwind_definitions::Error;
 
-/// Runs a program, whole or up to the advance that leads past an address. Behind a fault the
-/// machine isn't told.
-pub(crate) fn run_program<'a>(
+/// The row at an address of a description whose program begins at `start`. The program of its
+/// common information entry runs first, and whole.
+pub(crate) fn row_at<'a>(
+    common: Cursor<'a>,
+    own: Cursor<'a>,
+    factors: AlignmentFactors,
+    start: u64,
+    pc: u64,
+) -> Result<Row<'a>, Error>
+    ensures { (address : ℕ) (bases : Bases) →
+        GivesRow result (row start pc (program plain (coding_by factors address bases) (at common.entry)) (program plain (coding_by factors address bases) (at own.entry))) }
+{
+    let mut machine = Machine::new();
+    run_program(&mut machine, common, factors, None)?;
+    machine.begin(start);
+    run_program(&mut machine, own, factors, Some(pc))?;
+    machine.into_row()
+}
+
+// Runs a program, whole or up to the advance that leads past an address. Behind a fault the
+// machine isn't told.
+fn run_program<'a>(
     machine: &mut Machine<'a>,
     bytes: Cursor<'a>,
     factors: AlignmentFactors,
