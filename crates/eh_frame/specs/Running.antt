@@ -1,6 +1,6 @@
 -- The running state of a frame program: what the instructions that ran so far have said. No public clause cites this.
 use Rattle.std.specs.Prelude.{◌≡◌, ℕ, ◌+◌, ◌^◌, Bool, true, false, ◌&&◌, List, [], ◌∷◌, ◌++◌, length, Option, Some, None, Result, Ok, Err, is_some, nat_lt, nat_le, ◌==◌, if◌then◌else◌}
-use Rattle.std.specs.Option.{option_or, option_map}
+use Rattle.std.specs.Option.{option_or, option_map, unwrap_or}
 use Rattle.unwind_definitions.specs.declared.error.Error.{Error as Fault}
 use Rattle.unwind_definitions.specs.Instructions.{Rule, Instruction, Advance, SetLocation, Program}
 use Rattle.unwind_definitions.specs.Row.{Run, CfaRule, cut, cut_of, cfa_rule, rule_of, initial_rule, argument_size, location, up_to, first_fault, fault_of, is_open, or_else}
@@ -48,13 +48,17 @@ abbrev pub IsRemembered : Option RowState → Run → Type 0
 IsRemembered None run = IsClosed run.own
 IsRemembered (Some state) run = (before : List Instruction) × IsOpenSince before run.own × IsStateOf state (record run { own = before })
 
+-- the initial rules of a machine
+abbrev pub initial_rules : Machine → List (ℕ × Rule)
+initial_rules machine = unwrap_or machine.initial []
+
 -- the machine has run these instructions, from a location on
 pub record Represents (start : ℕ) (machine : Machine) (run : Run) : Type 0 where
   pub here : machine.location ≡ location start run.own
   pub state : IsStateOf machine.state run
   pub opened : is_some machine.remembered ≡ is_open run.own
   pub remembered : IsRemembered machine.remembered run
-  pub initial : (c : ℕ) → rule_in machine.initial c ≡ initial_rule run c
+  pub initial : (c : ℕ) → rule_in (initial_rules machine) c ≡ initial_rule run c
 
 -- the machine after one more instruction, or why it can't follow
 abbrev pub Follows : ℕ → Run → Instruction → Result (Unit {0}) Fault → Machine → Type 0

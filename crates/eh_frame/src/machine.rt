@@ -40,17 +40,17 @@ pub(crate) struct Machine<'a> {
     state: RowState<'a>,
     // the state that a restore leads back to
     remembered: Option<RowState<'a>>,
-    // the rules that the CIE's program ends with
-    initial: RegisterRules<'a>,
+    // the rules that the CIE's program ended with; None while that one runs, which has no rules before
+    initial: Option<RegisterRules<'a>>,
 }
 
 impl<'a> Machine<'a> {
     ghost use Rattle.std.specs.Prelude.{[], List};
     ghost use Rattle.unwind_definitions.specs.Instructions.{Instruction, Advance, Write, Reset, Remember, Restore, CfaColumn, CfaOffset};
     ghost use Rattle.unwind_definitions.specs.Row.{Run, from_common};
-    ghost use Rattle.eh_frame.specs.Rules.{rule_meaning};
+    ghost use Rattle.eh_frame.specs.Rules.{rule_meaning, rule_in};
     ghost use Rattle.eh_frame.specs.Decoded.{meaning};
-    ghost use Rattle.eh_frame.specs.Running.{Represents, Follows, stops};
+    ghost use Rattle.eh_frame.specs.Running.{Represents, Follows, stops, initial_rules};
     ghost use Rattle.eh_frame.specs.Rows.{IsLast};
 
     /// A machine that is to run the program of a common information entry.
@@ -65,7 +65,7 @@ impl<'a> Machine<'a> {
                 saved_args_size: 0,
             },
             remembered: None,
-            initial: RegisterRules::new(),
+            initial: None,
         }
     }
 
@@ -76,7 +76,7 @@ impl<'a> Machine<'a> {
     {
         self.location = location;
         self.remembered = None;
-        self.initial = self.state.rules.copy();
+        self.initial = Some(self.state.rules.copy());
     }
 
     /// Whether an instruction leads past the address asked, if one is asked.
@@ -109,10 +109,19 @@ impl<'a> Machine<'a> {
         self.state.rules.set(register, rule)
     }
 
+    fn initial_rule(&self, register: Register) -> Option<RegisterRule<'a>>
+        ensures { option_map rule_meaning result ≡ rule_in (initial_rules self.now) register.0 }
+    {
+        match &self.initial {
+            Some(rules) => rules.get(register),
+            None => None,
+        }
+    }
+
     fn restore_initial_rule(&mut self, register: Register) -> Result<(), Error>
         ensures { (start : ℕ) (run : Run) → Represents start self.old run → Follows start run (Reset register.0) result self.new }
     {
-        match self.initial.get(register) {
+        match self.initial_rule(register) {
             Some(rule) => self.state.rules.set(register, rule),
             None => {
                 self.state.rules.remove(register);
