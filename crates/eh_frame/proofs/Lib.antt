@@ -1,7 +1,12 @@
-mod CieParts
-mod EntryParts
-mod FdeParts
 mod Leb
+mod CieParts
+mod FdeParts
+mod EntryParts
 mod Scanning
-pub mod Pushed
-pub mod RuleLists
+mod RuleLists
+mod Pushed
+mod Columns
+mod Steps
+mod Faulty
+mod Reading
+mod Together

@@ -4,3 +4,6 @@ pub mod Views
 pub mod Rules
 pub mod Running
 pub mod Decoded
+pub mod RowValue
+pub mod Rows
+pub mod Left

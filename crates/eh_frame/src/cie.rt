@@ -4,13 +4,15 @@ ghost use Rattle.std.specs.Prelude.{◌≡◌, ◌∷◌, []};
 ghost use Rattle.std.specs.Bool.{OnTrue};
 ghost use Rattle.unwind_definitions.specs.Forms.{plain, is_plain_augmentation};
 ghost use Rattle.unwind_definitions.specs.Pointers.{Bases};
-ghost use Rattle.unwind_definitions.specs.Entries.{cie_body, augmentation_data, address_encoding};
+ghost use Rattle.unwind_definitions.specs.Entries.{cie_body, augmentation_data, address_encoding, coding_of};
+ghost use Rattle.eh_frame.specs.Decoded.{coding_by};
 ghost use Rattle.eh_frame.specs.Readers.{Gives, GivesOr, Answers};
 ghost use Rattle.eh_frame.specs.View.{at};
 ghost use Rattle.eh_frame.specs.Views.{cie_of, plain_letters};
 
 use crate::cursor::Cursor;
 use crate::encoding::read_encoding;
+use crate::instruction::AlignmentFactors;
 use crate::register::Register;
 use unwind_definitions::Error;
 
@@ -67,6 +69,23 @@ impl<'a> Cie<'a> {
         ensures { result.now ≡ (cie_of self.now).augmentation }
     {
         self.augmentation
+    }
+
+    // What the operands in the programs of the entry and of its descriptions are multiplied by.
+    pub(crate) fn factors(&self) -> AlignmentFactors
+        ensures { (bases : Bases) → coding_by result (address_encoding (cie_of self.now)) bases ≡ coding_of bases (cie_of self.now) }
+    {
+        AlignmentFactors {
+            code: self.code_alignment,
+            data_factor: self.data_alignment,
+        }
+    }
+
+    // The instructions that each description's program begins with.
+    pub(crate) fn instructions(&self) -> Cursor<'a>
+        ensures { at result ≡ (cie_of self.now).program }
+    {
+        self.program
     }
 
     // How the addresses of a description are encoded.

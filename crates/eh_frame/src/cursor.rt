@@ -241,6 +241,13 @@ impl<'a> Cursor<'a> {
         self.bytes.is_empty()
     }
 
+    /// How many bytes are left.
+    pub(crate) fn len(&self) -> usize
+        ensures { result ≡ length (at self.now).bytes }
+    {
+        self.bytes.len()
+    }
+
     /// The address of the next byte.
     pub(crate) fn address(&self) -> u64
         ensures { result ≡ address_of (at self.now) }

@@ -10,8 +10,10 @@ mod encoding;
 mod entries;
 mod fde;
 mod instruction;
+mod machine;
 mod program;
 mod register;
+mod row;
 mod rule;
 mod rules;
 
@@ -20,5 +22,6 @@ pub use cie::Cie;
 pub use entries::EhFrame;
 pub use fde::Fde;
 pub use register::Register;
+pub use row::{Registers, Row};
 pub use rule::{CfaRule, RegisterRule};
 pub use unwind_definitions::Error;

@@ -28,7 +28,7 @@ impl<'a> Model for RegisterRules<'a> {
 }
 
 impl<'a> RegisterRules<'a> {
-    ghost use Rattle.std.specs.Prelude.{[], Some, None, OnOk, OnErr, true, false};
+    ghost use Rattle.std.specs.Prelude.{[], Some, None, OnOk, OnErr, true, false, map, ◌≤◌};
     ghost use Rattle.std.specs.Option.{option_map};
     ghost use Rattle.eh_frame.specs.Rules.{entry_of, rule_in, find_in, with_rule, rule_meaning, AscendsFrom, is_room};
 
@@ -102,5 +102,13 @@ impl<'a> RegisterRules<'a> {
         let mut entries = ArrayVec::new();
         let _ = entries.try_extend_from_slice(self.entries.as_slice());
         RegisterRules { entries }
+    }
+    /// The registers that have a rule, by ascending column.
+    pub(crate) fn entries(&self) -> &[(Register, RegisterRule<'a>)]
+        ensures value { map entry_of result.now ≡ self.now }
+        ensures ascending { AscendsFrom 0 self.now }
+        ensures count { length self.now ≤ 32 }
+    {
+        self.entries.as_slice()
     }
 }
