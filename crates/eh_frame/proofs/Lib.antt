@@ -3,3 +3,6 @@ mod CieParts
 mod FdeParts
 mod EntryParts
 mod Scanning
+mod Ahead
+mod Searching
+mod Faults

@@ -1,3 +1,4 @@
 pub mod Readers
 pub mod View
 pub mod Views
+pub mod Search
