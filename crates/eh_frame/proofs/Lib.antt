@@ -6,3 +6,4 @@ mod Scanning
 mod Ahead
 mod Searching
 mod Faults
+mod Answered

@@ -1,13 +1,16 @@
 //! The entries of a frame table, one after another.
 
-ghost use Rattle.std.specs.Prelude.{◌≡◌, Result};
+ghost use Rattle.std.specs.Prelude.{◌≡◌, ◌≢◌, ◌↔◌, IfErr, IfOk, IsTrue, Result, Some};
+ghost use Rattle.std.specs.Result.{IsErrOf};
 ghost use Rattle.std.specs.Option.{option_map, option_map_or};
 ghost use Rattle.unwind_definitions.specs.Forms.{plain};
 ghost use Rattle.unwind_definitions.specs.Input.{skip};
 ghost use Rattle.unwind_definitions.specs.Pointers.{Bases as KnownBases};
 ghost use Rattle.unwind_definitions.specs.Entries.{Fde as Described, body, cie_at, cie_in, entry_in, entry_at};
+ghost use Rattle.unwind_definitions.specs.Row.{covers_pc};
 ghost use Rattle.unwind_definitions.specs.Scan.{found_or, scan};
 ghost use Rattle.eh_frame.specs.Readers.{GivesOr, Answers};
+ghost use Rattle.eh_frame.specs.Search.{IsFirst, IsUncovered, IsUnreadable};
 ghost use Rattle.eh_frame.specs.View.{at};
 ghost use Rattle.eh_frame.specs.Views.{bases_of, cie_of, fde_of, entry_of, found_of, table_of};
 
@@ -57,7 +60,13 @@ impl<'a> EhFrame<'a> {
     /// The error of the first entry before it that can't be read, or
     /// `NoUnwindInfoForAddress` where all entries can be read and none contains `pc`.
     pub fn fde_for_address(&self, bases: &Bases, pc: u64) -> Result<Fde<'a>, Error>
-        ensures { Answers fde_of result (scan plain (bases_of bases.now) (table_of self.now) pc) }
+        ensures scan { Answers fde_of result (scan plain (bases_of bases.now) (table_of self.now) pc) }
+        ensures contains { IfOk result (λ fde. IsTrue (covers_pc (fde_of fde) pc)) }
+        ensures first { IfOk result (λ fde. IsFirst plain (bases_of bases.now) (table_of self.now) pc 0 (fde_of fde)) }
+        ensures fault { IfErr result (λ e. e ≢ Error.NoUnwindInfoForAddress →
+            IsUnreadable plain (bases_of bases.now) (table_of self.now) pc 0 e) }
+        ensures none { IsErrOf result Error.NoUnwindInfoForAddress ↔
+            IsUncovered plain (bases_of bases.now) (table_of self.now) pc 0 }
     {
         self.scan(pc)
     }
