@@ -227,6 +227,13 @@ impl<'a> Cursor<'a> {
         }
     }
 
+    /// The bytes that are left.
+    pub(crate) fn bytes(&self) -> &'a [u8]
+        ensures { result.now ≡ (at self.now).bytes }
+    {
+        self.bytes
+    }
+
     /// How many of the table's bytes stand before the next one.
     pub(crate) fn offset(&self) -> u64
         ensures { result ≡ (at self.now).offset }

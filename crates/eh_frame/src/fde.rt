@@ -50,8 +50,51 @@ impl<'a> Fde<'a> {
         })
     }
 
-    /// Whether the function's code contains the address `pc`: it begins at `initial_address` and
-    /// has `len` bytes.
+    /// How many bytes of the table stand before the entry.
+    pub fn offset(&self) -> u64
+        ensures { result ≡ (fde_of self.now).offset }
+    {
+        self.offset
+    }
+
+    /// The common information entry that the description names.
+    pub fn cie(&self) -> Cie<'a>
+        ensures { cie_of result ≡ (fde_of self.now).cie }
+    {
+        self.cie
+    }
+
+    /// The address of the function's first byte.
+    pub fn initial_address(&self) -> u64
+        ensures { result ≡ (fde_of self.now).start }
+    {
+        self.initial_address
+    }
+
+    /// How many bytes the function has.
+    pub fn len(&self) -> u64
+        ensures { result ≡ (fde_of self.now).size }
+    {
+        self.len
+    }
+
+    /// The instructions of the function's rows, behind those of the common information entry, in
+    /// bytes.
+    pub fn program(&self) -> &'a [u8]
+        ensures { result.now ≡ (fde_of self.now).program.bytes }
+    {
+        self.program.bytes()
+    }
+
+    // The same with their place in the table.
+    pub(crate) fn instructions(&self) -> Cursor<'a>
+        ensures { at result ≡ (fde_of self.now).program }
+    {
+        self.program
+    }
+
+    /// Whether the function has a byte at the address `pc`: it begins at `initial_address` and has
+    /// `len` bytes.
     pub fn contains(&self, pc: u64) -> bool
         ensures { result ≡ covers_pc (fde_of self.now) pc }
     {
