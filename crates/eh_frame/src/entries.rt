@@ -76,11 +76,7 @@ impl<'a> EhFrame<'a> {
         ensures { (bases : KnownBases) → Answers fde_of result (scan plain bases (table_of self.now) pc) }
     {
         let mut offset = 0;
-        // An entry takes a byte at least, so a table has no more entries than bytes.
-        for _turn in 0..self.bytes.len() + 1 {
-            let Some(found) = self.entry_at(offset)? else {
-                return Err(Error::NoUnwindInfoForAddress);
-            };
+        while let Some(found) = self.entry_at(offset)? {
             if let Some(fde) = found.entry.containing(pc) {
                 return Ok(fde);
             }
