@@ -1,5 +1,5 @@
 -- What the answer of a scan says, in the words of the table's entries.
-use Rattle.std.proofs.Common.{◌≡◌, ℕ, Result, Ok, Err, refl, sym, subst, ◌∙◌, inl, inr}
+use Rattle.std.proofs.Common.{◌≡◌, ℕ, Result, Ok, Err, subst, inl, inr}
 use Rattle.std.specs.Prelude.{◌≢◌, IfOk, IfErr, IsTrue}
 use Rattle.unwind_definitions.specs.declared.error.Error.{Error as Fault}
 use Rattle.unwind_definitions.specs.declared.error.Error.TheVariants.{NoUnwindInfoForAddress}

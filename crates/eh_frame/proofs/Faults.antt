@@ -1,6 +1,6 @@
 -- Reading an entry never says that no description contains an address.
-use Rattle.std.proofs.Common.{◌≡◌, ℕ, zero, suc, ◌+◌, ◌-◌, ◌*◌, ◌%◌, ◌^◌, Bool, true, false, List, [], ◌∷◌, length, drop, position, Option, Some, None, Result, Ok, Err, refl, ap}
-use Rattle.std.specs.Prelude.{if◌then◌else◌, ◌==◌, ◌&&◌, nat_lt, nat_le}
+use Rattle.std.proofs.Common.{◌≡◌, ℕ, zero, suc, ◌+◌, ◌-◌, ◌%◌, ◌^◌, Bool, true, false, List, [], ◌∷◌, position, Option, Some, None, Result, Ok, Err, ap}
+use Rattle.std.specs.Prelude.{if◌then◌else◌, ◌==◌, nat_lt, nat_le}
 use Rattle.std.specs.Int.{Width, w8, w16, w32, w64}
 use Rattle.unwind_definitions.specs.declared.error.Error.{Error as Fault}
 use Rattle.unwind_definitions.specs.declared.error.Error.TheVariants.{AddressOverflow, NotCie, UnsupportedPointerEncoding, CannotParseOmitPointerEncoding, UnknownPointerEncoding, BadSignedLeb128, NoUnwindInfoForAddress}
@@ -9,7 +9,7 @@ use Rattle.unwind_definitions.specs.Forms.{Forms}
 use Rattle.unwind_definitions.specs.Input.{Input, Reads, address_of, skip, split, number, uleb_from, uleb, sleb_from, sleb, text_before, text}
 use Rattle.unwind_definitions.specs.Pointers.{Bases, Pointer, Direct, Indirect, is_known, is_indirect, format_of, application_of, encoding, signed_number, value, known, base_of, pointer, direct_target, direct}
 use Rattle.unwind_definitions.specs.Instructions.{column}
-use Rattle.unwind_definitions.specs.Entries.{Letters, Cie, Fde, ACie, AFde, address_encoding, letter, letters_from, no_letters, augmentation_data, sizes, return_column, cie_body, language_pointer, fde_data, fde_body, body, length_behind, cie_in, cie_at, entry_in, found_in, entry_at}
+use Rattle.unwind_definitions.specs.Entries.{Letters, Cie, ACie, AFde, address_encoding, letter, letters_from, no_letters, augmentation_data, sizes, return_column, cie_body, language_pointer, fde_data, fde_body, body, length_behind, cie_in, cie_at, entry_in, found_in, entry_at}
 
 abbrev Other : {A : Type 0} → Result A Fault → Type 0
 Other r = r ≡ Err NoUnwindInfoForAddress → ⊥

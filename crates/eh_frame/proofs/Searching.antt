@@ -1,6 +1,6 @@
 -- A scan answers the first description that contains an address, or the first fault before it.
-use Rattle.std.proofs.Common.{◌≡◌, ℕ, zero, suc, ◌+◌, ◌<◌, ◌≤◌, Bool, true, false, List, [], ◌∷◌, length, Option, Some, None, Result, Ok, Err, refl, sym, ap, subst, ◌∙◌, arith, inl, inr}
-use Rattle.std.specs.Prelude.{◌⊎◌, IsTrue, if◌then◌else◌}
+use Rattle.std.proofs.Common.{◌≡◌, ℕ, zero, suc, ◌+◌, ◌<◌, ◌≤◌, Bool, true, false, List, [], ◌∷◌, length, Option, Some, None, Result, Ok, Err, refl, arith, inl, inr}
+use Rattle.std.specs.Prelude.{◌⊎◌, if◌then◌else◌}
 use Rattle.unwind_definitions.specs.declared.error.Error.{Error as Fault}
 use Rattle.unwind_definitions.specs.declared.error.Error.TheVariants.{NoUnwindInfoForAddress}
 use Rattle.unwind_definitions.specs.Faults.{◌>>=◌}
@@ -10,7 +10,7 @@ use Rattle.unwind_definitions.specs.Pointers.{Bases}
 use Rattle.unwind_definitions.specs.Entries.{Fde, Entry, ACie, AFde, Found, entry_at, AreEntries}
 use Rattle.unwind_definitions.specs.Row.{covers_pc}
 use Rattle.unwind_definitions.specs.Scan.{fdes_of, first_covering, found_or, scan_after, scan_from, scan}
-use Rattle.eh_frame.specs.Search.{Precede, IsFirst, IsUnreadable, IsUncovered}
+use Rattle.eh_frame.specs.Search.{IsFirst, IsUnreadable, IsUncovered}
 use Rattle.eh_frame.proofs.Ahead.{next_within}
 
 module _ (bases : Bases) (table : Input) (pc : ℕ) (start : table.offset ≡ 0) where
