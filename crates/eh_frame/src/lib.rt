@@ -17,3 +17,6 @@ pub use entries::EhFrame;
 pub use fde::Fde;
 pub use register::Register;
 pub use unwind_definitions::Error;
+
+#[cfg(test)]
+mod tests;
