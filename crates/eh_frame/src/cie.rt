@@ -147,7 +147,8 @@ fn is_plain(augmentation: &[u8]) -> bool
 
 // The bytes of the augmentation `zR`: their number, and how addresses are encoded.
 fn read_augmentation_data(input: &mut Cursor) -> Result<u8, Error>
-    ensures { (bases : Bases) → GivesOr plain_letters result (augmentation_data bases (0x7a ∷ 0x52 ∷ []) (at input.old)) (at input.new) }
+    ensures { (bases : Bases) → GivesOr plain_letters result
+        (augmentation_data bases (0x7a ∷ 0x52 ∷ []) (at input.old)) (at input.new) }
 {
     let count = input.read_uleb128()?;
     let mut block = input.split(count)?;

@@ -55,6 +55,10 @@ impl<'a> EhFrame<'a> {
 
     /// The first frame description entry, in the table's order, that contains the address `pc`.
     ///
+    /// Entries are read one after another, each once, and a description's common information
+    /// entry with it. `bases` is what their pointers may be relative to; those of the forms that
+    /// are read so far are relative to their own place.
+    ///
     /// # Errors
     ///
     /// The error of the first entry before it that can't be read, or
@@ -62,7 +66,8 @@ impl<'a> EhFrame<'a> {
     pub fn fde_for_address(&self, bases: &Bases, pc: u64) -> Result<Fde<'a>, Error>
         ensures scan { Answers fde_of result (scan plain (bases_of bases.now) (table_of self.now) pc) }
         ensures contains { IfOk result (λ fde. IsTrue (covers_pc (fde_of fde) pc)) }
-        ensures first { IfOk result (λ fde. IsFirst plain (bases_of bases.now) (table_of self.now) pc 0 (fde_of fde)) }
+        ensures first { IfOk result (λ fde.
+            IsFirst plain (bases_of bases.now) (table_of self.now) pc 0 (fde_of fde)) }
         ensures fault { IfErr result (λ e. e ≢ Error.NoUnwindInfoForAddress →
             IsUnreadable plain (bases_of bases.now) (table_of self.now) pc 0 e) }
         ensures none { IsErrOf result Error.NoUnwindInfoForAddress ↔
@@ -73,7 +78,8 @@ impl<'a> EhFrame<'a> {
 
     // The first description that contains an address.
     fn scan(&self, pc: u64) -> Result<Fde<'a>, Error>
-        ensures { (bases : KnownBases) → Answers fde_of result (scan plain bases (table_of self.now) pc) }
+        ensures { (bases : KnownBases) → Answers fde_of result
+            (scan plain bases (table_of self.now) pc) }
     {
         let mut offset = 0;
         while let Some(found) = self.entry_at(offset)? {
@@ -95,7 +101,8 @@ impl<'a> EhFrame<'a> {
     // What stands at an offset, None at the end of the list.
     #[tactic(auto, unfolding(unwind_definitions::specs::Entries::entry_at))]
     fn entry_at(&self, offset: u64) -> Result<Option<Found<'a>>, Error>
-        ensures { (bases : KnownBases) → Answers (option_map found_of) result (entry_at plain bases (table_of self.now) offset) }
+        ensures { (bases : KnownBases) → Answers (option_map found_of) result
+            (entry_at plain bases (table_of self.now) offset) }
     {
         let mut input = self.from(offset);
         match read_body(&mut input)? {
@@ -112,7 +119,8 @@ impl<'a> EhFrame<'a> {
 
     // The entry at `offset`, whose body is `body`.
     fn entry_in(&self, offset: u64, body: Cursor<'a>) -> Result<Entry<'a>, Error>
-        ensures { (bases : KnownBases) → Answers entry_of result (entry_in plain bases (table_of self.now) offset (at body.entry)) }
+        ensures { (bases : KnownBases) → Answers entry_of result
+            (entry_in plain bases (table_of self.now) offset (at body.entry)) }
     {
         let place = body.offset();
         let mut input = body;
@@ -129,7 +137,8 @@ impl<'a> EhFrame<'a> {
 
     // The common information entry at an offset.
     fn cie_at(&self, offset: u64) -> Result<Cie<'a>, Error>
-        ensures { (bases : KnownBases) → Answers cie_of result (cie_at plain bases (table_of self.now) offset) }
+        ensures { (bases : KnownBases) → Answers cie_of result
+            (cie_at plain bases (table_of self.now) offset) }
     {
         let mut input = self.from(offset);
         match read_body(&mut input)? {
@@ -154,7 +163,8 @@ impl<'a> Entry<'a> {
 
 // The common information entry at `offset`, whose body is `body`.
 fn cie_in<'a>(offset: u64, body: Cursor<'a>) -> Result<Cie<'a>, Error>
-    ensures { (bases : KnownBases) → Answers cie_of result (cie_in plain bases offset (Some (at body.entry))) }
+    ensures { (bases : KnownBases) → Answers cie_of result
+        (cie_in plain bases offset (Some (at body.entry))) }
 {
     let mut input = body;
     let id = input.read_u32()?;

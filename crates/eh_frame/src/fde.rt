@@ -29,7 +29,8 @@ pub struct Fde<'a> {
 impl<'a> Fde<'a> {
     // What stands behind the first four bytes of the entry at `offset`, which names `cie`.
     pub(crate) fn read(cie: Cie<'a>, offset: u64, body: Cursor<'a>) -> Result<Fde<'a>, Error>
-        ensures { (bases : Bases) → Answers fde_of result (fde_body plain bases (cie_of cie.entry) offset (at body.entry)) }
+        ensures { (bases : Bases) → Answers fde_of result
+            (fde_body plain bases (cie_of cie.entry) offset (at body.entry)) }
     {
         if cie.address_encoding() != RELATIVE_SDATA4 {
             return Err(Error::UnsupportedPointerEncoding);
@@ -104,7 +105,8 @@ impl<'a> Fde<'a> {
 
 // The bytes of an augmentation, where there is one: their number, and so many.
 fn skip_augmentation_data(cie: &Cie, input: &mut Cursor) -> Result<(), Error>
-    ensures { (bases : Bases) (start : ℕ) → GivesOr (λ x. None) result (fde_data bases (cie_of cie.now) start (at input.old)) (at input.new) }
+    ensures { (bases : Bases) (start : ℕ) → GivesOr (λ x. None) result
+        (fde_data bases (cie_of cie.now) start (at input.old)) (at input.new) }
 {
     if cie.augmentation().is_empty() {
         return Ok(());
