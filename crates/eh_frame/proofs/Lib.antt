@@ -10,3 +10,7 @@ mod Steps
 mod Faulty
 mod Reading
 mod Together
+mod Ahead
+mod Searching
+mod Faults
+mod Answered

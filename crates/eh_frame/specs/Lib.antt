@@ -7,3 +7,4 @@ pub mod Decoded
 pub mod RowValue
 pub mod Rows
 pub mod Left
+pub mod Search
