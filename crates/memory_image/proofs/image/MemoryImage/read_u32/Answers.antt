@@ -2,7 +2,7 @@ use Rattle.std.proofs.Common.{◌≡◌, ◌≤◌, ◌∙◌, length, take, Som
 use Rattle.std.proofs.lemmas.List.{length-take-le}
 use Rattle.memory_image.specs.Image.{IsLaidOut, table_at, half_at}
 use Rattle.memory_image.specs.Words.{number_of, from_le_bytes_4}
-use Rattle.memory_image.proofs.NumberLemmas.{number_at-table}
+use Rattle.memory_image.specs.ImageLaws.{number_at-table}
 use Rattle.memory_image.proofs.image.MemoryImage.read_u32.Goals as goal
 
 pub returns-in-Some : goal.returns-in-Some
