@@ -12,3 +12,6 @@ pub mod InPrologue
 pub mod Rows
 pub mod Steady
 pub mod PushingValid
+pub mod ThreeRows
+pub mod ThreeValid
+pub mod ReturningValid

@@ -3,3 +3,5 @@ pub mod Undoes
 pub mod Walked
 pub mod Pushing
 pub mod Columns
+pub mod Three
+pub mod Returning
