@@ -9,7 +9,7 @@ pub mod Scanned
 pub mod Found
 pub mod Walk
 pub mod InPrologue
-pub mod Rows
+pub mod RowFacts
 pub mod Steady
 pub mod PushingValid
 pub mod ThreeRows

@@ -22,7 +22,7 @@ use Rattle.unwind_definitions.specs.Stopped.{StandsAfter}
 use Rattle.unwind_laws.specs.Columns.{columns_of}
 use Rattle.unwind_laws.specs.Returning.{frames, stack, image, table, module_of_them, bases, cie, callee_fde, outermost_fde, foreign_fde, entries, run_of, pushed_one, pushed_two, in_first_body, in_second_body, in_outermost, callee, outermost, functions, process, state, start, caller, last, calls, interrupted, done, later}
 use Rattle.unwind_laws.proofs.Booleans.{both_true, either_true, either_false, here_or_later, none_in_nil, pairs_one}
-use Rattle.unwind_laws.proofs.Rows.{by_register, state_fits, unnamed, same_ended}
+use Rattle.unwind_laws.proofs.RowFacts.{by_register, state_fits, unnamed, same_ended}
 use Rattle.unwind_laws.proofs.Steady.{is_steady, same_row_at}
 use Rattle.unwind_laws.proofs.PushingValid.{columns_show}
 

@@ -12,7 +12,7 @@ use Rattle.unwind_definitions.specs.Function.{in_body}
 use Rattle.unwind_definitions.specs.DescribedRows.{HasRow, IsBodyRow, IsPrologueRow, MayFindLate, FindsRegister, ended_by, DescribesRows}
 use Rattle.unwind_laws.specs.Three.{fde_a, fde_b, fde_c, fa, fb, fc}
 use Rattle.unwind_laws.proofs.Booleans.{both_true, either_false}
-use Rattle.unwind_laws.proofs.Rows.{by_register, unnamed, same_ended}
+use Rattle.unwind_laws.proofs.RowFacts.{by_register, unnamed, same_ended}
 use Rattle.unwind_laws.proofs.Steady.{is_steady, same_row_at}
 
 abbrev common : List Instruction

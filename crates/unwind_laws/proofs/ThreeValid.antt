@@ -20,7 +20,7 @@ use Rattle.unwind_definitions.specs.Valid.{IsValid}
 use Rattle.unwind_laws.specs.Columns.{columns_of}
 use Rattle.unwind_laws.specs.Three.{stack, frames, languages, cell, header, image, table, cie_plain, cie_language, fde_a, fde_b, fde_c, fa, fb, fc, functions, entries, module_of_them, process, start, second, third, last, calls_through, calls, resumes, unlisted_process, unlisted_calls, module_with_header, header_image, header_process}
 use Rattle.unwind_laws.proofs.Booleans.{here_or_later, none_in_nil, pairs_one}
-use Rattle.unwind_laws.proofs.Rows.{by_register, state_fits}
+use Rattle.unwind_laws.proofs.RowFacts.{by_register, state_fits}
 use Rattle.unwind_laws.proofs.PushingValid.{columns_show}
 use Rattle.unwind_laws.proofs.ThreeRows.{rows_a, rows_b, rows_c}
 

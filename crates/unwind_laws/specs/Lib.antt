@@ -1,5 +1,6 @@
 pub mod Reached
 pub mod Undoes
+pub mod Found
 pub mod Walked
 pub mod Pushing
 pub mod Columns
