@@ -6,6 +6,7 @@ pub mod Reading
 pub mod Ruled
 pub mod Undo
 pub mod Scanned
+pub mod Signal
 pub mod Found
 pub mod Walk
 pub mod InPrologue

@@ -56,6 +56,7 @@ module _ (forms : Forms) (p : Process) where
         address = d.address;
         fde = is.fde;
         found = is.found;
+        no_signal = is.no_signal;
         describes = is.describes;
         run = u.run;
         has_row = u.has_row;

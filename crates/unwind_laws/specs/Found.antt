@@ -1,5 +1,5 @@
 -- What a scan of a frame table is to find.
-use Rattle.std.specs.Prelude.{◌≡◌, ℕ, List, Option, Result, Ok, Err, true}
+use Rattle.std.specs.Prelude.{◌≡◌, ℕ, List, Option, Result, Ok, Err, true, false}
 use Rattle.std.specs.Option.{option_map_or}
 use Rattle.memory_image.specs.Image.{Span}
 use Rattle.unwind_definitions.specs.declared.error.Error.{Error as Fault}
@@ -26,4 +26,5 @@ pub record FindsFunction (forms : Forms) (image : List Span) (m : Module) (frame
   pub fde : Fde
   pub found : scan forms (bases_of m frame) (input_at image frame) a ≡ Ok fde
   pub covers : covers_pc fde a ≡ true
+  pub no_signal : fde.cie.letters.signal ≡ false
   pub describes : DescribesFunction forms image (bases_of m frame) f fde
