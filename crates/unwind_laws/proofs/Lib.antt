@@ -16,3 +16,6 @@ pub mod PushingValid
 pub mod ThreeRows
 pub mod ThreeValid
 pub mod ReturningValid
+pub mod OneModule
+pub mod OneLanguage
+pub mod OneChain

@@ -6,3 +6,4 @@ pub mod Pushing
 pub mod Columns
 pub mod Three
 pub mod Returning
+pub mod Apart
