@@ -19,3 +19,5 @@ pub mod ReturningValid
 pub mod OneModule
 pub mod OneLanguage
 pub mod OneChain
+pub mod Slots
+pub mod Ran

@@ -7,3 +7,4 @@ pub mod Columns
 pub mod Three
 pub mod Returning
 pub mod Apart
+pub mod Running
