@@ -22,8 +22,10 @@ use Rattle.unwind_definitions.specs.FrameTable.{has_range_of, DescribesFunction,
 use Rattle.unwind_definitions.specs.Module.{Module, Process, in_module, bases_of, DescriptionsApart, DescribesModule, CoversNot}
 use Rattle.unwind_definitions.specs.Chain.{Call, IsCalled}
 use Rattle.unwind_laws.specs.Undoes.{Undoes}
+use Rattle.unwind_laws.specs.Found.{found_among, FindsFunction}
 use Rattle.unwind_laws.proofs.Booleans.{both_true, either_true, here_or_later, none_in_nil, filter_contains, all_contains, first, tail_pairs, head_pairs}
-use Rattle.unwind_laws.proofs.Scanned.{found_among, scan_is}
+use Rattle.unwind_laws.proofs.Scanned.{scan_is}
+use Rattle.unwind_laws.proofs.Signal.{no_signal}
 use Rattle.unwind_laws.proofs.Undo.{body_undone, outermost_undone}
 
 pub ranges_inside : (ranges : List Range) (low high a : ℕ) → AreWithin low high ranges → list_any (in_range a) ranges ≡ true → (low ≤ a) × (a < high)
@@ -69,14 +71,7 @@ none_first [] pc all = refl
 none_first (g ∷ gs) pc all = rw all.0 (none_first gs pc all.1)
 
 module _ (forms : Forms) (image : List Span) (m : Module) where
-  -- the description of a function, which a scan of its module's frame table finds for an address
-  pub record FindsFunction (frame : ℕ) (f : Function) (a : ℕ) : Type 0 where
-    pub fde : Fde
-    pub found : scan forms (bases_of m frame) (input_at image frame) a ≡ Ok fde
-    pub covers : covers_pc fde a ≡ true
-    pub describes : DescribesFunction forms image (bases_of m frame) f fde
-
-  pub function_found : (functions : List Function) (d : DescribesModule forms image m functions) (f : Function) (a : ℕ) → Contains functions f → f.start ≤ a → a < f.end → FindsFunction d.frame f a
+  pub function_found : (functions : List Function) (d : DescribesModule forms image m functions) (f : Function) (a : ℕ) → Contains functions f → f.start ≤ a → a < f.end → FindsFunction forms image m d.frame f a
   function_found functions d f a has from below =
       let fdes = fdes_of d.entries in
       let one = all_contains (HasDescription forms image (bases_of m d.frame) fdes) functions f d.frames.each has in
@@ -90,6 +85,7 @@ module _ (forms : Forms) (image : List Span) (m : Module) where
         fde = fde;
         found = is ∙ ap (λ (o : Option Fde). option_map_or (λ (x : Fde). ok x) o (Err NoUnwindInfoForAddress)) (found_first fdes fde a d.apart listed covers);
         covers = covers;
+        no_signal = no_signal forms (bases_of m d.frame) (input_at image d.frame) 0 d.entries fde image d.frames.reads listed one.describes.cie;
         describes = one.describes;
       }
     where

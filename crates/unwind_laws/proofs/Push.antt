@@ -3,7 +3,7 @@ use Rattle.std.proofs.Common.{◌≡◌, ℕ, ◌+◌, Bool, true, false, cond, 
 use Rattle.std.specs.Prelude.{if◌then◌else◌}
 use Rattle.std.specs.Option.{option_or, option_map, unwrap_or, option_and_then}
 use Rattle.unwind_definitions.specs.Instructions.{Rule, Instruction, Nop, Remember, Restore, Advance, SetLocation, Write, Reset, Cfa, CfaColumn, CfaOffset, CfaExpression, Arguments}
-use Rattle.unwind_definitions.specs.Row.{Run, last_word, cut, cut_of, Cut, says_of, initial_rule, rule_of, cfa_rule, cfa_of, cfa_from, whole_cfa, cfa_column, cfa_offset, CfaRule, ColumnAndOffset, ByExpression, location}
+use Rattle.unwind_definitions.specs.Row.{Run, last_word, cut, cut_of, Cut, says_of, initial_rule, rule_of, cfa_rule, cfa_of, cfa_from, whole_cfa, cfa_column, cfa_offset, CfaRule, ColumnAndOffset, ByExpression, location, arguments, argument_size}
 
 or_none : {A : Type 0} (o : Option A) → option_or None o ≡ option_or o None
 or_none None = refl
@@ -107,3 +107,32 @@ location_push start (CfaColumn m ∷ is) n = location_push start is n
 location_push start (CfaOffset m ∷ is) n = location_push start is n
 location_push start (CfaExpression m ∷ is) n = location_push start is n
 location_push start (Arguments m ∷ is) n = location_push start is n
+
+-- ---- the CFA and the arguments after any instruction that neither remembers nor restores
+pub cfa_push : (run : Run) (i : Instruction) → IsPlain i →
+    cfa_rule (push run i) ≡ cfa_from (option_or (whole_cfa i) (last_word whole_cfa (all_of run))) (option_or (cfa_column i) (last_word cfa_column (all_of run))) (option_or (cfa_offset i) (last_word cfa_offset (all_of run)))
+cfa_push run i plain = ap cfa_of (all_push run i plain) ∙ rw (last_word-push whole_cfa (all_of run) i, last_word-push cfa_column (all_of run) i, last_word-push cfa_offset (all_of run) i) refl
+
+by_column : (w : Option CfaRule) (col off : Option ℕ) (d c n : ℕ) → cfa_from w col off ≡ Some (ColumnAndOffset c n) → cfa_from w (Some d) off ≡ Some (ColumnAndOffset d n)
+by_column None col off d c n e = absurd cc
+by_column (Some (ByExpression b)) col off d c n e = absurd cc
+by_column (Some (ColumnAndOffset c0 n0)) col off d c n e = let same : unwrap_or off n0 ≡ n = cc in rw same refl
+
+-- a new column
+pub cfa_by_column : (run : Run) (d c n : ℕ) → cfa_rule run ≡ Some (ColumnAndOffset c n) → cfa_rule (push run (CfaColumn d)) ≡ Some (ColumnAndOffset d n)
+cfa_by_column run d c n e = cfa_push run (CfaColumn d) (record { alone = refl }) ∙ by_column (last_word whole_cfa (all_of run)) (last_word cfa_column (all_of run)) (last_word cfa_offset (all_of run)) d c n e
+
+-- an expression
+pub cfa_by_expression : (run : Run) (bytes : List ℕ) → cfa_rule (push run (CfaExpression bytes)) ≡ Some (ByExpression bytes)
+cfa_by_expression run bytes = cfa_push run (CfaExpression bytes) (record { alone = refl })
+
+-- the argument size
+pub arguments_push : (run : Run) (i : Instruction) → IsPlain i → argument_size (push run i) ≡ unwrap_or (arguments i) (argument_size run)
+arguments_push run i plain =
+    ap (λ (is : List Instruction). unwrap_or (last_word arguments is) 0) (all_push run i plain)
+    ∙ ap (λ o. unwrap_or o 0) (last_word-push arguments (all_of run) i)
+    ∙ go (arguments i)
+  where
+    go : (o : Option ℕ) → unwrap_or (option_or o (last_word arguments (all_of run))) 0 ≡ unwrap_or o (argument_size run)
+    go None = refl
+    go (Some n) = refl

@@ -22,7 +22,7 @@ use Rattle.unwind_definitions.specs.Valid.{part_in, DescribesPart, IsValid}
 use Rattle.unwind_laws.specs.Columns.{columns_of}
 use Rattle.unwind_laws.specs.Pushing.{image, image_of_three, module_of_it, table, bases, cie, fde, entries, common, start_run, body_run, function, state, process, process_of_three, start, caller, calls, calls_of_three}
 use Rattle.unwind_laws.proofs.Booleans.{both_true, either_false, here_or_later, none_in_nil, pairs_one}
-use Rattle.unwind_laws.proofs.Rows.{by_register, state_fits, unnamed}
+use Rattle.unwind_laws.proofs.RowFacts.{by_register, state_fits, unnamed}
 use Rattle.unwind_laws.proofs.Steady.{is_steady, same_row_at}
 
 pub columns_show : (s : State) → Shows (columns_of s) s

@@ -16,11 +16,8 @@ use Rattle.unwind_definitions.specs.Pointers.{Bases}
 use Rattle.unwind_definitions.specs.Entries.{Fde, Entry, ACie, AFde, Found, body, length_behind, entry_in, found_in, entry_at, AreEntries}
 use Rattle.unwind_definitions.specs.Row.{covers_pc}
 use Rattle.unwind_definitions.specs.Scan.{fde_of, fdes_of, first_covering, found_or, scan_after, scan_from, scan}
+use Rattle.unwind_laws.specs.Found.{found_among}
 use Rattle.unwind_laws.proofs.Booleans.{both_true, here_or_later, none_in_nil}
-
--- what a list of descriptions answers for an address
-abbrev pub found_among : List Fde → ℕ → Result Fde Fault
-found_among fdes pc = option_map_or (λ (fde : Fde). Ok fde) (first_covering fdes pc) (Err NoUnwindInfoForAddress)
 
 module _ (forms : Forms) (bases : Bases) (table : Input) (pc : ℕ) where
   -- with turns enough, a scan answers the first description that contains the address

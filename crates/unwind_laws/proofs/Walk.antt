@@ -12,10 +12,11 @@ use Rattle.unwind_definitions.specs.Module.{Module, Process, in_module, bases_of
 use Rattle.unwind_definitions.specs.Chain.{Call, IsCalled, IsLink, IsEnd, IsChain, last_state, states_of, StacksRise}
 use Rattle.unwind_definitions.specs.Valid.{part_in, DescribesPart, LiesDescribed, IsDescribedAt, IsDescribedChain, IsValid}
 use Rattle.unwind_laws.specs.Undoes.{Undoes}
+use Rattle.unwind_laws.specs.Found.{FindsFunction}
 use Rattle.unwind_laws.specs.Walked.{Finds, Steps, IsWalk}
 use Rattle.unwind_laws.proofs.Booleans.{all_contains, contains_all, contains_filter, any_contains}
 use Rattle.unwind_laws.proofs.Undo.{rises}
-use Rattle.unwind_laws.proofs.Found.{FindsFunction, function_found, body_inside, Known, RowUndoes, row_undoes}
+use Rattle.unwind_laws.proofs.Found.{function_found, body_inside, Known, RowUndoes, row_undoes}
 
 module _ (forms : Forms) (p : Process) where
   state_of : (functions : List Function) (s : State) (calls : List Call) → IsChain p.image (IsUncovered forms p) functions s calls → IsState s
@@ -55,6 +56,7 @@ module _ (forms : Forms) (p : Process) where
         address = d.address;
         fde = is.fde;
         found = is.found;
+        no_signal = is.no_signal;
         describes = is.describes;
         run = u.run;
         has_row = u.has_row;

@@ -24,6 +24,7 @@ module _ (forms : Forms) (p : Process) where
     pub address : frame_address p.image home.tables ≡ Some frame
     pub fde : Fde
     pub found : scan forms (bases_of home frame) (input_at p.image frame) a ≡ Ok fde
+    pub no_signal : fde.cie.letters.signal ≡ false
     pub describes : DescribesFunction forms p.image (bases_of home frame) f fde
     pub run : Run
     pub has_row : row_at forms (bases_of home frame) fde a ≡ Ok run

@@ -1,16 +1,23 @@
-//! Laws of the definitions, as functions with empty bodies: what stands in a contract here is
-//! proved, and holds of everything that the definitions speak of.
+//! Laws of the definitions, and samples that meet them, as functions with empty bodies: what stands
+//! in a contract here is proved.
+//!
+//! `rows` says how a row is read and what it undoes, `tables` what is found in a described module,
+//! `chains` what a described chain determines, and `samples` shows processes that are valid.
 #![tactic(auto)]
 
-ghost use Rattle.std.specs.Prelude.{ℕ};
-ghost use Rattle.unwind_definitions.specs.Forms.{Forms};
-ghost use Rattle.unwind_definitions.specs.Input.{Input};
-ghost use Rattle.unwind_definitions.specs.Instructions.{Coding};
-ghost use Rattle.unwind_laws.specs.Reached.{ReadsRow};
+mod chains;
+mod rows;
+mod samples;
+mod tables;
 
-/// Reading the common program whole, and then a description's up to an address, one instruction
-/// after another and up to the first fault, gives the row of the two whole programs.
-pub fn reading_gives_row()
-    ensures { (forms : Forms) (coding : Coding) (start pc : ℕ) (common own : Input) → ReadsRow forms coding start pc common own }
-{
-}
+pub use chains::{chain_is_walked, stack_pointers_rise, valid_chain_is_described};
+pub use rows::{
+    body_row_undoes, caller_is_by_rules, interrupted_row_undoes, outermost_row_undoes,
+    prologue_row_undoes, reading_gives_row,
+};
+pub use samples::{
+    calls_are_caught, calls_by_a_header_are_caught, calls_of_an_outermost_function_are_valid,
+    one_call_is_valid, other_slot_is_no_entering, state_stands_inside_a_prologue,
+    three_calls_are_valid, unlisted_call_ends_the_program,
+};
+pub use tables::{function_is_found, scan_finds_first, uncovered_is_not_found};

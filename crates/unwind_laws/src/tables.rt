@@ -1,0 +1,36 @@
+//! What is found in a frame table.
+
+ghost use Rattle.std.specs.Prelude.{◌≡◌, ℕ, ◌<◌, ◌≤◌, List, Ok, Err};
+ghost use Rattle.std.specs.List.{Contains};
+ghost use Rattle.memory_image.specs.Image.{Span};
+ghost use Rattle.unwind_definitions.specs.Forms.{Forms};
+ghost use Rattle.unwind_definitions.specs.Input.{Input};
+ghost use Rattle.unwind_definitions.specs.Pointers.{Bases};
+ghost use Rattle.unwind_definitions.specs.Entries.{Entry, AreEntries};
+ghost use Rattle.unwind_definitions.specs.Scan.{fdes_of, scan};
+ghost use Rattle.unwind_definitions.specs.Function.{Function};
+ghost use Rattle.unwind_definitions.specs.LanguageTable.{input_at};
+ghost use Rattle.unwind_definitions.specs.Module.{Module, DescribesModule, CoversNot, bases_of};
+ghost use Rattle.unwind_laws.specs.Found.{found_among, nothing_found, FindsFunction};
+
+/// A scan of a table whose entries all read answers the first description that contains the
+/// address, or that there is none.
+pub fn scan_finds_first()
+    ensures { (forms : Forms) (bases : Bases) (table : Input) (pc : ℕ) (entries : List Entry) → table.offset ≡ 0 → AreEntries forms bases table 0 entries →
+        scan forms bases table pc ≡ found_among (fdes_of entries) pc }
+{
+}
+
+/// For an address inside a described function a scan finds that function's description.
+pub fn function_is_found()
+    ensures { (forms : Forms) (image : List Span) (m : Module) (functions : List Function) (d : DescribesModule forms image m functions) (f : Function) (a : ℕ) →
+        Contains functions f → f.start ≤ a → a < f.end → FindsFunction forms image m d.frame f a }
+{
+}
+
+/// For an address that no description contains a scan finds none.
+pub fn uncovered_is_not_found()
+    ensures { (forms : Forms) (image : List Span) (m : Module) (a : ℕ) (u : CoversNot forms image m a) →
+        scan forms (bases_of m u.frame) (input_at image u.frame) a ≡ nothing_found }
+{
+}
