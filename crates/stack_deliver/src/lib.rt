@@ -12,6 +12,6 @@ pub mod x86_64;
 pub use delivering::deliver;
 pub use delivery::{DeliverError, Delivery, Outcome, Stepped, Trail};
 pub use error::Error;
-pub use resumes::Resumes;
+pub use resumes::{Resumes, first_entry_counts};
 pub use space::{FrameInfo, FrameInfoKind, Module, Space, SpaceError};
 pub use x86_64::Context;
