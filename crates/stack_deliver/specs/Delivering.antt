@@ -44,3 +44,11 @@ ended (Err e) = Err e
 -- what a delivery from a context gives: the space, the context, the exception, the return addresses by pad, and the most states of a pass
 unfoldable pub delivery_of : SpaceValue → Context → ℕ → List (ℕ × ℕ) → ℕ → Result Delivered DeliverError
 delivery_of space c exception resumes limit = ended (line_of space limit c false)
+
+abbrev pub items_of : Result (Vec Context) DeliverError → Result (List Context) DeliverError
+items_of (Ok v) = Ok v.items
+items_of (Err e) = Err e
+
+-- the line is answered in a vector, unless memory ran out
+abbrev pub DeliversLine : Result (Vec Context) DeliverError → Result (List Context) DeliverError → Type 0
+DeliversLine result answer = Delivers (items_of result) answer

@@ -1,5 +1,5 @@
 -- From a frame to its caller, by the frame table of the module that holds it.
-use Rattle.std.specs.Prelude.{ℕ, ◌-◌, ◌==◌, Bool, false, Option, Some, None, Result, Ok, Err, List, if◌then◌else◌}
+use Rattle.std.specs.Prelude.{◌≡◌, ℕ, ◌-◌, ◌==◌, Bool, false, Option, Some, None, Result, Ok, Err, List, if◌then◌else◌}
 use Rattle.memory_image.specs.Image.{Span}
 use Rattle.unwind_definitions.specs.declared.error.Error.{Error as Fault}
 use Rattle.unwind_definitions.specs.declared.error.Error.TheVariants.{NoUnwindInfoForAddress, UnknownInstruction}
@@ -12,6 +12,8 @@ use Rattle.unwind_definitions.specs.Row.{Run, row_at}
 use Rattle.unwind_definitions.specs.Scan.{scan}
 use Rattle.unwind_definitions.specs.Caller.{Columns, Evaluates, StepFault, x86_64, caller_of}
 use Rattle.unwind_definitions.specs.Caller as calls
+use Rattle.eh_frame.specs.RowValue.{RowValue}
+use Rattle.eh_frame.specs.Rows.{IsRowOf}
 use Rattle.stack_deliver.specs.declared.x86_64.Context.{Context}
 use Rattle.stack_deliver.specs.declared.delivery.Stepped.{Stepped}
 use Rattle.stack_deliver.specs.declared.delivery.DeliverError.{DeliverError}
@@ -45,24 +47,29 @@ abbrev pub stepped : Result Context DeliverError → Result (Option Stepped) Del
 stepped (Ok c) = Ok (Some (record { context = c; signal = false }))
 stepped (Err e) = Err e
 
--- by a row
-abbrev pub called : List Span → Context → Result Run Fault → Result (Option Stepped) DeliverError
-called image c (Ok run) = stepped (context_by (caller_of x86_64 no_expressions image (columns_of c) run))
-called image c (Err e) = Err (Table e)
-
 -- an address that no description contains ends the stack
-abbrev pub uncovered : Fault → Result (Option Stepped) DeliverError
+abbrev pub uncovered : Fault → Result (Option Run) Fault
 uncovered NoUnwindInfoForAddress = Ok None
-uncovered e = Err (Table e)
+uncovered e = Err e
 
--- by what a scan finds
-abbrev pub described : List Span → Context → ℕ → Bases → Result Fde Fault → Result (Option Stepped) DeliverError
-described image c a bases (Ok fde) = called image c (row_at plain bases fde a)
-described image c a bases (Err e) = uncovered e
+abbrev pub some_run : Result Run Fault → Result (Option Run) Fault
+some_run (Ok run) = Ok (Some run)
+some_run (Err e) = Err e
+
+-- the row at an address of the description that a scan found
+abbrev pub run_found : Bases → ℕ → Result Fde Fault → Result (Option Run) Fault
+run_found bases a (Ok fde) = some_run (row_at plain bases fde a)
+run_found bases a (Err e) = uncovered e
+
+-- by a row, if there is one
+abbrev pub called : List Span → Context → Result (Option Run) Fault → Result (Option Stepped) DeliverError
+called image c (Ok None) = Ok None
+called image c (Ok (Some run)) = stepped (context_by (caller_of x86_64 no_expressions image (columns_of c) run))
+called image c (Err e) = Err (Table e)
 
 -- by the frame table that a module names; header tables aren't read yet
 abbrev pub by_table : List Span → Context → ℕ → Module → FrameInfoKind → Result (Option Stepped) DeliverError
-by_table image c a m (EhFrame frame) = described image c a (bases_of (module_of m) frame) (scan plain (bases_of (module_of m) frame) (input_at image frame) a)
+by_table image c a m (EhFrame frame) = called image c (run_found (bases_of (module_of m) frame) a (scan plain (bases_of (module_of m) frame) (input_at image frame) a))
 by_table image c a m (EhFrameHdr header) = Ok None
 
 abbrev pub in_module : List Span → Context → ℕ → Option Module → Result (Option Stepped) DeliverError
@@ -72,3 +79,9 @@ in_module image c a (Some m) = by_table image c a m m.frame.kind
 -- The caller of the frame that a context shows, None at the end of the stack.
 unfoldable pub step_of : SpaceValue → Context → Bool → Result (Option Stepped) DeliverError
 step_of space c interrupted = if c.ra == 0 then Ok None else in_module space.image c (address_asked c interrupted) (module_at space.modules (address_asked c interrupted))
+
+-- a row of the code is the one that is due, if one is
+abbrev pub FindsRow : Result (Option RowValue) Fault → Result (Option Run) Fault → Type 0
+FindsRow (Ok None) due = due ≡ Ok None
+FindsRow (Ok (Some row)) due = (run : Run) × (due ≡ Ok (Some run)) × IsRowOf row run
+FindsRow (Err e) due = due ≡ Err e

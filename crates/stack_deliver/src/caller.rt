@@ -1,15 +1,21 @@
 // From a frame's registers to its caller's, by a row. DWARF 5 section 6.4.1.
 ghost use Rattle.std.specs.Prelude.{◌≡◌, map};
 ghost use Rattle.eh_frame.specs.Rules.{rule_meaning, cfa_meaning, entry_of};
-ghost use Rattle.unwind_definitions.specs.Caller.{rule_value, cfa_value, word_or_fault, held};
+ghost use Rattle.eh_frame.specs.Left.{left};
+ghost use Rattle.eh_frame.specs.Rows.{IsRowOf};
+ghost use Rattle.unwind_definitions.specs.Row.{Run};
+ghost use Rattle.unwind_definitions.specs.Caller.{x86_64, rule_value, cfa_value, caller_of, word_or_fault, held};
 ghost use Rattle.stack_deliver.specs.Contexts.{columns_of};
-ghost use Rattle.stack_deliver.specs.Stepping.{no_expressions};
+ghost use Rattle.stack_deliver.specs.Stepping.{no_expressions, context_by};
 ghost use Rattle.stack_deliver.specs.Applied.{applied, rule_applied, value_given};
 
 use crate::delivery::DeliverError;
 use crate::x86_64::Context;
-use eh_frame::{CfaRule, Error, Register, RegisterRule};
+use eh_frame::{CfaRule, Error, Register, RegisterRule, Registers, Row};
 use memory_image::MemoryImage;
+
+/// The column of RSP.
+const STACK_POINTER: usize = 7;
 
 const UNSUPPORTED: DeliverError = DeliverError::Table(Error::UnsupportedRegister);
 const UNKNOWN: DeliverError = DeliverError::Table(Error::UnknownInstruction);
@@ -85,20 +91,38 @@ fn rule_applied(
     }
 }
 
-/// Registers with the values that rules give their columns.
-#[tactic(auto, using(crate::proofs::Faults::and_then_fault))]
+/// Registers with the values that a row's rules give their columns.
 fn applied(
     image: &MemoryImage<'_>,
     context: &Context,
     cfa: u64,
-    rules: &[(Register, RegisterRule<'_>)],
+    rules: Registers<'_, '_>,
     begun: Context,
 ) -> Result<Context, DeliverError>
-    ensures { result ≡ value_given (applied no_expressions image.now context.now cfa (map entry_of rules.now) begun) }
+    ensures { result ≡ value_given (applied no_expressions image.now context.now cfa (map entry_of (left rules.entry)) begun) }
 {
     let mut caller = begun;
     for (register, rule) in rules {
-        caller = rule_applied(image, context, cfa, *register, *rule, caller)?;
+        caller = rule_applied(image, context, cfa, register, rule, caller)?;
     }
     Ok(caller)
+}
+
+/// The registers of the caller of the frame whose registers are `context`, by its row.
+///
+/// The stack pointer becomes the CFA and the return address 0; then each rule gives its column a
+/// value from the frame's registers. The first fault counts: that of the CFA, or else of the
+/// lowest column.
+pub(crate) fn caller(
+    image: &MemoryImage<'_>,
+    context: &Context,
+    row: &Row<'_>,
+) -> Result<Context, DeliverError>
+    ensures { (run : Run) → IsRowOf row.now run → result ≡ context_by (caller_of x86_64 no_expressions image.now (columns_of context.now) run) }
+{
+    let cfa = cfa(context, row.cfa())?;
+    let mut begun = *context;
+    begun.registers[STACK_POINTER] = cfa;
+    begun.ra = 0;
+    applied(image, context, cfa, row.registers(), begun)
 }

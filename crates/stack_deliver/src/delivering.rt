@@ -1,14 +1,52 @@
 // The delivery of an exception: the states from the start outwards.
 ghost use Rattle.std.specs.Prelude.{◌≡◌, []};
-ghost use Rattle.stack_deliver.specs.Delivering.{Delivers, delivery_of};
+ghost use Rattle.stack_deliver.specs.Delivering.{Delivers, line_of, delivery_of};
 
-use crate::delivery::{DeliverError, Delivery};
+use crate::delivery::{DeliverError, Delivery, Outcome};
 use crate::resumes::Resumes;
 use crate::space::Space;
+use crate::stepping::step;
 use crate::x86_64::Context;
+use memory_image::{NoLedger, Steps};
 use std::alloc::Global;
 
-/// Delivers.
+/// The contexts from the start outwards, of which there may be at most `limit`.
+fn line(
+    alloc: Global,
+    space: &Space<'_>,
+    start: &Context,
+    limit: u32,
+) -> Result<Vec<Context>, DeliverError>
+    ensures { DeliversLine result (line_of space.now limit start.now false) }
+{
+    let mut visited = Vec::new(alloc);
+    let mut steps = Steps::new(NoLedger);
+    let mut context = *start;
+    let mut interrupted = false;
+    for _ in 0..limit {
+        visited.push(context)?;
+        match step(space, &context, interrupted, &mut steps)? {
+            None => return Ok(visited),
+            Some(next) => {
+                context = next.context;
+                interrupted = next.signal;
+            }
+        }
+    }
+    Err(DeliverError::FrameLimit)
+}
+
+/// Delivers an exception to the stack whose innermost frame has the registers `start`.
+///
+/// The search visits states from the start outwards. No frame names a handler yet, so it ends with
+/// the stack, nothing is installed, and neither the exception nor the resume table is read.
+///
+/// # Errors
+///
+/// `NoMemory` where memory ran out; `FrameLimit` where more than `limit` states are needed; the
+/// errors of a step, as they are. A fault of the step from the last allowed state comes before
+/// `FrameLimit`.
+#[tactic(auto, unfolding(crate::specs::Delivering::delivery_of))]
 pub fn deliver(
     alloc: Global,
     space: &Space<'_>,
@@ -20,5 +58,11 @@ pub fn deliver(
 ) -> Result<Delivery, DeliverError>
     ensures { Delivers result (delivery_of space.now start.now exception resumes.now limit) }
 {
-    Err(DeliverError::NoMemory)
+    let _ = (exception, class, resumes);
+    Ok(Delivery {
+        visited: line(alloc, space, start, limit)?,
+        trail: Vec::new(alloc),
+        outcome: Outcome::EndOfStack,
+        landing: None,
+    })
 }

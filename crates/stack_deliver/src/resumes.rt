@@ -1,6 +1,6 @@
 // Where a delivery goes on after a cleanup.
-ghost use Rattle.std.specs.Prelude.{◌≡◌, [], OnOk, OnErr};
-ghost use Rattle.stack_deliver.specs.Resumes.{return_of, with_resume};
+ghost use Rattle.std.specs.Prelude.{◌≡◌, ℕ, List, [], OnOk, OnErr};
+ghost use Rattle.stack_deliver.specs.Resumes.{return_of, with_resume, resume_table};
 
 use std::alloc::{AllocError, Global};
 use std::collections::BTreeMap;
@@ -53,4 +53,11 @@ impl Resumes {
     {
         self.returns.get(&pad).copied()
     }
+}
+
+/// Of several entries of one pad the first one counts: what `find` answers for a table that was
+/// filled from nothing is what stands first with the pad among the entries in the order of adding.
+pub fn first_entry_counts()
+    ensures { (entries : List (ℕ × ℕ)) (pad : ℕ) → return_of (resume_table entries) pad ≡ return_of entries pad }
+{
 }

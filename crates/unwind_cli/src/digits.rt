@@ -5,12 +5,15 @@ ghost use Rattle.unwind_cli.specs.Digits.{hexadecimal};
 
 use std::alloc::AllocError;
 
+/// The digits by their values.
+const GLYPHS: [u8; 16] = *b"0123456789abcdef";
+
 /// The text of one hexadecimal digit.
-fn glyph(digit: u8) -> u8
+fn glyph(digit: u64) -> u8
     requires { digit < 16 }
     ensures { result ≡ digit_glyph false digit }
 {
-    if digit < 10 { 48 + digit } else { 87 + digit }
+    GLYPHS[digit as usize]
 }
 
 /// Puts the bytes from `start` on behind the text.
@@ -27,11 +30,11 @@ pub(crate) fn put_hexadecimal(text: &mut Vec<u8>, number: u64) -> Result<(), All
 {
     let mut buffer = [0u8; 18];
     let mut start = 17usize;
-    buffer[start] = glyph((number % 16) as u8);
+    buffer[start] = glyph(number % 16);
     let mut rest = number / 16;
     'digits: while rest > 0 {
         start -= 1;
-        buffer[start] = glyph((rest % 16) as u8);
+        buffer[start] = glyph(rest % 16);
         rest /= 16;
     }
     buffer[start - 1] = b'x';
@@ -40,16 +43,16 @@ pub(crate) fn put_hexadecimal(text: &mut Vec<u8>, number: u64) -> Result<(), All
 }
 
 /// Puts the decimal digits of the number behind the text, without leading zeros.
-pub(crate) fn put_decimal(text: &mut Vec<u8>, number: usize) -> Result<(), AllocError>
+pub(crate) fn put_decimal(text: &mut Vec<u8>, number: u64) -> Result<(), AllocError>
     ensures { OnOk result (text.new.items ≡ text.old.items ++ decimal number) }
 {
     let mut buffer = [0u8; 20];
     let mut start = 19usize;
-    buffer[start] = glyph((number % 10) as u8);
+    buffer[start] = glyph(number % 10);
     let mut rest = number / 10;
     'digits: while rest > 0 {
         start -= 1;
-        buffer[start] = glyph((rest % 10) as u8);
+        buffer[start] = glyph(rest % 10);
         rest /= 10;
     }
     put_tail(text, &buffer, start)
