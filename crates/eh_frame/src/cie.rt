@@ -138,13 +138,6 @@ impl<'a> Cie<'a> {
         }
     }
 
-    // The instructions that each description's program begins with.
-    pub(crate) fn instructions(&self) -> Cursor<'a>
-        ensures { at result ≡ (cie_of self.now).program }
-    {
-        self.program
-    }
-
     // How the addresses of a description are encoded.
     pub(crate) fn address_encoding(&self) -> u8
         ensures { result ≡ address_encoding (cie_of self.now) }

@@ -9,14 +9,14 @@ use Rattle.std.proofs.Math.ListN.{length-set}
 use Rattle.memory_image.specs.Image.{Span}
 use Rattle.unwind_definitions.specs.declared.error.Error.TheVariants.{UnsupportedRegister}
 use Rattle.unwind_definitions.specs.Instructions.{Rule}
-use Rattle.unwind_definitions.specs.Row.{Run, rule_of}
-use Rattle.unwind_definitions.specs.Caller.{Columns, Evaluates, StepFault, Table, x86_64, rule_value, placed, unruled, column_value, first_fault_below, fault_in, value_in, unless_fault, column_limit, caller_with}
+use Rattle.unwind_definitions.specs.Row.{Run, CfaRule, rule_of, cfa_rule}
+use Rattle.unwind_definitions.specs.Caller.{Columns, Evaluates, StepFault, Table, x86_64, rule_value, placed, unruled, column_value, first_fault_below, fault_in, value_in, unless_fault, column_limit, cfa_value, caller_with, caller_of}
 use Rattle.stack_deliver.specs.declared.x86_64.Context.{Context}
 use Rattle.stack_deliver.specs.declared.delivery.DeliverError.{DeliverError}
 use Rattle.stack_deliver.specs.Contexts.{columns_of, with_column, context_of}
 use Rattle.eh_frame.specs.Rules.{rule_in, AscendsFrom}
-use Rattle.stack_deliver.specs.Applied.{or_unsupported, and_then, applied}
-use Rattle.stack_deliver.specs.Stepping.{refusal_of, context_by}
+use Rattle.stack_deliver.specs.Applied.{or_unsupported, and_then, applied, value_given}
+use Rattle.stack_deliver.specs.Stepping.{refusal_of, no_expressions, context_by}
 use Rattle.stack_deliver.proofs.ContextLemmas.{IsWhole, Holds, Writes, with_column-holds, context_of-columns}
 
 -- a column has a value
@@ -57,11 +57,6 @@ rule_in-below low k (p ∷ ps) up small =
     let later : rule_in ps k ≡ None = rule_in-below (suc p.0) k ps up.1 (omega arith) in
     let other : eqb p.0 k ≡ false = grind (arith, nat_tests) in
     rw (other, later) refl
-
--- what a context or a fault is to the caller
-abbrev pub seen : Result Context StepFault → Result Context DeliverError
-seen (Ok c) = Ok c
-seen (Err e) = Err (refusal_of e)
 
 no_column : (o : Option ℕ) → is_some o ≡ is_some {T = ℕ} None → o ≡ None
 no_column None e = refl
@@ -136,8 +131,8 @@ module _ (evaluates : Evaluates) (image : List Span) (old : Context) (cfa : ℕ)
 
   -- what follows the first rule left, once its value is written or not
   after_write : (low : ℕ) (p : ℕ × Rule) (ps : List (ℕ × Rule)) (now : Context) (v : ℕ) → Stands low (p ∷ ps) now → rule_value evaluates image (columns_of old) cfa p.0 p.1 ≡ Ok v →
-      ((next : Context) → Stands (suc p.0) ps next → seen (applied evaluates image old cfa ps next) ≡ context_by (caller_with x86_64 evaluates image (columns_of old) run (Ok cfa))) → (o : Option Context) → Writes now p.0 v o →
-      seen (and_then (or_unsupported o) (applied evaluates image old cfa ps)) ≡ context_by (caller_with x86_64 evaluates image (columns_of old) run (Ok cfa))
+      ((next : Context) → Stands (suc p.0) ps next → value_given (applied evaluates image old cfa ps next) ≡ context_by (caller_with x86_64 evaluates image (columns_of old) run (Ok cfa))) → (o : Option Context) → Writes now p.0 v o →
+      value_given (and_then (or_unsupported o) (applied evaluates image old cfa ps)) ≡ context_by (caller_with x86_64 evaluates image (columns_of old) run (Ok cfa))
   after_write low p ps now v stands gives later None missing =
       let absent : columns_of old p.0 ≡ None = no_column (columns_of old p.0) (sym (stands.same p.0) ∙ ap is_some missing) in
       failed low p ps now (Table UnsupportedRegister) stands (first_value low p ps now stands ∙ rw (gives, absent) refl)
@@ -145,13 +140,13 @@ module _ (evaluates : Evaluates) (image : List Span) (old : Context) (cfa : ℕ)
 
   -- what follows the value of the first rule left
   after_value : (low : ℕ) (p : ℕ × Rule) (ps : List (ℕ × Rule)) (now : Context) → Stands low (p ∷ ps) now →
-      ((next : Context) → Stands (suc p.0) ps next → seen (applied evaluates image old cfa ps next) ≡ context_by (caller_with x86_64 evaluates image (columns_of old) run (Ok cfa))) → (given : Result ℕ StepFault) → rule_value evaluates image (columns_of old) cfa p.0 p.1 ≡ given →
-      seen (and_then (and_then given (λ v. or_unsupported (with_column now p.0 v))) (applied evaluates image old cfa ps)) ≡ context_by (caller_with x86_64 evaluates image (columns_of old) run (Ok cfa))
+      ((next : Context) → Stands (suc p.0) ps next → value_given (applied evaluates image old cfa ps next) ≡ context_by (caller_with x86_64 evaluates image (columns_of old) run (Ok cfa))) → (given : Result ℕ StepFault) → rule_value evaluates image (columns_of old) cfa p.0 p.1 ≡ given →
+      value_given (and_then (and_then given (λ v. or_unsupported (with_column now p.0 v))) (applied evaluates image old cfa ps)) ≡ context_by (caller_with x86_64 evaluates image (columns_of old) run (Ok cfa))
   after_value low p ps now stands later (Err e) gives = failed low p ps now e stands (first_value low p ps now stands ∙ rw gives refl)
   after_value low p ps now stands later (Ok v) gives = after_write low p ps now v stands gives later (with_column now p.0 v) (with_column-holds now p.0 v stands.whole)
 
   -- Applied in ascending column order, the rules left lead to the caller or to its first fault.
-  pub applied-is_caller : (low : ℕ) (rest : List (ℕ × Rule)) (now : Context) → Stands low rest now → seen (applied evaluates image old cfa rest now) ≡ context_by (caller_with x86_64 evaluates image (columns_of old) run (Ok cfa))
+  pub applied-is_caller : (low : ℕ) (rest : List (ℕ × Rule)) (now : Context) → Stands low rest now → value_given (applied evaluates image old cfa rest now) ≡ context_by (caller_with x86_64 evaluates image (columns_of old) run (Ok cfa))
   applied-is_caller low [] now stands = finished low now stands
   applied-is_caller low (p ∷ ps) now stands =
       after_value low p ps now stands (λ next later. applied-is_caller (suc p.0) ps next later) (rule_value evaluates image (columns_of old) cfa p.0 p.1) refl
@@ -188,3 +183,17 @@ begun-stands evaluates image old cfa run rules whole up each = record {
   todo = λ k rule found. sym (each k) ∙ found;
   ascend = up;
 }
+
+given_ok : {A : Type 0} → (r : Result A StepFault) (v : A) → value_given r ≡ Ok v → r ≡ Ok v
+given_ok (Ok w) v e = cc
+given_ok (Err x) v e = absurd cc
+
+-- A row's rules, applied to the context with its CFA, give the caller by the row.
+pub row_caller : (image : List Span) (old : Context) (cfa : ℕ) (run : Run) (rule : CfaRule) (rules : List (ℕ × Rule)) → IsWhole old → cfa_rule run ≡ Some rule → value_given (cfa_value no_expressions (columns_of old) rule) ≡ Ok cfa →
+    AscendsFrom 0 rules → ((k : ℕ) → rule_in rules k ≡ rule_of run k) →
+    value_given (applied no_expressions image old cfa rules (begun old cfa)) ≡ context_by (caller_of x86_64 no_expressions image (columns_of old) run)
+row_caller image old cfa run rule rules whole ruled gives up each =
+    let stands = begun-stands no_expressions image old cfa run rules whole up each in
+    let by_rules = applied-is_caller no_expressions image old cfa run 0 rules (begun old cfa) stands in
+    let value : cfa_value no_expressions (columns_of old) rule ≡ Ok cfa = given_ok (cfa_value no_expressions (columns_of old) rule) cfa gives in
+    by_rules ∙ rw (ruled, value) refl

@@ -4,5 +4,6 @@ pub mod ContextLemmas
 pub mod Faults
 pub mod FirstEntry
 pub mod LineShows
+pub mod Lines
 pub mod Returns
 pub mod StepUndone

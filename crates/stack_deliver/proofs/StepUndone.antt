@@ -18,7 +18,6 @@ use Rattle.unwind_definitions.specs.Module as described
 use Rattle.unwind_laws.specs.Undoes.{Undoes}
 use Rattle.unwind_laws.specs.Walked.{Finds, Steps}
 use Rattle.unwind_laws.proofs.Walk.{one_step}
-use Rattle.unwind_laws.proofs.Rows.{by_register}
 use Rattle.unwind_laws.proofs.Booleans as lists
 use Rattle.stack_deliver.specs.declared.x86_64.Context.{Context}
 use Rattle.stack_deliver.specs.declared.space.Module.{Module}

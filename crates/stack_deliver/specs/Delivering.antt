@@ -1,5 +1,5 @@
 -- What a delivery gives: the states from its start outwards. No frame names a handler yet, so the search ends with the stack.
-use Rattle.std.specs.Prelude.{◌≡◌, ◌⊎◌, ℕ, zero, suc, Bool, false, List, [], ◌∷◌, Option, Some, None, Result, Ok, Err}
+use Rattle.std.specs.Prelude.{◌≡◌, ◌⊎◌, ℕ, zero, suc, Bool, false, List, [], ◌∷◌, ◌++◌, Option, Some, None, Result, Ok, Err}
 use Rattle.stack_deliver.specs.declared.x86_64.Context.{Context}
 use Rattle.stack_deliver.specs.declared.delivery.Trail.{Trail}
 use Rattle.stack_deliver.specs.declared.delivery.Stepped.{Stepped}
@@ -45,10 +45,7 @@ ended (Err e) = Err e
 unfoldable pub delivery_of : SpaceValue → Context → ℕ → List (ℕ × ℕ) → ℕ → Result Delivered DeliverError
 delivery_of space c exception resumes limit = ended (line_of space limit c false)
 
-abbrev pub items_of : Result (Vec Context) DeliverError → Result (List Context) DeliverError
-items_of (Ok v) = Ok v.items
-items_of (Err e) = Err e
-
--- the line is answered in a vector, unless memory ran out
-abbrev pub DeliversLine : Result (Vec Context) DeliverError → Result (List Context) DeliverError → Type 0
-DeliversLine result answer = Delivers (items_of result) answer
+-- a line behind contexts that were visited before it
+abbrev pub with_front : List Context → Result (List Context) DeliverError → Result (List Context) DeliverError
+with_front front (Ok cs) = Ok (front ++ cs)
+with_front front (Err e) = Err e

@@ -1,5 +1,5 @@
 // The delivery of an exception: the states from the start outwards.
-ghost use Rattle.std.specs.Prelude.{◌≡◌, []};
+ghost use Rattle.std.specs.Prelude.{◌≡◌, ◌⊎◌, false, MatchResult};
 ghost use Rattle.stack_deliver.specs.Delivering.{Delivers, line_of, delivery_of};
 
 use crate::delivery::{DeliverError, Delivery, Outcome};
@@ -17,7 +17,7 @@ fn line(
     start: &Context,
     limit: u32,
 ) -> Result<Vec<Context>, DeliverError>
-    ensures { DeliversLine result (line_of space.now limit start.now false) }
+    ensures { MatchResult result (λ visited. line_of space.now limit start.now false ≡ Ok visited.items) (λ error. (error ≡ DeliverError.NoMemory) ⊎ (line_of space.now limit start.now false ≡ Err error)) }
 {
     let mut visited = Vec::new(alloc);
     let mut steps = Steps::new(NoLedger);
@@ -58,7 +58,9 @@ pub fn deliver(
 ) -> Result<Delivery, DeliverError>
     ensures { Delivers result (delivery_of space.now start.now exception resumes.now limit) }
 {
-    let _ = (exception, class, resumes);
+    let _ = exception;
+    let _ = class;
+    let _ = resumes;
     Ok(Delivery {
         visited: line(alloc, space, start, limit)?,
         trail: Vec::new(alloc),

@@ -110,7 +110,8 @@ impl<'a> Space<'a> {
 
     /// The module that contains the address.
     pub(crate) fn module_at(&self, address: u64) -> Option<Module>
-        ensures { result ≡ module_at self.now.modules address }
+        ensures found { result ≡ module_at self.now.modules address }
+        ensures apart { AreApart 0 self.now.modules }
     {
         match last_below(&self.modules, address) {
             Some(module) => {

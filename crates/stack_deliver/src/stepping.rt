@@ -7,6 +7,7 @@ ghost use Rattle.unwind_definitions.specs.Function.{Function};
 ghost use Rattle.unwind_definitions.specs.Chain.{Call};
 ghost use Rattle.eh_frame.specs.Views.{bases_of, table_of};
 ghost use Rattle.stack_deliver.specs.Contexts.{columns_of};
+ghost use Rattle.stack_deliver.specs.Modules.{AreApart};
 ghost use Rattle.stack_deliver.specs.Processes.{process_of};
 ghost use Rattle.stack_deliver.specs.Stepping.{FindsRow, run_found, in_module, step_of};
 ghost use Rattle.stack_deliver.specs.Undone.{HaveFrameTables, IsDescribedCall, Undone};
@@ -66,6 +67,26 @@ fn in_module(
     }
 }
 
+#[tactic(auto, unfolding(crate::specs::Stepping::step_of))]
+fn stepped(
+    space: &Space<'_>,
+    context: &Context,
+    interrupted: bool,
+) -> Result<Option<Stepped>, DeliverError>
+    ensures exact { result ≡ step_of space.now context.now interrupted }
+    ensures apart { AreApart 0 space.now.modules }
+{
+    let address = if interrupted {
+        context.ra
+    } else {
+        context.ra.saturating_sub(1)
+    };
+    match space.module_at(address) {
+        Some(module) if context.ra != 0 => in_module(space.image(), context, address, &module),
+        _ => Ok(None),
+    }
+}
+
 /// The caller of the frame whose registers `context` holds, `None` at the end of the stack.
 ///
 /// The address asked is `ra`, less one unless the frame was `interrupted`: behind a call the
@@ -78,25 +99,6 @@ fn in_module(
 /// `Table` where an entry before the description, or the row, can't be read, or a register isn't
 /// the machine's; `Unmapped` with the address of a stack slot that isn't wholly mapped. The first
 /// fault counts, in the order in which the tables are read, and then by ascending register.
-#[tactic(auto, unfolding(crate::specs::Stepping::step_of))]
-fn stepped(
-    space: &Space<'_>,
-    context: &Context,
-    interrupted: bool,
-) -> Result<Option<Stepped>, DeliverError>
-    ensures { result ≡ step_of space.now context.now interrupted }
-{
-    if context.ra == 0 {
-        return Ok(None);
-    }
-    let address = if interrupted { context.ra } else { context.ra - 1 };
-    match space.module_at(address) {
-        Some(module) => in_module(space.image(), context, address, &module),
-        None => Ok(None),
-    }
-}
-
-/// The caller of the frame whose registers `context` holds, `None` at the end of the stack.
 pub fn step<L: Ledger>(
     space: &Space<'_>,
     context: &Context,
