@@ -1,7 +1,7 @@
 -- The single lines that are written in a report's place.
 use Rattle.std.specs.Prelude.{ℕ, List, ◌++◌, codes}
-use Rattle.stack_deliver.specs.declared.error.Error.{Error}
-use Rattle.stack_deliver.specs.declared.error.Error.TheVariants as errors
+use Rattle.unwind_definitions.specs.declared.error.Error.{Error}
+use Rattle.unwind_definitions.specs.declared.error.Error.TheVariants as errors
 use Rattle.stack_deliver.specs.declared.delivery.DeliverError.{DeliverError}
 use Rattle.stack_deliver.specs.declared.delivery.DeliverError.TheVariants as refusals
 use Rattle.unwind_cli.specs.declared.errors.Field.{Field}
