@@ -10,10 +10,13 @@ mod rows;
 mod samples;
 mod tables;
 
-pub use chains::{chain_is_walked, stack_pointers_rise, valid_chain_is_described};
+pub use chains::{
+    chain_is_one, chain_is_walked, delivery_is_one, slots_lie_in_the_frame, stack_pointers_rise,
+    valid_chain_is_described,
+};
 pub use rows::{
     body_row_undoes, caller_is_by_rules, interrupted_row_undoes, outermost_row_undoes,
-    prologue_row_undoes, reading_gives_row,
+    prologue_row_undoes, reading_gives_row, running_says_row,
 };
 pub use samples::{
     calls_are_caught, calls_by_a_header_are_caught, calls_of_an_outermost_function_are_valid,

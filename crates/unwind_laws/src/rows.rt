@@ -5,7 +5,7 @@ ghost use Rattle.memory_image.specs.Image.{Span};
 ghost use Rattle.unwind_definitions.specs.Forms.{Forms};
 ghost use Rattle.unwind_definitions.specs.Input.{Input};
 ghost use Rattle.unwind_definitions.specs.Pointers.{Bases};
-ghost use Rattle.unwind_definitions.specs.Instructions.{Coding, Rule};
+ghost use Rattle.unwind_definitions.specs.Instructions.{Coding, Rule, Instruction};
 ghost use Rattle.unwind_definitions.specs.Entries.{Fde};
 ghost use Rattle.unwind_definitions.specs.Row.{Run};
 ghost use Rattle.unwind_definitions.specs.Caller.{Columns, Evaluates, Machine, caller_with, unruled};
@@ -16,6 +16,7 @@ ghost use Rattle.unwind_definitions.specs.Function.{Function, IsFunction};
 ghost use Rattle.unwind_definitions.specs.DescribedRows.{IsBodyRow, IsPrologueRow, IsOutermostRow, DescribesRows, HasRow};
 ghost use Rattle.unwind_definitions.specs.Stopped.{StandsAfter};
 ghost use Rattle.unwind_laws.specs.Reached.{ReadsRow};
+ghost use Rattle.unwind_laws.specs.Running.{after_both, SaysRow, HasNoFault};
 ghost use Rattle.unwind_laws.specs.Undoes.{Undoes, AreRules, ruled};
 
 /// Reading the common program whole, and then a description's up to an address, one instruction
@@ -62,5 +63,12 @@ pub fn interrupted_row_undoes()
 pub fn caller_is_by_rules()
     ensures { (machine : Machine) (evaluates : Evaluates) (image : List Span) (columns : Columns) (cfa : ℕ) (run : Run) (rules : List (ℕ × Rule)) → AreRules run rules →
         caller_with machine evaluates image columns run (Ok cfa) ≡ ruled evaluates image columns cfa rules (unruled machine columns cfa) }
+{
+}
+
+/// Running the common program and then a description's, with one remembered state, gives the rules,
+/// the CFA and the argument size that the row says, where no instruction meets a fault.
+pub fn running_says_row()
+    ensures { (start : ℕ) (common own : List Instruction) → HasNoFault start common own → SaysRow (after_both common own) (record { common = common; own = own }) }
 {
 }
