@@ -21,3 +21,4 @@ pub mod OneLanguage
 pub mod OneChain
 pub mod Slots
 pub mod Ran
+pub mod Leb

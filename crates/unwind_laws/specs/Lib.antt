@@ -8,3 +8,4 @@ pub mod Three
 pub mod Returning
 pub mod Apart
 pub mod Running
+pub mod Spelled
