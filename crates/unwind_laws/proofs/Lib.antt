@@ -22,3 +22,4 @@ pub mod OneChain
 pub mod Slots
 pub mod Ran
 pub mod Leb
+pub mod Relative

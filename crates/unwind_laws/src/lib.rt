@@ -1,11 +1,12 @@
 //! Laws of the definitions, and samples that meet them, as functions with empty bodies: what stands
 //! in a contract here is proved.
 //!
-//! `rows` says how a row is read and what it undoes, `tables` what is found in a described module,
+//! `numbers` says which bytes a number is read from, `rows` how a row is read and what it undoes, `tables` what is found in a described module,
 //! `chains` what a described chain determines, and `samples` shows processes that are valid.
 #![tactic(auto)]
 
 mod chains;
+mod numbers;
 mod rows;
 mod samples;
 mod tables;
@@ -13,6 +14,9 @@ mod tables;
 pub use chains::{
     chain_is_one, chain_is_walked, delivery_is_one, slots_lie_in_the_frame, stack_pointers_rise,
     valid_chain_is_described,
+};
+pub use numbers::{
+    relative_pointer_is_spelled, signed_number_is_spelled, unsigned_number_is_spelled,
 };
 pub use rows::{
     body_row_undoes, caller_is_by_rules, interrupted_row_undoes, outermost_row_undoes,
