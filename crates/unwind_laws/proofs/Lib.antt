@@ -23,3 +23,4 @@ pub mod Slots
 pub mod Ran
 pub mod Leb
 pub mod Relative
+pub mod WindowsEntered

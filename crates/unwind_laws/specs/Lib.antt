@@ -9,3 +9,4 @@ pub mod Returning
 pub mod Apart
 pub mod Running
 pub mod Spelled
+pub mod Windows

@@ -25,6 +25,6 @@ pub use rows::{
 pub use samples::{
     calls_are_caught, calls_by_a_header_are_caught, calls_of_an_outermost_function_are_valid,
     one_call_is_valid, other_slot_is_no_entering, state_stands_inside_a_prologue,
-    three_calls_are_valid, unlisted_call_ends_the_program,
+    three_calls_are_valid, unlisted_call_ends_the_program, windows_function_is_entered,
 };
 pub use tables::{function_is_found, scan_finds_first, uncovered_is_not_found};

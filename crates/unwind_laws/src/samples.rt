@@ -2,9 +2,9 @@
 
 ghost use Rattle.std.specs.Prelude.{◌≡◌, ◌-◌, ℕ, [], ◌∷◌, false};
 ghost use Rattle.unwind_definitions.specs.Forms.{whole, plain};
-ghost use Rattle.unwind_definitions.specs.Prologue.{steps_of};
+ghost use Rattle.unwind_definitions.specs.Prologue.{Windows, steps_of};
 ghost use Rattle.unwind_definitions.specs.Entered.{IsEntered};
-ghost use Rattle.unwind_definitions.specs.Function.{Terminate, action_at};
+ghost use Rattle.unwind_definitions.specs.Function.{Terminate, IsFunction, action_at};
 ghost use Rattle.unwind_definitions.specs.Module.{IsProcess};
 ghost use Rattle.unwind_definitions.specs.Delivery.{delivery_of};
 ghost use Rattle.unwind_definitions.specs.Valid.{IsValid};
@@ -13,6 +13,7 @@ ghost use Rattle.unwind_laws.specs.Columns.{columns_of};
 ghost use Rattle.unwind_laws.specs.Pushing as pushing;
 ghost use Rattle.unwind_laws.specs.Three as three;
 ghost use Rattle.unwind_laws.specs.Returning as returning;
+ghost use Rattle.unwind_laws.specs.Windows as windows;
 
 /// A call of a function that pushes RBX, from a caller that returns to 0.
 pub fn one_call_is_valid()
@@ -74,5 +75,13 @@ pub fn unlisted_call_ends_the_program()
     ensures whole { IsValid whole three.unlisted_process (columns_of three.start) three.resumes three.functions three.start three.unlisted_calls }
     ensures action { action_at three.fc (0x401070 - 1) ≡ Terminate }
     ensures delivery { delivery_of three.exception three.start three.unlisted_calls ≡ three.unlisted_delivery }
+{
+}
+
+/// A function under the rules of Windows, whose chained record tells of its first two steps, sets RBP
+/// above the stack pointer and stores an XMM register: it is one, and a state is entered by it.
+pub fn windows_function_is_entered()
+    ensures function { IsFunction Windows windows.function }
+    ensures entered { IsEntered windows.image false (steps_of windows.prologue) windows.caller windows.start }
 {
 }
