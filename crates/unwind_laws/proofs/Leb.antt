@@ -1,15 +1,14 @@
 -- What bytes spell is what is read.
-use Rattle.std.proofs.Common.{◌≡◌, ◌≢◌, ℕ, zero, suc, ◌+◌, ◌-◌, ◌*◌, ◌/◌, ◌%◌, ◌^◌, ◌<◌, ◌≤◌, Bool, true, false, cond, ltb, leb, eqb, List, [], ◌∷◌, ◌++◌, length, get_or, take, drop, Result, Ok, Err, refl, sym, ap, subst, ◌∙◌, arith, inl, inr}
-use Rattle.std.specs.Prelude.{◌⊎◌, ◌==◌, if◌then◌else◌}
-use Rattle.std.specs.Int.{w8, from_le_bytes}
-use Rattle.std.proofs.lemmas.Bool.{le-ltb, lt-ltb, ltb-true, ltb-false, le-leb, lt-leb, leb-true, leb-false, eqb-true}
-use Rattle.std.proofs.Math.Pow.{pow_mono}
+use Rattle.std.proofs.Common.{◌≡◌, ℕ, zero, suc, ◌+◌, ◌-◌, ◌*◌, ◌%◌, ◌^◌, ◌<◌, ◌≤◌, Bool, true, false, cond, ltb, leb, eqb, List, [], ◌∷◌, ◌++◌, length, get_or, Result, Ok, Err, refl, sym, ap, ◌∙◌, arith, inl, inr}
+use Rattle.std.specs.Prelude.{if◌then◌else◌}
+use Rattle.std.specs.Int.{w8}
+use Rattle.std.proofs.lemmas.Bool.{le-ltb, lt-ltb, ltb-true, ltb-false, le-leb, leb-true, leb-false, eqb-true}
 use Rattle.std.proofs.Math.Nat.{pow-succ'}
 use Rattle.unwind_definitions.specs.declared.error.Error.{Error as Fault}
 use Rattle.unwind_definitions.specs.declared.error.Error.TheVariants.{BadUnsignedLeb128, BadSignedLeb128, UnexpectedEof}
 use Rattle.unwind_definitions.specs.Faults.{◌>>=◌}
-use Rattle.unwind_definitions.specs.Input.{Input, skip, number, signed, uleb_from, uleb, sleb_from, sleb}
-use Rattle.unwind_definitions.specs.Numbers.{digits, EndsOnce, SpellsUnsigned, has_sign, IsSignOnly, SpellsSigned}
+use Rattle.unwind_definitions.specs.Input.{Input, number, signed, uleb_from, uleb, sleb_from, sleb}
+use Rattle.unwind_definitions.specs.Numbers.{digits, EndsOnce, has_sign, IsSignOnly}
 use Rattle.unwind_laws.specs.Spelled.{AreBytes, Follows, BeginsUnsigned, BeginsSigned}
 
 abbrev input : ℕ → ℕ → List ℕ → Input
@@ -292,7 +291,7 @@ forward_signed (suc left) base offset (b ∷ c ∷ bs) rest few ends size only =
     let ih = forward_signed left base (offset + 1) (c ∷ bs) rest (omega arith) ends.2 (omega arith) only in
     next_signed left base offset b (c ∷ bs ++ rest) ∙ rw (le-ltb b 128 high) (ap (λ r. r >>= more_signed b) ih
     ∙ same_read base ((b - 128 + 128 * signed_value (c ∷ bs)) % 2 ^ 64) (signed_value (b ∷ c ∷ bs)) (offset + 1 + length (c ∷ bs)) (offset + length (b ∷ c ∷ bs)) rest
-        (next_value left b c bs (omega arith) high byte (sized left (c ∷ bs) ends.2 (omega arith) only)) (omega arith))
+    (next_value left b c bs (omega arith) high byte (sized left (c ∷ bs) ends.2 (omega arith) only)) (omega arith))
 
 -- bytes that spell a signed number, of which so many may come
 pub record SpeltSigned (left : ℕ) (c : Input) (n : ℕ) (d : Input) : Type 0 where

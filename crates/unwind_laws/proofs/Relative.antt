@@ -1,14 +1,12 @@
 -- A relative pointer is read as what its bytes spell.
-use Rattle.std.proofs.Common.{◌≡◌, ℕ, ◌+◌, ◌-◌, ◌%◌, ◌^◌, ◌<◌, ◌≤◌, Bool, true, false, cond, ltb, List, [], ◌∷◌, ◌++◌, length, take, drop, Result, Ok, Err, refl, sym, ap, ◌∙◌, arith}
+use Rattle.std.proofs.Common.{◌≡◌, ℕ, ◌+◌, ◌%◌, ◌^◌, List, ◌++◌, length, take, drop, Result, Ok, refl, sym, ap, ◌∙◌, arith}
 use Rattle.std.specs.Int.{w32, from_le_bytes}
 use Rattle.std.proofs.lemmas.Bool.{le-ltb}
 use Rattle.std.proofs.Common.{length-append}
 use Rattle.std.proofs.Math.Seq.{take-append_seam, drop-append_seam}
 use Rattle.unwind_definitions.specs.declared.error.Error.{Error as Fault}
-use Rattle.unwind_definitions.specs.declared.error.Error.TheVariants.{UnexpectedEof}
-use Rattle.unwind_definitions.specs.Faults.{◌>>=◌}
-use Rattle.unwind_definitions.specs.Input.{Input, address_of, number, signed, skip}
-use Rattle.unwind_definitions.specs.Pointers.{Bases, Pointer, Direct, direct, direct_target}
+use Rattle.unwind_definitions.specs.Input.{Input, address_of, number, signed}
+use Rattle.unwind_definitions.specs.Pointers.{Bases, direct}
 use Rattle.unwind_definitions.specs.Numbers.{SpellsRelative}
 use Rattle.unwind_laws.specs.Spelled.{Follows}
 

@@ -1,10 +1,10 @@
 -- A function of a module for Windows is one, and is entered.
-use Rattle.std.proofs.Common.{◌≡◌, ℕ, zero, suc, ◌+◌, ◌-◌, ◌%◌, ◌^◌, ◌<◌, ◌≤◌, Bool, true, false, ◌&&◌, List, [], ◌∷◌, Option, Some, None, refl, arith, lit<, lit≤}
-use Rattle.std.specs.Prelude.{IsTrue, ◌≢◌, is_some}
+use Rattle.std.proofs.Common.{◌≡◌, ℕ, zero, suc, ◌+◌, Bool, true, false, ◌&&◌, List, Option, Some, None, refl, arith, lit<, lit≤}
+use Rattle.std.specs.Prelude.{◌≢◌, is_some}
 use Rattle.std.specs.List.{AllPairs}
 use Rattle.memory_image.specs.Image.{Span, word_at, byte_at}
 use Rattle.unwind_definitions.specs.State.{value_of}
-use Rattle.unwind_definitions.specs.Prologue.{Windows, Save, saves, steps_of, distance, IsPrologue}
+use Rattle.unwind_definitions.specs.Prologue.{Windows, Save, saves, steps_of, distance}
 use Rattle.unwind_definitions.specs.Entered.{IsMapped, IsEntered}
 use Rattle.unwind_definitions.specs.Function.{IsFunction}
 use Rattle.unwind_laws.specs.Windows.{prologue, function, image, start, caller}

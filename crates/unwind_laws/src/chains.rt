@@ -21,22 +21,19 @@ ghost use Rattle.unwind_laws.specs.Walked.{IsWalk};
 pub fn chain_is_walked()
     ensures { (forms : Forms) (p : Process) (evaluates : Evaluates) (functions : List Function) (s : State) (calls : List Call) (columns : Columns) →
         IsDescribedChain forms p functions s calls → Shows columns s → IsWalk forms p evaluates functions columns s calls }
-{
-}
+{}
 
 /// The chain of a valid start is described.
 pub fn valid_chain_is_described()
     ensures { (forms : Forms) (p : Process) (start : Columns) (resumes : List (ℕ × ℕ)) (functions : List Function) (s : State) (calls : List Call) →
         IsValid forms p start resumes functions s calls → IsDescribedChain forms p functions s calls }
-{
-}
+{}
 
 /// Stack pointers strictly rise along a chain.
 pub fn stack_pointers_rise()
     ensures { (forms : Forms) (p : Process) (functions : List Function) (s : State) (calls : List Call) →
         IsChain p.image (IsUncovered forms p) functions s calls → StacksRise (states_of s calls) }
-{
-}
+{}
 
 /// Two described chains of one start go through the same states, and what is delivered to them is
 /// one, whatever lists of functions they are over.
@@ -45,19 +42,16 @@ pub fn delivery_is_one()
         IsProcess p → IsDescribedChain forms p functions s calls → IsDescribedChain forms p others s more → states_of s calls ≡ states_of s more }
     ensures delivery { (forms : Forms) (p : Process) (functions others : List Function) (s : State) (calls more : List Call) (exception : ℕ) →
         IsProcess p → IsDescribedChain forms p functions s calls → IsDescribedChain forms p others s more → delivery_of exception s calls ≡ delivery_of exception s more }
-{
-}
+{}
 
 /// Over functions that share no address, two described chains of one start are one.
 pub fn chain_is_one()
     ensures { (forms : Forms) (p : Process) (functions : List Function) (s : State) (calls more : List Call) → IsProcess p → AllPairs FunctionsApart functions →
         IsDescribedChain forms p functions s calls → IsDescribedChain forms p functions s more → calls ≡ more }
-{
-}
+{}
 
 /// What a prologue saves lies between its last stack pointer and the return address.
 pub fn slots_lie_in_the_frame()
     ensures { (convention : Convention) (image : List Span) (outermost : Bool) (steps : List Step) (t s : State) → EachMayFollow convention [] steps → IsEntered image outermost steps t s →
         AllByRecursion (LiesBetween (stack_after (t.sp - 8) steps) t.sp) (saves steps) }
-{
-}
+{}
