@@ -1,6 +1,6 @@
 -- Which rows describe a frame that has run steps of a prologue: the CFA is the caller's stack pointer, and each register
 -- that is saved is found below it. DWARF 5 section 6.4.1; System V x86-64 psABI for the registers.
-use Rattle.std.specs.Prelude.{◌≡◌, ◌≢◌, ◌⊎◌, ℕ, ◌-◌, ◌^◌, ◌<◌, ◌≤◌, Bool, List, [], ◌∷◌, Option, Some, None, Ok, IsTrue, IsFalse, MatchOption, nat_le}
+use Rattle.std.specs.Prelude.{◌≡◌, ◌⊎◌, ℕ, ◌-◌, ◌^◌, ◌<◌, ◌≤◌, Bool, List, [], ◌∷◌, Option, Some, None, Ok, IsTrue, IsFalse, MatchOption, nat_le}
 use Rattle.std.specs.List.{filter}
 use Rattle.std.specs.Option.{option_map_or}
 use Rattle.unwind_definitions.specs.Forms.{Forms, is_among}

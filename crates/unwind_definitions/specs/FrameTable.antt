@@ -1,6 +1,6 @@
 -- When a frame table describes functions. Its entries have the form that compilers emit; those of other code are free.
 -- LSB, section on the .eh_frame section; DWARF 5 section 6.4.
-use Rattle.std.specs.Prelude.{◌≡◌, ◌≢◌, ◌⊎◌, ℕ, ◌+◌, ◌-◌, ◌^◌, ◌<◌, ◌≤◌, Bool, ◌&&◌, List, [], ◌∷◌, ◌++◌, replicate, Option, Some, None, Ok, IsFalse, MatchOption, ◌==◌}
+use Rattle.std.specs.Prelude.{◌≡◌, ◌≢◌, ◌⊎◌, ℕ, ◌+◌, ◌-◌, ◌^◌, ◌<◌, ◌≤◌, Bool, ◌&&◌, List, [], ◌∷◌, ◌++◌, replicate, Some, None, Ok, IsFalse, MatchOption, ◌==◌}
 use Rattle.std.specs.Int.{w32}
 use Rattle.std.specs.List.{filter, list_any, Contains, AllByRecursion}
 use Rattle.memory_image.specs.Image.{Span, word_at}

@@ -1,6 +1,6 @@
 -- A function of the program, as its compiler knows it: its range, its prologue, where its body lies, and what its language
 -- asks of a frame that is stopped in a call. Itanium C++ ABI, exception handling, level I and II, for the actions.
-use Rattle.std.specs.Prelude.{◌≡◌, ◌≢◌, ℕ, ◌+◌, ◌<◌, ◌≤◌, Bool, ◌&&◌, List, [], ◌∷◌, map, Option, Some, None, IfSome, IsTrue, nat_le, nat_lt}
+use Rattle.std.specs.Prelude.{◌≡◌, ◌≢◌, ℕ, ◌+◌, ◌<◌, ◌≤◌, Bool, ◌&&◌, List, [], ◌∷◌, map, Option, None, IfSome, IsTrue, nat_le, nat_lt}
 use Rattle.std.specs.List.{AllByRecursion, find, list_any}
 use Rattle.std.specs.Option.{option_map_or}
 use Rattle.unwind_definitions.specs.Prologue.{Convention, PrologueStep, IsPrologue}

@@ -1,6 +1,6 @@
 -- Language tables (LSDA) as compilers emit them: call sites of a function, and what each asks.
 -- Itanium C++ ABI, exception handling tables; LSB, section on exception frames.
-use Rattle.std.specs.Prelude.{◌≡◌, ◌≢◌, ℕ, ◌+◌, ◌-◌, ◌^◌, ◌≤◌, List, [], ◌∷◌, length, take, Option, Some, None, Result, Ok, nat_lt, ◌==◌, if◌then◌else◌}
+use Rattle.std.specs.Prelude.{◌≡◌, ◌≢◌, ℕ, ◌+◌, ◌-◌, ◌^◌, List, [], ◌∷◌, Option, Some, None, Result, Ok, nat_lt, ◌==◌, if◌then◌else◌}
 use Rattle.std.specs.Int.{w8}
 use Rattle.memory_image.specs.Image.{Span, table_at}
 use Rattle.unwind_definitions.specs.Faults.{Fault, UnsupportedPointerEncoding, ◌>>=◌, unless}

@@ -1,7 +1,6 @@
 -- What bytes spell a number of variable length, digit by digit: DWARF 5 section 7.6 (LEB128). And relative pointers.
 use Rattle.std.specs.Prelude.{◌≡◌, ◌⊎◌, ℕ, ◌+◌, ◌-◌, ◌*◌, ◌%◌, ◌^◌, ◌<◌, ◌≤◌, Bool, false, List, [], ◌∷◌, length, get_or, nat_le, if◌then◌else◌}
 use Rattle.std.specs.Int.{w32, from_le_bytes}
-use Rattle.std.specs.List.{AllByRecursion}
 use Rattle.unwind_definitions.specs.Input.{signed}
 
 -- the sum of the low seven bits of each byte times a power of 128, the lowest first

@@ -1,6 +1,6 @@
 -- What a function's first instructions do to the stack: they push registers, make room, perhaps set RBP as a frame
 -- pointer, and store registers. System V x86-64 psABI, section 3.2.2; Microsoft x64 calling convention, prolog.
-use Rattle.std.specs.Prelude.{◌≡◌, ◌≢◌, ℕ, ◌+◌, ◌-◌, ◌%◌, ◌<◌, ◌≤◌, Bool, true, false, ◌&&◌, List, [], ◌∷◌, ◌++◌, map, replicate, Option, Some, None, IsTrue, nat_lt, if◌then◌else◌}
+use Rattle.std.specs.Prelude.{◌≡◌, ◌≢◌, ℕ, ◌+◌, ◌-◌, ◌%◌, ◌<◌, ◌≤◌, Bool, true, false, List, [], ◌∷◌, ◌++◌, map, replicate, Option, Some, None, IsTrue, nat_lt, if◌then◌else◌}
 use Rattle.std.specs.List.{AllPairs, sum_by, list_any}
 use Rattle.unwind_definitions.specs.State.{CalleeSaved, RBP, is_same}
 

@@ -1,6 +1,6 @@
 -- What is followed of a machine in a call: the return address, the stack pointer, and the registers that a function
 -- keeps for its caller. System V x86-64 psABI, section 3.2.1 and the table of DWARF register numbers.
-use Rattle.std.specs.Prelude.{◌≡◌, ℕ, ◌^◌, ◌<◌, Bool, true, false, List, [], ◌∷◌, Some, IsFalse}
+use Rattle.std.specs.Prelude.{◌≡◌, ℕ, ◌^◌, ◌<◌, Bool, true, false, [], ◌∷◌, Some, IsFalse}
 use Rattle.unwind_definitions.specs.Forms.{is_among}
 use Rattle.unwind_definitions.specs.Caller.{Columns}
 

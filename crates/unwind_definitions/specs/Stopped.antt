@@ -1,5 +1,5 @@
 -- A function that is stopped inside its prologue, after some of its steps.
-use Rattle.std.specs.Prelude.{◌≡◌, ℕ, ◌+◌, ◌-◌, ◌<◌, ◌≤◌, false, List, [], ◌∷◌, ◌++◌, None}
+use Rattle.std.specs.Prelude.{◌≡◌, ℕ, ◌+◌, ◌<◌, ◌≤◌, false, List, [], ◌∷◌, ◌++◌, None}
 use Rattle.memory_image.specs.Image.{Span}
 use Rattle.unwind_definitions.specs.State.{CalleeSaved, RBP, State, value_of}
 use Rattle.unwind_definitions.specs.Prologue.{PrologueStep, steps_of, frame_depth}

@@ -1,5 +1,5 @@
 -- What the theorems on walks and deliveries are about: processes whose ELF tables describe the functions of a chain.
-use Rattle.std.specs.Prelude.{◌≡◌, ◌⊎◌, ℕ, ◌-◌, List, [], ◌∷◌, IsTrue, Some}
+use Rattle.std.specs.Prelude.{◌≡◌, ◌⊎◌, ℕ, ◌-◌, List, IsTrue, Some}
 use Rattle.std.specs.List.{filter, list_any, Contains, AllByRecursion}
 use Rattle.unwind_definitions.specs.Forms.{Forms}
 use Rattle.unwind_definitions.specs.Caller.{Columns}

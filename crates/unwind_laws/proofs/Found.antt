@@ -1,14 +1,14 @@
 -- The description of a described function is the one that is found, and its row undoes the call.
-use Rattle.std.proofs.Common.{◌≡◌, ◌≢◌, ℕ, zero, suc, ◌+◌, ◌-◌, ◌*◌, ◌%◌, ◌^◌, ◌<◌, ◌≤◌, Bool, true, false, cond, eqb, ltb, leb, ◌&&◌, ◌||◌, List, [], ◌∷◌, ◌++◌, length, Option, Some, None, Result, Ok, Err, refl, sym, ap, subst, ◌∙◌, arith, inl, inr, get_or}
-use Rattle.std.specs.Prelude.{◌⊎◌, ◌==◌, IsTrue, IsFalse, if◌then◌else◌}
+use Rattle.std.proofs.Common.{◌≡◌, ℕ, ◌+◌, ◌-◌, ◌<◌, ◌≤◌, Bool, true, false, ltb, leb, List, [], ◌∷◌, Option, Some, None, Result, Ok, Err, refl, sym, ap, subst, ◌∙◌, arith, inl, inr}
+use Rattle.std.specs.Prelude.{◌⊎◌, IsTrue}
 use Rattle.std.specs.Option.{option_map_or}
-use Rattle.std.specs.List.{Contains, filter, find, AllPairs, list_any, AllByRecursion}
-use Rattle.std.proofs.lemmas.Bool.{leb-true, le-leb, lt-leb, lt-ltb, ltb-true, leb-false, eqb-true}
+use Rattle.std.specs.List.{Contains, AllPairs, list_any, AllByRecursion}
+use Rattle.std.proofs.lemmas.Bool.{leb-true, le-leb, lt-ltb, ltb-true}
 use Rattle.memory_image.specs.Image.{Span}
 use Rattle.unwind_definitions.specs.declared.error.Error.{Error as Fault}
 use Rattle.unwind_definitions.specs.declared.error.Error.TheVariants.{NoUnwindInfoForAddress}
 use Rattle.unwind_definitions.specs.Forms.{Forms}
-use Rattle.unwind_definitions.specs.Entries.{Fde, Entry}
+use Rattle.unwind_definitions.specs.Entries.{Fde}
 use Rattle.unwind_definitions.specs.Row.{Run, covers_pc, row_at, argument_size}
 use Rattle.unwind_definitions.specs.Scan.{fdes_of, first_covering, scan}
 use Rattle.unwind_definitions.specs.Caller.{Evaluates, Columns}
@@ -16,13 +16,12 @@ use Rattle.unwind_definitions.specs.State.{State, IsState, Shows}
 use Rattle.unwind_definitions.specs.Prologue.{SystemV, PrologueStep, steps_of}
 use Rattle.unwind_definitions.specs.Entered.{IsEntered}
 use Rattle.unwind_definitions.specs.Function.{Function, Range, in_range, in_body, AreWithin, IsFunction}
-use Rattle.unwind_definitions.specs.DescribedRows.{DescribesRows}
 use Rattle.unwind_definitions.specs.LanguageTable.{input_at}
 use Rattle.unwind_definitions.specs.FrameTable.{has_range_of, DescribesFunction, HasDescription}
-use Rattle.unwind_definitions.specs.Module.{Module, Process, in_module, bases_of, DescriptionsApart, DescribesModule, CoversNot}
+use Rattle.unwind_definitions.specs.Module.{Module, Process, bases_of, DescriptionsApart, DescribesModule, CoversNot}
 use Rattle.unwind_definitions.specs.Chain.{Call, IsCalled}
 use Rattle.unwind_laws.specs.Undoes.{Undoes}
-use Rattle.unwind_laws.specs.Found.{found_among, FindsFunction}
+use Rattle.unwind_laws.specs.Found.{FindsFunction}
 use Rattle.unwind_laws.proofs.Booleans.{both_true, either_true, here_or_later, none_in_nil, filter_contains, all_contains, first, tail_pairs, head_pairs}
 use Rattle.unwind_laws.proofs.Scanned.{scan_is}
 use Rattle.unwind_laws.proofs.Signal.{no_signal}

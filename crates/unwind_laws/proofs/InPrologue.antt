@@ -1,17 +1,15 @@
 -- The row of a described function undoes the steps that a stopped state has run.
-use Rattle.std.proofs.Common.{◌≡◌, ◌≢◌, ℕ, zero, suc, ◌+◌, ◌-◌, ◌<◌, ◌≤◌, Bool, true, false, leb, List, [], ◌∷◌, ◌++◌, map, Option, Some, None, Ok, refl, sym, ap, subst, ◌∙◌, arith, append_assoc}
-use Rattle.std.specs.Prelude.{IsTrue, IsFalse}
-use Rattle.std.specs.List.{AllByRecursion, filter}
+use Rattle.std.proofs.Common.{◌≡◌, ◌≢◌, ℕ, ◌+◌, ◌-◌, ◌<◌, ◌≤◌, false, List, [], ◌∷◌, ◌++◌, map, refl, ap, subst, ◌∙◌, arith}
+use Rattle.std.specs.List.{AllByRecursion}
 use Rattle.std.proofs.lemmas.Bool.{le-leb, lt-leb}
 use Rattle.memory_image.specs.Image.{Span}
 use Rattle.unwind_definitions.specs.Forms.{Forms}
 use Rattle.unwind_definitions.specs.Pointers.{Bases}
 use Rattle.unwind_definitions.specs.Entries.{Fde}
-use Rattle.unwind_definitions.specs.Row.{Run, row_at}
 use Rattle.unwind_definitions.specs.Caller.{Evaluates, Columns}
 use Rattle.unwind_definitions.specs.State.{State, IsState, Shows}
 use Rattle.unwind_definitions.specs.Prologue.{SystemV, Step, PrologueStep, steps_of, Ascend, EachMayFollow}
-use Rattle.unwind_definitions.specs.Function.{Function, Range, last_end, first_from, first_body, AreWithin, IsFunction, in_body}
+use Rattle.unwind_definitions.specs.Function.{Function, Range, last_end, first_from, first_body, AreWithin, IsFunction}
 use Rattle.unwind_definitions.specs.DescribedRows.{HasRow, IsPrologueRow, ended_by, DescribesRows}
 use Rattle.unwind_definitions.specs.Stopped.{IsBelowNext, StandsAfter}
 use Rattle.unwind_laws.specs.Undoes.{Undoes}

@@ -21,3 +21,6 @@ pub mod OneLanguage
 pub mod OneChain
 pub mod Slots
 pub mod Ran
+pub mod Leb
+pub mod Relative
+pub mod WindowsEntered

@@ -1,5 +1,5 @@
 -- Two described chains of one start go through the same states, and what is delivered to them is one.
-use Rattle.std.proofs.Common.{◌≡◌, ◌≢◌, ℕ, zero, suc, ◌+◌, ◌-◌, ◌<◌, ◌≤◌, Bool, true, false, cond, List, [], ◌∷◌, ◌++◌, map, take, Option, Some, None, Result, Ok, Err, refl, sym, ap, subst, ◌∙◌, arith, inl, inr}
+use Rattle.std.proofs.Common.{◌≡◌, ◌≢◌, ℕ, ◌-◌, ◌<◌, ◌≤◌, Bool, true, false, List, [], ◌∷◌, ◌++◌, Option, Some, None, Err, refl, sym, ap, subst, ◌∙◌, arith, inl, inr}
 use Rattle.std.proofs.Math.Numerals.{one-add}
 use Rattle.std.specs.Prelude.{◌⊎◌, IsTrue}
 use Rattle.std.specs.List.{AllPairs, AllByRecursion, Contains, find, before_first, filter_map, cons_option}
@@ -7,18 +7,17 @@ use Rattle.std.specs.Option.{option_map_or, option_map}
 use Rattle.memory_image.specs.Image.{Span}
 use Rattle.unwind_definitions.specs.Forms.{Forms}
 use Rattle.unwind_definitions.specs.Caller.{Columns, Evaluates, StepFault, Unmapped, x86_64, caller_of}
-use Rattle.unwind_definitions.specs.State.{CalleeSaved, RBX, RBP, R12, R13, R14, R15, State, value_of, column_of, Shows}
+use Rattle.unwind_definitions.specs.State.{CalleeSaved, RBX, RBP, R12, R13, R14, R15, State, value_of, Shows}
 use Rattle.unwind_definitions.specs.Prologue.{SystemV}
 use Rattle.unwind_definitions.specs.Entries.{Fde}
 use Rattle.unwind_definitions.specs.Function.{Function, IsFunction, Action, NoAction, Cleanup, Catch, Filter, Terminate, action_at, in_body}
 use Rattle.unwind_definitions.specs.LanguageTable.{LeadsToLanguage}
 use Rattle.unwind_definitions.specs.Module.{Process, AreApart, IsUncovered}
 use Rattle.unwind_definitions.specs.Chain.{Call, IsEnd, IsChain, states_of}
-use Rattle.unwind_definitions.specs.Delivery.{Frame, frames_of, action_of_frame, is_deciding, decides, cleanup_of, cleanup_pad, states_in, inner_frames, deciding_frame, Delivery, decided_by, not_installed, installed, landing_at, Installed, EndOfStack, FatalPhase1, delivery_of}
+use Rattle.unwind_definitions.specs.Delivery.{Frame, frames_of, action_of_frame, is_deciding, decides, cleanup_of, cleanup_pad, states_in, inner_frames, deciding_frame, Delivery, decided_by, not_installed, landing_at, Installed, EndOfStack, FatalPhase1, delivery_of}
 use Rattle.unwind_definitions.specs.Valid.{IsDescribedChain}
 use Rattle.unwind_laws.specs.Columns.{columns_of}
-use Rattle.unwind_laws.specs.Undoes.{Undoes}
-use Rattle.unwind_laws.specs.Walked.{Finds, Steps, IsWalk}
+use Rattle.unwind_laws.specs.Walked.{Steps, IsWalk}
 use Rattle.unwind_laws.specs.Apart.{FunctionsApart}
 use Rattle.unwind_laws.proofs.Booleans.{all_contains, here_or_later, none_in_nil, tail_pairs, head_pairs}
 use Rattle.unwind_laws.proofs.Found.{body_inside}
@@ -74,7 +73,7 @@ module _ (forms : Forms) (p : Process) (apart : AllPairs AreApart p.modules) (ev
   walks_alike functions more s (c ∷ cs) (d ∷ ds) columns x y =
       let one = one_step columns s c d x.3.0 y.3.0 in
       let rest : IsWalk forms p evaluates more x.3.0.undoes.caller c.caller ds =
-          subst (λ (k : State). IsWalk forms p evaluates more x.3.0.undoes.caller k ds) (sym one.0) (subst (λ (k : Columns). IsWalk forms p evaluates more k d.caller ds) (sym one.2) y.3.1) in
+      subst (λ (k : State). IsWalk forms p evaluates more x.3.0.undoes.caller k ds) (sym one.0) (subst (λ (k : Columns). IsWalk forms p evaluates more k d.caller ds) (sym one.2) y.3.1) in
       (one.0, one.1, walks_alike functions more c.caller cs ds x.3.0.undoes.caller x.3.1 rest)
 
 -- ---- what is delivered to such chains
@@ -211,7 +210,7 @@ same_callees image Uncovered functions apart are s (c ∷ cs) [] x y a = absurd 
 same_callees image Uncovered functions apart are s (c ∷ cs) (d ∷ ds) x y a =
     let at : ℕ = s.ra - 1 in
     let callee : c.callee ≡ d.callee = one_function functions apart at c.callee d.callee x.0.listed y.0.listed
-        (within c.callee at (all_contains (IsFunction SystemV) functions c.callee are x.0.listed) x.0.called.inside) (within d.callee at (all_contains (IsFunction SystemV) functions d.callee are y.0.listed) y.0.called.inside) in
+    (within c.callee at (all_contains (IsFunction SystemV) functions c.callee are x.0.listed) x.0.called.inside) (within d.callee at (all_contains (IsFunction SystemV) functions d.callee are y.0.listed) y.0.called.inside) in
     let make : Function → State → Call = λ f t. record { callee = f; caller = t } in
     let call : c ≡ d = ap (λ (f : Function). make f c.caller) callee ∙ ap (make d.callee) a.0 in
     let rest : cs ≡ ds = same_callees image Uncovered functions apart are c.caller cs ds x.1 (subst (λ (t : State). IsChain image Uncovered functions t ds) (sym a.0) y.1) a.2 in

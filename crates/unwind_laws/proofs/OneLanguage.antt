@@ -1,12 +1,12 @@
 -- A language table has one list of sites.
-use Rattle.std.proofs.Common.{◌≡◌, ℕ, ◌+◌, List, [], ◌∷◌, Option, Some, None, Result, Ok, Err, refl, sym, ap, subst, ◌∙◌}
+use Rattle.std.proofs.Common.{◌≡◌, ℕ, List, [], ◌∷◌, Option, Some, None, Result, Ok, Err, refl, sym, ap, subst, ◌∙◌}
 use Rattle.std.specs.Option.{option_map_or}
 use Rattle.memory_image.specs.Image.{Span}
 use Rattle.unwind_definitions.specs.declared.error.Error.{Error as Fault}
 use Rattle.unwind_definitions.specs.Input.{Input, split}
 use Rattle.unwind_definitions.specs.Pointers.{Pointer, Direct, Indirect}
-use Rattle.unwind_definitions.specs.Function.{Function, Site, Action, NoAction, action_among, action_at}
-use Rattle.unwind_definitions.specs.LanguageTable.{input_at, site_at, AreSites, site_bytes, IsLanguageTable, LeadsToLanguage}
+use Rattle.unwind_definitions.specs.Function.{Function, Site, NoAction, action_among, action_at}
+use Rattle.unwind_definitions.specs.LanguageTable.{site_at, AreSites, IsLanguageTable, LeadsToLanguage}
 
 -- the two values of a reading that reads one thing
 pub record SamePair {A B : Type 0} (a a' : A) (b b' : B) : Type 0 where

@@ -1,5 +1,5 @@
 -- Modules that share no address, and what an address finds in them: one thing at most.
-use Rattle.std.proofs.Common.{◌≡◌, ◌≢◌, ℕ, zero, suc, ◌+◌, ◌-◌, ◌<◌, ◌≤◌, Bool, true, false, leb, ltb, List, [], ◌∷◌, Option, Some, None, Result, Ok, Err, refl, sym, ap, subst, ◌∙◌, arith, inl, inr}
+use Rattle.std.proofs.Common.{◌≡◌, ℕ, ◌<◌, ◌≤◌, leb, ltb, List, [], ◌∷◌, Option, Some, Result, Ok, Err, sym, ap, subst, ◌∙◌, arith, inl, inr}
 use Rattle.std.specs.Prelude.{◌⊎◌, IsTrue}
 use Rattle.std.specs.List.{Contains, AllPairs}
 use Rattle.std.proofs.lemmas.Bool.{leb-true, ltb-true}
@@ -7,7 +7,7 @@ use Rattle.unwind_definitions.specs.declared.error.Error.{Error as Fault}
 use Rattle.unwind_definitions.specs.declared.error.Error.TheVariants.{NoUnwindInfoForAddress}
 use Rattle.unwind_definitions.specs.Forms.{Forms}
 use Rattle.unwind_definitions.specs.Entries.{Fde}
-use Rattle.unwind_definitions.specs.Row.{Run, row_at}
+use Rattle.unwind_definitions.specs.Row.{row_at}
 use Rattle.unwind_definitions.specs.Scan.{scan}
 use Rattle.unwind_definitions.specs.Function.{Function}
 use Rattle.unwind_definitions.specs.LanguageTable.{input_at}
@@ -53,12 +53,12 @@ module _ (forms : Forms) (p : Process) (apart : AllPairs AreApart p.modules) whe
       let home : x.home ≡ y.home = one_module p.modules apart a x.home y.home x.known y.known x.inside y.inside in
       let frame : x.frame ≡ y.frame = some_same x.frame y.frame (sym x.address ∙ ap (λ (m : Module). frame_address p.image m.tables) home ∙ y.address) in
       let fde : x.fde ≡ y.fde = ok_is {E = Fault} x.fde y.fde (sym x.found
-          ∙ ap (λ (m : Module). scan forms (bases_of m x.frame) (input_at p.image x.frame) a) home
-          ∙ ap (λ (o : ℕ). scan forms (bases_of y.home o) (input_at p.image o) a) frame ∙ y.found) in
+      ∙ ap (λ (m : Module). scan forms (bases_of m x.frame) (input_at p.image x.frame) a) home
+      ∙ ap (λ (o : ℕ). scan forms (bases_of y.home o) (input_at p.image o) a) frame ∙ y.found) in
       let run : x.run ≡ y.run = ok_is {E = Fault} x.run y.run (sym x.has_row
-          ∙ ap (λ (m : Module). row_at forms (bases_of m x.frame) x.fde a) home
-          ∙ ap (λ (o : ℕ). row_at forms (bases_of y.home o) x.fde a) frame
-          ∙ ap (λ (d : Fde). row_at forms (bases_of y.home y.frame) d a) fde ∙ y.has_row) in
+      ∙ ap (λ (m : Module). row_at forms (bases_of m x.frame) x.fde a) home
+      ∙ ap (λ (o : ℕ). row_at forms (bases_of y.home o) x.fde a) frame
+      ∙ ap (λ (d : Fde). row_at forms (bases_of y.home y.frame) d a) fde ∙ y.has_row) in
       record { home = home; frame = frame; fde = fde; run = run }
 
   not_err : (x : Fde) → ◌≡◌ {A = Result Fde Fault} (Ok x) (Err NoUnwindInfoForAddress) → ⊥

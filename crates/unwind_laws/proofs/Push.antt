@@ -1,7 +1,6 @@
 -- What one more instruction says.
-use Rattle.std.proofs.Common.{◌≡◌, ℕ, ◌+◌, Bool, true, false, cond, List, [], ◌∷◌, ◌++◌, Option, Some, None, refl, sym, ap, ◌∙◌, append_assoc}
-use Rattle.std.specs.Prelude.{if◌then◌else◌}
-use Rattle.std.specs.Option.{option_or, option_map, unwrap_or, option_and_then}
+use Rattle.std.proofs.Common.{◌≡◌, ℕ, ◌+◌, List, [], ◌∷◌, ◌++◌, Option, Some, None, refl, sym, ap, ◌∙◌, append_assoc}
+use Rattle.std.specs.Option.{option_or, option_map, unwrap_or}
 use Rattle.unwind_definitions.specs.Instructions.{Rule, Instruction, Nop, Remember, Restore, Advance, SetLocation, Write, Reset, Cfa, CfaColumn, CfaOffset, CfaExpression, Arguments}
 use Rattle.unwind_definitions.specs.Row.{Run, last_word, cut, cut_of, Cut, says_of, initial_rule, rule_of, cfa_rule, cfa_of, cfa_from, whole_cfa, cfa_column, cfa_offset, CfaRule, ColumnAndOffset, ByExpression, location, arguments, argument_size}
 

@@ -1,26 +1,23 @@
 -- One function that pushes RBX: a call of it, and three, are valid.
-use Rattle.std.proofs.Common.{◌≡◌, ℕ, zero, suc, ◌+◌, ◌-◌, ◌^◌, ◌<◌, ◌≤◌, Bool, true, false, leb, ltb, List, [], ◌∷◌, ◌++◌, Option, Some, None, Result, Ok, Err, refl, sym, ap, subst, ◌∙◌, arith, inl, inr, lit<, lit≤}
-use Rattle.std.specs.Prelude.{IsTrue, ◌≢◌, ◌⊎◌}
-use Rattle.std.specs.List.{Contains, AllPairs, filter, list_any}
+use Rattle.std.proofs.Common.{◌≡◌, ℕ, ◌-◌, ◌^◌, ◌<◌, ◌≤◌, true, false, leb, ltb, List, [], ◌∷◌, Some, None, Ok, refl, subst, ◌∙◌, arith, inl, inr, lit<, lit≤}
+use Rattle.std.specs.Prelude.{IsTrue, ◌≢◌}
 use Rattle.std.proofs.lemmas.Bool.{leb-true, ltb-true}
-use Rattle.memory_image.specs.Image.{Span, word_at, IsLaidOut}
+use Rattle.memory_image.specs.Image.{Span, word_at}
 use Rattle.unwind_definitions.specs.Forms.{Forms, whole, plain}
-use Rattle.unwind_definitions.specs.Instructions.{Program, program, instruction_of}
-use Rattle.unwind_definitions.specs.Entries.{Fde, Entry, coding_of, AreEntries, entry_at}
-use Rattle.unwind_definitions.specs.Row.{Run, row_at, rule_of}
-use Rattle.unwind_definitions.specs.Scan.{fdes_of}
+use Rattle.unwind_definitions.specs.Instructions.{program, instruction_of}
+use Rattle.unwind_definitions.specs.Entries.{coding_of, AreEntries, entry_at}
+use Rattle.unwind_definitions.specs.Row.{row_at, rule_of}
 use Rattle.unwind_definitions.specs.State.{CalleeSaved, RBX, RBP, R12, R13, R14, R15, State, value_of, column_of, IsState, Shows}
-use Rattle.unwind_definitions.specs.Prologue.{SystemV, Save, steps_of, saves, distance, IsPrologue}
+use Rattle.unwind_definitions.specs.Prologue.{SystemV, Save, steps_of, distance}
 use Rattle.unwind_definitions.specs.Entered.{IsEntered}
-use Rattle.unwind_definitions.specs.Function.{Function, in_body, IsFunction}
+use Rattle.unwind_definitions.specs.Function.{in_body, IsFunction}
 use Rattle.unwind_definitions.specs.DescribedRows.{HasRow, IsBodyRow, IsPrologueRow, MayFindLate, FindsRegister, ended_by, DescribesRows}
-use Rattle.unwind_definitions.specs.FrameTable.{IsEmittedCie, DescribesFunction, HasDescription, DescribesFrames, MeetsNot, has_range_of}
-use Rattle.unwind_definitions.specs.Module.{Module, Process, IsProcess, AreApart, in_module, bases_of, DescriptionsApart, DescribesModule}
-use Rattle.unwind_definitions.specs.Chain.{Call, IsCalled, IsLink, IsEnd, IsChain}
-use Rattle.unwind_definitions.specs.Delivery.{Frame}
-use Rattle.unwind_definitions.specs.Valid.{part_in, DescribesPart, IsValid}
+use Rattle.unwind_definitions.specs.FrameTable.{DescribesFunction, DescribesFrames}
+use Rattle.unwind_definitions.specs.Module.{IsProcess, AreApart, DescriptionsApart, DescribesModule}
+use Rattle.unwind_definitions.specs.Chain.{Call, IsCalled, IsLink}
+use Rattle.unwind_definitions.specs.Valid.{IsValid}
 use Rattle.unwind_laws.specs.Columns.{columns_of}
-use Rattle.unwind_laws.specs.Pushing.{image, image_of_three, module_of_it, table, bases, cie, fde, entries, common, start_run, body_run, function, state, process, process_of_three, start, caller, calls, calls_of_three}
+use Rattle.unwind_laws.specs.Pushing.{image, image_of_three, module_of_it, table, bases, fde, entries, start_run, body_run, function, state, process, process_of_three, start, caller, calls, calls_of_three}
 use Rattle.unwind_laws.proofs.Booleans.{both_true, either_false, here_or_later, none_in_nil, pairs_one}
 use Rattle.unwind_laws.proofs.RowFacts.{by_register, state_fits, unnamed}
 use Rattle.unwind_laws.proofs.Steady.{is_steady, same_row_at}

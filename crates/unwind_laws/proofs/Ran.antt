@@ -1,15 +1,15 @@
 -- Running a program says what the row says, where no fault is met.
-use Rattle.std.proofs.Common.{◌≡◌, ℕ, ◌+◌, Bool, true, false, cond, List, [], ◌∷◌, ◌++◌, Option, Some, None, refl, sym, ap, subst, ◌∙◌, append_assoc}
-use Rattle.std.specs.Prelude.{◌==◌, if◌then◌else◌, MatchOption, not}
+use Rattle.std.proofs.Common.{◌≡◌, ℕ, Bool, true, false, cond, List, [], ◌∷◌, ◌++◌, Option, Some, None, refl, sym, ap, subst, ◌∙◌, append_assoc}
+use Rattle.std.specs.Prelude.{◌==◌, MatchOption, not}
 use Rattle.std.specs.Option.{option_or, unwrap_or}
 use Rattle.std.proofs.lemmas.List.{append-nil}
 use Rattle.std.proofs.lemmas.Bool.{eqb-true}
 use Rattle.unwind_definitions.specs.declared.error.Error.{Error as Fault}
 use Rattle.unwind_definitions.specs.declared.error.Error.TheVariants.{NoCfaRegister, StackFull, PopWithEmptyStack}
 use Rattle.unwind_definitions.specs.Instructions.{Rule, Instruction, Nop, Remember, Restore, Advance, SetLocation, Write, Reset, Cfa, CfaColumn, CfaOffset, CfaExpression, Arguments}
-use Rattle.unwind_definitions.specs.Row.{Run, CfaRule, ColumnAndOffset, ByExpression, rule_of, initial_rule, cfa_rule, cfa_of, argument_size, arguments, says_of, remembers, is_open, has_column, fault_of, fault_where, first_fault, from_common, cut, last_word}
+use Rattle.unwind_definitions.specs.Row.{Run, CfaRule, ColumnAndOffset, ByExpression, rule_of, initial_rule, cfa_rule, cfa_of, arguments, says_of, remembers, is_open, has_column, fault_of, fault_where, first_fault, from_common, cut, last_word}
 use Rattle.unwind_laws.specs.Reached.{push}
-use Rattle.unwind_laws.specs.Running.{Running, Memory, nothing, with_rule, with_cfa_column, with_cfa_offset, row_after, restored_from, run_one, run_all, fresh, after_common, after_both, SaysRow, HasNoFault}
+use Rattle.unwind_laws.specs.Running.{Running, Memory, nothing, with_cfa_column, with_cfa_offset, row_after, restored_from, run_one, run_all, fresh, after_common, after_both, SaysRow, HasNoFault}
 use Rattle.unwind_laws.proofs.Push.{IsPlain, rule_push, cfa_whole, cfa_partial, cfa_same, cfa_by_column, cfa_by_expression, arguments_push}
 use Rattle.unwind_laws.proofs.Remember.{SaysSame, remember_same, remember_restores, plain_restores, open_push}
 

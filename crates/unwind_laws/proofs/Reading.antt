@@ -1,17 +1,16 @@
 -- Reading one instruction after another gives the row of the whole program.
-use Rattle.std.proofs.Common.{◌≡◌, ℕ, zero, suc, ◌+◌, ◌^◌, Bool, true, false, cond, eqb, ltb, leb, ◌&&◌, List, [], ◌∷◌, ◌++◌, length, Option, Some, None, Result, Ok, Err, refl, sym, ap, ◌∙◌, append_assoc, arith}
-use Rattle.std.specs.Prelude.{◌==◌, if◌then◌else◌, is_some}
+use Rattle.std.proofs.Common.{◌≡◌, ℕ, zero, suc, ◌+◌, Bool, true, false, cond, eqb, List, [], ◌∷◌, ◌++◌, length, Option, Some, None, Result, Ok, Err, refl, sym, ap, ◌∙◌, append_assoc}
+use Rattle.std.specs.Prelude.{◌==◌, if◌then◌else◌}
 use Rattle.std.specs.Option.{option_or}
 use Rattle.std.proofs.lemmas.List.{append-nil}
 use Rattle.std.proofs.Math.Dec.{eqb-zero-suc, eqb-suc-suc}
 use Rattle.unwind_definitions.specs.declared.error.Error.{Error as Fault}
-use Rattle.unwind_definitions.specs.declared.error.Error.TheVariants.{NoCfaRegister}
 use Rattle.unwind_definitions.specs.Faults.{◌>>=◌}
 use Rattle.unwind_definitions.specs.Forms.{Forms}
 use Rattle.unwind_definitions.specs.Input.{Input}
 use Rattle.unwind_definitions.specs.Instructions.{Instruction, Nop, Remember, Restore, Advance, SetLocation, Write, Reset, Cfa, CfaColumn, CfaOffset, CfaExpression, Arguments, Coding, instruction, Program, program, program_from, after}
-use Rattle.unwind_definitions.specs.Row.{Run, fault_of, first_fault, location, up_to, or_else, from_common, common_fault, own_fault, row, row_of, cfa_rule}
-use Rattle.unwind_laws.specs.Reached.{passes, passes_limit, push, act, reached, common_reached, own_reached, row_reached}
+use Rattle.unwind_definitions.specs.Row.{Run, fault_of, first_fault, location, up_to, or_else, from_common, common_fault, own_fault, row}
+use Rattle.unwind_laws.specs.Reached.{passes_limit, push, act, reached, common_reached, own_reached, row_reached}
 
 same_number : (n : ℕ) → eqb n n ≡ true
 same_number zero = refl
@@ -147,7 +146,7 @@ module _ (forms : Forms) where
       let op : Program = program forms coding own in
       let first = reached_is (length common.bytes) coding 0 None (from_common []) common ∙ whole_common cp in
       let second : (before : Run) → own_reached forms coding start pc before own ≡ whole_rest start (Some pc) (from_common before.own) op =
-          λ before. reached_is (length own.bytes) coding start (Some pc) (from_common before.own) own in
+      λ before. reached_is (length own.bytes) coding start (Some pc) (from_common before.own) own in
       let rest : Run → Result Run Fault = λ before. own_reached forms coding start pc before own >>= λ run. row_reached run in
       let at_end : Run = record { common = []; own = cp.instructions } in
       let is : List Instruction = up_to start pc op.instructions in

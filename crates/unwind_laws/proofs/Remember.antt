@@ -1,9 +1,9 @@
 -- Remembering a state and restoring it, in the words of the row: what is remembered is what a restore would leave.
-use Rattle.std.proofs.Common.{◌≡◌, ◌≢◌, ℕ, Bool, true, false, List, [], ◌∷◌, ◌++◌, Option, Some, None, refl, sym, ap, ◌∙◌, append_assoc}
-use Rattle.std.specs.Option.{option_or, unwrap_or, option_map}
-use Rattle.unwind_definitions.specs.Instructions.{Rule, Instruction, Nop, Remember, Restore, Advance, SetLocation, Write, Reset, Cfa, CfaColumn, CfaOffset, CfaExpression, Arguments}
+use Rattle.std.proofs.Common.{◌≡◌, ℕ, Bool, true, false, List, [], ◌∷◌, ◌++◌, Option, Some, None, refl, sym, ap, ◌∙◌, append_assoc}
+use Rattle.std.specs.Option.{option_or, unwrap_or}
+use Rattle.unwind_definitions.specs.Instructions.{Instruction, Nop, Remember, Restore, Advance, SetLocation, Write, Reset, Cfa, CfaColumn, CfaOffset, CfaExpression, Arguments}
 use Rattle.unwind_definitions.specs.Row.{Run, last_word, remembers, is_open, cut, cut_of, Cut, rule_of, cfa_rule, cfa_of, argument_size, arguments, initial_rule, says_of}
-use Rattle.unwind_laws.proofs.Push.{last_word-push, IsPlain}
+use Rattle.unwind_laws.proofs.Push.{last_word-push}
 use Rattle.unwind_laws.specs.Reached.{push}
 
 abbrev says : List Instruction → Option Bool

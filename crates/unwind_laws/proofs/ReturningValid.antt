@@ -1,26 +1,24 @@
 -- A function with late save records and an epilogue in its midst, called by an outermost one: the call is valid.
-use Rattle.std.proofs.Common.{◌≡◌, ℕ, zero, suc, ◌+◌, ◌-◌, ◌^◌, ◌<◌, ◌≤◌, Bool, true, false, leb, ltb, ◌&&◌, ◌||◌, List, [], ◌∷◌, ◌++◌, Option, Some, None, Result, Ok, Err, refl, sym, ap, subst, ◌∙◌, arith, inl, inr, lit<, lit≤}
-use Rattle.std.specs.Prelude.{IsTrue, IsFalse, ◌≢◌, ◌⊎◌}
+use Rattle.std.proofs.Common.{◌≡◌, ℕ, zero, suc, ◌-◌, ◌^◌, ◌<◌, ◌≤◌, true, false, leb, ltb, ◌&&◌, [], ◌∷◌, None, Ok, refl, subst, ◌∙◌, arith, inl, inr, lit<, lit≤}
+use Rattle.std.specs.Prelude.{IsTrue, IsFalse, ◌≢◌}
 use Rattle.std.specs.List.{Contains, AllPairs, AllByRecursion, list_any}
 use Rattle.std.proofs.lemmas.Bool.{leb-true, ltb-true, cases_lt}
-use Rattle.memory_image.specs.Image.{Span, word_at, IsLaidOut}
+use Rattle.memory_image.specs.Image.{word_at}
 use Rattle.unwind_definitions.specs.Forms.{Forms, whole, plain}
-use Rattle.unwind_definitions.specs.Instructions.{Program, program, instruction_of}
-use Rattle.unwind_definitions.specs.Entries.{Fde, Entry, coding_of, AreEntries, entry_at}
-use Rattle.unwind_definitions.specs.Row.{Run, row_at, rule_of}
-use Rattle.unwind_definitions.specs.Scan.{fdes_of}
-use Rattle.unwind_definitions.specs.State.{CalleeSaved, State, value_of, column_of, IsState, Shows}
-use Rattle.unwind_definitions.specs.Prologue.{SystemV, Save, steps_of, distance, IsPrologue}
+use Rattle.unwind_definitions.specs.Instructions.{program, instruction_of}
+use Rattle.unwind_definitions.specs.Entries.{Fde, coding_of, AreEntries, entry_at}
+use Rattle.unwind_definitions.specs.Row.{row_at, rule_of}
+use Rattle.unwind_definitions.specs.State.{value_of, column_of, IsState}
+use Rattle.unwind_definitions.specs.Prologue.{SystemV, Save, steps_of, distance}
 use Rattle.unwind_definitions.specs.Entered.{IsEntered}
-use Rattle.unwind_definitions.specs.Function.{Function, in_body, in_range, IsFunction}
+use Rattle.unwind_definitions.specs.Function.{in_body, IsFunction}
 use Rattle.unwind_definitions.specs.DescribedRows.{HasRow, IsBodyRow, IsPrologueRow, IsOutermostRow, MayFindLate, FindsRegister, IsUnchanged, ended_by, DescribesRows}
-use Rattle.unwind_definitions.specs.FrameTable.{IsEmittedCie, DescribesFunction, DescribesFrames, MeetsNot, has_range_of}
-use Rattle.unwind_definitions.specs.Module.{Module, Process, IsProcess, AreApart, bases_of, DescriptionsApart, DescribesModule, IsUncovered}
-use Rattle.unwind_definitions.specs.Chain.{Call, IsCalled, IsLink, IsEnd, IsChain}
+use Rattle.unwind_definitions.specs.FrameTable.{IsEmittedCie, DescribesFrames, MeetsNot, has_range_of}
+use Rattle.unwind_definitions.specs.Module.{IsProcess, AreApart, DescriptionsApart, DescribesModule}
 use Rattle.unwind_definitions.specs.Valid.{IsValid}
 use Rattle.unwind_definitions.specs.Stopped.{StandsAfter}
 use Rattle.unwind_laws.specs.Columns.{columns_of}
-use Rattle.unwind_laws.specs.Returning.{frames, stack, image, table, module_of_them, bases, cie, callee_fde, outermost_fde, foreign_fde, entries, run_of, pushed_one, pushed_two, in_first_body, in_second_body, in_outermost, callee, outermost, functions, process, state, start, caller, last, calls, interrupted, done, later}
+use Rattle.unwind_laws.specs.Returning.{image, table, module_of_them, bases, cie, callee_fde, outermost_fde, foreign_fde, entries, run_of, pushed_one, pushed_two, in_first_body, in_second_body, in_outermost, callee, outermost, functions, process, state, start, caller, last, calls, interrupted, done, later}
 use Rattle.unwind_laws.proofs.Booleans.{both_true, either_true, either_false, here_or_later, none_in_nil, pairs_one}
 use Rattle.unwind_laws.proofs.RowFacts.{by_register, state_fits, unnamed, same_ended}
 use Rattle.unwind_laws.proofs.Steady.{is_steady, same_row_at}

@@ -1,13 +1,13 @@
 -- The caller's columns, computed rule by rule.
-use Rattle.std.proofs.Common.{◌≡◌, ◌≢◌, ℕ, zero, suc, ◌+◌, ◌-◌, ◌^◌, ◌<◌, ◌≤◌, Bool, true, false, cond, eqb, ltb, List, [], ◌∷◌, Option, Some, None, Result, Ok, Err, refl, sym, ap, subst, ◌∙◌, arith, inl, inr}
-use Rattle.std.specs.Prelude.{◌⊎◌, ◌==◌, if◌then◌else◌}
+use Rattle.std.proofs.Common.{◌≡◌, ℕ, ◌+◌, ◌<◌, ◌≤◌, Bool, true, false, ltb, List, [], ◌∷◌, Option, Some, None, Result, Ok, Err, refl, sym, ap, subst, ◌∙◌, arith, inl, inr}
+use Rattle.std.specs.Prelude.{◌⊎◌, ◌==◌}
 use Rattle.std.specs.Option.{option_map_or, option_or}
 use Rattle.std.proofs.lemmas.Bool.{eqb-true, ltb-true, ltb-false}
 use Rattle.std.proofs.lemmas.Bool.Decides.{nat_tests}
 use Rattle.memory_image.specs.Image.{Span}
 use Rattle.unwind_definitions.specs.Instructions.{Rule}
-use Rattle.unwind_definitions.specs.Row.{Run, rule_of, cfa_rule, CfaRule}
-use Rattle.unwind_definitions.specs.Caller.{Columns, Machine, StepFault, Evaluates, rule_value, placed, unruled, column_value, cfa_value, value_in, fault_in, first_fault_below, unless_fault, column_limit, caller_of, caller_with}
+use Rattle.unwind_definitions.specs.Row.{Run}
+use Rattle.unwind_definitions.specs.Caller.{Columns, Machine, StepFault, Evaluates, rule_value, placed, unruled, column_value, value_in, fault_in, first_fault_below, unless_fault, column_limit, caller_with}
 use Rattle.unwind_laws.specs.Undoes.{rule_in, ColumnsAscend, AreRules, with_column, then_columns, ruled}
 use Rattle.unwind_laws.proofs.Faultless.{HasValue, no_fault_below, first_fault_at}
 
@@ -105,7 +105,6 @@ module _ (machine : Machine) (evaluates : Evaluates) (image : List Span) (old : 
   first_is : (value : ℕ → Result (Option ℕ) StepFault) (low : ℕ) (rules : List (ℕ × Rule)) → ColumnsAscend low rules → IsBy value low rules → first_fault_below column_limit value ≡ rules_fault rules
   first_is value low [] up is = no_fault_below column_limit value (λ c lt. has c (order c low))
     where
-
       has : (c : ℕ) → (c < low) ⊎ (low ≤ c) → HasValue (value c)
       has c (inl lt) = is.below c lt
       has c (inr le) = (unruled machine old cfa c, is.behind c le)
@@ -122,7 +121,6 @@ module _ (machine : Machine) (evaluates : Evaluates) (image : List Span) (old : 
       early c lt (inr le) =
           let none : rule_in (r ∷ rules) c ≡ None = nothing_below (r ∷ rules) r.0 c (omega arith, up.1, up.2) lt in
           (unruled machine old cfa c, is.behind c le ∙ ap (λ o. value_by o c) none)
-
 
       go : (p : Result (Option ℕ) StepFault) → placed (old r.0) (rule_value evaluates image old cfa r.0 r.1) ≡ p → (IsBy value (r.0 + 1) rules → first_fault_below column_limit value ≡ rules_fault rules) →
           first_fault_below column_limit value ≡ option_or (fault_in p) (rules_fault rules)

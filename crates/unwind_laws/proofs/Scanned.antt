@@ -1,23 +1,19 @@
 -- A scan of a table whose entries are known, and what it finds in a described module.
-use Rattle.std.proofs.Common.{◌≡◌, ◌≢◌, ℕ, zero, suc, ◌+◌, ◌-◌, ◌*◌, ◌%◌, ◌^◌, ◌<◌, ◌≤◌, Bool, true, false, cond, ltb, leb, List, [], ◌∷◌, length, drop, take, Option, Some, None, Result, Ok, Err, refl, sym, ap, subst, ◌∙◌, arith, inl, inr}
-use Rattle.std.specs.Prelude.{◌⊎◌, ◌==◌, if◌then◌else◌, IsTrue, nat_lt}
-use Rattle.std.specs.Int.{w32, w64, byte_len, from_le_bytes}
-use Rattle.std.specs.List.{Contains, AllPairs, AllByRecursion, filter, find}
-use Rattle.std.specs.Option.{option_map_or}
-use Rattle.std.proofs.lemmas.Bool.{leb-true, le-leb, lt-ltb, ltb-true, ltb-false}
+use Rattle.std.proofs.Common.{◌≡◌, ℕ, zero, suc, ◌+◌, ◌-◌, ◌*◌, ◌^◌, ◌<◌, ◌≤◌, Bool, true, false, cond, List, [], ◌∷◌, length, drop, take, Option, Some, None, Result, Ok, Err, refl, sym, ap, subst, arith}
+use Rattle.std.specs.Prelude.{◌==◌, if◌then◌else◌, nat_lt}
+use Rattle.std.specs.Int.{w32, w64, from_le_bytes}
+use Rattle.std.proofs.lemmas.Bool.{ltb-false}
 use Rattle.std.proofs.lemmas.List.{length-drop}
-use Rattle.memory_image.specs.Image.{Span}
 use Rattle.unwind_definitions.specs.declared.error.Error.{Error as Fault}
-use Rattle.unwind_definitions.specs.declared.error.Error.TheVariants.{NoUnwindInfoForAddress, UnexpectedEof}
+use Rattle.unwind_definitions.specs.declared.error.Error.TheVariants.{UnexpectedEof}
 use Rattle.unwind_definitions.specs.Faults.{◌>>=◌}
 use Rattle.unwind_definitions.specs.Forms.{Forms}
 use Rattle.unwind_definitions.specs.Input.{Input, skip, split, number}
 use Rattle.unwind_definitions.specs.Pointers.{Bases}
-use Rattle.unwind_definitions.specs.Entries.{Fde, Entry, ACie, AFde, Found, body, length_behind, entry_in, found_in, entry_at, AreEntries}
+use Rattle.unwind_definitions.specs.Entries.{Entry, ACie, AFde, Found, body, length_behind, entry_in, found_in, entry_at, AreEntries}
 use Rattle.unwind_definitions.specs.Row.{covers_pc}
-use Rattle.unwind_definitions.specs.Scan.{fde_of, fdes_of, first_covering, found_or, scan_after, scan_from, scan}
+use Rattle.unwind_definitions.specs.Scan.{fdes_of, scan_from, scan}
 use Rattle.unwind_laws.specs.Found.{found_among}
-use Rattle.unwind_laws.proofs.Booleans.{both_true, here_or_later, none_in_nil}
 
 module _ (forms : Forms) (bases : Bases) (table : Input) (pc : ℕ) where
   -- with turns enough, a scan answers the first description that contains the address

@@ -1,8 +1,7 @@
 -- An emitted common description has no mark of a signal's frame.
-use Rattle.std.proofs.Common.{◌≡◌, ◌≢◌, ℕ, zero, suc, ◌+◌, ◌-◌, ◌<◌, Bool, true, false, cond, ltb, List, [], ◌∷◌, length, ◌^◌, Option, Some, None, Result, Ok, Err, refl, sym, ap, subst, ◌∙◌, arith, inl, inr}
-use Rattle.std.specs.Prelude.{◌⊎◌, ◌==◌, nat_le, if◌then◌else◌}
+use Rattle.std.proofs.Common.{◌≡◌, ℕ, ◌+◌, ◌-◌, Bool, true, false, cond, ltb, List, [], ◌∷◌, ◌^◌, Option, Some, None, Result, Ok, Err, refl, sym, ap, subst, ◌∙◌, inl, inr}
+use Rattle.std.specs.Prelude.{◌⊎◌, ◌==◌, nat_le}
 use Rattle.std.specs.List.{Contains}
-use Rattle.std.specs.Option.{unwrap_or}
 use Rattle.std.specs.Int.{w8, w32}
 use Rattle.memory_image.specs.Image.{Span}
 use Rattle.unwind_definitions.specs.declared.error.Error.{Error as Fault}
@@ -55,6 +54,13 @@ of_text bases letters c r (inl is) e = of_data bases (0x52 ∷ []) c r (λ block
 of_text bases letters c r (inr (inl is)) e = of_data bases (0x50 ∷ 0x52 ∷ []) c r (λ block got h. keeps bases 0x50 (0x52 ∷ []) no_letters block got (keeps_P bases no_letters block) (λ q i. behind_R bases q.0 q.1 got i) h) (subst (λ t. augmentation_data bases t c ≡ Ok r) is e)
 of_text bases letters c r (inr (inr is)) e = of_data bases (0x50 ∷ 0x4c ∷ 0x52 ∷ []) c r (λ block got h. keeps bases 0x50 (0x4c ∷ 0x52 ∷ []) no_letters block got (keeps_P bases no_letters block) (λ q i. behind_LR bases q.0 q.1 got i) h) (subst (λ t. augmentation_data bases t c ≡ Ok r) is e)
 
+-- what a description says of its augmentation, and of a signal's frame
+augmentation_in : {made : Cie} (cie : Cie) → ◌≡◌ {A = Result Cie Fault} (Ok made) (Ok cie) → made.augmentation ≡ cie.augmentation
+augmentation_in {made} cie e = ap (λ (k : Cie). k.augmentation) (ok_same made cie e)
+
+letters_in : {made : Cie} (cie : Cie) → ◌≡◌ {A = Result Cie Fault} (Ok made) (Ok cie) → cie.letters.signal ≡ made.letters.signal
+letters_in {made} cie e = sym (ap (λ (k : Cie). k.letters.signal) (ok_same made cie e))
+
 module _ (forms : Forms) where
   of_cie : (bases : Bases) (o : ℕ) (c : Input) (cie : Cie) (image : List Span) → cie_body forms bases o c ≡ Ok cie → IsEmittedCie image cie → cie.letters.signal ≡ false
   of_cie bases o c cie image e emitted =
@@ -67,9 +73,8 @@ module _ (forms : Forms) where
       let h = bound (sleb g.0.1) _ cie g.2 in
       let i = bound (return_column a.0.0 h.0.1) _ cie h.2 in
       let j = bound (augmentation_data bases d.0.0 i.0.1) _ cie i.2 in
-      let same = ok_same _ _ j.2 in
-      let text_is : d.0.0 ≡ cie.augmentation = ap (λ (k : Cie). k.augmentation) same in
-      sym (ap (λ (k : Cie). k.letters.signal) same) ∙ of_text bases d.0.0 _ j.0 (subst IsEmittedAugmentation (sym text_is) emitted.augmentation) j.1
+      let text_is : d.0.0 ≡ cie.augmentation = augmentation_in cie j.2 in
+      letters_in cie j.2 ∙ of_text bases d.0.0 _ j.0 (subst IsEmittedAugmentation (sym text_is) emitted.augmentation) j.1
 
   -- a description's common description is one that reads
   of_fde : (bases : Bases) (cie : Cie) (o : ℕ) (c : Input) (fde : Fde) → fde_body forms bases cie o c ≡ Ok fde → fde.cie ≡ cie

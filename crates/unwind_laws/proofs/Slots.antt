@@ -1,11 +1,11 @@
 -- A prologue's slots lie between the last stack pointer and the return address.
-use Rattle.std.proofs.Common.{◌≡◌, ℕ, zero, suc, ◌+◌, ◌-◌, ◌^◌, ◌<◌, ◌≤◌, Bool, true, false, List, [], ◌∷◌, ◌++◌, refl, sym, ap, ◌∙◌, arith}
+use Rattle.std.proofs.Common.{◌≡◌, ℕ, ◌+◌, ◌-◌, ◌≤◌, Bool, List, [], ◌∷◌, ◌++◌, refl, arith}
 use Rattle.std.specs.Prelude.{IsTrue}
-use Rattle.std.specs.List.{AllByRecursion, sum_by}
+use Rattle.std.specs.List.{AllByRecursion}
 use Rattle.std.proofs.lemmas.List.Sums.{sum_by_push}
 use Rattle.memory_image.specs.Image.{Span}
 use Rattle.unwind_definitions.specs.State.{State}
-use Rattle.unwind_definitions.specs.Prologue.{Register, Followed, RDI, RSI, XMM, size_of, Step, Push, Allocate, SetFrame, Store, room_of, depth, Save, saves_from, saves, Convention, SystemV, Windows, may_push, EachMayFollow}
+use Rattle.unwind_definitions.specs.Prologue.{Register, Followed, RDI, RSI, XMM, size_of, Step, Push, Allocate, SetFrame, Store, room_of, depth, saves_from, saves, Convention, SystemV, Windows, may_push, EachMayFollow}
 use Rattle.unwind_definitions.specs.Entered.{Leaves, stack_after, IsEntered}
 use Rattle.unwind_laws.specs.Apart.{LiesBetween}
 

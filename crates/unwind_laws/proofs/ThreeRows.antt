@@ -1,6 +1,6 @@
 -- Three functions: their rows.
-use Rattle.std.proofs.Common.{◌≡◌, ℕ, zero, suc, ◌+◌, ◌-◌, ◌^◌, ◌<◌, ◌≤◌, Bool, true, false, leb, ltb, List, [], ◌∷◌, ◌++◌, Option, Some, None, Result, Ok, Err, refl, sym, ap, subst, ◌∙◌, arith, inl, inr, lit<, lit≤}
-use Rattle.std.specs.Prelude.{IsTrue, IsFalse, ◌≢◌, ◌⊎◌}
+use Rattle.std.proofs.Common.{◌≡◌, ℕ, ◌-◌, ◌^◌, ◌<◌, ◌≤◌, leb, ltb, List, [], ◌∷◌, refl, ◌∙◌, arith, inl, inr, lit≤}
+use Rattle.std.specs.Prelude.{IsTrue}
 use Rattle.std.proofs.lemmas.Bool.{leb-true, ltb-true, cases_lt}
 use Rattle.unwind_definitions.specs.Forms.{whole}
 use Rattle.unwind_definitions.specs.Pointers.{Bases}
@@ -13,7 +13,7 @@ use Rattle.unwind_definitions.specs.DescribedRows.{HasRow, IsBodyRow, IsPrologue
 use Rattle.unwind_laws.specs.Three.{fde_a, fde_b, fde_c, fa, fb, fc}
 use Rattle.unwind_laws.proofs.Booleans.{both_true, either_false}
 use Rattle.unwind_laws.proofs.RowFacts.{by_register, unnamed, same_ended}
-use Rattle.unwind_laws.proofs.Steady.{is_steady, same_row_at}
+use Rattle.unwind_laws.proofs.Steady.{same_row_at}
 
 abbrev common : List Instruction
 common = Cfa 7 8 ∷ Write 16 (Offset (2 ^ 64 - 8)) ∷ Nop ∷ Nop ∷ []
@@ -305,4 +305,3 @@ rows_c bases = record {
   prologue = λ inner pc from below. (elim (cases_lt pc 0x401052) [ inl lt ↦ prologue_c0 bases pc from lt | inr ge ↦ (elim (cases_lt pc 0x401053) [ inl lt ↦ prologue_c2 bases pc ge lt | inr ge ↦ prologue_c3 bases pc ge below ]) ]);
   outermost = λ outer pc h. absurd cc;
 }
-

@@ -1,24 +1,23 @@
 -- Three functions with language tables: calls of them are valid, by their frame table alone, and by a header table.
-use Rattle.std.proofs.Common.{◌≡◌, ℕ, zero, suc, ◌+◌, ◌-◌, ◌^◌, ◌<◌, ◌≤◌, Bool, true, false, List, [], ◌∷◌, ◌++◌, map, Option, Some, None, Result, Ok, Err, refl, sym, ap, subst, ◌∙◌, arith, inl, inr, lit<, lit≤}
-use Rattle.std.specs.Prelude.{IsTrue, IsFalse, ◌≢◌, ◌⊎◌}
+use Rattle.std.proofs.Common.{◌≡◌, ℕ, zero, suc, ◌^◌, ◌<◌, false, List, [], ◌∷◌, map, Some, None, refl, subst, arith, inl, inr, lit<, lit≤}
+use Rattle.std.specs.Prelude.{IsFalse, ◌≢◌}
 use Rattle.std.specs.List.{Contains, AllPairs, AllByRecursion, list_any}
 use Rattle.std.proofs.lemmas.List.Sorted.{IsPermutation-refl}
-use Rattle.memory_image.specs.Image.{Span, word_at, table_at, IsLaidOut}
+use Rattle.memory_image.specs.Image.{Span, word_at}
 use Rattle.unwind_definitions.specs.Forms.{whole}
 use Rattle.unwind_definitions.specs.Pointers.{Bases}
-use Rattle.unwind_definitions.specs.Entries.{Fde, entry_at, AreEntries}
-use Rattle.unwind_definitions.specs.Scan.{fdes_of}
-use Rattle.unwind_definitions.specs.State.{CalleeSaved, State, value_of, IsState, Shows}
-use Rattle.unwind_definitions.specs.Prologue.{SystemV, Save, steps_of, distance, IsPrologue}
+use Rattle.unwind_definitions.specs.Entries.{Fde, entry_at}
+use Rattle.unwind_definitions.specs.State.{State, value_of, IsState}
+use Rattle.unwind_definitions.specs.Prologue.{SystemV, Save, steps_of, distance}
 use Rattle.unwind_definitions.specs.Entered.{IsEntered}
-use Rattle.unwind_definitions.specs.Function.{Function, Site, Cleanup, Catch, NoAction, IsFunction}
+use Rattle.unwind_definitions.specs.Function.{Site, Cleanup, Catch, NoAction, IsFunction}
 use Rattle.unwind_definitions.specs.LanguageTable.{IsLanguageTable}
-use Rattle.unwind_definitions.specs.FrameTable.{IsEmittedCie, DescribesFunction, DescribesFrames, MeetsNot, has_range_of}
-use Rattle.unwind_definitions.specs.Module.{Module, Process, IsProcess, AreApart, bases_of, DescriptionsApart, DescribesModule, IsUncovered, IsHeaderTable, pair_of}
-use Rattle.unwind_definitions.specs.Chain.{Call, IsCalled, IsLink, IsEnd, IsChain}
+use Rattle.unwind_definitions.specs.FrameTable.{IsEmittedCie, DescribesFrames, MeetsNot, has_range_of}
+use Rattle.unwind_definitions.specs.Module.{IsProcess, AreApart, bases_of, DescriptionsApart, DescribesModule, IsUncovered, IsHeaderTable, pair_of}
+use Rattle.unwind_definitions.specs.Chain.{IsCalled, IsChain}
 use Rattle.unwind_definitions.specs.Valid.{IsValid}
 use Rattle.unwind_laws.specs.Columns.{columns_of}
-use Rattle.unwind_laws.specs.Three.{stack, frames, languages, cell, header, image, table, cie_plain, cie_language, fde_a, fde_b, fde_c, fa, fb, fc, functions, entries, module_of_them, process, start, second, third, last, calls_through, calls, resumes, unlisted_process, unlisted_calls, module_with_header, header_image, header_process}
+use Rattle.unwind_laws.specs.Three.{header, image, table, cie_plain, cie_language, fde_a, fde_b, fde_c, fa, fb, fc, functions, entries, module_of_them, process, start, second, third, last, calls_through, calls, resumes, unlisted_process, unlisted_calls, module_with_header, header_image, header_process}
 use Rattle.unwind_laws.proofs.Booleans.{here_or_later, none_in_nil, pairs_one}
 use Rattle.unwind_laws.proofs.RowFacts.{by_register, state_fits}
 use Rattle.unwind_laws.proofs.PushingValid.{columns_show}

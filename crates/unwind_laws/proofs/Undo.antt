@@ -1,19 +1,19 @@
 -- The row of a described frame undoes its prologue.
-use Rattle.std.proofs.Common.{◌≡◌, ℕ, zero, suc, ◌+◌, ◌-◌, ◌*◌, ◌%◌, ◌^◌, ◌<◌, ◌≤◌, Bool, true, false, cond, List, [], ◌∷◌, ◌++◌, length, Option, Some, None, Result, Ok, Err, refl, sym, ap, subst, ◌∙◌, arith, inl, inr}
-use Rattle.std.specs.Prelude.{◌⊎◌, ◌≢◌, MatchOption, ◌==◌, if◌then◌else◌, IsFalse}
+use Rattle.std.proofs.Common.{◌≡◌, ℕ, ◌+◌, ◌-◌, ◌^◌, ◌<◌, ◌≤◌, Bool, true, false, cond, List, [], ◌∷◌, ◌++◌, Option, Some, None, Result, Ok, refl, ap, subst, ◌∙◌, arith, inl, inr}
+use Rattle.std.specs.Prelude.{MatchOption, ◌==◌}
 use Rattle.std.specs.Option.{option_map_or}
 use Rattle.std.specs.List.{sum_by}
 use Rattle.std.proofs.lemmas.Bool.{eqb-true}
 use Rattle.std.proofs.lemmas.Bool.Decides.{nat_tests}
 use Rattle.std.proofs.lemmas.List.Sums.{sum_by_push, sum_by-cons}
 use Rattle.memory_image.specs.Image.{Span, word_at}
-use Rattle.unwind_definitions.specs.Instructions.{Rule, Offset, SameValue}
-use Rattle.unwind_definitions.specs.Row.{Run, CfaRule, ColumnAndOffset, ByExpression, rule_of, cfa_rule}
-use Rattle.unwind_definitions.specs.Caller.{◌+w◌, Columns, Evaluates, StepFault, x86_64, cfa_value, column_value, caller_of, caller_with, unless_fault, first_fault_below, value_in, unruled, column_limit}
-use Rattle.unwind_definitions.specs.State.{CalleeSaved, RBX, RBP, R12, R13, R14, R15, State, value_of, column_of, is_same, IsState, Shows, KeepsOthers, is_followed}
-use Rattle.unwind_definitions.specs.Prologue.{Register, Followed, RDI, RSI, XMM, Step, Push, Allocate, SetFrame, Store, room_of, saves_from, frame_depth_from, distance_in, distance, depth, frame_depth, SystemV, EachMayFollow}
+use Rattle.unwind_definitions.specs.Instructions.{Offset}
+use Rattle.unwind_definitions.specs.Row.{Run, CfaRule, ColumnAndOffset, rule_of, cfa_rule}
+use Rattle.unwind_definitions.specs.Caller.{◌+w◌, Columns, Evaluates, StepFault, x86_64, cfa_value, column_value, caller_of, unless_fault, value_in, unruled, column_limit}
+use Rattle.unwind_definitions.specs.State.{CalleeSaved, RBX, RBP, R12, R13, R14, R15, State, value_of, column_of, is_same, IsState, Shows, is_followed}
+use Rattle.unwind_definitions.specs.Prologue.{Followed, RDI, RSI, XMM, Step, Push, Allocate, SetFrame, Store, room_of, saves_from, frame_depth_from, distance_in, distance, depth, frame_depth, SystemV, EachMayFollow}
 use Rattle.unwind_definitions.specs.Entered.{Leaves, stack_after, frame_after, IsEntered}
-use Rattle.unwind_definitions.specs.DescribedRows.{negative, cfa_after, IsBodyRow, IsPrologueRow, MayFindLate, FindsRegister, IsUnchanged, IsOutermostRow, may_have_rule}
+use Rattle.unwind_definitions.specs.DescribedRows.{negative, cfa_after, IsBodyRow, IsPrologueRow, FindsRegister, IsUnchanged, IsOutermostRow, may_have_rule}
 use Rattle.unwind_laws.specs.Undoes.{Undoes}
 use Rattle.unwind_laws.proofs.Faultless.{HasValue, no_fault_below}
 

@@ -1,20 +1,19 @@
 -- A described chain is walked.
-use Rattle.std.proofs.Common.{◌≡◌, ◌≢◌, ℕ, zero, suc, ◌+◌, ◌-◌, ◌<◌, ◌≤◌, Bool, true, false, leb, ltb, List, [], ◌∷◌, Option, Some, None, refl, sym, ap, subst, ◌∙◌, arith, inl, inr}
-use Rattle.std.specs.Prelude.{◌⊎◌, IsTrue}
-use Rattle.std.specs.List.{Contains, filter, find, list_any, AllByRecursion}
+use Rattle.std.proofs.Common.{◌≡◌, ℕ, ◌-◌, ◌≤◌, true, leb, ltb, List, [], ◌∷◌, refl, arith, inr}
+use Rattle.std.specs.Prelude.{IsTrue}
+use Rattle.std.specs.List.{Contains, list_any, AllByRecursion}
 use Rattle.std.proofs.lemmas.Bool.{le-leb, lt-ltb}
 use Rattle.unwind_definitions.specs.Forms.{Forms}
 use Rattle.unwind_definitions.specs.Caller.{Evaluates, Columns}
 use Rattle.unwind_definitions.specs.State.{State, IsState, Shows}
 use Rattle.unwind_definitions.specs.Prologue.{SystemV, steps_of}
-use Rattle.unwind_definitions.specs.Function.{Function, IsFunction, in_body}
-use Rattle.unwind_definitions.specs.Module.{Module, Process, in_module, bases_of, DescribesModule, IsUncovered}
-use Rattle.unwind_definitions.specs.Chain.{Call, IsCalled, IsLink, IsEnd, IsChain, last_state, states_of, StacksRise}
-use Rattle.unwind_definitions.specs.Valid.{part_in, DescribesPart, LiesDescribed, IsDescribedAt, IsDescribedChain, IsValid}
-use Rattle.unwind_laws.specs.Undoes.{Undoes}
+use Rattle.unwind_definitions.specs.Function.{Function, IsFunction}
+use Rattle.unwind_definitions.specs.Module.{Module, Process, in_module, DescribesModule, IsUncovered}
+use Rattle.unwind_definitions.specs.Chain.{Call, IsCalled, IsLink, IsChain, states_of, StacksRise}
+use Rattle.unwind_definitions.specs.Valid.{part_in, DescribesPart, LiesDescribed, IsDescribedChain, IsValid}
 use Rattle.unwind_laws.specs.Found.{FindsFunction}
 use Rattle.unwind_laws.specs.Walked.{Finds, Steps, IsWalk}
-use Rattle.unwind_laws.proofs.Booleans.{all_contains, contains_all, contains_filter, any_contains}
+use Rattle.unwind_laws.proofs.Booleans.{all_contains, contains_filter, any_contains}
 use Rattle.unwind_laws.proofs.Undo.{rises}
 use Rattle.unwind_laws.proofs.Found.{function_found, body_inside, Known, RowUndoes, row_undoes}
 
@@ -77,9 +76,12 @@ module _ (forms : Forms) (p : Process) where
         caller = state_of functions c.caller calls chain.1;
         ends = λ outer. (link.last outer).1;
       } in
-      let step : Steps forms p evaluates columns s c = one_step evaluates functions s c columns can shows in
-      (shows, link.called.returns, rises p.image c.callee.outermost (steps_of c.callee.prologue) c.caller s link.called.entered,
-      (step, walked evaluates functions are c.caller calls step.undoes.caller chain.1 lie.1 step.undoes.shows))
+      let step : Steps forms p evaluates columns s c = one_step evaluates functions s c columns can shows in (
+        shows,
+        link.called.returns,
+        rises p.image c.callee.outermost (steps_of c.callee.prologue) c.caller s link.called.entered,
+        (step, walked evaluates functions are c.caller calls step.undoes.caller chain.1 lie.1 step.undoes.shows),
+      )
 
   -- A described chain is walked, from columns that show its start.
   pub chain_walked : (evaluates : Evaluates) (functions : List Function) (s : State) (calls : List Call) (columns : Columns) → IsDescribedChain forms p functions s calls → Shows columns s →

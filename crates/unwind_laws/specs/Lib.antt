@@ -8,3 +8,5 @@ pub mod Three
 pub mod Returning
 pub mod Apart
 pub mod Running
+pub mod Spelled
+pub mod Windows

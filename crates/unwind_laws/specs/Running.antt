@@ -1,7 +1,7 @@
 -- Running a frame program: the rules, the CFA and the argument size change instruction by instruction, and one state of them
 -- may be remembered. DWARF 5 section 6.4.2.
 use Rattle.std.specs.Prelude.{◌≡◌, ℕ, List, [], ◌∷◌, Option, Some, None, ◌==◌, if◌then◌else◌}
-use Rattle.unwind_definitions.specs.Instructions.{Rule, Instruction, Nop, Remember, Restore, Advance, SetLocation, Write, Reset, Cfa, CfaColumn, CfaOffset, CfaExpression, Arguments}
+use Rattle.unwind_definitions.specs.Instructions.{Rule, Instruction, Remember, Restore, Write, Reset, Cfa, CfaColumn, CfaOffset, CfaExpression, Arguments}
 use Rattle.unwind_definitions.specs.Row.{Run, CfaRule, ColumnAndOffset, ByExpression, rule_of, cfa_rule, argument_size, first_fault, from_common}
 
 -- a row of the table that a program makes

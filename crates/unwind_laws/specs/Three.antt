@@ -2,11 +2,11 @@
 use Rattle.std.specs.Prelude.{ℕ, ◌-◌, ◌^◌, false, List, [], ◌∷◌, Some, None}
 use Rattle.memory_image.specs.Image.{Span}
 use Rattle.unwind_definitions.specs.Input.{Input}
-use Rattle.unwind_definitions.specs.Pointers.{Bases, Direct, Indirect}
+use Rattle.unwind_definitions.specs.Pointers.{Direct, Indirect}
 use Rattle.unwind_definitions.specs.Entries.{Cie, Fde, Entry, ACie, AFde}
 use Rattle.unwind_definitions.specs.State.{State, RBX, RBP, R14}
 use Rattle.unwind_definitions.specs.Prologue.{Followed, Push, Allocate, SetFrame}
-use Rattle.unwind_definitions.specs.Function.{Function, Site, NoAction, Cleanup, Catch}
+use Rattle.unwind_definitions.specs.Function.{Function, NoAction, Cleanup, Catch}
 use Rattle.unwind_definitions.specs.Module.{Module, Process, Frames, Header}
 use Rattle.unwind_definitions.specs.Chain.{Call}
 use Rattle.unwind_definitions.specs.Delivery.{Delivery, Installed, FatalPhase1}

@@ -1,9 +1,9 @@
 -- What it is for a row to undo a call, and the caller's columns from a list of rules.
-use Rattle.std.specs.Prelude.{◌≡◌, ℕ, ◌+◌, ◌^◌, ◌<◌, ◌≤◌, List, [], ◌∷◌, Option, Some, None, Result, Ok, Err, ◌==◌, if◌then◌else◌}
+use Rattle.std.specs.Prelude.{◌≡◌, ℕ, ◌+◌, ◌<◌, ◌≤◌, List, [], ◌∷◌, Option, Some, None, Result, Ok, Err, ◌==◌, if◌then◌else◌}
 use Rattle.memory_image.specs.Image.{Span}
 use Rattle.unwind_definitions.specs.Instructions.{Rule}
 use Rattle.unwind_definitions.specs.Row.{Run, rule_of}
-use Rattle.unwind_definitions.specs.Caller.{Columns, Machine, x86_64, StepFault, Evaluates, rule_value, placed, caller_of, column_limit}
+use Rattle.unwind_definitions.specs.Caller.{Columns, x86_64, StepFault, Evaluates, rule_value, placed, caller_of, column_limit}
 use Rattle.unwind_definitions.specs.State.{State, Shows, KeepsOthers}
 
 -- By a row there is a caller, whatever expressions give. It shows a state, and keeps the columns that no state has.

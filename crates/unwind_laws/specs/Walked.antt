@@ -5,8 +5,8 @@ use Rattle.unwind_definitions.specs.Forms.{Forms}
 use Rattle.unwind_definitions.specs.Entries.{Fde}
 use Rattle.unwind_definitions.specs.Row.{Run, row_at, argument_size}
 use Rattle.unwind_definitions.specs.Scan.{scan}
-use Rattle.unwind_definitions.specs.Caller.{Columns, Evaluates, x86_64, caller_of}
-use Rattle.unwind_definitions.specs.State.{State, Shows, KeepsOthers}
+use Rattle.unwind_definitions.specs.Caller.{Columns, Evaluates}
+use Rattle.unwind_definitions.specs.State.{State, Shows}
 use Rattle.unwind_definitions.specs.Function.{Function}
 use Rattle.unwind_definitions.specs.LanguageTable.{input_at}
 use Rattle.unwind_definitions.specs.FrameTable.{DescribesFunction}

@@ -18,19 +18,16 @@ ghost use Rattle.unwind_laws.specs.Found.{found_among, nothing_found, FindsFunct
 pub fn scan_finds_first()
     ensures { (forms : Forms) (bases : Bases) (table : Input) (pc : ℕ) (entries : List Entry) → table.offset ≡ 0 → AreEntries forms bases table 0 entries →
         scan forms bases table pc ≡ found_among (fdes_of entries) pc }
-{
-}
+{}
 
 /// For an address inside a described function a scan finds that function's description.
 pub fn function_is_found()
     ensures { (forms : Forms) (image : List Span) (m : Module) (functions : List Function) (d : DescribesModule forms image m functions) (f : Function) (a : ℕ) →
         Contains functions f → f.start ≤ a → a < f.end → FindsFunction forms image m d.frame f a }
-{
-}
+{}
 
 /// For an address that no description contains a scan finds none.
 pub fn uncovered_is_not_found()
     ensures { (forms : Forms) (image : List Span) (m : Module) (a : ℕ) (u : CoversNot forms image m a) →
         scan forms (bases_of m u.frame) (input_at image u.frame) a ≡ nothing_found }
-{
-}
+{}

@@ -1,4 +1,4 @@
-use Rattle.unwind_laws.proofs.PushingValid.{one_process, three_process, one_valid, three_valid, reads_whole, reads_plain}
+use Rattle.unwind_laws.proofs.PushingValid.{one_process, one_valid, reads_whole, reads_plain}
 use Rattle.unwind_laws.proofs.samples.one_call_is_valid.Goals as goal
 
 pub returns-clause-process : goal.returns-clause-process

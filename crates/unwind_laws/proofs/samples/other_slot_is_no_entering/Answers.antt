@@ -1,6 +1,5 @@
 use Rattle.std.proofs.Common.{◌≡◌, ℕ, Option, Some}
 use Rattle.memory_image.specs.Image.{word_at}
-use Rattle.unwind_laws.specs.Pushing as pushing
 use Rattle.unwind_laws.proofs.samples.other_slot_is_no_entering.Goals as goal
 
 pub returns : goal.returns
