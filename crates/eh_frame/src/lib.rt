@@ -25,3 +25,6 @@ pub use register::Register;
 pub use row::{Registers, Row};
 pub use rule::{CfaRule, RegisterRule};
 pub use unwind_definitions::Error;
+
+#[cfg(test)]
+mod tests;
