@@ -1,5 +1,5 @@
 -- What a frame description entry is whose addresses are four signed bytes relative to their place.
-use Rattle.std.proofs.Common.{◌≡◌, ℕ, ◌+◌, ◌-◌, ◌^◌, ◌<◌, ◌≤◌, Option, Ok, Err, refl, arith}
+use Rattle.std.proofs.Common.{◌≡◌, ℕ, ◌+◌, ◌-◌, ◌^◌, ◌<◌, ◌≤◌, Option, Ok, Err, refl}
 use Rattle.std.specs.Int.{w32}
 use Rattle.std.proofs.lemmas.Bool.{le-leb, lt-leb}
 use Rattle.unwind_definitions.specs.declared.error.Error.{Error as Fault}

@@ -3,10 +3,14 @@ mod CieParts
 mod FdeParts
 mod EntryParts
 mod Scanning
+mod Ahead
+mod Searching
+mod Faults
+mod Answered
 mod RuleLists
 mod Pushed
 mod Columns
 mod Steps
-mod Faulty
+mod CannotFollow
 mod Reading
 mod Together

@@ -6,7 +6,7 @@ use Rattle.unwind_definitions.specs.Input.{Input}
 use Rattle.unwind_definitions.specs.Forms.{plain}
 use Rattle.unwind_definitions.specs.Pointers.{Bases}
 use Rattle.unwind_definitions.specs.Entries.{Found, entry_at}
-use Rattle.unwind_definitions.specs.Scan.{found_or, scan_from, scan}
+use Rattle.unwind_definitions.specs.Scan.{found_or, scan_from}
 
 module _ (bases : Bases) (table : Input) (pc turns left offset : ℕ) (more : left ≡ suc turns) where
   pub scan_fault : (e : Fault) → entry_at plain bases table offset ≡ Err e → scan_from plain left bases table pc offset ≡ Err e

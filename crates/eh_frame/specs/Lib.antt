@@ -1,6 +1,7 @@
 pub mod Readers
 pub mod View
 pub mod Views
+pub mod Search
 pub mod Rules
 pub mod Running
 pub mod Decoded

@@ -1,5 +1,4 @@
 -- The code's cursor as a place in a table.
-use Rattle.std.specs.Prelude.{ℕ, List}
 use Rattle.unwind_definitions.specs.Input.{Input}
 use Rattle.eh_frame.specs.declared.cursor.Cursor.{Cursor}
 

@@ -1,5 +1,5 @@
 -- The code's records as those of the definitions.
-use Rattle.std.specs.Prelude.{ℕ, Option, Some, None, false}
+use Rattle.std.specs.Prelude.{ℕ, Some, None, false}
 use Rattle.unwind_definitions.specs.Pointers.{Bases}
 use Rattle.unwind_definitions.specs.Entries.{Letters, Cie, Fde, Entry, ACie, AFde, Found}
 use Rattle.eh_frame.specs.declared.bases.Bases.{Bases as CodeBases}

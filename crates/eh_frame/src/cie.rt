@@ -2,6 +2,7 @@
 
 ghost use Rattle.std.specs.Prelude.{◌≡◌, ◌∷◌, []};
 ghost use Rattle.std.specs.Bool.{OnTrue};
+ghost use Rattle.std.specs.Int.{w64, cast_unsigned};
 ghost use Rattle.unwind_definitions.specs.Forms.{plain, is_plain_augmentation};
 ghost use Rattle.unwind_definitions.specs.Pointers.{Bases};
 ghost use Rattle.unwind_definitions.specs.Entries.{cie_body, augmentation_data, address_encoding, coding_of};
@@ -63,6 +64,62 @@ impl<'a> Cie<'a> {
         })
     }
 
+    /// How many bytes of the table stand before the entry.
+    pub fn offset(&self) -> u64
+        ensures { result ≡ (cie_of self.now).offset }
+    {
+        self.offset
+    }
+
+    /// The version of the entry's format: 1.
+    pub fn version(&self) -> u8
+        ensures { result ≡ (cie_of self.now).version }
+    {
+        self.version
+    }
+
+    /// What the advances of a program are multiplied by, in bytes.
+    pub fn code_alignment(&self) -> u64
+        ensures { result ≡ (cie_of self.now).code_factor }
+    {
+        self.code_alignment
+    }
+
+    /// What the offsets of a program are multiplied by, in bytes.
+    pub fn data_alignment(&self) -> i64
+        ensures { cast_unsigned w64 result ≡ (cie_of self.now).data_factor }
+    {
+        self.data_alignment.cast_signed()
+    }
+
+    // The same as a word: numbers below 0 count from 2^64.
+    pub(crate) fn data_factor(&self) -> u64
+        ensures { result ≡ (cie_of self.now).data_factor }
+    {
+        self.data_alignment
+    }
+
+    /// The column whose rule says where the return address is.
+    pub fn return_column(&self) -> Register
+        ensures { result.0 ≡ (cie_of self.now).return_column }
+    {
+        self.return_column
+    }
+
+    /// The instructions that the rows of each description begin with, in bytes.
+    pub fn program(&self) -> &'a [u8]
+        ensures { result.now ≡ (cie_of self.now).program.bytes }
+    {
+        self.program.bytes()
+    }
+
+    // The same with their place in the table.
+    pub(crate) fn instructions(&self) -> Cursor<'a>
+        ensures { at result ≡ (cie_of self.now).program }
+    {
+        self.program
+    }
+
     /// The augmentation, without its zero byte: which fields the entry and its descriptions have
     /// beside those that all have.
     pub fn augmentation(&self) -> &'a [u8]
@@ -79,13 +136,6 @@ impl<'a> Cie<'a> {
             code: self.code_alignment,
             data_factor: self.data_alignment,
         }
-    }
-
-    // The instructions that each description's program begins with.
-    pub(crate) fn instructions(&self) -> Cursor<'a>
-        ensures { at result ≡ (cie_of self.now).program }
-    {
-        self.program
     }
 
     // How the addresses of a description are encoded.
@@ -109,7 +159,8 @@ fn is_plain(augmentation: &[u8]) -> bool
 
 // The bytes of the augmentation `zR`: their number, and how addresses are encoded.
 fn read_augmentation_data(input: &mut Cursor) -> Result<u8, Error>
-    ensures { (bases : Bases) → GivesOr plain_letters result (augmentation_data bases (0x7a ∷ 0x52 ∷ []) (at input.old)) (at input.new) }
+    ensures { (bases : Bases) → GivesOr plain_letters result
+        (augmentation_data bases (0x7a ∷ 0x52 ∷ []) (at input.old)) (at input.new) }
 {
     let count = input.read_uleb128()?;
     let mut block = input.split(count)?;

@@ -27,17 +27,6 @@ impl<'a> Cursor<'a> {
     ghost use Rattle.eh_frame.specs.Readers.{Gives, GivesOr, passes};
     ghost use Rattle.eh_frame.specs.View.{at};
 
-    /// The bytes of a table whose first byte has the address `address`.
-    pub(crate) fn new(bytes: &'a [u8], address: u64) -> Cursor<'a>
-        ensures { at result ≡ record { base = address; offset = 0; bytes = bytes.now } }
-    {
-        Cursor {
-            bytes,
-            base: address,
-            offset: 0,
-        }
-    }
-
     /// The bytes of a table from an offset on, of which there are none behind its end.
     pub(crate) fn from_offset(bytes: &'a [u8], address: u64, offset: u64) -> Cursor<'a>
         ensures { at result ≡ skip offset (record { base = address; offset = 0; bytes = bytes.now }) }
@@ -225,6 +214,13 @@ impl<'a> Cursor<'a> {
                 Ok(front)
             }
         }
+    }
+
+    /// The bytes that are left.
+    pub(crate) fn bytes(&self) -> &'a [u8]
+        ensures { result.now ≡ (at self.now).bytes }
+    {
+        self.bytes
     }
 
     /// How many of the table's bytes stand before the next one.

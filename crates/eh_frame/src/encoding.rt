@@ -46,7 +46,8 @@ pub(crate) fn read_sdata4(input: &mut Cursor) -> Result<u64, Error>
 
 // An address, by four signed bytes that say how far it is from their own place.
 pub(crate) fn read_relative(input: &mut Cursor) -> Result<u64, Error>
-    ensures { (bases : Bases) → GivesOr (λ x. x) result (direct RELATIVE_SDATA4 bases (at input.old)) (at input.new) }
+    ensures { (bases : Bases) → GivesOr (λ x. x) result
+        (direct RELATIVE_SDATA4 bases (at input.old)) (at input.new) }
 {
     let place = input.address();
     let distance = read_sdata4(input)?;

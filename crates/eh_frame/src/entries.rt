@@ -1,13 +1,16 @@
 //! The entries of a frame table, one after another.
 
-ghost use Rattle.std.specs.Prelude.{◌≡◌, Result};
+ghost use Rattle.std.specs.Prelude.{◌≡◌, ◌≢◌, ◌↔◌, IfErr, IfOk, IsTrue, Result, Some};
+ghost use Rattle.std.specs.Result.{IsErrOf};
 ghost use Rattle.std.specs.Option.{option_map, option_map_or};
 ghost use Rattle.unwind_definitions.specs.Forms.{plain};
 ghost use Rattle.unwind_definitions.specs.Input.{skip};
 ghost use Rattle.unwind_definitions.specs.Pointers.{Bases as KnownBases};
 ghost use Rattle.unwind_definitions.specs.Entries.{Fde as Described, body, cie_at, cie_in, entry_in, entry_at};
+ghost use Rattle.unwind_definitions.specs.Row.{covers_pc};
 ghost use Rattle.unwind_definitions.specs.Scan.{found_or, scan};
 ghost use Rattle.eh_frame.specs.Readers.{GivesOr, Answers};
+ghost use Rattle.eh_frame.specs.Search.{IsFirst, IsUncovered, IsUnreadable};
 ghost use Rattle.eh_frame.specs.View.{at};
 ghost use Rattle.eh_frame.specs.Views.{bases_of, cie_of, fde_of, entry_of, found_of, table_of};
 
@@ -52,26 +55,34 @@ impl<'a> EhFrame<'a> {
 
     /// The first frame description entry, in the table's order, that contains the address `pc`.
     ///
+    /// Entries are read one after another, each once, and a description's common information
+    /// entry with it. `bases` is what their pointers may be relative to; those of the forms that
+    /// are read so far are relative to their own place.
+    ///
     /// # Errors
     ///
     /// The error of the first entry before it that can't be read, or
     /// `NoUnwindInfoForAddress` where all entries can be read and none contains `pc`.
     pub fn fde_for_address(&self, bases: &Bases, pc: u64) -> Result<Fde<'a>, Error>
-        ensures { Answers fde_of result (scan plain (bases_of bases.now) (table_of self.now) pc) }
+        ensures scan { Answers fde_of result (scan plain (bases_of bases.now) (table_of self.now) pc) }
+        ensures contains { IfOk result (λ fde. IsTrue (covers_pc (fde_of fde) pc)) }
+        ensures first { IfOk result (λ fde.
+            IsFirst plain (bases_of bases.now) (table_of self.now) pc 0 (fde_of fde)) }
+        ensures fault { IfErr result (λ e. e ≢ Error.NoUnwindInfoForAddress →
+            IsUnreadable plain (bases_of bases.now) (table_of self.now) pc 0 e) }
+        ensures none { IsErrOf result Error.NoUnwindInfoForAddress ↔
+            IsUncovered plain (bases_of bases.now) (table_of self.now) pc 0 }
     {
         self.scan(pc)
     }
 
     // The first description that contains an address.
     fn scan(&self, pc: u64) -> Result<Fde<'a>, Error>
-        ensures { (bases : KnownBases) → Answers fde_of result (scan plain bases (table_of self.now) pc) }
+        ensures { (bases : KnownBases) → Answers fde_of result
+            (scan plain bases (table_of self.now) pc) }
     {
         let mut offset = 0;
-        // An entry takes a byte at least, so a table has no more entries than bytes.
-        for _turn in 0..self.bytes.len() + 1 {
-            let Some(found) = self.entry_at(offset)? else {
-                return Err(Error::NoUnwindInfoForAddress);
-            };
+        while let Some(found) = self.entry_at(offset)? {
             if let Some(fde) = found.entry.containing(pc) {
                 return Ok(fde);
             }
@@ -90,7 +101,8 @@ impl<'a> EhFrame<'a> {
     // What stands at an offset, None at the end of the list.
     #[tactic(auto, unfolding(unwind_definitions::specs::Entries::entry_at))]
     fn entry_at(&self, offset: u64) -> Result<Option<Found<'a>>, Error>
-        ensures { (bases : KnownBases) → Answers (option_map found_of) result (entry_at plain bases (table_of self.now) offset) }
+        ensures { (bases : KnownBases) → Answers (option_map found_of) result
+            (entry_at plain bases (table_of self.now) offset) }
     {
         let mut input = self.from(offset);
         match read_body(&mut input)? {
@@ -107,7 +119,8 @@ impl<'a> EhFrame<'a> {
 
     // The entry at `offset`, whose body is `body`.
     fn entry_in(&self, offset: u64, body: Cursor<'a>) -> Result<Entry<'a>, Error>
-        ensures { (bases : KnownBases) → Answers entry_of result (entry_in plain bases (table_of self.now) offset (at body.entry)) }
+        ensures { (bases : KnownBases) → Answers entry_of result
+            (entry_in plain bases (table_of self.now) offset (at body.entry)) }
     {
         let place = body.offset();
         let mut input = body;
@@ -124,7 +137,8 @@ impl<'a> EhFrame<'a> {
 
     // The common information entry at an offset.
     fn cie_at(&self, offset: u64) -> Result<Cie<'a>, Error>
-        ensures { (bases : KnownBases) → Answers cie_of result (cie_at plain bases (table_of self.now) offset) }
+        ensures { (bases : KnownBases) → Answers cie_of result
+            (cie_at plain bases (table_of self.now) offset) }
     {
         let mut input = self.from(offset);
         match read_body(&mut input)? {
@@ -149,7 +163,8 @@ impl<'a> Entry<'a> {
 
 // The common information entry at `offset`, whose body is `body`.
 fn cie_in<'a>(offset: u64, body: Cursor<'a>) -> Result<Cie<'a>, Error>
-    ensures { (bases : KnownBases) → Answers cie_of result (cie_in plain bases offset (Some (at body.entry))) }
+    ensures { (bases : KnownBases) → Answers cie_of result
+        (cie_in plain bases offset (Some (at body.entry))) }
 {
     let mut input = body;
     let id = input.read_u32()?;

@@ -34,7 +34,8 @@ pub struct Fde<'a> {
 impl<'a> Fde<'a> {
     // What stands behind the first four bytes of the entry at `offset`, which names `cie`.
     pub(crate) fn read(cie: Cie<'a>, offset: u64, body: Cursor<'a>) -> Result<Fde<'a>, Error>
-        ensures { (bases : KnownBases) → Answers fde_of result (fde_body plain bases (cie_of cie.entry) offset (at body.entry)) }
+        ensures { (bases : KnownBases) → Answers fde_of result
+            (fde_body plain bases (cie_of cie.entry) offset (at body.entry)) }
     {
         if cie.address_encoding() != RELATIVE_SDATA4 {
             return Err(Error::UnsupportedPointerEncoding);
@@ -55,8 +56,51 @@ impl<'a> Fde<'a> {
         })
     }
 
-    /// Whether the function's code contains the address `pc`: it begins at `initial_address` and
-    /// has `len` bytes.
+    /// How many bytes of the table stand before the entry.
+    pub fn offset(&self) -> u64
+        ensures { result ≡ (fde_of self.now).offset }
+    {
+        self.offset
+    }
+
+    /// The common information entry that the description names.
+    pub fn cie(&self) -> Cie<'a>
+        ensures { cie_of result ≡ (fde_of self.now).cie }
+    {
+        self.cie
+    }
+
+    /// The address of the function's first byte.
+    pub fn initial_address(&self) -> u64
+        ensures { result ≡ (fde_of self.now).start }
+    {
+        self.initial_address
+    }
+
+    /// How many bytes the function has.
+    pub fn len(&self) -> u64
+        ensures { result ≡ (fde_of self.now).size }
+    {
+        self.len
+    }
+
+    /// The instructions of the function's rows, behind those of the common information entry, in
+    /// bytes.
+    pub fn program(&self) -> &'a [u8]
+        ensures { result.now ≡ (fde_of self.now).program.bytes }
+    {
+        self.program.bytes()
+    }
+
+    // The same with their place in the table.
+    pub(crate) fn instructions(&self) -> Cursor<'a>
+        ensures { at result ≡ (fde_of self.now).program }
+    {
+        self.program
+    }
+
+    /// Whether the function has a byte at the address `pc`: it begins at `initial_address` and has
+    /// `len` bytes.
     pub fn contains(&self, pc: u64) -> bool
         ensures { result ≡ covers_pc (fde_of self.now) pc }
     {
@@ -95,7 +139,7 @@ impl<'a> Fde<'a> {
         }
         program::row_at(
             self.cie.instructions(),
-            self.program,
+            self.instructions(),
             self.cie.factors(),
             self.initial_address,
             pc,
@@ -105,7 +149,8 @@ impl<'a> Fde<'a> {
 
 // The bytes of an augmentation, where there is one: their number, and so many.
 fn skip_augmentation_data(cie: &Cie, input: &mut Cursor) -> Result<(), Error>
-    ensures { (bases : KnownBases) (start : ℕ) → GivesOr (λ x. None) result (fde_data bases (cie_of cie.now) start (at input.old)) (at input.new) }
+    ensures { (bases : KnownBases) (start : ℕ) → GivesOr (λ x. None) result
+        (fde_data bases (cie_of cie.now) start (at input.old)) (at input.new) }
 {
     if cie.augmentation().is_empty() {
         return Ok(());

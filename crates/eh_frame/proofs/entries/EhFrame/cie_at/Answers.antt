@@ -1,4 +1,4 @@
-use Rattle.std.proofs.Common.{◌≡◌, sym, subst, Result}
+use Rattle.std.proofs.Common.{sym, subst, Result}
 use Rattle.unwind_definitions.specs.declared.error.Error.{Error as Fault}
 use Rattle.unwind_definitions.specs.Entries.{Cie}
 use Rattle.eh_frame.specs.Readers.{Answers}

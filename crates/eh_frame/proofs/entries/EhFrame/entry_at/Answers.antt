@@ -1,4 +1,3 @@
-use Rattle.std.proofs.Common.{refl, ◌∙◌}
 use Rattle.std.proofs.lemmas.Result.{err_from_is_err_and}
 use Rattle.eh_frame.specs.View.{at}
 use Rattle.eh_frame.specs.Views.{entry_of, table_of}
