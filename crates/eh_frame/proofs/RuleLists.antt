@@ -1,12 +1,11 @@
 -- Where a column's entry stands, and what an edit there says of each column.
-use Rattle.std.proofs.Common.{◌≡◌, ◌≢◌, ℕ, zero, suc, ◌+◌, ◌^◌, ◌<◌, ◌≤◌, Bool, true, false, cond, ltb, List, [], ◌∷◌, length, length-set, set, map, get_or, take, drop, drop-cons, ◌++◌, Option, Some, None, Result, Ok, Err, refl, sym, ap, ◌∙◌, subst, arith, add-one, eq-eqb}
+use Rattle.std.proofs.Common.{◌≡◌, ◌≢◌, ℕ, zero, suc, ◌+◌, ◌-◌, ◌^◌, ◌<◌, ◌≤◌, Bool, true, false, cond, ltb, List, [], ◌∷◌, length, length-set, set, map, get_or, take, drop, drop-cons, ◌++◌, Option, Some, None, Result, Ok, Err, refl, sym, ap, ◌∙◌, subst, arith, add-one, eq-eqb}
 use Rattle.std.specs.Prelude.{is_some, nat_lt, ◌==◌}
-use Rattle.std.specs.List.{insert, remove}
+use Rattle.std.specs.List.{insert, remove, copy_within}
 use Rattle.std.proofs.lemmas.Bool.{lt-ltb, ltb-true, ltb-false, eqb-true, eqb-false}
 use Rattle.unwind_definitions.specs.Instructions.{Rule}
 use Rattle.std.proofs.lemmas.List.{length-map, map-set, append-nil, take_all, drop_all}
 use Rattle.std.proofs.Math.ListN.{get_or-map}
-use Rattle.std.specs.List.{refill}
 use Rattle.eh_frame.specs.declared.register.Register.{Register}
 use Rattle.eh_frame.specs.declared.rule.RegisterRule.{RegisterRule}
 use Rattle.eh_frame.specs.Rules.{entry_of, rule_meaning, rule_in, find_in, with_rule, AscendsFrom, is_room}
@@ -21,6 +20,9 @@ differ a b ne = go (a == b) refl
     go : (t : Bool) → (a == b) ≡ t → t ≡ false
     go true e = absurd (ne (eqb-true a b e))
     go false e = refl
+
+above : (a b : ℕ) → a ≤ b → (b ≡ a → ⊥) → suc a ≤ b
+above a b le ne = omega (arith, ne)
 
 -- a column below all has no rule
 pub below_all : (low c : ℕ) (es : List (ℕ × Rule)) → c < low → AscendsFrom low es → rule_in es c ≡ None
@@ -121,9 +123,6 @@ module _ (c : ℕ) where
   moved low k e es (Ok i) from lt p = let h = p.1 in (suc p.0, omega arith, found_behind low p.0 e es from lt p.2)
   moved low k e es (Err i) from lt p = let h = p.1 in (suc p.0, omega arith, place_behind low p.0 e es from lt p.2)
 
-  strict : (a b : ℕ) → a ≤ b → (b ≡ a → ⊥) → suc a ≤ b
-  strict a b le ne = omega (arith, ne)
-
   pub places : (low k : ℕ) (es : List (ℕ × Rule)) → AscendsFrom low es → Places c low k es (find_in c k es)
   places low k [] asc = (0, omega arith, record { within = omega arith; none = refl; says = λ rule q. refl; ascends = λ rule from fits. (from, omega arith) })
   places low k (e ∷ es) asc = at_head (λ lt. moved low k e es (find_in c (k + 1) es) asc.0 lt (places (suc e.0) (k + 1) es asc.1)) (nat_lt e.0 c) refl (e.0 == c) refl
@@ -133,7 +132,7 @@ module _ (c : ℕ) where
       at_head further false is true is' = rw (is, is') (0, omega arith, here low e es asc (eqb-true e.0 c is'))
       at_head further false is false is' =
           let le : c ≤ e.0 = ltb-false e.0 c is in
-          let lt : suc c ≤ e.0 = strict c e.0 le (eqb-false e.0 c is') in
+          let lt : suc c ≤ e.0 = above c e.0 le (eqb-false e.0 c is') in
           rw (is, is') (0, omega arith, before low (e ∷ es) (lt, asc.1) asc)
 
   pub found : (es : List (ℕ × Rule)) (i : ℕ) → AscendsFrom 0 es → find_in c 0 es ≡ Ok i → FoundAt c 0 es i
@@ -154,12 +153,6 @@ module _ {A B : Type 0} (f : A → B) where
   map-remove [] (suc i) = refl
   map-remove (y ∷ ys) zero = refl
   map-remove (y ∷ ys) (suc i) = ap (λ l. f y ∷ l) (map-remove ys i)
-
--- as many elements are written back as there were
-pub refilled : {A : Type 0} (xs ws : List A) → length ws ≡ length xs → refill (length xs) xs ws ≡ ws
-refilled xs ws same =
-    let rest : drop (length ws) xs ≡ [] = drop_all (length ws) xs (omega arith) in
-    ap (λ l. take (length xs) (ws ++ l)) rest ∙ ap (take (length xs)) (append-nil ws) ∙ take_all (length xs) ws (omega arith)
 
 -- the same over the entries that the code holds
 module _ (r : Register) (items : List (Register × RegisterRule)) (i : ℕ) (asc : AscendsFrom 0 (map entry_of items)) where
@@ -210,10 +203,6 @@ module _ (r : Register) (items : List (Register × RegisterRule)) (i : ℕ) (asc
   pub placed_by : (self : List (ℕ × Rule)) (result : Result ℕ ℕ) → map entry_of items ≡ self → result ≡ find_in r.0 0 self → result ≡ Err i → Placed
   placed_by self result view says is = placed_entry (ap (find_in r.0 0) view ∙ sym says ∙ is)
 
--- what is written back
-pub written_back : {A : Type 0} (xs was : List A) (i : ℕ) (x : A) → was ≡ xs → refill (length xs) xs (set was i x) ≡ set xs i x
-written_back xs was i x same = rw same (refilled xs (set xs i x) (length-set xs i x))
-
 pub has_room : (column : ℕ) (es : List (ℕ × Rule)) → is_some (rule_in es column) ≡ true → is_room column es ≡ true
 has_room column es has = rw has refl
 
@@ -223,11 +212,8 @@ no_room column es none full = rw (none, full) refl
 pub more_room : (column : ℕ) (es : List (ℕ × Rule)) → rule_in es column ≡ None → length es < 32 → is_room column es ≡ true
 more_room column es none less = rw (none, lt-ltb (length es) 32 less) refl
 
-pub not_full : (n : ℕ) (b : Bool) → b ≡ (n == 32) → b ≡ false → n ≤ 32 → n < 32
-not_full n b is not_equal le = let ne = eqb-false n 32 (sym is ∙ not_equal) in strict_below n ne le
-  where
-    strict_below : (n : ℕ) → (n ≡ 32 → ⊥) → n ≤ 32 → n < 32
-    strict_below n ne le = omega (arith, ne)
+pub strict : (limit n : ℕ) → n ≢ limit → n ≤ limit → n < limit
+strict limit n ne le = omega (arith, ne)
 
 pub already_none : (c q : ℕ) (es : List (ℕ × Rule)) → rule_in es c ≡ None → rule_in es q ≡ with_rule c None es q
 already_none c q es none = go (c == q) refl
@@ -235,3 +221,51 @@ already_none c q es none = go (c == q) refl
     go : (b : Bool) → (c == q) ≡ b → rule_in es q ≡ cond (c == q) None (rule_in es q)
     go true is = let same : c ≡ q = eqb-true c q is in rw is (rw same at none)
     go false is = rw is refl
+
+-- ---- the places of an array
+
+kept_front : {A : Type 0} (n : ℕ) (xs ys : List A) → length xs ≡ n → take n (xs ++ ys) ≡ xs
+kept_front zero [] ys same = refl
+kept_front (suc n) [] ys same = absurd (omega arith)
+kept_front zero (x ∷ xs) ys same = absurd (omega arith)
+kept_front (suc n) (x ∷ xs) ys same = ap (λ l. x ∷ l) (kept_front n xs ys (omega arith))
+
+length_taken : {A : Type 0} (n : ℕ) (xs : List A) → n ≤ length xs → length (take n xs) ≡ n
+length_taken zero xs le = refl
+length_taken (suc n) [] le = absurd (omega arith)
+length_taken (suc n) (x ∷ xs) le = ap suc (length_taken n xs (omega arith))
+
+-- entries are moved up, and one is put into the gap
+shifted : {A : Type 0} (xs : List A) (i k n : ℕ) (x : A) → i + k ≡ n → n < length xs → take (suc n) (set ((take (suc i) xs ++ take k (drop i xs)) ++ drop (suc n) xs) i x) ≡ insert (take n xs) i x
+shifted [] i k n x sum lt = absurd (omega arith)
+shifted (y ∷ ys) zero k n x sum lt =
+    let same : k ≡ n = omega arith in
+    rw same (ap (λ l. x ∷ l) (kept_front n (take n (y ∷ ys)) (drop n ys) (length_taken n (y ∷ ys) (omega arith))))
+shifted (y ∷ ys) (suc i) k zero x sum lt = absurd (omega arith)
+shifted (y ∷ ys) (suc i) k (suc n) x sum lt = ap (λ l. y ∷ l) (shifted ys i k n x (omega arith) (omega arith))
+
+pub shift_up : {A : Type 0} (xs : List A) (i n : ℕ) (x : A) → i ≤ n → n < length xs → take (n + 1) (set (copy_within xs i n (i + 1)) i x) ≡ insert (take n xs) i x
+shift_up xs i n x le lt =
+    let sum : (i + 1) + (n - i) ≡ suc n = omega arith in
+    rw (sum, add-one i, add-one n) (shifted xs i (n - i) n x (omega arith) lt)
+
+-- entries are moved down over one
+closed_up : {A : Type 0} (xs : List A) (i k n : ℕ) → i + k ≡ n → n < length xs → take n ((take i xs ++ take k (drop (suc i) xs)) ++ drop n xs) ≡ remove (take (suc n) xs) i
+closed_up [] i k n sum lt = absurd (omega arith)
+closed_up (y ∷ ys) zero k n sum lt =
+    let same : k ≡ n = omega arith in
+    rw same (kept_front n (take n ys) (drop n (y ∷ ys)) (length_taken n ys (omega arith)))
+closed_up (y ∷ ys) (suc i) k zero sum lt = absurd (omega arith)
+closed_up (y ∷ ys) (suc i) k (suc n) sum lt = ap (λ l. y ∷ l) (closed_up ys i k n (omega arith) (omega arith))
+
+pub shift_down : {A : Type 0} (xs : List A) (i n : ℕ) → i < n → n ≤ length xs → take (n - 1) (copy_within xs (i + 1) n i) ≡ remove (take n xs) i
+shift_down xs i zero lt le = absurd (omega arith)
+shift_down xs i (suc n) lt le =
+    let sum : i + (suc n - (i + 1)) ≡ n = omega arith in
+    let less : suc n - 1 ≡ n = omega arith in
+    rw (sum, less, add-one i) (closed_up xs i (suc n - suc i) n (omega arith) (omega arith))
+
+pub length_of_front : {A : Type 0} (n : ℕ) (xs : List A) → length (take n xs) ≤ n
+length_of_front zero xs = omega arith
+length_of_front (suc n) [] = omega arith
+length_of_front (suc n) (x ∷ xs) = let h = length_of_front n xs in omega arith

@@ -75,10 +75,11 @@ module _ (start pc : ℕ) (common own : Program) where
       past_own run run' first second ∙ ap (λ o. cond (is_some o) (Ok last) (Err NoCfaRegister)) is.1 ∙ ap (λ d. let r : Result Run Fault = Err d in r) (sym is.0)
 
 -- the row of a description, at an address that it contains
-pub of_description : (bases : Bases) (fde : Fde) (pc : ℕ) (result : Result RowValue Fault) (coding : Coding) (common : Input) → covers_pc fde pc ≡ true → coding ≡ coding_of bases fde.cie → common ≡ fde.cie.program →
-    GivesRow result (row fde.start pc (program plain coding common) (program plain coding fde.program)) → GivesRow result (row_at plain bases fde pc)
+pub of_description : (bases : Bases) (fde : Fde) (pc : ℕ) (result : Result RowValue Fault) (coding : Coding) (common own : Input) → covers_pc fde pc ≡ true → coding ≡ coding_of bases fde.cie → common ≡ fde.cie.program → own ≡ fde.program →
+    GivesRow result (row fde.start pc (program plain coding common) (program plain coding own)) → GivesRow result (row_at plain bases fde pc)
 unfolding row_at
-of_description bases fde pc result coding common covers coded first made =
+of_description bases fde pc result coding common own covers coded first second made =
     subst (λ b. GivesRow result (cond b (row fde.start pc (program plain (coding_of bases fde.cie) fde.cie.program) (program plain (coding_of bases fde.cie) fde.program)) (Err NoUnwindInfoForAddress))) (sym covers)
         (subst (λ k. GivesRow result (row fde.start pc (program plain k fde.cie.program) (program plain k fde.program))) coded
-            (subst (λ i. GivesRow result (row fde.start pc (program plain coding i) (program plain coding fde.program))) first made))
+            (subst (λ i. GivesRow result (row fde.start pc (program plain coding i) (program plain coding fde.program))) first
+                (subst (λ i. GivesRow result (row fde.start pc (program plain coding common) (program plain coding i))) second made)))

@@ -139,7 +139,7 @@ impl<'a> Fde<'a> {
         }
         program::row_at(
             self.cie.instructions(),
-            self.program,
+            self.instructions(),
             self.cie.factors(),
             self.initial_address,
             pc,

@@ -27,4 +27,6 @@ pub use rule::{CfaRule, RegisterRule};
 pub use unwind_definitions::Error;
 
 #[cfg(test)]
+mod row_tests;
+#[cfg(test)]
 mod tests;

@@ -3,7 +3,7 @@
 use crate::register::Register;
 
 /// How the canonical frame address (CFA) is found.
-#[derive(Clone, Copy, Debug, Drop)]
+#[derive(Clone, Copy, Debug, PartialEq, Eq)]
 pub enum CfaRule<'a> {
     /// A register's value plus an offset, as words that wrap.
     RegisterAndOffset {
@@ -17,7 +17,7 @@ pub enum CfaRule<'a> {
 }
 
 /// How a register's value in the caller is found. Offsets are words that wrap.
-#[derive(Clone, Copy, Debug, Default, Drop)]
+#[derive(Clone, Copy, Debug, Default, PartialEq, Eq)]
 pub enum RegisterRule<'a> {
     /// The value isn't known.
     #[default]

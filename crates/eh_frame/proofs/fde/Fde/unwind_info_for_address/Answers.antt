@@ -13,5 +13,5 @@ returns c =
     let bases : Bases = bases_of c.args.bases.now in
     let fde : Fde = fde_of c.args.self.now in
     let covers : covers_pc fde c.args.pc ≡ true = sym c.contains.ensures ∙ c.if-not-contains.false in
-    of_description bases fde c.args.pc c.row_at.result (coding_by c.factors.result (address_encoding fde.cie) bases) (at c.instructions.result) covers (c.factors.ensures bases) c.instructions.ensures
-        (c.row_at.ensures (address_encoding fde.cie) bases)
+    of_description bases fde c.args.pc c.row_at.result (coding_by c.factors.result (address_encoding fde.cie) bases) (at c.instructions.result) (at c.instructions-2.result)
+        covers (c.factors.ensures bases) c.instructions.ensures c.instructions-2.ensures (c.row_at.ensures (address_encoding fde.cie) bases)

@@ -1,6 +1,6 @@
 use Rattle.std.proofs.Common.{refl, arith}
 use Rattle.eh_frame.proofs.Steps.{step_advance}
-use Rattle.eh_frame.proofs.Faulty.{fits}
+use Rattle.eh_frame.proofs.CannotFollow.{fits}
 use Rattle.eh_frame.proofs.machine.Machine.advance.Goals as goal
 
 pub returns : goal.returns

@@ -1,7 +1,7 @@
 use Rattle.std.proofs.Common.{◌≡◌, Some, false, ap, refl}
 use Rattle.std.specs.Prelude.{is_some}
 use Rattle.eh_frame.proofs.Steps.{step_remember}
-use Rattle.eh_frame.proofs.Faulty.{remember_fault}
+use Rattle.eh_frame.proofs.CannotFollow.{remember_fault}
 use Rattle.eh_frame.specs.declared.machine.RowState.{RowState}
 use Rattle.std.specs.Prelude.{Option}
 use Rattle.eh_frame.proofs.machine.Machine.remember_state.Goals as goal

@@ -4,7 +4,7 @@ use Rattle.unwind_definitions.specs.Instructions.{Rule, Reset}
 use Rattle.unwind_definitions.specs.Row.{initial_rule, is_crowded, fault_where}
 use Rattle.eh_frame.specs.Rules.{rule_meaning, rule_in, with_rule}
 use Rattle.eh_frame.proofs.Steps.{step_reset}
-use Rattle.eh_frame.proofs.Faulty.{set_follows, on_ok, reset_fault}
+use Rattle.eh_frame.proofs.CannotFollow.{set_follows, on_ok, reset_fault}
 use Rattle.eh_frame.proofs.machine.Machine.restore_initial_rule.Goals as goal
 
 pub returns-in-Some : goal.returns-in-Some

@@ -1,7 +1,7 @@
 use Rattle.std.proofs.Common.{◌≡◌, Some, None, true, ap, refl, sym, ◌∙◌}
 use Rattle.std.specs.Prelude.{is_some}
 use Rattle.eh_frame.proofs.Steps.{step_restore}
-use Rattle.eh_frame.proofs.Faulty.{restore_fault}
+use Rattle.eh_frame.proofs.CannotFollow.{restore_fault}
 use Rattle.eh_frame.proofs.machine.Machine.restore_state.Goals as goal
 
 pub returns-in-Some : goal.returns-in-Some

@@ -3,7 +3,7 @@ use Rattle.unwind_definitions.specs.Instructions.{CfaOffset}
 use Rattle.unwind_definitions.specs.Row.{cfa_rule, ColumnAndOffset}
 use Rattle.eh_frame.proofs.Pushed.{cfa_new_offset}
 use Rattle.eh_frame.proofs.Steps.{step_cfa}
-use Rattle.eh_frame.proofs.Faulty.{offset_fits}
+use Rattle.eh_frame.proofs.CannotFollow.{offset_fits}
 use Rattle.eh_frame.proofs.machine.Machine.set_cfa_offset.Goals as goal
 
 pub returns : goal.returns

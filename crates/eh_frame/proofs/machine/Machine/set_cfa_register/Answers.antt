@@ -3,7 +3,7 @@ use Rattle.unwind_definitions.specs.Instructions.{CfaColumn}
 use Rattle.unwind_definitions.specs.Row.{cfa_rule, ColumnAndOffset}
 use Rattle.eh_frame.proofs.Pushed.{cfa_new_column}
 use Rattle.eh_frame.proofs.Steps.{step_cfa}
-use Rattle.eh_frame.proofs.Faulty.{register_fits}
+use Rattle.eh_frame.proofs.CannotFollow.{register_fits}
 use Rattle.eh_frame.proofs.machine.Machine.set_cfa_register.Goals as goal
 
 pub returns : goal.returns

@@ -2,7 +2,7 @@ use Rattle.std.proofs.Common.{Result, Ok, Err, OnOk, refl}
 use Rattle.unwind_definitions.specs.Instructions.{Write}
 use Rattle.eh_frame.specs.Rules.{rule_meaning}
 use Rattle.eh_frame.proofs.Steps.{step_write}
-use Rattle.eh_frame.proofs.Faulty.{set_follows, on_ok}
+use Rattle.eh_frame.proofs.CannotFollow.{set_follows, on_ok}
 use Rattle.eh_frame.proofs.machine.Machine.set_rule.Goals as goal
 
 pub returns : goal.returns
