@@ -1,6 +1,14 @@
-//! Call frame information of ELF modules: the entries of `.eh_frame`, read in place.
+//! Call frame information of ELF modules, read in place from the bytes of `.eh_frame`.
 //!
-//! Source: the LSB section on `.eh_frame`, and DWARF 5 section 6.4.
+//! [`EhFrame::fde_for_address`] finds the description of the function at an address, and
+//! [`Fde::unwind_info_for_address`] its row there. A table is read from left to right, and the
+//! first fault is told.
+//!
+//! The forms that are read so far: lengths of four bytes, common information entries of version 1
+//! with the augmentation `zR`, starts of four signed bytes relative to their own place, and the
+//! instructions that compilers emit for functions without language tables.
+//!
+//! Source: LSB, section on `.eh_frame`; DWARF 5 section 6.4.
 #![tactic(auto)]
 
 mod bases;
@@ -11,6 +19,7 @@ mod entries;
 mod fde;
 mod instruction;
 mod machine;
+mod pointer;
 mod program;
 mod register;
 mod row;
@@ -21,6 +30,7 @@ pub use bases::Bases;
 pub use cie::Cie;
 pub use entries::EhFrame;
 pub use fde::Fde;
+pub use pointer::Pointer;
 pub use register::Register;
 pub use row::{Registers, Row};
 pub use rule::{CfaRule, RegisterRule};
