@@ -1,5 +1,5 @@
 -- Modules that are apart: where an address is found, what one more module meets, what it changes.
-use Rattle.std.proofs.Common.{◌≡◌, ℕ, zero, suc, ◌+◌, ◌-◌, ◌<◌, ◌≤◌, min, Bool, true, false, not, ◌&&◌, ◌==◌, cond, ◌⊎◌, inl, inr, List, [], ◌∷◌, ◌++◌, Option, Some, None, refl, sym, ap, ◌∙◌, subst, arith, leb, ltb, map}
+use Rattle.std.proofs.Common.{◌≡◌, ℕ, ◌<◌, ◌≤◌, min, Bool, true, false, not, ◌&&◌, ◌==◌, cond, ◌⊎◌, inl, inr, List, [], ◌∷◌, ◌++◌, Option, Some, None, refl, sym, ap, ◌∙◌, subst, arith, leb, ltb}
 use Rattle.std.proofs.lemmas.Bool.Decides.{nat_tests, leb_tells}
 use Rattle.std.specs.List.{filter}
 use Rattle.std.specs.Ordering.{nat_cmp, is_lt, is_le}
@@ -8,7 +8,7 @@ use Rattle.memory_image.specs.Image.{lower}
 use Rattle.stack_deliver.specs.declared.space.Module.{Module}
 use Rattle.stack_deliver.specs.declared.space.Extent.{Extent}
 use Rattle.stack_deliver.specs.Modules.{contains, module_at, AreApart, shares, lowest_shared, with_module, module_of, modules_in}
-use Rattle.stack_deliver.specs.Nearest.{or_else, last_below, first_between}
+use Rattle.stack_deliver.specs.Nearest.{last_below, first_between}
 
 -- ---- an address
 
@@ -58,9 +58,9 @@ by_end (Some m) a = cond (ltb a m.end) (Some m) None
 pub module_by : (ms : List Module) (low a : ℕ) → AreApart low ms → module_at ms a ≡ by_end (last_below ms a) a
 module_by [] low a apart = refl
 module_by (m ∷ ms) low a apart = elim (leb_tells m.start a) [
-    | inl p ↦ go p.0 p.1 (module_by ms m.end a apart.2) (last_below ms a) refl
-    | inr p ↦ rw (contains_before m a p.1, module_by ms m.end a apart.2, none_before ms m.end a apart.2 (omega (arith, p.1, apart.1)), p.0) refl
-  ]
+  | inl p ↦ go p.0 p.1 (module_by ms m.end a apart.2) (last_below ms a) refl
+  | inr p ↦ rw (contains_before m a p.1, module_by ms m.end a apart.2, none_before ms m.end a apart.2 (omega (arith, p.1, apart.1)), p.0) refl
+]
   where
     go : leb m.start a ≡ true → m.start ≤ a → module_at ms a ≡ by_end (last_below ms a) a → (o : Option Module) → last_below ms a ≡ o → module_at (m ∷ ms) a ≡ by_end (last_below (m ∷ ms) a) a
     go test at rest (Some x) is =
@@ -96,9 +96,9 @@ by_last (Some m) start above = cond (ltb start m.end) (Some m.start) above
 pub shared_by : (ms : List Module) (low start end : ℕ) → AreApart low ms → start < end → lowest_shared ms start end ≡ by_last (last_below ms start) start (first_between ms start end)
 shared_by [] low start end apart some = refl
 shared_by (m ∷ ms) low start end apart some = elim (leb_tells m.start start) [
-    | inl p ↦ at p.0 p.1 (shared_by ms m.end start end apart.2 some) (last_below ms start) refl
-    | inr p ↦ above p.0 p.1 (shared_by ms m.end start end apart.2 some) (ltb m.start end) refl
-  ]
+  | inl p ↦ at p.0 p.1 (shared_by ms m.end start end apart.2 some) (last_below ms start) refl
+  | inr p ↦ above p.0 p.1 (shared_by ms m.end start end apart.2 some) (ltb m.start end) refl
+]
   where
     at : leb m.start start ≡ true → m.start ≤ start → lowest_shared ms start end ≡ by_last (last_below ms start) start (first_between ms start end) → (o : Option Module) → last_below ms start ≡ o → lowest_shared (m ∷ ms) start end ≡ by_last (last_below (m ∷ ms) start) start (first_between (m ∷ ms) start end)
     at test le rest (Some x) is =
@@ -116,6 +116,7 @@ shared_by (m ∷ ms) low start end apart some = elim (leb_tells m.start start) [
             let past : m.end ≤ start = grind (arith, nat_tests) in
             let not_first : leb start m.start ≡ false = let some_of : m.start < m.end = apart.1 in grind (arith, nat_tests) in
             rw (shares_no m start end (inr past), rest, is, test, not_first, b) refl
+
     above : leb m.start start ≡ false → start < m.start → lowest_shared ms start end ≡ by_last (last_below ms start) start (first_between ms start end) → (b : Bool) → ltb m.start end ≡ b → lowest_shared (m ∷ ms) start end ≡ by_last (last_below (m ∷ ms) start) start (first_between (m ∷ ms) start end)
     above test lt rest true b =
         let l : m.start < end = grind (arith, nat_tests) in
@@ -169,18 +170,19 @@ share_none m ms start end e = go (shares m start end) refl
     some : (o : Option ℕ) → lower m.start o ≡ None → ⊥
     some None e = cc
     some (Some b) e = cc
+
     go : (b : Bool) → shares m start end ≡ b → ShareNone m ms start end
     go true is = absurd (some (lowest_shared ms start end) (rw is at e))
     go false is = record { first = is; rest = rw is at e }
 
 apart_from : (m : Module) (start end : ℕ) → shares m start end ≡ false → (end ≤ m.start) ⊎ (m.end ≤ start)
 apart_from m start end h = elim (leb_tells end m.start) [
-    | inl p ↦ inl p.1
-    | inr p ↦ elim (leb_tells m.end start) [
-      | inl q ↦ inr q.1
-      | inr q ↦ let yes_ : shares m start end ≡ true = shares_yes m start end p.1 q.1 in absurd (cc)
-    ]
+  | inl p ↦ inl p.1
+  | inr p ↦ elim (leb_tells m.end start) [
+    | inl q ↦ inr q.1
+    | inr q ↦ let yes_ : shares m start end ≡ true = shares_yes m start end p.1 q.1 in absurd (cc)
   ]
+]
 
 pub with_apart : (ms : List Module) (low : ℕ) (m : Module) → AreApart low ms → low ≤ m.start → m.start < m.end → lowest_shared ms m.start m.end ≡ None → AreApart low (with_module m ms)
 with_apart [] low m apart le some none = (le, some, tt)
@@ -216,7 +218,6 @@ inserted (e ∷ es) k x low apart some none =
 -- ---- what the ranges of a map give
 
 pub none_in : (p : ℕ → Bool) (a : ℕ) → ((q : ℕ) → p q ≡ leb q a) → (es : List (ℕ × Extent)) → filter (λ d. p d.0) es ≡ [] → last_below (modules_in es) a ≡ None
-
 none_in p a tests [] h = refl
 none_in p a tests (d ∷ es) h = go (p d.0) refl (none_in p a tests es)
   where

@@ -1,7 +1,6 @@
 -- The first entry of a pad is the one that counts.
 use Rattle.std.proofs.Common.{◌≡◌, ℕ, ◌==◌, true, false, cond, List, [], ◌∷◌, Bool, Option, Some, None, refl, sym, ap, ◌∙◌, subst, arith, ltb}
 use Rattle.std.proofs.lemmas.Bool.Decides.{nat_tests}
-use Rattle.std.specs.Option.{is_some}
 use Rattle.stack_deliver.specs.Resumes.{return_of, by_pad, with_resume, with_resumes, resume_table}
 
 -- what is found first, else the other
@@ -58,6 +57,7 @@ with_one table pad ret q = go (return_of table pad) refl
         let found : return_of table q ≡ Some r = subst P same is in
         rw found refl
     kept false r p is = rw p (first_of_none (return_of table q))
+
     go : (o : Option ℕ) → return_of table pad ≡ o → return_of (with_resume table pad ret) q ≡ first_of (return_of table q) (said_of pad ret q)
     go None is = rw is (placed table pad ret q is)
     go (Some r) is = rw is (kept (pad == q) r refl is)

@@ -1,11 +1,11 @@
 -- A map from pads to return addresses.
-use Rattle.std.proofs.Common.{◌≡◌, ℕ, ◌==◌, true, false, cond, List, [], ◌∷◌, Bool, Option, Some, None, refl, sym, ap, ◌∙◌, arith, ltb}
+use Rattle.std.proofs.Common.{◌≡◌, ℕ, ◌==◌, true, false, List, [], ◌∷◌, Bool, Option, Some, None, refl, sym, ap, ◌∙◌, arith, ltb}
 use Rattle.std.proofs.lemmas.Bool.Decides.{nat_tests}
 use Rattle.std.specs.Option.{is_some}
 use Rattle.std.specs.Ordering.{nat_cmp}
 use Rattle.std.specs.Map.{lookup}
 use Rattle.std.specs.BTreeMap.{insert_entry, is_at}
-use Rattle.stack_deliver.specs.Resumes.{return_of, by_pad, with_resume, with_resumes}
+use Rattle.stack_deliver.specs.Resumes.{return_of, by_pad, with_resume}
 
 at_test : (pad q : ℕ) → is_at (nat_cmp pad) q ≡ (q == pad)
 at_test pad q = grind (arith, nat_tests)

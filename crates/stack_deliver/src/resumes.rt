@@ -59,5 +59,4 @@ impl Resumes {
 /// filled from nothing is what stands first with the pad among the entries in the order of adding.
 pub fn first_entry_counts()
     ensures { (entries : List (ℕ × ℕ)) (pad : ℕ) → return_of (resume_table entries) pad ≡ return_of entries pad }
-{
-}
+{}

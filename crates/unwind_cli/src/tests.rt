@@ -5,15 +5,15 @@ use std::alloc::{AllocError, Global};
 use std::test::Fail;
 
 /// A frame table with one function, 0x401000 to 0x401010, that pushes RBX.
-const TABLE: &str = "1400000000000000017a5200017810011b0c070890010000140000001c000000e00ff0ff1000000000410e108302000000000000";
+const TABLE: &str =
+    "1400000000000000017a5200017810011b0c070890010000140000001c000000e00ff0ff1000000000410e108302000000000000";
 
 /// The stack: RBX's value, and 0 for the return address.
 const STACK: &str = "05000000000000000000000000000000";
 
 /// Members of a snapshot with that table and a stack at 0x7000.
 fn memory(alloc: Global, stack: &str) -> Result<String, AllocError> {
-    format!(
-        in alloc;
+    format!(in alloc;
         "\"regions\":[{{\"address\":\"0x500000\",\"bytes\":\"{TABLE}\"}},{{\"address\":\"0x7000\",\"bytes\":\"{stack}\"}}]"
     )
 }
@@ -50,7 +50,8 @@ fn ran(alloc: Global, words: &[&str], input: &[u8]) -> Result<(u8, Vec<u8>), All
 #[test]
 fn deliveries_are_told(rt: HostRuntime) -> Result<(), Fail> {
     let alloc = rt.alloc();
-    let frame = "frame 0 ra=0x0 sp=0x7000 rbx=0x9 rbp=0x0 r12=0x0 r13=0x0 r14=0x0 r15=0x0\noutcome end of stack\n";
+    let frame =
+        "frame 0 ra=0x0 sp=0x7000 rbx=0x9 rbp=0x0 r12=0x0 r13=0x0 r14=0x0 r15=0x0\noutcome end of stack\n";
     let outermost = "{\"rip\":\"0x0\",\"rsp\":\"0x7000\",\"rbx\":\"0x9\"}";
     for (stack, start, limit, number, text) in [
         (STACK, outermost, "\"limit\":1", 0, frame),
@@ -98,16 +99,25 @@ fn what_is_no_snapshot_is_refused(rt: HostRuntime) -> Result<(), Fail> {
 #[test]
 fn the_first_faulty_field_is_told(rt: HostRuntime) -> Result<(), Fail> {
     let alloc = rt.alloc();
-    let header = "{\"kind\":\"elf\",\"start\":\"0x401000\",\"end\":\"0x401010\",\"eh_frame_hdr\":\"0x500000\"}";
-    let text_base = "{\"kind\":\"elf\",\"start\":\"0x401000\",\"end\":\"0x401010\",\"eh_frame\":\"0x500000\",\"text_base\":\"0x0\"}";
-    let other = "{\"kind\":\"macho\",\"base\":\"0x401000\",\"size\":\"0x10\",\"unwind_info\":\"0x0\"}";
+    let header =
+        "{\"kind\":\"elf\",\"start\":\"0x401000\",\"end\":\"0x401010\",\"eh_frame_hdr\":\"0x500000\"}";
+    let text_base =
+        "{\"kind\":\"elf\",\"start\":\"0x401000\",\"end\":\"0x401010\",\"eh_frame\":\"0x500000\",\"text_base\":\"0x0\"}";
+    let other =
+        "{\"kind\":\"macho\",\"base\":\"0x401000\",\"size\":\"0x10\",\"unwind_info\":\"0x0\"}";
     for (stack, module, start, rest, field) in [
         ("0", MODULE, START, "\"limit\":2", "regions"),
         ("", MODULE, START, "\"limit\":2", "regions"),
         (STACK, header, START, "\"limit\":2", "modules"),
         (STACK, text_base, START, "\"limit\":2", "modules"),
         (STACK, other, START, "\"limit\":2", "modules"),
-        (STACK, MODULE, "{\"rip\":\"0x401006\"}", "\"limit\":2", "start"),
+        (
+            STACK,
+            MODULE,
+            "{\"rip\":\"0x401006\"}",
+            "\"limit\":2",
+            "start",
+        ),
         (
             STACK,
             MODULE,

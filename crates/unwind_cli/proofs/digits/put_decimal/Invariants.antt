@@ -1,4 +1,4 @@
-use Rattle.std.proofs.Common.{◌≡◌, ◌+◌, ◌-◌, ◌<◌, ◌≤◌, ◌^◌, false, length, drop}
+use Rattle.std.proofs.Common.{◌≡◌, ◌+◌, ◌<◌, ◌≤◌, ◌^◌, false, length, drop}
 use Rattle.std.specs.Fmt.{digits}
 use Rattle.unwind_cli.specs.Digits.{digits_before}
 use Rattle.unwind_cli.proofs.digits.put_decimal.Given as goal

@@ -1,4 +1,4 @@
-use Rattle.std.proofs.Common.{sym, ◌∙◌}
+use Rattle.std.proofs.Common.{◌∙◌}
 use Rattle.stack_deliver.proofs.Returns.{return_found}
 use Rattle.stack_deliver.proofs.resumes.Resumes.find.Goals as goal
 
