@@ -49,3 +49,10 @@ delivery_of space c exception resumes limit = ended (line_of space limit c false
 abbrev pub with_front : List Context → Result (List Context) DeliverError → Result (List Context) DeliverError
 with_front front (Ok cs) = Ok (front ++ cs)
 with_front front (Err e) = Err e
+
+-- ---- the same in the words of its answers
+
+-- More states are needed than there is room for: each of so many has a caller.
+abbrev pub NeedsMore : SpaceValue → ℕ → Context → Bool → Type 0
+NeedsMore space zero c interrupted = Unit {0}
+NeedsMore space (suc room) c interrupted = (s : Stepped) × (step_of space c interrupted ≡ Ok (Some s)) × NeedsMore space room s.context s.signal

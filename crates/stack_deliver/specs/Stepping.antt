@@ -1,5 +1,5 @@
 -- From a frame to its caller, by the frame table of the module that holds it.
-use Rattle.std.specs.Prelude.{◌≡◌, ℕ, ◌-◌, ◌==◌, Bool, false, Option, Some, None, Result, Ok, Err, List, if◌then◌else◌}
+use Rattle.std.specs.Prelude.{◌≡◌, ◌≢◌, ◌⊎◌, ℕ, ◌-◌, ◌==◌, Bool, false, Option, Some, None, Result, Ok, Err, List, if◌then◌else◌}
 use Rattle.memory_image.specs.Image.{Span}
 use Rattle.unwind_definitions.specs.declared.error.Error.{Error as Fault}
 use Rattle.unwind_definitions.specs.declared.error.Error.TheVariants.{NoUnwindInfoForAddress, UnknownInstruction}
@@ -85,3 +85,25 @@ abbrev pub FindsRow : Result (Option RowValue) Fault → Result (Option Run) Fau
 FindsRow (Ok None) due = due ≡ Ok None
 FindsRow (Ok (Some row)) due = (run : Run) × (due ≡ Ok (Some run)) × IsRowOf row run
 FindsRow (Err e) due = due ≡ Err e
+
+-- ---- the same in the words of its answers
+
+-- no description of a module's frame table contains an address
+abbrev pub CoversNot : List Span → Module → FrameInfoKind → ℕ → Type 0
+CoversNot image m (EhFrame frame) a = scan plain (bases_of (module_of m) frame) (input_at image frame) a ≡ Err NoUnwindInfoForAddress
+CoversNot image m (EhFrameHdr header) a = Unit {0}
+
+-- an address is in no module, or in one none of whose descriptions contains it
+abbrev pub IsUncovered : List Span → Option Module → ℕ → Type 0
+IsUncovered image None a = Unit {0}
+IsUncovered image (Some m) a = CoversNot image m m.frame.kind a
+
+-- the stack ends at a context: its return address is 0, or nothing covers the address asked
+abbrev pub EndsAt : SpaceValue → Context → Bool → Type 0
+EndsAt space c interrupted = (c.ra ≡ 0) ⊎ ((c.ra ≢ 0) × IsUncovered space.image (module_at space.modules (address_asked c interrupted)) (address_asked c interrupted))
+
+-- the faults that a step may answer
+abbrev pub IsStepFault : DeliverError → Type 0
+IsStepFault (Table e) = Unit {0}
+IsStepFault (Unmapped a) = Unit {0}
+IsStepFault _ = ⊥

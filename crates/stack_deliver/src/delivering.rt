@@ -1,6 +1,7 @@
 // The delivery of an exception: the states from the start outwards.
-ghost use Rattle.std.specs.Prelude.{◌≡◌, ◌⊎◌, false, MatchResult};
-ghost use Rattle.stack_deliver.specs.Delivering.{Delivers, line_of, delivery_of};
+ghost use Rattle.std.specs.Prelude.{◌≡◌, ◌⊎◌, ℕ, List, None, Err, false, MatchResult};
+ghost use Rattle.memory_image.specs.Image.{word_at};
+ghost use Rattle.stack_deliver.specs.Delivering.{Delivers, NeedsMore, line_of, delivery_of};
 
 use crate::delivery::{DeliverError, Delivery, Outcome};
 use crate::resumes::Resumes;
@@ -36,6 +37,23 @@ fn line(
     Err(DeliverError::FrameLimit)
 }
 
+#[tactic(auto, unfolding(crate::specs::Delivering::delivery_of))]
+fn delivered(
+    alloc: Global,
+    space: &Space<'_>,
+    start: &Context,
+    limit: u32,
+) -> Result<Delivery, DeliverError>
+    ensures { (exception : ℕ) (resumes : List (ℕ × ℕ)) → Delivers result (delivery_of space.now start.now exception resumes limit) }
+{
+    Ok(Delivery {
+        visited: line(alloc, space, start, limit)?,
+        trail: Vec::new(alloc),
+        outcome: Outcome::EndOfStack,
+        landing: None,
+    })
+}
+
 /// Delivers an exception to the stack whose innermost frame has the registers `start`.
 ///
 /// The search visits states from the start outwards. No frame names a handler yet, so it ends with
@@ -46,7 +64,6 @@ fn line(
 /// `NoMemory` where memory ran out; `FrameLimit` where more than `limit` states are needed; the
 /// errors of a step, as they are. A fault of the step from the last allowed state comes before
 /// `FrameLimit`.
-#[tactic(auto, unfolding(crate::specs::Delivering::delivery_of))]
 pub fn deliver(
     alloc: Global,
     space: &Space<'_>,
@@ -56,15 +73,14 @@ pub fn deliver(
     resumes: &Resumes,
     limit: u32,
 ) -> Result<Delivery, DeliverError>
-    ensures { Delivers result (delivery_of space.now start.now exception resumes.now limit) }
+    ensures exact { Delivers result (delivery_of space.now start.now exception resumes.now limit) }
+    // The limit is met exactly where more states are needed.
+    ensures frame_limit { result ≡ Err DeliverError.FrameLimit → NeedsMore space.now limit start.now false }
+    ensures needs_more { NeedsMore space.now limit start.now false → (result ≡ Err DeliverError.NoMemory) ⊎ (result ≡ Err DeliverError.FrameLimit) }
+    ensures unmapped { (a : ℕ) → result ≡ Err (DeliverError.Unmapped a) → word_at space.now.image a ≡ None }
 {
     let _ = exception;
     let _ = class;
     let _ = resumes;
-    Ok(Delivery {
-        visited: line(alloc, space, start, limit)?,
-        trail: Vec::new(alloc),
-        outcome: Outcome::EndOfStack,
-        landing: None,
-    })
+    delivered(alloc, space, start, limit)
 }

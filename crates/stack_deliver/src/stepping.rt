@@ -1,5 +1,6 @@
 // From a frame to its caller, by the frame table of the module that holds it.
-ghost use Rattle.std.specs.Prelude.{◌≡◌, List, Some, IsFalse};
+ghost use Rattle.std.specs.Prelude.{◌≡◌, ◌↔◌, ℕ, List, Some, None, Ok, Err, IsFalse};
+ghost use Rattle.memory_image.specs.Image.{word_at};
 ghost use Rattle.unwind_definitions.specs.State.{State, Shows};
 ghost use Rattle.unwind_definitions.specs.Scan.{scan};
 ghost use Rattle.unwind_definitions.specs.Forms.{plain};
@@ -9,7 +10,7 @@ ghost use Rattle.eh_frame.specs.Views.{bases_of, table_of};
 ghost use Rattle.stack_deliver.specs.Contexts.{columns_of};
 ghost use Rattle.stack_deliver.specs.Modules.{AreApart};
 ghost use Rattle.stack_deliver.specs.Processes.{process_of};
-ghost use Rattle.stack_deliver.specs.Stepping.{FindsRow, run_found, in_module, step_of};
+ghost use Rattle.stack_deliver.specs.Stepping.{FindsRow, run_found, in_module, step_of, EndsAt};
 ghost use Rattle.stack_deliver.specs.Undone.{HaveFrameTables, IsDescribedCall, Undone};
 
 use crate::caller::caller;
@@ -106,6 +107,8 @@ pub fn step<L: Ledger>(
     steps: &mut Steps<L>,
 ) -> Result<Option<Stepped>, DeliverError>
     ensures exact { result ≡ step_of space.now context.now interrupted }
+    ensures ends { (result ≡ Ok None) ↔ EndsAt space.now context.now interrupted }
+    ensures unmapped { (a : ℕ) → result ≡ Err (DeliverError.Unmapped a) → word_at space.now.image a ≡ None }
     ensures undone { (functions : List Function) (s : State) (call : Call) → HaveFrameTables (process_of space.now) → IsDescribedCall (process_of space.now) functions s call →
         Shows (columns_of context.now) s → IsFalse interrupted → Undone result (columns_of context.now) call.caller }
 {
