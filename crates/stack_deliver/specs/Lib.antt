@@ -5,5 +5,6 @@ pub mod Modules
 pub mod Nearest
 pub mod Processes
 pub mod Resumes
+pub mod Shown
 pub mod Stepping
 pub mod Undone

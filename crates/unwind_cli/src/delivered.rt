@@ -18,7 +18,7 @@ fn name_of(outcome: Outcome) -> &'static str
 }
 
 /// Puts the registers that calls keep.
-#[tactic(auto, unfolding(crate::specs::Report::fields_text))]
+#[tactic(auto, unfolding(crate::specs::Report::fields_text, crate::specs::Report::state_fields))]
 fn put_fields(report: &mut Report, state: &Context) -> Result<(), AllocError>
     ensures { OnOk result (report.new ≡ report.old ++ fields_text state.now) }
 {
@@ -32,7 +32,7 @@ fn put_fields(report: &mut Report, state: &Context) -> Result<(), AllocError>
     report.put_field(" r15=", state.registers[15])
 }
 
-#[tactic(auto, unfolding(crate::specs::Report::frame_line))]
+#[tactic(auto, unfolding(crate::specs::Report::frame_line, crate::specs::Report::state_line, crate::specs::Report::fields_text))]
 fn put_frame(report: &mut Report, index: usize, state: &Context) -> Result<(), AllocError>
     ensures { OnOk result (report.new ≡ report.old ++ frame_line index state.now) }
 {
@@ -41,7 +41,7 @@ fn put_frame(report: &mut Report, index: usize, state: &Context) -> Result<(), A
     report.end_line()
 }
 
-#[tactic(auto, unfolding(crate::specs::Report::cleanup_line))]
+#[tactic(auto, unfolding(crate::specs::Report::cleanup_line, crate::specs::Report::pad_line))]
 fn put_cleanup(report: &mut Report, trail: Trail) -> Result<(), AllocError>
     ensures { OnOk result (report.new ≡ report.old ++ cleanup_line trail) }
 {
@@ -50,7 +50,7 @@ fn put_cleanup(report: &mut Report, trail: Trail) -> Result<(), AllocError>
     report.end_line()
 }
 
-#[tactic(auto, unfolding(crate::specs::Report::landing_line))]
+#[tactic(auto, unfolding(crate::specs::Report::landing_line, crate::specs::Report::handler_line, crate::specs::Report::fields_text))]
 fn put_landing(report: &mut Report, state: &Context) -> Result<(), AllocError>
     ensures { OnOk result (report.new ≡ report.old ++ landing_line state.now) }
 {
