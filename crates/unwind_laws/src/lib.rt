@@ -12,8 +12,8 @@ mod samples;
 mod tables;
 
 pub use chains::{
-    chain_is_one, chain_is_walked, delivery_is_one, slots_lie_in_the_frame, stack_pointers_rise,
-    valid_chain_is_described,
+    call_is_undone, chain_is_one, chain_is_walked, delivery_is_one, part_of_a_call_is_undone,
+    slots_lie_in_the_frame, stack_pointers_rise, valid_chain_is_described,
 };
 pub use numbers::{
     relative_pointer_is_spelled, signed_number_is_spelled, unsigned_number_is_spelled,
