@@ -1,5 +1,5 @@
 -- The description of a described function is the one that is found, and its row undoes the call.
-use Rattle.std.proofs.Common.{◌≡◌, ℕ, ◌+◌, ◌-◌, ◌<◌, ◌≤◌, Bool, true, false, ltb, leb, List, [], ◌∷◌, Option, Some, None, Result, Ok, Err, refl, sym, ap, subst, ◌∙◌, arith, inl, inr}
+use Rattle.std.proofs.Common.{◌≡◌, ℕ, ◌+◌, ◌<◌, ◌≤◌, Bool, true, false, ltb, leb, List, [], ◌∷◌, Option, Some, None, Result, Ok, Err, refl, sym, ap, subst, ◌∙◌, arith, inl, inr}
 use Rattle.std.specs.Prelude.{◌⊎◌, IsTrue}
 use Rattle.std.specs.Option.{option_map_or}
 use Rattle.std.specs.List.{Contains, AllPairs, list_any, AllByRecursion}
@@ -19,7 +19,7 @@ use Rattle.unwind_definitions.specs.Function.{Function, Range, in_range, in_body
 use Rattle.unwind_definitions.specs.LanguageTable.{input_at}
 use Rattle.unwind_definitions.specs.FrameTable.{has_range_of, DescribesFunction, HasDescription}
 use Rattle.unwind_definitions.specs.Module.{Module, Process, bases_of, DescriptionsApart, DescribesModule, CoversNot}
-use Rattle.unwind_definitions.specs.Chain.{Call, IsCalled}
+use Rattle.unwind_definitions.specs.Chain.{Call}
 use Rattle.unwind_laws.specs.Undoes.{Undoes}
 use Rattle.unwind_laws.specs.Found.{FindsFunction}
 use Rattle.unwind_laws.proofs.Booleans.{both_true, either_true, here_or_later, none_in_nil, filter_contains, all_contains, first, tail_pairs, head_pairs}

@@ -73,7 +73,7 @@ module _ (forms : Forms) (p : Process) where
       let lies = body_inside c.callee a can.is_function can.inside in
       let x : FoundAt functions c.callee a can.lies = found_at functions c.callee a (record { listed = can.listed; lies = can.lies; from = lies.0; below = lies.1 }) in
       let known : Known forms p can.lies.home can.lies.describes.frame a s c x.finds.fde =
-          record { describes = x.finds.describes; is_function = can.is_function; inside = can.inside; entered = can.entered; caller = can.caller; ends = can.ends } in
+      record { describes = x.finds.describes; is_function = can.is_function; inside = can.inside; entered = can.entered; caller = can.caller; ends = can.ends } in
       step_of evaluates functions a c columns can.lies x (row_undoes forms p evaluates can.lies.home can.lies.describes.frame a s c columns x.finds.fde known shows)
 
   -- the step of such a state, by its own address

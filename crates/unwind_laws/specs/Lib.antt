@@ -10,3 +10,4 @@ pub mod Apart
 pub mod Running
 pub mod Spelled
 pub mod Windows
+pub mod ByHeader

@@ -21,15 +21,13 @@ ghost use Rattle.unwind_laws.specs.Walked.{CanStep, CanStepInside, Steps, IsWalk
 pub fn call_is_undone()
     ensures { (forms : Forms) (p : Process) (evaluates : Evaluates) (functions : List Function) (a : ℕ) (s : State) (c : Call) (columns : Columns) →
         CanStep forms p functions a s c → Shows columns s → Steps forms p evaluates columns a c }
-{
-}
+{}
 
 /// The same of a state that is stopped in the prologue, by its own address.
 pub fn part_of_a_call_is_undone()
     ensures { (forms : Forms) (p : Process) (evaluates : Evaluates) (functions : List Function) (done later : List PrologueStep) (s : State) (c : Call) (columns : Columns) →
         CanStepInside forms p functions done later s c → Shows columns s → Steps forms p evaluates columns s.ra c }
-{
-}
+{}
 
 /// From columns that show the start of a described chain its tables lead, call by call, to columns
 /// that show each caller, up to the end.

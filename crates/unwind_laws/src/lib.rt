@@ -27,4 +27,6 @@ pub use samples::{
     one_call_is_valid, other_slot_is_no_entering, state_stands_inside_a_prologue,
     three_calls_are_valid, unlisted_call_ends_the_program, windows_function_is_entered,
 };
-pub use tables::{function_is_found, scan_finds_first, uncovered_is_not_found};
+pub use tables::{
+    function_is_found, header_table_answers_as_a_scan, scan_finds_first, uncovered_is_not_found,
+};
