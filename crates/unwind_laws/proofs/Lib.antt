@@ -25,3 +25,4 @@ pub mod Leb
 pub mod Relative
 pub mod WindowsEntered
 pub mod ByHeader
+pub mod SearchSites

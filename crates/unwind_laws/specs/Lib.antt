@@ -11,3 +11,4 @@ pub mod Running
 pub mod Spelled
 pub mod Windows
 pub mod ByHeader
+pub mod Searched

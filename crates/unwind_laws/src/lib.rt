@@ -28,5 +28,6 @@ pub use samples::{
     three_calls_are_valid, unlisted_call_ends_the_program, windows_function_is_entered,
 };
 pub use tables::{
-    function_is_found, header_table_answers_as_a_scan, scan_finds_first, uncovered_is_not_found,
+    function_is_found, header_table_answers_as_a_scan, scan_finds_first, site_search_finds_action,
+    uncovered_is_not_found,
 };
