@@ -50,13 +50,17 @@ abbrev pub has_range_of : Function → Fde → Bool
 has_range_of f fde = (fde.start == f.start) && (fde.start + fde.size == f.end)
 
 module _ (forms : Forms) where
-  -- A description of a function: of the emitted form, with its range, its rows, and its language table.
-  pub record DescribesFunction (image : List Span) (bases : Bases) (f : Function) (fde : Fde) : Type 0 where
+  -- A description of a function's code: of the emitted form, with the function's range and its rows.
+  pub record DescribesCode (image : List Span) (bases : Bases) (f : Function) (fde : Fde) : Type 0 where
     pub cie : IsEmittedCie image fde.cie
     pub earlier : fde.cie.offset < fde.offset
     pub start : fde.start ≡ f.start
     pub end : fde.start + fde.size ≡ f.end
     pub rows : DescribesRows forms bases f fde
+
+  -- A description of a function: of its code, and of what its language asks.
+  pub record DescribesFunction (image : List Span) (bases : Bases) (f : Function) (fde : Fde) : Type 0 where
+    pub code : DescribesCode image bases f fde
     pub language : LeadsToLanguage image f fde.language
 
   -- the one description in a list that has a function's range, and describes it

@@ -1,5 +1,5 @@
 -- The description of a described function is the one that is found, and its row undoes the call.
-use Rattle.std.proofs.Common.{◌≡◌, ℕ, ◌+◌, ◌-◌, ◌<◌, ◌≤◌, Bool, true, false, ltb, leb, List, [], ◌∷◌, Option, Some, None, Result, Ok, Err, refl, sym, ap, subst, ◌∙◌, arith, inl, inr}
+use Rattle.std.proofs.Common.{◌≡◌, ℕ, ◌+◌, ◌<◌, ◌≤◌, Bool, true, false, ltb, leb, List, [], ◌∷◌, Option, Some, None, Result, Ok, Err, refl, sym, ap, subst, ◌∙◌, arith, inl, inr}
 use Rattle.std.specs.Prelude.{◌⊎◌, IsTrue}
 use Rattle.std.specs.Option.{option_map_or}
 use Rattle.std.specs.List.{Contains, AllPairs, list_any, AllByRecursion}
@@ -19,7 +19,7 @@ use Rattle.unwind_definitions.specs.Function.{Function, Range, in_range, in_body
 use Rattle.unwind_definitions.specs.LanguageTable.{input_at}
 use Rattle.unwind_definitions.specs.FrameTable.{has_range_of, DescribesFunction, HasDescription}
 use Rattle.unwind_definitions.specs.Module.{Module, Process, bases_of, DescriptionsApart, DescribesModule, CoversNot}
-use Rattle.unwind_definitions.specs.Chain.{Call, IsCalled}
+use Rattle.unwind_definitions.specs.Chain.{Call}
 use Rattle.unwind_laws.specs.Undoes.{Undoes}
 use Rattle.unwind_laws.specs.Found.{FindsFunction}
 use Rattle.unwind_laws.proofs.Booleans.{both_true, either_true, here_or_later, none_in_nil, filter_contains, all_contains, first, tail_pairs, head_pairs}
@@ -76,15 +76,15 @@ module _ (forms : Forms) (image : List Span) (m : Module) where
       let one = all_contains (HasDescription forms image (bases_of m d.frame) fdes) functions f d.frames.each has in
       let fde : Fde = one.fde in
       let listed : Contains fdes fde = (filter_contains (has_range_of f) fdes fde (subst (λ (l : List Fde). Contains l fde) (sym one.one) (first fde []))).0 in
-      let start = one.describes.start in
-      let end = one.describes.end in
+      let start = one.describes.code.start in
+      let end = one.describes.code.end in
       let covers : covers_pc fde a ≡ true = covers_is fde a (omega arith) (omega arith) in
       let is = scan_is forms (bases_of m d.frame) (input_at image d.frame) a d.entries refl d.frames.reads in
       record {
         fde = fde;
         found = is ∙ ap (λ (o : Option Fde). option_map_or (λ (x : Fde). ok x) o (Err NoUnwindInfoForAddress)) (found_first fdes fde a d.apart listed covers);
         covers = covers;
-        no_signal = no_signal forms (bases_of m d.frame) (input_at image d.frame) 0 d.entries fde image d.frames.reads listed one.describes.cie;
+        no_signal = no_signal forms (bases_of m d.frame) (input_at image d.frame) 0 d.entries fde image d.frames.reads listed one.describes.code.cie;
         describes = one.describes;
       }
     where
@@ -102,11 +102,12 @@ module _ (forms : Forms) (image : List Span) (m : Module) where
 no_steps : (prologue : List PrologueStep) → prologue ≡ [] → steps_of prologue ≡ []
 no_steps prologue e = ap steps_of e
 
--- what is known of a call whose function is described
-pub record Known (forms : Forms) (p : Process) (m : Module) (frame : ℕ) (s : State) (c : Call) (fde : Fde) : Type 0 where
+-- what is known of a state that is stopped at an address in the body of a described function
+pub record Known (forms : Forms) (p : Process) (m : Module) (frame a : ℕ) (s : State) (c : Call) (fde : Fde) : Type 0 where
   pub describes : DescribesFunction forms p.image (bases_of m frame) c.callee fde
   pub is_function : IsFunction SystemV c.callee
-  pub called : IsCalled p.image s c
+  pub inside : IsTrue (in_body c.callee a)
+  pub entered : IsEntered p.image c.callee.outermost (steps_of c.callee.prologue) c.caller s
   pub caller : IsState c.caller
   pub ends : IsTrue c.callee.outermost → c.caller.ra ≡ 0
 
@@ -118,18 +119,18 @@ pub record RowUndoes (forms : Forms) (p : Process) (evaluates : Evaluates) (m : 
   pub undoes : Undoes evaluates p.image run t columns
 
 -- the row of a called function undoes the call
-pub row_undoes : (forms : Forms) (p : Process) (evaluates : Evaluates) (m : Module) (frame : ℕ) (s : State) (c : Call) (columns : Columns) (fde : Fde) → Known forms p m frame s c fde → Shows columns s →
-    RowUndoes forms p evaluates m frame fde (s.ra - 1) columns c.caller
-row_undoes forms p evaluates m frame s c columns fde known shows = go c.callee.outermost refl
+pub row_undoes : (forms : Forms) (p : Process) (evaluates : Evaluates) (m : Module) (frame a : ℕ) (s : State) (c : Call) (columns : Columns) (fde : Fde) → Known forms p m frame a s c fde → Shows columns s →
+    RowUndoes forms p evaluates m frame fde a columns c.caller
+row_undoes forms p evaluates m frame a s c columns fde known shows = go c.callee.outermost refl
   where
-    go : (b : Bool) → c.callee.outermost ≡ b → RowUndoes forms p evaluates m frame fde (s.ra - 1) columns c.caller
+    go : (b : Bool) → c.callee.outermost ≡ b → RowUndoes forms p evaluates m frame fde a columns c.caller
     go true e =
-        let row = known.describes.rows.outermost e (s.ra - 1) known.called.inside in
+        let row = known.describes.code.rows.outermost e a known.inside in
         let empty = no_steps c.callee.prologue (known.is_function.outermost e).0 in
-        let entered0 : IsEntered p.image true (steps_of c.callee.prologue) c.caller s = rw e at known.called.entered in
+        let entered0 : IsEntered p.image true (steps_of c.callee.prologue) c.caller s = rw e at known.entered in
         let entered : IsEntered p.image true [] c.caller s = rw empty at entered0 in
         record { run = row.0; has_row = row.1; no_arguments = row.2.arguments; undoes = outermost_undone evaluates p.image row.0 s c.caller columns row.2 entered known.caller shows (known.ends e) }
     go false e =
-        let row = known.describes.rows.bodies e (s.ra - 1) known.called.inside in
-        let entered : IsEntered p.image false (steps_of c.callee.prologue) c.caller s = rw e at known.called.entered in
+        let row = known.describes.code.rows.bodies e a known.inside in
+        let entered : IsEntered p.image false (steps_of c.callee.prologue) c.caller s = rw e at known.entered in
         record { run = row.0; has_row = row.1; no_arguments = row.2.arguments; undoes = body_undone evaluates p.image (steps_of c.callee.prologue) s c.caller columns known.is_function.prologue.each entered known.caller shows row.0 row.2 }

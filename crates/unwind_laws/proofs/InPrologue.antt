@@ -6,6 +6,7 @@ use Rattle.memory_image.specs.Image.{Span}
 use Rattle.unwind_definitions.specs.Forms.{Forms}
 use Rattle.unwind_definitions.specs.Pointers.{Bases}
 use Rattle.unwind_definitions.specs.Entries.{Fde}
+use Rattle.unwind_definitions.specs.Row.{argument_size}
 use Rattle.unwind_definitions.specs.Caller.{Evaluates, Columns}
 use Rattle.unwind_definitions.specs.State.{State, IsState, Shows}
 use Rattle.unwind_definitions.specs.Prologue.{SystemV, Step, PrologueStep, steps_of, Ascend, EachMayFollow}
@@ -69,9 +70,30 @@ at_most_last : (low : ℕ) (x : PrologueStep) (xs : List PrologueStep) → Ends 
 at_most_last low x [] h = omega arith
 at_most_last low x (y ∷ xs) h = let ih = at_most_last x.end y xs h.1 in let a = h.1.0 in omega arith
 
+-- a stopped state's address lies in the function
+pub stands_inside : (f : Function) (image : List Span) (done later : List PrologueStep) (t s : State) → IsFunction SystemV f → StandsAfter image f done later t s → (f.start ≤ s.ra) × (s.ra < f.end)
+stands_inside f image done later t s is st =
+    let ends : Ends 0 (done ++ later) = subst (Ends 0) st.steps (plain_ends f is) in
+    let from = st.behind in
+    (omega arith, below later st.below st.steps (rest_ends 0 done later ends))
+  where
+    inside_end : (bodies : List Range) → bodies ≢ [] → AreWithin (f.start + last_end f.prologue) f.end bodies → first_from f.end bodies < f.end
+    inside_end [] some within = absurd (some refl)
+    inside_end (b ∷ bodies) some within = let a = within.1 in let c = within.2 in omega arith
+
+    below : (later : List PrologueStep) → IsBelowNext f s.ra later → f.prologue ≡ done ++ later → (l : ℕ) × Ends l later → s.ra < f.end
+    below [] lt split h = let body : first_body f < f.end = inside_end f.bodies is.has_body is.bodies in let lt' : s.ra < first_body f = lt in omega arith
+    below (x ∷ xs) lt split h =
+        let le = at_most_last h.0 x xs h.1 in
+        let last : last_end f.prologue ≡ last_end (x ∷ xs) = ap last_end split ∙ last_of done x xs in
+        let behind = body_behind f is in
+        let body : first_body f < f.end = inside_end f.bodies is.has_body is.bodies in
+        let lt' : s.ra < f.start + x.end = lt in
+        omega (arith, le, last, behind)
+
 -- a description's rows undo the steps that a stopped state has run
 pub stopped_row : (forms : Forms) (bases : Bases) (evaluates : Evaluates) (image : List Span) (f : Function) (fde : Fde) (done later : List PrologueStep) (t s : State) (columns : Columns) →
-    IsFunction SystemV f → f.outermost ≡ false → DescribesRows forms bases f fde → StandsAfter image f done later t s → IsState t → Shows columns s → HasRow forms bases fde s.ra (λ run. Undoes evaluates image run t columns)
+    IsFunction SystemV f → f.outermost ≡ false → DescribesRows forms bases f fde → StandsAfter image f done later t s → IsState t → Shows columns s → HasRow forms bases fde s.ra (λ run. Undoes evaluates image run t columns × (argument_size run ≡ 0))
 stopped_row forms bases evaluates image f fde done later t s columns is inner d st words shows =
     let o : ℕ = s.ra - f.start in
     let from = st.behind in
@@ -82,7 +104,7 @@ stopped_row forms bases evaluates image f fde done later t s columns is inner d 
     let row = d.prologue inner s.ra (omega arith) (before_body later st.below st.steps behind) in
     let fits : IsPrologueRow (steps_of done) row.0 = subst (λ l. IsPrologueRow l row.0) steps_are row.2 in
     let may : EachMayFollow SystemV [] (steps_of done) = first_may [] (steps_of done) (steps_of later) (subst (EachMayFollow SystemV []) (ap steps_of st.steps ∙ steps_append done later) is.prologue.each) in
-    (row.0, row.1, prologue_undone evaluates image (steps_of done) s t columns may st.entered words shows row.0 fits st.intact)
+    (row.0, row.1, (prologue_undone evaluates image (steps_of done) s t columns may st.entered words shows row.0 fits st.intact, row.2.arguments))
   where
     high : (later : List PrologueStep) → IsBelowNext f s.ra later → (l : ℕ) × Ends l later → AllByRecursion (λ (x : PrologueStep). s.ra - f.start < x.end) later
     high [] below h = tt

@@ -24,3 +24,5 @@ pub mod Ran
 pub mod Leb
 pub mod Relative
 pub mod WindowsEntered
+pub mod ByHeader
+pub mod SearchSites

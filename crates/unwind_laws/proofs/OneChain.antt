@@ -52,18 +52,18 @@ Alike s (c ∷ cs) (d ∷ ds) = (c.caller ≡ d.caller) × (action_at c.callee (
 
 module _ (forms : Forms) (p : Process) (apart : AllPairs AreApart p.modules) (evaluates : Evaluates) where
   -- one step by one set of columns
-  one_step : (columns : Columns) (s : State) (c d : Call) (x : Steps forms p evaluates columns s c) (y : Steps forms p evaluates columns s d) →
+  one_step : (columns : Columns) (s : State) (c d : Call) (x : Steps forms p evaluates columns (s.ra - 1) c) (y : Steps forms p evaluates columns (s.ra - 1) d) →
       (c.caller ≡ d.caller) × (action_at c.callee (s.ra - 1) ≡ action_at d.callee (s.ra - 1)) × (x.undoes.caller ≡ y.undoes.caller)
   one_step columns s c d x y =
       let same : Same forms p apart c.callee d.callee (s.ra - 1) x.finds y.finds = one_found forms p apart c.callee d.callee (s.ra - 1) x.finds y.finds in
       let callers : x.undoes.caller ≡ y.undoes.caller = ok_is {E = StepFault} x.undoes.caller y.undoes.caller (sym x.undoes.is_caller ∙ ap (caller_of x86_64 evaluates p.image columns) same.run ∙ y.undoes.is_caller) in
       let states : c.caller ≡ d.caller = one_state x.undoes.caller c.caller d.caller x.undoes.shows (subst (λ (k : Columns). Shows k d.caller) (sym callers) y.undoes.shows) in
-      let starts : c.callee.start ≡ d.callee.start = sym x.finds.describes.start ∙ ap (λ (k : Fde). k.start) same.fde ∙ y.finds.describes.start in
+      let starts : c.callee.start ≡ d.callee.start = sym x.finds.describes.code.start ∙ ap (λ (k : Fde). k.start) same.fde ∙ y.finds.describes.code.start in
       let leads : LeadsToLanguage p.image d.callee x.finds.fde.language = subst (λ (k : Fde). LeadsToLanguage p.image d.callee k.language) (sym same.fde) y.finds.describes.language in
       let actions = one_action p.image c.callee d.callee x.finds.fde.language (s.ra - 1) starts x.finds.describes.language leads in
       (states, actions, callers)
 
-  not_ended : (columns : Columns) (s : State) (functions : List Function) (d : Call) → s.ra ≢ 0 → Steps forms p evaluates columns s d → IsEnd p.image (IsUncovered forms p) functions s → ⊥
+  not_ended : (columns : Columns) (s : State) (functions : List Function) (d : Call) → s.ra ≢ 0 → Steps forms p evaluates columns (s.ra - 1) d → IsEnd p.image (IsUncovered forms p) functions s → ⊥
   not_ended columns s functions d nonzero y end = elim end.ends [ inl z ↦ nonzero z | inr u ↦ found_is_covered forms p apart d.callee (s.ra - 1) y.finds u.1 ]
 
   walks_alike : (functions more : List Function) (s : State) (cs ds : List Call) (columns : Columns) → IsWalk forms p evaluates functions columns s cs → IsWalk forms p evaluates more columns s ds → Alike s cs ds

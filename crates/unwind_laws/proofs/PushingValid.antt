@@ -85,11 +85,13 @@ module _ (forms : Forms) (reads : Reads forms) where
 
   describes : (memory : List Span) → DescribesFunction forms memory bases function fde
   describes memory = record {
-    cie = record { version = refl; code_factor = refl; data_factor = refl; return_column = refl; augmentation = inl refl; address = refl; language = inl refl; personality = tt; program = (2, refl) };
-    earlier = lit< tt;
-    start = refl;
-    end = refl;
-    rows = rows;
+    code = record {
+      cie = record { version = refl; code_factor = refl; data_factor = refl; return_column = refl; augmentation = inl refl; address = refl; language = inl refl; personality = tt; program = (2, refl) };
+      earlier = lit< tt;
+      start = refl;
+      end = refl;
+      rows = rows;
+    };
     language = refl;
   }
 

@@ -200,8 +200,8 @@ module _ (forms : Forms) (reads : Reads forms) where
     reads = reads.listed;
     lengths = ((20, _, refl, lit< tt), ((40, _, refl, lit< tt), ((16, _, refl, lit< tt), ((16, _, refl, lit< tt), tt))));
     each = (
-      record { fde = callee_fde; one = refl; describes = record { cie = emitted; earlier = lit< tt; start = refl; end = refl; rows = callee_rows; language = refl } },
-      (record { fde = outermost_fde; one = refl; describes = record { cie = emitted; earlier = lit< tt; start = refl; end = refl; rows = outermost_rows; language = refl } }, tt),
+      record { fde = callee_fde; one = refl; describes = record { code = record { cie = emitted; earlier = lit< tt; start = refl; end = refl; rows = callee_rows }; language = refl } },
+      (record { fde = outermost_fde; one = refl; describes = record { code = record { cie = emitted; earlier = lit< tt; start = refl; end = refl; rows = outermost_rows }; language = refl } }, tt),
     );
     foreign = each_fde (λ fde. IsFalse (list_any (λ f. has_range_of f fde) functions) → AllByRecursion (MeetsNot fde) functions) (λ none. absurd cc) (λ none. absurd cc) (λ none. (inr (lit≤ tt), (inr (lit≤ tt), tt)));
   }

@@ -107,10 +107,10 @@ module _ (b : ℕ) (more : List Span) where
     reads = (24, refl, (52, refl, (84, refl, (112, refl, (148, refl, refl)))));
     lengths = ((20, _, refl, lit< tt), ((24, _, refl, lit< tt), ((28, _, refl, lit< tt), ((24, _, refl, lit< tt), ((32, _, refl, lit< tt), tt)))));
     each = (
-      record { fde = fde_a; one = refl; describes = record { cie = emitted_plain (image b more); earlier = lit< tt; start = refl; end = refl; rows = rows_a bases; language = refl } },
+      record { fde = fde_a; one = refl; describes = record { code = record { cie = emitted_plain (image b more); earlier = lit< tt; start = refl; end = refl; rows = rows_a bases }; language = refl } },
       (
-        record { fde = fde_b; one = refl; describes = record { cie = emitted_language; earlier = lit< tt; start = refl; end = refl; rows = rows_b bases; language = (sites_b, refl, language_b) } },
-        (record { fde = fde_c; one = refl; describes = record { cie = emitted_language; earlier = lit< tt; start = refl; end = refl; rows = rows_c bases; language = (sites_c, refl, language_c) } }, tt),
+        record { fde = fde_b; one = refl; describes = record { code = record { cie = emitted_language; earlier = lit< tt; start = refl; end = refl; rows = rows_b bases }; language = (sites_b, refl, language_b) } },
+        (record { fde = fde_c; one = refl; describes = record { code = record { cie = emitted_language; earlier = lit< tt; start = refl; end = refl; rows = rows_c bases }; language = (sites_c, refl, language_c) } }, tt),
       ),
     );
     foreign = each_fde (λ fde. IsFalse (list_any (λ f. has_range_of f fde) functions) → AllByRecursion (MeetsNot fde) functions) (λ none. absurd cc) (λ none. absurd cc) (λ none. absurd cc);

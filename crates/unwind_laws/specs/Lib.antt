@@ -10,3 +10,5 @@ pub mod Apart
 pub mod Running
 pub mod Spelled
 pub mod Windows
+pub mod ByHeader
+pub mod Searched

@@ -6,12 +6,16 @@ use Rattle.unwind_definitions.specs.Entries.{Fde}
 use Rattle.unwind_definitions.specs.Row.{Run, row_at, argument_size}
 use Rattle.unwind_definitions.specs.Scan.{scan}
 use Rattle.unwind_definitions.specs.Caller.{Columns, Evaluates}
-use Rattle.unwind_definitions.specs.State.{State, Shows}
-use Rattle.unwind_definitions.specs.Function.{Function}
+use Rattle.unwind_definitions.specs.State.{State, IsState, Shows}
+use Rattle.unwind_definitions.specs.Prologue.{SystemV, PrologueStep, steps_of}
+use Rattle.unwind_definitions.specs.Entered.{IsEntered}
+use Rattle.unwind_definitions.specs.Function.{Function, IsFunction, in_body}
 use Rattle.unwind_definitions.specs.LanguageTable.{input_at}
 use Rattle.unwind_definitions.specs.FrameTable.{DescribesFunction}
 use Rattle.unwind_definitions.specs.Module.{Module, Process, in_module, frame_address, bases_of, IsUncovered}
 use Rattle.unwind_definitions.specs.Chain.{Call, IsEnd}
+use Rattle.unwind_definitions.specs.Valid.{LiesDescribed}
+use Rattle.unwind_definitions.specs.Stopped.{StandsAfter}
 use Rattle.unwind_laws.specs.Undoes.{Undoes}
 
 module _ (forms : Forms) (p : Process) where
@@ -30,13 +34,33 @@ module _ (forms : Forms) (p : Process) where
     pub has_row : row_at forms (bases_of home frame) fde a ≡ Ok run
     pub no_arguments : argument_size run ≡ 0
 
-  -- By what is found for the address before the return address, the frame that columns show has a caller that shows a state.
-  pub record Steps (evaluates : Evaluates) (columns : Columns) (s : State) (c : Call) : Type 0 where
-    pub finds : Finds c.callee (s.ra - 1)
+  -- By what is found for an address in a called function, the frame that columns show has a caller that shows a state.
+  pub record Steps (evaluates : Evaluates) (columns : Columns) (a : ℕ) (c : Call) : Type 0 where
+    pub finds : Finds c.callee a
     pub undoes : Undoes evaluates p.image finds.run c.caller columns
 
-  -- columns that show a state, and step by step those of its callers, up to the end of the stack; stack pointers strictly rise
+  -- what is asked of a call whose step is taken, at an address in the body of its function
+  pub record CanStep (functions : List Function) (a : ℕ) (s : State) (c : Call) : Type 0 where
+    pub is_function : IsFunction SystemV c.callee
+    pub listed : Contains functions c.callee
+    pub lies : LiesDescribed forms p functions c.callee
+    pub inside : IsTrue (in_body c.callee a)
+    pub entered : IsEntered p.image c.callee.outermost (steps_of c.callee.prologue) c.caller s
+    pub caller : IsState c.caller
+    pub ends : IsTrue c.callee.outermost → c.caller.ra ≡ 0
+
+  -- what is asked of a state that is stopped in the prologue of a described function
+  pub record CanStepInside (functions : List Function) (done later : List PrologueStep) (s : State) (c : Call) : Type 0 where
+    pub is_function : IsFunction SystemV c.callee
+    pub inner : c.callee.outermost ≡ false
+    pub listed : Contains functions c.callee
+    pub lies : LiesDescribed forms p functions c.callee
+    pub stands : StandsAfter p.image c.callee done later c.caller s
+    pub caller : IsState c.caller
+
+  -- Columns that show a state, and step by step those of its callers, each by the address before the return address, up to
+  -- the end of the stack; stack pointers strictly rise.
   abbrev pub IsWalk : Evaluates → List Function → Columns → State → List Call → Type 0
   IsWalk evaluates functions columns s [] = Shows columns s × IsEnd p.image (IsUncovered forms p) functions s
   IsWalk evaluates functions columns s (c ∷ calls) = Shows columns s × (s.ra ≢ 0) × (s.sp < c.caller.sp)
-      × ((step : Steps evaluates columns s c) × IsWalk evaluates functions step.undoes.caller c.caller calls)
+      × ((step : Steps evaluates columns (s.ra - 1) c) × IsWalk evaluates functions step.undoes.caller c.caller calls)

@@ -6,7 +6,7 @@ ghost use Rattle.memory_image.specs.Image.{Span};
 ghost use Rattle.unwind_definitions.specs.Forms.{Forms};
 ghost use Rattle.unwind_definitions.specs.Caller.{Columns, Evaluates};
 ghost use Rattle.unwind_definitions.specs.State.{State, Shows};
-ghost use Rattle.unwind_definitions.specs.Prologue.{Convention, Step, EachMayFollow, saves};
+ghost use Rattle.unwind_definitions.specs.Prologue.{Convention, Step, PrologueStep, EachMayFollow, saves};
 ghost use Rattle.unwind_definitions.specs.Entered.{IsEntered, stack_after};
 ghost use Rattle.unwind_definitions.specs.Function.{Function};
 ghost use Rattle.unwind_definitions.specs.Module.{Process, IsProcess, IsUncovered};
@@ -14,7 +14,20 @@ ghost use Rattle.unwind_definitions.specs.Chain.{Call, IsChain, states_of, Stack
 ghost use Rattle.unwind_definitions.specs.Delivery.{delivery_of};
 ghost use Rattle.unwind_definitions.specs.Valid.{IsDescribedChain, IsValid};
 ghost use Rattle.unwind_laws.specs.Apart.{FunctionsApart, LiesBetween};
-ghost use Rattle.unwind_laws.specs.Walked.{IsWalk};
+ghost use Rattle.unwind_laws.specs.Walked.{CanStep, CanStepInside, Steps, IsWalk};
+
+/// Stopped at an address in the body of a described function, the tables give the caller: a module,
+/// its description of the function, that description's row, and the caller's columns.
+pub fn call_is_undone()
+    ensures { (forms : Forms) (p : Process) (evaluates : Evaluates) (functions : List Function) (a : ℕ) (s : State) (c : Call) (columns : Columns) →
+        CanStep forms p functions a s c → Shows columns s → Steps forms p evaluates columns a c }
+{}
+
+/// The same of a state that is stopped in the prologue, by its own address.
+pub fn part_of_a_call_is_undone()
+    ensures { (forms : Forms) (p : Process) (evaluates : Evaluates) (functions : List Function) (done later : List PrologueStep) (s : State) (c : Call) (columns : Columns) →
+        CanStepInside forms p functions done later s c → Shows columns s → Steps forms p evaluates columns s.ra c }
+{}
 
 /// From columns that show the start of a described chain its tables lead, call by call, to columns
 /// that show each caller, up to the end.

@@ -12,8 +12,8 @@ mod samples;
 mod tables;
 
 pub use chains::{
-    chain_is_one, chain_is_walked, delivery_is_one, slots_lie_in_the_frame, stack_pointers_rise,
-    valid_chain_is_described,
+    call_is_undone, chain_is_one, chain_is_walked, delivery_is_one, part_of_a_call_is_undone,
+    slots_lie_in_the_frame, stack_pointers_rise, valid_chain_is_described,
 };
 pub use numbers::{
     relative_pointer_is_spelled, signed_number_is_spelled, unsigned_number_is_spelled,
@@ -27,4 +27,7 @@ pub use samples::{
     one_call_is_valid, other_slot_is_no_entering, state_stands_inside_a_prologue,
     three_calls_are_valid, unlisted_call_ends_the_program, windows_function_is_entered,
 };
-pub use tables::{function_is_found, scan_finds_first, uncovered_is_not_found};
+pub use tables::{
+    function_is_found, header_table_answers_as_a_scan, scan_finds_first, site_search_finds_action,
+    uncovered_is_not_found,
+};

@@ -8,9 +8,11 @@ ghost use Rattle.unwind_definitions.specs.Input.{Input};
 ghost use Rattle.unwind_definitions.specs.Pointers.{Bases};
 ghost use Rattle.unwind_definitions.specs.Entries.{Entry, AreEntries};
 ghost use Rattle.unwind_definitions.specs.Scan.{fdes_of, scan};
-ghost use Rattle.unwind_definitions.specs.Function.{Function};
+ghost use Rattle.unwind_definitions.specs.Function.{Function, Site, AreSitesOf, action_among};
 ghost use Rattle.unwind_definitions.specs.LanguageTable.{input_at};
-ghost use Rattle.unwind_definitions.specs.Module.{Module, DescribesModule, CoversNot, bases_of};
+ghost use Rattle.unwind_definitions.specs.Module.{Module, IsHeaderTable, DescribesModule, CoversNot, bases_of};
+ghost use Rattle.unwind_laws.specs.ByHeader.{BoundaryAnswers};
+ghost use Rattle.unwind_laws.specs.Searched.{searched};
 ghost use Rattle.unwind_laws.specs.Found.{found_among, nothing_found, FindsFunction};
 
 /// A scan of a table whose entries all read answers the first description that contains the
@@ -30,4 +32,18 @@ pub fn function_is_found()
 pub fn uncovered_is_not_found()
     ensures { (forms : Forms) (image : List Span) (m : Module) (a : ℕ) (u : CoversNot forms image m a) →
         scan forms (bases_of m u.frame) (input_at image u.frame) a ≡ nothing_found }
+{}
+
+/// Of a described module's header table the last pair that starts at or below an address names a
+/// description, which stands at its own offset, and which a scan answers where it contains the
+/// address; where it doesn't, or there is no such pair, a scan finds none.
+pub fn header_table_answers_as_a_scan()
+    ensures { (forms : Forms) (image : List Span) (m : Module) (functions : List Function) (d : DescribesModule forms image m functions) (a h : ℕ) (table : IsHeaderTable image h d.frame (fdes_of d.entries)) →
+        BoundaryAnswers forms image m d.frame table.pairs a }
+{}
+
+/// A search through a function's call sites in order, which ends at one that holds the address or
+/// begins past it, finds the action of the site that holds the address.
+pub fn site_search_finds_action()
+    ensures { (f : Function) (sites : List Site) (a : ℕ) → AreSitesOf f sites → searched sites a ≡ action_among sites a }
 {}
