@@ -141,9 +141,9 @@ module _ (old : Context) (caller : Columns) (t : State) (shows : Shows caller t)
 -- The step undoes the call of a described function, in a process whose modules name their frame tables.
 module _ (space : SpaceValue) (c : Context) (functions : List Function) (s : State) (call : Call) (apart : AreApart 0 space.modules) (tables : HaveFrameTables (process_of space))
     (is : IsDescribedCall (process_of space) functions s call) (shows : Shows (columns_of c) s) where
-  abbrev step : Steps plain (process_of space) no_expressions (columns_of c) s call
-  step = one_step plain (process_of space) no_expressions functions s call (columns_of c)
-      record { is_function = is.is_function; listed = is.listed; lies = is.lies; called = is.called; caller = is.caller; ends = is.ends } shows
+  abbrev step : Steps plain (process_of space) no_expressions (columns_of c) (s.ra - 1) call
+  step = one_step plain (process_of space) no_expressions functions (s.ra - 1) s call (columns_of c)
+      record { is_function = is.is_function; listed = is.listed; lies = is.lies; inside = is.called.inside; entered = is.called.entered; caller = is.caller; ends = is.ends } shows
 
   ra_is : c.ra ≡ s.ra
   ra_is = let e : columns_of c 16 ≡ Some s.ra = shows.ra in cc
