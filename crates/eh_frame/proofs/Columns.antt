@@ -64,7 +64,7 @@ module _ (initial : Option Rule) (c : ℕ) where
 unnamed : (run : Run) (c : ℕ) → names (run.common ++ run.own) c ≡ false → rule_of run c ≡ None
 unnamed run c e =
     let apart : (names run.common c || names run.own c) ≡ false =
-        sym (list_any-append (nat_eq c) (filter_map column_named run.common) (filter_map column_named run.own)) ∙ ap (λ ns. list_any (nat_eq c) ns) (sym (filter_map-append column_named run.common run.own)) ∙ e in
+    sym (list_any-append (nat_eq c) (filter_map column_named run.common) (filter_map column_named run.own)) ∙ ap (λ ns. list_any (nat_eq c) ns) (sym (filter_map-append column_named run.common run.own)) ∙ e in
     let both = or_false (names run.common c) (names run.own c) apart in
     let first : initial_rule run c ≡ None = ap (λ o. unwrap_or o None) (silent None c run.common both.0).now in
     ap (λ o. unwrap_or o (initial_rule run c)) (silent (initial_rule run c) c run.own both.1).now ∙ first
@@ -163,8 +163,8 @@ pub count_ruled : (run : Run) (es : List (ℕ × Rule)) → AscendsFrom 0 es →
 count_ruled run es asc says =
     sym (length_columns es)
     ∙ length-from_same_keys nat_eq_equiv (columns es) (ruled_columns run) (distinct_columns 0 es asc)
-        (distinct_filter (λ c. is_some (rule_of run c)) (distinct (filter_map column_named (run.common ++ run.own))) (is_distinct (filter_map column_named (run.common ++ run.own))))
-        (λ q. member_columns es q ∙ ap is_some (says q) ∙ sym (member_ruled run q))
+    (distinct_filter (λ c. is_some (rule_of run c)) (distinct (filter_map column_named (run.common ++ run.own))) (is_distinct (filter_map column_named (run.common ++ run.own))))
+    (λ q. member_columns es q ∙ ap is_some (says q) ∙ sym (member_ruled run q))
 
 full : (a : Bool) (n m : ℕ) → n ≡ m → not (a || nat_lt n 32) ≡ (not a && nat_le 32 m)
 full true n m e = refl

@@ -75,6 +75,7 @@ module _ (c : ℕ) where
       replaced : (e : ℕ × Rule) (es : List (ℕ × Rule)) → e.0 ≡ c → (q : ℕ) (rule : Rule) (b : Bool) → (c == q) ≡ b → cond (c == q) (Some rule) (rule_in es q) ≡ cond (c == q) (Some rule) (cond (e.0 == q) (Some e.1) (rule_in es q))
       replaced e es same q rule true is = rw is refl
       replaced e es same q rule false is = rw (same, is) refl
+
       removed : (e : ℕ × Rule) (es : List (ℕ × Rule)) → e.0 ≡ c → rule_in es c ≡ None → (q : ℕ) (b : Bool) → (c == q) ≡ b → rule_in es q ≡ cond (c == q) None (cond (e.0 == q) (Some e.1) (rule_in es q))
       removed e es same gone q true is = let eq : c ≡ q = eqb-true c q is in rw is (rw eq at gone)
       removed e es same gone q false is = rw (same, is) refl

@@ -80,6 +80,6 @@ pub of_description : (bases : Bases) (fde : Fde) (pc : ℕ) (result : Result Row
 unfolding row_at
 of_description bases fde pc result coding common own covers coded first second made =
     subst (λ b. GivesRow result (cond b (row fde.start pc (program plain (coding_of bases fde.cie) fde.cie.program) (program plain (coding_of bases fde.cie) fde.program)) (Err NoUnwindInfoForAddress))) (sym covers)
-        (subst (λ k. GivesRow result (row fde.start pc (program plain k fde.cie.program) (program plain k fde.program))) coded
-            (subst (λ i. GivesRow result (row fde.start pc (program plain coding i) (program plain coding fde.program))) first
-                (subst (λ i. GivesRow result (row fde.start pc (program plain coding common) (program plain coding i))) second made)))
+    (subst (λ k. GivesRow result (row fde.start pc (program plain k fde.cie.program) (program plain k fde.program))) coded
+    (subst (λ i. GivesRow result (row fde.start pc (program plain coding i) (program plain coding fde.program))) first
+    (subst (λ i. GivesRow result (row fde.start pc (program plain coding common) (program plain coding i))) second made)))

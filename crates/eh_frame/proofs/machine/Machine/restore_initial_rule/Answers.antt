@@ -13,7 +13,7 @@ returns-in-Some c start run rep =
     let rule = rule_meaning c.in-Some.rule in
     let is : initial_rule run q ≡ Some rule = sym (rep.initial q) ∙ sym c.initial_rule.ensures ∙ ap (option_map rule_meaning) c.in-Some.is in
     set_follows start c.args.self.now run rep (Reset q) _ q rule c.set.result (reset_fault start run q (Some rule) is) c.set.ensures.ascending c.set.ensures.room c.set.ensures.full c.set.ensures.err
-        (on_ok c.set.result c.set.ensures.ok (λ sets. step_reset start c.args.self.now run rep _ q (λ k. rw is (sets k)) refl refl refl refl refl))
+    (on_ok c.set.result c.set.ensures.ok (λ sets. step_reset start c.args.self.now run rep _ q (λ k. rw is (sets k)) refl refl refl refl refl))
 
 pub returns-in-None : goal.returns-in-None
 returns-in-None c start run rep =

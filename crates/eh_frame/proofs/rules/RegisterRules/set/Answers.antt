@@ -89,9 +89,11 @@ invariant_of-self-in-Err c =
     let less = strict 32 c.self.inside.len c.if-len-eq-CAPACITY.false c.self.invariant.1 in
     let le : c.in-Err.i ≤ c.self.inside.len = omega arith in
     let room : c.self.inside.len < length c.self.inside.entries = omega arith in
-    let kept = length-set c.copy_within.new.self c.in-Err.i (c.args.register, c.args.rule) in
-    (rw (c.copy_within.ensures.after, shift_up c.self.inside.entries c.in-Err.i c.self.inside.len (c.args.register, c.args.rule) le room) (p.ascends c.args.rule (omega arith)),
-        omega arith, kept ∙ c.copy_within.ensures.len ∙ c.self.invariant.2)
+    let kept = length-set c.copy_within.new.self c.in-Err.i (c.args.register, c.args.rule) in (
+      rw (c.copy_within.ensures.after, shift_up c.self.inside.entries c.in-Err.i c.self.inside.len (c.args.register, c.args.rule) le room) (p.ascends c.args.rule (omega arith)),
+      omega arith,
+      kept ∙ c.copy_within.ensures.len ∙ c.self.invariant.2,
+    )
 
 pub returns-else-len-eq-CAPACITY-clause-ok : goal.returns-else-len-eq-CAPACITY-clause-ok
 returns-else-len-eq-CAPACITY-clause-ok c q =
