@@ -93,8 +93,15 @@ const FACTORS: AlignmentFactors = AlignmentFactors {
 
 // Why a program has no row at its end, behind one that says nothing.
 fn fault_of(own: &[u8]) -> Option<Error> {
-    let common = Cursor::new(&[], 0);
-    program::row_at(common, Cursor::new(own, 0), FACTORS, 0x401000, u64::MAX).err()
+    let common = Cursor::from_offset(&[], 0, 0);
+    program::row_at(
+        common,
+        Cursor::from_offset(own, 0, 0),
+        FACTORS,
+        0x401000,
+        u64::MAX,
+    )
+    .err()
 }
 
 #[test]

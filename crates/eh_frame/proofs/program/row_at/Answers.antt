@@ -1,13 +1,13 @@
-use Rattle.std.proofs.Common.{◌≡◌, ℕ, [], List, Some, None, Ok, refl, sym, subst}
+use Rattle.std.proofs.Common.{[], sym, subst}
 use Rattle.std.proofs.lemmas.Result.{err_from_is_err_and}
 use Rattle.unwind_definitions.specs.Forms.{plain}
 use Rattle.unwind_definitions.specs.Instructions.{Program, Coding, program}
-use Rattle.unwind_definitions.specs.Row.{Run, from_common}
+use Rattle.unwind_definitions.specs.Row.{from_common}
 use Rattle.eh_frame.specs.View.{at}
 use Rattle.eh_frame.specs.Decoded.{coding_by}
 use Rattle.eh_frame.specs.Running.{Represents}
 use Rattle.eh_frame.specs.Rows.{IsLast}
-use Rattle.eh_frame.proofs.Together.{whole, last, common_stops, common_run, own_stops, own_run, row_made}
+use Rattle.eh_frame.proofs.Together.{common_stops, common_run, own_stops, own_run, row_made}
 use Rattle.eh_frame.proofs.program.row_at.Goals as goal
 
 pub returns-in_err-run_program : goal.returns-in_err-run_program

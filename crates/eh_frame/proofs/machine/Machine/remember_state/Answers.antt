@@ -1,4 +1,4 @@
-use Rattle.std.proofs.Common.{◌≡◌, Some, false, ap, refl}
+use Rattle.std.proofs.Common.{Some, false, ap, refl}
 use Rattle.std.specs.Prelude.{is_some}
 use Rattle.eh_frame.proofs.Steps.{step_remember}
 use Rattle.eh_frame.proofs.CannotFollow.{remember_fault}

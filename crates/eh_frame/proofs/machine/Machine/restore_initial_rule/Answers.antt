@@ -1,8 +1,8 @@
-use Rattle.std.proofs.Common.{◌≡◌, Option, Some, None, Result, Ok, Err, OnOk, refl, sym, ap, ◌∙◌, subst}
+use Rattle.std.proofs.Common.{◌≡◌, Some, None, refl, sym, ap, ◌∙◌}
 use Rattle.std.specs.Option.{option_map}
-use Rattle.unwind_definitions.specs.Instructions.{Rule, Reset}
-use Rattle.unwind_definitions.specs.Row.{initial_rule, is_crowded, fault_where}
-use Rattle.eh_frame.specs.Rules.{rule_meaning, rule_in, with_rule}
+use Rattle.unwind_definitions.specs.Instructions.{Reset}
+use Rattle.unwind_definitions.specs.Row.{initial_rule}
+use Rattle.eh_frame.specs.Rules.{rule_meaning}
 use Rattle.eh_frame.proofs.Steps.{step_reset}
 use Rattle.eh_frame.proofs.CannotFollow.{set_follows, on_ok, reset_fault}
 use Rattle.eh_frame.proofs.machine.Machine.restore_initial_rule.Goals as goal

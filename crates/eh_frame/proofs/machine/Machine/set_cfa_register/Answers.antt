@@ -1,4 +1,4 @@
-use Rattle.std.proofs.Common.{◌≡◌, Some, ap, refl, sym, ◌∙◌}
+use Rattle.std.proofs.Common.{◌≡◌, Some, refl, sym, ◌∙◌}
 use Rattle.unwind_definitions.specs.Instructions.{CfaColumn}
 use Rattle.unwind_definitions.specs.Row.{cfa_rule, ColumnAndOffset}
 use Rattle.eh_frame.proofs.Pushed.{cfa_new_column}

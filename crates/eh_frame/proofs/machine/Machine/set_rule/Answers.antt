@@ -1,4 +1,4 @@
-use Rattle.std.proofs.Common.{Result, Ok, Err, OnOk, refl}
+use Rattle.std.proofs.Common.{refl}
 use Rattle.unwind_definitions.specs.Instructions.{Write}
 use Rattle.eh_frame.specs.Rules.{rule_meaning}
 use Rattle.eh_frame.proofs.Steps.{step_write}

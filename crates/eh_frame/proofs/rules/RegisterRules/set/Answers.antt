@@ -1,8 +1,8 @@
-use Rattle.std.proofs.Common.{◌≡◌, ℕ, ◌+◌, ◌<◌, ◌≤◌, length, length-set, map, set, take, Ok, Err, refl, sym, ap, ◌∙◌, arith}
-use Rattle.eh_frame.specs.Rules.{entry_of, rule_in, AscendsFrom}
+use Rattle.std.proofs.Common.{◌≡◌, ◌<◌, ◌≤◌, length, length-set, map, take, ◌∙◌, arith}
+use Rattle.eh_frame.specs.Rules.{entry_of}
 use Rattle.std.proofs.lemmas.List.{length-map, length-take-le}
 use Rattle.std.proofs.Math.Seq.{take-set-lt}
-use Rattle.eh_frame.proofs.RuleLists.{found_by, placed_by, has_room, no_room, more_room, shift_up, length_of_front, strict}
+use Rattle.eh_frame.proofs.RuleLists.{found_by, placed_by, has_room, no_room, shift_up, length_of_front, strict}
 use Rattle.eh_frame.proofs.rules.RegisterRules.set.Goals as goal
 
 pub offset_bounds-self-inside-i : goal.offset_bounds-self-inside-i
