@@ -49,7 +49,7 @@ impl<'a> Cie<'a> {
             return Err(Error::UnknownAugmentation);
         }
         let code_alignment = input.read_uleb128()?;
-        let data_alignment = input.read_sleb128()?.cast_unsigned();
+        let data_alignment = input.read_sleb128_word()?;
         let return_column = Register(input.read_u8()? as u16);
         let address_encoding = read_augmentation_data(&mut input)?;
         Ok(Cie {

@@ -3,6 +3,7 @@
 //! DWARF 5 section 7: numbers are little-endian here, and section 7.6 has LEB128.
 
 ghost use Rattle.std.specs.Prelude.{◌≡◌, ◌==◌, ◌+◌, ◌<◌, ◌^◌, length, position, IfSome};
+ghost use Rattle.unwind_definitions.specs.Input.{signed};
 
 use unwind_definitions::Error;
 
@@ -131,6 +132,20 @@ impl<'a> Cursor<'a> {
         ensures { Gives (λ x. x) result (at self.old) uleb (at self.new) }
     {
         let mut rest = *self;
+        let byte = rest.read_u8()?;
+        // most numbers have one byte
+        if byte < 128 {
+            *self = rest;
+            return Ok(byte as u64);
+        }
+        self.read_long_uleb128()
+    }
+
+    // The same, whatever its length.
+    fn read_long_uleb128(&mut self) -> Result<u64, Error>
+        ensures { Gives (λ x. x) result (at self.old) uleb (at self.new) }
+    {
+        let mut rest = *self;
         let number = rest.uleb_left(10)?;
         *self = rest;
         Ok(number)
@@ -151,11 +166,8 @@ impl<'a> Cursor<'a> {
                 _ => Err(Error::BadSignedLeb128),
             };
         }
-        if byte < 64 {
-            return Ok(byte as u64);
-        }
         if byte < 128 {
-            return Ok(u64::MAX - 127 + byte as u64);
+            return Ok(signed_seven_bits(byte));
         }
         let high = self.sleb_left(left - 1)?;
         Ok(high.wrapping_mul(128).wrapping_add((byte - 128) as u64))
@@ -165,10 +177,32 @@ impl<'a> Cursor<'a> {
     pub(crate) fn read_sleb128(&mut self) -> Result<i64, Error>
         ensures { Gives (cast_unsigned w64) result (at self.old) sleb (at self.new) }
     {
+        let word = self.read_sleb128_word()?;
+        Ok(word.cast_signed())
+    }
+
+    /// A signed LEB128 number, as a word: numbers below 0 count from 2^64.
+    pub(crate) fn read_sleb128_word(&mut self) -> Result<u64, Error>
+        ensures { Gives (λ x. x) result (at self.old) sleb (at self.new) }
+    {
+        let mut rest = *self;
+        let byte = rest.read_u8()?;
+        // most numbers have one byte
+        if byte < 128 {
+            *self = rest;
+            return Ok(signed_seven_bits(byte));
+        }
+        self.read_long_sleb128_word()
+    }
+
+    // The same, whatever its length.
+    fn read_long_sleb128_word(&mut self) -> Result<u64, Error>
+        ensures { Gives (λ x. x) result (at self.old) sleb (at self.new) }
+    {
         let mut rest = *self;
         let word = rest.sleb_left(10)?;
         *self = rest;
-        Ok(word.cast_signed())
+        Ok(word)
     }
 
     /// Passes over so many bytes.
@@ -258,4 +292,16 @@ fn first_zero(bytes: &[u8]) -> Option<usize>
     ensures within { IfSome result (λ n. n < length bytes.now) }
 {
     bytes.iter().position(|byte| *byte == 0)
+}
+
+// A signed number of seven bits, as a word.
+fn signed_seven_bits(byte: u8) -> u64
+    requires { byte < 128 }
+    ensures { result ≡ signed 7 byte }
+{
+    if byte < 64 {
+        byte as u64
+    } else {
+        u64::MAX - 127 + byte as u64
+    }
 }
