@@ -1,15 +1,13 @@
 -- When an instruction can't follow those that ran.
-use Rattle.std.proofs.Common.{◌≡◌, ℕ, ◌+◌, ◌^◌, ◌<◌, ◌≤◌, Bool, true, false, cond, not, List, Option, Some, None, Result, Ok, Err, refl, sym, ap, subst, ◌∙◌, arith}
-use Rattle.std.specs.Prelude.{is_some, nat_le, OnOk, OnErr, IfErr}
-use Rattle.std.specs.Option.{option_map}
+use Rattle.std.proofs.Common.{◌≡◌, ℕ, ◌+◌, ◌^◌, ◌<◌, ◌≤◌, Bool, true, false, not, Option, Some, None, Result, Ok, Err, sym, ap, ◌∙◌, arith}
+use Rattle.std.specs.Prelude.{is_some, OnOk, OnErr, IfErr}
 use Rattle.std.proofs.lemmas.Bool.{lt-leb, le-leb}
 use Rattle.unwind_definitions.specs.declared.error.Error.{Error as Fault}
 use Rattle.unwind_definitions.specs.declared.error.Error.TheVariants as faults
-use Rattle.unwind_definitions.specs.Instructions.{Rule, Instruction, Remember, Restore, Advance, Write, Reset, CfaColumn, CfaOffset}
-use Rattle.unwind_definitions.specs.Row.{Run, CfaRule, ColumnAndOffset, rule_of, cfa_rule, location, initial_rule, is_open, is_crowded, fault_of, fault_where, has_column}
-use Rattle.eh_frame.specs.Rules.{rule_in, cfa_meaning, AscendsFrom, is_room}
+use Rattle.unwind_definitions.specs.Instructions.{Rule, Instruction, Remember, Restore, Advance, Reset, CfaColumn, CfaOffset}
+use Rattle.unwind_definitions.specs.Row.{Run, ColumnAndOffset, cfa_rule, location, initial_rule, is_crowded, fault_of, fault_where, has_column}
+use Rattle.eh_frame.specs.Rules.{AscendsFrom, is_room}
 use Rattle.eh_frame.specs.Running.{push, Represents, Follows}
-use Rattle.eh_frame.specs.declared.rule.CfaRule.{CfaRule as CodedCfa}
 use Rattle.eh_frame.specs.declared.machine.Machine.{Machine}
 use Rattle.eh_frame.proofs.Columns.{crowded_is}
 

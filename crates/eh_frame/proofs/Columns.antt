@@ -1,17 +1,16 @@
 -- How many columns have a rule: as many as there are entries.
-use Rattle.std.proofs.Common.{◌≡◌, ◌≢◌, ℕ, suc, ◌+◌, ◌<◌, ◌≤◌, Bool, true, false, cond, eqb, ◌&&◌, ◌||◌, not, List, [], ◌∷◌, ◌++◌, length, map, Option, Some, None, refl, sym, ap, ◌∙◌, arith}
+use Rattle.std.proofs.Common.{◌≡◌, ◌≢◌, ℕ, suc, ◌<◌, ◌≤◌, Bool, true, false, cond, ◌&&◌, ◌||◌, not, List, [], ◌∷◌, ◌++◌, length, Option, Some, None, refl, sym, ap, ◌∙◌, arith}
 use Rattle.std.specs.Prelude.{is_some, nat_eq, nat_lt, nat_le, ◌==◌}
 use Rattle.std.specs.List.{filter, filter_map, list_any, AllByRecursion, IsDistinct}
-use Rattle.std.specs.Option.{option_or, unwrap_or}
+use Rattle.std.specs.Option.{unwrap_or}
 use Rattle.std.specs.Set.{is_member}
-use Rattle.std.specs.Cmp.{IsEquivalence, nat_eq_equiv}
-use Rattle.std.proofs.lemmas.List.{length-map}
+use Rattle.std.specs.Cmp.{nat_eq_equiv}
 use Rattle.std.proofs.lemmas.List.Elements.{filter_map-append}
 use Rattle.std.proofs.lemmas.List.Folds.{list_any-append}
 use Rattle.std.proofs.lemmas.Map.Made.{length-from_same_keys, is_member-filter}
-use Rattle.std.proofs.lemmas.Bool.{eqb-true, eqb-false, eq-eqb, ltb-true, ltb-false, lt-leb, le-leb}
+use Rattle.std.proofs.lemmas.Bool.{eqb-true, eqb-false, ltb-true, ltb-false, lt-leb, le-leb}
 use Rattle.unwind_definitions.specs.Instructions.{Rule, Instruction, Nop, Remember, Restore, Advance, SetLocation, Write, Reset, Cfa, CfaColumn, CfaOffset, CfaExpression, Arguments}
-use Rattle.unwind_definitions.specs.Row.{Run, last_word, cut, cut_of, Cut, says_of, initial_rule, rule_of, column_named, distinct, ruled_columns, is_crowded}
+use Rattle.unwind_definitions.specs.Row.{Run, last_word, cut_of, Cut, says_of, initial_rule, rule_of, column_named, distinct, ruled_columns, is_crowded}
 use Rattle.eh_frame.specs.Rules.{rule_in, AscendsFrom, is_room}
 
 -- ---- a column that no instruction names has no rule
@@ -64,7 +63,7 @@ module _ (initial : Option Rule) (c : ℕ) where
 unnamed : (run : Run) (c : ℕ) → names (run.common ++ run.own) c ≡ false → rule_of run c ≡ None
 unnamed run c e =
     let apart : (names run.common c || names run.own c) ≡ false =
-        sym (list_any-append (nat_eq c) (filter_map column_named run.common) (filter_map column_named run.own)) ∙ ap (λ ns. list_any (nat_eq c) ns) (sym (filter_map-append column_named run.common run.own)) ∙ e in
+    sym (list_any-append (nat_eq c) (filter_map column_named run.common) (filter_map column_named run.own)) ∙ ap (λ ns. list_any (nat_eq c) ns) (sym (filter_map-append column_named run.common run.own)) ∙ e in
     let both = or_false (names run.common c) (names run.own c) apart in
     let first : initial_rule run c ≡ None = ap (λ o. unwrap_or o None) (silent None c run.common both.0).now in
     ap (λ o. unwrap_or o (initial_rule run c)) (silent (initial_rule run c) c run.own both.1).now ∙ first
@@ -163,8 +162,8 @@ pub count_ruled : (run : Run) (es : List (ℕ × Rule)) → AscendsFrom 0 es →
 count_ruled run es asc says =
     sym (length_columns es)
     ∙ length-from_same_keys nat_eq_equiv (columns es) (ruled_columns run) (distinct_columns 0 es asc)
-        (distinct_filter (λ c. is_some (rule_of run c)) (distinct (filter_map column_named (run.common ++ run.own))) (is_distinct (filter_map column_named (run.common ++ run.own))))
-        (λ q. member_columns es q ∙ ap is_some (says q) ∙ sym (member_ruled run q))
+    (distinct_filter (λ c. is_some (rule_of run c)) (distinct (filter_map column_named (run.common ++ run.own))) (is_distinct (filter_map column_named (run.common ++ run.own))))
+    (λ q. member_columns es q ∙ ap is_some (says q) ∙ sym (member_ruled run q))
 
 full : (a : Bool) (n m : ℕ) → n ≡ m → not (a || nat_lt n 32) ≡ (not a && nat_le 32 m)
 full true n m e = refl

@@ -1,10 +1,10 @@
 -- Where a column's entry stands, and what an edit there says of each column.
-use Rattle.std.proofs.Common.{◌≡◌, ◌≢◌, ℕ, zero, suc, ◌+◌, ◌-◌, ◌^◌, ◌<◌, ◌≤◌, Bool, true, false, cond, ltb, List, [], ◌∷◌, length, length-set, set, map, get_or, take, drop, drop-cons, ◌++◌, Option, Some, None, Result, Ok, Err, refl, sym, ap, ◌∙◌, subst, arith, add-one, eq-eqb}
+use Rattle.std.proofs.Common.{◌≡◌, ◌≢◌, ℕ, zero, suc, ◌+◌, ◌-◌, ◌^◌, ◌<◌, ◌≤◌, Bool, true, false, cond, List, [], ◌∷◌, length, set, map, get_or, take, drop, ◌++◌, Option, Some, None, Result, Ok, Err, refl, sym, ap, ◌∙◌, subst, arith, add-one, eq-eqb}
 use Rattle.std.specs.Prelude.{is_some, nat_lt, ◌==◌}
 use Rattle.std.specs.List.{insert, remove, copy_within}
 use Rattle.std.proofs.lemmas.Bool.{lt-ltb, ltb-true, ltb-false, eqb-true, eqb-false}
 use Rattle.unwind_definitions.specs.Instructions.{Rule}
-use Rattle.std.proofs.lemmas.List.{length-map, map-set, append-nil, take_all, drop_all}
+use Rattle.std.proofs.lemmas.List.{length-map, map-set}
 use Rattle.std.proofs.Math.ListN.{get_or-map}
 use Rattle.eh_frame.specs.declared.register.Register.{Register}
 use Rattle.eh_frame.specs.declared.rule.RegisterRule.{RegisterRule}
@@ -75,6 +75,7 @@ module _ (c : ℕ) where
       replaced : (e : ℕ × Rule) (es : List (ℕ × Rule)) → e.0 ≡ c → (q : ℕ) (rule : Rule) (b : Bool) → (c == q) ≡ b → cond (c == q) (Some rule) (rule_in es q) ≡ cond (c == q) (Some rule) (cond (e.0 == q) (Some e.1) (rule_in es q))
       replaced e es same q rule true is = rw is refl
       replaced e es same q rule false is = rw (same, is) refl
+
       removed : (e : ℕ × Rule) (es : List (ℕ × Rule)) → e.0 ≡ c → rule_in es c ≡ None → (q : ℕ) (b : Bool) → (c == q) ≡ b → rule_in es q ≡ cond (c == q) None (cond (e.0 == q) (Some e.1) (rule_in es q))
       removed e es same gone q true is = let eq : c ≡ q = eqb-true c q is in rw is (rw eq at gone)
       removed e es same gone q false is = rw (same, is) refl

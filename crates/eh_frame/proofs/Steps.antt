@@ -1,18 +1,15 @@
 -- The machine after an instruction has run one instruction more.
-use Rattle.std.proofs.Common.{◌≡◌, ℕ, ◌+◌, ◌^◌, ◌<◌, ◌≤◌, Bool, true, false, cond, not, List, [], ◌∷◌, ◌++◌, Option, Some, None, Result, Ok, Err, refl, sym, ap, subst, ◌∙◌, arith}
-use Rattle.std.specs.Prelude.{is_some, nat_le, OnOk, OnErr, IfErr, ◌==◌}
-use Rattle.std.specs.Option.{option_or, option_map, unwrap_or}
-use Rattle.std.proofs.lemmas.Bool.{eqb-true, lt-leb, le-leb}
-use Rattle.unwind_definitions.specs.declared.error.Error.{Error as Fault}
-use Rattle.unwind_definitions.specs.declared.error.Error.TheVariants as faults
-use Rattle.unwind_definitions.specs.Instructions.{Rule, Instruction, Nop, Remember, Restore, Advance, Write, Reset, Cfa, CfaColumn, CfaOffset}
-use Rattle.unwind_definitions.specs.Row.{Run, CfaRule, ColumnAndOffset, rule_of, cfa_rule, cfa_of, argument_size, arguments, cut, location, says_of, initial_rule, last_word, whole_cfa, cfa_column, cfa_offset, is_open, is_crowded, fault_of, fault_where, has_column}
-use Rattle.eh_frame.specs.Rules.{rule_in, rule_meaning, cfa_meaning, with_rule, AscendsFrom, is_room}
-use Rattle.eh_frame.specs.Running.{push, IsStateOf, IsClosed, IsOpenSince, IsRemembered, Represents, Follows}
+use Rattle.std.proofs.Common.{◌≡◌, ℕ, ◌+◌, Bool, true, false, cond, [], ◌++◌, Option, Some, None, refl, sym, ap, subst, ◌∙◌}
+use Rattle.std.specs.Prelude.{is_some, ◌==◌}
+use Rattle.std.specs.Option.{option_map, unwrap_or}
+use Rattle.std.proofs.lemmas.Bool.{eqb-true}
+use Rattle.unwind_definitions.specs.Instructions.{Rule, Instruction, Nop, Remember, Restore, Advance, Write, Reset}
+use Rattle.unwind_definitions.specs.Row.{Run, rule_of, cfa_rule, cfa_of, arguments, cut, says_of, initial_rule, last_word, is_open}
+use Rattle.eh_frame.specs.Rules.{rule_in, cfa_meaning, with_rule}
+use Rattle.eh_frame.specs.Running.{push, IsStateOf, IsClosed, IsRemembered, Represents}
 use Rattle.eh_frame.specs.declared.machine.RowState.{RowState}
 use Rattle.eh_frame.specs.declared.machine.Machine.{Machine}
-use Rattle.eh_frame.proofs.Pushed.{IsPlain, rule_push, cfa_whole, cfa_new_offset, cfa_new_column, cfa_same, arguments_same, lead, location-push, open-push, closed_plain, open_plain, open_remember, cut_remember, cut_restore, closed_restore}
-use Rattle.eh_frame.proofs.Columns.{crowded_is}
+use Rattle.eh_frame.proofs.Pushed.{IsPlain, rule_push, cfa_same, arguments_same, lead, location-push, open-push, closed_plain, open_plain, open_remember, cut_remember, cut_restore, closed_restore}
 
 -- what is remembered stays
 kept_memory : (run : Run) (i : Instruction) → IsPlain i → (r : Option RowState) → IsRemembered r run → IsRemembered r (push run i)

@@ -1,6 +1,6 @@
 -- The program of a common information entry and a description's own make the row.
-use Rattle.std.proofs.Common.{◌≡◌, ℕ, Bool, true, false, cond, List, [], ◌++◌, length, Option, Some, None, Result, Ok, Err, refl, sym, ap, subst, ◌∙◌}
-use Rattle.std.specs.Prelude.{is_some, ◌==◌}
+use Rattle.std.proofs.Common.{◌≡◌, ℕ, true, cond, List, [], length, Option, Some, None, Result, Ok, Err, refl, sym, ap, subst, ◌∙◌}
+use Rattle.std.specs.Prelude.{is_some}
 use Rattle.std.specs.Option.{option_or}
 use Rattle.std.proofs.lemmas.Bool.{eq-eqb}
 use Rattle.unwind_definitions.specs.declared.error.Error.{Error as Fault}
@@ -10,10 +10,10 @@ use Rattle.unwind_definitions.specs.Input.{Input}
 use Rattle.unwind_definitions.specs.Pointers.{Bases}
 use Rattle.unwind_definitions.specs.Entries.{Fde, coding_of}
 use Rattle.unwind_definitions.specs.Instructions.{Instruction, Program, Coding, program}
-use Rattle.unwind_definitions.specs.Row.{Run, CfaRule, first_fault, up_to, or_else, common_fault, own_fault, from_common, row_of, row, row_at, covers_pc, cfa_rule}
+use Rattle.unwind_definitions.specs.Row.{Run, first_fault, up_to, or_else, common_fault, own_fault, from_common, row, row_at, covers_pc, cfa_rule}
 use Rattle.eh_frame.specs.Running.{outcome}
 use Rattle.eh_frame.specs.RowValue.{RowValue}
-use Rattle.eh_frame.specs.Rows.{GivesRow, IsRowOf, IsLast}
+use Rattle.eh_frame.specs.Rows.{GivesRow, IsLast}
 
 module _ {A B : Type 0} where
   stops_at : (o : Option Fault) (a : A) (e : Fault) (x : Result B Fault) → or_else o (Ok a) ≡ Err e → or_else o x ≡ Err e
@@ -80,6 +80,6 @@ pub of_description : (bases : Bases) (fde : Fde) (pc : ℕ) (result : Result Row
 unfolding row_at
 of_description bases fde pc result coding common own covers coded first second made =
     subst (λ b. GivesRow result (cond b (row fde.start pc (program plain (coding_of bases fde.cie) fde.cie.program) (program plain (coding_of bases fde.cie) fde.program)) (Err NoUnwindInfoForAddress))) (sym covers)
-        (subst (λ k. GivesRow result (row fde.start pc (program plain k fde.cie.program) (program plain k fde.program))) coded
-            (subst (λ i. GivesRow result (row fde.start pc (program plain coding i) (program plain coding fde.program))) first
-                (subst (λ i. GivesRow result (row fde.start pc (program plain coding common) (program plain coding i))) second made)))
+    (subst (λ k. GivesRow result (row fde.start pc (program plain k fde.cie.program) (program plain k fde.program))) coded
+    (subst (λ i. GivesRow result (row fde.start pc (program plain coding i) (program plain coding fde.program))) first
+    (subst (λ i. GivesRow result (row fde.start pc (program plain coding common) (program plain coding i))) second made)))

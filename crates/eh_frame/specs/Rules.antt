@@ -1,5 +1,5 @@
 -- The rules of a row as a list of columns with their rules, by ascending column.
-use Rattle.std.specs.Prelude.{◌≡◌, ℕ, zero, suc, ◌+◌, ◌^◌, ◌≤◌, Bool, ◌||◌, List, [], ◌∷◌, length, Option, Some, None, Result, Ok, Err, is_some, nat_lt, ◌==◌, if◌then◌else◌}
+use Rattle.std.specs.Prelude.{ℕ, suc, ◌+◌, ◌^◌, ◌≤◌, Bool, ◌||◌, List, [], ◌∷◌, length, Option, Some, None, Result, Ok, Err, is_some, nat_lt, ◌==◌, if◌then◌else◌}
 use Rattle.unwind_definitions.specs.Instructions.{Rule, Undefined, SameValue, Offset, ValOffset, InRegister, Expression, ValExpression}
 use Rattle.unwind_definitions.specs.Row.{CfaRule, ColumnAndOffset, ByExpression}
 use Rattle.eh_frame.specs.declared.rule.CfaRule.{CfaRule as CodedCfa}

@@ -60,7 +60,8 @@ fn read_operation<'a>(
     factors: AlignmentFactors,
     operation: u8,
 ) -> Result<CallFrameInstruction<'a>, Error>
-    ensures { (address : ℕ) (bases : Bases) → GivesOr meaning result (plain_operation (coding_by factors address bases) operation (at input.old)) (at input.new) }
+    ensures { (address : ℕ) (bases : Bases) →
+        GivesOr meaning result (plain_operation (coding_by factors address bases) operation (at input.old)) (at input.new) }
 {
     match operation {
         0x00 => Ok(CallFrameInstruction::Nop),
@@ -114,7 +115,8 @@ pub(crate) fn read_instruction<'a>(
     input: &mut Cursor<'a>,
     factors: AlignmentFactors,
 ) -> Result<CallFrameInstruction<'a>, Error>
-    ensures { (address : ℕ) (bases : Bases) → GivesOr meaning result (instruction plain (coding_by factors address bases) (at input.old)) (at input.new) }
+    ensures { (address : ℕ) (bases : Bases) →
+        GivesOr meaning result (instruction plain (coding_by factors address bases) (at input.old)) (at input.new) }
 {
     let byte = input.read_u8()?;
     let low = byte % 64;
@@ -127,9 +129,7 @@ pub(crate) fn read_instruction<'a>(
                 rule: RegisterRule::Offset(offset.wrapping_mul(factors.data_factor)),
             })
         }
-        3 => Ok(CallFrameInstruction::RestoreInitialRule(Register(
-            low as u16,
-        ))),
+        3 => Ok(CallFrameInstruction::RestoreInitialRule(Register(low as u16))),
         _ => read_operation(input, factors, low),
     }
 }

@@ -1,12 +1,17 @@
 //! Call frame information of ELF modules, read in place from the bytes of `.eh_frame`.
 //!
-//! [`EhFrame::fde_for_address`] finds the description of the function at an address, and
-//! [`Fde::unwind_info_for_address`] its row there. A table is read from left to right, and the
-//! first fault is told.
+//! [`EhFrame::fde_for_address`] finds the description of the function at an address. A table is
+//! read from left to right, and the first fault is told.
+//!
+//! [`Fde::unwind_info_for_address`] runs its program, and gives the [`Row`] by which the caller of
+//! the function's frame is found.
 //!
 //! The forms that are read so far: lengths of four bytes, common information entries of version 1
-//! with the augmentation `zR`, starts of four signed bytes relative to their own place, and the
-//! instructions that compilers emit for functions without language tables.
+//! with the augmentation `zR`, and starts of four signed bytes relative to their own place. Of the
+//! instructions `DW_CFA_advance_loc` and the three with an operand, `DW_CFA_offset`,
+//! `DW_CFA_restore`, `DW_CFA_nop`, `DW_CFA_undefined`, `DW_CFA_remember_state`,
+//! `DW_CFA_restore_state`, `DW_CFA_def_cfa`, `DW_CFA_def_cfa_register` and
+//! `DW_CFA_def_cfa_offset`; any other is unknown.
 //!
 //! Source: LSB, section on `.eh_frame`; DWARF 5 section 6.4.
 #![tactic(auto)]

@@ -36,10 +36,10 @@ impl<'a> RowState<'a> {
 /// The virtual machine that runs frame programs.
 #[derive(Drop)]
 pub(crate) struct Machine<'a> {
-    location: u64,
-    state: RowState<'a>,
     // the state that a restore leads back to
     remembered: Option<RowState<'a>>,
+    location: u64,
+    state: RowState<'a>,
     // the rules that the CIE's program ended with; None while that one runs, which has no rules before
     initial: Option<RegisterRules<'a>>,
 }
@@ -72,7 +72,8 @@ impl<'a> Machine<'a> {
     /// Makes what the entry's program said the beginning of a description's program, which starts
     /// at a location.
     pub(crate) fn begin(&mut self, location: u64)
-        ensures { (common : List Instruction) → Represents 0 self.old (record { common = []; own = common }) → Represents location self.new (from_common common) }
+        ensures { (common : List Instruction) → Represents 0 self.old (record { common = []; own = common }) →
+            Represents location self.new (from_common common) }
     {
         self.location = location;
         self.remembered = None;
@@ -80,7 +81,11 @@ impl<'a> Machine<'a> {
     }
 
     /// Whether an instruction leads past the address asked, if one is asked.
-    pub(crate) fn stops_before(&self, instruction: CallFrameInstruction<'a>, pc: Option<u64>) -> bool
+    pub(crate) fn stops_before(
+        &self,
+        instruction: CallFrameInstruction<'a>,
+        pc: Option<u64>,
+    ) -> bool
         ensures { result ≡ stops self.now.location pc (meaning instruction.entry) }
     {
         let location = self.location;
@@ -94,7 +99,8 @@ impl<'a> Machine<'a> {
 
     // Raises the location.
     fn advance(&mut self, delta: u128) -> Result<(), Error>
-        ensures { (start : ℕ) (run : Run) → Represents start self.old run → Follows start run (Advance delta) result self.new }
+        ensures { (start : ℕ) (run : Run) → Represents start self.old run →
+            Follows start run (Advance delta) result self.new }
     {
         if delta > (u64::MAX - self.location) as u128 {
             return Err(Error::AddressOverflow);
@@ -104,7 +110,8 @@ impl<'a> Machine<'a> {
     }
 
     fn set_rule(&mut self, register: Register, rule: RegisterRule<'a>) -> Result<(), Error>
-        ensures { (start : ℕ) (run : Run) → Represents start self.old run → Follows start run (Write register.0 (rule_meaning rule.entry)) result self.new }
+        ensures { (start : ℕ) (run : Run) → Represents start self.old run →
+            Follows start run (Write register.0 (rule_meaning rule.entry)) result self.new }
     {
         self.state.rules.set(register, rule)
     }
@@ -119,7 +126,8 @@ impl<'a> Machine<'a> {
     }
 
     fn restore_initial_rule(&mut self, register: Register) -> Result<(), Error>
-        ensures { (start : ℕ) (run : Run) → Represents start self.old run → Follows start run (Reset register.0) result self.new }
+        ensures { (start : ℕ) (run : Run) → Represents start self.old run →
+            Follows start run (Reset register.0) result self.new }
     {
         match self.initial_rule(register) {
             Some(rule) => self.state.rules.set(register, rule),
@@ -130,8 +138,12 @@ impl<'a> Machine<'a> {
         }
     }
 
+    // Not inlined: a function clears the room of its locals, and a state would be cleared for each
+    // instruction.
+    #[inline(never)]
     fn remember_state(&mut self) -> Result<(), Error>
-        ensures { (start : ℕ) (run : Run) → Represents start self.old run → Follows start run Remember result self.new }
+        ensures { (start : ℕ) (run : Run) → Represents start self.old run →
+            Follows start run Remember result self.new }
     {
         match self.remembered {
             Some(_) => Err(Error::StackFull),
@@ -142,8 +154,10 @@ impl<'a> Machine<'a> {
         }
     }
 
+    #[inline(never)]
     fn restore_state(&mut self) -> Result<(), Error>
-        ensures { (start : ℕ) (run : Run) → Represents start self.old run → Follows start run Restore result self.new }
+        ensures { (start : ℕ) (run : Run) → Represents start self.old run →
+            Follows start run Restore result self.new }
     {
         match self.remembered.take() {
             Some(state) => {
@@ -155,7 +169,8 @@ impl<'a> Machine<'a> {
     }
 
     fn set_cfa_register(&mut self, register: Register) -> Result<(), Error>
-        ensures { (start : ℕ) (run : Run) → Represents start self.old run → Follows start run (CfaColumn register.0) result self.new }
+        ensures { (start : ℕ) (run : Run) → Represents start self.old run →
+            Follows start run (CfaColumn register.0) result self.new }
     {
         let (_, offset) = register_and_offset(self.state.cfa)?;
         self.state.cfa = Some(CfaRule::RegisterAndOffset { register, offset });
@@ -163,7 +178,8 @@ impl<'a> Machine<'a> {
     }
 
     fn set_cfa_offset(&mut self, offset: u64) -> Result<(), Error>
-        ensures { (start : ℕ) (run : Run) → Represents start self.old run → Follows start run (CfaOffset offset) result self.new }
+        ensures { (start : ℕ) (run : Run) → Represents start self.old run →
+            Follows start run (CfaOffset offset) result self.new }
     {
         let (register, _) = register_and_offset(self.state.cfa)?;
         self.state.cfa = Some(CfaRule::RegisterAndOffset { register, offset });
@@ -172,7 +188,8 @@ impl<'a> Machine<'a> {
 
     /// Runs one instruction. Behind a fault the machine isn't told.
     pub(crate) fn run(&mut self, instruction: CallFrameInstruction<'a>) -> Result<(), Error>
-        ensures { (start : ℕ) (run : Run) → Represents start self.old run → Follows start run (meaning instruction.entry) result self.new }
+        ensures { (start : ℕ) (run : Run) → Represents start self.old run →
+            Follows start run (meaning instruction.entry) result self.new }
     {
         match instruction {
             CallFrameInstruction::Nop => Ok(()),

@@ -26,8 +26,8 @@ pub(crate) fn row_at<'a>(
     start: u64,
     pc: u64,
 ) -> Result<Row<'a>, Error>
-    ensures { (address : ℕ) (bases : Bases) →
-        GivesRow result (row start pc (program plain (coding_by factors address bases) (at common.entry)) (program plain (coding_by factors address bases) (at own.entry))) }
+    ensures { (address : ℕ) (bases : Bases) → let coding = coding_by factors address bases in
+        GivesRow result (row start pc (program plain coding (at common.entry)) (program plain coding (at own.entry))) }
 {
     let mut machine = Machine::new();
     run_program(&mut machine, common, factors, None)?;
@@ -45,7 +45,8 @@ fn run_program<'a>(
     pc: Option<u64>,
 ) -> Result<(), Error>
     ensures { (start : ℕ) (run : Run) (address : ℕ) (bases : Bases) → Represents start machine.old run →
-        Ends start result machine.new (outcome start pc run (program plain (coding_by factors address bases) (at bytes.entry))) }
+        let coding = coding_by factors address bases in
+        Ends start result machine.new (outcome start pc run (program plain coding (at bytes.entry))) }
 {
     let mut input = bytes;
     for _turn in 0..bytes.len() {

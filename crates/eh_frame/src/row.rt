@@ -27,14 +27,22 @@ impl<'a> Model for Row<'a> {
 
     ghost use Rattle.eh_frame.specs.Rules.{cfa_meaning};
 
-    ghost view = { λ a. record { cfa = cfa_meaning a.cfa; rules = a.rules; saved_args_size = a.saved_args_size } };
+    ghost view = { λ a. record {
+      cfa = cfa_meaning a.cfa;
+      rules = a.rules;
+      saved_args_size = a.saved_args_size;
+    } };
 }
 
 impl<'a> Row<'a> {
     ghost use Rattle.eh_frame.specs.Left.{left};
 
     pub(crate) fn new(cfa: CfaRule<'a>, rules: RegisterRules<'a>, saved_args_size: u64) -> Row<'a>
-        ensures { result ≡ record { cfa = cfa_meaning cfa.entry; rules = rules.entry; saved_args_size = saved_args_size } }
+        ensures { result ≡ record {
+          cfa = cfa_meaning cfa.entry;
+          rules = rules.entry;
+          saved_args_size = saved_args_size;
+        } }
     {
         Row {
             cfa,

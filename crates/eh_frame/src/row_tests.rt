@@ -4,15 +4,17 @@ use crate::bases::Bases;
 use crate::cursor::Cursor;
 use crate::entries::EhFrame;
 use crate::instruction::AlignmentFactors;
-use crate::program;
 use crate::row::Row;
-use crate::{CfaRule, Error, Register, RegisterRule};
+use crate::{CfaRule, Error, Register, RegisterRule, program};
 use std::process::Abort;
 use std::test::Fail;
 
 const RBX: Register = Register(3);
+
 const RBP: Register = Register(6);
+
 const RSP: Register = Register(7);
+
 const RA: Register = Register(16);
 
 const BASES: Bases = Bases {
@@ -43,7 +45,13 @@ fn row_at(pc: u64) -> Result<Row<'static>, Error> {
 // The CFA is RSP and an offset, and registers are saved at offsets below it.
 fn shows(rt: &impl Abort, pc: u64, offset: u64, saved: &[(Register, u64)]) -> Result<(), Fail> {
     let row = row_at(pc)?;
-    assert_eq!(rt; row.cfa(), CfaRule::RegisterAndOffset { register: RSP, offset });
+    assert_eq!(rt;
+        row.cfa(),
+        CfaRule::RegisterAndOffset {
+            register: RSP,
+            offset
+        }
+    );
     assert_eq!(rt; row.saved_args_size(), 0);
     assert_eq!(rt; row.registers().count(), saved.len());
     for ((register, rule), wanted) in row.registers().zip(saved) {
@@ -85,8 +93,15 @@ const FACTORS: AlignmentFactors = AlignmentFactors {
 
 // Why a program has no row at its end, behind one that says nothing.
 fn fault_of(own: &[u8]) -> Option<Error> {
-    let common = Cursor::new(&[], 0);
-    program::row_at(common, Cursor::new(own, 0), FACTORS, 0x401000, u64::MAX).err()
+    let common = Cursor::from_offset(&[], 0, 0);
+    program::row_at(
+        common,
+        Cursor::from_offset(own, 0, 0),
+        FACTORS,
+        0x401000,
+        u64::MAX,
+    )
+    .err()
 }
 
 #[test]
@@ -97,7 +112,10 @@ fn faults(rt: HostRuntime) {
         (&[0x0e, 0x10], Some(Error::NoCfaRegister)),
         (&[0x0a, 0x0a], Some(Error::StackFull)),
         (&[0x0b], Some(Error::PopWithEmptyStack)),
-        (&[0x04, 0xff, 0xff, 0xff, 0xff], Some(Error::AddressOverflow)),
+        (
+            &[0x04, 0xff, 0xff, 0xff, 0xff],
+            Some(Error::AddressOverflow),
+        ),
         (&[0x3f], Some(Error::UnknownInstruction)),
         (&[0x0e], Some(Error::UnexpectedEof)),
         (&[0x07, 0x80, 0x80, 0x04], Some(Error::UnsupportedRegister)),

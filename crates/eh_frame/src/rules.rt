@@ -11,8 +11,10 @@ use unwind_definitions::Error;
 const CAPACITY: usize = 32;
 
 // what stands in the places that aren't used
-const BLANK: [(Register, RegisterRule<'static>); CAPACITY] =
-    [(Register(0), RegisterRule::Undefined); CAPACITY];
+const BLANK: [(Register, RegisterRule<'static>); CAPACITY] = [(
+    Register(0),
+    RegisterRule::Undefined,
+); CAPACITY];
 
 /// The registers that have a rule, each with its rule, at most 32.
 ///
@@ -43,6 +45,8 @@ impl<'a> RegisterRules<'a> {
     ghost use Rattle.eh_frame.specs.Rules.{entry_of, rule_in, find_in, with_rule, rule_meaning, AscendsFrom, is_room};
 
     /// No rules.
+    // Not inlined: places that are cleared beside others would be cleared byte by byte.
+    #[inline(never)]
     pub(crate) fn new() -> RegisterRules<'a>
         ensures { result ≡ [] }
     {

@@ -1,13 +1,13 @@
-use Rattle.std.proofs.Common.{◌≡◌, ℕ, [], List, Some, None, Ok, refl, sym, subst}
+use Rattle.std.proofs.Common.{[], sym, subst}
 use Rattle.std.proofs.lemmas.Result.{err_from_is_err_and}
 use Rattle.unwind_definitions.specs.Forms.{plain}
 use Rattle.unwind_definitions.specs.Instructions.{Program, Coding, program}
-use Rattle.unwind_definitions.specs.Row.{Run, from_common}
+use Rattle.unwind_definitions.specs.Row.{from_common}
 use Rattle.eh_frame.specs.View.{at}
 use Rattle.eh_frame.specs.Decoded.{coding_by}
 use Rattle.eh_frame.specs.Running.{Represents}
 use Rattle.eh_frame.specs.Rows.{IsLast}
-use Rattle.eh_frame.proofs.Together.{whole, last, common_stops, common_run, own_stops, own_run, row_made}
+use Rattle.eh_frame.proofs.Together.{common_stops, common_run, own_stops, own_run, row_made}
 use Rattle.eh_frame.proofs.program.row_at.Goals as goal
 
 pub returns-in_err-run_program : goal.returns-in_err-run_program
@@ -15,7 +15,7 @@ returns-in_err-run_program c address bases =
     let coding : Coding = coding_by c.args.factors address bases in
     let p = err_from_is_err_and c.from_residual.result c.from_residual.ensures.1 in
     rw (p.1, p.2) (common_stops c.args.start c.args.pc (program plain coding (at c.args.common)) (program plain coding (at c.args.own)) c.in_err-run_program.field-0.0
-        (c.in_err-run_program.ensures 0 (from_common []) address bases c.new-machine.ensures))
+    (c.in_err-run_program.ensures 0 (from_common []) address bases c.new-machine.ensures))
 
 pub returns-in_err-run_program-2 : goal.returns-in_err-run_program-2
 returns-in_err-run_program-2 c address bases =
@@ -27,7 +27,7 @@ returns-in_err-run_program-2 c address bases =
     let ran = subst (λ run. Represents 0 c.run_program.new.machine run) (sym (common_run c.args.start c.args.pc common own first.0 first.1)) first.2 in
     let begun = c.begin.ensures common.instructions ran in
     rw (p.1, p.2) (own_stops c.args.start c.args.pc common own first.0 c.in_err-run_program-2.field-0.0 first.1
-        (c.in_err-run_program-2.ensures c.args.start (from_common common.instructions) address bases begun))
+    (c.in_err-run_program-2.ensures c.args.start (from_common common.instructions) address bases begun))
 
 pub returns : goal.returns
 returns c address bases =

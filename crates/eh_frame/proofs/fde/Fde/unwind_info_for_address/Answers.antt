@@ -14,4 +14,4 @@ returns c =
     let fde : Fde = fde_of c.args.self.now in
     let covers : covers_pc fde c.args.pc ≡ true = sym c.contains.ensures ∙ c.if-not-contains.false in
     of_description bases fde c.args.pc c.row_at.result (coding_by c.factors.result (address_encoding fde.cie) bases) (at c.instructions.result) (at c.instructions-2.result)
-        covers (c.factors.ensures bases) c.instructions.ensures c.instructions-2.ensures (c.row_at.ensures (address_encoding fde.cie) bases)
+    covers (c.factors.ensures bases) c.instructions.ensures c.instructions-2.ensures (c.row_at.ensures (address_encoding fde.cie) bases)

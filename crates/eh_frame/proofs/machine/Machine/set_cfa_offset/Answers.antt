@@ -1,4 +1,4 @@
-use Rattle.std.proofs.Common.{◌≡◌, Some, ap, refl, sym, ◌∙◌}
+use Rattle.std.proofs.Common.{◌≡◌, Some, refl, sym, ◌∙◌}
 use Rattle.unwind_definitions.specs.Instructions.{CfaOffset}
 use Rattle.unwind_definitions.specs.Row.{cfa_rule, ColumnAndOffset}
 use Rattle.eh_frame.proofs.Pushed.{cfa_new_offset}
@@ -10,7 +10,8 @@ pub returns : goal.returns
 returns c start run rep =
     let q = c.in_ok-register.register.0 in
     let n = c.in_ok-register.field-0-1 in
-    let old : cfa_rule run ≡ Some (ColumnAndOffset q n) = sym rep.state.cfa ∙ c.in_ok-register.ensures.ok in
-    (offset_fits start run q n c.args.offset old,
-        step_cfa start c.args.self.now run rep _ (CfaOffset c.args.offset) (record { alone = λ is. refl; still = refl }) (λ k. refl) refl refl
-            (sym (cfa_new_offset run q n c.args.offset old)) refl refl refl refl refl)
+    let old : cfa_rule run ≡ Some (ColumnAndOffset q n) = sym rep.state.cfa ∙ c.in_ok-register.ensures.ok in (
+      offset_fits start run q n c.args.offset old,
+      step_cfa start c.args.self.now run rep _ (CfaOffset c.args.offset) (record { alone = λ is. refl; still = refl }) (λ k. refl) refl refl
+          (sym (cfa_new_offset run q n c.args.offset old)) refl refl refl refl refl,
+    )

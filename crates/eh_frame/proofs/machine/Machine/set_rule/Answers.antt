@@ -1,4 +1,4 @@
-use Rattle.std.proofs.Common.{Result, Ok, Err, OnOk, refl}
+use Rattle.std.proofs.Common.{refl}
 use Rattle.unwind_definitions.specs.Instructions.{Write}
 use Rattle.eh_frame.specs.Rules.{rule_meaning}
 use Rattle.eh_frame.proofs.Steps.{step_write}
@@ -9,4 +9,4 @@ pub returns : goal.returns
 returns c start run rep =
     let rule = rule_meaning c.args.rule in
     set_follows start c.args.self.now run rep (Write c.args.register.0 rule) _ c.args.register.0 rule c.set.result refl c.set.ensures.ascending c.set.ensures.room c.set.ensures.full c.set.ensures.err
-        (on_ok c.set.result c.set.ensures.ok (λ sets. step_write start c.args.self.now run rep _ c.args.register.0 rule sets refl refl refl refl refl))
+    (on_ok c.set.result c.set.ensures.ok (λ sets. step_write start c.args.self.now run rep _ c.args.register.0 rule sets refl refl refl refl refl))

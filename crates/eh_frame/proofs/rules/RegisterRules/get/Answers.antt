@@ -1,6 +1,6 @@
-use Rattle.std.proofs.Common.{◌≡◌, ◌+◌, ◌<◌, ◌≤◌, length, map, take, Some, Ok, Err, refl, sym, ap, ◌∙◌, arith}
+use Rattle.std.proofs.Common.{◌≡◌, ◌<◌, map, take, sym, arith}
 use Rattle.std.proofs.lemmas.List.{get_or-take}
-use Rattle.eh_frame.specs.Rules.{entry_of, rule_meaning, rule_in}
+use Rattle.eh_frame.specs.Rules.{entry_of}
 use Rattle.eh_frame.specs.declared.rule.RegisterRule.TheVariants as rules
 use Rattle.eh_frame.proofs.RuleLists.{found_by, placed_by, length_of_front}
 use Rattle.eh_frame.proofs.rules.RegisterRules.get.Goals as goal

@@ -1,4 +1,4 @@
-use Rattle.std.proofs.Common.{◌≡◌, ◌+◌, ◌<◌, ◌≤◌, length, map, take, Ok, Err, refl, sym, ap, ◌∙◌, arith}
+use Rattle.std.proofs.Common.{◌≡◌, ◌<◌, ◌≤◌, length, map, take, ◌∙◌, arith}
 use Rattle.eh_frame.specs.Rules.{entry_of}
 use Rattle.eh_frame.proofs.RuleLists.{found_by, placed_by, already_none, shift_down, length_of_front}
 use Rattle.eh_frame.proofs.rules.RegisterRules.remove.Goals as goal

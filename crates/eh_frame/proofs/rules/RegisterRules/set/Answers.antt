@@ -1,8 +1,8 @@
-use Rattle.std.proofs.Common.{◌≡◌, ℕ, ◌+◌, ◌<◌, ◌≤◌, length, length-set, map, set, take, Ok, Err, refl, sym, ap, ◌∙◌, arith}
-use Rattle.eh_frame.specs.Rules.{entry_of, rule_in, AscendsFrom}
+use Rattle.std.proofs.Common.{◌≡◌, ◌<◌, ◌≤◌, length, length-set, map, take, ◌∙◌, arith}
+use Rattle.eh_frame.specs.Rules.{entry_of}
 use Rattle.std.proofs.lemmas.List.{length-map, length-take-le}
 use Rattle.std.proofs.Math.Seq.{take-set-lt}
-use Rattle.eh_frame.proofs.RuleLists.{found_by, placed_by, has_room, no_room, more_room, shift_up, length_of_front, strict}
+use Rattle.eh_frame.proofs.RuleLists.{found_by, placed_by, has_room, no_room, shift_up, length_of_front, strict}
 use Rattle.eh_frame.proofs.rules.RegisterRules.set.Goals as goal
 
 pub offset_bounds-self-inside-i : goal.offset_bounds-self-inside-i
@@ -89,9 +89,11 @@ invariant_of-self-in-Err c =
     let less = strict 32 c.self.inside.len c.if-len-eq-CAPACITY.false c.self.invariant.1 in
     let le : c.in-Err.i ≤ c.self.inside.len = omega arith in
     let room : c.self.inside.len < length c.self.inside.entries = omega arith in
-    let kept = length-set c.copy_within.new.self c.in-Err.i (c.args.register, c.args.rule) in
-    (rw (c.copy_within.ensures.after, shift_up c.self.inside.entries c.in-Err.i c.self.inside.len (c.args.register, c.args.rule) le room) (p.ascends c.args.rule (omega arith)),
-        omega arith, kept ∙ c.copy_within.ensures.len ∙ c.self.invariant.2)
+    let kept = length-set c.copy_within.new.self c.in-Err.i (c.args.register, c.args.rule) in (
+      rw (c.copy_within.ensures.after, shift_up c.self.inside.entries c.in-Err.i c.self.inside.len (c.args.register, c.args.rule) le room) (p.ascends c.args.rule (omega arith)),
+      omega arith,
+      kept ∙ c.copy_within.ensures.len ∙ c.self.invariant.2,
+    )
 
 pub returns-else-len-eq-CAPACITY-clause-ok : goal.returns-else-len-eq-CAPACITY-clause-ok
 returns-else-len-eq-CAPACITY-clause-ok c q =
