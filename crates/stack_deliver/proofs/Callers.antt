@@ -1,8 +1,8 @@
 -- Applying a row's rules in ascending column order gives the caller that the row says.
-use Rattle.std.proofs.Common.{inl, inr, ◌≡◌, ℕ, zero, suc, ◌+◌, ◌-◌, ◌^◌, ◌<◌, ◌≤◌, ◌≢◌, Bool, true, false, List, [], ◌∷◌, length, Option, Some, None, Result, Ok, Err, get_or, set, refl, sym, ap, ◌∙◌, arith, cond, eqb}
+use Rattle.std.proofs.Common.{inl, inr, ◌≡◌, ℕ, zero, suc, ◌^◌, ◌<◌, ◌≤◌, ◌≢◌, true, false, List, [], ◌∷◌, Option, Some, None, Result, Ok, Err, set, refl, sym, ap, ◌∙◌, arith, eqb}
 use Rattle.std.specs.Prelude.{◌⊎◌, is_some}
-use Rattle.std.specs.Option.{option_or, option_map_or}
-use Rattle.std.proofs.lemmas.Bool.{cases_lt, eqb-true}
+use Rattle.std.specs.Option.{option_or}
+use Rattle.std.proofs.lemmas.Bool.{cases_lt}
 use Rattle.std.proofs.lemmas.Bool.Decides.{nat_tests, eqb_tells}
 use Rattle.std.proofs.lemmas.List.{get_or-set_same, get_or-set_other}
 use Rattle.std.proofs.Math.ListN.{length-set}
@@ -10,9 +10,8 @@ use Rattle.memory_image.specs.Image.{Span}
 use Rattle.unwind_definitions.specs.declared.error.Error.TheVariants.{UnsupportedRegister}
 use Rattle.unwind_definitions.specs.Instructions.{Rule}
 use Rattle.unwind_definitions.specs.Row.{Run, CfaRule, rule_of, cfa_rule}
-use Rattle.unwind_definitions.specs.Caller.{Columns, Evaluates, StepFault, Table, x86_64, rule_value, placed, unruled, column_value, first_fault_below, fault_in, value_in, unless_fault, column_limit, cfa_value, caller_with, caller_of}
+use Rattle.unwind_definitions.specs.Caller.{Evaluates, StepFault, Table, x86_64, rule_value, placed, unruled, column_value, first_fault_below, fault_in, value_in, column_limit, cfa_value, caller_with, caller_of}
 use Rattle.stack_deliver.specs.declared.x86_64.Context.{Context}
-use Rattle.stack_deliver.specs.declared.delivery.DeliverError.{DeliverError}
 use Rattle.stack_deliver.specs.Contexts.{columns_of, with_column, context_of}
 use Rattle.eh_frame.specs.Rules.{rule_in, AscendsFrom}
 use Rattle.stack_deliver.specs.Applied.{or_unsupported, and_then, applied, value_given}
@@ -159,18 +158,18 @@ begun-columns : (old : Context) (cfa k : ℕ) → IsWhole old → columns_of (be
 begun-columns old cfa k whole = elim (eqb_tells k 7) as (λ t. columns_of (begun old cfa) k ≡ unruled x86_64 (columns_of old) cfa k) [
   | inl e ↦ let at : k ≡ 7 = e.1 in rw at (ap Some (get_or-set_same old.registers 7 cfa 0 (omega arith)))
   | inr other ↦ elim (eqb_tells k 16) as (λ t. columns_of (begun old cfa) k ≡ unruled x86_64 (columns_of old) cfa k) [
-      | inl e ↦ let at : k ≡ 16 = e.1 in rw at refl
-      | inr apart ↦ grind (arith, nat_tests, get_or-set_other old.registers 7 k cfa 0 other.1)
-    ]
+    | inl e ↦ let at : k ≡ 16 = e.1 in rw at refl
+    | inr apart ↦ grind (arith, nat_tests, get_or-set_other old.registers 7 k cfa 0 other.1)
+  ]
 ]
 
 begun-same : (cfa k : ℕ) (old : Context) → is_some (unruled x86_64 (columns_of old) cfa k) ≡ is_some (columns_of old k)
 begun-same cfa k old = elim (eqb_tells k 7) as (λ t. is_some (unruled x86_64 (columns_of old) cfa k) ≡ is_some (columns_of old k)) [
   | inl e ↦ let at : k ≡ 7 = e.1 in rw at refl
   | inr other ↦ elim (eqb_tells k 16) as (λ t. is_some (unruled x86_64 (columns_of old) cfa k) ≡ is_some (columns_of old k)) [
-      | inl e ↦ let at : k ≡ 16 = e.1 in rw at refl
-      | inr apart ↦ rw (other.0, apart.0) refl
-    ]
+    | inl e ↦ let at : k ≡ 16 = e.1 in rw at refl
+    | inr apart ↦ rw (other.0, apart.0) refl
+  ]
 ]
 
 -- a row's rules stand before the first is applied

@@ -1,7 +1,6 @@
 -- What a context holds after a write, and that its columns tell it.
-use Rattle.std.proofs.Common.{◌≡◌, ℕ, ◌+◌, ◌<◌, ◌≤◌, ◌≢◌, Bool, true, false, List, [], ◌∷◌, length, get_or, set, Option, Some, None, refl, sym, ap, ◌∙◌, arith, cond, ltb, eqb}
-use Rattle.std.specs.Prelude.{MatchOption, map}
-use Rattle.std.specs.Option.{unwrap_or}
+use Rattle.std.proofs.Common.{◌≡◌, ℕ, ◌<◌, ◌≢◌, Bool, true, false, List, [], ◌∷◌, length, get_or, set, Option, Some, None, refl, ap, ◌∙◌, arith, ltb, eqb}
+use Rattle.std.specs.Prelude.{map}
 use Rattle.std.proofs.lemmas.List.{get_or-set_same, get_or-set_other}
 use Rattle.std.proofs.Math.ListN.{length-set}
 use Rattle.std.proofs.lemmas.Bool.Decides.{nat_tests}
@@ -36,12 +35,15 @@ with_column-holds c k v whole = first (ltb k 16) refl
     fourth : (b : Bool) → ltb k 16 ≡ false → eqb k 16 ≡ false → eqb k 64 ≡ false → eqb k 65 ≡ b → Writes c k v (with_column c k v)
     fourth true low ra control same = rw (low, ra, control, same) (λ e. cc, record { here = rw (low, ra, control, same) refl; others = λ j other. grind (arith, nat_tests); whole = whole })
     fourth false low ra control same = let none : columns_of c k ≡ None = rw (low, ra, control, same) refl in rw (low, ra, control, same) none
+
     third : (b : Bool) → ltb k 16 ≡ false → eqb k 16 ≡ false → eqb k 64 ≡ b → Writes c k v (with_column c k v)
     third true low ra same = rw (low, ra, same) (λ e. cc, record { here = rw (low, ra, same) refl; others = λ j other. grind (arith, nat_tests); whole = whole })
     third false low ra same = fourth (eqb k 65) low ra same refl
+
     second : (b : Bool) → ltb k 16 ≡ false → eqb k 16 ≡ b → Writes c k v (with_column c k v)
     second true low same = rw (low, same) (λ e. cc, record { here = rw (low, same) refl; others = λ j other. grind (arith, nat_tests); whole = whole })
     second false low same = third (eqb k 64) low same refl
+
     first : (b : Bool) → ltb k 16 ≡ b → Writes c k v (with_column c k v)
     first true low = rw low (λ e. cc, general c k v whole (grind (arith, nat_tests)))
     first false low = second (eqb k 16) low refl

@@ -1,5 +1,5 @@
 -- When a line answers that the limit is met, and when that a slot isn't mapped.
-use Rattle.std.proofs.Common.{◌≡◌, ℕ, zero, suc, Bool, true, false, List, [], ◌∷◌, Option, Some, None, Result, Ok, Err, refl, sym, subst, cond, eqb}
+use Rattle.std.proofs.Common.{◌≡◌, ℕ, zero, suc, Bool, true, false, List, Option, Some, None, Result, Ok, Err, refl, subst, cond, eqb}
 use Rattle.memory_image.specs.Image.{Span, word_at}
 use Rattle.unwind_definitions.specs.declared.error.Error.{Error as Fault}
 use Rattle.unwind_definitions.specs.Forms.{plain}
@@ -19,7 +19,7 @@ use Rattle.stack_deliver.specs.Contexts.{columns_of}
 use Rattle.stack_deliver.specs.Modules.{SpaceValue, module_at}
 use Rattle.stack_deliver.specs.Processes.{module_of}
 use Rattle.stack_deliver.specs.Stepping.{step_of, in_module, by_table, called, run_found, stepped, context_by, no_expressions, address_asked, IsStepFault}
-use Rattle.stack_deliver.specs.Delivering.{Delivered, with_first, line_after, line_of, ended, delivery_of, NeedsMore}
+use Rattle.stack_deliver.specs.Delivering.{with_first, line_after, line_of, ended, delivery_of, NeedsMore}
 use Rattle.stack_deliver.proofs.StepAnswers.{step_unmapped}
 
 -- a step answers no fault but those of tables and of memory

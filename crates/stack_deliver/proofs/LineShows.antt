@@ -1,11 +1,10 @@
 -- The line from a context that shows the start of a described chain shows the chain's states.
-use Rattle.std.proofs.Common.{inl, inr, ◌≡◌, ◌≢◌, ℕ, zero, suc, ◌+◌, ◌-◌, ◌<◌, ◌≤◌, Bool, true, false, List, [], ◌∷◌, length, Option, Some, None, Result, Ok, Err, refl, sym, ap, subst, ◌∙◌, arith, eqb, leb, ltb}
+use Rattle.std.proofs.Common.{inl, inr, ◌≡◌, ◌≢◌, ℕ, zero, suc, ◌-◌, ◌<◌, Bool, true, false, List, [], ◌∷◌, length, Option, Some, None, Ok, Err, refl, sym, subst, arith, eqb}
 use Rattle.std.specs.Prelude.{◌⊎◌, IsTrue, map}
 use Rattle.std.specs.List.{Contains, AllByRecursion}
 use Rattle.std.proofs.lemmas.Bool.Decides.{nat_tests}
 use Rattle.unwind_definitions.specs.declared.error.Error.TheVariants.{NoUnwindInfoForAddress}
 use Rattle.unwind_definitions.specs.Forms.{plain}
-use Rattle.unwind_definitions.specs.Caller.{Columns}
 use Rattle.unwind_definitions.specs.State.{State, IsState, Shows}
 use Rattle.unwind_definitions.specs.Prologue.{SystemV}
 use Rattle.unwind_definitions.specs.Scan.{scan}
@@ -13,7 +12,7 @@ use Rattle.unwind_definitions.specs.LanguageTable.{input_at}
 use Rattle.unwind_definitions.specs.Function.{Function, IsFunction}
 use Rattle.unwind_definitions.specs.Chain.{Call, IsLink, IsEnd, IsChain, states_of}
 use Rattle.unwind_definitions.specs.Module as described
-use Rattle.unwind_definitions.specs.Valid.{LiesDescribed, IsDescribedChain}
+use Rattle.unwind_definitions.specs.Valid.{LiesDescribed}
 use Rattle.unwind_laws.proofs.Booleans as lists
 use Rattle.unwind_laws.proofs.Found.{not_found}
 use Rattle.stack_deliver.specs.declared.x86_64.Context.{Context}
@@ -24,7 +23,7 @@ use Rattle.stack_deliver.specs.Contexts.{columns_of}
 use Rattle.stack_deliver.specs.Modules.{SpaceValue, AreApart, contains, module_at}
 use Rattle.stack_deliver.specs.Processes.{tables_of, module_of, process_of}
 use Rattle.stack_deliver.specs.Stepping.{step_of, in_module, by_table}
-use Rattle.stack_deliver.specs.Delivering.{line_of, line_after, with_first}
+use Rattle.stack_deliver.specs.Delivering.{line_of}
 use Rattle.stack_deliver.specs.Undone.{IsDescribedCall, HaveFrameTables, Undone, EachShows}
 use Rattle.stack_deliver.proofs.StepUndone.{step_undone}
 
@@ -57,10 +56,10 @@ module _ (space : SpaceValue) where
   in_no_entry c a m u (EhFrameHdr h) named = refl
   in_no_entry c a m u (EhFrame f) named =
       let address : described.frame_address space.image (described.Frames f) ≡ Some u.frame =
-        subst (λ (k : FrameInfoKind). described.frame_address space.image (tables_of k) ≡ Some u.frame) named u.address in
+      subst (λ (k : FrameInfoKind). described.frame_address space.image (tables_of k) ≡ Some u.frame) named u.address in
       let place : f ≡ u.frame = cc in
       let none : scan plain (described.bases_of (module_of m) f) (input_at space.image f) a ≡ Err NoUnwindInfoForAddress =
-        subst (λ (g : ℕ). scan plain (described.bases_of (module_of m) g) (input_at space.image g) a ≡ Err NoUnwindInfoForAddress) (sym place) (not_found plain space.image (module_of m) a u) in
+      subst (λ (g : ℕ). scan plain (described.bases_of (module_of m) g) (input_at space.image g) a ≡ Err NoUnwindInfoForAddress) (sym place) (not_found plain space.image (module_of m) a u) in
       rw none refl
 
   -- an address that nothing covers ends the stack

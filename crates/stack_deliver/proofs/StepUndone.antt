@@ -1,22 +1,20 @@
 -- The step from a frame of a described function undoes its call.
-use Rattle.std.proofs.Common.{inl, inr, ◌≡◌, ◌≢◌, ℕ, zero, suc, ◌+◌, ◌-◌, ◌^◌, ◌<◌, ◌≤◌, Bool, true, false, List, [], ◌∷◌, length, get_or, Option, Some, None, Result, Ok, Err, refl, sym, ap, subst, ◌∙◌, arith, cond, eqb, ltb, leb}
+use Rattle.std.proofs.Common.{inl, inr, ◌≡◌, ◌≢◌, ℕ, zero, suc, ◌-◌, ◌<◌, ◌≤◌, Bool, true, false, List, [], ◌∷◌, get_or, Option, Some, None, Ok, refl, sym, ap, subst, ◌∙◌, arith, cond, eqb, ltb, leb}
 use Rattle.std.specs.Prelude.{◌⊎◌, ◌&&◌, IsTrue, IsFalse, map}
 use Rattle.std.specs.Option.{unwrap_or}
-use Rattle.std.specs.List.{Contains, AllByRecursion}
+use Rattle.std.specs.List.{Contains}
 use Rattle.std.proofs.lemmas.Bool.Decides.{nat_tests, eqb_tells}
 use Rattle.std.proofs.lemmas.Bool.{ltb-true, leb-true}
-use Rattle.memory_image.specs.Image.{Span}
 use Rattle.unwind_definitions.specs.Forms.{plain}
 use Rattle.unwind_definitions.specs.Row.{row_at}
 use Rattle.unwind_definitions.specs.Scan.{scan}
 use Rattle.unwind_definitions.specs.LanguageTable.{input_at}
 use Rattle.unwind_definitions.specs.Caller.{Columns}
-use Rattle.unwind_definitions.specs.State.{CalleeSaved, RBX, RBP, R12, R13, R14, R15, State, column_of, value_of, Shows, is_followed, KeepsOthers}
+use Rattle.unwind_definitions.specs.State.{RBX, RBP, R12, R13, R14, R15, State, value_of, Shows, is_followed, KeepsOthers}
 use Rattle.unwind_definitions.specs.Function.{Function}
 use Rattle.unwind_definitions.specs.Chain.{Call}
 use Rattle.unwind_definitions.specs.Module as described
-use Rattle.unwind_laws.specs.Undoes.{Undoes}
-use Rattle.unwind_laws.specs.Walked.{Finds, Steps}
+use Rattle.unwind_laws.specs.Walked.{Steps}
 use Rattle.unwind_laws.proofs.Walk.{one_step}
 use Rattle.unwind_laws.proofs.Booleans as lists
 use Rattle.stack_deliver.specs.declared.x86_64.Context.{Context}
@@ -25,9 +23,9 @@ use Rattle.stack_deliver.specs.declared.delivery.Stepped.{Stepped}
 use Rattle.stack_deliver.specs.declared.space.FrameInfoKind.{FrameInfoKind}
 use Rattle.stack_deliver.specs.declared.space.FrameInfoKind.TheVariants.{EhFrame, EhFrameHdr}
 use Rattle.stack_deliver.specs.Contexts.{columns_of, context_of, general_columns}
-use Rattle.stack_deliver.specs.Modules.{SpaceValue, AreApart, contains, module_at}
+use Rattle.stack_deliver.specs.Modules.{SpaceValue, AreApart, module_at}
 use Rattle.stack_deliver.specs.Processes.{tables_of, module_of, process_of}
-use Rattle.stack_deliver.specs.Stepping.{step_of, no_expressions, in_module, by_table, called, stepped, context_by}
+use Rattle.stack_deliver.specs.Stepping.{step_of, no_expressions, by_table}
 use Rattle.stack_deliver.specs.Undone.{IsDescribedCall, HaveFrameTables, Undone}
 
 -- a module of the process is one of the space
@@ -116,16 +114,16 @@ module _ (old : Context) (caller : Columns) (t : State) (shows : Shows caller t)
   holds-special k high = elim (eqb_tells k 16) as (λ d. columns_of (context_of caller) k ≡ caller k) [
     | inl e ↦ let at : k ≡ 16 = e.1 in rw at (some_kept (caller 16) t.ra shows.ra)
     | inr a ↦ elim (eqb_tells k 64) as (λ d. columns_of (context_of caller) k ≡ caller k) [
-        | inl e ↦ let at : k ≡ 64 = e.1 in rw at (some_kept (caller 64) old.mcxsr (others 64 refl))
-        | inr b ↦ elim (eqb_tells k 65) as (λ d. columns_of (context_of caller) k ≡ caller k) [
-            | inl e ↦ let at : k ≡ 65 = e.1 in rw at (some_kept (caller 65) old.fcw (others 65 refl))
-            | inr c ↦
-                let free : IsFalse (is_followed k) = grind (arith, nat_tests) in
-                let none : columns_of old k ≡ None = rw (high, a.0, b.0, c.0) refl in
-                let here : columns_of (context_of caller) k ≡ None = rw (high, a.0, b.0, c.0) refl in
-                here ∙ sym (others k free ∙ none)
-          ]
+      | inl e ↦ let at : k ≡ 64 = e.1 in rw at (some_kept (caller 64) old.mcxsr (others 64 refl))
+      | inr b ↦ elim (eqb_tells k 65) as (λ d. columns_of (context_of caller) k ≡ caller k) [
+        | inl e ↦ let at : k ≡ 65 = e.1 in rw at (some_kept (caller 65) old.fcw (others 65 refl))
+        | inr c ↦
+            let free : IsFalse (is_followed k) = grind (arith, nat_tests) in
+            let none : columns_of old k ≡ None = rw (high, a.0, b.0, c.0) refl in
+            let here : columns_of (context_of caller) k ≡ None = rw (high, a.0, b.0, c.0) refl in
+            here ∙ sym (others k free ∙ none)
       ]
+    ]
   ]
 
   pub context_of-holds : (k : ℕ) → columns_of (context_of caller) k ≡ caller k
@@ -158,11 +156,11 @@ module _ (space : SpaceValue) (c : Context) (functions : List Function) (s : Sta
       let nonzero : eqb c.ra 0 ≡ false = let some : s.ra ≢ 0 = is.called.returns in let at : c.ra ≡ s.ra = ra_is in grind (arith, nat_tests) in
       let asked : c.ra - 1 ≡ s.ra - 1 = ap (λ (n : ℕ). n - 1) ra_is in
       let scanned : scan plain (described.bases_of (module_of m) f) (input_at space.image f) (s.ra - 1) ≡ Ok step.finds.fde =
-        subst (λ (g : ℕ). scan plain (described.bases_of (module_of m) g) (input_at space.image g) (s.ra - 1) ≡ Ok step.finds.fde) (sym place)
-        (subst (λ (h : described.Module). scan plain (described.bases_of h step.finds.frame) (input_at space.image step.finds.frame) (s.ra - 1) ≡ Ok step.finds.fde) (sym same) step.finds.found) in
+      subst (λ (g : ℕ). scan plain (described.bases_of (module_of m) g) (input_at space.image g) (s.ra - 1) ≡ Ok step.finds.fde) (sym place)
+      (subst (λ (h : described.Module). scan plain (described.bases_of h step.finds.frame) (input_at space.image step.finds.frame) (s.ra - 1) ≡ Ok step.finds.fde) (sym same) step.finds.found) in
       let row : row_at plain (described.bases_of (module_of m) f) step.finds.fde (s.ra - 1) ≡ Ok step.finds.run =
-        subst (λ (g : ℕ). row_at plain (described.bases_of (module_of m) g) step.finds.fde (s.ra - 1) ≡ Ok step.finds.run) (sym place)
-        (subst (λ (h : described.Module). row_at plain (described.bases_of h step.finds.frame) step.finds.fde (s.ra - 1) ≡ Ok step.finds.run) (sym same) step.finds.has_row) in
+      subst (λ (g : ℕ). row_at plain (described.bases_of (module_of m) g) step.finds.fde (s.ra - 1) ≡ Ok step.finds.run) (sym place)
+      (subst (λ (h : described.Module). row_at plain (described.bases_of h step.finds.frame) step.finds.fde (s.ra - 1) ≡ Ok step.finds.run) (sym same) step.finds.has_row) in
       let tabled : by_table space.image c (s.ra - 1) m (EhFrame f) ≡ Ok (Some next) = rw (scanned, row, step.undoes.is_caller) refl in
       rw (nonzero, asked, found) (subst (λ (k : FrameInfoKind). by_table space.image c (s.ra - 1) m k ≡ Ok (Some next)) (sym kind) tabled)
 

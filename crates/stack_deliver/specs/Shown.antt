@@ -1,5 +1,5 @@
 -- What contexts and deliveries show of the states that the definitions speak of.
-use Rattle.std.specs.Prelude.{ℕ, List, map, slice_index, option_map}
+use Rattle.std.specs.Prelude.{ℕ, map, slice_index, option_map}
 use Rattle.unwind_definitions.specs.State.{State}
 use Rattle.unwind_definitions.specs.Delivery as described
 use Rattle.stack_deliver.specs.declared.x86_64.Context.{Context}

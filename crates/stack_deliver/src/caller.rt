@@ -18,6 +18,7 @@ use memory_image::MemoryImage;
 const STACK_POINTER: usize = 7;
 
 const UNSUPPORTED: DeliverError = DeliverError::Table(Error::UnsupportedRegister);
+
 const UNKNOWN: DeliverError = DeliverError::Table(Error::UnknownInstruction);
 
 /// The word at an address, which has to be mapped.

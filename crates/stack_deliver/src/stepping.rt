@@ -21,11 +21,7 @@ use eh_frame::{Bases, EhFrame, Error, Row};
 use memory_image::{Ledger, MemoryImage, Steps};
 
 /// The row at an address, `None` where no description contains it.
-fn row_at<'a>(
-    frame: &EhFrame<'a>,
-    bases: &Bases,
-    address: u64,
-) -> Result<Option<Row<'a>>, Error>
+fn row_at<'a>(frame: &EhFrame<'a>, bases: &Bases, address: u64) -> Result<Option<Row<'a>>, Error>
     ensures { FindsRow result (run_found (bases_of bases.now) address (scan plain (bases_of bases.now) (table_of frame.now) address)) }
 {
     match frame.fde_for_address(bases, address) {

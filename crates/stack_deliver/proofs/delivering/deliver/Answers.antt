@@ -1,8 +1,8 @@
-use Rattle.std.proofs.Common.{inl, inr, ◌≡◌, Result, Err, List, ℕ, sym, ◌∙◌}
+use Rattle.std.proofs.Common.{inl, inr, ◌≡◌, Result, Err, sym, ◌∙◌}
 use Rattle.std.specs.Prelude.{◌⊎◌}
 use Rattle.stack_deliver.specs.declared.delivery.DeliverError.{DeliverError}
 use Rattle.stack_deliver.specs.declared.delivery.DeliverError.TheVariants.{NoMemory, FrameLimit, Unmapped}
-use Rattle.stack_deliver.specs.Delivering.{Delivered, Delivers, delivery_of}
+use Rattle.stack_deliver.specs.Delivering.{Delivered, Delivers}
 use Rattle.stack_deliver.proofs.LineAnswers.{delivery_limit, limit_delivery, delivery_unmapped}
 use Rattle.stack_deliver.proofs.delivering.deliver.Goals as goal
 

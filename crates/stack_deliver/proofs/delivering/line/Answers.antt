@@ -1,6 +1,5 @@
-use Rattle.std.proofs.Common.{◌≡◌, ◌+◌, ◌-◌, ◌∷◌, ◌++◌, [], suc, false, Ok, None, sym, ap, ◌∙◌, inr, arith}
+use Rattle.std.proofs.Common.{◌≡◌, ◌+◌, ◌-◌, suc, Ok, None, sym, ap, ◌∙◌, inr, arith}
 use Rattle.std.proofs.lemmas.Result.{err_from_is_err_and}
-use Rattle.stack_deliver.specs.Delivering.{line_of}
 use Rattle.stack_deliver.specs.Stepping.{step_of}
 use Rattle.stack_deliver.proofs.Lines.{line_faults, line_ends, line_goes}
 use Rattle.stack_deliver.proofs.delivering.line.Goals as goal

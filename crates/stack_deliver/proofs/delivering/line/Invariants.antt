@@ -1,4 +1,4 @@
-use Rattle.std.proofs.Common.{◌≡◌, ◌-◌, ◌++◌, List, Ok, Err, false}
+use Rattle.std.proofs.Common.{◌≡◌, ◌-◌, false}
 use Rattle.stack_deliver.specs.Delivering.{line_of, with_front}
 use Rattle.stack_deliver.proofs.delivering.line.Given as goal
 

@@ -1,5 +1,4 @@
-use Rattle.std.proofs.Common.{◌≡◌, false, sym, subst, ◌∙◌, ap, Result, Option}
-use Rattle.unwind_definitions.specs.Chain.{Call}
+use Rattle.std.proofs.Common.{◌≡◌, false, sym, subst, ◌∙◌, Result, Option}
 use Rattle.stack_deliver.specs.declared.delivery.DeliverError.{DeliverError}
 use Rattle.stack_deliver.specs.declared.delivery.Stepped.{Stepped}
 use Rattle.stack_deliver.specs.Contexts.{columns_of}
