@@ -11,5 +11,4 @@ ghost use Rattle.unwind_cli.specs.Sample.{snapshot, text};
 pub fn stored_run_is_described()
     ensures described { DescribesChain snapshot (function ∷ []) start calls }
     ensures written { delivery_text (delivery_of 0 start calls) ≡ text }
-{
-}
+{}
