@@ -39,15 +39,15 @@ fn in_module(
     image: &MemoryImage<'_>,
     context: &Context,
     address: u64,
-    module: &Module,
+    holder: &Module,
 ) -> Result<Option<Stepped>, DeliverError>
-    ensures { result ≡ in_module image.now context.now address (Some module.now) }
+    ensures { result ≡ in_module image.now context.now address (Some holder.now) }
 {
-    let FrameInfoKind::EhFrame(table) = module.frame.kind else {
+    let FrameInfoKind::EhFrame(table) = holder.frame.kind else {
         return Ok(None);
     };
     let bases = Bases {
-        text: module.frame.text_base,
+        text: holder.frame.text_base,
         data_base: None,
         func: None,
         hdr: None,
