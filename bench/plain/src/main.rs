@@ -132,6 +132,17 @@ fn read(value: &Value) -> Result<Snapshot, &'static str> {
     Ok(Snapshot { regions, modules, registers, ra, resumes, limit: limit as u32 })
 }
 
+enum Refusal {
+    NotJson,
+    Bad(&'static str),
+}
+
+/// The snapshot of a text; the JSON value is let go before it is answered.
+fn read_snapshot(text: &[u8]) -> Result<Snapshot, Refusal> {
+    let value = serde_json::from_slice(text).map_err(|_| Refusal::NotJson)?;
+    read(&value).map_err(Refusal::Bad)
+}
+
 fn read_u64(image: &BTreeMap<u64, &[u8]>, address: u64) -> Option<u64> {
     let (start, bytes) = image.range(..=address).next_back()?;
     let from = bytes.get((address - start) as usize..)?;
@@ -176,18 +187,12 @@ fn main() -> ExitCode {
     let (number, told) = if text.len() as u64 > MOST {
         (5, String::from("too long\n"))
     } else {
-        match serde_json::from_slice::<Value>(&text) {
-            Err(_) => (6, String::from("not json\n")),
-            Ok(value) => {
-                drop(text);
-                match read(&value) {
-                    Err(field) => (7, format!("bad snapshot: {field}\n")),
-                    Ok(snapshot) => {
-                        drop(value);
-                        (0, report(&snapshot))
-                    }
-                }
-            }
+        let snapshot = read_snapshot(&text);
+        drop(text);
+        match snapshot {
+            Err(Refusal::NotJson) => (6, String::from("not json\n")),
+            Err(Refusal::Bad(field)) => (7, format!("bad snapshot: {field}\n")),
+            Ok(snapshot) => (0, report(&snapshot)),
         }
     };
     std::io::stdout().write_all(told.as_bytes()).unwrap();
