@@ -1,0 +1,4 @@
+pub mod Unaligned
+pub mod Format
+pub mod Parts
+pub mod Listing
