@@ -1,1 +1,4 @@
 pub mod FieldLemmas
+pub mod SearchLemmas
+pub mod ListingLemmas
+pub mod IterationLemmas

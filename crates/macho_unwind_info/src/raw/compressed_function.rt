@@ -1,6 +1,6 @@
 // The two numbers of a compressed entry.
 ghost use Rattle.std.specs.Prelude.{◌≡◌};
-ghost use Rattle.macho_unwind_info.specs.Listing.{opcode_index, relative_address};
+ghost use Rattle.macho_unwind_info.specs.Compressed.{opcode_index, relative_address};
 
 use crate::num_display::HexNum;
 use std::fmt;
