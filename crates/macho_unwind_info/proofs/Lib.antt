@@ -2,3 +2,5 @@ pub mod FieldLemmas
 pub mod SearchLemmas
 pub mod ListingLemmas
 pub mod IterationLemmas
+pub mod Tiling
+pub mod Covering

@@ -5,3 +5,4 @@ pub mod Compressed
 pub mod Listing
 pub mod Lookup
 pub mod Iteration
+pub mod Described

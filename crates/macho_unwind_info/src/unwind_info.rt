@@ -1,6 +1,7 @@
 // A section that was parsed.
-ghost use Rattle.std.specs.Prelude.{◌≡◌, map, slice_index};
+ghost use Rattle.std.specs.Prelude.{◌≡◌, map, slice_index, Ok, None};
 ghost use Rattle.macho_unwind_info.specs.Listing.{section_of, listing};
+ghost use Rattle.macho_unwind_info.specs.Described.{HasDescribedPages, IsInRange, IsOutside, FindsListed, FindsEachListed, LieEndToEnd};
 ghost use Rattle.macho_unwind_info.specs.Lookup.{range_start, range_end, IsLookup, first_address};
 
 use crate::error::Error;
@@ -54,7 +55,10 @@ impl<'a> UnwindInfo<'a> {
 
     /// All functions of all pages but the last, which is the sentinel.
     pub fn functions(&self) -> FunctionIter<'a>
-        ensures { result ≡ listing self.now }
+        ensures all { result ≡ listing self.now }
+
+        // on described pages the functions lie end to end over the range
+        ensures end_to_end { HasDescribedPages self.now → LieEndToEnd (range_start self.now) (range_end self.now) result }
     {
         FunctionIter::new(
             self.bytes,
@@ -85,7 +89,22 @@ impl<'a> UnwindInfo<'a> {
     /// `UnexpectedSentinelPage`; `InvalidPageEntryFirstAddress` where the search among the entries
     /// finds none; `AddressOverflow` where the function's start or end passes 2^32 - 1; and
     /// `LocalOpcodes` where the function's opcode is none of those that are there.
+    ///
+    /// Where the pages are described as a linker writes them, it is the listed function that
+    /// covers the address, and `Ok(None)` outside of the section's range.
     pub fn lookup(&self, pc: u32) -> Result<Option<Function>, Error>
+        ensures answer { IsLookup self.now pc result }
+
+        // on described pages
+        ensures inside { HasDescribedPages self.now → IsInRange self.now pc → FindsListed self.now pc result }
+        ensures each { HasDescribedPages self.now → FindsEachListed self.now pc result }
+        ensures outside { HasDescribedPages self.now → IsOutside self.now pc → result ≡ Ok None }
+    {
+        self.search(pc)
+    }
+
+    /// The look-up, step by step.
+    fn search(&self, pc: u32) -> Result<Option<Function>, Error>
         ensures { IsLookup self.now pc result }
     {
         let Some(i) = boundary(&self.pages, pc) else {

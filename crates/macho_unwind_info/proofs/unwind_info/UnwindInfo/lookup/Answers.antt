@@ -1,9 +1,11 @@
-use Rattle.std.proofs.Common.{sym, arith}
-use Rattle.macho_unwind_info.specs.Lookup.{first_address}
-use Rattle.macho_unwind_info.proofs.SearchLemmas.{key_of_record}
+use Rattle.macho_unwind_info.proofs.Covering.{inside, each, outside}
 use Rattle.macho_unwind_info.proofs.unwind_info.UnwindInfo.lookup.Goals as goal
 
-pub lookup-requires : goal.lookup-requires
-lookup-requires c =
-    let key = key_of_record first_address c.self.inside.pages c.in-Some.i c.in-Some-get.page (sym c.in-Some-get.ensures) in
-    omega (arith, key, c.in-Some.ensures.found.at_or_before, c.in_ok-opened.ensures.base)
+pub returns-clause-inside : goal.returns-clause-inside
+returns-clause-inside c are range = inside c.args.self.now c.args.pc c.search.result are c.search.ensures range
+
+pub returns-clause-each : goal.returns-clause-each
+returns-clause-each c are = each c.args.self.now c.args.pc c.search.result are c.search.ensures
+
+pub returns-clause-outside : goal.returns-clause-outside
+returns-clause-outside c are out = outside c.args.self.now c.args.pc c.search.result are c.search.ensures out
