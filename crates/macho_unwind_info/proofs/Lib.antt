@@ -4,3 +4,4 @@ pub mod ListingLemmas
 pub mod IterationLemmas
 pub mod Tiling
 pub mod Covering
+pub mod TextLemmas

@@ -6,3 +6,7 @@ pub mod Listing
 pub mod Lookup
 pub mod Iteration
 pub mod Described
+pub mod Bits
+pub mod Permutation
+pub mod RegisterText
+pub mod X86_64

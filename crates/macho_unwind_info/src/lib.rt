@@ -10,6 +10,8 @@ mod reader;
 mod search;
 mod unwind_info;
 
+/// What opcodes mean, by machine.
+pub mod opcodes;
 /// The records of the section, as they lie in its bytes.
 pub mod raw;
 
