@@ -5,3 +5,4 @@ pub mod IterationLemmas
 pub mod Tiling
 pub mod Covering
 pub mod TextLemmas
+pub mod DigitLemmas

@@ -16,7 +16,9 @@ fn digits(count: u32, n: u32) -> [u32; 6]
         2 => [n / 5, n % 5, 0, 0, 0, 0],
         3 => [n / 4 / 5, n / 4 % 5, n % 4, 0, 0, 0],
         4 => [n / 3 / 4 / 5, n / 3 / 4 % 5, n / 3 % 4, n % 3, 0, 0],
-        5 | 6 => [n / 2 / 3 / 4 / 5, n / 2 / 3 / 4 % 5, n / 2 / 3 % 4, n / 2 % 3, n % 2, 0],
+        5 => [n / 2 / 3 / 4 / 5, n / 2 / 3 / 4 % 5, n / 2 / 3 % 4, n / 2 % 3, n % 2, 0],
+        // the sixth digit is always 0
+        6 => [n / 2 / 3 / 4 / 5, n / 2 / 3 / 4 % 5, n / 2 / 3 % 4, n / 2 % 3, n % 2, 0],
         _ => unreachable!(),
     }
 }
@@ -34,12 +36,13 @@ fn nth_unused(used: &[u8], n: u32) -> Option<u8>
 {
     let mut left = n;
     for register in &REGISTERS {
-        if !is_used(used, *register) {
-            if left == 0 {
-                return Some(*register);
-            }
-            left -= 1;
+        if is_used(used, *register) {
+            continue;
         }
+        if left == 0 {
+            return Some(*register);
+        }
+        left -= 1;
     }
     None
 }
