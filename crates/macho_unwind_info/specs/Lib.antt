@@ -10,3 +10,5 @@ pub mod Bits
 pub mod Permutation
 pub mod RegisterText
 pub mod X86_64
+pub mod X86
+pub mod Arm64
