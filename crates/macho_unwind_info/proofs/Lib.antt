@@ -6,3 +6,5 @@ pub mod Tiling
 pub mod Covering
 pub mod TextLemmas
 pub mod DigitLemmas
+pub mod PairLemmas
+pub mod PermutationTable
