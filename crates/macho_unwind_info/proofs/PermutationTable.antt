@@ -1,11 +1,13 @@
 -- Numbers and lists of distinct registers are one to one, and other numbers are refused.
-use Rattle.std.proofs.Common.{◌≡◌, ◌≢◌, ℕ, zero, suc, ◌+◌, ◌-◌, ◌*◌, ◌/◌, ◌%◌, ◌<◌, ◌≤◌, Bool, true, false, cond, eqb, leb, ltb, ◌&&◌, ◌||◌, List, [], ◌∷◌, ◌++◌, length, take, Option, Some, None, refl, sym, ap, subst, ◌∙◌, arith, inl, inr}
+use Rattle.std.specs.Prelude.{Result, Ok, Err, IfOk, IsErr, IsOkAnd}
+use Rattle.std.proofs.Common.{◌≡◌, ℕ, zero, suc, ◌+◌, ◌-◌, ◌*◌, ◌/◌, ◌%◌, ◌<◌, ◌≤◌, rules, Bool, true, false, cond, eqb, leb, ltb, ◌&&◌, ◌||◌, List, [], ◌∷◌, ◌++◌, length, take, Option, Some, None, refl, sym, ap, subst, ◌∙◌, arith, inl, inr}
 use Rattle.std.specs.Prelude.{◌⊎◌, not, replicate}
 use Rattle.std.specs.List.{list_any, list_all}
 use Rattle.std.specs.Prelude.{option_map}
 use Rattle.std.proofs.lemmas.Option.{slice_get_past}
-use Rattle.std.proofs.lemmas.Bool.{eqb-true, eq-eqb, ltb-true, ltb-false, leb-true}
-use Rattle.macho_unwind_info.specs.Permutation.{permutation, named, and_named, unused, digits, six, is_used, arrangements, without, encoded, distinct}
+use Rattle.std.proofs.lemmas.List.{length-append, length-replicate, take_at}
+use Rattle.std.proofs.lemmas.Bool.{eqb-true, eq-eqb, ltb-true, ltb-false, leb-true, le-ltb}
+use Rattle.macho_unwind_info.specs.Permutation.{permutation, named, and_named, unused, digits, six, is_used, arrangements, without, encoded, distinct, IsArrangement}
 
 both_true : (a b : Bool) → (a && b) ≡ true → (a ≡ true) × (b ≡ true)
 both_true true b e = (refl, e)
@@ -198,3 +200,41 @@ past_all (suc (suc (suc (suc zero)))) n low high le = first_past (n / 3 / 4 / 5)
 past_all (suc (suc (suc (suc (suc zero))))) n low high le = first_past (n / 2 / 3 / 4 / 5) (n / 2 / 3 / 4 % 5 ∷ n / 2 / 3 % 4 ∷ n / 2 % 3 ∷ n % 2 ∷ []) 5 (omega arith)
 past_all (suc (suc (suc (suc (suc (suc zero)))))) n low high le = first_past (n / 1 / 2 / 3 / 4 / 5) (n / 1 / 2 / 3 / 4 % 5 ∷ n / 1 / 2 / 3 % 4 ∷ n / 1 / 2 % 3 ∷ n / 1 % 2 ∷ n % 1 ∷ []) 6 (omega arith)
 past_all (suc (suc (suc (suc (suc (suc (suc k))))))) n low high le = absurd (omega arith)
+
+-- ---- what is decoded
+mapped : (k : ℕ) (o : Option (List ℕ)) (xs : List ℕ) → option_map (λ rs. rs ++ replicate (6 - k) 0) o ≡ Some xs → (rs : List ℕ) × (rs ++ replicate (6 - k) 0 ≡ xs)
+mapped k None xs e = absurd cc
+mapped k (Some rs) xs e = (rs, some_list (rs ++ replicate (6 - k) 0) xs e)
+
+-- the registers that a number below the count spells
+pub arranged : (k n : ℕ) → 1 ≤ k → k ≤ 6 → n < arrangements k → (xs : List ℕ) → permutation k n ≡ Some xs → IsArrangement k n xs
+arranged k n low high lt xs is =
+    let s = spelled k n low high lt in
+    let same : s.xs ≡ xs = some_list s.xs xs (sym s.is ∙ is) in
+    let small : ltb 6 k ≡ false = le-ltb 6 k high in
+    let rs = mapped k (named (digits k n) []) xs (sym (ap (λ b. cond b None (option_map (λ rs. rs ++ replicate (6 - k) 0) (named (digits k n) []))) small) ∙ is) in
+    let whole : length rs.0 + (6 - k) ≡ 6 = sym (length-append rs.0 (replicate (6 - k) 0) ∙ ap (λ m. length rs.0 + m) (length-replicate (6 - k) 0)) ∙ ap length rs.1 ∙ sym (ap length same) ∙ s.six_long in
+    let first : take k xs ≡ rs.0 = sym (ap (take k) rs.1) ∙ take_at rs.0 (replicate (6 - k) 0) k (omega arith) in
+    record {
+      each_once = subst (λ l. distinct (take k l) ≡ true) same s.each_once;
+      zeros = sym rs.1 ∙ ap (λ l. l ++ replicate (6 - k) 0) (sym first);
+      number_is = subst (λ l. encoded (take k l) ≡ n) same s.back;
+    }
+
+-- what a call that decodes by `permutation` answers
+pub decoded_below : (k n : ℕ) (r : Result (List ℕ) (Unit {0})) → IfOk r (λ xs. permutation k n ≡ Some xs) → (IsErr r → permutation k n ≡ None) → 1 ≤ k → k ≤ 6 → n < arrangements k → IsOkAnd r (IsArrangement k n)
+decoded_below k n (Ok xs) ok refused low high lt = search (rules, arranged k n low high lt xs ok)
+decoded_below k n (Err e) ok refused low high lt =
+    let none : permutation k n ≡ None = refused (search rules) in
+    let some = (spelled k n low high lt).is in
+    absurd cc
+
+pub decoded_onto : (k n : ℕ) (r : Result (List ℕ) (Unit {0})) → IfOk r (λ xs. permutation k n ≡ Some xs) → (IsErr r → permutation k n ≡ None) → (rs : List ℕ) → 1 ≤ k → k ≤ 6 → length rs ≡ k → distinct rs ≡ true → n ≡ encoded rs → r ≡ Ok (rs ++ replicate (6 - k) 0)
+decoded_onto k n (Ok xs) ok refused rs low high long once number =
+    let spells : permutation k n ≡ Some (rs ++ replicate (6 - k) 0) = ap (permutation k) number ∙ (each_list k rs low high long once).1 in
+    let same : xs ≡ rs ++ replicate (6 - k) 0 = some_list xs (rs ++ replicate (6 - k) 0) (sym ok ∙ spells) in
+    ap (λ l. Ok l) same
+decoded_onto k n (Err e) ok refused rs low high long once number =
+    let none : permutation k n ≡ None = refused (search rules) in
+    let spells : permutation k n ≡ Some (rs ++ replicate (6 - k) 0) = ap (permutation k) number ∙ (each_list k rs low high long once).1 in
+    absurd cc

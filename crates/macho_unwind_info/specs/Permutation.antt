@@ -1,5 +1,5 @@
 -- The list of registers that a number spells.
-use Rattle.std.specs.Prelude.{ℕ, zero, suc, ◌+◌, ◌-◌, ◌*◌, ◌/◌, ◌%◌, Bool, true, false, not, ◌&&◌, List, [], ◌∷◌, ◌++◌, length, filter, replicate, Option, Some, None, option_map, slice_get, nat_lt, nat_le, ◌==◌, if◌then◌else◌}
+use Rattle.std.specs.Prelude.{◌≡◌, ℕ, zero, suc, ◌+◌, ◌-◌, ◌*◌, ◌/◌, ◌%◌, Bool, true, false, not, ◌&&◌, List, [], ◌∷◌, ◌++◌, length, filter, replicate, take, Option, Some, None, option_map, slice_get, nat_lt, nat_le, ◌==◌, if◌then◌else◌}
 use Rattle.std.specs.List.{list_any}
 
 -- the registers
@@ -64,3 +64,9 @@ number_from n i (d ∷ ds) = number_from (n * (6 - i) + d) (suc i) ds
 -- the number of a list of registers
 abbrev pub encoded : List ℕ → ℕ
 encoded registers = number_from 0 0 (places_in six registers)
+
+-- count distinct registers and then zeros, the list having a number
+pub record IsArrangement (count number : ℕ) (registers : List ℕ) : Type 0 where
+  pub each_once : distinct (take count registers) ≡ true
+  pub zeros : registers ≡ take count registers ++ replicate (6 - count) 0
+  pub number_is : encoded (take count registers) ≡ number

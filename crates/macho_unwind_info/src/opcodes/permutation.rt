@@ -1,6 +1,6 @@
 // Lists of registers that are packed into ten bits.
-ghost use Rattle.std.specs.Prelude.{◌≡◌, ◌≤◌, ◌<◌, ◌↔◌, Some, None, IfOk, IsErr, slice_get, take};
-ghost use Rattle.macho_unwind_info.specs.Permutation.{permutation, digits, unused, six, is_used};
+ghost use Rattle.std.specs.Prelude.{◌≡◌, ◌-◌, ◌≤◌, ◌<◌, ◌↔◌, ◌++◌, ℕ, List, true, length, Some, None, Ok, IfOk, IsOkAnd, IsErr, slice_get, take, replicate};
+ghost use Rattle.macho_unwind_info.specs.Permutation.{permutation, digits, unused, six, is_used, arrangements, encoded, distinct, IsArrangement};
 
 /// The registers 1 to 6.
 const REGISTERS: [u8; 6] = [1, 2, 3, 4, 5, 6];
@@ -51,10 +51,29 @@ fn nth_unused(used: &[u8], n: u32) -> Option<u8>
 ///
 /// The number is written in digits, the last one lowest: digit i, from 0, has radix 6 - i and names
 /// that many-th register of those that no digit before it names, counted from 0. The sixth digit is
-/// always 0 and isn't written.
+/// always 0 and isn't written. So for a count of 1 to 6 the numbers below 6! / (6 - count)! are one
+/// to one with the lists of so many distinct registers.
 ///
 /// Errors: a count above 6, and a number whose first digit names no register, being 6 or more.
 pub fn decode_permutation_6(count: u32, encoding: u32) -> Result<[u8; 6], ()>
+    ensures ok { IfOk result (λ registers. permutation count encoding ≡ Some registers) }
+    ensures refused { IsErr result ↔ (permutation count encoding ≡ None) }
+
+    // one to one
+    ensures below { 1 ≤ count → count ≤ 6 → encoding < arrangements count → IsOkAnd result (IsArrangement count encoding) }
+    ensures onto { (registers : List ℕ) → 1 ≤ count → count ≤ 6 → length registers ≡ count → distinct registers ≡ true → encoding ≡ encoded registers →
+        result ≡ Ok (registers ++ replicate (6 - count) 0) }
+
+    // and no other number
+    ensures past { 1 ≤ count → count ≤ 6 → arrangements count ≤ encoding → IsErr result }
+    ensures none { count ≡ 0 → result ≡ Ok (replicate 6 0) }
+    ensures above { 6 < count → IsErr result }
+{
+    decoded(count, encoding)
+}
+
+/// The list of registers, digit by digit.
+fn decoded(count: u32, encoding: u32) -> Result<[u8; 6], ()>
     ensures ok { IfOk result (λ registers. permutation count encoding ≡ Some registers) }
     ensures refused { IsErr result ↔ (permutation count encoding ≡ None) }
 {

@@ -1,21 +1,11 @@
-use Rattle.std.proofs.Common.{◌≡◌, ◌<◌, length, take, get_or, sym, ap, ◌∙◌, arith, length-set}
-use Rattle.std.proofs.lemmas.List.{length-take-le, get_or-take}
-use Rattle.macho_unwind_info.specs.Permutation.{unused, six}
-use Rattle.std.specs.Prelude.{slice_get}
-use Rattle.macho_unwind_info.proofs.DigitLemmas.{named_step, zeros_step}
+use Rattle.macho_unwind_info.proofs.PermutationTable.{decoded_below, decoded_onto, past_all}
 use Rattle.macho_unwind_info.proofs.opcodes.permutation.decode_permutation_6.Goals as goal
 
-pub loop-i-preserved : goal.loop-i-preserved
-loop-i-preserved c =
-    let i = c.loop-i.i in
-    let rs = c.loop-i.registers in
-    let ds = c.digits-digits.result in
-    let count = c.args.count in
-    let long : length (take count ds) ≡ count = length-take-le count ds (omega arith) in
-    let below : i < 6 = omega arith in
-    record {
-      six_long = length-set rs i c.in-Some.register ∙ c.loop-i.invariant.six_long;
-      zeros = zeros_step rs i c.in-Some.register below c.loop-i.invariant.zeros;
-      named_so_far = named_step (take count ds) rs i c.in-Some.register _ (omega arith) (omega arith)
-          (c.in-Some.ensures ∙ ap (slice_get (unused (take i rs) six)) (sym (get_or-take count ds i 0 (omega arith)))) c.loop-i.invariant.named_so_far;
-    }
+pub returns-clause-below : goal.returns-clause-below
+returns-clause-below c low high lt = decoded_below c.args.count c.args.encoding c.decoded.result c.decoded.ensures.ok c.decoded.ensures.refused.0 low high lt
+
+pub returns-clause-onto : goal.returns-clause-onto
+returns-clause-onto c registers low high long once number = decoded_onto c.args.count c.args.encoding c.decoded.result c.decoded.ensures.ok c.decoded.ensures.refused.0 registers low high long once number
+
+pub returns-clause-past : goal.returns-clause-past
+returns-clause-past c low high le = c.decoded.ensures.refused.1 (past_all c.args.count c.args.encoding low high le)

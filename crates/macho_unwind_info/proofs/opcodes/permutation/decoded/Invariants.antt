@@ -1,7 +1,7 @@
 use Rattle.std.proofs.Common.{◌≡◌, ◌-◌, [], take, drop, length}
 use Rattle.std.specs.Prelude.{replicate}
 use Rattle.macho_unwind_info.specs.Permutation.{digits, named}
-use Rattle.macho_unwind_info.proofs.opcodes.permutation.decode_permutation_6.Given as goal
+use Rattle.macho_unwind_info.proofs.opcodes.permutation.decoded.Given as goal
 
 abbrev pub invariant-loop-i : goal.invariant-loop-i
 invariant-loop-i l = record {
