@@ -1,16 +1,14 @@
 -- On described pages a look-up answers the listed function that covers the address.
-use Rattle.std.proofs.Common.{◌≡◌, ℕ, zero, suc, ◌+◌, ◌-◌, ◌<◌, ◌≤◌, ◌⊎◌, Bool, true, false, cond, ltb, List, [], ◌∷◌, ◌++◌, length, map, Option, Some, None, Result, Ok, Err, get_or, refl, arith, ap, sym, subst, ◌∙◌, inl, inr}
-use Rattle.std.specs.Prelude.{slice_get, option_map, Contains, MatchResult}
+use Rattle.std.proofs.Common.{◌≡◌, ℕ, zero, suc, ◌+◌, ◌-◌, ◌<◌, ◌≤◌, Bool, true, false, cond, ltb, List, [], ◌∷◌, ◌++◌, length, map, Option, Some, None, Result, Ok, Err, get_or, refl, arith, ap, sym, subst, ◌∙◌, inl, inr}
+use Rattle.std.specs.Prelude.{slice_get, option_map, MatchResult}
 use Rattle.std.proofs.lemmas.List.{length-map}
-use Rattle.std.proofs.lemmas.Option.{slice_get-map, slice_get_within, get_or_from_slice_get}
-use Rattle.macho_unwind_info.specs.Unaligned.{u32_number}
+use Rattle.std.proofs.lemmas.Option.{slice_get-map, slice_get_within}
 use Rattle.macho_unwind_info.specs.Parts.{◌>>=◌}
-use Rattle.macho_unwind_info.specs.Listing.{Section, page_of, whole_page, entries_of, regular_entry, compressed_entry, address_after, end_of, function_of, functions_of, page_places, places_of, listing, answer_of}
+use Rattle.macho_unwind_info.specs.Listing.{Section, page_of, whole_page, entries_of, regular_entry, compressed_entry, address_after, function_of, functions_of, page_places, places_of, listing, answer_of}
 use Rattle.macho_unwind_info.specs.Lookup.{first_address, start_address, start_distance, page_addresses, keys_of, base_of, range_start, range_end, IsBoundary, Finds, answer_at, IsPageLookup, IsAnswerFrom, IsAnswerAt, IsLookup}
-use Rattle.macho_unwind_info.specs.Described.{IsEntryWithin, AscendWithin, BeginAt, IsDescribedPage, AreDescribed, HasDescribedPages, Covers, IsInRange, IsOutside, IsListedAt, FindsListed, FindsEachListed}
+use Rattle.macho_unwind_info.specs.Described.{IsEntryWithin, AscendWithin, BeginAt, IsDescribedPage, AreDescribed, HasDescribedPages, Covers, IsInRange, IsOutside, FindsListed, FindsEachListed}
 use Rattle.macho_unwind_info.specs.declared.error.Error.{Error}
 use Rattle.macho_unwind_info.specs.declared.error.Error.TheVariants.{AddressOverflow}
-use Rattle.macho_unwind_info.specs.declared.error.ReadError.{ReadError}
 use Rattle.macho_unwind_info.specs.declared.raw.unaligned.U32.{U32}
 use Rattle.macho_unwind_info.specs.declared.raw.format.Opcode.{Opcode}
 use Rattle.macho_unwind_info.specs.declared.raw.format.PageEntry.{PageEntry}
@@ -109,8 +107,8 @@ at_boundary global page first next pc ascend low high j is answer answered =
         let key = address_of_key global page j e within.at at within.is in
         let function : Function = record { start_address = within.at; end_address = next; opcode = within.opcode } in
         let here : slice_get (functions_of next (entries_of global page)) j ≡ Some (Ok function) =
-            slice_get-functions_of next (entries_of global page) j ∙ ap (option_map (λ (x : Entry). function_of next x (slice_get (entries_of global page) (j + 1)))) at ∙
-            ap Some (ap (function_of next e) behind_is ∙ made next e None within.at next within.opcode within.is refl within.reads) in
+        slice_get-functions_of next (entries_of global page) j ∙ ap (option_map (λ (x : Entry). function_of next x (slice_get (entries_of global page) (j + 1)))) at ∙
+        ap Some (ap (function_of next e) behind_is ∙ made next e None within.at next within.opcode within.is refl within.reads) in
         record { function = function; is = answered ∙ ap answer_of here; place = j; at = here; covers = ((let h = is.at_or_before in omega arith), high) }
     go e at (Some e') behind_is =
         let within = entry_within first next (entries_of global page) ascend j e at in
@@ -122,8 +120,8 @@ at_boundary global page first next pc ascend low high j is answer answered =
         let below = is.next_behind (omega arith) in
         let function : Function = record { start_address = within.at; end_address = within'.at; opcode = within.opcode } in
         let here : slice_get (functions_of next (entries_of global page)) j ≡ Some (Ok function) =
-            slice_get-functions_of next (entries_of global page) j ∙ ap (option_map (λ (x : Entry). function_of next x (slice_get (entries_of global page) (j + 1)))) at ∙
-            ap Some (ap (function_of next e) behind_is ∙ made next e (Some e') within.at within'.at within.opcode within.is within'.is within.reads) in
+        slice_get-functions_of next (entries_of global page) j ∙ ap (option_map (λ (x : Entry). function_of next x (slice_get (entries_of global page) (j + 1)))) at ∙
+        ap Some (ap (function_of next e) behind_is ∙ made next e (Some e') within.at within'.at within.opcode within.is within'.is within.reads) in
         record { function = function; is = answered ∙ ap answer_of here; place = j; at = here; covers = ((let h = is.at_or_before in omega arith), omega arith) }
 
 begin_at : (first : ℕ) (entries : List Entry) → BeginAt first entries → (e : Entry) × (slice_get entries 0 ≡ Some e) × (e.address ≡ Ok first)
@@ -166,8 +164,8 @@ in_listing bytes global (p ∷ []) zero page next at behind k x e = absurd cc
 in_listing bytes global (p ∷ []) (suc i) page next at behind k x e = absurd cc
 in_listing bytes global (p ∷ q ∷ pages) zero page next at behind k x e =
     let own : slice_get (page_places global (first_address q) (page_of bytes p >>= whole_page)) k ≡ Some x =
-        ap (λ (y : PageEntry). slice_get (page_places global (first_address y) (page_of bytes p >>= whole_page)) k) (same_some q next behind) ∙
-        ap (λ (y : PageEntry). slice_get (page_places global (first_address next) (page_of bytes y >>= whole_page)) k) (same_some p page at) ∙ e in
+    ap (λ (y : PageEntry). slice_get (page_places global (first_address y) (page_of bytes p >>= whole_page)) k) (same_some q next behind) ∙
+    ap (λ (y : PageEntry). slice_get (page_places global (first_address next) (page_of bytes y >>= whole_page)) k) (same_some p page at) ∙ e in
     (k, get_left (page_places global (first_address q) (page_of bytes p >>= whole_page)) (places_of bytes global (q ∷ pages)) k x own)
 in_listing bytes global (p ∷ q ∷ pages) (suc i) page next at behind k x e =
     let more : suc i + 1 ≡ suc (i + 1) = omega arith in
@@ -205,11 +203,11 @@ between : (info : Section) (pc : ℕ) (answer : Result (Option Function) Error) 
 between info pc answer are i page next at behind is answered =
     let described = described_at info.bytes info.global_opcodes info.pages are i page next at behind in
     let from : IsAnswerFrom info pc (Some page) (Some next) answer =
-        subst (λ (o : Option PageEntry). IsAnswerFrom info pc (Some page) o answer) behind
-        (subst (λ (o : Option PageEntry). IsAnswerFrom info pc o (slice_get info.pages (i + 1)) answer) at answered) in
+    subst (λ (o : Option PageEntry). IsAnswerFrom info pc (Some page) o answer) behind
+    (subst (λ (o : Option PageEntry). IsAnswerFrom info pc o (slice_get info.pages (i + 1)) answer) at answered) in
     let look : IsPageLookup info.global_opcodes described.opened (first_address next) pc answer =
-        subst (λ (r : Result Page Error). MatchResult r (λ opened. IsPageLookup info.global_opcodes opened (first_address next) pc answer) (λ e. answer ≡ Err e))
-        (opened_as (page_of info.bytes page) described.opened described.reads) from in
+    subst (λ (r : Result Page Error). MatchResult r (λ opened. IsPageLookup info.global_opcodes opened (first_address next) pc answer) (λ e. answer ≡ Err e))
+    (opened_as (page_of info.bytes page) described.opened described.reads) from in
     let key = key_of_record first_address info.pages i page at in
     let key' = key_of_record first_address info.pages (i + 1) next behind in
     let inside = slice_get_within info.pages (i + 1) next behind in
@@ -218,7 +216,7 @@ between info pc answer are i page next at behind is answered =
     let high : pc < first_address next = (let h = is.next_behind (omega arith) in omega arith) in
     let found = found_in_page info.global_opcodes described.opened (first_address page) (first_address next) pc described.begin described.ascend low high answer look in
     let listed = in_listing info.bytes info.global_opcodes info.pages i page next at behind found.place (Ok found.function)
-        (ap (λ (r : Result Page Error). slice_get (page_places info.global_opcodes (first_address next) r) found.place) described.reads ∙ found.at) in
+    (ap (λ (r : Result Page Error). slice_get (page_places info.global_opcodes (first_address next) r) found.place) described.reads ∙ found.at) in
     (found.function, found.is, record { listed = contained_at (listing info) listed.0 (Ok found.function) listed.1; covers = found.covers })
 
 pub inside : (info : Section) (pc : ℕ) (answer : Result (Option Function) Error) → HasDescribedPages info → IsLookup info pc answer → IsInRange info pc → FindsListed info pc answer

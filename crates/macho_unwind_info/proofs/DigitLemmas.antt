@@ -1,8 +1,8 @@
 -- Registers named by digits, one after another.
-use Rattle.std.proofs.Common.{◌≡◌, ℕ, zero, suc, ◌+◌, ◌-◌, ◌/◌, ◌%◌, ◌<◌, ◌≤◌, Bool, true, false, cond, List, [], ◌∷◌, ◌++◌, length, take, drop, set, Option, Some, None, get_or, refl, sym, ap, subst, ◌∙◌, arith}
-use Rattle.std.specs.Prelude.{slice_get, replicate, not, filter}
+use Rattle.std.proofs.Common.{◌≡◌, ℕ, zero, suc, ◌+◌, ◌-◌, ◌/◌, ◌%◌, ◌<◌, true, false, cond, List, [], ◌∷◌, ◌++◌, length, take, drop, set, Option, Some, get_or, sym, ap, ◌∙◌, arith}
+use Rattle.std.specs.Prelude.{slice_get, replicate, not}
 use Rattle.std.proofs.lemmas.List.{drop_more, take_more_set, drop-set-lt, drop-drop, drop-replicate}
-use Rattle.macho_unwind_info.specs.Permutation.{digits, unused, is_used, six, and_named, named, permutation}
+use Rattle.macho_unwind_info.specs.Permutation.{digits, unused, is_used, six, and_named, named}
 
 -- a register that isn't used is one of those that are counted
 keeps : (used rest : List ℕ) (x : ℕ) → is_used used x ≡ false → unused used (x ∷ rest) ≡ x ∷ unused used rest

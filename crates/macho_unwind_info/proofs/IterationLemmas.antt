@@ -1,5 +1,5 @@
 -- The end of a listing.
-use Rattle.std.proofs.Common.{◌≡◌, ℕ, ◌<◌, List, [], ◌∷◌, ◌++◌, Option, Some, None, length, drop, refl, arith, ap, sym, ◌∙◌}
+use Rattle.std.proofs.Common.{◌≡◌, ℕ, ◌<◌, List, [], ◌∷◌, Option, None, length, drop, refl, arith}
 use Rattle.std.specs.Prelude.{slice_get}
 use Rattle.macho_unwind_info.specs.Listing.{places_of}
 use Rattle.macho_unwind_info.specs.Iteration.{left_in_any, left}

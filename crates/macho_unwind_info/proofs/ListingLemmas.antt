@@ -1,5 +1,5 @@
 -- The places of a page.
-use Rattle.std.proofs.Common.{◌≡◌, ℕ, zero, suc, ◌+◌, List, [], ◌∷◌, Option, Some, None, refl, rules, arith, ap, ◌∙◌}
+use Rattle.std.proofs.Common.{◌≡◌, ℕ, zero, suc, ◌+◌, List, [], ◌∷◌, refl, arith, ap, ◌∙◌}
 use Rattle.std.specs.Prelude.{slice_get, option_map}
 use Rattle.macho_unwind_info.specs.Listing.{function_of, functions_of}
 use Rattle.macho_unwind_info.specs.declared.page.Entry.{Entry}

@@ -1,13 +1,13 @@
 -- Numbers and lists of distinct registers are one to one, and other numbers are refused.
 use Rattle.std.specs.Prelude.{Result, Ok, Err, IfOk, IsErr, IsOkAnd}
-use Rattle.std.proofs.Common.{◌≡◌, ℕ, zero, suc, ◌+◌, ◌-◌, ◌*◌, ◌/◌, ◌%◌, ◌<◌, ◌≤◌, rules, Bool, true, false, cond, eqb, leb, ltb, ◌&&◌, ◌||◌, List, [], ◌∷◌, ◌++◌, length, take, Option, Some, None, refl, sym, ap, subst, ◌∙◌, arith, inl, inr}
-use Rattle.std.specs.Prelude.{◌⊎◌, not, replicate}
+use Rattle.std.proofs.Common.{◌≡◌, ℕ, zero, suc, ◌+◌, ◌-◌, ◌/◌, ◌%◌, ◌<◌, ◌≤◌, rules, Bool, true, false, cond, eqb, leb, ltb, ◌&&◌, ◌||◌, List, [], ◌∷◌, ◌++◌, length, take, Option, Some, None, refl, sym, ap, subst, ◌∙◌, arith}
+use Rattle.std.specs.Prelude.{not, replicate}
 use Rattle.std.specs.List.{list_any, list_all}
 use Rattle.std.specs.Prelude.{option_map}
 use Rattle.std.proofs.lemmas.Option.{slice_get_past}
 use Rattle.std.proofs.lemmas.List.{length-append, length-replicate, take_at}
 use Rattle.std.proofs.lemmas.Bool.{eqb-true, eq-eqb, ltb-true, ltb-false, leb-true, le-ltb}
-use Rattle.macho_unwind_info.specs.Permutation.{permutation, named, and_named, unused, digits, six, is_used, arrangements, without, encoded, distinct, IsArrangement}
+use Rattle.macho_unwind_info.specs.Permutation.{permutation, named, and_named, unused, digits, six, arrangements, without, encoded, distinct, IsArrangement}
 
 both_true : (a b : Bool) → (a && b) ≡ true → (a ≡ true) × (b ≡ true)
 both_true true b e = (refl, e)

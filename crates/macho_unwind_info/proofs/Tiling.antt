@@ -1,11 +1,11 @@
 -- The functions of described pages lie end to end.
-use Rattle.std.proofs.Common.{◌≡◌, ℕ, zero, suc, ◌+◌, ◌-◌, ◌<◌, ◌≤◌, List, [], ◌∷◌, ◌++◌, length, map, Option, Some, None, Result, Ok, Err, get_or, refl, arith, ap, sym, subst, ◌∙◌}
-use Rattle.std.specs.Prelude.{slice_get, option_map, Contains}
+use Rattle.std.proofs.Common.{◌≡◌, ℕ, zero, suc, ◌+◌, ◌-◌, ◌≤◌, List, [], ◌∷◌, ◌++◌, length, map, Option, Some, None, Result, Ok, get_or, refl, arith, ap, sym, subst, ◌∙◌}
+use Rattle.std.specs.Prelude.{slice_get, Contains}
 use Rattle.std.proofs.lemmas.Option.{slice_get-get_or, slice_get_within, get_or_from_slice_get}
 use Rattle.macho_unwind_info.specs.Parts.{◌>>=◌}
 use Rattle.macho_unwind_info.specs.Listing.{Section, page_of, whole_page, entries_of, end_of, function_of, functions_of, page_places, places_of, listing}
 use Rattle.macho_unwind_info.specs.Lookup.{first_address, range_start, range_end}
-use Rattle.macho_unwind_info.specs.Described.{IsEntryWithin, AscendWithin, BeginAt, IsDescribedPage, AreDescribed, HasDescribedPages, Covers, IsListedAt, IsNext, LieEndToEnd}
+use Rattle.macho_unwind_info.specs.Described.{IsEntryWithin, AscendWithin, BeginAt, IsDescribedPage, AreDescribed, HasDescribedPages, Covers, IsNext, LieEndToEnd}
 use Rattle.macho_unwind_info.specs.declared.error.Error.{Error}
 use Rattle.macho_unwind_info.specs.declared.raw.format.Opcode.{Opcode}
 use Rattle.macho_unwind_info.specs.declared.raw.format.PageEntry.{PageEntry}
@@ -25,20 +25,24 @@ made next entry behind start end opcode s e o = rw (s, e, o) refl
 
 -- the entries of a page, the first at the low address
 page_end_to_end : (low next : ℕ) (entry : Entry) (entries : List Entry) (within : IsEntryWithin low next entry) → AscendWithin (within.at + 1) next entries → LieEndToEnd within.at next (functions_of next (entry ∷ entries))
-page_end_to_end low next entry [] within ascend =
-    (record {
-      function = record { start_address = within.at; end_address = next; opcode = within.opcode };
-      is = made next entry None within.at next within.opcode within.is refl within.reads;
-      start = refl;
-      ends_behind = within.below_high;
-    }, refl)
-page_end_to_end low next entry (behind ∷ entries) within ascend =
-    (record {
-      function = record { start_address = within.at; end_address = ascend.0.at; opcode = within.opcode };
-      is = made next entry (Some behind) within.at ascend.0.at within.opcode within.is ascend.0.is within.reads;
-      start = refl;
-      ends_behind = (let h : within.at + 1 ≤ ascend.0.at = ascend.0.from_low in omega arith);
-    }, page_end_to_end (within.at + 1) next behind entries ascend.0 ascend.1)
+page_end_to_end low next entry [] within ascend = (
+  record {
+    function = record { start_address = within.at; end_address = next; opcode = within.opcode };
+    is = made next entry None within.at next within.opcode within.is refl within.reads;
+    start = refl;
+    ends_behind = within.below_high;
+  },
+  refl,
+)
+page_end_to_end low next entry (behind ∷ entries) within ascend = (
+  record {
+    function = record { start_address = within.at; end_address = ascend.0.at; opcode = within.opcode };
+    is = made next entry (Some behind) within.at ascend.0.at within.opcode within.is ascend.0.is within.reads;
+    start = refl;
+    ends_behind = (let h : within.at + 1 ≤ ascend.0.at = ascend.0.from_low in omega arith);
+  },
+  page_end_to_end (within.at + 1) next behind entries ascend.0 ascend.1,
+)
 
 same_ok : {A E : Type 0} (x y : A) → ◌≡◌ {A = Result A E} (Ok x) (Ok y) → x ≡ y
 same_ok x y e = cc

@@ -1,5 +1,5 @@
 -- The opcodes of arm64: what the bits mean, and how they are printed.
-use Rattle.std.specs.Prelude.{ℕ, zero, suc, ◌+◌, ◌*◌, Bool, true, false, List, [], ◌∷◌, ◌++◌, codes, decimal, count_ones, ◌==◌, if◌then◌else◌}
+use Rattle.std.specs.Prelude.{ℕ, zero, suc, ◌+◌, ◌*◌, Bool, false, List, [], ◌∷◌, ◌++◌, codes, decimal, count_ones, ◌==◌, if◌then◌else◌}
 use Rattle.std.specs.Fmt.{digits}
 use Rattle.macho_unwind_info.specs.Bits.{bits}
 use Rattle.macho_unwind_info.specs.declared.opcodes.arm64.Pair.{Pair}

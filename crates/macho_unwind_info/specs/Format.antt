@@ -1,12 +1,10 @@
 -- The records of a section of compact unwinding, as they lie in its bytes, and where they lie.
 use Rattle.std.specs.Prelude.{◌≡◌, ℕ, ◌+◌, ◌*◌, List, length, take, drop, Option, Some, None, nat_le, if◌then◌else◌}
-use Rattle.std.proofs.Common.{ap, ◌∙◌, sym, arith, rules}
+use Rattle.std.proofs.Common.{ap, ◌∙◌, sym, arith}
 use Rattle.std.proofs.lemmas.List.{drop_all, drop-drop, take-append-drop}
 use Rattle.memory_image.specs.Words.{AreBytes}
 use Rattle.memory_image.specs.Records.{records_in}
 use Rattle.macho_unwind_info.specs.Unaligned.{u32_at, u16_at, u32_in, u32_keeps_all}
-use Rattle.macho_unwind_info.specs.declared.raw.unaligned.U32.{U32}
-use Rattle.macho_unwind_info.specs.declared.raw.unaligned.U16.{U16}
 use Rattle.macho_unwind_info.specs.declared.raw.format.CompactUnwindInfoHeader.{CompactUnwindInfoHeader}
 use Rattle.macho_unwind_info.specs.declared.raw.format.PageEntry.{PageEntry}
 use Rattle.macho_unwind_info.specs.declared.raw.format.RegularPage.{RegularPage}

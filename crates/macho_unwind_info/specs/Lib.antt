@@ -12,3 +12,4 @@ pub mod RegisterText
 pub mod X86_64
 pub mod X86
 pub mod Arm64
+pub mod Sample

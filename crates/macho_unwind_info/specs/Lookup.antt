@@ -1,5 +1,5 @@
 -- The function of an address: a search among the pages, and one among the entries of a page.
-use Rattle.std.specs.Prelude.{◌≡◌, ℕ, ◌+◌, ◌-◌, ◌<◌, ◌≤◌, List, map, length, Option, Some, None, MatchOption, Result, Ok, Err, MatchResult, slice_get, slice_index}
+use Rattle.std.specs.Prelude.{◌≡◌, ℕ, ◌+◌, ◌-◌, ◌<◌, ◌≤◌, List, map, length, Option, Some, None, Result, Ok, Err, MatchResult, slice_get, slice_index}
 use Rattle.macho_unwind_info.specs.Unaligned.{u32_number}
 use Rattle.macho_unwind_info.specs.Compressed.{relative_address}
 use Rattle.macho_unwind_info.specs.Listing.{Section, page_of, entries_of, functions_of, answer_of}

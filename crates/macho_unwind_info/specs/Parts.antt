@@ -1,5 +1,5 @@
 -- The parts of a section of compact unwinding: where each lies, and the error of its not fitting in the section's bytes.
-use Rattle.std.specs.Prelude.{ℕ, ◌+◌, ◌*◌, List, Result, Ok, Err}
+use Rattle.std.specs.Prelude.{ℕ, ◌+◌, List, Result, Ok, Err}
 use Rattle.std.specs.Option.{ok_or}
 use Rattle.macho_unwind_info.specs.Unaligned.{u32_in, u32_number, u16_number}
 use Rattle.macho_unwind_info.specs.Format.{record_at, records_at, header_in, page_entry_in, regular_page_in, compressed_page_in, opcode_in, function_entry_in}

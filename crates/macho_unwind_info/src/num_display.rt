@@ -3,7 +3,7 @@ use std::fmt;
 use std::fmt::{Binary, LowerHex};
 
 /// A number whose Debug text is in lower hexadecimal digits.
-#[derive(Clone, Copy)]
+#[derive(Drop)]
 pub struct HexNum<N: LowerHex>(pub N);
 
 impl<N: LowerHex> fmt::Debug for HexNum<N> {
@@ -13,7 +13,7 @@ impl<N: LowerHex> fmt::Debug for HexNum<N> {
 }
 
 /// A number whose Debug text is in binary digits.
-#[derive(Clone, Copy)]
+#[derive(Drop)]
 pub struct BinNum<N: Binary>(pub N);
 
 impl<N: Binary> fmt::Debug for BinNum<N> {

@@ -9,7 +9,8 @@ use crate::error::{Error, ReadError};
 use crate::function::Function;
 use crate::raw::consts::{PAGE_KIND_COMPRESSED, PAGE_KIND_REGULAR, PAGE_KIND_SENTINEL};
 use crate::raw::{
-    CompressedFunctionEntry, CompressedPage, Opcode, PageEntry, RegularFunctionEntry, RegularPage, U32,
+    CompressedFunctionEntry, CompressedPage, Opcode, PageEntry, RegularFunctionEntry, RegularPage,
+    U32,
 };
 use crate::search::boundary;
 use memory_image::Records;

@@ -193,7 +193,11 @@ impl fmt::Display for OpcodeX86_64 {
                 stack_adjust_in_bytes,
                 saved_regs,
             } => {
-                write_indirect(f, *immediate_offset_from_function_start, *stack_adjust_in_bytes)?;
+                write_indirect(
+                    f,
+                    *immediate_offset_from_function_start,
+                    *stack_adjust_in_bytes,
+                )?;
                 write_frameless(f, saved_regs)
             }
             OpcodeX86_64::Dwarf { eh_frame_fde } => {

@@ -56,8 +56,9 @@ impl CompactUnwindInfoHeader {
         ensures { result ≡ global_opcodes_of self.now bytes.now }
     {
         let count = self.global_opcodes_len() as usize;
-        read_slice_at(bytes, u64::from(self.global_opcodes_offset()), count)
-            .ok_or(ReadError::GlobalOpcodes)
+        read_slice_at(bytes, u64::from(self.global_opcodes_offset()), count).ok_or(
+            ReadError::GlobalOpcodes,
+        )
     }
 
     /// The list of pages. The last one is the sentinel, whose first address ends the section's
@@ -141,8 +142,9 @@ impl RegularPage {
         ensures { result ≡ regular_functions_of self.now bytes.now page_offset }
     {
         let offset = u64::from(page_offset) + u64::from(self.functions_offset());
-        read_slice_at(bytes, offset, usize::from(self.functions_len()))
-            .ok_or(ReadError::RegularPageFunctions)
+        read_slice_at(bytes, offset, usize::from(self.functions_len())).ok_or(
+            ReadError::RegularPageFunctions,
+        )
     }
 }
 
@@ -196,8 +198,9 @@ impl CompressedPage {
         ensures { result ≡ compressed_functions_of self.now bytes.now page_offset }
     {
         let offset = u64::from(page_offset) + u64::from(self.functions_offset());
-        read_slice_at(bytes, offset, usize::from(self.functions_len()))
-            .ok_or(ReadError::CompressedPageFunctions)
+        read_slice_at(bytes, offset, usize::from(self.functions_len())).ok_or(
+            ReadError::CompressedPageFunctions,
+        )
     }
 
     /// The opcodes of the page's own, of the page at an offset from the start of the section.
@@ -211,8 +214,9 @@ impl CompressedPage {
         ensures { result ≡ local_opcodes_of self.now bytes.now page_offset }
     {
         let offset = u64::from(page_offset) + u64::from(self.local_opcodes_offset());
-        read_slice_at(bytes, offset, usize::from(self.local_opcodes_len()))
-            .ok_or(ReadError::LocalOpcodes)
+        read_slice_at(bytes, offset, usize::from(self.local_opcodes_len())).ok_or(
+            ReadError::LocalOpcodes,
+        )
     }
 }
 

@@ -10,7 +10,8 @@ use std::fmt;
 pub struct U32([u8; 4]);
 
 impl From<u32> for U32 {
-    ghost from_gives = { λ n word. word ≡ u32_of_number n };
+    // the bytes of the number, and the number is theirs
+    ghost from_gives = { λ n word. (word ≡ u32_of_number n) × (u32_number word ≡ n) };
 
     fn from(n: u32) -> U32 {
         U32(n.to_le_bytes())
@@ -18,7 +19,8 @@ impl From<u32> for U32 {
 }
 
 impl From<U32> for u32 {
-    ghost from_gives = { λ word n. n ≡ u32_number word };
+    // the number of the bytes, and the bytes are its
+    ghost from_gives = { λ word n. (n ≡ u32_number word) × (u32_of_number n ≡ word) };
 
     fn from(word: U32) -> u32 {
         u32::from_le_bytes(word.0)
@@ -55,7 +57,8 @@ impl Record for U32 {
 pub struct U16([u8; 2]);
 
 impl From<u16> for U16 {
-    ghost from_gives = { λ n word. word ≡ u16_of_number n };
+    // the bytes of the number, and the number is theirs
+    ghost from_gives = { λ n word. (word ≡ u16_of_number n) × (u16_number word ≡ n) };
 
     fn from(n: u16) -> U16 {
         U16(n.to_le_bytes())
@@ -63,7 +66,8 @@ impl From<u16> for U16 {
 }
 
 impl From<U16> for u16 {
-    ghost from_gives = { λ word n. n ≡ u16_number word };
+    // the number of the bytes, and the bytes are its
+    ghost from_gives = { λ word n. (n ≡ u16_number word) × (u16_of_number n ≡ word) };
 
     fn from(word: U16) -> u16 {
         u16::from_le_bytes(word.0)

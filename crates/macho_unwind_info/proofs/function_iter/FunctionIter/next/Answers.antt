@@ -1,4 +1,4 @@
-use Rattle.std.proofs.Common.{◌≡◌, [], refl, sym, ◌∙◌, drop}
+use Rattle.std.proofs.Common.{◌≡◌, [], refl, sym, ◌∙◌}
 use Rattle.macho_unwind_info.proofs.IterationLemmas.{none_left, none_left_behind}
 use Rattle.macho_unwind_info.proofs.function_iter.FunctionIter.next.Goals as goal
 use Rattle.macho_unwind_info.proofs.function_iter.FunctionIter.next.Goals.{In_default-first_two}

@@ -1,4 +1,4 @@
-use Rattle.std.proofs.Common.{◌≡◌, sym, arith}
+use Rattle.std.proofs.Common.{sym}
 use Rattle.macho_unwind_info.proofs.DigitLemmas.{sixth}
 use Rattle.macho_unwind_info.proofs.opcodes.permutation.digits.Goals as goal
 

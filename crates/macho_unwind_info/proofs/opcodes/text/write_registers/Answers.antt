@@ -15,7 +15,7 @@ loop-register-preserved g c =
     let x = c.register-item.result in
     let here = c.loop-register-test.true in
     elim c.if-is_some.branch [
-      then-is_some+in_ok-write_slot w ↦ (
+      | then-is_some+in_ok-write_slot w ↦ (
         rw w.below-is (omega arith),
         done ++ slot_text_of g.R.Named.name x c.loop-register.below,
         rw w.below-is (registers_step g.R.Named.name c.args.word c.loop-register.below c.args.registers.now i x done _ (sym c.is_some.ensures ∙ w.if-is_some.true) here c.register-item.is text),
