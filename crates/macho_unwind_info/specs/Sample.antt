@@ -1,4 +1,4 @@
--- A section of 112 bytes with a compressed page, a regular page and the sentinel.
+-- A section of 104 bytes with a compressed page, a regular page and the sentinel.
 use Rattle.std.specs.Prelude.{ℕ, List, [], ◌∷◌, ◌++◌, Result, Ok, Err}
 use Rattle.macho_unwind_info.specs.declared.error.Error.{Error}
 use Rattle.macho_unwind_info.specs.declared.error.Error.TheVariants.{ReadError}

@@ -19,11 +19,17 @@ use std::fmt;
 /// A register that an opcode of x86 can name.
 #[derive(Clone, Copy, Debug, PartialEq, Eq)]
 pub enum RegisterNameX86 {
+    /// EBX, number 1 in an opcode and 3 in DWARF.
     Ebx,
+    /// ECX, number 2 in an opcode and 1 in DWARF.
     Ecx,
+    /// EDX, number 3 in an opcode and 2 in DWARF.
     Edx,
+    /// EDI, number 4 in an opcode and 7 in DWARF.
     Edi,
+    /// ESI, number 5 in an opcode and 6 in DWARF.
     Esi,
+    /// EBP, number 6 in an opcode and 5 in DWARF.
     Ebp,
 }
 

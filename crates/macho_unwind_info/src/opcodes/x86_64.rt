@@ -19,11 +19,17 @@ use std::fmt;
 /// A register that an opcode of x86-64 can name.
 #[derive(Clone, Copy, Debug, PartialEq, Eq)]
 pub enum RegisterNameX86_64 {
+    /// RBX, number 1 in an opcode and 3 in DWARF.
     Rbx,
+    /// R12, number 2 in an opcode and 12 in DWARF.
     R12,
+    /// R13, number 3 in an opcode and 13 in DWARF.
     R13,
+    /// R14, number 4 in an opcode and 14 in DWARF.
     R14,
+    /// R15, number 5 in an opcode and 15 in DWARF.
     R15,
+    /// RBP, number 6 in an opcode and 6 in DWARF.
     Rbp,
 }
 
