@@ -1,0 +1,15 @@
+pub mod Unaligned
+pub mod Format
+pub mod Parts
+pub mod Compressed
+pub mod Listing
+pub mod Lookup
+pub mod Iteration
+pub mod Described
+pub mod Bits
+pub mod Permutation
+pub mod RegisterText
+pub mod X86_64
+pub mod X86
+pub mod Arm64
+pub mod Sample

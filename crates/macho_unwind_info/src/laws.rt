@@ -1,0 +1,17 @@
+//! Laws of the definitions that the contracts of this crate cite. Nothing of it runs.
+ghost use Rattle.std.specs.Prelude.{◌≡◌, Ok};
+ghost use Rattle.macho_unwind_info.specs.Listing.{Section, section_of, listing};
+ghost use Rattle.macho_unwind_info.specs.Described.{HasDescribedPages};
+ghost use Rattle.macho_unwind_info.specs.Sample.{described_bytes, described_functions, damaged_bytes, damaged_places};
+
+/// There is a section whose pages are described: a compressed page with two functions, a regular
+/// one with one function, and the sentinel.
+pub fn described_section()
+    ensures { (info : Section) × (section_of described_bytes ≡ Ok info) × HasDescribedPages info × (listing info ≡ described_functions) }
+{}
+
+/// Where the second entry of its compressed page names an opcode that isn't there, the listing has
+/// the error in that place, and the functions before and behind it.
+pub fn damaged_section()
+    ensures { (info : Section) × (section_of damaged_bytes ≡ Ok info) × (listing info ≡ damaged_places) }
+{}

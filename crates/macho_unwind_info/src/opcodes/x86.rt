@@ -1,0 +1,247 @@
+// The opcodes of x86.
+ghost use Rattle.std.specs.Prelude.{◌≡◌, Some, None, map, option_map};
+ghost use Rattle.std.specs.Fmt.{WritesOnOk};
+ghost use Rattle.macho_unwind_info.specs.Bits.{bits};
+ghost use Rattle.macho_unwind_info.specs.Permutation.{permutation};
+ghost use Rattle.macho_unwind_info.specs.X86.{register_of, name_of, fields_of, opcode_of, text_of, frame_based_text, frameless_text};
+
+use super::bitfield::{OpcodeBitfield, bits};
+use super::permutation::decode_permutation_6;
+use super::text::{
+    Named, write_fields, write_frame, write_indirect, write_registers, write_return, write_size,
+};
+use crate::raw::consts::{
+    OPCODE_KIND_NULL, OPCODE_KIND_X86_DWARF, OPCODE_KIND_X86_FRAMEBASED,
+    OPCODE_KIND_X86_FRAMELESS_IMMEDIATE, OPCODE_KIND_X86_FRAMELESS_INDIRECT,
+};
+use std::fmt;
+
+/// A register that an opcode of x86 can name.
+#[derive(Clone, Copy, Debug, PartialEq, Eq)]
+pub enum RegisterNameX86 {
+    /// EBX, number 1 in an opcode and 3 in DWARF.
+    Ebx,
+    /// ECX, number 2 in an opcode and 1 in DWARF.
+    Ecx,
+    /// EDX, number 3 in an opcode and 2 in DWARF.
+    Edx,
+    /// EDI, number 4 in an opcode and 7 in DWARF.
+    Edi,
+    /// ESI, number 5 in an opcode and 6 in DWARF.
+    Esi,
+    /// EBP, number 6 in an opcode and 5 in DWARF.
+    Ebp,
+}
+
+impl RegisterNameX86 {
+    /// The register of a number from 1 to 6, and None for any other number.
+    pub fn parse(n: u8) -> Option<Self>
+        ensures { result ≡ register_of n }
+    {
+        match n {
+            1 => Some(RegisterNameX86::Ebx),
+            2 => Some(RegisterNameX86::Ecx),
+            3 => Some(RegisterNameX86::Edx),
+            4 => Some(RegisterNameX86::Edi),
+            5 => Some(RegisterNameX86::Esi),
+            6 => Some(RegisterNameX86::Ebp),
+            _ => None,
+        }
+    }
+
+    /// The register by its number in DWARF, as `reg3`.
+    pub fn dwarf_name(&self) -> &'static str
+        ensures { result.now ≡ name_of self.now }
+    {
+        match self {
+            RegisterNameX86::Ebx => "reg3",
+            RegisterNameX86::Ecx => "reg1",
+            RegisterNameX86::Edx => "reg2",
+            RegisterNameX86::Edi => "reg7",
+            RegisterNameX86::Esi => "reg6",
+            RegisterNameX86::Ebp => "reg5",
+        }
+    }
+}
+
+impl Named for RegisterNameX86 {
+    ghost name = { name_of };
+
+    fn name(&self) -> &'static str {
+        self.dwarf_name()
+    }
+}
+
+/// How a function's frame is undone on x86.
+#[derive(Clone, Copy, Debug, PartialEq, Eq)]
+pub enum OpcodeX86 {
+    /// No unwind information.
+    Null,
+    /// EBP was pushed and set to the stack pointer, so the CFA is EBP + 8.
+    FrameBased {
+        /// How far below EBP the lowest saved register lies. A multiple of 4 in what `parse` gives.
+        stack_offset_in_bytes: u16,
+        /// The registers by their slots, the lowest slot last. None is a slot without a register.
+        saved_regs: [Option<RegisterNameX86>; 5],
+    },
+    /// The CFA is the stack pointer plus a size.
+    FramelessImmediate {
+        /// The size, the return address's slot included.
+        stack_size_in_bytes: u16,
+        /// The registers in the order of their slots upwards, the last one below the return
+        /// address.
+        saved_regs: [Option<RegisterNameX86>; 6],
+    },
+    /// The CFA is the stack pointer plus a size that an instruction of the function holds.
+    FramelessIndirect {
+        /// Where the instruction's four bytes of the size lie, from the function's start.
+        immediate_offset_from_function_start: u8,
+        /// What is added to that size.
+        stack_adjust_in_bytes: u8,
+        /// The registers in the order of their slots upwards, the last one below the return
+        /// address.
+        saved_regs: [Option<RegisterNameX86>; 6],
+    },
+    /// An entry of `.eh_frame` describes the function.
+    Dwarf {
+        /// The entry's offset in the section, in bytes.
+        eh_frame_fde: u32,
+    },
+    /// The kind of a frame without a frame pointer, with a number that spells no registers.
+    InvalidFrameless,
+    /// Another kind.
+    UnrecognizedKind(u8),
+}
+
+impl OpcodeX86 {
+    /// What the 32 bits of an opcode mean on x86.
+    pub fn parse(opcode: u32) -> Self
+        ensures { result ≡ opcode_of opcode }
+    {
+        match OpcodeBitfield::new(opcode).kind() {
+            OPCODE_KIND_NULL => OpcodeX86::Null,
+            OPCODE_KIND_X86_FRAMEBASED => OpcodeX86::FrameBased {
+                stack_offset_in_bytes: bits(opcode, 16, 8) as u16 * 4,
+                saved_regs: fields_of(opcode),
+            },
+            OPCODE_KIND_X86_FRAMELESS_IMMEDIATE => match registers_of(opcode) {
+                Some(saved_regs) => OpcodeX86::FramelessImmediate {
+                    stack_size_in_bytes: bits(opcode, 16, 8) as u16 * 4,
+                    saved_regs,
+                },
+                None => OpcodeX86::InvalidFrameless,
+            },
+            OPCODE_KIND_X86_FRAMELESS_INDIRECT => match registers_of(opcode) {
+                Some(saved_regs) => OpcodeX86::FramelessIndirect {
+                    immediate_offset_from_function_start: bits(opcode, 16, 8) as u8,
+                    stack_adjust_in_bytes: bits(opcode, 13, 3) as u8 * 4,
+                    saved_regs,
+                },
+                None => OpcodeX86::InvalidFrameless,
+            },
+            OPCODE_KIND_X86_DWARF => OpcodeX86::Dwarf {
+                eh_frame_fde: bits(opcode, 0, 24),
+            },
+            kind => OpcodeX86::UnrecognizedKind(kind),
+        }
+    }
+}
+
+/// The registers of the five fields, the highest field first.
+fn fields_of(opcode: u32) -> [Option<RegisterNameX86>; 5]
+    ensures { result ≡ fields_of opcode }
+{
+    [
+        RegisterNameX86::parse(bits(opcode, 12, 3) as u8),
+        RegisterNameX86::parse(bits(opcode, 9, 3) as u8),
+        RegisterNameX86::parse(bits(opcode, 6, 3) as u8),
+        RegisterNameX86::parse(bits(opcode, 3, 3) as u8),
+        RegisterNameX86::parse(bits(opcode, 0, 3) as u8),
+    ]
+}
+
+/// The registers that an opcode's count and number spell, if they spell any.
+fn registers_of(opcode: u32) -> Option<[Option<RegisterNameX86>; 6]>
+    ensures { result ≡ option_map (map register_of) (permutation (bits opcode 10 3) (bits opcode 0 10)) }
+{
+    match decode_permutation_6(bits(opcode, 10, 3), bits(opcode, 0, 10)) {
+        Ok(numbers) => Some([
+            RegisterNameX86::parse(numbers[0]),
+            RegisterNameX86::parse(numbers[1]),
+            RegisterNameX86::parse(numbers[2]),
+            RegisterNameX86::parse(numbers[3]),
+            RegisterNameX86::parse(numbers[4]),
+            RegisterNameX86::parse(numbers[5]),
+        ]),
+        Err(()) => None,
+    }
+}
+
+impl fmt::Display for OpcodeX86 {
+    ghost output = { λ opcode. Some (text_of opcode) };
+
+    fn fmt<W: fmt::Write>(&self, f: &mut fmt::Formatter<W>) -> fmt::Result {
+        match self {
+            OpcodeX86::Null => write!(f, "(uncovered)"),
+            OpcodeX86::FrameBased {
+                stack_offset_in_bytes,
+                saved_regs,
+            } => write_frame_based(f, *stack_offset_in_bytes, saved_regs),
+            OpcodeX86::FramelessImmediate {
+                stack_size_in_bytes,
+                saved_regs,
+            } => {
+                write_size(f, *stack_size_in_bytes)?;
+                write_frameless(f, saved_regs)
+            }
+            OpcodeX86::FramelessIndirect {
+                immediate_offset_from_function_start,
+                stack_adjust_in_bytes,
+                saved_regs,
+            } => {
+                write_indirect(
+                    f,
+                    *immediate_offset_from_function_start,
+                    *stack_adjust_in_bytes,
+                )?;
+                write_frameless(f, saved_regs)
+            }
+            OpcodeX86::Dwarf { eh_frame_fde } => {
+                write!(f, "(check eh_frame FDE 0x{eh_frame_fde:x})")
+            }
+            OpcodeX86::InvalidFrameless => write!(
+                f,
+                "!! frameless immediate or indirect with invalid permutation encoding"
+            ),
+            OpcodeX86::UnrecognizedKind(kind) => write!(f, "!! Unrecognized kind {kind}"),
+        }
+    }
+}
+
+/// A frame with a frame pointer: the fields that have a slot, from the lowest field up.
+fn write_frame_based<W: fmt::Write>(
+    f: &mut fmt::Formatter<W>,
+    offset: u16,
+    saved: &[Option<RegisterNameX86>; 5],
+) -> fmt::Result
+    ensures { WritesOnOk W.write_str_gives f.old result (frame_based_text offset saved.now) f.new }
+{
+    write_frame(f, 4)?;
+    let [fifth, fourth, third, second, first] = *saved;
+    let fields = [first, second, third, fourth, fifth];
+    let count = usize::from(offset / 4).min(5);
+    write_fields(f, 4, u32::from(offset) + 8, &fields[..count])
+}
+
+/// What the two kinds of frames without a frame pointer have in common: the slots of the return
+/// address and of the registers, from the last register back.
+fn write_frameless<W: fmt::Write>(
+    f: &mut fmt::Formatter<W>,
+    saved: &[Option<RegisterNameX86>; 6],
+) -> fmt::Result
+    ensures { WritesOnOk W.write_str_gives f.old result (frameless_text saved.now) f.new }
+{
+    write_return(f, 4)?;
+    let [sixth, fifth, fourth, third, second, first] = *saved;
+    write_registers(f, 4, 8, &[first, second, third, fourth, fifth, sixth])
+}

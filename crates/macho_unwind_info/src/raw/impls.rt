@@ -1,0 +1,246 @@
+// Where the parts of a section lie.
+ghost use Rattle.std.specs.Prelude.{◌≡◌};
+ghost use Rattle.macho_unwind_info.specs.Unaligned.{u32_number, u16_number};
+ghost use Rattle.macho_unwind_info.specs.Parts.{header_of, global_opcodes_of, pages_of, kind_of, regular_page_of, regular_functions_of, compressed_page_of, compressed_functions_of, local_opcodes_of};
+
+use super::format::{
+    CompactUnwindInfoHeader, CompressedPage, Opcode, PageEntry, RegularFunctionEntry, RegularPage,
+};
+use super::unaligned::U32;
+use crate::error::ReadError;
+use crate::reader::{read_at, read_slice_at};
+use memory_image::Records;
+
+impl CompactUnwindInfoHeader {
+    /// The header at the start of a section's bytes.
+    ///
+    /// Errors: `Header` where fewer than 28 bytes are there.
+    pub fn parse(bytes: &[u8]) -> Result<Self, ReadError>
+        ensures { result ≡ header_of bytes.now }
+    {
+        read_at(bytes, 0).ok_or(ReadError::Header)
+    }
+
+    /// Where the global opcodes lie, in bytes from the start of the section.
+    pub fn global_opcodes_offset(&self) -> u32
+        ensures { result ≡ u32_number self.now.global_opcodes_offset }
+    {
+        self.global_opcodes_offset.into()
+    }
+
+    /// How many global opcodes there are.
+    pub fn global_opcodes_len(&self) -> u32
+        ensures { result ≡ u32_number self.now.global_opcodes_len }
+    {
+        self.global_opcodes_len.into()
+    }
+
+    /// Where the list of pages lies, in bytes from the start of the section.
+    pub fn pages_offset(&self) -> u32
+        ensures { result ≡ u32_number self.now.pages_offset }
+    {
+        self.pages_offset.into()
+    }
+
+    /// How many pages there are, the sentinel included.
+    pub fn pages_len(&self) -> u32
+        ensures { result ≡ u32_number self.now.pages_len }
+    {
+        self.pages_len.into()
+    }
+
+    /// The opcodes that all compressed pages share.
+    ///
+    /// Errors: `GlobalOpcodes` where they don't fit in the section's bytes.
+    pub fn global_opcodes<'d>(&self, bytes: &'d [u8]) -> Result<Records<'d, Opcode>, ReadError>
+        ensures { result ≡ global_opcodes_of self.now bytes.now }
+    {
+        let count = self.global_opcodes_len() as usize;
+        read_slice_at(bytes, u64::from(self.global_opcodes_offset()), count).ok_or(
+            ReadError::GlobalOpcodes,
+        )
+    }
+
+    /// The list of pages. The last one is the sentinel, whose first address ends the section's
+    /// range.
+    ///
+    /// Errors: `Pages` where they don't fit in the section's bytes.
+    pub fn pages<'d>(&self, bytes: &'d [u8]) -> Result<Records<'d, PageEntry>, ReadError>
+        ensures { result ≡ pages_of self.now bytes.now }
+    {
+        let count = self.pages_len() as usize;
+        read_slice_at(bytes, u64::from(self.pages_offset()), count).ok_or(ReadError::Pages)
+    }
+}
+
+impl PageEntry {
+    /// The first address that the page covers, relative to the module's base.
+    pub fn first_address(&self) -> u32
+        ensures { result ≡ u32_number self.now.first_address }
+    {
+        self.first_address.into()
+    }
+
+    /// Where the page lies, in bytes from the start of the section.
+    pub fn page_offset(&self) -> u32
+        ensures { result ≡ u32_number self.now.page_offset }
+    {
+        self.page_offset.into()
+    }
+
+    /// Where the page's part of the list of language tables begins, in bytes from the start of
+    /// the section.
+    pub fn lsda_index_offset(&self) -> u32
+        ensures { result ≡ u32_number self.now.lsda_index_offset }
+    {
+        self.lsda_index_offset.into()
+    }
+
+    /// The word at the page's start, which tells its kind.
+    ///
+    /// Errors: `PageKind` where it doesn't fit in the section's bytes.
+    pub fn page_kind(&self, bytes: &[u8]) -> Result<u32, ReadError>
+        ensures { result ≡ kind_of self.now bytes.now }
+    {
+        let kind: U32 = read_at(bytes, u64::from(self.page_offset())).ok_or(ReadError::PageKind)?;
+        Ok(kind.into())
+    }
+}
+
+impl RegularPage {
+    /// The header of the regular page at an offset from the start of the section.
+    ///
+    /// Errors: `RegularPage` where it doesn't fit in the section's bytes.
+    pub fn parse(bytes: &[u8], page_offset: u64) -> Result<Self, ReadError>
+        ensures { result ≡ regular_page_of bytes.now page_offset }
+    {
+        read_at(bytes, page_offset).ok_or(ReadError::RegularPage)
+    }
+
+    /// Where the entries lie, in bytes from the start of the page.
+    pub fn functions_offset(&self) -> u16
+        ensures { result ≡ u16_number self.now.functions_offset }
+    {
+        self.functions_offset.into()
+    }
+
+    /// How many entries there are.
+    pub fn functions_len(&self) -> u16
+        ensures { result ≡ u16_number self.now.functions_len }
+    {
+        self.functions_len.into()
+    }
+
+    /// The entries of the page at an offset from the start of the section.
+    ///
+    /// Errors: `RegularPageFunctions` where they don't fit in the section's bytes.
+    pub fn functions<'d>(
+        &self,
+        bytes: &'d [u8],
+        page_offset: u32,
+    ) -> Result<Records<'d, RegularFunctionEntry>, ReadError>
+        ensures { result ≡ regular_functions_of self.now bytes.now page_offset }
+    {
+        let offset = u64::from(page_offset) + u64::from(self.functions_offset());
+        read_slice_at(bytes, offset, usize::from(self.functions_len())).ok_or(
+            ReadError::RegularPageFunctions,
+        )
+    }
+}
+
+impl CompressedPage {
+    /// The header of the compressed page at an offset from the start of the section.
+    ///
+    /// Errors: `CompressedPage` where it doesn't fit in the section's bytes.
+    pub fn parse(bytes: &[u8], page_offset: u64) -> Result<Self, ReadError>
+        ensures { result ≡ compressed_page_of bytes.now page_offset }
+    {
+        read_at(bytes, page_offset).ok_or(ReadError::CompressedPage)
+    }
+
+    /// Where the entries lie, in bytes from the start of the page.
+    pub fn functions_offset(&self) -> u16
+        ensures { result ≡ u16_number self.now.functions_offset }
+    {
+        self.functions_offset.into()
+    }
+
+    /// How many entries there are.
+    pub fn functions_len(&self) -> u16
+        ensures { result ≡ u16_number self.now.functions_len }
+    {
+        self.functions_len.into()
+    }
+
+    /// Where the page's own opcodes lie, in bytes from the start of the page.
+    pub fn local_opcodes_offset(&self) -> u16
+        ensures { result ≡ u16_number self.now.local_opcodes_offset }
+    {
+        self.local_opcodes_offset.into()
+    }
+
+    /// How many opcodes of its own the page has.
+    pub fn local_opcodes_len(&self) -> u16
+        ensures { result ≡ u16_number self.now.local_opcodes_len }
+    {
+        self.local_opcodes_len.into()
+    }
+
+    /// The entries of the page at an offset from the start of the section. Each word is a
+    /// [`CompressedFunctionEntry`](super::CompressedFunctionEntry).
+    ///
+    /// Errors: `CompressedPageFunctions` where they don't fit in the section's bytes.
+    pub fn functions<'d>(
+        &self,
+        bytes: &'d [u8],
+        page_offset: u32,
+    ) -> Result<Records<'d, U32>, ReadError>
+        ensures { result ≡ compressed_functions_of self.now bytes.now page_offset }
+    {
+        let offset = u64::from(page_offset) + u64::from(self.functions_offset());
+        read_slice_at(bytes, offset, usize::from(self.functions_len())).ok_or(
+            ReadError::CompressedPageFunctions,
+        )
+    }
+
+    /// The opcodes of the page's own, of the page at an offset from the start of the section.
+    ///
+    /// Errors: `LocalOpcodes` where they don't fit in the section's bytes.
+    pub fn local_opcodes<'d>(
+        &self,
+        bytes: &'d [u8],
+        page_offset: u32,
+    ) -> Result<Records<'d, Opcode>, ReadError>
+        ensures { result ≡ local_opcodes_of self.now bytes.now page_offset }
+    {
+        let offset = u64::from(page_offset) + u64::from(self.local_opcodes_offset());
+        read_slice_at(bytes, offset, usize::from(self.local_opcodes_len())).ok_or(
+            ReadError::LocalOpcodes,
+        )
+    }
+}
+
+impl Opcode {
+    /// The opcode's 32 bits.
+    pub fn opcode(&self) -> u32
+        ensures { result ≡ u32_number self.now.0 }
+    {
+        self.0.into()
+    }
+}
+
+impl RegularFunctionEntry {
+    /// Where the function begins, relative to the module's base.
+    pub fn address(&self) -> u32
+        ensures { result ≡ u32_number self.now.address }
+    {
+        self.address.into()
+    }
+
+    /// The function's opcode.
+    pub fn opcode(&self) -> u32
+        ensures { result ≡ u32_number self.now.opcode.0 }
+    {
+        self.opcode.opcode()
+    }
+}

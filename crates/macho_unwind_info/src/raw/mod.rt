@@ -1,0 +1,11 @@
+mod compressed_function;
+pub mod consts;
+mod format;
+mod impls;
+mod unaligned;
+
+pub use compressed_function::CompressedFunctionEntry;
+pub use format::{
+    CompactUnwindInfoHeader, CompressedPage, Opcode, PageEntry, RegularFunctionEntry, RegularPage,
+};
+pub use unaligned::{U16, U32};

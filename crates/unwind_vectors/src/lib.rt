@@ -1,0 +1,8 @@
+//! Worked examples of the library crates, and bytes that other tools made, as tests. There is nothing
+//! here to call.
+#![tactic(auto)]
+
+#[cfg(test)]
+mod macho;
+#[cfg(test)]
+mod macho_linked;

@@ -1,0 +1,203 @@
+// Worked examples of compact unwinding.
+use macho_unwind_info::opcodes::{
+    OpcodeArm64, OpcodeX86, OpcodeX86_64, RegisterNameX86, RegisterNameX86_64, decode_permutation_6,
+};
+use macho_unwind_info::raw::consts::OPCODE_KIND_ARM64_DWARF;
+use macho_unwind_info::raw::{CompressedFunctionEntry, U32};
+use macho_unwind_info::{Error, Function, HexNum, ReadError, UnwindInfo};
+use std::test::Fail;
+
+// A compressed page at 0x1000 with two entries, the second of which names an opcode that isn't
+// there; a regular page at 0x2000 with one entry; and the sentinel at 0x3000.
+const SECTION: [u8; 104] = [
+    0x01, 0x00, 0x00, 0x00, 0x1c, 0x00, 0x00, 0x00, 0x01, 0x00, 0x00, 0x00, 0x00, 0x00, 0x00, 0x00,
+    0x00, 0x00, 0x00, 0x00, 0x20, 0x00, 0x00, 0x00, 0x03, 0x00, 0x00, 0x00, 0x00, 0x00, 0x01, 0x02,
+    0x00, 0x10, 0x00, 0x00, 0x44, 0x00, 0x00, 0x00, 0x00, 0x00, 0x00, 0x00, 0x00, 0x20, 0x00, 0x00,
+    0x58, 0x00, 0x00, 0x00, 0x00, 0x00, 0x00, 0x00, 0x00, 0x30, 0x00, 0x00, 0x00, 0x00, 0x00, 0x00,
+    0x00, 0x00, 0x00, 0x00, 0x03, 0x00, 0x00, 0x00, 0x0c, 0x00, 0x02, 0x00, 0x14, 0x00, 0x00, 0x00,
+    0x00, 0x00, 0x00, 0x00, 0x00, 0x01, 0x00, 0x01, 0x02, 0x00, 0x00, 0x00, 0x08, 0x00, 0x01, 0x00,
+    0x00, 0x20, 0x00, 0x00, 0x01, 0x00, 0x01, 0x01,
+];
+
+#[test]
+fn opcodes_without_a_frame_pointer(rt: HostRuntime) -> Result<(), Fail> {
+    let opcode = OpcodeX86_64::parse(0x030d_f800);
+    let saved_regs = [
+        Some(RegisterNameX86_64::Rbx),
+        Some(RegisterNameX86_64::R12),
+        Some(RegisterNameX86_64::R13),
+        Some(RegisterNameX86_64::R14),
+        Some(RegisterNameX86_64::R15),
+        Some(RegisterNameX86_64::Rbp),
+    ];
+    let text = opcode.to_string(rt.alloc())?;
+    assert_eq!(rt;
+        text.as_str(),
+        "CFA=[function_start+13]+56 reg16=[CFA-8], reg6=[CFA-16], reg15=[CFA-24], reg14=[CFA-32], reg13=[CFA-40], reg12=[CFA-48], reg3=[CFA-56]"
+    );
+    assert!(rt;
+        opcode
+            == OpcodeX86_64::FramelessIndirect {
+                immediate_offset_from_function_start: 13,
+                stack_adjust_in_bytes: 56,
+                saved_regs,
+            }
+    );
+    let saved_regs = [
+        Some(RegisterNameX86::Ebx),
+        Some(RegisterNameX86::Ecx),
+        Some(RegisterNameX86::Edx),
+        Some(RegisterNameX86::Edi),
+        Some(RegisterNameX86::Esi),
+        Some(RegisterNameX86::Ebp),
+    ];
+    assert!(rt;
+        OpcodeX86::parse(0x030d_f800)
+            == OpcodeX86::FramelessIndirect {
+                immediate_offset_from_function_start: 13,
+                stack_adjust_in_bytes: 28,
+                saved_regs,
+            }
+    );
+    Ok(())
+}
+
+#[test]
+fn permutations_are_decoded(rt: HostRuntime) {
+    assert!(rt; OpcodeX86_64::parse(0x0200_1c00) == OpcodeX86_64::InvalidFrameless);
+    assert_eq!(rt; decode_permutation_6(5, 719), Ok([6, 5, 4, 3, 2, 0]));
+    assert_eq!(rt; decode_permutation_6(5, 720), Err(()));
+    assert_eq!(rt; decode_permutation_6(6, 719), Ok([6, 5, 4, 3, 2, 1]));
+    assert_eq!(rt; decode_permutation_6(0, 1023), Ok([0; 6]));
+    assert_eq!(rt; decode_permutation_6(7, 0), Err(()));
+}
+
+#[test]
+fn opcodes_are_printed(rt: HostRuntime) -> Result<(), Fail> {
+    let text = OpcodeX86_64::parse(0x0101_0001).to_string(rt.alloc())?;
+    assert_eq!(rt;
+        text.as_str(),
+        "CFA=reg6+16: reg6=[CFA-16], reg16=[CFA-8], reg3=[CFA-24]"
+    );
+    let text = OpcodeX86_64::parse(0x0201_0000).to_string(rt.alloc())?;
+    assert_eq!(rt; text.as_str(), "CFA=reg7+8: reg16=[CFA-8]");
+    let text = OpcodeArm64::parse(0x0200_1000).to_string(rt.alloc())?;
+    assert_eq!(rt; text.as_str(), "CFA=reg31+16");
+    let text = OpcodeArm64::parse(0x0400_0001).to_string(rt.alloc())?;
+    assert_eq!(rt;
+        text.as_str(),
+        "CFA=reg29+16: reg29=[CFA-16], reg30=[CFA-8], reg19=[CFA-32], reg20=[CFA-40]"
+    );
+    Ok(())
+}
+
+// The function from 0x1000 on.
+fn first_function() -> Function {
+    Function {
+        start_address: 0x1000,
+        end_address: 0x1100,
+        opcode: 0x0201_0000,
+    }
+}
+
+// The function from 0x2000 on.
+fn last_function() -> Function {
+    Function {
+        start_address: 0x2000,
+        end_address: 0x3000,
+        opcode: 0x0101_0001,
+    }
+}
+
+#[test]
+fn functions_are_looked_up(rt: HostRuntime) -> Result<(), Fail> {
+    let info = UnwindInfo::parse(&SECTION)?;
+    assert!(rt; info.lookup(0x0fff) == Ok(None));
+    assert!(rt; info.lookup(0x1000) == Ok(Some(first_function())));
+    assert!(rt; info.lookup(0x10ff) == Ok(Some(first_function())));
+    assert!(rt; info.lookup(0x1100) == Err(Error::ReadError(ReadError::LocalOpcodes)));
+    assert!(rt; info.lookup(0x2000) == Ok(Some(last_function())));
+    assert!(rt; info.lookup(0x3000) == Ok(None));
+    assert_eq!(rt; info.address_range().start, 0x1000);
+    assert_eq!(rt; info.address_range().end, 0x3000);
+    Ok(())
+}
+
+#[test]
+fn functions_are_listed(rt: HostRuntime) -> Result<(), Fail> {
+    let mut functions = UnwindInfo::parse(&SECTION)?.functions();
+    assert!(rt; functions.next() == Ok(Some(first_function())));
+    assert!(rt; functions.next() == Err(Error::ReadError(ReadError::LocalOpcodes)));
+    assert!(rt; functions.next() == Ok(Some(last_function())));
+    assert!(rt; functions.next() == Ok(None));
+    assert!(rt; functions.next() == Ok(None));
+    Ok(())
+}
+
+#[test]
+fn words_are_ordered_by_their_bytes(rt: HostRuntime) -> Result<(), Fail> {
+    assert!(rt; U32::from(256) < U32::from(1));
+    assert_eq!(rt; u32::from(U32::from(0x0102_0304)), 0x0102_0304);
+    assert_eq!(rt; OPCODE_KIND_ARM64_DWARF, 3);
+    let (word, hex) = (U32::from(7), HexNum(255u8));
+    let text = format!(in rt.alloc(); "{word:?} {hex:?}")?;
+    assert_eq!(rt; text.as_str(), "7 ff");
+    let entry = CompressedFunctionEntry::new(0x0b00_00ff);
+    let text = format!(in rt.alloc(); "{entry:?}")?;
+    assert_eq!(rt;
+        text.as_str(),
+        "CompressedFunctionEntry { opcode_index: b, relative_address: ff }"
+    );
+    Ok(())
+}
+
+#[test]
+fn errors_are_printed(rt: HostRuntime) -> Result<(), Fail> {
+    let errors = [
+        (
+            ReadError::Header.into(),
+            "Read error: Could not read CompactUnwindInfoHeader",
+        ),
+        (
+            ReadError::GlobalOpcodes.into(),
+            "Read error: Could not read global opcodes",
+        ),
+        (ReadError::Pages.into(), "Read error: Could not read pages"),
+        (
+            ReadError::RegularPage.into(),
+            "Read error: Could not read RegularPage",
+        ),
+        (
+            ReadError::RegularPageFunctions.into(),
+            "Read error: Could not read RegularPage functions",
+        ),
+        (
+            ReadError::CompressedPage.into(),
+            "Read error: Could not read CompressedPage",
+        ),
+        (
+            ReadError::CompressedPageFunctions.into(),
+            "Read error: Could not read CompressedPage functions",
+        ),
+        (
+            ReadError::LocalOpcodes.into(),
+            "Read error: Could not read local opcodes",
+        ),
+        (
+            ReadError::PageKind.into(),
+            "Read error: Could not read page kind",
+        ),
+        (
+            Error::InvalidPageEntryFirstAddress,
+            "The page entry's first_address didn't match the address of its first function",
+        ),
+        (Error::InvalidPageKind, "Invalid page kind"),
+        (Error::UnexpectedSentinelPage, "Unexpected sentinel page"),
+        (Error::AddressOverflow, "Address overflow"),
+    ];
+    for (error, expected) in &errors {
+        let text = error.to_string(rt.alloc())?;
+        assert_eq!(rt; text.as_str(), *expected);
+    }
+    Ok(())
+}
