@@ -7,3 +7,16 @@ pub mod Entries
 pub mod Row
 pub mod Scan
 pub mod Caller
+pub mod State
+pub mod Prologue
+pub mod Entered
+pub mod Function
+pub mod DescribedRows
+pub mod LanguageTable
+pub mod FrameTable
+pub mod Module
+pub mod Chain
+pub mod Delivery
+pub mod Valid
+pub mod Stopped
+pub mod Numbers

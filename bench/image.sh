@@ -1,0 +1,119 @@
+#!/bin/bash
+# Measures an image of memory: instructions (callgrind) of adding regions and of reading.
+#
+#     bench/image.sh
+#
+# Makes a program over a copy of crates/memory_image, builds it by `rt run`, and runs it under
+# valgrind. A read includes the loop around it, some 14 instructions.
+set -eu
+here=$(cd "$(dirname "$0")" && pwd)
+work=$(mktemp -d)
+trap 'rm -rf "$work"' EXIT
+mkdir -p "$work/crates/image/src"
+cp -r "$here/../crates/memory_image" "$work/crates/memory_image"
+printf 'memory_image:\nimage: memory_image\n' >"$work/crates.txt"
+cp "$here/../HANDLES" "$work/HANDLES"
+cat >"$work/crates/image/src/main.rt" <<'PROGRAM'
+//! Adds regions of one byte in an order, and reads each so many times: `image ORDER COUNT PASSES BYTES`.
+#![tactic(auto)]
+
+use memory_image::MemoryImage;
+use std::env;
+use std::process::ExitCode;
+
+#[derive(Clone, Copy, PartialEq, Eq)]
+enum Order {
+    Ascending,
+    Descending,
+    Shuffled,
+}
+
+/// The address of the region with this number.
+fn address(order: Order, number: u64, count: u64, width: u64) -> u64 {
+    let place = match order {
+        Order::Ascending => number,
+        Order::Descending => count.wrapping_sub(1).wrapping_sub(number),
+        Order::Shuffled => match number.wrapping_mul(7_368_787).checked_rem(count) {
+            Some(place) => place,
+            None => 0,
+        },
+    };
+    place.wrapping_mul(width).wrapping_add(0x1000)
+}
+
+fn run(rt: HostRuntime, order: Order, count: u64, passes: u64, width: u64, bytes: &[u8]) -> (u64, u64) {
+    let mut image = MemoryImage::new(rt.alloc());
+    let mut refused = 0u64;
+    for number in 0..count {
+        if image.add(address(order, number, count, width), bytes).is_err() {
+            refused = refused.wrapping_add(1);
+        }
+    }
+    let mut total = 0u64;
+    for _ in 0..passes {
+        for number in 0..count {
+            let at = address(Order::Shuffled, number, count, width);
+            let read = if bytes.len() < 8 {
+                image.byte(at).map(u64::from)
+            } else {
+                image.read_u64(at)
+            };
+            total = total.wrapping_add(read.unwrap_or(0));
+        }
+    }
+    (refused, total)
+}
+
+fn main(rt: HostRuntime) -> ExitCode {
+    let mut order = Order::Ascending;
+    let mut numbers = [0u64; 3];
+    let mut place = 0usize;
+    let Ok(words) = env::args(&rt) else {
+        return ExitCode::from(2);
+    };
+    for word in words {
+        match word.as_str() {
+            "ascending" => order = Order::Ascending,
+            "descending" => order = Order::Descending,
+            "shuffled" => order = Order::Shuffled,
+            other => {
+                if let Ok(number) = other.parse::<u64>() {
+                    if place < 3 {
+                        numbers[place] = number;
+                        place += 1;
+                    }
+                }
+            }
+        }
+    }
+    let bytes = [7u8; 8];
+    let size = if numbers[2] == 8 { 8 } else { 1 };
+    let (refused, total) = run(rt, order, numbers[0], numbers[1], 16, &bytes[..size]);
+    match println!(rt; "refused {refused} total {total}") {
+        Ok(()) => ExitCode::from(0),
+        Err(_) => ExitCode::from(1),
+    }
+}
+PROGRAM
+(cd "$work/crates/image" && rt run -- ascending 0 0 1 >/dev/null)
+
+count() {
+    valgrind --tool=callgrind --callgrind-out-file=/dev/null "$work/crates/image/out/image" "$@" 2>&1 |
+        awk '/Collected/ {print $4}'
+}
+
+base=$(count ascending 0 0 1)
+for order in ascending descending shuffled; do
+    adds=$(count $order 1000000 0 1)
+    all=$(count $order 1000000 1 1)
+    echo "$order: 1,000,000 adds $adds, adds and one read of each $all;" \
+        "an add $(((adds - base) / 1000000)), a read $(((all - adds) / 1000000))"
+done
+for regions in 1 100 10000; do
+    for bytes in 1 8; do
+        passes=$((1000000 / regions))
+        adds=$(count ascending $regions 0 $bytes)
+        all=$(count ascending $regions $passes $bytes)
+        echo "$regions regions of $bytes bytes: a read $(((all - adds) / (regions * passes)))"
+    done
+done

@@ -1,0 +1,53 @@
+#!/usr/bin/env python3
+"""Writes a snapshot on which to measure, to the standard output.
+
+    snapshots.py row           one function that pushes RBX, and a stack of 16 bytes
+    snapshots.py region BYTES  the same with one more region of so many random bytes
+    snapshots.py regions N     the same with N more regions of 16 bytes, by descending address
+    snapshots.py modules N     the same with N more modules of 16 addresses, by descending address
+    snapshots.py resumes N     the same with N return addresses
+"""
+import random
+import sys
+
+TABLE = (
+    "1400000000000000017a5200017810011b0c070890010000"
+    "140000001c000000e00ff0ff1000000000410e1083020000"
+    "00000000"
+)
+
+
+def region(address, digits):
+    return '{"address":"%#x","bytes":"%s"}' % (address, digits)
+
+
+def module(start, end, table):
+    return '{"kind":"elf","start":"%#x","end":"%#x","eh_frame":"%#x"}' % (start, end, table)
+
+
+def main():
+    kind = sys.argv[1]
+    count = int(sys.argv[2]) if len(sys.argv) > 2 else 0
+    random.seed(1)
+    regions = [region(0x500000, TABLE), region(0x7000, "05" + 15 * "00")]
+    modules = [module(0x401000, 0x401010, 0x500000)]
+    resumes = []
+    if kind == "region":
+        regions.append(region(0x10000000, random.randbytes(count).hex()))
+    elif kind == "regions":
+        regions += [region(0x10000000 + 32 * i, 32 * "a") for i in range(count, 0, -1)]
+    elif kind == "modules":
+        modules += [module(0x10000000 + 32 * i, 0x10000010 + 32 * i, 0x500000) for i in range(count, 0, -1)]
+    elif kind == "resumes":
+        resumes = ['["%#x","%#x"]' % (i, i + 1) for i in range(count)]
+    elif kind != "row":
+        sys.exit(__doc__)
+    start = '{"rip":"0x401006","rsp":"0x7000","rbx":"0x9"}'
+    print(
+        '{"regions":[%s],"modules":[%s],"start":%s,"resumes":[%s],"limit":2}'
+        % (",".join(regions), ",".join(modules), start, ",".join(resumes)),
+        end="",
+    )
+
+
+main()

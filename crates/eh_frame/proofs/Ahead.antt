@@ -1,0 +1,120 @@
+-- Each entry ends behind its start, and inside its table.
+use Rattle.std.proofs.Common.{◌≡◌, ℕ, ◌+◌, ◌-◌, ◌<◌, ◌≤◌, Bool, true, false, cond, length, take, drop, Option, Some, None, Result, Ok, Err, refl, sym, ap, subst, arith}
+use Rattle.std.specs.Prelude.{nat_lt, ◌==◌, if◌then◌else◌}
+use Rattle.std.specs.Int.{w32, from_le_bytes}
+use Rattle.std.proofs.lemmas.Bool.{ltb-false}
+use Rattle.std.proofs.lemmas.List.{length-drop}
+use Rattle.unwind_definitions.specs.declared.error.Error.{Error as Fault}
+use Rattle.unwind_definitions.specs.declared.error.Error.TheVariants.{UnexpectedEof}
+use Rattle.unwind_definitions.specs.Faults.{◌>>=◌}
+use Rattle.unwind_definitions.specs.Input.{Input, skip, split, number}
+use Rattle.unwind_definitions.specs.Forms.{plain}
+use Rattle.unwind_definitions.specs.Pointers.{Bases}
+use Rattle.unwind_definitions.specs.Entries.{Entry, Found, body, entry_in, found_in, entry_at}
+
+-- so many bytes are there, and a place stands behind them
+abbrev IsBehind : ℕ → Input → Input → Type 0
+IsBehind n c d = (n ≤ length c.bytes) × (d ≡ skip n c)
+
+rest_or : {A : Type 0} → Input → Result (A × Input) Fault → Input
+rest_or c (Ok r) = r.1
+rest_or c (Err e) = c
+
+same_rest : {A : Type 0} (a b : A) (c d : Input) → ◌≡◌ {A = Result (A × Input) Fault} (Ok (a, c)) (Ok (b, d)) → c ≡ d
+unfolding rest_or
+same_rest a b c d e = ap (rest_or c) e
+
+abbrev reads : {A : Type 0} → A → Input → Result (A × Input) Fault
+reads a c = Ok (a, c)
+
+abbrev unread : {A : Type 0} → Fault → Result (A × Input) Fault
+unread e = Err e
+
+number_behind : (c : Input) (n : ℕ) (d : Input) → number w32 c ≡ Ok (n, d) → IsBehind 4 c d
+number_behind c n d e = go (nat_lt (length c.bytes) 4) refl e
+  where
+    go : (b : Bool) → nat_lt (length c.bytes) 4 ≡ b → cond b (unread UnexpectedEof) (reads (from_le_bytes w32 (take 4 c.bytes)) (skip 4 c)) ≡ Ok (n, d) → IsBehind 4 c d
+    go true is e = absurd cc
+    go false is e = (ltb-false (length c.bytes) 4 is, sym (same_rest _ n (skip 4 c) d e))
+
+abbrev front : ℕ → Input → Input
+front n c = record { base = c.base; offset = c.offset; bytes = take n c.bytes }
+
+split_behind : (n : ℕ) (c b d : Input) → split n c ≡ Ok (b, d) → IsBehind n c d
+split_behind n c b d e = go (nat_lt (length c.bytes) n) refl e
+  where
+    go : (t : Bool) → nat_lt (length c.bytes) n ≡ t → cond t (unread UnexpectedEof) (reads (front n c) (skip n c)) ≡ Ok (b, d) → IsBehind n c d
+    go true is e = absurd cc
+    go false is e = (ltb-false (length c.bytes) n is, sym (same_rest _ b (skip n c) d e))
+
+-- a place is ahead of another, and not behind the end of its bytes
+abbrev IsAhead : Input → ℕ → Type 0
+IsAhead c next = (c.offset < next) × (next ≤ c.offset + length c.bytes)
+
+has_part : Result (Option Input × Input) Fault → Bool
+has_part (Ok (Some b, rest)) = true
+has_part (Ok (None, rest)) = false
+has_part (Err e) = false
+
+no_part : (b c d : Input) → ◌≡◌ {A = Result (Option Input × Input) Fault} (Ok (None, c)) (Ok (Some b, d)) → ⊥
+unfolding has_part
+no_part b c d e = let h : false ≡ true = ap has_part e in absurd cc
+
+abbrev some_part : Input × Input → Result (Option Input × Input) Fault
+some_part b = Ok (Some b.0, b.1)
+
+ahead_by : (n : ℕ) (c rest d : Input) → IsBehind 4 c rest → IsBehind n rest d → IsAhead c d.offset
+ahead_by n c rest d four more =
+    let cut : length (drop 4 c.bytes) ≡ length c.bytes - 4 = length-drop 4 c.bytes in
+    let at : rest.offset ≡ c.offset + 4 = ap (λ (x : Input). x.offset) four.1 in
+    let left : length rest.bytes ≡ length (drop 4 c.bytes) = ap (λ (x : Input). length x.bytes) four.1 in
+    let end : d.offset ≡ rest.offset + n = ap (λ (x : Input). x.offset) more.1 in
+    let le = four.0 in let fits = more.0 in
+    (omega arith, omega arith)
+
+body_ahead : (c b d : Input) → body plain c ≡ Ok (Some b, d) → IsAhead c d.offset
+body_ahead c b d e = go (length c.bytes == 0) (number w32 c) refl e
+  where
+    part : (n : ℕ × Input) (r : Result (Input × Input) Fault) → IsBehind 4 c n.1 → split n.0 n.1 ≡ r → (r >>= some_part) ≡ Ok (Some b, d) → IsAhead c d.offset
+    part n (Err f) four is e = absurd cc
+    part n (Ok x) four is e = subst (λ (y : Input). IsAhead c y.offset) (same_rest _ (Some b) x.1 d e) (ahead_by n.0 c n.1 x.1 four (split_behind n.0 n.1 x.0 x.1 is))
+
+    behind : (n : ℕ × Input) (z : Bool) → IsBehind 4 c n.1 → cond z (Ok (None, n.1)) (split n.0 n.1 >>= some_part) ≡ Ok (Some b, d) → IsAhead c d.offset
+    behind n true four e = absurd (no_part b n.1 d e)
+    behind n false four e = part n (split n.0 n.1) four refl e
+
+    go : (z : Bool) (r : Result (ℕ × Input) Fault) → number w32 c ≡ r → cond z (Ok (None, c)) (r >>= λ n. if n.0 == 0 then Ok (None, n.1) else (split n.0 n.1 >>= some_part)) ≡ Ok (Some b, d) → IsAhead c d.offset
+    go true r is e = absurd (no_part b c d e)
+    go false (Err f) is e = absurd cc
+    go false (Ok n) is e = behind n (n.0 == 0) (number_behind c n.0 n.1 is) e
+
+next_of : Result (Option Found) Fault → ℕ
+next_of (Ok (Some f)) = f.next
+next_of (Ok None) = 0
+next_of (Err f) = 0
+
+abbrev placed_before : ℕ → Entry → Result (Option Found) Fault
+placed_before next x = Ok (Some (record { entry = x; next = next }))
+
+-- The next entry stands ahead of an entry of a table, and not behind the table's end.
+pub entry_ahead : (bases : Bases) (table : Input) (offset : ℕ) (found : Found) → entry_at plain bases table offset ≡ Ok (Some found) → IsAhead (skip offset table) found.next
+unfolding entry_at next_of
+entry_ahead bases table offset found at = go (body plain (skip offset table)) refl at
+  where
+    inner : (b d : Input) (r : Result Entry Fault) → IsAhead (skip offset table) d.offset → (r >>= placed_before d.offset) ≡ Ok (Some found) → IsAhead (skip offset table) found.next
+    inner b d (Err f) ahead h = absurd cc
+    inner b d (Ok x) ahead h = subst (IsAhead (skip offset table)) (ap next_of h) ahead
+
+    go : (r : Result (Option Input × Input) Fault) → body plain (skip offset table) ≡ r → (r >>= λ b. found_in plain bases table offset b.0 b.1.offset) ≡ Ok (Some found) → IsAhead (skip offset table) found.next
+    go (Err f) is h = absurd cc
+    go (Ok (None, d)) is h = absurd cc
+    go (Ok (Some b, d)) is h = inner b d (entry_in plain bases table offset b) (body_ahead (skip offset table) b d is) h
+
+-- the same of a table that nothing stands before
+pub next_within : (bases : Bases) (table : Input) (offset : ℕ) (found : Found) → table.offset ≡ 0 → offset ≤ length table.bytes → entry_at plain bases table offset ≡ Ok (Some found) →
+    (offset < found.next) × (found.next ≤ length table.bytes)
+next_within bases table offset found start within at =
+    let ahead = entry_ahead bases table offset found at in
+    let low = ahead.0 in let high = ahead.1 in
+    let cut : length (drop offset table.bytes) ≡ length table.bytes - offset = length-drop offset table.bytes in
+    (omega arith, omega arith)

@@ -1,0 +1,16 @@
+mod Leb
+mod CieParts
+mod FdeParts
+mod EntryParts
+mod Scanning
+mod Ahead
+mod Searching
+mod Faults
+mod Answered
+mod RuleLists
+mod Pushed
+mod Columns
+mod Steps
+mod CannotFollow
+mod Reading
+mod Together

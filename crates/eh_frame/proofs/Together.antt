@@ -1,0 +1,85 @@
+-- The program of a common information entry and a description's own make the row.
+use Rattle.std.proofs.Common.{◌≡◌, ℕ, true, cond, List, [], length, Option, Some, None, Result, Ok, Err, refl, sym, ap, subst, ◌∙◌}
+use Rattle.std.specs.Prelude.{is_some}
+use Rattle.std.specs.Option.{option_or}
+use Rattle.std.proofs.lemmas.Bool.{eq-eqb}
+use Rattle.unwind_definitions.specs.declared.error.Error.{Error as Fault}
+use Rattle.unwind_definitions.specs.declared.error.Error.TheVariants.{NoCfaRegister, NoUnwindInfoForAddress}
+use Rattle.unwind_definitions.specs.Forms.{plain}
+use Rattle.unwind_definitions.specs.Input.{Input}
+use Rattle.unwind_definitions.specs.Pointers.{Bases}
+use Rattle.unwind_definitions.specs.Entries.{Fde, coding_of}
+use Rattle.unwind_definitions.specs.Instructions.{Instruction, Program, Coding, program}
+use Rattle.unwind_definitions.specs.Row.{Run, first_fault, up_to, or_else, common_fault, own_fault, from_common, row, row_at, covers_pc, cfa_rule}
+use Rattle.eh_frame.specs.Running.{outcome}
+use Rattle.eh_frame.specs.RowValue.{RowValue}
+use Rattle.eh_frame.specs.Rows.{GivesRow, IsLast}
+
+module _ {A B : Type 0} where
+  stops_at : (o : Option Fault) (a : A) (e : Fault) (x : Result B Fault) → or_else o (Ok a) ≡ Err e → or_else o x ≡ Err e
+  stops_at None a e x is = absurd cc
+  stops_at (Some d) a e x is = let same : d ≡ e = cc in ap (λ d. let r : Result B Fault = Err d in r) same
+
+  goes_on : (o : Option Fault) (a b : A) (x : Result B Fault) → or_else o (Ok a) ≡ Ok b → or_else o x ≡ x
+  goes_on None a b x is = refl
+  goes_on (Some d) a b x is = absurd cc
+
+value_is : {A : Type 0} (o : Option Fault) (a b : A) → or_else o (Ok a) ≡ Ok b → a ≡ b
+value_is None a b is = cc
+value_is (Some d) a b is = absurd cc
+
+-- what the first program ends with
+abbrev pub whole : List Instruction → Run
+whole instructions = record { common = []; own = instructions }
+
+common_is : (common : Program) → outcome 0 None (from_common []) common ≡ or_else (common_fault common) (Ok (whole common.instructions))
+unfolding outcome
+common_is common = ap (λ b. or_else (option_or (first_fault 0 (from_common []) common.instructions) (cond b common.fault None)) (Ok (whole common.instructions))) (eq-eqb (length common.instructions) (length common.instructions) refl)
+
+module _ (start pc : ℕ) (common own : Program) where
+  abbrev reached : List Instruction
+  reached = up_to start pc own.instructions
+
+  abbrev pub last : Run
+  last = record { common = common.instructions; own = up_to start pc own.instructions }
+
+  own_is : outcome start (Some pc) (from_common common.instructions) own ≡ or_else (own_fault start common.instructions own reached) (Ok last)
+  unfolding outcome
+  own_is = refl
+
+  abbrev ending : Result Run Fault
+  ending = cond (is_some (cfa_rule last)) (Ok last) (Err NoCfaRegister)
+
+  pub common_stops : (e : Fault) → outcome 0 None (from_common []) common ≡ Err e → row start pc common own ≡ Err e
+  common_stops e is = stops_at (common_fault common) (whole common.instructions) e (or_else (own_fault start common.instructions own reached) ending) (sym (common_is common) ∙ is)
+
+  pub common_run : (run : Run) → outcome 0 None (from_common []) common ≡ Ok run → whole common.instructions ≡ run
+  common_run run is = value_is (common_fault common) (whole common.instructions) run (sym (common_is common) ∙ is)
+
+  pub own_run : (run : Run) → outcome start (Some pc) (from_common common.instructions) own ≡ Ok run → last ≡ run
+  own_run run is = value_is (own_fault start common.instructions own reached) last run (sym own_is ∙ is)
+
+  past_common : (run : Run) → outcome 0 None (from_common []) common ≡ Ok run → row start pc common own ≡ or_else (own_fault start common.instructions own reached) ending
+  past_common run is = goes_on (common_fault common) (whole common.instructions) run (or_else (own_fault start common.instructions own reached) ending) (sym (common_is common) ∙ is)
+
+  pub own_stops : (run : Run) (e : Fault) → outcome 0 None (from_common []) common ≡ Ok run → outcome start (Some pc) (from_common common.instructions) own ≡ Err e → row start pc common own ≡ Err e
+  own_stops run e first is = past_common run first ∙ stops_at (own_fault start common.instructions own reached) last e ending (sym own_is ∙ is)
+
+  past_own : (run run' : Run) → outcome 0 None (from_common []) common ≡ Ok run → outcome start (Some pc) (from_common common.instructions) own ≡ Ok run' → row start pc common own ≡ ending
+  past_own run run' first second = past_common run first ∙ goes_on (own_fault start common.instructions own reached) last run' ending (sym own_is ∙ second)
+
+  pub row_made : (run run' : Run) (result : Result RowValue Fault) → outcome 0 None (from_common []) common ≡ Ok run → outcome start (Some pc) (from_common common.instructions) own ≡ Ok run' → IsLast last result → GivesRow result (row start pc common own)
+  row_made run run' (Ok r) first second is =
+      (last, past_own run run' first second ∙ ap (λ o. cond (is_some o) (Ok last) (Err NoCfaRegister)) is.cfa, is)
+  row_made run run' (Err e) first second is =
+      past_own run run' first second ∙ ap (λ o. cond (is_some o) (Ok last) (Err NoCfaRegister)) is.1 ∙ ap (λ d. let r : Result Run Fault = Err d in r) (sym is.0)
+
+-- the row of a description, at an address that it contains
+pub of_description : (bases : Bases) (fde : Fde) (pc : ℕ) (result : Result RowValue Fault) (coding : Coding) (common own : Input) → covers_pc fde pc ≡ true → coding ≡ coding_of bases fde.cie → common ≡ fde.cie.program → own ≡ fde.program →
+    GivesRow result (row fde.start pc (program plain coding common) (program plain coding own)) → GivesRow result (row_at plain bases fde pc)
+unfolding row_at
+of_description bases fde pc result coding common own covers coded first second made =
+    subst (λ b. GivesRow result (cond b (row fde.start pc (program plain (coding_of bases fde.cie) fde.cie.program) (program plain (coding_of bases fde.cie) fde.program)) (Err NoUnwindInfoForAddress))) (sym covers)
+    (subst (λ k. GivesRow result (row fde.start pc (program plain k fde.cie.program) (program plain k fde.program))) coded
+    (subst (λ i. GivesRow result (row fde.start pc (program plain coding i) (program plain coding fde.program))) first
+    (subst (λ i. GivesRow result (row fde.start pc (program plain coding common) (program plain coding i))) second made)))

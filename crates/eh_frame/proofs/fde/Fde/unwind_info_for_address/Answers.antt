@@ -1,0 +1,17 @@
+use Rattle.std.proofs.Common.{◌≡◌, true, sym, ◌∙◌}
+use Rattle.unwind_definitions.specs.Pointers.{Bases}
+use Rattle.unwind_definitions.specs.Entries.{Fde, address_encoding}
+use Rattle.unwind_definitions.specs.Row.{covers_pc}
+use Rattle.eh_frame.specs.View.{at}
+use Rattle.eh_frame.specs.Views.{bases_of, fde_of}
+use Rattle.eh_frame.specs.Decoded.{coding_by}
+use Rattle.eh_frame.proofs.Together.{of_description}
+use Rattle.eh_frame.proofs.fde.Fde.unwind_info_for_address.Goals as goal
+
+pub returns : goal.returns
+returns c =
+    let bases : Bases = bases_of c.args.bases.now in
+    let fde : Fde = fde_of c.args.self.now in
+    let covers : covers_pc fde c.args.pc ≡ true = sym c.contains.ensures ∙ c.if-not-contains.false in
+    of_description bases fde c.args.pc c.row_at.result (coding_by c.factors.result (address_encoding fde.cie) bases) (at c.instructions.result) (at c.instructions-2.result)
+    covers (c.factors.ensures bases) c.instructions.ensures c.instructions-2.ensures (c.row_at.ensures (address_encoding fde.cie) bases)

@@ -1,0 +1,189 @@
+//! The entries of a frame table, one after another.
+
+ghost use Rattle.std.specs.Prelude.{◌≡◌, ◌≢◌, ◌↔◌, IfErr, IfOk, IsTrue, Result, Some};
+ghost use Rattle.std.specs.Result.{IsErrOf};
+ghost use Rattle.std.specs.Option.{option_map, option_map_or};
+ghost use Rattle.unwind_definitions.specs.Forms.{plain};
+ghost use Rattle.unwind_definitions.specs.Input.{skip};
+ghost use Rattle.unwind_definitions.specs.Pointers.{Bases as KnownBases};
+ghost use Rattle.unwind_definitions.specs.Entries.{Fde as Described, body, cie_at, cie_in, entry_in, entry_at};
+ghost use Rattle.unwind_definitions.specs.Row.{covers_pc};
+ghost use Rattle.unwind_definitions.specs.Scan.{found_or, scan};
+ghost use Rattle.eh_frame.specs.Readers.{GivesOr, Answers};
+ghost use Rattle.eh_frame.specs.Search.{IsFirst, IsUncovered, IsUnreadable};
+ghost use Rattle.eh_frame.specs.View.{at};
+ghost use Rattle.eh_frame.specs.Views.{bases_of, cie_of, fde_of, entry_of, found_of, table_of};
+
+use crate::bases::Bases;
+use crate::cie::Cie;
+use crate::cursor::Cursor;
+use crate::fde::Fde;
+use unwind_definitions::Error;
+
+/// A frame table: the bytes of `.eh_frame`.
+///
+/// Source: LSB, section on `.eh_frame`.
+#[derive(Clone, Copy)]
+pub struct EhFrame<'a> {
+    bytes: &'a [u8],
+    address: u64,
+}
+
+/// An entry of a frame table.
+#[derive(Clone, Copy)]
+pub(crate) enum Entry<'a> {
+    /// What several descriptions share.
+    Cie(Cie<'a>),
+    /// The description of a function.
+    Fde(Fde<'a>),
+}
+
+// An entry, and where the next one begins.
+#[derive(Clone, Copy)]
+struct Found<'a> {
+    entry: Entry<'a>,
+    next: u64,
+}
+
+impl<'a> EhFrame<'a> {
+    /// The table whose bytes are `bytes`, the first of which has the address `address`.
+    pub fn new(bytes: &'a [u8], address: u64) -> EhFrame<'a>
+        ensures { table_of result ≡ record { base = address; offset = 0; bytes = bytes.now } }
+    {
+        EhFrame { bytes, address }
+    }
+
+    /// The first frame description entry, in the table's order, that contains the address `pc`.
+    ///
+    /// Entries are read one after another, each once, and a description's common information
+    /// entry with it. `bases` is what their pointers may be relative to; those of the forms that
+    /// are read so far are relative to their own place.
+    ///
+    /// # Errors
+    ///
+    /// The error of the first entry before it that can't be read, or
+    /// `NoUnwindInfoForAddress` where all entries can be read and none contains `pc`.
+    pub fn fde_for_address(&self, bases: &Bases, pc: u64) -> Result<Fde<'a>, Error>
+        ensures scan { Answers fde_of result (scan plain (bases_of bases.now) (table_of self.now) pc) }
+        ensures contains { IfOk result (λ fde. IsTrue (covers_pc (fde_of fde) pc)) }
+        ensures first { IfOk result (λ fde.
+            IsFirst plain (bases_of bases.now) (table_of self.now) pc 0 (fde_of fde)) }
+        ensures fault { IfErr result (λ e. e ≢ Error.NoUnwindInfoForAddress →
+            IsUnreadable plain (bases_of bases.now) (table_of self.now) pc 0 e) }
+        ensures none { IsErrOf result Error.NoUnwindInfoForAddress ↔
+            IsUncovered plain (bases_of bases.now) (table_of self.now) pc 0 }
+    {
+        self.scan(pc)
+    }
+
+    // The first description that contains an address.
+    fn scan(&self, pc: u64) -> Result<Fde<'a>, Error>
+        ensures { (bases : KnownBases) → Answers fde_of result
+            (scan plain bases (table_of self.now) pc) }
+    {
+        let mut offset = 0;
+        while let Some(found) = self.entry_at(offset)? {
+            if let Some(fde) = found.entry.containing(pc) {
+                return Ok(fde);
+            }
+            offset = found.next;
+        }
+        Err(Error::NoUnwindInfoForAddress)
+    }
+
+    // The table from an offset on.
+    fn from(&self, offset: u64) -> Cursor<'a>
+        ensures { at result ≡ skip offset (table_of self.now) }
+    {
+        Cursor::from_offset(self.bytes, self.address, offset)
+    }
+
+    // What stands at an offset, None at the end of the list.
+    #[tactic(auto, unfolding(unwind_definitions::specs::Entries::entry_at))]
+    fn entry_at(&self, offset: u64) -> Result<Option<Found<'a>>, Error>
+        ensures { (bases : KnownBases) → Answers (option_map found_of) result
+            (entry_at plain bases (table_of self.now) offset) }
+    {
+        let mut input = self.from(offset);
+        match read_body(&mut input)? {
+            None => Ok(None),
+            Some(body) => {
+                let entry = self.entry_in(offset, body)?;
+                Ok(Some(Found {
+                    entry,
+                    next: input.offset(),
+                }))
+            }
+        }
+    }
+
+    // The entry at `offset`, whose body is `body`.
+    fn entry_in(&self, offset: u64, body: Cursor<'a>) -> Result<Entry<'a>, Error>
+        ensures { (bases : KnownBases) → Answers entry_of result
+            (entry_in plain bases (table_of self.now) offset (at body.entry)) }
+    {
+        let place = body.offset();
+        let mut input = body;
+        let id = input.read_u32()? as u64;
+        if id == 0 {
+            return Ok(Entry::Cie(Cie::read(offset, input)?));
+        }
+        if id > place {
+            return Err(Error::NotCie);
+        }
+        let cie = self.cie_at(place - id)?;
+        Ok(Entry::Fde(Fde::read(cie, offset, input)?))
+    }
+
+    // The common information entry at an offset.
+    fn cie_at(&self, offset: u64) -> Result<Cie<'a>, Error>
+        ensures { (bases : KnownBases) → Answers cie_of result
+            (cie_at plain bases (table_of self.now) offset) }
+    {
+        let mut input = self.from(offset);
+        match read_body(&mut input)? {
+            None => Err(Error::NotCie),
+            Some(body) => cie_in(offset, body),
+        }
+    }
+}
+
+impl<'a> Entry<'a> {
+    // The entry, where it is a description that contains an address.
+    fn containing(self, pc: u64) -> Option<Fde<'a>>
+        ensures { (later : Result Described Error) →
+            found_or pc (entry_of self.entry) later ≡ option_map_or (λ fde. Ok (fde_of fde)) result later }
+    {
+        match self {
+            Entry::Fde(fde) if fde.contains(pc) => Some(fde),
+            _ => None,
+        }
+    }
+}
+
+// The common information entry at `offset`, whose body is `body`.
+fn cie_in<'a>(offset: u64, body: Cursor<'a>) -> Result<Cie<'a>, Error>
+    ensures { (bases : KnownBases) → Answers cie_of result
+        (cie_in plain bases offset (Some (at body.entry))) }
+{
+    let mut input = body;
+    let id = input.read_u32()?;
+    if id != 0 {
+        return Err(Error::NotCie);
+    }
+    Cie::read(offset, input)
+}
+
+// The body of an entry, None at the end of the list: at the end of the table, or at a length of 0.
+fn read_body<'a>(input: &mut Cursor<'a>) -> Result<Option<Cursor<'a>>, Error>
+    ensures { GivesOr (option_map at) result (body plain (at input.old)) (at input.new) }
+{
+    if input.is_empty() {
+        return Ok(None);
+    }
+    let length = input.read_u32()?;
+    if length == 0 {
+        return Ok(None);
+    }
+    Ok(Some(input.split(length as u64)?))
+}

@@ -1,0 +1,47 @@
+//! Call frame information of ELF modules, read in place from the bytes of `.eh_frame`.
+//!
+//! [`EhFrame::fde_for_address`] finds the description of the function at an address. A table is
+//! read from left to right, and the first fault is told.
+//!
+//! [`Fde::unwind_info_for_address`] runs its program, and gives the [`Row`] by which the caller of
+//! the function's frame is found.
+//!
+//! The forms that are read so far: lengths of four bytes, common information entries of version 1
+//! with the augmentation `zR`, and starts of four signed bytes relative to their own place. Of the
+//! instructions `DW_CFA_advance_loc` and the three with an operand, `DW_CFA_offset`,
+//! `DW_CFA_restore`, `DW_CFA_nop`, `DW_CFA_undefined`, `DW_CFA_remember_state`,
+//! `DW_CFA_restore_state`, `DW_CFA_def_cfa`, `DW_CFA_def_cfa_register` and
+//! `DW_CFA_def_cfa_offset`; any other is unknown.
+//!
+//! Source: LSB, section on `.eh_frame`; DWARF 5 section 6.4.
+#![tactic(auto)]
+
+mod bases;
+mod cie;
+mod cursor;
+mod encoding;
+mod entries;
+mod fde;
+mod instruction;
+mod machine;
+mod pointer;
+mod program;
+mod register;
+mod row;
+mod rule;
+mod rules;
+
+pub use bases::Bases;
+pub use cie::Cie;
+pub use entries::EhFrame;
+pub use fde::Fde;
+pub use pointer::Pointer;
+pub use register::Register;
+pub use row::{Registers, Row};
+pub use rule::{CfaRule, RegisterRule};
+pub use unwind_definitions::Error;
+
+#[cfg(test)]
+mod row_tests;
+#[cfg(test)]
+mod tests;

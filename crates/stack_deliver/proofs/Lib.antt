@@ -1,0 +1,11 @@
+pub mod Apart
+pub mod Callers
+pub mod ContextLemmas
+pub mod Faults
+pub mod FirstEntry
+pub mod LineAnswers
+pub mod LineShows
+pub mod Lines
+pub mod Returns
+pub mod StepAnswers
+pub mod StepUndone

@@ -1,0 +1,108 @@
+-- When a line answers that the limit is met, and when that a slot isn't mapped.
+use Rattle.std.proofs.Common.{◌≡◌, ℕ, zero, suc, Bool, true, false, List, Option, Some, None, Result, Ok, Err, refl, subst, cond, eqb}
+use Rattle.memory_image.specs.Image.{Span, word_at}
+use Rattle.unwind_definitions.specs.declared.error.Error.{Error as Fault}
+use Rattle.unwind_definitions.specs.Forms.{plain}
+use Rattle.unwind_definitions.specs.Row.{Run}
+use Rattle.unwind_definitions.specs.Scan.{scan}
+use Rattle.unwind_definitions.specs.LanguageTable.{input_at}
+use Rattle.unwind_definitions.specs.Module.{bases_of}
+use Rattle.unwind_definitions.specs.Caller as calls
+use Rattle.stack_deliver.specs.declared.x86_64.Context.{Context}
+use Rattle.stack_deliver.specs.declared.space.Module.{Module}
+use Rattle.stack_deliver.specs.declared.delivery.Stepped.{Stepped}
+use Rattle.stack_deliver.specs.declared.delivery.DeliverError.{DeliverError}
+use Rattle.stack_deliver.specs.declared.delivery.DeliverError.TheVariants.{Unmapped, FrameLimit}
+use Rattle.stack_deliver.specs.declared.space.FrameInfoKind.{FrameInfoKind}
+use Rattle.stack_deliver.specs.declared.space.FrameInfoKind.TheVariants.{EhFrame, EhFrameHdr}
+use Rattle.stack_deliver.specs.Contexts.{columns_of}
+use Rattle.stack_deliver.specs.Modules.{SpaceValue, module_at}
+use Rattle.stack_deliver.specs.Processes.{module_of}
+use Rattle.stack_deliver.specs.Stepping.{step_of, in_module, by_table, called, run_found, stepped, context_by, no_expressions, address_asked, IsStepFault}
+use Rattle.stack_deliver.specs.Delivering.{with_first, line_after, line_of, ended, delivery_of, NeedsMore}
+use Rattle.stack_deliver.proofs.StepAnswers.{step_unmapped}
+
+-- a step answers no fault but those of tables and of memory
+abbrev pub OnStepFault : {A : Type 0} → Result A DeliverError → Type 0
+OnStepFault (Ok v) = Unit {0}
+OnStepFault (Err e) = IsStepFault e
+
+faults_context : (r : Result calls.Columns calls.StepFault) → OnStepFault (stepped (context_by r))
+faults_context (Ok columns) = tt
+faults_context (Err (calls.Table f)) = tt
+faults_context (Err (calls.Unmapped a)) = tt
+
+faults_called : (image : List Span) (c : Context) (r : Result (Option Run) Fault) → OnStepFault (called image c r)
+faults_called image c (Ok None) = tt
+faults_called image c (Ok (Some run)) = faults_context (calls.caller_of calls.x86_64 no_expressions image (columns_of c) run)
+faults_called image c (Err f) = tt
+
+faults_by_table : (image : List Span) (c : Context) (a : ℕ) (m : Module) (kind : FrameInfoKind) → OnStepFault (by_table image c a m kind)
+faults_by_table image c a m (EhFrame frame) = faults_called image c (run_found (bases_of (module_of m) frame) a (scan plain (bases_of (module_of m) frame) (input_at image frame) a))
+faults_by_table image c a m (EhFrameHdr header) = tt
+
+faults_in : (image : List Span) (c : Context) (a : ℕ) (o : Option Module) → OnStepFault (in_module image c a o)
+faults_in image c a None = tt
+faults_in image c a (Some m) = faults_by_table image c a m m.frame.kind
+
+pub step_faults : (space : SpaceValue) (c : Context) (interrupted : Bool) → OnStepFault (step_of space c interrupted)
+unfolding step_of
+step_faults space c interrupted = go (eqb c.ra 0)
+  where
+    go : (t : Bool) → OnStepFault (cond t (Ok None) (in_module space.image c (address_asked c interrupted) (module_at space.modules (address_asked c interrupted))))
+    go true = tt
+    go false = faults_in space.image c (address_asked c interrupted) (module_at space.modules (address_asked c interrupted))
+
+first_limit : (c : Context) (r : Result (List Context) DeliverError) → with_first c r ≡ Err FrameLimit → r ≡ Err FrameLimit
+first_limit c (Ok cs) e = absurd cc
+first_limit c (Err x) e = cc
+
+limit_first : (c : Context) (r : Result (List Context) DeliverError) → r ≡ Err FrameLimit → with_first c r ≡ Err FrameLimit
+limit_first c r e = rw e refl
+
+-- the limit is met exactly where more states are needed
+pub line_limit : (space : SpaceValue) (room : ℕ) (c : Context) (interrupted : Bool) → line_of space room c interrupted ≡ Err FrameLimit → NeedsMore space room c interrupted
+line_limit space zero c interrupted e = tt
+line_limit space (suc room) c interrupted e = go (step_of space c interrupted) refl (step_faults space c interrupted) (λ s. line_limit space room s.context s.signal) e
+  where
+    go : (r : Result (Option Stepped) DeliverError) → step_of space c interrupted ≡ r → OnStepFault r → ((s : Stepped) → line_of space room s.context s.signal ≡ Err FrameLimit → NeedsMore space room s.context s.signal) →
+        line_after c r (line_of space room) ≡ Err FrameLimit → NeedsMore space (suc room) c interrupted
+    go (Ok None) is faults later e = absurd cc
+    go (Ok (Some s)) is faults later e = (s, is, later s (first_limit c (line_of space room s.context s.signal) e))
+    go (Err x) is faults later e = let same : x ≡ FrameLimit = cc in absurd (subst (λ (f : DeliverError). IsStepFault f) same faults)
+
+pub limit_line : (space : SpaceValue) (room : ℕ) (c : Context) (interrupted : Bool) → NeedsMore space room c interrupted → line_of space room c interrupted ≡ Err FrameLimit
+limit_line space zero c interrupted more = refl
+limit_line space (suc room) c interrupted more = rw more.1 (limit_first c (line_of space room more.0.context more.0.signal) (limit_line space room more.0.context more.0.signal more.2))
+
+first_unmapped : (c : Context) (r : Result (List Context) DeliverError) (b : ℕ) → with_first c r ≡ Err (Unmapped b) → r ≡ Err (Unmapped b)
+first_unmapped c (Ok cs) b e = absurd cc
+first_unmapped c (Err x) b e = cc
+
+-- a line that answers an unmapped slot names one
+pub line_unmapped : (space : SpaceValue) (room : ℕ) (c : Context) (interrupted : Bool) (b : ℕ) → line_of space room c interrupted ≡ Err (Unmapped b) → word_at space.image b ≡ None
+line_unmapped space zero c interrupted b e = absurd cc
+line_unmapped space (suc room) c interrupted b e = go (step_of space c interrupted) refl (λ s. line_unmapped space room s.context s.signal b) e
+  where
+    go : (r : Result (Option Stepped) DeliverError) → step_of space c interrupted ≡ r → ((s : Stepped) → line_of space room s.context s.signal ≡ Err (Unmapped b) → word_at space.image b ≡ None) →
+        line_after c r (line_of space room) ≡ Err (Unmapped b) → word_at space.image b ≡ None
+    go (Ok None) is later e = absurd cc
+    go (Ok (Some s)) is later e = later s (first_unmapped c (line_of space room s.context s.signal) b e)
+    go (Err x) is later e = let at : step_of space c interrupted ≡ Err (Unmapped b) = cc in step_unmapped space c interrupted b at
+
+ended_fault : (r : Result (List Context) DeliverError) (e : DeliverError) → ended r ≡ Err e → r ≡ Err e
+ended_fault (Ok cs) e is = absurd cc
+ended_fault (Err x) e is = cc
+
+-- the same of a delivery
+pub delivery_limit : (space : SpaceValue) (c : Context) (exception : ℕ) (resumes : List (ℕ × ℕ)) (limit : ℕ) → delivery_of space c exception resumes limit ≡ Err FrameLimit → NeedsMore space limit c false
+unfolding delivery_of
+delivery_limit space c exception resumes limit e = line_limit space limit c false (ended_fault (line_of space limit c false) FrameLimit e)
+
+pub limit_delivery : (space : SpaceValue) (c : Context) (exception : ℕ) (resumes : List (ℕ × ℕ)) (limit : ℕ) → NeedsMore space limit c false → delivery_of space c exception resumes limit ≡ Err FrameLimit
+unfolding delivery_of
+limit_delivery space c exception resumes limit more = rw (limit_line space limit c false more) refl
+
+pub delivery_unmapped : (space : SpaceValue) (c : Context) (exception : ℕ) (resumes : List (ℕ × ℕ)) (limit b : ℕ) → delivery_of space c exception resumes limit ≡ Err (Unmapped b) → word_at space.image b ≡ None
+unfolding delivery_of
+delivery_unmapped space c exception resumes limit b e = line_unmapped space limit c false b (ended_fault (line_of space limit c false) (Unmapped b) e)

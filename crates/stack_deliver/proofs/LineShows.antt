@@ -1,0 +1,111 @@
+-- The line from a context that shows the start of a described chain shows the chain's states.
+use Rattle.std.proofs.Common.{inl, inr, ◌≡◌, ◌≢◌, ℕ, zero, suc, ◌-◌, ◌<◌, Bool, true, false, List, [], ◌∷◌, length, Option, Some, None, Ok, Err, refl, sym, subst, arith, eqb}
+use Rattle.std.specs.Prelude.{◌⊎◌, IsTrue, map}
+use Rattle.std.specs.List.{Contains, AllByRecursion}
+use Rattle.std.proofs.lemmas.Bool.Decides.{nat_tests}
+use Rattle.unwind_definitions.specs.declared.error.Error.TheVariants.{NoUnwindInfoForAddress}
+use Rattle.unwind_definitions.specs.Forms.{plain}
+use Rattle.unwind_definitions.specs.State.{State, IsState, Shows}
+use Rattle.unwind_definitions.specs.Prologue.{SystemV}
+use Rattle.unwind_definitions.specs.Scan.{scan}
+use Rattle.unwind_definitions.specs.LanguageTable.{input_at}
+use Rattle.unwind_definitions.specs.Function.{Function, IsFunction}
+use Rattle.unwind_definitions.specs.Chain.{Call, IsLink, IsEnd, IsChain, states_of}
+use Rattle.unwind_definitions.specs.Module as described
+use Rattle.unwind_definitions.specs.Valid.{LiesDescribed}
+use Rattle.unwind_laws.proofs.Booleans as lists
+use Rattle.unwind_laws.proofs.Found.{not_found}
+use Rattle.stack_deliver.specs.declared.x86_64.Context.{Context}
+use Rattle.stack_deliver.specs.declared.space.Module.{Module}
+use Rattle.stack_deliver.specs.declared.space.FrameInfoKind.{FrameInfoKind}
+use Rattle.stack_deliver.specs.declared.space.FrameInfoKind.TheVariants.{EhFrame, EhFrameHdr}
+use Rattle.stack_deliver.specs.Contexts.{columns_of}
+use Rattle.stack_deliver.specs.Modules.{SpaceValue, AreApart, contains, module_at}
+use Rattle.stack_deliver.specs.Processes.{tables_of, module_of, process_of}
+use Rattle.stack_deliver.specs.Stepping.{step_of, in_module, by_table}
+use Rattle.stack_deliver.specs.Delivering.{line_of}
+use Rattle.stack_deliver.specs.Undone.{IsDescribedCall, HaveFrameTables, Undone, EachShows}
+use Rattle.stack_deliver.proofs.StepUndone.{step_undone}
+
+-- a module that is found is one of the space's, and contains the address
+module_at-found : (modules : List Module) (m : Module) (a : ℕ) → module_at modules a ≡ Some m → Contains modules m × IsTrue (contains m a)
+module_at-found [] m a found = absurd cc
+module_at-found (n ∷ ns) m a found = go (contains n a) refl (λ h. module_at-found ns m a h)
+  where
+    go : (b : Bool) → contains n a ≡ b → (module_at ns a ≡ Some m → Contains ns m × IsTrue (contains m a)) → Contains (n ∷ ns) m × IsTrue (contains m a)
+    go true inside later =
+        let here : module_at (n ∷ ns) a ≡ Some n = rw inside refl in
+        let same : n ≡ m = cc in
+        (subst (λ (k : Module). Contains (n ∷ ns) k) same (lists.first n ns), subst (λ (k : Module). IsTrue (contains k a)) same inside)
+    go false outside later =
+        let past : module_at ns a ≡ Some m = rw outside at found in
+        let r = later past in
+        (lists.later n ns m r.0, r.1)
+
+contains_in_map : (modules : List Module) (m : Module) → Contains modules m → Contains (map module_of modules) (module_of m)
+contains_in_map [] m has = absurd (lists.none_in_nil m has)
+contains_in_map (n ∷ ns) m has = go (λ h. contains_in_map ns m h) (lists.here_or_later n ns m has)
+  where
+    go : (Contains ns m → Contains (map module_of ns) (module_of m)) → (n ≡ m) ⊎ Contains ns m → Contains (module_of n ∷ map module_of ns) (module_of m)
+    go later (inl e) = subst (λ (k : Module). Contains (module_of n ∷ map module_of ns) (module_of k)) e (lists.first (module_of n) (map module_of ns))
+    go later (inr h) = lists.later (module_of n) (map module_of ns) (module_of m) (later h)
+
+module _ (space : SpaceValue) where
+  -- a module's frame table doesn't contain the address
+  in_no_entry : (c : Context) (a : ℕ) (m : Module) → described.CoversNot plain space.image (module_of m) a → (kind : FrameInfoKind) → m.frame.kind ≡ kind → by_table space.image c a m kind ≡ Ok None
+  in_no_entry c a m u (EhFrameHdr h) named = refl
+  in_no_entry c a m u (EhFrame f) named =
+      let address : described.frame_address space.image (described.Frames f) ≡ Some u.frame =
+      subst (λ (k : FrameInfoKind). described.frame_address space.image (tables_of k) ≡ Some u.frame) named u.address in
+      let place : f ≡ u.frame = cc in
+      let none : scan plain (described.bases_of (module_of m) f) (input_at space.image f) a ≡ Err NoUnwindInfoForAddress =
+      subst (λ (g : ℕ). scan plain (described.bases_of (module_of m) g) (input_at space.image g) a ≡ Err NoUnwindInfoForAddress) (sym place) (not_found plain space.image (module_of m) a u) in
+      rw none refl
+
+  -- an address that nothing covers ends the stack
+  by_module : (c : Context) (a : ℕ) → described.IsUncovered plain (process_of space) a → (o : Option Module) → module_at space.modules a ≡ o → in_module space.image c a o ≡ Ok None
+  by_module c a free None found = refl
+  by_module c a free (Some m) found =
+      let r = module_at-found space.modules m a found in
+      in_no_entry c a m (free (module_of m) (contains_in_map space.modules m r.0) r.1) m.frame.kind refl
+
+  -- the stack ends where the return address is 0 or no function covers it
+  ends : (functions : List Function) (c : Context) (s : State) → Shows (columns_of c) s → IsEnd space.image (described.IsUncovered plain (process_of space)) functions s → step_of space c false ≡ Ok None
+  unfolding step_of
+  ends functions c s shows end = go end.ends
+    where
+      go : (s.ra ≡ 0) ⊎ ((s.ra ≢ 0) × described.IsUncovered plain (process_of space) (s.ra - 1)) → step_of space c false ≡ Ok None
+      go (inl none) = let e : columns_of c 16 ≡ Some s.ra = shows.ra in let at : c.ra ≡ 0 = cc in rw at refl
+      go (inr u) =
+          let e : columns_of c 16 ≡ Some s.ra = shows.ra in
+          let at : c.ra ≡ s.ra = cc in
+          let some : s.ra ≢ 0 = u.0 in
+          let nonzero : eqb c.ra 0 ≡ false = grind (arith, nat_tests) in
+          let free : described.IsUncovered plain (process_of space) (c.ra - 1) = subst (λ (n : ℕ). described.IsUncovered plain (process_of space) (n - 1)) (sym at) u.1 in
+          rw nonzero (by_module c (c.ra - 1) free (module_at space.modules (c.ra - 1)) refl)
+
+  state_of : (functions : List Function) (s : State) (calls : List Call) → IsChain space.image (described.IsUncovered plain (process_of space)) functions s calls → IsState s
+  state_of functions s [] chain = chain.state
+  state_of functions s (k ∷ calls) chain = chain.0.state
+
+  -- The line from a context that shows the start of a chain, where there is room for it.
+  pub line_shows : AreApart 0 space.modules → HaveFrameTables (process_of space) → (functions : List Function) → AllByRecursion (IsFunction SystemV) functions → (s : State) (calls : List Call) (c : Context) (room : ℕ) →
+      IsChain space.image (described.IsUncovered plain (process_of space)) functions s calls → AllByRecursion (λ (k : Call). LiesDescribed plain (process_of space) functions k.callee) calls → Shows (columns_of c) s → length calls < room →
+      (cs : List Context) × (line_of space room c false ≡ Ok cs) × EachShows cs (states_of s calls)
+  line_shows apart tables functions are s [] c zero chain lie shows less = absurd (omega arith)
+  line_shows apart tables functions are s [] c (suc room) chain lie shows less = (c ∷ [], rw (ends functions c s shows chain) refl, (shows, tt))
+  line_shows apart tables functions are s (k ∷ calls) c zero chain lie shows less = absurd (omega arith)
+  line_shows apart tables functions are s (k ∷ calls) c (suc room) chain lie shows less =
+      let link : IsLink space.image functions s k calls = chain.0 in
+      let is : IsDescribedCall (process_of space) functions s k = record {
+        is_function = lists.all_contains (IsFunction SystemV) functions k.callee are link.listed;
+        listed = link.listed;
+        lies = lie.0;
+        called = link.called;
+        caller = state_of functions k.caller calls chain.1;
+        ends = λ outer. (link.last outer).1;
+      } in
+      let step : Undone (step_of space c false) (columns_of c) k.caller = step_undone space c functions s k apart tables is shows in
+      let fewer : length calls < room = omega arith in
+      let rest = line_shows apart tables functions are k.caller calls step.next.context room chain.1 lie.1 step.shows fewer in
+      (c ∷ rest.0, rw (step.answered, step.unmarked, rest.1) refl, (shows, rest.2))

@@ -1,0 +1,194 @@
+-- The step from a frame of a described function undoes its call.
+use Rattle.std.proofs.Common.{inl, inr, ◌≡◌, ◌≢◌, ℕ, zero, suc, ◌-◌, ◌<◌, ◌≤◌, Bool, true, false, List, [], ◌∷◌, get_or, Option, Some, None, Ok, refl, sym, ap, subst, ◌∙◌, arith, cond, eqb, ltb, leb}
+use Rattle.std.specs.Prelude.{◌⊎◌, ◌&&◌, IsTrue, IsFalse, map}
+use Rattle.std.specs.Option.{unwrap_or}
+use Rattle.std.specs.List.{Contains}
+use Rattle.std.proofs.lemmas.Bool.Decides.{nat_tests, eqb_tells}
+use Rattle.std.proofs.lemmas.Bool.{ltb-true, leb-true}
+use Rattle.unwind_definitions.specs.Forms.{plain}
+use Rattle.unwind_definitions.specs.Row.{row_at}
+use Rattle.unwind_definitions.specs.Scan.{scan}
+use Rattle.unwind_definitions.specs.LanguageTable.{input_at}
+use Rattle.unwind_definitions.specs.Caller.{Columns}
+use Rattle.unwind_definitions.specs.State.{RBX, RBP, R12, R13, R14, R15, State, value_of, Shows, is_followed, KeepsOthers}
+use Rattle.unwind_definitions.specs.Function.{Function}
+use Rattle.unwind_definitions.specs.Chain.{Call}
+use Rattle.unwind_definitions.specs.Module as described
+use Rattle.unwind_laws.specs.Walked.{Steps}
+use Rattle.unwind_laws.proofs.Walk.{one_step}
+use Rattle.unwind_laws.proofs.Booleans as lists
+use Rattle.stack_deliver.specs.declared.x86_64.Context.{Context}
+use Rattle.stack_deliver.specs.declared.space.Module.{Module}
+use Rattle.stack_deliver.specs.declared.delivery.Stepped.{Stepped}
+use Rattle.stack_deliver.specs.declared.space.FrameInfoKind.{FrameInfoKind}
+use Rattle.stack_deliver.specs.declared.space.FrameInfoKind.TheVariants.{EhFrame, EhFrameHdr}
+use Rattle.stack_deliver.specs.Contexts.{columns_of, context_of, general_columns}
+use Rattle.stack_deliver.specs.Modules.{SpaceValue, AreApart, module_at}
+use Rattle.stack_deliver.specs.Processes.{tables_of, module_of, process_of}
+use Rattle.stack_deliver.specs.Stepping.{step_of, no_expressions, by_table}
+use Rattle.stack_deliver.specs.Undone.{IsDescribedCall, HaveFrameTables, Undone}
+
+-- a module of the process is one of the space
+pub record IsOf (modules : List Module) (home : described.Module) : Type 0 where
+  pub named : Module
+  pub among : Contains modules named
+  pub same : module_of named ≡ home
+
+contains_map : (modules : List Module) (home : described.Module) → Contains (map module_of modules) home → IsOf modules home
+contains_map [] home has = absurd (lists.none_in_nil home has)
+contains_map (m ∷ ms) home has = go (λ h. contains_map ms home h) (lists.here_or_later (module_of m) (map module_of ms) home has)
+  where
+    go : (Contains (map module_of ms) home → IsOf ms home) → (module_of m ≡ home) ⊎ Contains (map module_of ms) home → IsOf (m ∷ ms) home
+    go earlier (inl e) = record { named = m; among = lists.first m ms; same = e }
+    go earlier (inr h) = let is = earlier h in record { named = is.named; among = lists.later m ms is.named is.among; same = is.same }
+
+-- modules of which each begins where the one before ends or later begin at or above the lowest of them
+apart_above : (low : ℕ) (modules : List Module) (m : Module) → AreApart low modules → Contains modules m → low ≤ m.start
+apart_above low [] m apart has = absurd (lists.none_in_nil m has)
+apart_above low (n ∷ ns) m apart has = go (λ h. apart_above n.end ns m apart.2 h) (lists.here_or_later n ns m has)
+  where
+    go : (Contains ns m → n.end ≤ m.start) → (n ≡ m) ⊎ Contains ns m → low ≤ m.start
+    go later (inl e) = subst (λ (k : Module). low ≤ k.start) e apart.0
+    go later (inr h) = let a : low ≤ n.start = apart.0 in let b : n.start < n.end = apart.1 in let c = later h in omega (arith, c)
+
+-- the module that contains an address is found
+module_at-contains : (low : ℕ) (modules : List Module) (m : Module) (a : ℕ) → AreApart low modules → Contains modules m → m.start ≤ a → a < m.end → module_at modules a ≡ Some m
+module_at-contains low [] m a apart has from below = absurd (lists.none_in_nil m has)
+module_at-contains low (n ∷ ns) m a apart has from below = go (λ h. module_at-contains n.end ns m a apart.2 h from below) (λ h. apart_above n.end ns m apart.2 h) (lists.here_or_later n ns m has)
+  where
+    go : (Contains ns m → module_at ns a ≡ Some m) → (Contains ns m → n.end ≤ m.start) → (n ≡ m) ⊎ Contains ns m → cond (leb n.start a && ltb a n.end) (Some n) (module_at ns a) ≡ Some m
+    go later above (inl e) =
+        let inside : (leb n.start a && ltb a n.end) ≡ true = subst (λ (k : Module). (leb k.start a && ltb a k.end) ≡ true) (sym e) (grind (arith, nat_tests)) in
+        rw (inside, e) refl
+    go later above (inr h) =
+        let high : n.end ≤ m.start = above h in
+        let outside : (leb n.start a && ltb a n.end) ≡ false = grind (arith, nat_tests) in
+        rw (outside, later h) refl
+
+-- the sixteen general columns, each at its place
+general-at : (f : ℕ → ℕ) (k : ℕ) → k < 16 → get_or (map f general_columns) k 0 ≡ f k
+general-at f zero low = refl
+general-at f (suc zero) low = refl
+general-at f (suc (suc zero)) low = refl
+general-at f (suc (suc (suc zero))) low = refl
+general-at f (suc (suc (suc (suc zero)))) low = refl
+general-at f (suc (suc (suc (suc (suc zero))))) low = refl
+general-at f (suc (suc (suc (suc (suc (suc zero)))))) low = refl
+general-at f (suc (suc (suc (suc (suc (suc (suc zero))))))) low = refl
+general-at f (suc (suc (suc (suc (suc (suc (suc (suc zero)))))))) low = refl
+general-at f (suc (suc (suc (suc (suc (suc (suc (suc (suc zero))))))))) low = refl
+general-at f (suc (suc (suc (suc (suc (suc (suc (suc (suc (suc zero)))))))))) low = refl
+general-at f (suc (suc (suc (suc (suc (suc (suc (suc (suc (suc (suc zero))))))))))) low = refl
+general-at f (suc (suc (suc (suc (suc (suc (suc (suc (suc (suc (suc (suc zero)))))))))))) low = refl
+general-at f (suc (suc (suc (suc (suc (suc (suc (suc (suc (suc (suc (suc (suc zero))))))))))))) low = refl
+general-at f (suc (suc (suc (suc (suc (suc (suc (suc (suc (suc (suc (suc (suc (suc zero)))))))))))))) low = refl
+general-at f (suc (suc (suc (suc (suc (suc (suc (suc (suc (suc (suc (suc (suc (suc (suc zero))))))))))))))) low = refl
+general-at f (suc (suc (suc (suc (suc (suc (suc (suc (suc (suc (suc (suc (suc (suc (suc (suc k)))))))))))))))) low = absurd (omega arith)
+
+some_kept : (o : Option ℕ) (v : ℕ) → o ≡ Some v → Some (unwrap_or o 0) ≡ o
+some_kept o v e = rw e refl
+
+-- The columns of the context that holds a caller's columns, which show a state and keep the others.
+module _ (old : Context) (caller : Columns) (t : State) (shows : Shows caller t) (others : KeepsOthers (columns_of old) caller) where
+  -- each general column has a value
+  value_at : (k : ℕ) → k < 16 → (v : ℕ) × (caller k ≡ Some v)
+  value_at zero low = (get_or old.registers 0 0, others 0 refl)
+  value_at (suc zero) low = (get_or old.registers 1 0, others 1 refl)
+  value_at (suc (suc zero)) low = (get_or old.registers 2 0, others 2 refl)
+  value_at (suc (suc (suc zero))) low = (value_of RBX t, shows.saved RBX)
+  value_at (suc (suc (suc (suc zero)))) low = (get_or old.registers 4 0, others 4 refl)
+  value_at (suc (suc (suc (suc (suc zero))))) low = (get_or old.registers 5 0, others 5 refl)
+  value_at (suc (suc (suc (suc (suc (suc zero)))))) low = (value_of RBP t, shows.saved RBP)
+  value_at (suc (suc (suc (suc (suc (suc (suc zero))))))) low = (t.sp, shows.sp)
+  value_at (suc (suc (suc (suc (suc (suc (suc (suc zero)))))))) low = (get_or old.registers 8 0, others 8 refl)
+  value_at (suc (suc (suc (suc (suc (suc (suc (suc (suc zero))))))))) low = (get_or old.registers 9 0, others 9 refl)
+  value_at (suc (suc (suc (suc (suc (suc (suc (suc (suc (suc zero)))))))))) low = (get_or old.registers 10 0, others 10 refl)
+  value_at (suc (suc (suc (suc (suc (suc (suc (suc (suc (suc (suc zero))))))))))) low = (get_or old.registers 11 0, others 11 refl)
+  value_at (suc (suc (suc (suc (suc (suc (suc (suc (suc (suc (suc (suc zero)))))))))))) low = (value_of R12 t, shows.saved R12)
+  value_at (suc (suc (suc (suc (suc (suc (suc (suc (suc (suc (suc (suc (suc zero))))))))))))) low = (value_of R13 t, shows.saved R13)
+  value_at (suc (suc (suc (suc (suc (suc (suc (suc (suc (suc (suc (suc (suc (suc zero)))))))))))))) low = (value_of R14 t, shows.saved R14)
+  value_at (suc (suc (suc (suc (suc (suc (suc (suc (suc (suc (suc (suc (suc (suc (suc zero))))))))))))))) low = (value_of R15 t, shows.saved R15)
+  value_at (suc (suc (suc (suc (suc (suc (suc (suc (suc (suc (suc (suc (suc (suc (suc (suc k)))))))))))))))) low = absurd (omega arith)
+
+  holds-special : (k : ℕ) → ltb k 16 ≡ false → columns_of (context_of caller) k ≡ caller k
+  holds-special k high = elim (eqb_tells k 16) as (λ d. columns_of (context_of caller) k ≡ caller k) [
+    | inl e ↦ let at : k ≡ 16 = e.1 in rw at (some_kept (caller 16) t.ra shows.ra)
+    | inr a ↦ elim (eqb_tells k 64) as (λ d. columns_of (context_of caller) k ≡ caller k) [
+      | inl e ↦ let at : k ≡ 64 = e.1 in rw at (some_kept (caller 64) old.mcxsr (others 64 refl))
+      | inr b ↦ elim (eqb_tells k 65) as (λ d. columns_of (context_of caller) k ≡ caller k) [
+        | inl e ↦ let at : k ≡ 65 = e.1 in rw at (some_kept (caller 65) old.fcw (others 65 refl))
+        | inr c ↦
+            let free : IsFalse (is_followed k) = grind (arith, nat_tests) in
+            let none : columns_of old k ≡ None = rw (high, a.0, b.0, c.0) refl in
+            let here : columns_of (context_of caller) k ≡ None = rw (high, a.0, b.0, c.0) refl in
+            here ∙ sym (others k free ∙ none)
+      ]
+    ]
+  ]
+
+  pub context_of-holds : (k : ℕ) → columns_of (context_of caller) k ≡ caller k
+  context_of-holds k = go (ltb k 16) refl
+    where
+      go : (b : Bool) → ltb k 16 ≡ b → columns_of (context_of caller) k ≡ caller k
+      go true low =
+          let small : k < 16 = ltb-true k 16 low in
+          let v = value_at k small in
+          rw (low, general-at (λ i. unwrap_or (caller i) 0) k small) (some_kept (caller k) v.0 v.1)
+      go false high = holds-special k high
+
+-- The step undoes the call of a described function, in a process whose modules name their frame tables.
+module _ (space : SpaceValue) (c : Context) (functions : List Function) (s : State) (call : Call) (apart : AreApart 0 space.modules) (tables : HaveFrameTables (process_of space))
+    (is : IsDescribedCall (process_of space) functions s call) (shows : Shows (columns_of c) s) where
+  abbrev step : Steps plain (process_of space) no_expressions (columns_of c) (s.ra - 1) call
+  step = one_step plain (process_of space) no_expressions functions (s.ra - 1) s call (columns_of c)
+      record { is_function = is.is_function; listed = is.listed; lies = is.lies; inside = is.called.inside; entered = is.called.entered; caller = is.caller; ends = is.ends } shows
+
+  ra_is : c.ra ≡ s.ra
+  ra_is = let e : columns_of c 16 ≡ Some s.ra = shows.ra in cc
+
+  abbrev next : Stepped
+  next = record { context = context_of step.undoes.caller; signal = false }
+
+  -- with the module and its frame table at hand
+  answer : (m : Module) (f : ℕ) → module_of m ≡ step.finds.home → m.frame.kind ≡ EhFrame f → f ≡ step.finds.frame → module_at space.modules (s.ra - 1) ≡ Some m → step_of space c false ≡ Ok (Some next)
+  unfolding step_of
+  answer m f same kind place found =
+      let nonzero : eqb c.ra 0 ≡ false = let some : s.ra ≢ 0 = is.called.returns in let at : c.ra ≡ s.ra = ra_is in grind (arith, nat_tests) in
+      let asked : c.ra - 1 ≡ s.ra - 1 = ap (λ (n : ℕ). n - 1) ra_is in
+      let scanned : scan plain (described.bases_of (module_of m) f) (input_at space.image f) (s.ra - 1) ≡ Ok step.finds.fde =
+      subst (λ (g : ℕ). scan plain (described.bases_of (module_of m) g) (input_at space.image g) (s.ra - 1) ≡ Ok step.finds.fde) (sym place)
+      (subst (λ (h : described.Module). scan plain (described.bases_of h step.finds.frame) (input_at space.image step.finds.frame) (s.ra - 1) ≡ Ok step.finds.fde) (sym same) step.finds.found) in
+      let row : row_at plain (described.bases_of (module_of m) f) step.finds.fde (s.ra - 1) ≡ Ok step.finds.run =
+      subst (λ (g : ℕ). row_at plain (described.bases_of (module_of m) g) step.finds.fde (s.ra - 1) ≡ Ok step.finds.run) (sym place)
+      (subst (λ (h : described.Module). row_at plain (described.bases_of h step.finds.frame) step.finds.fde (s.ra - 1) ≡ Ok step.finds.run) (sym same) step.finds.has_row) in
+      let tabled : by_table space.image c (s.ra - 1) m (EhFrame f) ≡ Ok (Some next) = rw (scanned, row, step.undoes.is_caller) refl in
+      rw (nonzero, asked, found) (subst (λ (k : FrameInfoKind). by_table space.image c (s.ra - 1) m k ≡ Ok (Some next)) (sym kind) tabled)
+
+  -- it names its frame table
+  by_kind : (m : Module) (kind : FrameInfoKind) → module_of m ≡ step.finds.home → m.frame.kind ≡ kind → module_at space.modules (s.ra - 1) ≡ Some m → step_of space c false ≡ Ok (Some next)
+  by_kind m (EhFrame f) same kind found =
+      let address : described.frame_address space.image (tables_of m.frame.kind) ≡ Some step.finds.frame = subst (λ (h : described.Module). described.frame_address space.image h.tables ≡ Some step.finds.frame) (sym same) step.finds.address in
+      let at : described.frame_address space.image (tables_of (EhFrame f)) ≡ Some step.finds.frame = rw kind at address in
+      let place : f ≡ step.finds.frame = cc in
+      answer m f same kind place found
+  by_kind m (EhFrameHdr h) same kind found =
+      let free : described.header_of step.finds.home.tables ≡ None = lists.all_contains (λ (k : described.Module). described.header_of k.tables ≡ None) (map module_of space.modules) step.finds.home tables step.finds.known in
+      let own : described.header_of (tables_of m.frame.kind) ≡ None = subst (λ (k : described.Module). described.header_of k.tables ≡ None) (sym same) free in
+      let other : described.header_of (tables_of (EhFrameHdr h)) ≡ None = rw kind at own in
+      absurd cc
+
+  pub step_undone : Undone (step_of space c false) (columns_of c) call.caller
+  step_undone =
+      let named : IsOf space.modules step.finds.home = contains_map space.modules step.finds.home step.finds.known in
+      let m : Module = named.named in
+      let inside : IsTrue (described.in_module (s.ra - 1) (module_of m)) = subst (λ (h : described.Module). IsTrue (described.in_module (s.ra - 1) h)) (sym named.same) step.finds.inside in
+      let both = lists.both_true (leb m.start (s.ra - 1)) (ltb (s.ra - 1) m.end) inside in
+      let found : module_at space.modules (s.ra - 1) ≡ Some m = module_at-contains 0 space.modules m (s.ra - 1) apart named.among (leb-true m.start (s.ra - 1) both.0) (ltb-true (s.ra - 1) m.end both.1) in
+      let kept : columns_of (context_of step.undoes.caller) ≡ step.undoes.caller = λ i k. context_of-holds c step.undoes.caller call.caller step.undoes.shows step.undoes.others k i in
+      record {
+        next = next;
+        answered = by_kind m m.frame.kind named.same refl found;
+        unmarked = refl;
+        shows = subst (λ (columns : Columns). Shows columns call.caller) (sym kept) step.undoes.shows;
+        others = subst (λ (columns : Columns). KeepsOthers (columns_of c) columns) (sym kept) step.undoes.others;
+      }

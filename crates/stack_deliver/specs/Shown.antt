@@ -1,0 +1,43 @@
+-- What contexts and deliveries show of the states that the definitions speak of.
+use Rattle.std.specs.Prelude.{ℕ, map, slice_index, option_map}
+use Rattle.unwind_definitions.specs.State.{State}
+use Rattle.unwind_definitions.specs.Delivery as described
+use Rattle.stack_deliver.specs.declared.x86_64.Context.{Context}
+use Rattle.stack_deliver.specs.declared.delivery.Trail.{Trail}
+use Rattle.stack_deliver.specs.declared.delivery.Outcome.{Outcome}
+use Rattle.stack_deliver.specs.declared.delivery.Outcome.TheVariants.{Installed, EndOfStack, FatalPhase1, FatalPhase2}
+use Rattle.stack_deliver.specs.Delivering.{Delivered}
+
+-- the return address, the stack pointer and the six registers that calls keep
+abbrev pub state_of : Context → State
+state_of c = record {
+  ra = c.ra;
+  sp = slice_index c.registers 7;
+  rbx = slice_index c.registers 3;
+  rbp = slice_index c.registers 6;
+  r12 = slice_index c.registers 12;
+  r13 = slice_index c.registers 13;
+  r14 = slice_index c.registers 14;
+  r15 = slice_index c.registers 15;
+}
+
+-- where a handler is entered: the state, RAX and RDX
+abbrev pub landing_of : Context → described.Landing
+landing_of c = record { state = state_of c; rax = slice_index c.registers 0; rdx = slice_index c.registers 1 }
+
+abbrev pub outcome_of : Outcome → described.Outcome
+outcome_of Installed = described.Installed
+outcome_of EndOfStack = described.EndOfStack
+outcome_of FatalPhase1 = described.FatalPhase1
+outcome_of FatalPhase2 = described.FatalPhase2
+
+abbrev pub pair_of : Trail → ℕ × ℕ
+pair_of t = (t.pad, t.sp)
+
+abbrev pub delivery_shown : Delivered → described.Delivery
+delivery_shown d = record {
+  visited = map state_of d.visited;
+  trail = map pair_of d.trail;
+  landing = option_map landing_of d.landing;
+  outcome = outcome_of d.outcome;
+}

@@ -1,0 +1,126 @@
+// What a delivery did, or why nothing was delivered.
+ghost use Rattle.std.specs.Prelude.{◌≡◌, length, slice_get};
+ghost use Rattle.stack_deliver.specs.declared.delivery.DeliverError.TheVariants.{NoMemory};
+
+use crate::x86_64::Context;
+use eh_frame::Error;
+use std::alloc::AllocFailed;
+use std::marker::Model;
+
+/// A cleanup that ran.
+#[derive(Clone, Copy, Debug, PartialEq, Eq)]
+pub struct Trail {
+    /// The landing pad at which the cleanup begins.
+    pub pad: u64,
+    /// The stack pointer with which it was installed.
+    pub sp: u64,
+}
+
+/// How a delivery ended.
+#[derive(Clone, Copy, Debug, PartialEq, Eq)]
+pub enum Outcome {
+    /// The landing pad of the accepting frame was installed.
+    Installed,
+    /// The search came to the end of the stack.
+    EndOfStack,
+    /// In the search a language table said to terminate, or wasn't readable.
+    FatalPhase1,
+    /// In a cleanup pass a language table said to terminate or wasn't readable, or the stack ended.
+    FatalPhase2,
+}
+
+/// A caller's registers.
+#[derive(Clone, Copy, Debug, PartialEq, Eq)]
+pub struct Stepped {
+    /// The registers of the caller.
+    pub context: Context,
+    /// Whether the frame that was left is a signal frame, so that the caller stands before the
+    /// instruction at its return address and not behind a call.
+    pub signal: bool,
+}
+
+/// Why nothing was delivered.
+#[derive(Clone, Copy, Debug, PartialEq, Eq)]
+pub enum DeliverError {
+    /// Memory ran out.
+    NoMemory,
+    /// A word of memory that is read at this address isn't wholly mapped.
+    Unmapped(u64),
+    /// A pass needs more states than the limit.
+    FrameLimit,
+    /// More cleanups ran than the limit.
+    PassLimit,
+    /// The cleanup at this landing pad has no return address.
+    NoResume(u64),
+    /// The call frame bytes of a visited address can't be read or run.
+    Table(Error),
+}
+
+impl<T: Drop> From<AllocFailed<T>> for DeliverError {
+    ghost from_gives = { λ _ e. e ≡ NoMemory };
+
+    fn from(_e: AllocFailed<T>) -> DeliverError {
+        DeliverError::NoMemory
+    }
+}
+
+/// What a delivery did.
+#[derive(Drop)]
+pub struct Delivery {
+    pub(crate) visited: Vec<Context>,
+    pub(crate) trail: Vec<Trail>,
+    pub(crate) outcome: Outcome,
+    pub(crate) landing: Option<Context>,
+}
+
+impl Model for Delivery {
+    ghost use Rattle.stack_deliver.specs.Delivering.{Delivered};
+
+    ghost Value = { Delivered };
+
+    ghost view = { λ d. record { visited = d.visited.items; trail = d.trail.items; outcome = d.outcome; landing = d.landing } };
+}
+
+impl Delivery {
+    /// How many states the search visited.
+    pub fn visited_len(&self) -> usize
+        ensures { result ≡ length self.now.visited }
+    {
+        self.visited.len()
+    }
+
+    /// The state that the search visited at this place, from the start outwards.
+    pub fn visited(&self, i: usize) -> Option<Context>
+        ensures { result ≡ slice_get self.now.visited i }
+    {
+        self.visited.get(i).copied()
+    }
+
+    /// How many cleanups ran.
+    pub fn trail_len(&self) -> usize
+        ensures { result ≡ length self.now.trail }
+    {
+        self.trail.len()
+    }
+
+    /// The cleanup at this place, from the innermost outwards.
+    pub fn trail(&self, i: usize) -> Option<Trail>
+        ensures { result ≡ slice_get self.now.trail i }
+    {
+        self.trail.get(i).copied()
+    }
+
+    /// How it ended.
+    pub fn outcome(&self) -> Outcome
+        ensures { result ≡ self.now.outcome }
+    {
+        self.outcome
+    }
+
+    /// The registers at the handler, where it was installed.
+    pub fn landing(&self) -> Option<Context>
+        ensures { result ≡ self.now.landing }
+    {
+        self.landing
+    }
+}

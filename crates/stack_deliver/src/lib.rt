@@ -1,0 +1,20 @@
+//! Delivers an exception over a stack that lies in an image of memory: the modules that the image
+//! holds, the step from a frame to its caller, the states that are visited, the cleanups that run,
+//! and the landing at the handler.
+#![tactic(auto)]
+
+mod caller;
+mod delivering;
+mod delivery;
+mod resumes;
+mod space;
+mod stepping;
+pub mod x86_64;
+
+pub use delivering::deliver;
+pub use delivery::{DeliverError, Delivery, Outcome, Stepped, Trail};
+pub use eh_frame::Error;
+pub use resumes::{Resumes, first_entry_counts};
+pub use space::{FrameInfo, FrameInfoKind, Module, Space, SpaceError};
+pub use stepping::step;
+pub use x86_64::Context;

@@ -1,0 +1,172 @@
+-- What is delivered of a snapshot whose tables describe a chain of functions without language tables.
+use Rattle.std.proofs.Common.{inl, inr, ◌≡◌, ◌≢◌, ℕ, zero, suc, ◌+◌, ◌-◌, ◌<◌, ◌≤◌, Bool, true, false, List, [], ◌∷◌, ◌++◌, length, Option, Some, None, Result, Ok, Err, get_or, refl, sym, ap, subst, ◌∙◌, arith, leb}
+use Rattle.std.specs.Prelude.{◌⊎◌, ◌&&◌, map, is_none, IsTrue, codes, if◌then◌else◌}
+use Rattle.std.specs.Option.{option_map, option_and_then, option_map_or}
+use Rattle.std.specs.List.{Contains, AllByRecursion, find}
+use Rattle.std.proofs.lemmas.Bool.Decides.{nat_tests}
+use Rattle.serde_json.specs.Data.{Data}
+use Rattle.serde_json.specs.Find.{get, as_array}
+use Rattle.unwind_definitions.specs.Forms.{plain}
+use Rattle.unwind_definitions.specs.Caller.{Columns}
+use Rattle.unwind_definitions.specs.State.{CalleeSaved, RBX, RBP, R12, R13, R14, R15, State, Shows}
+use Rattle.unwind_definitions.specs.Function.{Function, Action, NoAction, action_at}
+use Rattle.unwind_definitions.specs.Module.{Process, IsUncovered}
+use Rattle.unwind_definitions.specs.Chain.{Call, IsChain, states_of}
+use Rattle.unwind_definitions.specs.Delivery as described
+use Rattle.unwind_definitions.specs.Valid.{IsDescribedChain, IsValid}
+use Rattle.unwind_laws.proofs.Booleans as lists
+use Rattle.unwind_laws.proofs.Walk.{valid_described}
+use Rattle.stack_deliver.specs.declared.x86_64.Context.{Context}
+use Rattle.stack_deliver.specs.declared.space.Module.{Module}
+use Rattle.stack_deliver.specs.declared.space.SpaceError.TheVariants.{Wraps, Overlap}
+use Rattle.stack_deliver.specs.declared.delivery.Outcome.TheVariants.{EndOfStack}
+use Rattle.stack_deliver.specs.Contexts.{columns_of}
+use Rattle.stack_deliver.specs.Modules.{SpaceValue, AreApart, lowest_shared, module_refusal, with_module}
+use Rattle.stack_deliver.specs.Processes.{process_of}
+use Rattle.stack_deliver.specs.Delivering.{Delivered, delivery_of, line_of}
+use Rattle.stack_deliver.specs.declared.delivery.Trail.{Trail}
+use Rattle.stack_deliver.specs.Shown.{state_of, pair_of, landing_of, delivery_shown}
+use Rattle.stack_deliver.specs.Undone.{HaveFrameTables, EachShows}
+use Rattle.stack_deliver.proofs.Apart.{with_apart}
+use Rattle.stack_deliver.proofs.LineShows.{line_shows}
+use Rattle.unwind_cli.specs.declared.errors.Field.{Field}
+use Rattle.unwind_cli.specs.declared.errors.Field.TheVariants as fields
+use Rattle.unwind_cli.specs.Content.{Content, takes_modules, modules_after, space_of}
+use Rattle.unwind_cli.specs.Fields.{word_or_zero_at}
+use Rattle.unwind_cli.specs.Snapshot.{◌>>=◌, needs, if_spaced, module_list, whole_numbers, regions_of, modules_of, start_of, resumes_of, limit_of, interrupted_of, snapshot_of}
+use Rattle.unwind_cli.specs.Answers.{value_of, content_with, content_by, content_of}
+use Rattle.unwind_cli.specs.Described.{DescribesChain}
+use Rattle.unwind_cli.specs.Report.{state_line, pad_line, state_lines, pad_lines, handler_lines, delivery_text, frame_line, frame_lines, cleanup_line, cleanup_lines, landing_line, landing_lines, report_of}
+use Rattle.unwind_cli.specs.Due.{delivery_from}
+
+-- ---- a snapshot's modules are apart
+
+-- what refuses no module
+free_module : (taken : List Module) (m : Module) → is_none (module_refusal taken m) ≡ true → (m.start < m.end) × (lowest_shared taken m.start m.end ≡ None)
+free_module taken m free = go (leb m.end m.start) refl (lowest_shared taken m.start m.end) refl free
+  where
+    go : (b : Bool) → leb m.end m.start ≡ b → (o : Option ℕ) → lowest_shared taken m.start m.end ≡ o → is_none (if b then Some Wraps else option_map Overlap o) ≡ true → (m.start < m.end) × (lowest_shared taken m.start m.end ≡ None)
+    go true low o is e = absurd cc
+    go false high (Some n) is e = absurd cc
+    go false high None is e = (grind (arith, nat_tests), is)
+
+apart_after : (taken ms : List Module) → AreApart 0 taken → takes_modules taken ms ≡ true → AreApart 0 (modules_after taken ms)
+apart_after taken [] apart takes = apart
+apart_after taken (m ∷ ms) apart takes =
+    let both = lists.both_true (is_none (module_refusal taken m)) (takes_modules (with_module m taken) ms) takes in
+    let free = free_module taken m both.0 in
+    apart_after (with_module m taken) ms (with_apart taken 0 m apart (omega arith) free.0 free.1) both.1
+
+-- a reading that gave a value began with one
+bound : {A B : Type 0} (r : Result A Field) (f : A → Result B Field) (y : B) → (r >>= f) ≡ Ok y → (x : A) × (r ≡ Ok x) × (f x ≡ Ok y)
+bound (Ok x) f y e = (x, refl, e)
+bound (Err e) f y is = absurd cc
+
+needed : {A : Type 0} (field : Field) (o : Option A) (x : A) → needs field o ≡ Ok x → o ≡ Some x
+needed field None x e = absurd cc
+needed field (Some y) x e = cc
+
+spaced : (o : Option (List Module)) (ms : List Module) → option_and_then if_spaced o ≡ Some ms → takes_modules [] ms ≡ true
+spaced None ms e = absurd cc
+spaced (Some ns) ms e = go (takes_modules [] ns) refl e
+  where
+    go : (b : Bool) → takes_modules [] ns ≡ b → (if b then Some ns else None) ≡ Some ms → takes_modules [] ms ≡ true
+    go true is e = let same : ns ≡ ms = cc in subst (λ (l : List Module). takes_modules [] l ≡ true) same is
+    go false is e = absurd cc
+
+abbrev ok : Content → Result Content Field
+ok s = Ok s
+
+ok_same : (x y : Content) → ok x ≡ Ok y → x ≡ y
+ok_same x y e = cc
+
+-- a snapshot's modules are taken, one after another
+pub modules_taken : (d : Data) (s : Content) → snapshot_of d ≡ Ok s → takes_modules [] s.modules ≡ true
+unfolding snapshot_of modules_of
+modules_taken d s is =
+    let whole = bound (needs fields.Object (whole_numbers d)) _ s is in
+    let regions = bound (needs fields.Regions (regions_of d)) _ s whole.2 in
+    let modules = bound (needs fields.Modules (modules_of d)) _ s regions.2 in
+    let start = bound (needs fields.Start (start_of d)) _ s modules.2 in
+    let exception = bound (needs fields.Exception (word_or_zero_at (codes "exception") d)) _ s start.2 in
+    let class = bound (needs fields.Class (word_or_zero_at (codes "class") d)) _ s exception.2 in
+    let resumes = bound (needs fields.Resumes (resumes_of d)) _ s class.2 in
+    let limit = bound (needs fields.Limit (limit_of d)) _ s resumes.2 in
+    let interrupted = bound (needs fields.Interrupted (interrupted_of d)) _ s limit.2 in
+    let same : modules.0 ≡ s.modules = ap (λ (c : Content). c.modules) (ok_same _ s interrupted.2) in
+    subst (λ (ms : List Module). takes_modules [] ms ≡ true) same (spaced (option_and_then module_list (option_and_then as_array (get (codes "modules") d))) modules.0 (needed fields.Modules (modules_of d) modules.0 modules.1))
+
+-- the modules of what bytes say are apart
+pub content_apart : (bytes : List ℕ) (s : Content) → content_of bytes ≡ Ok s → AreApart 0 (space_of s).modules
+content_apart bytes s is = go (value_of bytes) is
+  where
+    go : (o : Option Data) → content_by o ≡ Ok s → AreApart 0 (space_of s).modules
+    go None e = absurd cc
+    go (Some d) e = said (snapshot_of d) refl e
+      where
+        said : (r : Result Content Field) → snapshot_of d ≡ r → content_with r ≡ Ok s → AreApart 0 (space_of s).modules
+        said (Ok t) reads e = let same : t ≡ s = cc in apart_after [] s.modules tt (modules_taken d s (reads ∙ ap Ok same))
+        said (Err f) reads e = absurd cc
+
+-- ---- contexts that show states
+
+-- the state that a context shows
+shown_state : (c : Context) (s : State) → Shows (columns_of c) s → state_of c ≡ s
+shown_state c s shows =
+    let ra : c.ra ≡ s.ra = let e = shows.ra in cc in
+    let sp : get_or c.registers 7 0 ≡ s.sp = let e = shows.sp in cc in
+    let rbx : get_or c.registers 3 0 ≡ s.rbx = let e : Some (get_or c.registers 3 0) ≡ Some s.rbx = shows.saved RBX in cc in
+    let rbp : get_or c.registers 6 0 ≡ s.rbp = let e : Some (get_or c.registers 6 0) ≡ Some s.rbp = shows.saved RBP in cc in
+    let r12 : get_or c.registers 12 0 ≡ s.r12 = let e : Some (get_or c.registers 12 0) ≡ Some s.r12 = shows.saved R12 in cc in
+    let r13 : get_or c.registers 13 0 ≡ s.r13 = let e : Some (get_or c.registers 13 0) ≡ Some s.r13 = shows.saved R13 in cc in
+    let r14 : get_or c.registers 14 0 ≡ s.r14 = let e : Some (get_or c.registers 14 0) ≡ Some s.r14 = shows.saved R14 in cc in
+    let r15 : get_or c.registers 15 0 ≡ s.r15 = let e : Some (get_or c.registers 15 0) ≡ Some s.r15 = shows.saved R15 in cc in
+    rw (ra, sp, rbx, rbp, r12, r13, r14, r15) refl
+
+shown_states : (cs : List Context) (ss : List State) → EachShows cs ss → map state_of cs ≡ ss
+shown_states [] [] each = refl
+shown_states (c ∷ cs) (s ∷ ss) each = let first : state_of c ≡ s = shown_state c s each.0 in let later : map state_of cs ≡ ss = shown_states cs ss each.1 in cc
+shown_states [] (s ∷ ss) each = absurd each
+shown_states (c ∷ cs) [] each = absurd each
+
+-- ---- a chain without language tables
+
+-- no frame decides
+none_decides : (functions : List Function) → AllByRecursion (λ (f : Function). f.sites ≡ None) functions → (p : Process) (s : State) (calls : List Call) → IsChain p.image (IsUncovered plain p) functions s calls → described.deciding_frame s calls ≡ None
+none_decides functions plain_all p s [] chain = refl
+none_decides functions plain_all p s (c ∷ calls) chain =
+    let free : c.callee.sites ≡ None = lists.all_contains (λ (f : Function). f.sites ≡ None) functions c.callee plain_all chain.0.listed in
+    rw free (none_decides functions plain_all p c.caller calls chain.1)
+
+-- What is delivered of a snapshot whose tables describe a chain is what the definition says of the chain.
+pub chain_delivered : (s : Content) (functions : List Function) (start : State) (calls : List Call) → AreApart 0 (space_of s).modules → DescribesChain s functions start calls →
+    (d : Delivered) × (delivery_from s ≡ Ok d) × (delivery_shown d ≡ described.delivery_of s.exception start calls)
+unfolding delivery_from delivery_of
+chain_delivered s functions start calls apart is =
+    let p : Process = process_of (space_of s) in
+    let chain = valid_described plain p (columns_of s.start) s.resumes functions start calls is.valid in
+    let line = line_shows (space_of s) apart is.tables functions is.valid.are_functions start calls s.start s.limit is.valid.chain chain.described is.valid.shows is.shorter in
+    let states : map state_of line.0 ≡ states_of start calls = shown_states line.0 (states_of start calls) line.2 in
+    let none : described.deciding_frame start calls ≡ None = none_decides functions is.no_language p start calls is.valid.chain in
+    (record { visited = line.0; trail = []; outcome = EndOfStack; landing = None }, rw line.1 refl, rw (none, states) refl)
+
+-- ---- the report
+
+frames_shown : (i : ℕ) (cs : List Context) → frame_lines i cs ≡ state_lines i (map state_of cs)
+unfolding frame_line
+frames_shown i [] = refl
+frames_shown i (c ∷ cs) = ap (λ (rest : List ℕ). state_line i (state_of c) ++ rest) (frames_shown (i + 1) cs)
+
+cleanups_shown : (ts : List Trail) → cleanup_lines ts ≡ pad_lines (map pair_of ts)
+unfolding cleanup_line
+cleanups_shown [] = refl
+cleanups_shown (t ∷ ts) = ap (λ (rest : List ℕ). pad_line (pair_of t) ++ rest) (cleanups_shown ts)
+
+landing_shown : (o : Option Context) → landing_lines o ≡ handler_lines (option_map landing_of o)
+unfolding landing_line
+landing_shown None = refl
+landing_shown (Some c) = refl
+
+-- the report of a delivery is the text of what it shows
+pub report_shown : (d : Delivered) → report_of d ≡ delivery_text (delivery_shown d)
+report_shown d = rw (frames_shown 0 d.visited, cleanups_shown d.trail, landing_shown d.landing) refl

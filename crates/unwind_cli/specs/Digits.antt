@@ -1,0 +1,11 @@
+-- Numbers as text.
+use Rattle.std.specs.Prelude.{ℕ, ◌==◌, List, ◌++◌, false, codes, if◌then◌else◌}
+use Rattle.std.specs.Fmt.{digits, digits_onto}
+
+-- `0x` and lower case hexadecimal digits, without leading zeros
+unfoldable pub hexadecimal : ℕ → List ℕ
+hexadecimal n = codes "0x" ++ digits 16 false n
+
+-- the digits of what is left, before those that are written; at most so many
+abbrev pub digits_before : ℕ → ℕ → ℕ → List ℕ → List ℕ
+digits_before most base rest written = if rest == 0 then written else digits_onto most base false rest written

@@ -1,0 +1,24 @@
+-- A snapshot of one call of a function that pushes RBX: that of the stored run, and of examples/pushed_rbx.json.
+use Rattle.std.specs.Prelude.{ℕ, List, [], ◌∷◌, ◌++◌, codes, None, false}
+use Rattle.unwind_laws.specs.Pushing.{frames, stack}
+use Rattle.stack_deliver.specs.declared.space.FrameInfoKind.TheVariants.{EhFrame}
+use Rattle.unwind_cli.specs.Content.{Content}
+use Rattle.unwind_cli.specs.Report.{line}
+
+abbrev pub snapshot : Content
+snapshot = record {
+  regions = record { start = 0x500000; bytes = frames } ∷ record { start = 0x7000; bytes = stack } ∷ [];
+  modules = record { start = 0x401000; end = 0x401010; frame = record { text_base = None; kind = EhFrame 0x500000 } } ∷ [];
+  start = record { registers = 0 ∷ 0 ∷ 0 ∷ 9 ∷ 0 ∷ 0 ∷ 0 ∷ 0x7000 ∷ 0 ∷ 0 ∷ 0 ∷ 0 ∷ 0 ∷ 0 ∷ 0 ∷ 0 ∷ []; ra = 0x401006; mcxsr = 0; fcw = 0 };
+  exception = 0;
+  class = 0;
+  resumes = [];
+  limit = 2;
+  interrupted = false;
+}
+
+-- what is written of it
+abbrev pub text : List ℕ
+text = line (codes "frame 0 ra=0x401006 sp=0x7000 rbx=0x9 rbp=0x0 r12=0x0 r13=0x0 r14=0x0 r15=0x0")
+    ++ line (codes "frame 1 ra=0x0 sp=0x7010 rbx=0x5 rbp=0x0 r12=0x0 r13=0x0 r14=0x0 r15=0x0")
+    ++ line (codes "outcome end of stack")

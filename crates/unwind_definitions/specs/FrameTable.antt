@@ -1,0 +1,93 @@
+-- When a frame table describes functions. Its entries have the form that compilers emit; those of other code are free.
+-- LSB, section on the .eh_frame section; DWARF 5 section 6.4.
+use Rattle.std.specs.Prelude.{◌≡◌, ◌≢◌, ◌⊎◌, ℕ, ◌+◌, ◌-◌, ◌^◌, ◌<◌, ◌≤◌, Bool, ◌&&◌, List, [], ◌∷◌, ◌++◌, replicate, Some, None, Ok, IsFalse, MatchOption, ◌==◌}
+use Rattle.std.specs.Int.{w32}
+use Rattle.std.specs.List.{filter, list_any, Contains, AllByRecursion}
+use Rattle.memory_image.specs.Image.{Span, word_at}
+use Rattle.unwind_definitions.specs.Forms.{Forms}
+use Rattle.unwind_definitions.specs.Input.{Input, number, skip}
+use Rattle.unwind_definitions.specs.Pointers.{Bases, Pointer, Direct, Indirect}
+use Rattle.unwind_definitions.specs.Entries.{Cie, Fde, Entry, ACie, AFde, AreEntries}
+use Rattle.unwind_definitions.specs.Scan.{fdes_of}
+use Rattle.unwind_definitions.specs.Function.{Function}
+use Rattle.unwind_definitions.specs.DescribedRows.{negative, DescribesRows}
+use Rattle.unwind_definitions.specs.LanguageTable.{LeadsToLanguage}
+
+-- ---- the emitted form of a common information entry
+
+-- zR, zPR and zPLR
+abbrev pub IsEmittedAugmentation : List ℕ → Type 0
+IsEmittedAugmentation text = (text ≡ 0x7a ∷ 0x52 ∷ []) ⊎ (text ≡ 0x7a ∷ 0x50 ∷ 0x52 ∷ []) ⊎ (text ≡ 0x7a ∷ 0x50 ∷ 0x4c ∷ 0x52 ∷ [])
+
+-- an indirect pointer whose cell holds a word
+abbrev pub IsCell : List Span → Pointer → Type 0
+IsCell image (Direct a) = ⊥
+IsCell image (Indirect a) = word_at image a ≢ None
+
+-- a personality is named by four signed bytes relative to their place, directly, or through a cell
+abbrev pub IsEmittedPersonality : List Span → ℕ × Pointer → Type 0
+IsEmittedPersonality image p = (p.0 ≡ 0x1b) ⊎ ((p.0 ≡ 0x9b) × IsCell image p.1)
+
+-- At a function's start the CFA is the stack pointer plus 8, and the return address is just below it.
+abbrev pub entry_rules : List ℕ
+entry_rules = 0x0c ∷ 7 ∷ 8 ∷ 0x90 ∷ 1 ∷ []
+
+pub record IsEmittedCie (image : List Span) (cie : Cie) : Type 0 where
+  pub version : cie.version ≡ 1
+  pub code_factor : cie.code_factor ≡ 1
+  pub data_factor : cie.data_factor ≡ negative 8
+  pub return_column : cie.return_column ≡ 16
+  pub augmentation : IsEmittedAugmentation cie.augmentation
+  pub address : cie.letters.address ≡ Some 0x1b
+  pub language : (cie.letters.language ≡ None) ⊎ (cie.letters.language ≡ Some 0x1b)
+  pub personality : MatchOption cie.letters.personality (Unit {0}) (IsEmittedPersonality image)
+  pub program : (nops : ℕ) × (cie.program.bytes ≡ entry_rules ++ replicate nops 0)
+
+-- ---- the description of a function
+
+-- a description's range is the function's
+abbrev pub has_range_of : Function → Fde → Bool
+has_range_of f fde = (fde.start == f.start) && (fde.start + fde.size == f.end)
+
+module _ (forms : Forms) where
+  -- A description of a function's code: of the emitted form, with the function's range and its rows.
+  pub record DescribesCode (image : List Span) (bases : Bases) (f : Function) (fde : Fde) : Type 0 where
+    pub cie : IsEmittedCie image fde.cie
+    pub earlier : fde.cie.offset < fde.offset
+    pub start : fde.start ≡ f.start
+    pub end : fde.start + fde.size ≡ f.end
+    pub rows : DescribesRows forms bases f fde
+
+  -- A description of a function: of its code, and of what its language asks.
+  pub record DescribesFunction (image : List Span) (bases : Bases) (f : Function) (fde : Fde) : Type 0 where
+    pub code : DescribesCode image bases f fde
+    pub language : LeadsToLanguage image f fde.language
+
+  -- the one description in a list that has a function's range, and describes it
+  pub record HasDescription (image : List Span) (bases : Bases) (fdes : List Fde) (f : Function) : Type 0 where
+    pub fde : Fde
+    pub one : filter (has_range_of f) fdes ≡ fde ∷ []
+    pub describes : DescribesFunction image bases f fde
+
+-- a description shares no address with a function
+abbrev pub MeetsNot : Fde → Function → Type 0
+MeetsNot fde f = (fde.start + fde.size ≤ f.start) ⊎ (f.end ≤ fde.start)
+
+-- ---- the table
+
+abbrev pub offset_of : Entry → ℕ
+offset_of (ACie cie) = cie.offset
+offset_of (AFde fde) = fde.offset
+
+-- an entry's length is spelled by its first four bytes, and not by eight behind them
+abbrev pub HasShortLength : Input → Entry → Type 0
+HasShortLength table e = (n : ℕ) × (rest : Input) × (number w32 (skip (offset_of e) table) ≡ Ok (n, rest)) × (n < 2 ^ 32 - 1)
+
+module _ (forms : Forms) where
+  -- A frame table describes functions: it is these entries, each function has one description there, and the other
+  -- descriptions, which are free in all else, meet none of the functions.
+  pub record DescribesFrames (image : List Span) (bases : Bases) (table : Input) (entries : List Entry) (functions : List Function) : Type 0 where
+    pub reads : AreEntries forms bases table 0 entries
+    pub lengths : AllByRecursion (HasShortLength table) entries
+    pub each : AllByRecursion (HasDescription forms image bases (fdes_of entries)) functions
+    pub foreign : (fde : Fde) → Contains (fdes_of entries) fde → IsFalse (list_any (λ f. has_range_of f fde) functions) → AllByRecursion (MeetsNot fde) functions

@@ -1,0 +1,5 @@
+use Rattle.unwind_laws.proofs.Walk.{one_step}
+use Rattle.unwind_laws.proofs.chains.call_is_undone.Goals as goal
+
+pub returns : goal.returns
+returns c forms p evaluates functions a s k columns can shows = one_step forms p evaluates functions a s k columns can shows

@@ -1,0 +1,8 @@
+use Rattle.unwind_laws.proofs.ThreeValid.{three_process, caught_valid}
+use Rattle.unwind_laws.proofs.samples.calls_are_caught.Goals as goal
+
+pub returns-clause-process : goal.returns-clause-process
+returns-clause-process c = three_process
+
+pub returns-clause-whole : goal.returns-clause-whole
+returns-clause-whole c = caught_valid

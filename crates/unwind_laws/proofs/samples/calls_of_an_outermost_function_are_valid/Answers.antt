@@ -1,0 +1,11 @@
+use Rattle.unwind_laws.proofs.ReturningValid.{late_process, late_valid, reads_whole, reads_plain}
+use Rattle.unwind_laws.proofs.samples.calls_of_an_outermost_function_are_valid.Goals as goal
+
+pub returns-clause-process : goal.returns-clause-process
+returns-clause-process c = late_process
+
+pub returns-clause-whole : goal.returns-clause-whole
+returns-clause-whole c = late_valid _ reads_whole
+
+pub returns-clause-plain : goal.returns-clause-plain
+returns-clause-plain c = late_valid _ reads_plain

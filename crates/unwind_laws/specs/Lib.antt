@@ -1,0 +1,14 @@
+pub mod Reached
+pub mod Undoes
+pub mod Found
+pub mod Walked
+pub mod Pushing
+pub mod Columns
+pub mod Three
+pub mod Returning
+pub mod Apart
+pub mod Running
+pub mod Spelled
+pub mod Windows
+pub mod ByHeader
+pub mod Searched

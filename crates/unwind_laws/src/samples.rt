@@ -1,0 +1,78 @@
+//! Processes that are valid, byte for byte, and what is delivered there.
+
+ghost use Rattle.std.specs.Prelude.{◌≡◌, ◌-◌, ℕ, [], ◌∷◌, false};
+ghost use Rattle.unwind_definitions.specs.Forms.{whole, plain};
+ghost use Rattle.unwind_definitions.specs.Prologue.{Windows, steps_of};
+ghost use Rattle.unwind_definitions.specs.Entered.{IsEntered};
+ghost use Rattle.unwind_definitions.specs.Function.{Terminate, IsFunction, action_at};
+ghost use Rattle.unwind_definitions.specs.Module.{IsProcess};
+ghost use Rattle.unwind_definitions.specs.Delivery.{delivery_of};
+ghost use Rattle.unwind_definitions.specs.Valid.{IsValid};
+ghost use Rattle.unwind_definitions.specs.Stopped.{StandsAfter};
+ghost use Rattle.unwind_laws.specs.Columns.{columns_of};
+ghost use Rattle.unwind_laws.specs.Pushing as pushing;
+ghost use Rattle.unwind_laws.specs.Three as three;
+ghost use Rattle.unwind_laws.specs.Returning as returning;
+ghost use Rattle.unwind_laws.specs.Windows as windows;
+
+/// A call of a function that pushes RBX, from a caller that returns to 0.
+pub fn one_call_is_valid()
+    ensures process { IsProcess pushing.process }
+    ensures whole { IsValid whole pushing.process (columns_of pushing.start) [] (pushing.function ∷ []) pushing.start pushing.calls }
+    ensures plain { IsValid plain pushing.process (columns_of pushing.start) [] (pushing.function ∷ []) pushing.start pushing.calls }
+    ensures delivery { delivery_of 0 pushing.start pushing.calls ≡ pushing.delivery }
+{}
+
+/// The same where the pushed register's slot holds another value: it is not so entered.
+pub fn other_slot_is_no_entering()
+    ensures { IsEntered pushing.other_image false (steps_of pushing.function.prologue) pushing.caller pushing.start → ⊥ }
+{}
+
+/// Three calls of that function, by itself.
+pub fn three_calls_are_valid()
+    ensures process { IsProcess pushing.process_of_three }
+    ensures whole { IsValid whole pushing.process_of_three (columns_of pushing.start) [] (pushing.function ∷ []) pushing.start pushing.calls_of_three }
+    ensures plain { IsValid plain pushing.process_of_three (columns_of pushing.start) [] (pushing.function ∷ []) pushing.start pushing.calls_of_three }
+    ensures delivery { delivery_of 0 pushing.start pushing.calls_of_three ≡ pushing.delivery_of_three }
+{}
+
+/// A function with late save records and an epilogue in its midst, called by an outermost one, in a
+/// table that also has a description of other code.
+pub fn calls_of_an_outermost_function_are_valid()
+    ensures process { IsProcess returning.process }
+    ensures whole { IsValid whole returning.process (columns_of returning.start) [] returning.functions returning.start returning.calls }
+    ensures plain { IsValid plain returning.process (columns_of returning.start) [] returning.functions returning.start returning.calls }
+    ensures delivery { delivery_of 0 returning.start returning.calls ≡ returning.delivery }
+{}
+
+/// That function stopped inside its prologue, behind two of its three steps.
+pub fn state_stands_inside_a_prologue()
+    ensures { StandsAfter returning.image returning.callee returning.done returning.later returning.caller returning.interrupted }
+{}
+
+/// Three functions, two of them with language tables: the second runs a cleanup, the third catches.
+pub fn calls_are_caught()
+    ensures process { IsProcess three.process }
+    ensures whole { IsValid whole three.process (columns_of three.start) three.resumes three.functions three.start three.calls }
+    ensures delivery { delivery_of three.exception three.start three.calls ≡ three.delivery }
+{}
+
+/// The same by a header table.
+pub fn calls_by_a_header_are_caught()
+    ensures process { IsProcess three.header_process }
+    ensures whole { IsValid whole three.header_process (columns_of three.start) three.resumes three.functions three.start three.calls }
+{}
+
+/// The same where the third function's call is in no site of its language table.
+pub fn unlisted_call_ends_the_program()
+    ensures whole { IsValid whole three.unlisted_process (columns_of three.start) three.resumes three.functions three.start three.unlisted_calls }
+    ensures action { action_at three.fc (0x401070 - 1) ≡ Terminate }
+    ensures delivery { delivery_of three.exception three.start three.unlisted_calls ≡ three.unlisted_delivery }
+{}
+
+/// A function under the rules of Windows, whose chained record tells of its first two steps, sets RBP
+/// above the stack pointer and stores an XMM register: it is one, and a state is entered by it.
+pub fn windows_function_is_entered()
+    ensures function { IsFunction Windows windows.function }
+    ensures entered { IsEntered windows.image false (steps_of windows.prologue) windows.caller windows.start }
+{}
