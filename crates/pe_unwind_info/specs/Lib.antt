@@ -3,3 +3,8 @@ pub mod Numbers
 pub mod Registers
 pub mod Search
 pub mod RuntimeFunctionBytes
+pub mod Sections
+pub mod SectionBytes
+pub mod Header
+pub mod Flags
+pub mod Info

@@ -5,6 +5,10 @@ mod function_table;
 mod little_endian;
 mod registers;
 mod search;
+mod sections;
+mod unwind_info;
 
 pub use function_table::{FunctionTableEntries, RuntimeFunction, U32};
 pub use registers::{Register, XmmRegister};
+pub use sections::Sections;
+pub use unwind_info::{UnwindInfo, UnwindInfoFlags, UnwindInfoHeader, UnwindInfoTrailer};
