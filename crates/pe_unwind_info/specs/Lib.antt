@@ -8,3 +8,5 @@ pub mod SectionBytes
 pub mod Header
 pub mod Flags
 pub mod Info
+pub mod Operations
+pub mod InfoOperations

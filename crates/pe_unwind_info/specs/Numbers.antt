@@ -16,3 +16,8 @@ first_u16 bytes = if nat_lt (length bytes) 2 then None else Some (u16_at 0 bytes
 -- the same of the first four bytes
 abbrev pub first_u32 : List ℕ → Option (ℕ × List ℕ)
 first_u32 bytes = if nat_lt (length bytes) 4 then None else Some (u32_at 0 bytes, drop 4 bytes)
+
+-- the same with the number taken for one of units
+abbrev pub scaled : ℕ → Option (ℕ × List ℕ) → Option (ℕ × List ℕ)
+scaled unit None = None
+scaled unit (Some (n, rest)) = Some (n * unit, rest)

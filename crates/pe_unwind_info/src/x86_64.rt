@@ -3,12 +3,16 @@
 
 mod function_table;
 mod little_endian;
+mod operations;
 mod registers;
 mod search;
 mod sections;
 mod unwind_info;
 
 pub use function_table::{FunctionTableEntries, RuntimeFunction, U32};
+pub use operations::{
+    EpilogHeader, EpilogInformation, StackFrameOffset, UnwindCode, UnwindOperation, UnwindOperationCode, UnwindOperations,
+};
 pub use registers::{Register, XmmRegister};
 pub use sections::Sections;
 pub use unwind_info::{UnwindInfo, UnwindInfoFlags, UnwindInfoHeader, UnwindInfoTrailer};

@@ -3,6 +3,8 @@ ghost use Rattle.std.specs.Prelude.{◌≡◌, ◌%◌};
 ghost use Rattle.std.specs.Option.{option_map};
 ghost use Rattle.pe_unwind_info.specs.Header.{version_of, flags_of, frame_number, frame_units, frame_distance, frame_register_of};
 ghost use Rattle.pe_unwind_info.specs.Flags.{flag_bits};
+ghost use Rattle.pe_unwind_info.specs.Operations.{slots_left, operations_left};
+ghost use Rattle.pe_unwind_info.specs.InfoOperations.{operations_in};
 ghost use Rattle.pe_unwind_info.specs.Info.{info_of, parsed_info, trailer_view, trailer_of, chained_in};
 
 use bitflags::{Flag, Flags, bitflag_items};
@@ -10,6 +12,7 @@ use memory_image::Record;
 
 use crate::x86_64::function_table::{RuntimeFunction, U32};
 use crate::x86_64::little_endian::split_u32;
+use crate::x86_64::operations::UnwindOperations;
 use crate::x86_64::registers::{Register, register_at};
 
 /// The flags of an unwind record. At most one of them is set in a record of a proper image.
@@ -225,5 +228,63 @@ impl<'a> UnwindInfo<'a> {
         } else {
             None
         }
+    }
+
+    /// The operations of the record, from the last instruction of the prolog to the first.
+    pub fn unwind_operations(&self) -> UnwindOperations<'a>
+        ensures operations { operations_left result ≡ operations_in (info_of self.now) }
+        ensures slots { slots_left result ≡ (info_of self.now).slots }
+    {
+        UnwindOperations::new(self.header.version(), self.slots)
+    }
+
+    /// The record's version, 1 or 2.
+    pub fn version(&self) -> u8
+        ensures { result ≡ version_of (info_of self.now).header }
+    {
+        self.header.version()
+    }
+
+    /// The flags as they stand, unknown ones among them.
+    pub fn flags_raw(&self) -> u8
+        ensures { result ≡ flags_of (info_of self.now).header }
+    {
+        self.header.flags_raw()
+    }
+
+    /// The flags that are known.
+    pub fn flags(&self) -> UnwindInfoFlags
+        ensures { flag_bits result ≡ flags_of (info_of self.now).header % 8 }
+    {
+        self.header.flags()
+    }
+
+    /// The number of the frame register, 0 where there is none.
+    pub fn frame_register_raw(&self) -> u8
+        ensures { result ≡ frame_number (info_of self.now).header }
+    {
+        self.header.frame_register_raw()
+    }
+
+    /// How far the frame register is above the stack pointer that it was set from, in units of 16
+    /// bytes.
+    pub fn frame_register_offset_raw(&self) -> u8
+        ensures { result ≡ frame_units (info_of self.now).header }
+    {
+        self.header.frame_register_offset_raw()
+    }
+
+    /// How far the frame register is above the stack pointer that it was set from, in bytes.
+    pub fn frame_register_offset(&self) -> u8
+        ensures { result ≡ frame_distance (info_of self.now).header }
+    {
+        self.header.frame_register_offset()
+    }
+
+    /// The frame register, where there is one.
+    pub fn frame_register(&self) -> Option<Register>
+        ensures { result ≡ frame_register_of (info_of self.now).header }
+    {
+        self.header.frame_register()
     }
 }
