@@ -61,12 +61,12 @@ head_less (Some SaveXmm128) slot rest = counts_less _ _ _ (less_scaled 16 rest)
 head_less (Some SaveXmm128Far) slot rest = counts_less _ _ _ (less_u32 rest)
 head_less (Some PushMachframe) slot rest = omega arith
 
--- what is left behind the first slots has fewer bytes
+-- what is left behind the first slots has two bytes fewer at least
 LeavesFewer : ℕ → First → Type 0
 LeavesFewer n None = Unit {0}
-LeavesFewer n (Some p) = length p.2 < n
+LeavesFewer n (Some p) = length p.2 + 2 ≤ n
 
-placed_less : (n m offset : ℕ) (h : Head) → n < m → LeavesAtMost n h → LeavesFewer m (placed_at offset h)
+placed_less : (n m offset : ℕ) (h : Head) → n + 2 ≤ m → LeavesAtMost n h → LeavesFewer m (placed_at offset h)
 unfolding LeavesAtMost LeavesFewer
 placed_less n m offset None lt less = tt
 placed_less n m offset (Some (operation, rest)) lt less = omega arith
@@ -79,7 +79,7 @@ first_less version (x ∷ y ∷ rest) =
     let slot : UnwindCode = record { prolog_offset = x; opcode_and_opinfo = y } in
     placed_less (length rest) (length (x ∷ y ∷ rest)) x (head_of version slot rest) (omega arith) (head_less (code_of version (code_number slot)) slot rest)
 
-then_same : (n : ℕ) (first : First) → LeavesFewer n first → (f g : List ℕ → List Placed) → ((bytes : List ℕ) → length bytes < n → f bytes ≡ g bytes) → then_later first f ≡ then_later first g
+then_same : (n : ℕ) (first : First) → LeavesFewer n first → (f g : List ℕ → List Placed) → ((bytes : List ℕ) → length bytes + 2 ≤ n → f bytes ≡ g bytes) → then_later first f ≡ then_later first g
 unfolding LeavesFewer
 then_same n None less f g same = refl
 then_same n (Some (offset, None, rest)) less f g same = same rest less
@@ -114,7 +114,7 @@ pub operations_give : (version offset : ℕ) (operation : UnwindOperation) (byte
 operations_give version offset operation bytes rest e = operations_step version bytes ∙ rw e refl
 
 -- what is left is shorter
-pub fewer_left : (version : ℕ) (bytes : List ℕ) (p : ℕ × Option UnwindOperation × List ℕ) → first_of version bytes ≡ Some p → length p.2 < length bytes
+pub fewer_left : (version : ℕ) (bytes : List ℕ) (p : ℕ × Option UnwindOperation × List ℕ) → first_of version bytes ≡ Some p → length p.2 + 2 ≤ length bytes
 unfolding LeavesFewer
 fewer_left version bytes p e = subst (LeavesFewer (length bytes)) e (first_less version bytes)
 

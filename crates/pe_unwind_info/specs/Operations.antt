@@ -1,5 +1,5 @@
 -- The unwind operations that the slots of a record spell.
-use Rattle.std.specs.Prelude.{ℕ, zero, suc, ◌+◌, ◌*◌, ◌/◌, ◌%◌, Bool, List, [], ◌∷◌, Option, Some, None, length, drop, nat_le, nat_lt, ◌==◌, if◌then◌else◌}
+use Rattle.std.specs.Prelude.{ℕ, zero, suc, ◌+◌, ◌*◌, ◌/◌, ◌%◌, ◌<◌, ◌≤◌, ◌⊎◌, Bool, List, [], ◌∷◌, Option, Some, None, length, drop, nat_le, nat_lt, ◌==◌, if◌then◌else◌}
 use Rattle.pe_unwind_info.specs.declared.x86_64.operations.EpilogInformation.{EpilogInformation as Epilog}
 use Rattle.pe_unwind_info.specs.declared.x86_64.operations.EpilogHeader.{EpilogHeader}
 use Rattle.pe_unwind_info.specs.declared.x86_64.operations.StackFrameOffset.{StackFrameOffset}
@@ -129,3 +129,7 @@ offset_of_epilog epilog = epilog.size_or_offset_low + 256 * epilog.single_or_off
 
 abbrev pub header_information : EpilogHeader → Epilog
 header_information header = header.0
+
+-- a slot of two bytes was used at least, or none was left
+abbrev pub UsesSlot : List ℕ → List ℕ → Type 0
+UsesSlot before after = (length after + 2 ≤ length before) ⊎ (length before < 2)

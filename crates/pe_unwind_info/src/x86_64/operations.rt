@@ -267,8 +267,9 @@ impl<'a> UnwindOperations<'a> {
 }
 
 impl<'a> Iterator for UnwindOperations<'a> {
-    ghost use Rattle.std.specs.Iterator.{YieldsFirst, item_count};
-    ghost use Rattle.pe_unwind_info.specs.Operations.{operations_left};
+    ghost use Rattle.std.specs.Prelude.{⊤, ◌≡◌, [], IfNone};
+    ghost use Rattle.std.specs.Iterator.{YieldsFirst, MakesProgress, item_count};
+    ghost use Rattle.pe_unwind_info.specs.Operations.{operations_left, slots_left, UsesSlot};
 
     type Item = (u8, UnwindOperation);
 
@@ -277,7 +278,12 @@ impl<'a> Iterator for UnwindOperations<'a> {
     ghost remaining = { item_count operations_left };
 
     #[tactic(auto, using(crate::proofs::OperationLemmas::operations_end, crate::proofs::OperationLemmas::operations_skip, crate::proofs::OperationLemmas::operations_give, crate::proofs::OperationLemmas::operations_none, crate::proofs::OperationLemmas::fewer_left))]
-    fn next(&mut self) -> Option<(u8, UnwindOperation)> {
+    fn next(&mut self) -> Option<(u8, UnwindOperation)>
+        ensures steps { YieldsFirst operations_left self.old result self.new }
+        ensures goes { MakesProgress (λ _. ⊤) (item_count operations_left) self.old result self.new }
+        ensures uses { UsesSlot (slots_left self.old) (slots_left self.new) }
+        ensures ended { IfNone result (slots_left self.new ≡ []) }
+    {
         let mut slots = self.slots;
         self.slots = &[];
         while let Some((prolog_offset, operation, rest)) = decode_first(self.version, slots) {
