@@ -1,3 +1,6 @@
+pub mod EpilogReads
+pub mod EpilogSequences
+pub mod EpilogSpelled
 pub mod FlagLemmas
 pub mod OperationLemmas
 pub mod TableLemmas

@@ -10,3 +10,5 @@ pub mod Flags
 pub mod Info
 pub mod Operations
 pub mod InfoOperations
+pub mod Epilog
+pub mod EpilogGrammar

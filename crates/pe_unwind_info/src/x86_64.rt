@@ -1,6 +1,7 @@
 //! Unwinding by the unwind data of x86-64 images, as Microsoft's "x64 exception handling" lays it
 //! down.
 
+mod epilog;
 mod function_table;
 mod little_endian;
 mod operations;
@@ -9,6 +10,7 @@ mod search;
 mod sections;
 mod unwind_info;
 
+pub use epilog::{FUNCTION_EPILOG_LIMIT, FunctionEpilogInstruction, InstructionParseError};
 pub use function_table::{FunctionTableEntries, RuntimeFunction, U32};
 pub use operations::{
     EpilogHeader, EpilogInformation, StackFrameOffset, UnwindCode, UnwindOperation, UnwindOperationCode, UnwindOperations,
