@@ -12,3 +12,5 @@ pub mod Operations
 pub mod InfoOperations
 pub mod Epilog
 pub mod EpilogGrammar
+pub mod Machine
+pub mod Steps

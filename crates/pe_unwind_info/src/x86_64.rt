@@ -2,19 +2,23 @@
 //! down.
 
 mod epilog;
+mod fault;
 mod function_table;
 mod little_endian;
 mod operations;
 mod registers;
 mod search;
 mod sections;
+mod state;
 mod unwind_info;
 
 pub use epilog::{FUNCTION_EPILOG_LIMIT, FunctionEpilogInstruction, InstructionParseError};
+pub use fault::FrameFault;
 pub use function_table::{FunctionTableEntries, RuntimeFunction, U32};
 pub use operations::{
     EpilogHeader, EpilogInformation, StackFrameOffset, UnwindCode, UnwindOperation, UnwindOperationCode, UnwindOperations,
 };
 pub use registers::{Register, XmmRegister};
 pub use sections::Sections;
+pub use state::UnwindState;
 pub use unwind_info::{UnwindInfo, UnwindInfoFlags, UnwindInfoHeader, UnwindInfoTrailer};
