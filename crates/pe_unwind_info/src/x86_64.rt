@@ -10,6 +10,7 @@ mod registers;
 mod search;
 mod sections;
 mod state;
+mod steps;
 mod unwind_info;
 
 pub use epilog::{FUNCTION_EPILOG_LIMIT, FunctionEpilogInstruction, InstructionParseError};
