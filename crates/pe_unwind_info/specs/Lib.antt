@@ -14,3 +14,4 @@ pub mod Epilog
 pub mod EpilogGrammar
 pub mod Machine
 pub mod Steps
+pub mod EpilogList

@@ -2,6 +2,7 @@
 //! down.
 
 mod epilog;
+mod epilog_list;
 mod fault;
 mod function_table;
 mod little_endian;
