@@ -15,3 +15,4 @@ pub mod EpilogGrammar
 pub mod Machine
 pub mod Steps
 pub mod EpilogList
+pub mod Frame

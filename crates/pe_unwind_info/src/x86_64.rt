@@ -4,6 +4,7 @@
 mod epilog;
 mod epilog_list;
 mod fault;
+mod frame;
 mod function_table;
 mod little_endian;
 mod operations;
