@@ -3,6 +3,7 @@ pub mod EpilogReads
 pub mod EpilogSequences
 pub mod EpilogSpelled
 pub mod FlagLemmas
+pub mod FrameLemmas
 pub mod LinkLemmas
 pub mod OperationLemmas
 pub mod TableLemmas

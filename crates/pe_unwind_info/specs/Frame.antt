@@ -1,5 +1,5 @@
 -- A frame at an address, by the unwind records of its function.
-use Rattle.std.specs.Prelude.{◌≡◌, ℕ, zero, suc, ◌-◌, Bool, true, false, ◌||◌, List, [], ◌∷◌, map, length, take, Option, Some, None, Result, Ok, Err, nat_lt, if◌then◌else◌}
+use Rattle.std.specs.Prelude.{◌≡◌, ℕ, zero, suc, ◌-◌, ◌^◌, ◌<◌, Bool, true, false, ◌||◌, List, [], ◌∷◌, map, length, take, Option, Some, None, Result, Ok, Err, nat_lt, if◌then◌else◌}
 use Rattle.std.specs.declared.ops.ControlFlow.{ControlFlow}
 use Rattle.std.specs.declared.ops.ControlFlow.TheVariants.{Continue, Break}
 use Rattle.pe_unwind_info.specs.declared.x86_64.registers.Register.{Register}
@@ -8,6 +8,7 @@ use Rattle.pe_unwind_info.specs.declared.x86_64.fault.FrameFault.TheVariants.{Me
 use Rattle.pe_unwind_info.specs.declared.x86_64.function_table.RuntimeFunction.{RuntimeFunction}
 use Rattle.pe_unwind_info.specs.declared.x86_64.epilog.FunctionEpilogInstruction.{FunctionEpilogInstruction}
 use Rattle.pe_unwind_info.specs.declared.x86_64.operations.UnwindOperation.{UnwindOperation}
+use Rattle.pe_unwind_info.specs.FunctionTable.{IsLookup}
 use Rattle.pe_unwind_info.specs.Header.{frame_register_of}
 use Rattle.pe_unwind_info.specs.Info.{Info, parsed_info, Trailer, OnException, OnTermination, ChainedTo, trailer_of}
 use Rattle.pe_unwind_info.specs.InfoOperations.{operations_in}
@@ -15,11 +16,12 @@ use Rattle.pe_unwind_info.specs.Operations.{Placed}
 use Rattle.pe_unwind_info.specs.Epilog.{Sequence, sequence_of}
 use Rattle.pe_unwind_info.specs.EpilogList.{leading_epilogs, behind_epilogs, is_due}
 use Rattle.pe_unwind_info.specs.Machine.{Registers, Stack, FrameEnd, Returned, Faulted, After, Goes, Ends, pop_return, then_ends}
+use Rattle.pe_unwind_info.specs.Sections.{sections_in, IsMemoryAt}
 use Rattle.pe_unwind_info.specs.Steps.{run, epilog_run}
 
--- what a call may give as the memory at a relative virtual address
+-- what a call may give as the memory at a relative virtual address, which is a number of 32 bits
 abbrev pub Gives : {A : Type 0} → (ℕ → A → Type 0) → (A → Option (List ℕ)) → ℕ → Option (List ℕ) → Type 0
-Gives {A} answers content rva memory = (answer : A) × answers rva answer × (content answer ≡ memory)
+Gives {A} answers content rva memory = (answer : A) × (rva < 2 ^ 32) × answers rva answer × (content answer ≡ memory)
 
 -- ---- what is read from memory
 abbrev pub info_or : ℕ → Option Info → Result Info FrameFault
@@ -106,11 +108,13 @@ IsTested false gives frame end address test = test ≡ Ok None
 IsTested true gives frame end address test = (memory : Option (List ℕ)) × gives address memory × (test ≡ epilog_in frame end address memory)
 
 -- the rest of an epilog and the return address; or the operations of what the prologue has done up to the address, and the chained records
+abbrev pub Leaves : (ℕ → Option (List ℕ) → Type 0) → Stack → Info → List Placed → Option (List FunctionEpilogInstruction) → Registers → FrameEnd → Type 0
+Leaves gives stack info operations (Some instructions) regs end = end ≡ then_ends (epilog_run (frame_register_of info.header) stack instructions regs) (pop_return stack)
+Leaves gives stack info operations None regs end = ByRun (run info.header stack (operations_alone operations) regs) (IsLinked gives stack 32 (chained_of info)) end
+
 abbrev pub ByTest : (ℕ → Option (List ℕ) → Type 0) → Stack → ℕ → RuntimeFunction → Info → Result (Option (List FunctionEpilogInstruction)) FrameFault → Registers → FrameEnd → Type 0
 ByTest gives stack address function info (Err fault) regs end = end ≡ Faulted fault regs
-ByTest gives stack address function info (Ok (Some instructions)) regs end = end ≡ then_ends (epilog_run (frame_register_of info.header) stack instructions regs) (pop_return stack)
-ByTest gives stack address function info (Ok None) regs end =
-    ByRun (run info.header stack (operations_alone (from_place (address - function.begin_address) (behind_epilogs (operations_in info)))) regs) (IsLinked gives stack 32 (chained_of info)) end
+ByTest gives stack address function info (Ok epilog) regs end = Leaves gives stack info (from_place (address - function.begin_address) (behind_epilogs (operations_in info))) epilog regs end
 
 abbrev pub InRecord : (ℕ → Option (List ℕ) → Type 0) → Stack → ℕ → RuntimeFunction → Result Info FrameFault → Registers → FrameEnd → Type 0
 InRecord gives stack address function (Err fault) regs end = end ≡ Faulted fault regs
@@ -134,3 +138,18 @@ abbrev pub link_end : Result (ControlFlow ℕ (Option RuntimeFunction)) FrameFau
 link_end (Ok (Continue next)) regs = Follows next regs
 link_end (Ok (Break address)) regs = Stops (Returned address regs)
 link_end (Err fault) regs = Stops (Faulted fault regs)
+
+-- How a frame ends at an address, by the record that a look-up in the function table answers.
+abbrev pub IsUnwound : (ℕ → Option (List ℕ) → Type 0) → Stack → Option (List RuntimeFunction) → ℕ → Registers → FrameEnd → Type 0
+IsUnwound gives stack functions address regs end = (function : Option RuntimeFunction) × IsLookup functions address function × IsFrame gives stack address function regs end
+
+-- a return address, or no address where there was a fault, with the registers that were left
+abbrev pub ShowsEnd : Option ℕ → Registers → FrameEnd → Type 0
+ShowsEnd (Some address) regs end = end ≡ Returned address regs
+ShowsEnd None regs end = (fault : FrameFault) × (end ≡ Faulted fault regs)
+
+-- an image without sections gives no address, and leaves the registers; one with sections gives its memory
+abbrev pub IsUnwoundIn : List ℕ → Option (List ℕ) → Stack → Option (List RuntimeFunction) → ℕ → Registers → Option ℕ → Registers → Type 0
+IsUnwoundIn image None stack functions address regs result left = (result ≡ None) × (left ≡ regs)
+IsUnwoundIn image (Some headers) stack functions address regs result left =
+    (end : FrameEnd) × IsUnwound (IsMemoryAt image (sections_in headers)) stack functions address regs end × ShowsEnd result left end

@@ -16,3 +16,4 @@ pub mod Machine
 pub mod Steps
 pub mod EpilogList
 pub mod Frame
+pub mod FrameOf

@@ -1,5 +1,5 @@
 // The function table.
-ghost use Rattle.std.specs.Prelude.{◌≡◌, ◌/◌, length};
+ghost use Rattle.std.specs.Prelude.{◌≡◌, ◌≤◌, ◌/◌, length, IfSome};
 ghost use Rattle.pe_unwind_info.specs.FunctionTable.{table_bytes, functions_of, IsLookup};
 
 use memory_image::{Record, Records};
@@ -92,7 +92,8 @@ impl<'a> FunctionTableEntries<'a> {
     /// the bytes aren't whole records. In a table out of order any record that begins at or below
     /// the address, and whose successor begins above it, counts as the last one.
     pub fn lookup(&self, address: u32) -> Option<RuntimeFunction>
-        ensures { IsLookup (functions_of (table_bytes self.now)) address result }
+        ensures lookup { IsLookup (functions_of (table_bytes self.now)) address result }
+        ensures begun { IfSome result (λ function. function.begin_address ≤ address) }
     {
         let function = boundary(&self.functions()?, address)?;
         if function.begin_address == address || address < function.end_address {
