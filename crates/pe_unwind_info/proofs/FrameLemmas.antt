@@ -47,9 +47,14 @@ module _ (gives more : ℕ → Option (List ℕ) → Type 0) (also : (rva : ℕ)
   in_record_more address function (Err fault) regs end r = r
   in_record_more address function (Ok info) regs end r = (r.0, tested_more (is_due function.end_address address (leading_epilogs (operations_in info))) (frame_register_of info.header) function.end_address address r.0 r.1, by_test_more address function info r.0 regs end r.2)
 
-  pub frame_more : (address : ℕ) (function : Option RuntimeFunction) (regs : Registers) (end : FrameEnd) → IsFrame gives stack address function regs end → IsFrame more stack address function regs end
+  frame_more : (address : ℕ) (function : Option RuntimeFunction) (regs : Registers) (end : FrameEnd) → IsFrame gives stack address function regs end → IsFrame more stack address function regs end
   frame_more address None regs end f = f
   frame_more address (Some function) regs end f = (f.0, also function.unwind_info_address f.0 f.1, in_record_more address function (info_in function.unwind_info_address f.0) regs end f.2)
+
+-- a frame over what is given is one over more that may be given
+pub widened : (gives more : ℕ → Option (List ℕ) → Type 0) (stack : Stack) (address : ℕ) (function : Option RuntimeFunction) (regs : Registers) (end : FrameEnd) → IsFrame gives stack address function regs end →
+    ((rva : ℕ) (memory : Option (List ℕ)) → gives rva memory → more rva memory) → IsFrame more stack address function regs end
+widened gives more stack address function regs end f also = frame_more gives more also stack address function regs end f
 
 module _ (gives : ℕ → Option (List ℕ) → Type 0) (memory : Image) (only : (rva : ℕ) (given : Option (List ℕ)) → gives rva given → given ≡ memory rva) (stack : Stack) where
 

@@ -4,7 +4,7 @@ ghost use Rattle.std.specs.Option.{option_map, ForSome};
 ghost use Rattle.pe_unwind_info.specs.Epilog.{map_ok};
 ghost use Rattle.pe_unwind_info.specs.Frame.{Gives, info_in, chained_of, epilog_in, operations_alone, from_place, link_by, link_of, link_end, IsLinked, IsTested, Leaves, ByRun, InRecord, IsFunctionFrame, IsFrame, IsUnwound, ShowsEnd, IsUnwoundIn};
 ghost use Rattle.pe_unwind_info.specs.FrameOf.{Image, framed};
-ghost use Rattle.pe_unwind_info.specs.Sections.{section_table};
+ghost use Rattle.pe_unwind_info.specs.Sections.{section_table, image_of, headers_of, sections_in, IsMemoryAt};
 ghost use Rattle.pe_unwind_info.specs.FunctionTable.{table_bytes, functions_of, IsLookup};
 ghost use Rattle.pe_unwind_info.specs.Header.{frame_register_of};
 ghost use Rattle.pe_unwind_info.specs.Info.{info_of};
@@ -341,7 +341,12 @@ impl<'a> FunctionTableEntries<'a> {
         ensures stack { S.stack state.new ≡ S.stack state.old }
     {
         match Sections::parse(image) {
-            Some(sections) => self.unwind_frame(state, |rva| sections.memory_at_rva(rva), address),
+            Some(sections) => {
+                let memory_at_rva = |rva: u32| -> Option<&[u8]>
+                    ensures { IsMemoryAt (image_of sections.entry) (sections_in (headers_of sections.entry)) rva (option_map (λ bytes. bytes.now) result) }
+                { sections.memory_at_rva(rva) };
+                self.unwind_frame(state, memory_at_rva, address)
+            }
             None => None,
         }
     }
