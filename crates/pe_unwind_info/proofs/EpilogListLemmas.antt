@@ -1,10 +1,9 @@
 -- The leading epilog operations, one after another.
-use Rattle.std.proofs.Common.{◌≡◌, ℕ, Bool, true, false, ◌||◌, List, [], ◌∷◌, Option, Some, None, refl, sym, ap, ◌∙◌}
+use Rattle.std.proofs.Common.{◌≡◌, ℕ, Bool, true, false, ◌||◌, List, [], ◌∷◌, None, refl}
 use Rattle.pe_unwind_info.specs.declared.x86_64.operations.EpilogInformation.{EpilogInformation as Epilog}
-use Rattle.pe_unwind_info.specs.declared.x86_64.operations.UnwindOperation.{UnwindOperation}
 use Rattle.pe_unwind_info.specs.declared.x86_64.operations.UnwindOperation.TheVariants.{EpilogInformation}
 use Rattle.pe_unwind_info.specs.Operations.{Placed}
-use Rattle.pe_unwind_info.specs.EpilogList.{told_by, first_epilog, lead_with, leading_epilogs, rest_unless, behind_epilogs, lists, any_lists}
+use Rattle.pe_unwind_info.specs.EpilogList.{first_epilog, leading_epilogs, behind_epilogs, lists, any_lists}
 
 pub leading_none : (ops : List Placed) → first_epilog ops ≡ None → leading_epilogs ops ≡ []
 unfolding leading_epilogs

@@ -1,17 +1,15 @@
 -- What is read from bytes is what the grammar says of them.
-use Rattle.std.proofs.Common.{◌≡◌, ◌≢◌, ℕ, zero, suc, ◌+◌, ◌-◌, ◌*◌, ◌/◌, ◌%◌, ◌<◌, ◌≤◌, Bool, true, false, cond, eqb, ltb, ◌||◌, ◌&&◌, List, [], ◌∷◌, ◌++◌, length, drop, Option, Some, None, Result, Ok, Err, refl, sym, ap, subst, ◌∙◌, arith, inl, inr, append_assoc}
-use Rattle.std.specs.Prelude.{◌⊎◌, ◌==◌}
-use Rattle.std.proofs.lemmas.Bool.{eqb-true, eq-eqb, le-ltb}
-use Rattle.std.proofs.lemmas.Bool.Decides.{nat_tests}
+use Rattle.std.proofs.Common.{◌≡◌, ℕ, ◌+◌, ◌/◌, ◌%◌, ◌<◌, Bool, true, false, cond, eqb, ltb, ◌||◌, ◌&&◌, List, [], ◌∷◌, ◌++◌, length, Option, Some, None, Ok, Err, refl, sym, ap, subst, arith, inl, inr, append_assoc}
+use Rattle.std.specs.Prelude.{◌⊎◌}
+use Rattle.std.proofs.lemmas.Bool.{eqb-true, le-ltb}
 use Rattle.pe_unwind_info.specs.declared.x86_64.registers.Register.{Register}
 use Rattle.pe_unwind_info.specs.declared.x86_64.epilog.FunctionEpilogInstruction.{FunctionEpilogInstruction}
-use Rattle.pe_unwind_info.specs.declared.x86_64.epilog.FunctionEpilogInstruction.TheVariants.{AddSP, AddSPFromFP, Pop}
-use Rattle.pe_unwind_info.specs.declared.x86_64.epilog.InstructionParseError.{InstructionParseError}
+use Rattle.pe_unwind_info.specs.declared.x86_64.epilog.FunctionEpilogInstruction.TheVariants.{AddSP, AddSPFromFP}
 use Rattle.pe_unwind_info.specs.declared.x86_64.epilog.InstructionParseError.TheVariants.{NotEnoughData, InvalidInstruction, TooManyInstructions}
-use Rattle.pe_unwind_info.specs.Numbers.{u32_at, first_u32}
-use Rattle.pe_unwind_info.specs.Registers.{register_number, register_of}
-use Rattle.pe_unwind_info.specs.Epilog.{map_ok, word_in, with_word, Read, Parsed, lea_from, lea_of, adjustment_of, pop_of, is_jump, two_bytes_of, pop_or_terminator_of, adjusted_or, behind_rex, split_behind, parsed}
-use Rattle.pe_unwind_info.specs.EpilogGrammar.{IsRex, IsRexW, IsPrefix, no_rex, one_rex, NamesFrame, IsInstruction, add_word, add_byte, lea_byte, lea_word, pop, pop_long, IsTerminator, ret, short_jump, near_jump, memory_jump, BeginsWith, BeginsWithTerminator, IsCut, empty, add_cut, lea_cut}
+use Rattle.pe_unwind_info.specs.Numbers.{u32_at}
+use Rattle.pe_unwind_info.specs.Registers.{register_number}
+use Rattle.pe_unwind_info.specs.Epilog.{with_word, Read, Parsed, lea_from, lea_of, adjustment_of, pop_of, is_jump, two_bytes_of, pop_or_terminator_of, adjusted_or, behind_rex, split_behind, parsed}
+use Rattle.pe_unwind_info.specs.EpilogGrammar.{IsRexW, IsPrefix, no_rex, one_rex, NamesFrame, add_word, add_byte, lea_byte, lea_word, pop, pop_long, IsTerminator, ret, short_jump, near_jump, memory_jump, BeginsWith, BeginsWithTerminator, IsCut, empty, add_cut, lea_cut}
 
 -- what the grammar says of bytes, by what was read from them
 abbrev pub IsReadRightly : Option Register → Bool → List ℕ → Parsed → Type 0
@@ -41,13 +39,17 @@ jump_is frame allowed prefix bit opcode next rest p e = go (either (eqb opcode 0
     memory : (eqb (next / 8) 4 ≡ true) ⊎ (eqb (next / 8) 5 ≡ true) → (next / 8 ≡ 4) ⊎ (next / 8 ≡ 5)
     memory (inl f) = inl (eqb-true _ _ f)
     memory (inr f) = inr (eqb-true _ _ f)
+
     with_opcode : (k : ℕ) → opcode ≡ k → IsTerminator (prefix ++ k ∷ next ∷ []) → BeginsWithTerminator (prefix ++ opcode ∷ next ∷ rest)
     with_opcode k f t = (prefix ++ k ∷ next ∷ [], rest, rw f (sym (append_assoc prefix (k ∷ next ∷ []) rest)), t)
+
     by_distance : (eqb opcode 0xeb ≡ true) ⊎ (eqb opcode 0xe9 ≡ true) → BeginsWithTerminator (prefix ++ opcode ∷ next ∷ rest)
     by_distance (inl f) = with_opcode 0xeb (eqb-true _ _ f) (short_jump p next)
     by_distance (inr f) = with_opcode 0xe9 (eqb-true _ _ f) (near_jump p next)
+
     by_memory : (eqb opcode 0xff ≡ true) × ((eqb (next / 8) 4 || eqb (next / 8) 5) ≡ true) → BeginsWithTerminator (prefix ++ opcode ∷ next ∷ rest)
     by_memory f = with_opcode 0xff (eqb-true _ _ f.0) (memory_jump p next (memory (either _ _ f.1)))
+
     go : ((eqb opcode 0xeb || eqb opcode 0xe9) ≡ true) ⊎ ((eqb opcode 0xff && (eqb (next / 8) 4 || eqb (next / 8) 5)) ≡ true) → BeginsWithTerminator (prefix ++ opcode ∷ next ∷ rest)
     go (inl f) = by_distance (either _ _ f)
     go (inr f) = by_memory (both _ _ f)
@@ -101,6 +103,7 @@ lea_is frame rex base named modrm next rest =
   where
     byte : modrm % 64 ≡ 32 + register_number base % 8 → modrm / 64 ≡ 1 → BeginsWith frame true (rex ∷ 0x8d ∷ modrm ∷ next ∷ rest) (AddSPFromFP next) rest
     byte e f = let m : modrm ≡ 0x60 + register_number base % 8 = omega arith in (rex ∷ 0x8d ∷ (0x60 + register_number base % 8) ∷ next ∷ [], ap (λ (k : ℕ). rex ∷ 0x8d ∷ k ∷ next ∷ rest) m, lea_byte named)
+
     word : modrm % 64 ≡ 32 + register_number base % 8 → modrm / 64 ≡ 2 → IsAdjustedRightly frame (rex ∷ 0x8d ∷ modrm ∷ next ∷ rest) (Some (with_word AddSPFromFP (next ∷ rest)))
     word e f =
         let m : modrm ≡ 0xa0 + register_number base % 8 = omega arith in
@@ -131,8 +134,10 @@ adjustment_is frame rex wide (opcode ∷ modrm ∷ next ∷ rest) =
         (word_is (λ (r : Read). IsAdjustedRightly frame (rex ∷ 0x81 ∷ 0xc4 ∷ next ∷ rest) (Some r)) AddSP (next ∷ rest)
         (λ short. add_cut wide (omega arith) short)
         (λ n0 n1 n2 n3 later same. (rex ∷ 0x81 ∷ 0xc4 ∷ n0 ∷ n1 ∷ n2 ∷ n3 ∷ [], ap (λ (bytes : List ℕ). rex ∷ 0x81 ∷ 0xc4 ∷ bytes) same, add_word wide)))
+
     byte : (eqb opcode 0x83 ≡ true) × (eqb modrm 0xc4 ≡ true) → BeginsWith frame true (rex ∷ opcode ∷ modrm ∷ next ∷ rest) (AddSP next) rest
     byte e = rw (eqb-true opcode 0x83 e.0, eqb-true modrm 0xc4 e.1) (rex ∷ 0x83 ∷ 0xc4 ∷ next ∷ [], refl, add_byte wide)
+
     lea : opcode ≡ 0x8d → IsAdjustedRightly frame (rex ∷ opcode ∷ modrm ∷ next ∷ rest) (lea_of frame (rex % 16) (modrm ∷ next ∷ rest))
     lea e = rw e (frame_lea_is frame rex wide modrm next rest)
 
@@ -149,10 +154,13 @@ with_prefix frame allowed first code e = go allowed (eqb ((first % 16) / 8) 1) r
   where
     bit : (first % 16) % 2 ≡ first % 2
     bit = omega arith
+
     plain : (allowed : Bool) → IsReadRightly frame allowed (first ∷ code) (pop_or_terminator_of (first % 16) code)
     plain allowed = pop_or_terminator_is frame allowed (first ∷ []) (first % 16) (subst (IsPrefix (first ∷ [])) (sym bit) (one_rex (record { high = e }))) code
+
     wide : eqb ((first % 16) / 8) 1 ≡ true → IsRexW first
     wide f = let g : (first % 16) / 8 ≡ 1 = eqb-true _ _ f in record { high = omega arith }
+
     go : (allowed w : Bool) → eqb ((first % 16) / 8) 1 ≡ w → IsReadRightly frame allowed (first ∷ code) (behind_rex frame allowed (first % 16) code)
     go true true f = rw f (adjusted_is frame (first ∷ code) (adjustment_of frame (first % 16) code) _ (adjustment_is frame first (wide f) code) (plain true))
     go true false f = rw f (plain true)

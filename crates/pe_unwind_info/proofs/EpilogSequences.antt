@@ -1,12 +1,12 @@
 -- Sequences of instructions: how they are read one by one, and what the grammar says of them.
-use Rattle.std.proofs.Common.{◌≡◌, ◌≢◌, ◌↔◌, ℕ, zero, suc, ◌+◌, ◌-◌, ◌<◌, ◌≤◌, Bool, true, false, eqb, List, [], ◌∷◌, ◌++◌, length, Option, Some, None, Result, Ok, Err, refl, sym, ap, subst, ◌∙◌, arith, append_assoc, append-nil, length-append, ◌&&◌}
+use Rattle.std.proofs.Common.{◌≡◌, ℕ, zero, suc, ◌+◌, ◌-◌, ◌<◌, ◌≤◌, Bool, true, false, List, [], ◌∷◌, ◌++◌, length, Option, Some, None, Ok, Err, refl, sym, ap, subst, ◌∙◌, arith, append_assoc, append-nil, length-append, ◌&&◌}
 use Rattle.std.specs.Prelude.{◌==◌}
 use Rattle.pe_unwind_info.specs.declared.x86_64.registers.Register.{Register}
 use Rattle.pe_unwind_info.specs.declared.x86_64.epilog.FunctionEpilogInstruction.{FunctionEpilogInstruction}
 use Rattle.pe_unwind_info.specs.declared.x86_64.epilog.InstructionParseError.{InstructionParseError}
 use Rattle.pe_unwind_info.specs.declared.x86_64.epilog.InstructionParseError.TheVariants.{NotEnoughData, InvalidInstruction, TooManyInstructions}
 use Rattle.pe_unwind_info.specs.Epilog.{Parsed, Sequence, and_first, then_full, then_more, parsed, sequence_from, sequence_of}
-use Rattle.pe_unwind_info.specs.EpilogGrammar.{BeginsWith, BeginsWithTerminator, IsCut, IsRun, IsEpilog, HasInstructions, IsCutWithin, IsSequence}
+use Rattle.pe_unwind_info.specs.EpilogGrammar.{BeginsWith, BeginsWithTerminator, IsCut, IsRun, IsSequence}
 use Rattle.pe_unwind_info.proofs.EpilogReads.{IsReadRightly, is_read_rightly}
 use Rattle.pe_unwind_info.proofs.EpilogSpelled.{differ, begins_read, terminator_read, cut_read}
 
@@ -159,5 +159,5 @@ sequence_is frame bytes =
     record {
       epilog = λ is. (λ e. (let r = subst P e right in (r.1, (r.0, r.2, r.3))), λ p. run_ends frame 12 true bytes is p.1.0 p.1.1 p.1.2 p.0);
       too_many = (λ e. subst P e right, λ p. run_exceeds frame 12 true bytes p.0 p.1 p.3 p.2);
-      cut = (λ e. subst P e right, λ p. run_is_cut frame 12 true bytes p.0 p.1 p.3 p.4 p.2)
+      cut = (λ e. subst P e right, λ p. run_is_cut frame 12 true bytes p.0 p.1 p.3 p.4 p.2);
     }

@@ -1,16 +1,15 @@
 -- What the grammar spells is read as it says, and so each answer is the grammar's.
-use Rattle.std.proofs.Common.{◌≡◌, ◌≢◌, ◌↔◌, ℕ, zero, suc, ◌+◌, ◌-◌, ◌*◌, ◌/◌, ◌%◌, ◌<◌, ◌≤◌, Bool, true, false, cond, eqb, ltb, ◌||◌, ◌&&◌, List, [], ◌∷◌, ◌++◌, length, Option, Some, None, Result, Ok, Err, refl, sym, ap, subst, ◌∙◌, arith, inl, inr, append_assoc}
+use Rattle.std.proofs.Common.{◌≡◌, ◌≢◌, ℕ, ◌+◌, ◌*◌, ◌/◌, ◌%◌, ◌<◌, ◌≤◌, Bool, true, false, cond, eqb, ltb, ◌||◌, ◌&&◌, List, [], ◌∷◌, ◌++◌, length, Option, Some, None, Ok, Err, refl, ap, subst, ◌∙◌, arith, inl, inr, append_assoc}
 use Rattle.std.specs.Prelude.{◌⊎◌}
 use Rattle.std.proofs.lemmas.Bool.{eqb-true, eq-eqb, le-ltb, lt-ltb}
 use Rattle.pe_unwind_info.specs.declared.x86_64.registers.Register.{Register}
 use Rattle.pe_unwind_info.specs.declared.x86_64.epilog.FunctionEpilogInstruction.{FunctionEpilogInstruction}
 use Rattle.pe_unwind_info.specs.declared.x86_64.epilog.FunctionEpilogInstruction.TheVariants.{AddSP, AddSPFromFP, Pop}
-use Rattle.pe_unwind_info.specs.declared.x86_64.epilog.InstructionParseError.{InstructionParseError}
-use Rattle.pe_unwind_info.specs.declared.x86_64.epilog.InstructionParseError.TheVariants.{NotEnoughData, InvalidInstruction, TooManyInstructions}
-use Rattle.pe_unwind_info.specs.Numbers.{u32_at, first_u32}
+use Rattle.pe_unwind_info.specs.declared.x86_64.epilog.InstructionParseError.TheVariants.{NotEnoughData, InvalidInstruction}
+use Rattle.pe_unwind_info.specs.Numbers.{u32_at}
 use Rattle.pe_unwind_info.specs.Registers.{register_number, register_of}
-use Rattle.pe_unwind_info.specs.Epilog.{with_word, Read, Parsed, lea_from, lea_of, adjustment_of, pop_of, is_jump, two_bytes_of, pop_or_terminator_of, adjusted_or, behind_rex, parsed}
-use Rattle.pe_unwind_info.specs.EpilogGrammar.{IsRex, IsRexW, IsPrefix, no_rex, one_rex, NamesFrame, IsInstruction, add_word, add_byte, lea_byte, lea_word, pop, pop_long, IsTerminator, ret, short_jump, near_jump, memory_jump, BeginsWith, BeginsWithTerminator, IsCut, empty, add_cut, lea_cut, IsParsed}
+use Rattle.pe_unwind_info.specs.Epilog.{with_word, Read, Parsed, lea_from, adjustment_of, is_jump, pop_or_terminator_of, adjusted_or, behind_rex, parsed}
+use Rattle.pe_unwind_info.specs.EpilogGrammar.{IsRexW, IsPrefix, no_rex, one_rex, NamesFrame, IsInstruction, add_word, add_byte, lea_byte, lea_word, pop, pop_long, IsTerminator, ret, short_jump, near_jump, memory_jump, BeginsWith, BeginsWithTerminator, IsCut, empty, add_cut, lea_cut, IsParsed}
 use Rattle.pe_unwind_info.proofs.EpilogReads.{IsReadRightly, is_read_rightly}
 
 pub differ : (a b : ℕ) → a ≢ b → eqb a b ≡ false
@@ -62,11 +61,11 @@ prefixed frame allowed prefix bit (one_rex {byte} x) opcode code p =
 
 pop_is_plain : (opcode : ℕ) → opcode / 8 ≡ 11 → IsPlain opcode
 pop_is_plain opcode e = record {
-    no_rex_byte = differ _ _ (λ q. omega arith);
-    no_add = differ _ _ (λ q. omega arith);
-    no_short_add = differ _ _ (λ q. omega arith);
-    no_lea = differ _ _ (λ q. omega arith)
-  }
+  no_rex_byte = differ _ _ (λ q. omega arith);
+  no_add = differ _ _ (λ q. omega arith);
+  no_short_add = differ _ _ (λ q. omega arith);
+  no_lea = differ _ _ (λ q. omega arith);
+}
 
 long_is_plain : IsPlain 0x8f
 long_is_plain = record { no_rex_byte = refl; no_add = refl; no_short_add = refl; no_lea = refl }
@@ -193,5 +192,5 @@ parsed_is frame allowed bytes =
       instruction = λ i rest. (λ e. subst (IsReadRightly frame allowed bytes) e right, begins_read frame allowed bytes i rest);
       terminator = (λ e. subst (IsReadRightly frame allowed bytes) e right, terminator_read frame allowed bytes);
       cut = (λ e. subst (IsReadRightly frame allowed bytes) e right, cut_read frame allowed bytes);
-      one = λ e. subst (IsReadRightly frame allowed bytes) e right
+      one = λ e. subst (IsReadRightly frame allowed bytes) e right;
     }

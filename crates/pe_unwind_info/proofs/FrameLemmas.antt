@@ -1,5 +1,5 @@
 -- Frames over what is given as memory: more may be given, and where it is determined the frame is.
-use Rattle.std.proofs.Common.{◌≡◌, ℕ, zero, suc, ◌-◌, Bool, true, false, List, Option, Some, None, Result, Ok, Err, refl, sym, ap, subst, ◌∙◌}
+use Rattle.std.proofs.Common.{◌≡◌, ℕ, zero, suc, ◌-◌, Bool, true, false, List, Option, Some, None, Result, Ok, Err, ap, ◌∙◌}
 use Rattle.pe_unwind_info.specs.declared.x86_64.registers.Register.{Register}
 use Rattle.pe_unwind_info.specs.declared.x86_64.fault.FrameFault.{FrameFault}
 use Rattle.pe_unwind_info.specs.declared.x86_64.function_table.RuntimeFunction.{RuntimeFunction}
@@ -9,13 +9,12 @@ use Rattle.pe_unwind_info.specs.Info.{Info}
 use Rattle.pe_unwind_info.specs.InfoOperations.{operations_in}
 use Rattle.pe_unwind_info.specs.Operations.{Placed}
 use Rattle.pe_unwind_info.specs.EpilogList.{leading_epilogs, behind_epilogs, is_due}
-use Rattle.pe_unwind_info.specs.Machine.{Registers, Stack, FrameEnd, Faulted, After, Goes, Ends, pop_return, then_ends}
+use Rattle.pe_unwind_info.specs.Machine.{Registers, Stack, FrameEnd, After, Goes, Ends, then_ends}
 use Rattle.pe_unwind_info.specs.Steps.{run}
-use Rattle.pe_unwind_info.specs.Frame.{info_in, epilog_in, operations_alone, from_place, Link, Follows, Stops, link_of, ByLink, chained_of, IsLinked, ByRun, IsTested, Leaves, ByTest, InRecord, IsFunctionFrame, IsFrame, IsUnwound}
+use Rattle.pe_unwind_info.specs.Frame.{info_in, epilog_in, operations_alone, from_place, Link, Follows, Stops, link_of, ByLink, chained_of, IsLinked, ByRun, IsTested, Leaves, ByTest, InRecord, IsFrame}
 use Rattle.pe_unwind_info.specs.FrameOf.{Image, then_follows, linked, left_by, tested, by_test, in_record, framed}
 
 module _ (gives more : ℕ → Option (List ℕ) → Type 0) (also : (rva : ℕ) (memory : Option (List ℕ)) → gives rva memory → more rva memory) (stack : Stack) where
-
   by_link_more : (link : Link) (f g : Option RuntimeFunction → Registers → FrameEnd → Type 0) (end : FrameEnd) → ((next : Option RuntimeFunction) (regs : Registers) → f next regs end → g next regs end) → ByLink link f end → ByLink link g end
   by_link_more (Follows next regs) f g end h b = h next regs b
   by_link_more (Stops stop) f g end h b = b
@@ -57,7 +56,6 @@ pub widened : (gives more : ℕ → Option (List ℕ) → Type 0) (stack : Stack
 widened gives more stack address function regs end f also = frame_more gives more also stack address function regs end f
 
 module _ (gives : ℕ → Option (List ℕ) → Type 0) (memory : Image) (only : (rva : ℕ) (given : Option (List ℕ)) → gives rva given → given ≡ memory rva) (stack : Stack) where
-
   by_link_is : (link : Link) (f : Option RuntimeFunction → Registers → FrameEnd → Type 0) (g : Option RuntimeFunction → Registers → FrameEnd) (end : FrameEnd) → ((next : Option RuntimeFunction) (regs : Registers) → f next regs end → end ≡ g next regs) → ByLink link f end → end ≡ then_follows link g
   by_link_is (Follows next regs) f g end h b = h next regs b
   by_link_is (Stops stop) f g end h b = b

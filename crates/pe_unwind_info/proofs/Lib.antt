@@ -6,4 +6,5 @@ pub mod FlagLemmas
 pub mod FrameLemmas
 pub mod LinkLemmas
 pub mod OperationLemmas
+pub mod SearchLemmas
 pub mod TableLemmas

@@ -1,9 +1,9 @@
 -- Chained records, one after another.
-use Rattle.std.proofs.Common.{◌≡◌, ℕ, zero, suc, ◌+◌, ◌-◌, ◌<◌, List, Option, Some, None, refl, sym, subst, ◌∙◌, arith}
+use Rattle.std.proofs.Common.{◌≡◌, ℕ, zero, suc, ◌-◌, ◌<◌, List, Option, Some, None, sym, subst, arith}
 use Rattle.pe_unwind_info.specs.declared.x86_64.fault.FrameFault.TheVariants.{ChainLimit}
 use Rattle.pe_unwind_info.specs.declared.x86_64.function_table.RuntimeFunction.{RuntimeFunction}
 use Rattle.pe_unwind_info.specs.Machine.{Registers, Stack, FrameEnd, Faulted, pop_return}
-use Rattle.pe_unwind_info.specs.Frame.{info_in, Link, Follows, Stops, link_of, ByLink, at_limit, IsLinked}
+use Rattle.pe_unwind_info.specs.Frame.{info_in, Link, Follows, Stops, link_of, ByLink, IsLinked}
 
 pub linked_none : (gives : ℕ → Option (List ℕ) → Type 0) (stack : Stack) (n : ℕ) (regs : Registers) (end : FrameEnd) → end ≡ pop_return stack regs → IsLinked gives stack n None regs end
 unfolding IsLinked
@@ -42,7 +42,7 @@ linked_stops gives stack (suc n) function regs stop end lt link e =
 pub link_is : (gives : ℕ → Option (List ℕ) → Type 0) (stack stack' : Stack) (function : RuntimeFunction) (regs : Registers) (link : Link) → stack ≡ stack' →
     ((memory : Option (List ℕ)) × gives function.unwind_info_address memory × (link ≡ link_of (info_in function.unwind_info_address memory) stack regs)) → IsLink gives stack' function regs link
 link_is gives stack stack' function regs link same l = record {
-    memory = l.0;
-    given = l.1;
-    is = subst (λ (s : Stack). link_of (info_in function.unwind_info_address l.0) s regs ≡ link) same (sym l.2)
-  }
+  memory = l.0;
+  given = l.1;
+  is = subst (λ (s : Stack). link_of (info_in function.unwind_info_address l.0) s regs ≡ link) same (sym l.2);
+}

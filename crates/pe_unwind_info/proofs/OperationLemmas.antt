@@ -1,13 +1,12 @@
 -- The operations that slots spell, one after another.
-use Rattle.std.proofs.Common.{◌≡◌, ℕ, zero, suc, ◌+◌, ◌-◌, ◌*◌, ◌≤◌, ◌<◌, Bool, true, false, cond, eqb, ltb, List, [], ◌∷◌, length, drop, Option, Some, None, refl, ap, sym, ◌∙◌, subst, arith}
+use Rattle.std.proofs.Common.{◌≡◌, ℕ, zero, suc, ◌+◌, ◌*◌, ◌≤◌, Bool, true, false, cond, eqb, ltb, List, [], ◌∷◌, length, drop, Option, Some, None, refl, ap, ◌∙◌, subst, arith}
 use Rattle.std.proofs.lemmas.List.{length-drop}
 use Rattle.pe_unwind_info.specs.Numbers.{u16_at, u32_at, first_u16, first_u32, scaled}
 use Rattle.pe_unwind_info.specs.declared.x86_64.operations.UnwindCode.{UnwindCode}
 use Rattle.pe_unwind_info.specs.declared.x86_64.operations.UnwindOperation.{UnwindOperation}
-use Rattle.pe_unwind_info.specs.declared.x86_64.operations.UnwindOperation.TheVariants.{UnStackAlloc}
 use Rattle.pe_unwind_info.specs.declared.x86_64.operations.UnwindOperationCode.{UnwindOperationCode}
 use Rattle.pe_unwind_info.specs.declared.x86_64.operations.UnwindOperationCode.TheVariants.{PushNonvol, AllocLarge, AllocSmall, SetFPReg, SaveNonvol, SaveNonvolFar, Epilog as EpilogCode, Spare, SaveXmm128, SaveXmm128Far, PushMachframe}
-use Rattle.pe_unwind_info.specs.Operations.{Head, First, Placed, gives, counts, code_of, code_number, code_information, head_by, head_of, placed_at, first_of, then_later, operations_from, operations_of}
+use Rattle.pe_unwind_info.specs.Operations.{Head, First, Placed, counts, code_of, code_number, code_information, head_by, head_of, placed_at, first_of, then_later, operations_from, operations_of}
 
 -- what is left behind a head has at most n bytes
 LeavesAtMost : ℕ → Head → Type 0

@@ -1,9 +1,8 @@
 -- Whole records, one after another.
-use Rattle.std.proofs.Common.{◌≡◌, ℕ, zero, suc, ◌+◌, ◌-◌, ◌*◌, ◌/◌, ◌≤◌, List, ◌∷◌, length, take, drop, refl, ap, sym, ◌∙◌, subst, arith}
+use Rattle.std.proofs.Common.{◌≡◌, ℕ, zero, suc, ◌-◌, ◌/◌, ◌≤◌, List, ◌∷◌, length, take, drop, refl, ap, ◌∙◌, arith}
 use Rattle.std.proofs.lemmas.List.{length-drop}
 use Rattle.memory_image.specs.Records.{records_in}
 use Rattle.pe_unwind_info.specs.FunctionTable.{runtime_function_of, whole_functions}
-use Rattle.pe_unwind_info.specs.declared.x86_64.function_table.RuntimeFunction.{RuntimeFunction}
 
 in_list : (n : ℕ) (bytes : List ℕ) → n ≡ suc (n - 1) → records_in 12 runtime_function_of bytes n ≡ runtime_function_of (take 12 bytes) ∷ records_in 12 runtime_function_of (drop 12 bytes) (n - 1)
 in_list zero bytes e = absurd (omega arith)

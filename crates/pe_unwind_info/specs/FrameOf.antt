@@ -1,5 +1,5 @@
 -- The frame at an address as a function, where the memory of the image is one.
-use Rattle.std.specs.Prelude.{◌≡◌, ℕ, zero, suc, ◌-◌, Bool, true, false, List, Option, Some, None, Result, Ok, Err}
+use Rattle.std.specs.Prelude.{ℕ, zero, suc, ◌-◌, Bool, true, false, List, Option, Some, None, Result, Ok, Err}
 use Rattle.pe_unwind_info.specs.declared.x86_64.registers.Register.{Register}
 use Rattle.pe_unwind_info.specs.declared.x86_64.fault.FrameFault.{FrameFault}
 use Rattle.pe_unwind_info.specs.declared.x86_64.function_table.RuntimeFunction.{RuntimeFunction}
@@ -9,7 +9,7 @@ use Rattle.pe_unwind_info.specs.Info.{Info}
 use Rattle.pe_unwind_info.specs.InfoOperations.{operations_in}
 use Rattle.pe_unwind_info.specs.Operations.{Placed}
 use Rattle.pe_unwind_info.specs.EpilogList.{leading_epilogs, behind_epilogs, is_due}
-use Rattle.pe_unwind_info.specs.Machine.{Registers, Stack, FrameEnd, Faulted, After, Goes, Ends, pop_return, then_ends}
+use Rattle.pe_unwind_info.specs.Machine.{Registers, Stack, FrameEnd, Faulted, pop_return, then_ends}
 use Rattle.pe_unwind_info.specs.Steps.{run, epilog_run}
 use Rattle.pe_unwind_info.specs.Frame.{info_in, epilog_in, operations_alone, from_place, Link, Follows, Stops, link_of, at_limit, chained_of}
 

@@ -1,5 +1,5 @@
 -- An unwind record: its header, its slots, and the trailer behind them.
-use Rattle.std.specs.Prelude.{ℕ, ◌+◌, ◌*◌, ◌%◌, Bool, ◌||◌, List, [], ◌∷◌, Option, Some, None, length, take, drop, nat_lt, ◌==◌, if◌then◌else◌}
+use Rattle.std.specs.Prelude.{ℕ, ◌+◌, ◌*◌, ◌%◌, ◌||◌, List, ◌∷◌, Option, Some, None, length, take, drop, nat_lt, ◌==◌, if◌then◌else◌}
 use Rattle.pe_unwind_info.specs.declared.x86_64.function_table.RuntimeFunction.{RuntimeFunction}
 use Rattle.pe_unwind_info.specs.declared.x86_64.unwind_info.UnwindInfoHeader.{UnwindInfoHeader}
 use Rattle.pe_unwind_info.specs.declared.x86_64.unwind_info.UnwindInfo.{UnwindInfo}

@@ -1,5 +1,5 @@
 -- The unwind operations that the slots of a record spell.
-use Rattle.std.specs.Prelude.{ℕ, zero, suc, ◌+◌, ◌*◌, ◌/◌, ◌%◌, ◌<◌, ◌≤◌, ◌⊎◌, Bool, List, [], ◌∷◌, Option, Some, None, length, drop, nat_le, nat_lt, ◌==◌, if◌then◌else◌}
+use Rattle.std.specs.Prelude.{ℕ, zero, suc, ◌+◌, ◌*◌, ◌/◌, ◌%◌, ◌<◌, ◌≤◌, ◌⊎◌, Bool, List, [], ◌∷◌, Option, Some, None, length, drop, nat_lt, ◌==◌, if◌then◌else◌}
 use Rattle.pe_unwind_info.specs.declared.x86_64.operations.EpilogInformation.{EpilogInformation as Epilog}
 use Rattle.pe_unwind_info.specs.declared.x86_64.operations.EpilogHeader.{EpilogHeader}
 use Rattle.pe_unwind_info.specs.declared.x86_64.operations.StackFrameOffset.{StackFrameOffset}

@@ -17,3 +17,7 @@ StartsAbove start records address = (first : _) → slice_get records 0 ≡ Some
 abbrev pub IsSearched : {T : Type 0} → (T → ℕ) → List T → ℕ → Option T → Type 0
 IsSearched start records address None = StartsAbove start records address
 IsSearched start records address (Some found) = IsBoundary start records address found
+
+-- starts ascend, perhaps with equal ones
+abbrev pub IsAscending : {T : Type 0} → (T → ℕ) → List T → Type 0
+IsAscending start records = (i j : ℕ) (a b : _) → i ≤ j → slice_get records i ≡ Some a → slice_get records j ≡ Some b → start a ≤ start b

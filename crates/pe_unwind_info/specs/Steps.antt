@@ -1,5 +1,5 @@
 -- What unwind operations and the instructions of an epilog do to a machine.
-use Rattle.std.specs.Prelude.{◌≡◌, ℕ, ◌+◌, ◌*◌, ◌^◌, Bool, true, false, List, [], ◌∷◌, map, Option, Some, None, Result, Ok, Err, if◌then◌else◌}
+use Rattle.std.specs.Prelude.{◌≡◌, ℕ, ◌+◌, ◌*◌, ◌^◌, List, [], ◌∷◌, Option, Some, None, Result, Ok, Err, if◌then◌else◌}
 use Rattle.std.specs.declared.ops.ControlFlow.{ControlFlow}
 use Rattle.std.specs.declared.ops.ControlFlow.TheVariants.{Continue, Break}
 use Rattle.pe_unwind_info.specs.declared.x86_64.registers.Register.{Register}
@@ -13,7 +13,7 @@ use Rattle.pe_unwind_info.specs.declared.x86_64.unwind_info.UnwindInfoHeader.{Un
 use Rattle.pe_unwind_info.specs.Registers.{register_number, xmm_number}
 use Rattle.pe_unwind_info.specs.Header.{frame_register_of, frame_distance, base_register, base_distance}
 use Rattle.pe_unwind_info.specs.Operations.{offset_value}
-use Rattle.pe_unwind_info.specs.Machine.{Registers, Stack, with_general, with_xmm, stack_pointer, with_stack_pointer, plus, less, FrameEnd, Returned, Faulted, After, Goes, Ends, word_or_fault, with_word, pop_into, then_goes}
+use Rattle.pe_unwind_info.specs.Machine.{Registers, Stack, with_general, with_xmm, stack_pointer, with_stack_pointer, plus, less, Returned, Faulted, After, Goes, Ends, word_or_fault, with_word, pop_into, then_goes}
 
 -- an offset into the frame as an address, where the register that it counts from holds a value
 abbrev pub offset_from : UnwindInfoHeader → ℕ → ℕ → ℕ

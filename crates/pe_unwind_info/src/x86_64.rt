@@ -17,9 +17,10 @@ mod unwind_info;
 
 pub use epilog::{FUNCTION_EPILOG_LIMIT, FunctionEpilogInstruction, InstructionParseError};
 pub use fault::FrameFault;
-pub use function_table::{FunctionTableEntries, RuntimeFunction, U32};
+pub use function_table::{FunctionTableEntries, RuntimeFunction, U32, lookup_is_determined};
 pub use operations::{
-    EpilogHeader, EpilogInformation, StackFrameOffset, UnwindCode, UnwindOperation, UnwindOperationCode, UnwindOperations,
+    EpilogHeader, EpilogInformation, StackFrameOffset, UnwindCode, UnwindOperation,
+    UnwindOperationCode, UnwindOperations,
 };
 pub use registers::{Register, XmmRegister};
 pub use sections::Sections;

@@ -6,11 +6,10 @@ ghost use Rattle.pe_unwind_info.specs.EpilogGrammar.{IsParsed, IsSequence};
 ghost use Rattle.pe_unwind_info.specs.Numbers.{first_u32};
 ghost use Rattle.pe_unwind_info.specs.declared.x86_64.epilog.FunctionEpilogInstruction.TheVariants.{AddSP};
 
-use arrayvec::ArrayVec;
-use thiserror::Error;
-
 use crate::x86_64::little_endian::split_u32;
 use crate::x86_64::registers::{Register, register_at};
+use arrayvec::ArrayVec;
+use thiserror::Error;
 
 /// How many instructions an epilog may have before its terminator.
 pub const FUNCTION_EPILOG_LIMIT: usize = 12;
@@ -27,6 +26,12 @@ pub enum FunctionEpilogInstruction {
 }
 
 impl Default for FunctionEpilogInstruction {
+    ghost use Rattle.std.specs.Prelude.{◌≡◌};
+    ghost use Rattle.pe_unwind_info.specs.declared.x86_64.epilog.FunctionEpilogInstruction.TheVariants.{AddSP};
+
+    ghost is_default = { λ result. result ≡ AddSP 0 };
+
+    /// An instruction that changes nothing.
     fn default() -> FunctionEpilogInstruction {
         FunctionEpilogInstruction::AddSP(0)
     }
@@ -62,7 +67,10 @@ fn parse_add_word(bytes: &[u8]) -> Result<(FunctionEpilogInstruction, &[u8]), In
 }
 
 // a `lea` of the stack pointer from the base register, from its ModRM byte on
-fn parse_lea(base: u8, code: &[u8]) -> Result<(FunctionEpilogInstruction, &[u8]), InstructionParseError>
+fn parse_lea(
+    base: u8,
+    code: &[u8],
+) -> Result<(FunctionEpilogInstruction, &[u8]), InstructionParseError>
     requires { 2 ≤ length code.now }
     ensures { map_ok (λ p. (p.0, p.1.now)) result ≡ lea_from base code.now }
 {
@@ -233,7 +241,11 @@ fn parse_instructions(
 {
     let mut instructions = ArrayVec::new();
     let mut rest = code;
-    while let Some((instruction, behind)) = parse_instruction(frame, instructions.is_empty(), rest)? {
+    while let Some((instruction, behind)) = parse_instruction(
+        frame,
+        instructions.is_empty(),
+        rest,
+    )? {
         if instructions.is_full() {
             return Err(InstructionParseError::TooManyInstructions);
         }

@@ -50,7 +50,12 @@ fn lists_last(end: u32, address: u32, first: &EpilogInformation) -> bool
 // takes the epilog operations behind the first one, and answers whether one of them lists an
 // epilog that holds the address
 #[tactic(auto, using(crate::proofs::EpilogListLemmas::leading_none, crate::proofs::EpilogListLemmas::behind_none, crate::proofs::EpilogListLemmas::behind_some, crate::proofs::EpilogListLemmas::any_none, crate::proofs::EpilogListLemmas::any_listed, crate::proofs::EpilogListLemmas::any_unlisted))]
-fn take_later_epilogs(operations: &mut UnwindOperations<'_>, end: u32, size: u8, address: u32) -> bool
+fn take_later_epilogs(
+    operations: &mut UnwindOperations<'_>,
+    end: u32,
+    size: u8,
+    address: u32,
+) -> bool
     ensures listed { result ≡ any_lists end size address (leading_epilogs (operations_left operations.old)) }
     ensures rest { operations_left operations.new ≡ behind_epilogs (operations_left operations.old) }
 {

@@ -14,10 +14,6 @@ ghost use Rattle.pe_unwind_info.specs.Operations.{operations_left};
 ghost use Rattle.pe_unwind_info.specs.Steps.{epilog_run, flow_end, run};
 ghost use Rattle.pe_unwind_info.specs.declared.x86_64.function_table.RuntimeFunction.{RuntimeFunction};
 
-use std::ops::ControlFlow;
-
-use arrayvec::ArrayVec;
-
 use crate::x86_64::epilog::{FUNCTION_EPILOG_LIMIT, FunctionEpilogInstruction};
 use crate::x86_64::epilog_list::take_epilogs;
 use crate::x86_64::fault::FrameFault;
@@ -28,6 +24,8 @@ use crate::x86_64::sections::Sections;
 use crate::x86_64::state::{UnwindState, pop_return_address};
 use crate::x86_64::steps::{apply_all, apply_instructions};
 use crate::x86_64::unwind_info::{UnwindInfo, UnwindInfoTrailer};
+use arrayvec::ArrayVec;
+use std::ops::ControlFlow;
 
 // how many records may be chained to the first one
 const CHAIN_LIMIT: u32 = 32;
@@ -41,7 +39,10 @@ fn info_in(rva: u32, memory: Option<&[u8]>) -> Result<UnwindInfo<'_>, FrameFault
 }
 
 // the unwind record at an address
-fn info_at<'m, M: Fn(u32) -> Option<&'m [u8]>>(memory_at_rva: &M, rva: u32) -> Result<UnwindInfo<'m>, FrameFault>
+fn info_at<'m, M: Fn(u32) -> Option<&'m [u8]>>(
+    memory_at_rva: &M,
+    rva: u32,
+) -> Result<UnwindInfo<'m>, FrameFault>
     requires { M.IsAlwaysCallable memory_at_rva.now }
     ensures { (memory : Option (List ℕ)) × Gives (M.post memory_at_rva.now) (option_map (λ bytes. bytes.now)) rva memory × (map_ok info_of result ≡ info_in rva memory) }
 {
@@ -128,7 +129,10 @@ fn leave_by_epilog<S: UnwindState>(
 }
 
 // does all operations of a record
-fn apply_record<S: UnwindState>(info: &UnwindInfo<'_>, state: &mut S) -> Result<ControlFlow<u64>, FrameFault>
+fn apply_record<S: UnwindState>(
+    info: &UnwindInfo<'_>,
+    state: &mut S,
+) -> Result<ControlFlow<u64>, FrameFault>
     ensures registers { flow_end result (registers_of (S.registers state.new) (S.xmm_registers state.new)) ≡ run (info_of info.now).header (S.stack state.old) (operations_alone (operations_in (info_of info.now))) (registers_of (S.registers state.old) (S.xmm_registers state.old)) }
     ensures stack { S.stack state.new ≡ S.stack state.old }
 {

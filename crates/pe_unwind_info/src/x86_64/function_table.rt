@@ -1,11 +1,12 @@
 // The function table.
-ghost use Rattle.std.specs.Prelude.{◌≡◌, ◌≤◌, ◌/◌, length, IfSome};
+ghost use Rattle.std.specs.Prelude.{◌≡◌, ◌≤◌, ◌/◌, ℕ, List, Option, Some, length, IfSome};
 ghost use Rattle.pe_unwind_info.specs.FunctionTable.{table_bytes, functions_of, IsLookup};
-
-use memory_image::{Record, Records};
+ghost use Rattle.pe_unwind_info.specs.Search.{IsAscending};
+ghost use Rattle.pe_unwind_info.specs.declared.x86_64.function_table.RuntimeFunction.{RuntimeFunction};
 
 use crate::x86_64::little_endian::u32_at;
 use crate::x86_64::search::{Located, boundary};
+use memory_image::{Record, Records};
 
 /// An address relative to the base of an image.
 pub type U32 = u32;
@@ -53,6 +54,13 @@ impl Located for RuntimeFunction {
         self.begin_address
     }
 }
+
+/// In a table that ascends by where its functions begin, a look-up has one answer: of the records
+/// that begin at or below the address, the last.
+pub fn lookup_is_determined()
+    ensures { (functions : List RuntimeFunction) (address : ℕ) (a b : Option RuntimeFunction) → IsAscending (λ (f : RuntimeFunction). f.begin_address) functions →
+        IsLookup (Some functions) address a → IsLookup (Some functions) address b → a ≡ b }
+{}
 
 /// A view of the function table, the contents of the section `.pdata`: records of 12 bytes that
 /// ascend by where their functions begin. As an iterator it gives each whole record.

@@ -172,12 +172,19 @@ fn split_scaled(slots: &[u8], unit: u32) -> Option<(u32, &[u8])>
 }
 
 // the operation of a slot, or none where it is spare, with the slots behind it
-fn decode(code: UnwindOperationCode, slot: UnwindCode, rest: &[u8]) -> Option<(Option<UnwindOperation>, &[u8])>
+fn decode(
+    code: UnwindOperationCode,
+    slot: UnwindCode,
+    rest: &[u8],
+) -> Option<(Option<UnwindOperation>, &[u8])>
     ensures { option_map (λ p. (p.0, p.1.now)) result ≡ head_by (Some code) slot rest.now }
 {
     let info = slot.operation_info();
     let (operation, rest) = match code {
-        UnwindOperationCode::PushNonvol => (UnwindOperation::PopNonVolatile(register_at(info)), rest),
+        UnwindOperationCode::PushNonvol => (
+            UnwindOperation::PopNonVolatile(register_at(info)),
+            rest,
+        ),
         UnwindOperationCode::AllocLarge => {
             let (size, rest) = match info {
                 0 => split_scaled(rest, 8)?,
@@ -186,15 +193,24 @@ fn decode(code: UnwindOperationCode, slot: UnwindCode, rest: &[u8]) -> Option<(O
             };
             (UnwindOperation::UnStackAlloc(size), rest)
         }
-        UnwindOperationCode::AllocSmall => (UnwindOperation::UnStackAlloc(u32::from(info) * 8 + 8), rest),
+        UnwindOperationCode::AllocSmall => (
+            UnwindOperation::UnStackAlloc(u32::from(info) * 8 + 8),
+            rest,
+        ),
         UnwindOperationCode::SetFPReg => (UnwindOperation::RestoreSPFromFP, rest),
         UnwindOperationCode::SaveNonvol => {
             let (offset, rest) = split_scaled(rest, 8)?;
-            (UnwindOperation::ReadNonVolatile(register_at(info), StackFrameOffset(offset)), rest)
+            (
+                UnwindOperation::ReadNonVolatile(register_at(info), StackFrameOffset(offset)),
+                rest,
+            )
         }
         UnwindOperationCode::SaveNonvolFar => {
             let (offset, rest) = split_u32(rest)?;
-            (UnwindOperation::ReadNonVolatile(register_at(info), StackFrameOffset(offset)), rest)
+            (
+                UnwindOperation::ReadNonVolatile(register_at(info), StackFrameOffset(offset)),
+                rest,
+            )
         }
         UnwindOperationCode::Epilog => {
             let epilog = EpilogInformation {
@@ -206,11 +222,17 @@ fn decode(code: UnwindOperationCode, slot: UnwindCode, rest: &[u8]) -> Option<(O
         UnwindOperationCode::Spare => return Some((None, rest.get(4..)?)),
         UnwindOperationCode::SaveXmm128 => {
             let (offset, rest) = split_scaled(rest, 16)?;
-            (UnwindOperation::ReadXMM(xmm_register_at(info), StackFrameOffset(offset)), rest)
+            (
+                UnwindOperation::ReadXMM(xmm_register_at(info), StackFrameOffset(offset)),
+                rest,
+            )
         }
         UnwindOperationCode::SaveXmm128Far => {
             let (offset, rest) = split_u32(rest)?;
-            (UnwindOperation::ReadXMM(xmm_register_at(info), StackFrameOffset(offset)), rest)
+            (
+                UnwindOperation::ReadXMM(xmm_register_at(info), StackFrameOffset(offset)),
+                rest,
+            )
         }
         UnwindOperationCode::PushMachframe => {
             let error_code = info == 1;

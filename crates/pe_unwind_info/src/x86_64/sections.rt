@@ -3,17 +3,20 @@ ghost use Rattle.std.specs.Prelude.{◌≡◌, None, MatchOption};
 ghost use Rattle.std.specs.Option.{option_map};
 ghost use Rattle.pe_unwind_info.specs.Sections.{image_of, headers_of, section_table, sections_in, IsMemoryAt, virtual_size, virtual_address, raw_pointer};
 
-use memory_image::{Record, Records};
-
 use crate::x86_64::little_endian::{u16_at, u32_at};
 use crate::x86_64::search::{Located, boundary};
+use memory_image::{Record, Records};
 
 // where the offset of the signature stands, the bytes of the signature and those of the COFF
 // header, and where in that header the count and the optional header's size stand
 const SIGNATURE_OFFSET: usize = 0x3c;
+
 const SIGNATURE_SIZE: usize = 4;
+
 const COFF_HEADER_SIZE: usize = 20;
+
 const SECTION_COUNT_OFFSET: usize = 2;
+
 const OPTIONAL_HEADER_SIZE_OFFSET: usize = 16;
 
 #[derive(Clone, Copy, Debug)]
@@ -112,10 +115,16 @@ impl<'a> Sections<'a> {
     pub fn memory_at_rva(&self, rva: u32) -> Option<&'a [u8]>
         ensures { IsMemoryAt (image_of self.now) (sections_in (headers_of self.now)) rva (option_map (λ bytes. bytes.now) result) }
     {
-        let sections = Records::<Section>::over(self.headers, 0, self.headers.len() / Section::SIZE)?;
+        let sections = Records::<Section>::over(
+            self.headers,
+            0,
+            self.headers.len() / Section::SIZE,
+        )?;
         let section = boundary(&sections, rva)?;
         let address = section.virtual_address();
-        if address != rva && u64::from(rva) >= u64::from(address) + u64::from(section.virtual_size()) {
+        if address != rva
+            && u64::from(rva) >= u64::from(address) + u64::from(section.virtual_size())
+        {
             return None;
         }
         let offset = u64::from(section.raw_pointer()) + u64::from(rva - address);

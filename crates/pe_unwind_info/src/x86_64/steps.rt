@@ -7,14 +7,13 @@ ghost use Rattle.pe_unwind_info.specs.Operations.{offset_value, operations_left}
 ghost use Rattle.pe_unwind_info.specs.Registers.{register_number, xmm_number};
 ghost use Rattle.pe_unwind_info.specs.Steps.{offset_from, frame_address, restored, saved, saved_xmm, machine_frame, act, run, epilog_act, epilog_run, flow_end, IsResolved};
 
-use std::ops::ControlFlow;
-
 use crate::x86_64::epilog::FunctionEpilogInstruction;
 use crate::x86_64::fault::FrameFault;
 use crate::x86_64::operations::{StackFrameOffset, UnwindOperation, UnwindOperations};
 use crate::x86_64::registers::{Register, XmmRegister};
 use crate::x86_64::state::{UnwindState, add_to_stack_pointer, pop, stack_word};
 use crate::x86_64::unwind_info::{UnwindInfo, UnwindInfoHeader};
+use std::ops::ControlFlow;
 
 impl UnwindInfoHeader {
     // the register that offsets into the frame count from, and how far below it they begin
@@ -90,7 +89,11 @@ impl<'a> UnwindInfo<'a> {
 }
 
 // the address of an offset into the frame
-fn address_in_frame<S: UnwindState>(header: &UnwindInfoHeader, state: &mut S, offset: StackFrameOffset) -> u64
+fn address_in_frame<S: UnwindState>(
+    header: &UnwindInfoHeader,
+    state: &mut S,
+    offset: StackFrameOffset,
+) -> u64
     ensures value { result ≡ frame_address header.now (registers_of (S.registers state.old) (S.xmm_registers state.old)) (offset_value offset) }
     ensures registers { S.registers state.new ≡ S.registers state.old }
     ensures xmm_registers { S.xmm_registers state.new ≡ S.xmm_registers state.old }
@@ -115,7 +118,11 @@ fn restore_stack_pointer<S: UnwindState>(header: &UnwindInfoHeader, state: &mut 
 }
 
 // reads a register that was stored at an address
-fn read_saved<S: UnwindState>(state: &mut S, address: u64, register: Register) -> Result<(), FrameFault>
+fn read_saved<S: UnwindState>(
+    state: &mut S,
+    address: u64,
+    register: Register,
+) -> Result<(), FrameFault>
     ensures registers { done result (registers_of (S.registers state.new) (S.xmm_registers state.new)) ≡ saved (S.stack state.old) address (register_number register) (registers_of (S.registers state.old) (S.xmm_registers state.old)) }
     ensures stack { S.stack state.new ≡ S.stack state.old }
 {
@@ -125,7 +132,11 @@ fn read_saved<S: UnwindState>(state: &mut S, address: u64, register: Register) -
 }
 
 // reads an XMM register that was stored at an address
-fn read_saved_xmm<S: UnwindState>(state: &mut S, address: u64, register: XmmRegister) -> Result<(), FrameFault>
+fn read_saved_xmm<S: UnwindState>(
+    state: &mut S,
+    address: u64,
+    register: XmmRegister,
+) -> Result<(), FrameFault>
     ensures registers { done result (registers_of (S.registers state.new) (S.xmm_registers state.new)) ≡ saved_xmm (S.stack state.old) address (xmm_number register) (registers_of (S.registers state.old) (S.xmm_registers state.old)) }
     ensures stack { S.stack state.new ≡ S.stack state.old }
 {
@@ -136,7 +147,10 @@ fn read_saved_xmm<S: UnwindState>(state: &mut S, address: u64, register: XmmRegi
 }
 
 // takes back a machine frame whose address stands at this address; answers that address
-fn pop_machine_frame<S: UnwindState>(state: &mut S, address: u64) -> Result<ControlFlow<u64>, FrameFault>
+fn pop_machine_frame<S: UnwindState>(
+    state: &mut S,
+    address: u64,
+) -> Result<ControlFlow<u64>, FrameFault>
     ensures registers { flow_end result (registers_of (S.registers state.new) (S.xmm_registers state.new)) ≡ machine_frame (S.stack state.old) address (registers_of (S.registers state.old) (S.xmm_registers state.old)) }
     ensures stack { S.stack state.new ≡ S.stack state.old }
 {

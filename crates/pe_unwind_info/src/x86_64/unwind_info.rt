@@ -7,13 +7,12 @@ ghost use Rattle.pe_unwind_info.specs.Operations.{slots_left, operations_left};
 ghost use Rattle.pe_unwind_info.specs.InfoOperations.{operations_in};
 ghost use Rattle.pe_unwind_info.specs.Info.{info_of, parsed_info, trailer_view, trailer_of, chained_in};
 
-use bitflags::{Flag, Flags, bitflag_items};
-use memory_image::Record;
-
 use crate::x86_64::function_table::{RuntimeFunction, U32};
 use crate::x86_64::little_endian::split_u32;
 use crate::x86_64::operations::UnwindOperations;
 use crate::x86_64::registers::{Register, register_at};
+use bitflags::{Flag, Flags, bitflag_items};
+use memory_image::Record;
 
 /// The flags of an unwind record. At most one of them is set in a record of a proper image.
 #[derive(Clone, Copy, Debug, PartialEq, Eq, Hash)]
@@ -169,7 +168,13 @@ impl<'a> UnwindInfo<'a> {
     pub fn parse(bytes: &'a [u8]) -> Option<UnwindInfo<'a>>
         ensures { option_map info_of result ≡ parsed_info bytes.now }
     {
-        let [version_and_flags, prolog_size, unwind_codes_len, frame_register_and_offset, rest @ ..] = bytes
+        let [
+            version_and_flags,
+            prolog_size,
+            unwind_codes_len,
+            frame_register_and_offset,
+            rest @ ..,
+        ] = bytes
         else {
             return None;
         };

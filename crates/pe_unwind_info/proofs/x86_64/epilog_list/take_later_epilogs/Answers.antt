@@ -9,5 +9,5 @@ loop-epilog-preserved c =
     let unlisted : lists c.args.end c.args.size c.args.address c.in-Some.epilog ≡ false = sym c.lists.ensures ∙ c.if-lists.false in
     record {
       behind = c.loop-epilog.invariant.behind ∙ behind_some _ _ first.0 _ first.1;
-      listed = c.loop-epilog.invariant.listed ∙ any_unlisted _ _ _ c.loop-epilog.listed _ _ first.0 _ first.1 unlisted
+      listed = c.loop-epilog.invariant.listed ∙ any_unlisted _ _ _ c.loop-epilog.listed _ _ first.0 _ first.1 unlisted;
     }

@@ -6,7 +6,7 @@ use Rattle.pe_unwind_info.proofs.x86_64.frame.skip_to.Given as goal
 abbrev pub invariant-loop-place : goal.invariant-loop-place
 invariant-loop-place l = record {
   together : operations_left l.rest ≡ operations_left l.operations;
-  same : from_place l.offset (operations_left l.fn.operations) ≡ from_place l.offset (operations_left l.operations)
+  same : from_place l.offset (operations_left l.fn.operations) ≡ from_place l.offset (operations_left l.operations);
 }
 
 abbrev pub decreases-loop-place : goal.decreases-loop-place

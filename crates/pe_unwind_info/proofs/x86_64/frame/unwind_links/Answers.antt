@@ -1,8 +1,6 @@
-use Rattle.std.proofs.Common.{rules, ◌≡◌, ◌-◌, ◌<◌, ◌≤◌, ℕ, List, Option, Some, None, Ok, ◌+◌, sym, subst, ◌∙◌, refl, arith}
-use Rattle.std.specs.Option.{option_map}
-use Rattle.pe_unwind_info.specs.Machine.{Registers, registers_of, FrameEnd, Returned, Faulted, frame_end}
-use Rattle.pe_unwind_info.specs.Frame.{Follows, Stops, link_end, IsLinked}
-use Rattle.pe_unwind_info.specs.declared.x86_64.function_table.RuntimeFunction.{RuntimeFunction}
+use Rattle.std.proofs.Common.{rules, ◌≡◌, ◌-◌, ◌<◌, Ok, ◌+◌, sym, ◌∙◌, refl, arith}
+use Rattle.pe_unwind_info.specs.Machine.{Registers, registers_of, Returned}
+use Rattle.pe_unwind_info.specs.Frame.{Follows, Stops, link_end}
 use Rattle.pe_unwind_info.proofs.LinkLemmas.{linked_none, linked_limit, linked_follows, linked_stops, link_is}
 use Rattle.pe_unwind_info.proofs.x86_64.frame.unwind_links.Goals as goal
 
@@ -35,7 +33,7 @@ loop-turn-preserved g c =
     let less : 32 - (c.loop-turn._turn + 1) ≡ 32 - c.loop-turn._turn - 1 = omega arith in
     record {
       stack = c.in_ok-chained.ensures.stack ∙ c.loop-turn.invariant.stack;
-      same = λ end later. c.loop-turn.invariant.same end (rw c.in-Some.is (linked_follows _ _ (32 - c.loop-turn._turn) c.in-Some.function _ _ _ end more link (rw less at later)))
+      same = λ end later. c.loop-turn.invariant.same end (rw c.in-Some.is (linked_follows _ _ (32 - c.loop-turn._turn) c.in-Some.function _ _ _ end more link (rw less at later)));
     }
 
 pub returns-in-Some-next-clause-registers : goal.returns-in-Some-next-clause-registers

@@ -8,6 +8,6 @@ abbrev pub invariant-loop-turn : goal.invariant-loop-turn
 invariant-loop-turn g l = record {
   stack : g.S.UnwindState.stack l.state ≡ g.S.UnwindState.stack l.fn.state;
   same : (end : FrameEnd) →
-    IsLinked (Gives (goal.M-post g l.fn.memory_at_rva) (option_map (λ bytes. bytes.now))) (g.S.UnwindState.stack l.fn.state) (32 - l._turn) l.next (registers_of (g.S.UnwindState.registers l.state) (g.S.UnwindState.xmm_registers l.state)) end
-    → IsLinked (Gives (goal.M-post g l.fn.memory_at_rva) (option_map (λ bytes. bytes.now))) (g.S.UnwindState.stack l.fn.state) 32 l.fn.first (registers_of (g.S.UnwindState.registers l.fn.state) (g.S.UnwindState.xmm_registers l.fn.state)) end
+      IsLinked (Gives (goal.M-post g l.fn.memory_at_rva) (option_map (λ bytes. bytes.now))) (g.S.UnwindState.stack l.fn.state) (32 - l._turn) l.next (registers_of (g.S.UnwindState.registers l.state) (g.S.UnwindState.xmm_registers l.state)) end
+      → IsLinked (Gives (goal.M-post g l.fn.memory_at_rva) (option_map (λ bytes. bytes.now))) (g.S.UnwindState.stack l.fn.state) 32 l.fn.first (registers_of (g.S.UnwindState.registers l.fn.state) (g.S.UnwindState.xmm_registers l.fn.state)) end;
 }

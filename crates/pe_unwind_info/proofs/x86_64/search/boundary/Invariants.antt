@@ -6,7 +6,7 @@ invariant-loop-high g l = record {
   ordered : l.low < l.high;
   at : slice_get l.records l.low ≡ Some l.found;
   below : g.T.Located.start l.found ≤ l.address;
-  above : (next : _) → slice_get l.records l.high ≡ Some next → l.address < g.T.Located.start next
+  above : (next : _) → slice_get l.records l.high ≡ Some next → l.address < g.T.Located.start next;
 }
 
 abbrev pub decreases-loop-high : goal.decreases-loop-high

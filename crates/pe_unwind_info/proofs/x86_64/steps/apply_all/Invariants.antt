@@ -9,7 +9,7 @@ invariant-loop-operation g l = record {
   header : l.header ≡ l.fn.header;
   stack : g.S.UnwindState.stack l.state ≡ g.S.UnwindState.stack l.fn.state;
   same : run l.fn.header (g.S.UnwindState.stack l.fn.state) (map (λ (p : Placed). p.1) (operations_left l.fn.operations)) (registers_of (g.S.UnwindState.registers l.fn.state) (g.S.UnwindState.xmm_registers l.fn.state))
-    ≡ run l.fn.header (g.S.UnwindState.stack l.fn.state) (map (λ (p : Placed). p.1) (operations_left l.operations)) (registers_of (g.S.UnwindState.registers l.state) (g.S.UnwindState.xmm_registers l.state))
+      ≡ run l.fn.header (g.S.UnwindState.stack l.fn.state) (map (λ (p : Placed). p.1) (operations_left l.operations)) (registers_of (g.S.UnwindState.registers l.state) (g.S.UnwindState.xmm_registers l.state));
 }
 
 abbrev pub decreases-loop-operation : goal.decreases-loop-operation

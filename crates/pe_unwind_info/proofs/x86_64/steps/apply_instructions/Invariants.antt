@@ -8,5 +8,5 @@ invariant-loop-instruction g l = record {
   frame : l.frame ≡ l.fn.frame;
   stack : g.S.UnwindState.stack l.state ≡ g.S.UnwindState.stack l.fn.state;
   same : epilog_run l.fn.frame (g.S.UnwindState.stack l.fn.state) l.fn.instructions (registers_of (g.S.UnwindState.registers l.fn.state) (g.S.UnwindState.xmm_registers l.fn.state))
-    ≡ epilog_run l.fn.frame (g.S.UnwindState.stack l.fn.state) (drop l.instruction-index l.instructions) (registers_of (g.S.UnwindState.registers l.state) (g.S.UnwindState.xmm_registers l.state))
+      ≡ epilog_run l.fn.frame (g.S.UnwindState.stack l.fn.state) (drop l.instruction-index l.instructions) (registers_of (g.S.UnwindState.registers l.state) (g.S.UnwindState.xmm_registers l.state));
 }

@@ -1,4 +1,4 @@
-use Rattle.std.proofs.Common.{◌≡◌, ℕ, List, Option, Some, sym, ap, ◌∙◌}
+use Rattle.std.proofs.Common.{◌≡◌, ℕ, List, Some, sym, ap, ◌∙◌}
 use Rattle.pe_unwind_info.specs.Machine.{registers_of}
 use Rattle.pe_unwind_info.specs.Sections.{headers_of, image_of, sections_in, section_table, memory_in, IsMemoryAt}
 use Rattle.pe_unwind_info.proofs.FrameLemmas.{widened}

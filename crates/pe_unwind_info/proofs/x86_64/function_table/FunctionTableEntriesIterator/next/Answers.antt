@@ -1,4 +1,4 @@
-use Rattle.std.proofs.Common.{rules, ◌≡◌, ◌+◌, ◌-◌, ◌<◌, ◌∷◌, length, take, drop, ap, sym, ◌∙◌, arith}
+use Rattle.std.proofs.Common.{◌≡◌, ◌-◌, ◌<◌, ◌∷◌, length, take, drop, ap, arith}
 use Rattle.std.proofs.lemmas.List.{take_rest}
 use Rattle.pe_unwind_info.specs.FunctionTable.{whole_functions, runtime_function_of}
 use Rattle.pe_unwind_info.proofs.TableLemmas.{whole_functions_cons}

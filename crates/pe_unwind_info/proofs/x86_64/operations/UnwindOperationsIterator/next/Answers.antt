@@ -1,5 +1,5 @@
 use Rattle.std.proofs.Common.{◌≡◌, ◌≤◌, ◌+◌, ◌∙◌, sym, Some, None, length, arith, inl}
-use Rattle.pe_unwind_info.specs.Operations.{first_of, operations_of}
+use Rattle.pe_unwind_info.specs.Operations.{first_of}
 use Rattle.pe_unwind_info.proofs.OperationLemmas.{operations_skip, fewer_left}
 use Rattle.pe_unwind_info.proofs.x86_64.operations.UnwindOperationsIterator.next.Goals as goal
 
@@ -12,7 +12,7 @@ loop-prolog_offset-preserved c =
       version = before.version;
       none_left = before.none_left;
       shorter = omega (arith, before.shorter, fewer);
-      same = before.same ∙ operations_skip _ _ _ _ spare
+      same = before.same ∙ operations_skip _ _ _ _ spare;
     }
 
 pub returns-in-Some-operation-clause-uses : goal.returns-in-Some-operation-clause-uses

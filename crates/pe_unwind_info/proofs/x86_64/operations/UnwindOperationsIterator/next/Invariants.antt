@@ -7,7 +7,7 @@ invariant-loop-prolog_offset l = record {
   version : l.self.version ≡ l.fn.self.version;
   none_left : l.self.slots.now ≡ [];
   shorter : length l.slots ≤ length l.fn.self.slots.now;
-  same : operations_left l.fn.self ≡ operations_of l.fn.self.version l.slots
+  same : operations_left l.fn.self ≡ operations_of l.fn.self.version l.slots;
 }
 
 abbrev pub decreases-loop-prolog_offset : goal.decreases-loop-prolog_offset

@@ -1,4 +1,4 @@
-use Rattle.std.proofs.Common.{◌≡◌, ◌%◌, ◌∙◌}
+use Rattle.std.proofs.Common.{◌≡◌, ◌∙◌}
 use Rattle.std.proofs.lemmas.Nat.{and_mask}
 use Rattle.bitflags.proofs.OnLiterals.{bitflags_on_literals}
 use Rattle.std.specs.Int.RustNames.{bit_and}
