@@ -5,7 +5,6 @@ pub mod EpilogSpelled
 pub mod FlagLemmas
 pub mod FrameLemmas
 pub mod LinkLemmas
-pub mod MachineLemmas
 pub mod OperationLemmas
 pub mod SearchLemmas
 pub mod TableLemmas
