@@ -206,7 +206,8 @@ fn parse_behind_rex(
     rex: u8,
     code: &[u8],
 ) -> Result<Option<(FunctionEpilogInstruction, &[u8])>, InstructionParseError>
-    ensures { map_ok (option_map (λ p. (p.0, p.1.now))) result ≡ behind_rex frame allow_add_sp rex code.now }
+    ensures { map_ok (option_map (λ p. (p.0, p.1.now))) result
+        ≡ behind_rex frame allow_add_sp rex code.now }
 {
     if allow_add_sp && rex / 8 == 1 {
         if let Some(adjustment) = parse_adjustment(frame, rex, code) {
@@ -223,7 +224,8 @@ fn parse_instruction(
     allow_add_sp: bool,
     code: &[u8],
 ) -> Result<Option<(FunctionEpilogInstruction, &[u8])>, InstructionParseError>
-    ensures { map_ok (option_map (λ p. (p.0, p.1.now))) result ≡ parsed frame allow_add_sp code.now }
+    ensures { map_ok (option_map (λ p. (p.0, p.1.now))) result
+        ≡ parsed frame allow_add_sp code.now }
 {
     match split_rex(code) {
         Some((rex, code)) => parse_behind_rex(frame, allow_add_sp, rex, code),
@@ -264,8 +266,10 @@ impl FunctionEpilogInstruction {
         fpreg: Option<Register>,
         allow_add_sp: bool,
     ) -> Result<Option<(FunctionEpilogInstruction, &[u8])>, InstructionParseError>
-        ensures value { map_ok (option_map (λ p. (p.0, p.1.now))) result ≡ parsed fpreg allow_add_sp ip.now }
-        ensures grammar { IsParsed fpreg allow_add_sp ip.now (map_ok (option_map (λ p. (p.0, p.1.now))) result) }
+        ensures value { map_ok (option_map (λ p. (p.0, p.1.now))) result
+            ≡ parsed fpreg allow_add_sp ip.now }
+        ensures grammar { IsParsed fpreg allow_add_sp ip.now
+            (map_ok (option_map (λ p. (p.0, p.1.now))) result) }
     {
         parse_instruction(fpreg, allow_add_sp, ip)
     }

@@ -8,7 +8,11 @@ use crate::x86_64::operations::{EpilogInformation, UnwindOperation, UnwindOperat
 // takes the next operation where it tells of an epilog
 fn next_epilog(operations: &mut UnwindOperations<'_>) -> Option<EpilogInformation>
     ensures first { result ≡ first_epilog (operations_left operations.old) }
-    ensures rest { MatchOption result (operations_left operations.new ≡ operations_left operations.old) (λ epilog. (place : ℕ) × (operations_left operations.old ≡ (place, UnwindOperation.EpilogInformation epilog) ∷ operations_left operations.new)) }
+    ensures rest { MatchOption result (operations_left operations.new ≡ operations_left operations.old)
+        (λ epilog. (place : ℕ) ×
+        (operations_left operations.old ≡
+        (place, UnwindOperation.EpilogInformation epilog) ∷ operations_left
+        operations.new)) }
 {
     let mut rest = *operations;
     match rest.next() {
@@ -56,8 +60,10 @@ fn take_later_epilogs(
     size: u8,
     address: u32,
 ) -> bool
-    ensures listed { result ≡ any_lists end size address (leading_epilogs (operations_left operations.old)) }
-    ensures rest { operations_left operations.new ≡ behind_epilogs (operations_left operations.old) }
+    ensures listed { result
+        ≡ any_lists end size address (leading_epilogs (operations_left operations.old)) }
+    ensures rest { operations_left operations.new
+        ≡ behind_epilogs (operations_left operations.old) }
 {
     let mut listed = false;
     while let Some(epilog) = next_epilog(operations) {
@@ -74,7 +80,8 @@ fn take_later_epilogs(
 #[tactic(auto, using(crate::proofs::EpilogListLemmas::leading_none, crate::proofs::EpilogListLemmas::behind_none, crate::proofs::EpilogListLemmas::leading_some, crate::proofs::EpilogListLemmas::behind_some))]
 pub(crate) fn take_epilogs(operations: &mut UnwindOperations<'_>, end: u32, address: u32) -> bool
     ensures due { result ≡ is_due end address (leading_epilogs (operations_left operations.old)) }
-    ensures rest { operations_left operations.new ≡ behind_epilogs (operations_left operations.old) }
+    ensures rest { operations_left operations.new
+        ≡ behind_epilogs (operations_left operations.old) }
 {
     let Some(first) = next_epilog(operations) else {
         return true;

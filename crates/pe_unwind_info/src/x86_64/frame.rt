@@ -44,7 +44,9 @@ fn info_at<'m, M: Fn(u32) -> Option<&'m [u8]>>(
     rva: u32,
 ) -> Result<UnwindInfo<'m>, FrameFault>
     requires { M.IsAlwaysCallable memory_at_rva.now }
-    ensures { (memory : Option (List ℕ)) × Gives (M.post memory_at_rva.now) (option_map (λ bytes. bytes.now)) rva memory × (map_ok info_of result ≡ info_in rva memory) }
+    ensures { (memory : Option (List ℕ))
+        × Gives (M.post memory_at_rva.now) (option_map (λ bytes. bytes.now)) rva memory
+        × (map_ok info_of result ≡ info_in rva memory) }
 {
     info_in(rva, memory_at_rva(rva))
 }
@@ -67,7 +69,8 @@ fn epilog_in(
     address: u32,
     memory: Option<&[u8]>,
 ) -> Result<Option<ArrayVec<FunctionEpilogInstruction, FUNCTION_EPILOG_LIMIT>>, FrameFault>
-    ensures { map_ok (option_map (λ v. v.items)) result ≡ epilog_in frame end address (option_map (λ bytes. bytes.now) memory.entry) }
+    ensures { map_ok (option_map (λ v. v.items)) result
+        ≡ epilog_in frame end address (option_map (λ bytes. bytes.now) memory.entry) }
 {
     let Some(bytes) = memory else {
         return Err(FrameFault::EpilogBytes);
@@ -91,7 +94,8 @@ fn epilog_at<'m, M: Fn(u32) -> Option<&'m [u8]>>(
     address: u32,
 ) -> Result<Option<ArrayVec<FunctionEpilogInstruction, FUNCTION_EPILOG_LIMIT>>, FrameFault>
     requires { M.IsAlwaysCallable memory_at_rva.now }
-    ensures { IsTested due (Gives (M.post memory_at_rva.now) (option_map (λ bytes. bytes.now))) frame end address (map_ok (option_map (λ v. v.items)) result) }
+    ensures { IsTested due (Gives (M.post memory_at_rva.now) (option_map (λ bytes. bytes.now))) frame
+        end address (map_ok (option_map (λ v. v.items)) result) }
 {
     if due {
         epilog_in(frame, end, address, memory_at_rva(address))
@@ -121,7 +125,11 @@ fn leave_by_epilog<S: UnwindState>(
     state: &mut S,
     instructions: &[FunctionEpilogInstruction],
 ) -> Result<u64, FrameFault>
-    ensures registers { frame_end result (registers_of (S.registers state.new) (S.xmm_registers state.new)) ≡ then_ends (epilog_run frame (S.stack state.old) instructions.now (registers_of (S.registers state.old) (S.xmm_registers state.old))) (pop_return (S.stack state.old)) }
+    ensures registers { frame_end result (registers_of (S.registers state.new) (S.xmm_registers state.new))
+        ≡ then_ends
+        (epilog_run frame (S.stack state.old) instructions.now
+        (registers_of (S.registers state.old) (S.xmm_registers state.old)))
+        (pop_return (S.stack state.old)) }
     ensures stack { S.stack state.new ≡ S.stack state.old }
 {
     apply_instructions(frame, state, instructions)?;
@@ -133,7 +141,10 @@ fn apply_record<S: UnwindState>(
     info: &UnwindInfo<'_>,
     state: &mut S,
 ) -> Result<ControlFlow<u64>, FrameFault>
-    ensures registers { flow_end result (registers_of (S.registers state.new) (S.xmm_registers state.new)) ≡ run (info_of info.now).header (S.stack state.old) (operations_alone (operations_in (info_of info.now))) (registers_of (S.registers state.old) (S.xmm_registers state.old)) }
+    ensures registers { flow_end result (registers_of (S.registers state.new) (S.xmm_registers state.new))
+        ≡ run (info_of info.now).header (S.stack state.old)
+        (operations_alone (operations_in (info_of info.now)))
+        (registers_of (S.registers state.old) (S.xmm_registers state.old)) }
     ensures stack { S.stack state.new ≡ S.stack state.old }
 {
     apply_all(&info.header(), state, info.unwind_operations())
@@ -144,7 +155,9 @@ fn unwind_link<S: UnwindState>(
     info: &UnwindInfo<'_>,
     state: &mut S,
 ) -> Result<ControlFlow<u64, Option<RuntimeFunction>>, FrameFault>
-    ensures registers { link_end result (registers_of (S.registers state.new) (S.xmm_registers state.new)) ≡ link_by (info_of info.now) (S.stack state.old) (registers_of (S.registers state.old) (S.xmm_registers state.old)) }
+    ensures registers { link_end result (registers_of (S.registers state.new) (S.xmm_registers state.new))
+        ≡ link_by (info_of info.now) (S.stack state.old)
+        (registers_of (S.registers state.old) (S.xmm_registers state.old)) }
     ensures stack { S.stack state.new ≡ S.stack state.old }
 {
     match apply_record(info, state)? {
@@ -160,7 +173,13 @@ fn unwind_chained<'m, S: UnwindState, M: Fn(u32) -> Option<&'m [u8]>>(
     function: &RuntimeFunction,
 ) -> Result<ControlFlow<u64, Option<RuntimeFunction>>, FrameFault>
     requires { M.IsAlwaysCallable memory_at_rva.now }
-    ensures registers { (memory : Option (List ℕ)) × Gives (M.post memory_at_rva.now) (option_map (λ bytes. bytes.now)) function.now.unwind_info_address memory × (link_end result (registers_of (S.registers state.new) (S.xmm_registers state.new)) ≡ link_of (info_in function.now.unwind_info_address memory) (S.stack state.old) (registers_of (S.registers state.old) (S.xmm_registers state.old))) }
+    ensures registers { (memory : Option (List ℕ))
+        × Gives (M.post memory_at_rva.now) (option_map (λ bytes. bytes.now))
+        function.now.unwind_info_address memory
+        ×
+        (link_end result (registers_of (S.registers state.new) (S.xmm_registers state.new)) ≡
+        link_of (info_in function.now.unwind_info_address memory) (S.stack state.old)
+        (registers_of (S.registers state.old) (S.xmm_registers state.old))) }
     ensures stack { S.stack state.new ≡ S.stack state.old }
 {
     let info = info_at(memory_at_rva, function.unwind_info_address)?;
@@ -174,7 +193,10 @@ fn unwind_links<'m, S: UnwindState, M: Fn(u32) -> Option<&'m [u8]>>(
     first: Option<RuntimeFunction>,
 ) -> Result<u64, FrameFault>
     requires { M.IsAlwaysCallable memory_at_rva.now }
-    ensures registers { IsLinked (Gives (M.post memory_at_rva.now) (option_map (λ bytes. bytes.now))) (S.stack state.old) 32 first (registers_of (S.registers state.old) (S.xmm_registers state.old)) (frame_end result (registers_of (S.registers state.new) (S.xmm_registers state.new))) }
+    ensures registers { IsLinked (Gives (M.post memory_at_rva.now) (option_map (λ bytes. bytes.now)))
+        (S.stack state.old) 32 first
+        (registers_of (S.registers state.old) (S.xmm_registers state.old))
+        (frame_end result (registers_of (S.registers state.new) (S.xmm_registers state.new))) }
     ensures stack { S.stack state.new ≡ S.stack state.old }
 {
     let mut next = first;
@@ -201,7 +223,13 @@ fn leave_by_operations<'m, S: UnwindState, M: Fn(u32) -> Option<&'m [u8]>>(
     operations: UnwindOperations<'_>,
 ) -> Result<u64, FrameFault>
     requires { M.IsAlwaysCallable memory_at_rva.now }
-    ensures registers { ByRun (run (info_of info.now).header (S.stack state.old) (operations_alone (operations_left operations.entry)) (registers_of (S.registers state.old) (S.xmm_registers state.old))) (IsLinked (Gives (M.post memory_at_rva.now) (option_map (λ bytes. bytes.now))) (S.stack state.old) 32 (chained_of (info_of info.now))) (frame_end result (registers_of (S.registers state.new) (S.xmm_registers state.new))) }
+    ensures registers { ByRun
+        (run (info_of info.now).header (S.stack state.old)
+        (operations_alone (operations_left operations.entry))
+        (registers_of (S.registers state.old) (S.xmm_registers state.old)))
+        (IsLinked (Gives (M.post memory_at_rva.now) (option_map (λ bytes. bytes.now)))
+        (S.stack state.old) 32 (chained_of (info_of info.now)))
+        (frame_end result (registers_of (S.registers state.new) (S.xmm_registers state.new))) }
     ensures stack { S.stack state.new ≡ S.stack state.old }
 {
     match apply_all(&info.header(), state, operations)? {
@@ -221,7 +249,12 @@ fn leave<'m, S: UnwindState, M: Fn(u32) -> Option<&'m [u8]>>(
     offset: u32,
 ) -> Result<u64, FrameFault>
     requires { M.IsAlwaysCallable memory_at_rva.now }
-    ensures registers { Leaves (Gives (M.post memory_at_rva.now) (option_map (λ bytes. bytes.now))) (S.stack state.old) (info_of info.now) (from_place offset (operations_left operations.entry)) (option_map (λ v. v.items) epilog) (registers_of (S.registers state.old) (S.xmm_registers state.old)) (frame_end result (registers_of (S.registers state.new) (S.xmm_registers state.new))) }
+    ensures registers { Leaves (Gives (M.post memory_at_rva.now) (option_map (λ bytes. bytes.now)))
+        (S.stack state.old) (info_of info.now)
+        (from_place offset (operations_left operations.entry))
+        (option_map (λ v. v.items) epilog)
+        (registers_of (S.registers state.old) (S.xmm_registers state.old))
+        (frame_end result (registers_of (S.registers state.new) (S.xmm_registers state.new))) }
     ensures stack { S.stack state.new ≡ S.stack state.old }
 {
     match epilog {
@@ -240,7 +273,10 @@ fn unwind_record<'m, S: UnwindState, M: Fn(u32) -> Option<&'m [u8]>>(
 ) -> Result<u64, FrameFault>
     requires callable { M.IsAlwaysCallable memory_at_rva.now }
     requires begun { function.now.begin_address ≤ address }
-    ensures registers { InRecord (Gives (M.post memory_at_rva.now) (option_map (λ bytes. bytes.now))) (S.stack state.old) address function.now (Ok (info_of info.now)) (registers_of (S.registers state.old) (S.xmm_registers state.old)) (frame_end result (registers_of (S.registers state.new) (S.xmm_registers state.new))) }
+    ensures registers { InRecord (Gives (M.post memory_at_rva.now) (option_map (λ bytes. bytes.now)))
+        (S.stack state.old) address function.now (Ok (info_of info.now))
+        (registers_of (S.registers state.old) (S.xmm_registers state.old))
+        (frame_end result (registers_of (S.registers state.new) (S.xmm_registers state.new))) }
     ensures stack { S.stack state.new ≡ S.stack state.old }
 {
     let mut operations = info.unwind_operations();
@@ -260,7 +296,10 @@ fn unwind_function<'m, S: UnwindState, M: Fn(u32) -> Option<&'m [u8]>>(
 ) -> Result<u64, FrameFault>
     requires callable { M.IsAlwaysCallable memory_at_rva.now }
     requires begun { function.now.begin_address ≤ address }
-    ensures registers { IsFunctionFrame (Gives (M.post memory_at_rva.now) (option_map (λ bytes. bytes.now))) (S.stack state.old) address function.now (registers_of (S.registers state.old) (S.xmm_registers state.old)) (frame_end result (registers_of (S.registers state.new) (S.xmm_registers state.new))) }
+    ensures registers { IsFunctionFrame (Gives (M.post memory_at_rva.now) (option_map (λ bytes. bytes.now)))
+        (S.stack state.old) address function.now
+        (registers_of (S.registers state.old) (S.xmm_registers state.old))
+        (frame_end result (registers_of (S.registers state.new) (S.xmm_registers state.new))) }
     ensures stack { S.stack state.new ≡ S.stack state.old }
 {
     let info = info_at(memory_at_rva, function.unwind_info_address)?;
@@ -276,7 +315,10 @@ fn unwind<'m, S: UnwindState, M: Fn(u32) -> Option<&'m [u8]>>(
 ) -> Result<u64, FrameFault>
     requires callable { M.IsAlwaysCallable memory_at_rva.now }
     requires begun { ForSome function (λ function. function.begin_address ≤ address) }
-    ensures registers { IsFrame (Gives (M.post memory_at_rva.now) (option_map (λ bytes. bytes.now))) (S.stack state.old) address function (registers_of (S.registers state.old) (S.xmm_registers state.old)) (frame_end result (registers_of (S.registers state.new) (S.xmm_registers state.new))) }
+    ensures registers { IsFrame (Gives (M.post memory_at_rva.now) (option_map (λ bytes. bytes.now)))
+        (S.stack state.old) address function
+        (registers_of (S.registers state.old) (S.xmm_registers state.old))
+        (frame_end result (registers_of (S.registers state.new) (S.xmm_registers state.new))) }
     ensures stack { S.stack state.new ≡ S.stack state.old }
 {
     match function {
@@ -305,11 +347,22 @@ impl<'a> FunctionTableEntries<'a> {
         requires { M.IsAlwaysCallable memory_at_rva }
 
         // Whatever `memory_at_rva` gives at each call.
-        ensures frame { IsUnwound (Gives (M.post memory_at_rva) (option_map (λ bytes. bytes.now))) (S.stack state.old) (functions_of (table_bytes self.now)) address (registers_of (S.registers state.old) (S.xmm_registers state.old)) (frame_end result (registers_of (S.registers state.new) (S.xmm_registers state.new))) }
+        ensures frame { IsUnwound (Gives (M.post memory_at_rva) (option_map (λ bytes. bytes.now)))
+            (S.stack state.old) (functions_of (table_bytes self.now)) address
+            (registers_of (S.registers state.old) (S.xmm_registers state.old))
+            (frame_end result
+            (registers_of (S.registers state.new) (S.xmm_registers state.new))) }
 
         // Where it gives one memory at each address, the answer and the writes are determined.
-        ensures by_memory { (memory : Image) → ((rva : ℕ) (given : Option (List ℕ)) → Gives (M.post memory_at_rva) (option_map (λ bytes. bytes.now)) rva given → given ≡ memory rva) →
-            (function : Option RuntimeFunction) × IsLookup (functions_of (table_bytes self.now)) address function × (frame_end result (registers_of (S.registers state.new) (S.xmm_registers state.new)) ≡ framed memory (S.stack state.old) address function (registers_of (S.registers state.old) (S.xmm_registers state.old))) }
+        ensures by_memory { (memory : Image)
+            → ((rva : ℕ) (given : Option (List ℕ))
+            → Gives (M.post memory_at_rva) (option_map (λ bytes. bytes.now)) rva given
+            → given ≡ memory rva)
+            → (function : Option RuntimeFunction)
+            × IsLookup (functions_of (table_bytes self.now)) address function
+            × (frame_end result (registers_of (S.registers state.new) (S.xmm_registers state.new))
+            ≡ framed memory (S.stack state.old) address function
+            (registers_of (S.registers state.old) (S.xmm_registers state.old))) }
         ensures stack { S.stack state.new ≡ S.stack state.old }
     {
         let function = self.lookup(address);
@@ -324,7 +377,12 @@ impl<'a> FunctionTableEntries<'a> {
         address: u32,
     ) -> Option<u64>
         requires { M.IsAlwaysCallable memory_at_rva }
-        ensures frame { (end : FrameEnd) × IsUnwound (Gives (M.post memory_at_rva) (option_map (λ bytes. bytes.now))) (S.stack state.old) (functions_of (table_bytes self.now)) address (registers_of (S.registers state.old) (S.xmm_registers state.old)) end × ShowsEnd result (registers_of (S.registers state.new) (S.xmm_registers state.new)) end }
+        ensures frame { (end : FrameEnd)
+            × IsUnwound (Gives (M.post memory_at_rva) (option_map (λ bytes. bytes.now)))
+            (S.stack state.old) (functions_of (table_bytes self.now)) address
+            (registers_of (S.registers state.old) (S.xmm_registers state.old)) end
+            × ShowsEnd result (registers_of (S.registers state.new) (S.xmm_registers state.new))
+            end }
         ensures stack { S.stack state.new ≡ S.stack state.old }
     {
         match self.try_unwind_frame(state, memory_at_rva, address) {
@@ -341,13 +399,18 @@ impl<'a> FunctionTableEntries<'a> {
         image: &[u8],
         address: u32,
     ) -> Option<u64>
-        ensures frame { IsUnwoundIn image.now (section_table image.now) (S.stack state.old) (functions_of (table_bytes self.now)) address (registers_of (S.registers state.old) (S.xmm_registers state.old)) result (registers_of (S.registers state.new) (S.xmm_registers state.new)) }
+        ensures frame { IsUnwoundIn image.now (section_table image.now) (S.stack state.old)
+            (functions_of (table_bytes self.now)) address
+            (registers_of (S.registers state.old) (S.xmm_registers state.old)) result
+            (registers_of (S.registers state.new) (S.xmm_registers state.new)) }
         ensures stack { S.stack state.new ≡ S.stack state.old }
     {
         match Sections::parse(image) {
             Some(sections) => {
                 let memory_at_rva = |rva: u32| -> Option<&[u8]>
-                    ensures { IsMemoryAt (image_of sections.entry) (sections_in (headers_of sections.entry)) rva (option_map (λ bytes. bytes.now) result) }
+                    ensures { IsMemoryAt (image_of sections.entry)
+                        (sections_in (headers_of sections.entry)) rva
+                        (option_map (λ bytes. bytes.now) result) }
                 { sections.memory_at_rva(rva) };
                 self.unwind_frame(state, memory_at_rva, address)
             }

@@ -58,8 +58,11 @@ impl Located for RuntimeFunction {
 /// In a table that ascends by where its functions begin, a look-up has one answer: of the records
 /// that begin at or below the address, the last.
 pub fn lookup_is_determined()
-    ensures { (functions : List RuntimeFunction) (address : ℕ) (a b : Option RuntimeFunction) → IsAscending (λ (f : RuntimeFunction). f.begin_address) functions →
-        IsLookup (Some functions) address a → IsLookup (Some functions) address b → a ≡ b }
+    ensures { (functions : List RuntimeFunction) (address : ℕ) (a b : Option RuntimeFunction)
+        → IsAscending (λ (f : RuntimeFunction). f.begin_address) functions
+        → IsLookup (Some functions) address a
+        → IsLookup (Some functions) address b
+        → a ≡ b }
 {}
 
 /// A view of the function table, the contents of the section `.pdata`: records of 12 bytes that

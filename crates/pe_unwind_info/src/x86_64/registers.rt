@@ -30,7 +30,9 @@ impl TryFrom<u8> for Register {
 
     type Error = ();
 
-    ghost try_from_gives = { λ number result. MatchResult result (λ register. (register ≡ register_of number) × (register_number register ≡ number)) (λ _. 15 < number) };
+    ghost try_from_gives = { λ number result. MatchResult result
+        (λ register. (register ≡ register_of number) × (register_number register ≡ number))
+        (λ _. 15 < number) };
 
     /// The register of this number; `Err(())` exactly above 15.
     fn try_from(number: u8) -> Result<Register, ()> {
@@ -84,7 +86,9 @@ impl TryFrom<u8> for XmmRegister {
 
     type Error = ();
 
-    ghost try_from_gives = { λ number result. MatchResult result (λ register. (register ≡ xmm_register_of number) × (xmm_number register ≡ number)) (λ _. 15 < number) };
+    ghost try_from_gives = { λ number result. MatchResult result
+        (λ register. (register ≡ xmm_register_of number) × (xmm_number register ≡ number))
+        (λ _. 15 < number) };
 
     /// The XMM register of this number; `Err(())` exactly above 15.
     fn try_from(number: u8) -> Result<XmmRegister, ()> {

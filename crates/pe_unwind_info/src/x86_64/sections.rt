@@ -113,7 +113,8 @@ impl<'a> Sections<'a> {
     /// begin past the image's end. Where sections are out of order, any section that begins at or
     /// below the address, and whose successor begins above it, counts as the last one that does.
     pub fn memory_at_rva(&self, rva: u32) -> Option<&'a [u8]>
-        ensures { IsMemoryAt (image_of self.now) (sections_in (headers_of self.now)) rva (option_map (λ bytes. bytes.now) result) }
+        ensures { IsMemoryAt (image_of self.now) (sections_in (headers_of self.now)) rva
+            (option_map (λ bytes. bytes.now) result) }
     {
         let sections = Records::<Section>::over(
             self.headers,

@@ -34,14 +34,16 @@ pub trait UnwindState {
 
     /// Gives the register another value.
     fn write_register(&mut self, register: Register, value: u64)
-        ensures registers { registers self.new ≡ changed (registers self.old) (register_number register) value }
+        ensures registers { registers self.new
+            ≡ changed (registers self.old) (register_number register) value }
         ensures xmm_registers { xmm_registers self.new ≡ xmm_registers self.old }
         ensures stack { stack self.new ≡ stack self.old };
 
     /// Gives the XMM register another value.
     fn write_xmm_register(&mut self, register: XmmRegister, value: u128)
         ensures registers { registers self.new ≡ registers self.old }
-        ensures xmm_registers { xmm_registers self.new ≡ changed (xmm_registers self.old) (xmm_number register) value }
+        ensures xmm_registers { xmm_registers self.new
+            ≡ changed (xmm_registers self.old) (xmm_number register) value }
         ensures stack { stack self.new ≡ stack self.old };
 }
 
@@ -57,7 +59,9 @@ pub(crate) fn stack_word<S: UnwindState>(state: &mut S, address: u64) -> Result<
 
 /// Adds to the stack pointer.
 pub(crate) fn add_to_stack_pointer<S: UnwindState>(state: &mut S, bytes: u32)
-    ensures registers { registers_of (S.registers state.new) (S.xmm_registers state.new) ≡ with_stack_pointer (plus (S.registers state.old 4) bytes) (registers_of (S.registers state.old) (S.xmm_registers state.old)) }
+    ensures registers { registers_of (S.registers state.new) (S.xmm_registers state.new)
+        ≡ with_stack_pointer (plus (S.registers state.old 4) bytes)
+        (registers_of (S.registers state.old) (S.xmm_registers state.old)) }
     ensures stack { S.stack state.new ≡ S.stack state.old }
 {
     let stack_pointer = state.read_register(Register::RSP);
@@ -66,7 +70,9 @@ pub(crate) fn add_to_stack_pointer<S: UnwindState>(state: &mut S, bytes: u32)
 
 /// Pops a register: it is written, and then the stack pointer, by what this was before.
 pub(crate) fn pop<S: UnwindState>(state: &mut S, register: Register) -> Result<(), FrameFault>
-    ensures registers { done result (registers_of (S.registers state.new) (S.xmm_registers state.new)) ≡ pop_into (S.stack state.old) (register_number register) (registers_of (S.registers state.old) (S.xmm_registers state.old)) }
+    ensures registers { done result (registers_of (S.registers state.new) (S.xmm_registers state.new))
+        ≡ pop_into (S.stack state.old) (register_number register)
+        (registers_of (S.registers state.old) (S.xmm_registers state.old)) }
     ensures stack { S.stack state.new ≡ S.stack state.old }
 {
     let stack_pointer = state.read_register(Register::RSP);
@@ -78,7 +84,9 @@ pub(crate) fn pop<S: UnwindState>(state: &mut S, register: Register) -> Result<(
 
 /// Pops the return address.
 pub(crate) fn pop_return_address<S: UnwindState>(state: &mut S) -> Result<u64, FrameFault>
-    ensures registers { frame_end result (registers_of (S.registers state.new) (S.xmm_registers state.new)) ≡ pop_return (S.stack state.old) (registers_of (S.registers state.old) (S.xmm_registers state.old)) }
+    ensures registers { frame_end result (registers_of (S.registers state.new) (S.xmm_registers state.new))
+        ≡ pop_return (S.stack state.old)
+        (registers_of (S.registers state.old) (S.xmm_registers state.old)) }
     ensures stack { S.stack state.new ≡ S.stack state.old }
 {
     let stack_pointer = state.read_register(Register::RSP);

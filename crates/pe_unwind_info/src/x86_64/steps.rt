@@ -36,7 +36,9 @@ impl UnwindInfoHeader {
         offset: StackFrameOffset,
     ) -> u64
         requires { F.pre read_register (base_register self.now) }
-        ensures { (value : ℕ) × F.post read_register (base_register self.now) value × (result ≡ offset_from self.now value (offset_value offset)) }
+        ensures { (value : ℕ)
+            × F.post read_register (base_register self.now) value
+            × (result ≡ offset_from self.now value (offset_value offset)) }
     {
         let (register, distance) = self.base();
         let base = read_register(register);
@@ -52,7 +54,9 @@ impl UnwindInfoHeader {
         state: &mut S,
         op: &UnwindOperation,
     ) -> Option<ControlFlow<u64>>
-        ensures registers { IsResolved result (registers_of (S.registers state.new) (S.xmm_registers state.new)) (act self.now (S.stack state.old) op.now (registers_of (S.registers state.old) (S.xmm_registers state.old))) }
+        ensures registers { IsResolved result (registers_of (S.registers state.new) (S.xmm_registers state.new))
+            (act self.now (S.stack state.old) op.now
+            (registers_of (S.registers state.old) (S.xmm_registers state.old))) }
         ensures stack { S.stack state.new ≡ S.stack state.old }
     {
         match apply(self, state, op) {
@@ -70,7 +74,9 @@ impl<'a> UnwindInfo<'a> {
         offset: StackFrameOffset,
     ) -> u64
         requires { F.pre read_register (base_register (info_of self.now).header) }
-        ensures { (value : ℕ) × F.post read_register (base_register (info_of self.now).header) value × (result ≡ offset_from (info_of self.now).header value (offset_value offset)) }
+        ensures { (value : ℕ)
+            × F.post read_register (base_register (info_of self.now).header) value
+            × (result ≡ offset_from (info_of self.now).header value (offset_value offset)) }
     {
         self.header().resolve_offset(read_register, offset)
     }
@@ -81,7 +87,9 @@ impl<'a> UnwindInfo<'a> {
         state: &mut S,
         op: &UnwindOperation,
     ) -> Option<ControlFlow<u64>>
-        ensures registers { IsResolved result (registers_of (S.registers state.new) (S.xmm_registers state.new)) (act (info_of self.now).header (S.stack state.old) op.now (registers_of (S.registers state.old) (S.xmm_registers state.old))) }
+        ensures registers { IsResolved result (registers_of (S.registers state.new) (S.xmm_registers state.new))
+            (act (info_of self.now).header (S.stack state.old) op.now
+            (registers_of (S.registers state.old) (S.xmm_registers state.old))) }
         ensures stack { S.stack state.new ≡ S.stack state.old }
     {
         self.header().resolve_operation(state, op)
@@ -94,7 +102,9 @@ fn address_in_frame<S: UnwindState>(
     state: &mut S,
     offset: StackFrameOffset,
 ) -> u64
-    ensures value { result ≡ frame_address header.now (registers_of (S.registers state.old) (S.xmm_registers state.old)) (offset_value offset) }
+    ensures value { result
+        ≡ frame_address header.now
+        (registers_of (S.registers state.old) (S.xmm_registers state.old)) (offset_value offset) }
     ensures registers { S.registers state.new ≡ S.registers state.old }
     ensures xmm_registers { S.xmm_registers state.new ≡ S.xmm_registers state.old }
     ensures stack { S.stack state.new ≡ S.stack state.old }
@@ -107,7 +117,9 @@ fn address_in_frame<S: UnwindState>(
 
 // sets the stack pointer to what the frame register was set from, where there is one
 fn restore_stack_pointer<S: UnwindState>(header: &UnwindInfoHeader, state: &mut S)
-    ensures registers { registers_of (S.registers state.new) (S.xmm_registers state.new) ≡ restored (frame_register_of header.now) (frame_distance header.now) (registers_of (S.registers state.old) (S.xmm_registers state.old)) }
+    ensures registers { registers_of (S.registers state.new) (S.xmm_registers state.new)
+        ≡ restored (frame_register_of header.now) (frame_distance header.now)
+        (registers_of (S.registers state.old) (S.xmm_registers state.old)) }
     ensures stack { S.stack state.new ≡ S.stack state.old }
 {
     if let Some(register) = header.frame_register() {
@@ -123,7 +135,9 @@ fn read_saved<S: UnwindState>(
     address: u64,
     register: Register,
 ) -> Result<(), FrameFault>
-    ensures registers { done result (registers_of (S.registers state.new) (S.xmm_registers state.new)) ≡ saved (S.stack state.old) address (register_number register) (registers_of (S.registers state.old) (S.xmm_registers state.old)) }
+    ensures registers { done result (registers_of (S.registers state.new) (S.xmm_registers state.new))
+        ≡ saved (S.stack state.old) address (register_number register)
+        (registers_of (S.registers state.old) (S.xmm_registers state.old)) }
     ensures stack { S.stack state.new ≡ S.stack state.old }
 {
     let value = stack_word(state, address)?;
@@ -137,7 +151,9 @@ fn read_saved_xmm<S: UnwindState>(
     address: u64,
     register: XmmRegister,
 ) -> Result<(), FrameFault>
-    ensures registers { done result (registers_of (S.registers state.new) (S.xmm_registers state.new)) ≡ saved_xmm (S.stack state.old) address (xmm_number register) (registers_of (S.registers state.old) (S.xmm_registers state.old)) }
+    ensures registers { done result (registers_of (S.registers state.new) (S.xmm_registers state.new))
+        ≡ saved_xmm (S.stack state.old) address (xmm_number register)
+        (registers_of (S.registers state.old) (S.xmm_registers state.old)) }
     ensures stack { S.stack state.new ≡ S.stack state.old }
 {
     let low = stack_word(state, address)?;
@@ -151,7 +167,9 @@ fn pop_machine_frame<S: UnwindState>(
     state: &mut S,
     address: u64,
 ) -> Result<ControlFlow<u64>, FrameFault>
-    ensures registers { flow_end result (registers_of (S.registers state.new) (S.xmm_registers state.new)) ≡ machine_frame (S.stack state.old) address (registers_of (S.registers state.old) (S.xmm_registers state.old)) }
+    ensures registers { flow_end result (registers_of (S.registers state.new) (S.xmm_registers state.new))
+        ≡ machine_frame (S.stack state.old) address
+        (registers_of (S.registers state.old) (S.xmm_registers state.old)) }
     ensures stack { S.stack state.new ≡ S.stack state.old }
 {
     let return_address = stack_word(state, address)?;
@@ -166,7 +184,9 @@ fn apply<S: UnwindState>(
     state: &mut S,
     operation: &UnwindOperation,
 ) -> Result<ControlFlow<u64>, FrameFault>
-    ensures registers { flow_end result (registers_of (S.registers state.new) (S.xmm_registers state.new)) ≡ act header.now (S.stack state.old) operation.now (registers_of (S.registers state.old) (S.xmm_registers state.old)) }
+    ensures registers { flow_end result (registers_of (S.registers state.new) (S.xmm_registers state.new))
+        ≡ act header.now (S.stack state.old) operation.now
+        (registers_of (S.registers state.old) (S.xmm_registers state.old)) }
     ensures stack { S.stack state.new ≡ S.stack state.old }
 {
     match *operation {
@@ -208,7 +228,9 @@ pub(crate) fn apply_all<S: UnwindState>(
     state: &mut S,
     mut operations: UnwindOperations<'_>,
 ) -> Result<ControlFlow<u64>, FrameFault>
-    ensures registers { flow_end result (registers_of (S.registers state.new) (S.xmm_registers state.new)) ≡ run header.now (S.stack state.old) (map (λ p. p.1) (operations_left operations.entry)) (registers_of (S.registers state.old) (S.xmm_registers state.old)) }
+    ensures registers { flow_end result (registers_of (S.registers state.new) (S.xmm_registers state.new))
+        ≡ run header.now (S.stack state.old) (map (λ p. p.1) (operations_left operations.entry))
+        (registers_of (S.registers state.old) (S.xmm_registers state.old)) }
     ensures stack { S.stack state.new ≡ S.stack state.old }
 {
     while let Some((_, operation)) = operations.next() {
@@ -225,7 +247,9 @@ fn apply_instruction<S: UnwindState>(
     state: &mut S,
     instruction: FunctionEpilogInstruction,
 ) -> Result<(), FrameFault>
-    ensures registers { done result (registers_of (S.registers state.new) (S.xmm_registers state.new)) ≡ epilog_act frame (S.stack state.old) instruction (registers_of (S.registers state.old) (S.xmm_registers state.old)) }
+    ensures registers { done result (registers_of (S.registers state.new) (S.xmm_registers state.new))
+        ≡ epilog_act frame (S.stack state.old) instruction
+        (registers_of (S.registers state.old) (S.xmm_registers state.old)) }
     ensures stack { S.stack state.new ≡ S.stack state.old }
 {
     match (instruction, frame) {
@@ -250,7 +274,9 @@ pub(crate) fn apply_instructions<S: UnwindState>(
     state: &mut S,
     instructions: &[FunctionEpilogInstruction],
 ) -> Result<(), FrameFault>
-    ensures registers { done result (registers_of (S.registers state.new) (S.xmm_registers state.new)) ≡ epilog_run frame (S.stack state.old) instructions.now (registers_of (S.registers state.old) (S.xmm_registers state.old)) }
+    ensures registers { done result (registers_of (S.registers state.new) (S.xmm_registers state.new))
+        ≡ epilog_run frame (S.stack state.old) instructions.now
+        (registers_of (S.registers state.old) (S.xmm_registers state.old)) }
     ensures stack { S.stack state.new ≡ S.stack state.old }
 {
     for instruction in instructions {
