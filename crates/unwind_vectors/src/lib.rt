@@ -6,3 +6,5 @@
 mod macho;
 #[cfg(test)]
 mod macho_linked;
+#[cfg(test)]
+mod pe;

@@ -1,0 +1,43 @@
+-- The leading epilog operations, one after another.
+use Rattle.std.proofs.Common.{◌≡◌, ℕ, Bool, true, false, ◌||◌, List, [], ◌∷◌, None, refl}
+use Rattle.pe_unwind_info.specs.declared.x86_64.operations.EpilogInformation.{EpilogInformation as Epilog}
+use Rattle.pe_unwind_info.specs.declared.x86_64.operations.UnwindOperation.TheVariants.{EpilogInformation}
+use Rattle.pe_unwind_info.specs.Operations.{Placed}
+use Rattle.pe_unwind_info.specs.EpilogList.{first_epilog, leading_epilogs, behind_epilogs, lists, any_lists}
+
+pub leading_none : (ops : List Placed) → first_epilog ops ≡ None → leading_epilogs ops ≡ []
+unfolding leading_epilogs
+leading_none [] e = refl
+leading_none (p ∷ later) e = rw e refl
+
+pub behind_none : (ops : List Placed) → first_epilog ops ≡ None → behind_epilogs ops ≡ ops
+unfolding behind_epilogs
+behind_none [] e = refl
+behind_none (p ∷ later) e = rw e refl
+
+pub leading_some : (ops later : List Placed) (place : ℕ) (epilog : Epilog) → ops ≡ (place, EpilogInformation epilog) ∷ later → leading_epilogs ops ≡ epilog ∷ leading_epilogs later
+unfolding leading_epilogs
+leading_some ops later place epilog e = rw e refl
+
+pub behind_some : (ops later : List Placed) (place : ℕ) (epilog : Epilog) → ops ≡ (place, EpilogInformation epilog) ∷ later → behind_epilogs ops ≡ behind_epilogs later
+unfolding behind_epilogs
+behind_some ops later place epilog e = rw e refl
+
+pub any_none : (end size address : ℕ) → any_lists end size address [] ≡ false
+unfolding any_lists
+any_none end size address = refl
+
+-- an epilog operation that lists the address, and one that doesn't
+pub any_listed : (end size address : ℕ) (listed : Bool) (ops later : List Placed) (place : ℕ) (epilog : Epilog) → ops ≡ (place, EpilogInformation epilog) ∷ later → lists end size address epilog ≡ true →
+    (listed || any_lists end size address (leading_epilogs ops)) ≡ true
+unfolding any_lists
+any_listed end size address listed ops later place epilog e t = rw (leading_some ops later place epilog e, t) (any listed)
+  where
+    any : (b : Bool) → (b || true) ≡ true
+    any true = refl
+    any false = refl
+
+pub any_unlisted : (end size address : ℕ) (listed : Bool) (ops later : List Placed) (place : ℕ) (epilog : Epilog) → ops ≡ (place, EpilogInformation epilog) ∷ later → lists end size address epilog ≡ false →
+    (listed || any_lists end size address (leading_epilogs ops)) ≡ (listed || any_lists end size address (leading_epilogs later))
+unfolding any_lists
+any_unlisted end size address listed ops later place epilog e t = rw (leading_some ops later place epilog e, t) refl

@@ -1,0 +1,10 @@
+pub mod EpilogListLemmas
+pub mod EpilogReads
+pub mod EpilogSequences
+pub mod EpilogSpelled
+pub mod FlagLemmas
+pub mod FrameLemmas
+pub mod LinkLemmas
+pub mod OperationLemmas
+pub mod SearchLemmas
+pub mod TableLemmas

@@ -1,0 +1,28 @@
+//! Unwinding by the unwind data of x86-64 images, as Microsoft's "x64 exception handling" lays it
+//! down.
+
+mod epilog;
+mod epilog_list;
+mod fault;
+mod frame;
+mod function_table;
+mod little_endian;
+mod operations;
+mod registers;
+mod search;
+mod sections;
+mod state;
+mod steps;
+mod unwind_info;
+
+pub use epilog::{FUNCTION_EPILOG_LIMIT, FunctionEpilogInstruction, InstructionParseError};
+pub use fault::FrameFault;
+pub use function_table::{FunctionTableEntries, RuntimeFunction, U32, lookup_is_determined};
+pub use operations::{
+    EpilogHeader, EpilogInformation, StackFrameOffset, UnwindCode, UnwindOperation,
+    UnwindOperationCode, UnwindOperations,
+};
+pub use registers::{Register, XmmRegister};
+pub use sections::Sections;
+pub use state::UnwindState;
+pub use unwind_info::{UnwindInfo, UnwindInfoFlags, UnwindInfoHeader, UnwindInfoTrailer};
