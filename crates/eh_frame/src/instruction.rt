@@ -65,18 +65,9 @@ fn read_operation<'a>(
 {
     match operation {
         0x00 => Ok(CallFrameInstruction::Nop),
-        0x02 => {
-            let delta = input.read_u8()?;
-            Ok(advance(factors, delta as u32))
-        }
-        0x03 => {
-            let delta = input.read_u16()?;
-            Ok(advance(factors, delta as u32))
-        }
-        0x04 => {
-            let delta = input.read_u32()?;
-            Ok(advance(factors, delta))
-        }
+        0x02 => Ok(advance(factors, input.read_u8()? as u32)),
+        0x03 => Ok(advance(factors, input.read_u16()? as u32)),
+        0x04 => Ok(advance(factors, input.read_u32()?)),
         0x07 => {
             let register = read_register(input)?;
             Ok(CallFrameInstruction::SetRule {

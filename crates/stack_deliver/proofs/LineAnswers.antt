@@ -8,14 +8,14 @@ use Rattle.unwind_definitions.specs.Scan.{scan}
 use Rattle.unwind_definitions.specs.LanguageTable.{input_at}
 use Rattle.unwind_definitions.specs.Module.{bases_of}
 use Rattle.unwind_definitions.specs.Caller as calls
-use Rattle.stack_deliver.specs.declared.x86_64.Context.{Context}
+use Rattle.unwind_arch.specs.declared.x86_64.Context.{Context}
 use Rattle.stack_deliver.specs.declared.space.Module.{Module}
 use Rattle.stack_deliver.specs.declared.delivery.Stepped.{Stepped}
 use Rattle.stack_deliver.specs.declared.delivery.DeliverError.{DeliverError}
 use Rattle.stack_deliver.specs.declared.delivery.DeliverError.TheVariants.{Unmapped, FrameLimit}
 use Rattle.stack_deliver.specs.declared.space.FrameInfoKind.{FrameInfoKind}
 use Rattle.stack_deliver.specs.declared.space.FrameInfoKind.TheVariants.{EhFrame, EhFrameHdr}
-use Rattle.stack_deliver.specs.Contexts.{columns_of}
+use Rattle.unwind_arch.specs.Contexts.{columns_of}
 use Rattle.stack_deliver.specs.Modules.{SpaceValue, module_at}
 use Rattle.stack_deliver.specs.Processes.{module_of}
 use Rattle.stack_deliver.specs.Stepping.{step_of, in_module, by_table, called, run_found, stepped, context_by, no_expressions, address_asked, IsStepFault}

@@ -15,11 +15,11 @@ use Rattle.unwind_definitions.specs.Module as described
 use Rattle.unwind_definitions.specs.Valid.{LiesDescribed}
 use Rattle.unwind_laws.proofs.Booleans as lists
 use Rattle.unwind_laws.proofs.Found.{not_found}
-use Rattle.stack_deliver.specs.declared.x86_64.Context.{Context}
+use Rattle.unwind_arch.specs.declared.x86_64.Context.{Context}
 use Rattle.stack_deliver.specs.declared.space.Module.{Module}
 use Rattle.stack_deliver.specs.declared.space.FrameInfoKind.{FrameInfoKind}
 use Rattle.stack_deliver.specs.declared.space.FrameInfoKind.TheVariants.{EhFrame, EhFrameHdr}
-use Rattle.stack_deliver.specs.Contexts.{columns_of}
+use Rattle.unwind_arch.specs.Contexts.{columns_of}
 use Rattle.stack_deliver.specs.Modules.{SpaceValue, AreApart, contains, module_at}
 use Rattle.stack_deliver.specs.Processes.{tables_of, module_of, process_of}
 use Rattle.stack_deliver.specs.Stepping.{step_of, in_module, by_table}

@@ -17,12 +17,12 @@ use Rattle.unwind_definitions.specs.Module as described
 use Rattle.unwind_laws.specs.Walked.{Steps}
 use Rattle.unwind_laws.proofs.Walk.{one_step}
 use Rattle.unwind_laws.proofs.Booleans as lists
-use Rattle.stack_deliver.specs.declared.x86_64.Context.{Context}
+use Rattle.unwind_arch.specs.declared.x86_64.Context.{Context}
 use Rattle.stack_deliver.specs.declared.space.Module.{Module}
 use Rattle.stack_deliver.specs.declared.delivery.Stepped.{Stepped}
 use Rattle.stack_deliver.specs.declared.space.FrameInfoKind.{FrameInfoKind}
 use Rattle.stack_deliver.specs.declared.space.FrameInfoKind.TheVariants.{EhFrame, EhFrameHdr}
-use Rattle.stack_deliver.specs.Contexts.{columns_of, context_of, general_columns}
+use Rattle.unwind_arch.specs.Contexts.{columns_of, context_of, general_columns}
 use Rattle.stack_deliver.specs.Modules.{SpaceValue, AreApart, module_at}
 use Rattle.stack_deliver.specs.Processes.{tables_of, module_of, process_of}
 use Rattle.stack_deliver.specs.Stepping.{step_of, no_expressions, by_table}

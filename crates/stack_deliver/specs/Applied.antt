@@ -4,9 +4,9 @@ use Rattle.memory_image.specs.Image.{Span}
 use Rattle.unwind_definitions.specs.declared.error.Error.TheVariants.{UnsupportedRegister}
 use Rattle.unwind_definitions.specs.Instructions.{Rule}
 use Rattle.unwind_definitions.specs.Caller.{Evaluates, StepFault, Table, rule_value}
-use Rattle.stack_deliver.specs.declared.x86_64.Context.{Context}
+use Rattle.unwind_arch.specs.declared.x86_64.Context.{Context}
 use Rattle.stack_deliver.specs.declared.delivery.DeliverError.{DeliverError}
-use Rattle.stack_deliver.specs.Contexts.{columns_of, with_column}
+use Rattle.unwind_arch.specs.Contexts.{columns_of, with_column}
 use Rattle.stack_deliver.specs.Stepping.{refusal_of}
 
 abbrev pub or_unsupported : Option Context → Result Context StepFault

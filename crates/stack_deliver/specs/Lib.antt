@@ -1,5 +1,4 @@
 pub mod Applied
-pub mod Contexts
 pub mod Delivering
 pub mod Modules
 pub mod Nearest

@@ -14,14 +14,14 @@ use Rattle.unwind_definitions.specs.Caller.{Columns, Evaluates, StepFault, x86_6
 use Rattle.unwind_definitions.specs.Caller as calls
 use Rattle.eh_frame.specs.RowValue.{RowValue}
 use Rattle.eh_frame.specs.Rows.{IsRowOf}
-use Rattle.stack_deliver.specs.declared.x86_64.Context.{Context}
+use Rattle.unwind_arch.specs.declared.x86_64.Context.{Context}
 use Rattle.stack_deliver.specs.declared.delivery.Stepped.{Stepped}
 use Rattle.stack_deliver.specs.declared.delivery.DeliverError.{DeliverError}
 use Rattle.stack_deliver.specs.declared.delivery.DeliverError.TheVariants.{Table, Unmapped}
 use Rattle.stack_deliver.specs.declared.space.FrameInfoKind.{FrameInfoKind}
 use Rattle.stack_deliver.specs.declared.space.FrameInfoKind.TheVariants.{EhFrame, EhFrameHdr}
 use Rattle.stack_deliver.specs.declared.space.Module.{Module}
-use Rattle.stack_deliver.specs.Contexts.{columns_of, context_of}
+use Rattle.unwind_arch.specs.Contexts.{columns_of, context_of}
 use Rattle.stack_deliver.specs.Modules.{SpaceValue, module_at}
 use Rattle.stack_deliver.specs.Processes.{module_of}
 

@@ -9,10 +9,10 @@ use Rattle.unwind_definitions.specs.Function.{Function, IsFunction}
 use Rattle.unwind_definitions.specs.Module.{Module, Process, header_of}
 use Rattle.unwind_definitions.specs.Chain.{Call, IsCalled}
 use Rattle.unwind_definitions.specs.Valid.{LiesDescribed}
-use Rattle.stack_deliver.specs.declared.x86_64.Context.{Context}
+use Rattle.unwind_arch.specs.declared.x86_64.Context.{Context}
 use Rattle.stack_deliver.specs.declared.delivery.DeliverError.{DeliverError}
 use Rattle.stack_deliver.specs.declared.delivery.Stepped.{Stepped}
-use Rattle.stack_deliver.specs.Contexts.{columns_of}
+use Rattle.unwind_arch.specs.Contexts.{columns_of}
 
 -- each module names its frame table itself, and no header table
 abbrev pub HaveFrameTables : Process → Type 0

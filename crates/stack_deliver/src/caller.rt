@@ -5,14 +5,14 @@ ghost use Rattle.eh_frame.specs.Left.{left};
 ghost use Rattle.eh_frame.specs.Rows.{IsRowOf};
 ghost use Rattle.unwind_definitions.specs.Row.{Run};
 ghost use Rattle.unwind_definitions.specs.Caller.{x86_64, rule_value, cfa_value, caller_of, word_or_fault, held};
-ghost use Rattle.stack_deliver.specs.Contexts.{columns_of};
+ghost use Rattle.unwind_arch.specs.Contexts.{columns_of};
 ghost use Rattle.stack_deliver.specs.Stepping.{no_expressions, context_by};
 ghost use Rattle.stack_deliver.specs.Applied.{applied, rule_applied, value_given};
 
 use crate::delivery::DeliverError;
-use crate::x86_64::Context;
-use eh_frame::{CfaRule, Error, Register, RegisterRule, Registers, Row};
+use eh_frame::{CfaRule, Error, Register, RegisterMap, RegisterRule, Registers, Row};
 use memory_image::MemoryImage;
+use unwind_arch::x86_64::Context;
 
 /// The column of RSP.
 const STACK_POINTER: usize = 7;
@@ -122,8 +122,12 @@ pub(crate) fn caller(
     ensures { (run : Run) → IsRowOf row.now run → result ≡ context_by (caller_of x86_64 no_expressions image.now (columns_of context.now) run) }
 {
     let cfa = cfa(context, row.cfa())?;
-    let mut begun = *context;
-    begun.registers[STACK_POINTER] = cfa;
-    begun.ra = 0;
+    let mut registers = context.registers;
+    registers[STACK_POINTER] = cfa;
+    let begun = Context {
+        registers,
+        ra: 0,
+        ..*context
+    };
     applied(image, context, cfa, row.registers(), begun)
 }

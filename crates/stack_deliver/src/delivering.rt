@@ -7,9 +7,9 @@ use crate::delivery::{DeliverError, Delivery, Outcome};
 use crate::resumes::Resumes;
 use crate::space::Space;
 use crate::stepping::step;
-use crate::x86_64::Context;
 use memory_image::{NoLedger, Steps};
 use std::alloc::Global;
+use unwind_arch::x86_64::Context;
 
 /// The contexts from the start outwards, of which there may be at most `limit`.
 fn line(

@@ -2,10 +2,10 @@
 ghost use Rattle.std.specs.Prelude.{◌≡◌, length, slice_get};
 ghost use Rattle.stack_deliver.specs.declared.delivery.DeliverError.TheVariants.{NoMemory};
 
-use crate::x86_64::Context;
 use eh_frame::Error;
 use std::alloc::AllocFailed;
 use std::marker::Model;
+use unwind_arch::x86_64::Context;
 
 /// A cleanup that ran.
 #[derive(Clone, Copy, Debug, PartialEq, Eq)]

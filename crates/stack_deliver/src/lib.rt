@@ -9,7 +9,6 @@ mod delivery;
 mod resumes;
 mod space;
 mod stepping;
-pub mod x86_64;
 
 pub use delivering::deliver;
 pub use delivery::{DeliverError, Delivery, Outcome, Stepped, Trail};
@@ -17,4 +16,4 @@ pub use eh_frame::Error;
 pub use resumes::{Resumes, first_entry_counts};
 pub use space::{FrameInfo, FrameInfoKind, Module, Space, SpaceError};
 pub use stepping::step;
-pub use x86_64::Context;
+pub use unwind_arch::x86_64::Context;

@@ -7,7 +7,7 @@ ghost use Rattle.unwind_definitions.specs.Forms.{plain};
 ghost use Rattle.unwind_definitions.specs.Function.{Function};
 ghost use Rattle.unwind_definitions.specs.Chain.{Call};
 ghost use Rattle.eh_frame.specs.Views.{bases_of, table_of};
-ghost use Rattle.stack_deliver.specs.Contexts.{columns_of};
+ghost use Rattle.unwind_arch.specs.Contexts.{columns_of};
 ghost use Rattle.stack_deliver.specs.Modules.{AreApart};
 ghost use Rattle.stack_deliver.specs.Processes.{process_of};
 ghost use Rattle.stack_deliver.specs.Stepping.{FindsRow, run_found, in_module, step_of, EndsAt};
@@ -16,9 +16,9 @@ ghost use Rattle.stack_deliver.specs.Undone.{HaveFrameTables, IsDescribedCall, U
 use crate::caller::caller;
 use crate::delivery::{DeliverError, Stepped};
 use crate::space::{FrameInfoKind, Module, Space};
-use crate::x86_64::Context;
 use eh_frame::{Bases, EhFrame, Error, Row};
 use memory_image::{Ledger, MemoryImage, Steps};
+use unwind_arch::x86_64::Context;
 
 /// The row at an address, `None` where no description contains it.
 fn row_at<'a>(frame: &EhFrame<'a>, bases: &Bases, address: u64) -> Result<Option<Row<'a>>, Error>

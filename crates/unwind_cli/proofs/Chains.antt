@@ -16,11 +16,11 @@ use Rattle.unwind_definitions.specs.Delivery as described
 use Rattle.unwind_definitions.specs.Valid.{IsDescribedChain, IsValid}
 use Rattle.unwind_laws.proofs.Booleans as lists
 use Rattle.unwind_laws.proofs.Walk.{valid_described}
-use Rattle.stack_deliver.specs.declared.x86_64.Context.{Context}
+use Rattle.unwind_arch.specs.declared.x86_64.Context.{Context}
 use Rattle.stack_deliver.specs.declared.space.Module.{Module}
 use Rattle.stack_deliver.specs.declared.space.SpaceError.TheVariants.{Wraps, Overlap}
 use Rattle.stack_deliver.specs.declared.delivery.Outcome.TheVariants.{EndOfStack}
-use Rattle.stack_deliver.specs.Contexts.{columns_of}
+use Rattle.unwind_arch.specs.Contexts.{columns_of}
 use Rattle.stack_deliver.specs.Modules.{SpaceValue, AreApart, lowest_shared, module_refusal, with_module}
 use Rattle.stack_deliver.specs.Processes.{process_of}
 use Rattle.stack_deliver.specs.Delivering.{Delivered, delivery_of, line_of}

@@ -6,7 +6,7 @@ use Rattle.unwind_definitions.specs.State.{State}
 use Rattle.unwind_definitions.specs.Function.{Function}
 use Rattle.unwind_definitions.specs.Chain.{Call}
 use Rattle.unwind_definitions.specs.Valid.{IsValid}
-use Rattle.stack_deliver.specs.Contexts.{columns_of}
+use Rattle.unwind_arch.specs.Contexts.{columns_of}
 use Rattle.stack_deliver.specs.Processes.{process_of}
 use Rattle.stack_deliver.specs.Undone.{HaveFrameTables}
 use Rattle.unwind_cli.specs.Content.{Content, space_of}

@@ -1,7 +1,7 @@
 use Rattle.std.proofs.Common.{◌≡◌, Ok, sym, ap, ◌∙◌, arith}
 use Rattle.unwind_definitions.specs.Row.{CfaRule}
 use Rattle.unwind_definitions.specs.Caller.{cfa_value}
-use Rattle.stack_deliver.specs.Contexts.{columns_of}
+use Rattle.unwind_arch.specs.Contexts.{columns_of}
 use Rattle.stack_deliver.specs.Applied.{value_given}
 use Rattle.stack_deliver.specs.Stepping.{no_expressions}
 use Rattle.stack_deliver.proofs.Callers.{row_caller}

@@ -4,7 +4,7 @@ use Rattle.unwind_definitions.specs.State.{CalleeSaved, RBX, RBP, R12, R13, R14,
 use Rattle.unwind_definitions.specs.Forms.{plain}
 use Rattle.unwind_laws.specs.Pushing.{start}
 use Rattle.unwind_laws.proofs.PushingValid.{one_valid, reads_plain}
-use Rattle.stack_deliver.specs.Contexts.{columns_of}
+use Rattle.unwind_arch.specs.Contexts.{columns_of}
 use Rattle.unwind_cli.specs.Digits.{hexadecimal}
 use Rattle.unwind_cli.specs.Sample.{snapshot}
 use Rattle.unwind_cli.specs.Report.{state_fields, state_line}

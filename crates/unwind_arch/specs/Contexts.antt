@@ -2,7 +2,7 @@
 use Rattle.std.specs.Prelude.{ℕ, ◌==◌, List, [], ◌∷◌, Option, Some, None, nat_lt, map, slice_index, slice_set, if◌then◌else◌}
 use Rattle.std.specs.Option.{unwrap_or}
 use Rattle.unwind_definitions.specs.Caller.{Columns}
-use Rattle.stack_deliver.specs.declared.x86_64.Context.{Context}
+use Rattle.unwind_arch.specs.declared.x86_64.Context.{Context}
 
 -- what a context holds in a column
 abbrev pub columns_of : Context → Columns

@@ -1,0 +1,104 @@
+//! The machine x86-64. Columns are those of the System V x86-64 psABI, table of DWARF register
+//! numbers.
+
+ghost use Rattle.std.specs.Prelude.{◌≡◌, ◌≢◌, ℕ, Some, is_some, OnSome, IfNone, refl};
+ghost use Rattle.unwind_arch.specs.Contexts.{columns_of, with_column, written};
+
+use crate::machine::Machine;
+use eh_frame::{Register, RegisterMap};
+
+/// The most rules that a row of call frame information needs on this machine.
+pub const MAX_REG_RULES: usize = 17;
+
+/// The registers of an x86-64 machine at one instruction.
+///
+/// The columns are those of the psABI's table of DWARF register numbers: RAX, RDX, RCX, RBX, RSI,
+/// RDI, RBP and RSP are 0 to 7, and R8 to R15 are 8 to 15. Each register is a word of 64 bits.
+#[derive(Clone, Copy, Debug, Default, PartialEq, Eq)]
+pub struct Context {
+    /// The sixteen general registers by their columns.
+    pub registers: [u64; 16],
+    /// Column 16: the return address, or the instruction pointer.
+    pub ra: u64,
+    /// Column 64: the control and status register of the vector unit.
+    pub mcxsr: u64,
+    /// Column 65: the control word of the floating-point unit.
+    pub fcw: u64,
+}
+
+impl RegisterMap for Context {
+    type Word = u64;
+
+    ghost columns = { columns_of };
+
+    /// What a column holds. `None` exactly where the number is none of 0 to 16, 64 and 65.
+    fn get(&self, register: Register) -> Option<u64>
+        ensures { result ≡ columns_of self.now register.0 }
+    {
+        match register.0 {
+            0..16 => Some(self.registers[register.0 as usize]),
+            16 => Some(self.ra),
+            64 => Some(self.mcxsr),
+            65 => Some(self.fcw),
+            _ => None,
+        }
+    }
+
+    /// Writes a column. `None`, and nothing is written, exactly where the number is none of 0 to
+    /// 16, 64 and 65.
+    fn set(&mut self, register: Register, value: u64) -> Option<()>
+        ensures context { written result self.new ≡ with_column self.old register.0 value }
+        ensures found { is_some result ≡ is_some (columns_of self.old register.0) }
+        ensures holds { OnSome result (columns_of self.new register.0 ≡ Some value) }
+        ensures others { OnSome result ((k : ℕ) → k ≢ register.0 → columns_of self.new k ≡ columns_of self.old k) }
+        ensures unchanged { IfNone result (self.new ≡ self.old) }
+    {
+        match register.0 {
+            0..16 => self.registers[register.0 as usize] = value,
+            16 => self.ra = value,
+            64 => self.mcxsr = value,
+            65 => self.fcw = value,
+            _ => return None,
+        }
+        Some(())
+    }
+}
+
+/// The columns of x86-64 that unwinding needs to know.
+#[derive(Clone, Copy, Debug, PartialEq, Eq)]
+pub struct Arch;
+
+impl Arch {
+    /// RSP, the stack pointer.
+    pub const SP: Register = Register(7);
+    /// The return address.
+    pub const RA: Register = Register(16);
+    /// RAX and RDX, which hand a landing pad the exception and the selector.
+    pub const UNWIND_DATA_REG: (Register, Register) = (Register(0), Register(1));
+    /// How many words of an exception the unwinder keeps to itself.
+    pub const UNWIND_PRIVATE_DATA_SIZE: usize = 6;
+}
+
+impl Machine for Arch {
+    type Context = Context;
+
+    const SP: Register = Arch::SP;
+
+    const RA: Register = Arch::RA;
+
+    const UNWIND_DATA_REG: (Register, Register) = Arch::UNWIND_DATA_REG;
+
+    ghost SP = { record { 0 = 7 } };
+
+    ghost RA = { record { 0 = 16 } };
+
+    ghost UNWIND_DATA_REG = { (record { 0 = 0 }, record { 0 = 1 }) };
+
+    ghost has_sp = { λ c. refl };
+
+    ghost has_ra = { λ c. refl };
+
+    ghost has_exception = { λ c. refl };
+
+    ghost has_selector = { λ c. refl };
+}
