@@ -42,3 +42,7 @@ measure region 20000000
 measure regions 100000
 measure modules 100000
 measure resumes 100000
+
+# A line of the report: a limit of one state less refuses what was stepped, and writes no lines.
+measure frames 10000 10001
+measure frames 10000 10000

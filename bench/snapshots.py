@@ -6,6 +6,7 @@
     snapshots.py regions N     the same with N more regions of 16 bytes, by descending address
     snapshots.py modules N     the same with N more modules of 16 addresses, by descending address
     snapshots.py resumes N     the same with N return addresses
+    snapshots.py frames N L    N frames of one function, with addresses of twelve digits, and the limit L
 """
 import random
 import sys
@@ -25,8 +26,29 @@ def module(start, end, table):
     return '{"kind":"elf","start":"%#x","end":"%#x","eh_frame":"%#x"}' % (start, end, table)
 
 
+def frames(count, limit):
+    """A stack of so many frames: each holds a word for RBX and the return address."""
+    code, stack = 0x555555554000, 0x7FFD00000000
+    word = (0x7FFE12345678).to_bytes(8, "little").hex()
+    back = (code + 6).to_bytes(8, "little").hex()
+    slots = (count - 1) * (word + back) + word + 16 * "0"
+    registers = ["rbx", "rbp", "r12", "r13", "r14", "r15"]
+    start = ",".join('"%s":"0x7ffe12345678"' % name for name in registers)
+    return '{"regions":[%s],"modules":[%s],"start":{"rip":"%#x","rsp":"%#x",%s},"limit":%d}' % (
+        ",".join([region(code + 0xFF000, TABLE), region(stack, slots)]),
+        module(code, code + 0x10, code + 0xFF000),
+        code + 6,
+        stack,
+        start,
+        limit,
+    )
+
+
 def main():
     kind = sys.argv[1]
+    if kind == "frames":
+        print(frames(int(sys.argv[2]), int(sys.argv[3])), end="")
+        return
     count = int(sys.argv[2]) if len(sys.argv) > 2 else 0
     random.seed(1)
     regions = [region(0x500000, TABLE), region(0x7000, "05" + 15 * "00")]
