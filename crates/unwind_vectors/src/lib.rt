@@ -8,3 +8,5 @@ mod macho;
 mod macho_linked;
 #[cfg(test)]
 mod pe;
+#[cfg(test)]
+mod resumes;

@@ -1,6 +1,7 @@
 // Worked examples of compact unwinding.
 use macho_unwind_info::opcodes::{
-    OpcodeArm64, OpcodeX86, OpcodeX86_64, RegisterNameX86, RegisterNameX86_64, decode_permutation_6,
+    OpcodeArm64, OpcodeBitfield, OpcodeX86, OpcodeX86_64, RegisterNameX86, RegisterNameX86_64,
+    decode_permutation_6,
 };
 use macho_unwind_info::raw::consts::OPCODE_KIND_ARM64_DWARF;
 use macho_unwind_info::raw::{CompressedFunctionEntry, U32};
@@ -199,5 +200,16 @@ fn errors_are_printed(rt: HostRuntime) -> Result<(), Fail> {
         let text = error.to_string(rt.alloc())?;
         assert_eq!(rt; text.as_str(), *expected);
     }
+    Ok(())
+}
+
+#[test]
+fn opcode_bits_are_printed(rt: HostRuntime) -> Result<(), Fail> {
+    let bits = OpcodeBitfield::new(0xd400_0005);
+    let text = format!(in rt.alloc(); "{bits:?}")?;
+    assert_eq!(rt;
+        text.as_str(),
+        "Opcode { kind: 4, is_function_start: true, has_lsda: true, personality_index: 1, specific_bits: 101 }"
+    );
     Ok(())
 }

@@ -392,3 +392,22 @@ fn images_are_searched_by_section(rt: HostRuntime) -> Result<(), Fail> {
     );
     Ok(())
 }
+
+#[test]
+fn errors_are_printed(rt: HostRuntime) -> Result<(), Fail> {
+    for (error, expected) in &[
+        (InstructionParseError::NotEnoughData, "not enough data"),
+        (
+            InstructionParseError::InvalidInstruction,
+            "invalid instruction found",
+        ),
+        (
+            InstructionParseError::TooManyInstructions,
+            "too many instructions for epilog",
+        ),
+    ] {
+        let text = error.to_string(rt.alloc())?;
+        assert_eq!(rt; text.as_str(), *expected);
+    }
+    Ok(())
+}
