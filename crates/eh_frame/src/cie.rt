@@ -106,6 +106,14 @@ impl<'a> Cie<'a> {
         self.return_column
     }
 
+    /// Whether the functions of its descriptions are entered by a signal's delivery. No
+    /// augmentation that is read so far says so.
+    pub fn is_signal_trampoline(&self) -> bool
+        ensures { result ≡ (cie_of self.now).letters.signal }
+    {
+        false
+    }
+
     /// The instructions that the rows of each description begin with, in bytes.
     pub fn program(&self) -> &'a [u8]
         ensures { result.now ≡ (cie_of self.now).program.bytes }

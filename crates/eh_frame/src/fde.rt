@@ -84,6 +84,14 @@ impl<'a> Fde<'a> {
         self.len
     }
 
+    /// Whether the function's frame is one that a signal's delivery made, which its common
+    /// information entry says.
+    pub fn is_signal_trampoline(&self) -> bool
+        ensures { result ≡ (fde_of self.now).cie.letters.signal }
+    {
+        self.cie.is_signal_trampoline()
+    }
+
     /// The instructions of the function's rows, behind those of the common information entry, in
     /// bytes.
     pub fn program(&self) -> &'a [u8]

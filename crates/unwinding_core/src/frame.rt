@@ -1,0 +1,264 @@
+//! A frame of the stack: the description of its function, and the row by which its caller is found.
+//! DWARF 5 section 6.4.
+
+ghost use Rattle.std.specs.Prelude.{◌≡◌, ◌≢◌, ◌+◌, ◌%◌, ◌^◌, ℕ, Option, Some, None, Ok, IfOk, map, IfSome, IsTrue};
+ghost use Rattle.std.specs.Option.{unwrap_or};
+ghost use Rattle.unwind_definitions.specs.Row.{Run, covers_pc};
+ghost use Rattle.unwind_definitions.specs.Caller.{caller_of, rule_value, cfa_value, word_or_fault, held, unruled};
+ghost use Rattle.eh_frame.specs.Rules.{rule_meaning, cfa_meaning, entry_of};
+ghost use Rattle.eh_frame.specs.Left.{left};
+ghost use Rattle.eh_frame.specs.Rows.{IsRowOf};
+ghost use Rattle.eh_frame.specs.Views.{bases_of};
+ghost use Rattle.unwinding_core.specs.Finding.{FoundFde};
+ghost use Rattle.unwinding_core.specs.Answered.{answered};
+ghost use Rattle.unwinding_core.specs.Framed.{address_asked, GivesFrame, GivesRowOf};
+ghost use Rattle.unwinding_core.specs.Calling.{no_expressions, machine_of, value_given, columns_given, applied, rule_applied};
+
+use crate::find_fde::{FDEFinder, FDESearchResult};
+use eh_frame::{Bases, CfaRule, Error, Register, RegisterMap, RegisterRule, Registers, Row};
+use memory_image::{Ledger, MemoryImage, Steps};
+use std::marker::{Model, PhantomData};
+use unwind_arch::Machine;
+
+/// Why a frame can't be made or undone.
+#[derive(Clone, Copy, Debug, PartialEq, Eq)]
+pub enum StepError {
+    /// The row can't be read or run, or a register isn't the machine's.
+    Table(Error),
+    /// A word of memory that is read at this address isn't wholly mapped.
+    Unmapped(u64),
+}
+
+impl From<Error> for StepError {
+    ghost use Rattle.unwinding_core.specs.declared.frame.StepError.TheVariants.{Table};
+
+    ghost from_gives = { λ e r. r ≡ Table e };
+
+    fn from(e: Error) -> StepError {
+        StepError::Table(e)
+    }
+}
+
+const UNSUPPORTED: StepError = StepError::Table(Error::UnsupportedRegister);
+
+const UNKNOWN: StepError = StepError::Table(Error::UnknownInstruction);
+
+/// A frame of a machine's stack: the description of the function that it runs, and the row at its
+/// address.
+///
+/// Contracts see what was found and the row.
+#[derive(Drop)]
+pub struct Frame<'a, M: Machine> {
+    fde_result: FDESearchResult<'a>,
+    row: Row<'a>,
+    machine: PhantomData<M>,
+}
+
+impl<'a, M: Machine> Model for Frame<'a, M> {
+    ghost use Rattle.unwinding_core.specs.FrameValue.{FrameValue};
+    ghost use Rattle.unwinding_core.specs.Answered.{answered};
+
+    ghost Value = { FrameValue };
+
+    ghost view = { λ f. record { found = answered f.fde_result; row = f.row } };
+}
+
+impl<'a, M: Machine> Frame<'a, M> {
+    /// The frame whose registers are `context`, `None` at the end of the stack.
+    ///
+    /// The address asked is the return address where `signal` is true, for then the frame stands
+    /// at that instruction. Else it is the return address less one: behind a call that is a byte of
+    /// the call, which may be the last of its function. The stack ends where the return address is
+    /// 0, and where the finder finds nothing. The finder is asked once at most, and steps are
+    /// counted there alone.
+    ///
+    /// # Errors
+    ///
+    /// `Table` with the first fault of the row at the address asked.
+    pub fn from_context<F: FDEFinder, L: Ledger>(
+        image: &MemoryImage<'a>,
+        finder: &F,
+        context: &M::Context,
+        signal: bool,
+        steps: &mut Steps<L>,
+    ) -> Result<Option<Frame<'a, M>>, StepError>
+        ensures ends { M.Context.columns context.now M.RA.0 ≡ Some 0 → (result ≡ Ok None) × (steps.new.number ≡ steps.old.number) }
+        ensures frame { (ra : ℕ) → M.Context.columns context.now M.RA.0 ≡ Some ra → ra ≢ 0 →
+            (answer : Option FoundFde) × (ticks : ℕ) × (steps.new.number ≡ steps.old.number + ticks) × F.finds finder.now image.now (address_asked ra signal) answer ticks × GivesFrame (address_asked ra signal) answer result }
+        ensures contains { (ra : ℕ) → M.Context.columns context.now M.RA.0 ≡ Some ra →
+            IfOk result (λ frame. IfSome frame (λ f. IsTrue (covers_pc f.found.fde (address_asked ra signal)))) }
+    {
+        let ra = context.get(M::RA).unwrap_or(0);
+        if ra == 0 {
+            return Ok(None);
+        }
+        let address = if signal { ra } else { ra - 1 };
+        match finder.find_fde(image, address, steps) {
+            None => Ok(None),
+            Some(fde_result) => Ok(Some(Frame::at(fde_result, address)?)),
+        }
+    }
+
+    // The frame of a description, at an address.
+    fn at(fde_result: FDESearchResult<'a>, address: u64) -> Result<Frame<'a, M>, Error>
+        ensures { GivesRowOf result (answered fde_result.entry) address }
+    {
+        let row =
+            fde_result
+                .fde
+                .unwind_info_for_address(&fde_result.eh_frame, &fde_result.bases, address)?;
+        Ok(Frame {
+            fde_result,
+            row,
+            machine: PhantomData,
+        })
+    }
+
+    /// The registers of the frame's caller, from the frame's own.
+    ///
+    /// The stack pointer becomes the canonical frame address and the return address 0; then each
+    /// rule of the row gives its register a value from `context`. A register without a rule keeps
+    /// its value, and one whose rule is `Undefined` becomes 0.
+    ///
+    /// # Errors
+    ///
+    /// The first fault: that of the canonical frame address, or else of the lowest column. `Table`
+    /// where a column isn't the machine's or an expression would have to be evaluated, `Unmapped`
+    /// with the address of a slot that isn't wholly mapped.
+    pub fn unwind(
+        &self,
+        image: &MemoryImage<'a>,
+        context: &M::Context,
+    ) -> Result<M::Context, StepError>
+        ensures caller { (run : Run) → IsRowOf self.now.row run →
+            columns_given M.Context.columns result ≡ caller_of (machine_of M.SP.0 M.RA.0) no_expressions image.now (M.Context.columns context.now) run }
+    {
+        let cfa = cfa::<M>(context, self.row.cfa())?;
+        let mut begun = *context;
+        begun.set(M::RA, 0);
+        begun.set(M::SP, cfa);
+        applied::<M>(image, context, cfa, self.row.registers(), begun)
+    }
+
+    /// Takes the arguments that the frame's callee removes off the stack of `context`: their size
+    /// is added to the stack pointer, and wraps at 2^64.
+    pub fn adjust_stack_for_args(&self, context: &mut M::Context)
+        ensures sp { (sp : ℕ) → M.Context.columns context.old M.SP.0 ≡ Some sp → M.Context.columns context.new M.SP.0 ≡ Some ((sp + self.now.row.saved_args_size) % 2 ^ 64) }
+        ensures others { (k : ℕ) → k ≢ M.SP.0 → M.Context.columns context.new k ≡ M.Context.columns context.old k }
+    {
+        if let Some(sp) = context.get(M::SP) {
+            context.set(M::SP, sp.wrapping_add(self.row.saved_args_size()));
+        }
+    }
+
+    /// What the pointers of the description's table may be relative to.
+    pub fn bases(&self) -> Bases
+        ensures { bases_of result ≡ self.now.found.bases }
+    {
+        self.fde_result.bases
+    }
+
+    /// The address of the first byte of the function that the frame runs.
+    pub fn initial_address(&self) -> u64
+        ensures { result ≡ self.now.found.fde.start }
+    {
+        self.fde_result.fde.initial_address()
+    }
+
+    /// Whether the frame is one that a signal's delivery made: its caller stands before the
+    /// instruction at its return address and not behind a call.
+    pub fn is_signal_trampoline(&self) -> bool
+        ensures { result ≡ self.now.found.fde.cie.letters.signal }
+    {
+        self.fde_result.fde.is_signal_trampoline()
+    }
+}
+
+/// The word at an address, which has to be mapped.
+fn word_at(image: &MemoryImage<'_>, address: u64) -> Result<u64, StepError>
+    ensures { value_given result ≡ word_or_fault image.now address }
+{
+    match image.read_u64(address) {
+        Some(word) => Ok(word),
+        None => Err(StepError::Unmapped(address)),
+    }
+}
+
+/// What a column holds, which the machine has to have.
+fn held<M: Machine>(context: &M::Context, register: Register) -> Result<u64, StepError>
+    ensures { value_given result ≡ held (M.Context.columns context.now register.0) }
+{
+    match context.get(register) {
+        Some(value) => Ok(value),
+        None => Err(UNSUPPORTED),
+    }
+}
+
+/// The canonical frame address.
+fn cfa<M: Machine>(context: &M::Context, rule: CfaRule<'_>) -> Result<u64, StepError>
+    ensures { value_given result ≡ cfa_value no_expressions (M.Context.columns context.now) (cfa_meaning rule.entry) }
+{
+    match rule {
+        CfaRule::RegisterAndOffset { register, offset } => {
+            let value = held::<M>(context, register)?;
+            Ok(value.wrapping_add(offset))
+        }
+        CfaRule::Expression(_) => Err(UNKNOWN),
+    }
+}
+
+/// The value that a rule gives a column, from the canonical frame address and the frame's
+/// registers.
+fn ruled<M: Machine>(
+    image: &MemoryImage<'_>,
+    context: &M::Context,
+    cfa: u64,
+    register: Register,
+    rule: RegisterRule<'_>,
+) -> Result<u64, StepError>
+    ensures { value_given result ≡ rule_value no_expressions image.now (M.Context.columns context.now) cfa register.0 (rule_meaning rule.entry) }
+{
+    match rule {
+        RegisterRule::Undefined => Ok(0),
+        RegisterRule::SameValue => held::<M>(context, register),
+        RegisterRule::Offset(offset) => word_at(image, cfa.wrapping_add(offset)),
+        RegisterRule::ValOffset(offset) => Ok(cfa.wrapping_add(offset)),
+        RegisterRule::Register(other) => held::<M>(context, other),
+        RegisterRule::Expression(_) | RegisterRule::ValExpression(_) => Err(UNKNOWN),
+    }
+}
+
+/// Registers with the value that a rule gives a column.
+fn rule_applied<M: Machine>(
+    image: &MemoryImage<'_>,
+    context: &M::Context,
+    cfa: u64,
+    register: Register,
+    rule: RegisterRule<'_>,
+    mut caller: M::Context,
+) -> Result<M::Context, StepError>
+    ensures { columns_given M.Context.columns result ≡ rule_applied no_expressions image.now (M.Context.columns context.now) cfa (entry_of (register, rule.entry)) (M.Context.columns caller) }
+{
+    let value = ruled::<M>(image, context, cfa, register, rule)?;
+    match caller.set(register, value) {
+        Some(()) => Ok(caller),
+        None => Err(UNSUPPORTED),
+    }
+}
+
+/// Registers with the values that a row's rules give their columns.
+fn applied<M: Machine>(
+    image: &MemoryImage<'_>,
+    context: &M::Context,
+    cfa: u64,
+    rules: Registers<'_, '_>,
+    begun: M::Context,
+) -> Result<M::Context, StepError>
+    ensures { columns_given M.Context.columns result ≡ applied no_expressions image.now (M.Context.columns context.now) cfa (map entry_of (left rules.entry)) (M.Context.columns begun) }
+{
+    let mut caller = begun;
+    for (register, rule) in rules {
+        caller = rule_applied::<M>(image, context, cfa, register, rule, caller)?;
+    }
+    Ok(caller)
+}
