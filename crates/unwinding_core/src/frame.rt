@@ -88,11 +88,24 @@ impl<'a, M: Machine> Frame<'a, M> {
         ensures contains { (ra : ℕ) → M.Context.columns context.now M.RA.0 ≡ Some ra →
             IfOk result (λ frame. IfSome frame (λ f. IsTrue (covers_pc f.found.fde (address_asked ra signal)))) }
     {
-        let ra = context.get(M::RA).unwrap_or(0);
+        let ra = return_address::<M>(context);
         if ra == 0 {
             return Ok(None);
         }
+        // A byte of the call is asked, for what follows a call may be another function.
         let address = if signal { ra } else { ra - 1 };
+        Frame::found(image, finder, address, steps)
+    }
+
+    // The frame of the description that a finder answers for an address.
+    fn found<F: FDEFinder, L: Ledger>(
+        image: &MemoryImage<'a>,
+        finder: &F,
+        address: u64,
+        steps: &mut Steps<L>,
+    ) -> Result<Option<Frame<'a, M>>, StepError>
+        ensures frame { (answer : Option FoundFde) × (ticks : ℕ) × (steps.new.number ≡ steps.old.number + ticks) × F.finds finder.now image.now address answer ticks × GivesFrame address answer result }
+    {
         match finder.find_fde(image, address, steps) {
             None => Ok(None),
             Some(fde_result) => Ok(Some(Frame::at(fde_result, address)?)),
@@ -133,11 +146,7 @@ impl<'a, M: Machine> Frame<'a, M> {
         ensures caller { (run : Run) → IsRowOf self.now.row run →
             columns_given M.Context.columns result ≡ caller_of (machine_of M.SP.0 M.RA.0) no_expressions image.now (M.Context.columns context.now) run }
     {
-        let cfa = cfa::<M>(context, self.row.cfa())?;
-        let mut begun = *context;
-        begun.set(M::RA, 0);
-        begun.set(M::SP, cfa);
-        applied::<M>(image, context, cfa, self.row.registers(), begun)
+        caller::<M>(image, context, &self.row)
     }
 
     /// Takes the arguments that the frame's callee removes off the stack of `context`: their size
@@ -174,6 +183,27 @@ impl<'a, M: Machine> Frame<'a, M> {
     }
 }
 
+/// The return address.
+fn return_address<M: Machine>(context: &M::Context) -> u64
+    ensures { M.Context.columns context.now M.RA.0 ≡ Some result }
+{
+    context.get(M::RA).unwrap_or(0)
+}
+
+/// The registers of the caller of the frame whose registers are `context`, by its row.
+fn caller<M: Machine>(
+    image: &MemoryImage<'_>,
+    context: &M::Context,
+    row: &Row<'_>,
+) -> Result<M::Context, StepError>
+    ensures { (run : Run) → IsRowOf row.now run →
+        columns_given M.Context.columns result ≡ caller_of (machine_of M.SP.0 M.RA.0) no_expressions image.now (M.Context.columns context.now) run }
+{
+    let cfa = cfa::<M>(context, row.cfa())?;
+    let before = begun::<M>(context, cfa);
+    applied::<M>(image, context, cfa, row.registers(), before)
+}
+
 /// The word at an address, which has to be mapped.
 fn word_at(image: &MemoryImage<'_>, address: u64) -> Result<u64, StepError>
     ensures { value_given result ≡ word_or_fault image.now address }
@@ -205,6 +235,17 @@ fn cfa<M: Machine>(context: &M::Context, rule: CfaRule<'_>) -> Result<u64, StepE
         }
         CfaRule::Expression(_) => Err(UNKNOWN),
     }
+}
+
+/// The caller's registers before any rule is applied: the stack pointer is the canonical frame
+/// address, and the return address 0.
+fn begun<M: Machine>(context: &M::Context, cfa: u64) -> M::Context
+    ensures { M.Context.columns result ≡ unruled (machine_of M.SP.0 M.RA.0) (M.Context.columns context.now) cfa }
+{
+    let mut caller = *context;
+    caller.set(M::RA, 0);
+    caller.set(M::SP, cfa);
+    caller
 }
 
 /// The value that a rule gives a column, from the canonical frame address and the frame's
