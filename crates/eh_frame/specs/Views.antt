@@ -1,7 +1,6 @@
 -- The code's records as those of the definitions.
 use Rattle.std.specs.Prelude.{ℕ, Some, None, false}
 use Rattle.unwind_definitions.specs.Entries.{Letters, Cie, Fde, Entry, ACie, AFde, Found}
-use Rattle.encoded_pointers.specs.declared.bases.Bases.{Bases as CodeBases}
 use Rattle.eh_frame.specs.declared.cie.Cie.{Cie as CodeCie}
 use Rattle.eh_frame.specs.declared.fde.Fde.{Fde as CodeFde}
 use Rattle.eh_frame.specs.declared.entries.EhFrame.{EhFrame}

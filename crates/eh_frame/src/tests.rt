@@ -48,7 +48,10 @@ fn the_row_of_a_description(rt: HostRuntime) -> Result<(), Fail> {
             offset: 16
         }
     );
-    assert_eq!(rt; row.register(Register(3)), Some(RegisterRule::Offset(0u64.wrapping_sub(16))));
+    assert_eq!(rt;
+        row.register(Register(3)),
+        Some(RegisterRule::Offset(0u64.wrapping_sub(16)))
+    );
     assert_eq!(rt; row.registers().count(), 2);
     let outside = fde.unwind_info_for_address(&table, &bases, 0x401010);
     assert_eq!(rt; outside.err(), Some(Error::NoUnwindInfoForAddress));

@@ -66,8 +66,9 @@ fn shows(rt: &impl Abort, row: Row, offset: u64, saved: &[(Register, u64)]) {
 fn rows_of_a_push(rt: HostRuntime) -> Result<(), Fail> {
     let start = 0x401000;
     shows(&rt, row_of(&PUSH, start, 0x401000)?, 8, &[(RA, 8)]);
-    shows(&rt, row_of(&PUSH, start, 0x401001)?, 16, &[(RBX, 16), (RA, 8)]);
-    shows(&rt, row_of(&PUSH, start, 0x401005)?, 16, &[(RBX, 16), (RA, 8)]);
+    let saved = [(RBX, 16), (RA, 8)];
+    shows(&rt, row_of(&PUSH, start, 0x401001)?, 16, &saved);
+    shows(&rt, row_of(&PUSH, start, 0x401005)?, 16, &saved);
     Ok(())
 }
 
