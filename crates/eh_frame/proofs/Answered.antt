@@ -9,7 +9,7 @@ use Rattle.unwind_definitions.specs.Pointers.{Bases}
 use Rattle.unwind_definitions.specs.Row.{covers_pc}
 use Rattle.unwind_definitions.specs.Scan.{scan}
 use Rattle.eh_frame.specs.declared.fde.Fde.{Fde}
-use Rattle.eh_frame.specs.Readers.{Answers}
+use Rattle.encoded_pointers.specs.Readers.{Answers}
 use Rattle.eh_frame.specs.Search.{IsFirst, IsUnreadable, IsUncovered}
 use Rattle.eh_frame.specs.Views.{fde_of}
 use Rattle.eh_frame.proofs.Faults.{other_entry_at}

@@ -1,4 +1,3 @@
-mod Leb
 mod CieParts
 mod FdeParts
 mod EntryParts
@@ -7,10 +6,4 @@ mod Ahead
 mod Searching
 mod Faults
 mod Answered
-mod RuleLists
-mod Pushed
-mod Columns
-mod Steps
-mod CannotFollow
-mod Reading
-mod Together
+mod Described

@@ -1,10 +1,2 @@
-pub mod Readers
-pub mod View
 pub mod Views
 pub mod Search
-pub mod Rules
-pub mod Running
-pub mod Decoded
-pub mod RowValue
-pub mod Rows
-pub mod Left

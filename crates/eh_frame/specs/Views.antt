@@ -1,8 +1,6 @@
 -- The code's records as those of the definitions.
 use Rattle.std.specs.Prelude.{ℕ, Some, None, false}
-use Rattle.unwind_definitions.specs.Pointers.{Bases}
 use Rattle.unwind_definitions.specs.Entries.{Letters, Cie, Fde, Entry, ACie, AFde, Found}
-use Rattle.eh_frame.specs.declared.bases.Bases.{Bases as CodeBases}
 use Rattle.eh_frame.specs.declared.cie.Cie.{Cie as CodeCie}
 use Rattle.eh_frame.specs.declared.fde.Fde.{Fde as CodeFde}
 use Rattle.eh_frame.specs.declared.entries.EhFrame.{EhFrame}
@@ -10,10 +8,7 @@ use Rattle.eh_frame.specs.declared.entries.Entry.{Entry as CodeEntry}
 use Rattle.eh_frame.specs.declared.entries.Entry.TheVariants as entries
 use Rattle.eh_frame.specs.declared.entries.Found.{Found as CodeFound}
 use Rattle.unwind_definitions.specs.Input.{Input}
-use Rattle.eh_frame.specs.View.{at}
-
-abbrev pub bases_of : CodeBases → Bases
-bases_of b = record { text = b.text; data_base = b.data_base; func = b.func; hdr = b.hdr; frame = b.frame }
+use Rattle.encoded_pointers.specs.View.{at}
 
 -- what the augmentation zR says, with the encoding of addresses
 abbrev pub plain_letters : ℕ → Letters

@@ -6,15 +6,13 @@ ghost use Rattle.std.specs.Int.{w64, cast_unsigned};
 ghost use Rattle.unwind_definitions.specs.Forms.{plain, is_plain_augmentation};
 ghost use Rattle.unwind_definitions.specs.Pointers.{Bases};
 ghost use Rattle.unwind_definitions.specs.Entries.{cie_body, augmentation_data, address_encoding, coding_of};
-ghost use Rattle.eh_frame.specs.Decoded.{coding_by};
-ghost use Rattle.eh_frame.specs.Readers.{Gives, GivesOr, Answers};
-ghost use Rattle.eh_frame.specs.View.{at};
+ghost use Rattle.frame_rows.specs.Decoded.{coding_by};
+ghost use Rattle.encoded_pointers.specs.Readers.{Gives, GivesOr, Answers};
+ghost use Rattle.encoded_pointers.specs.View.{at};
 ghost use Rattle.eh_frame.specs.Views.{cie_of, plain_letters};
 
-use crate::cursor::Cursor;
-use crate::encoding::read_encoding;
-use crate::instruction::AlignmentFactors;
-use crate::register::Register;
+use encoded_pointers::{Cursor, read_encoding};
+use frame_rows::{AlignmentFactors, Register};
 use unwind_definitions::Error;
 
 /// A common information entry (CIE): what the frame description entries that name it share.

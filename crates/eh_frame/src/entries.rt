@@ -9,15 +9,15 @@ ghost use Rattle.unwind_definitions.specs.Pointers.{Bases as KnownBases};
 ghost use Rattle.unwind_definitions.specs.Entries.{Fde as Described, body, cie_at, cie_in, entry_in, entry_at};
 ghost use Rattle.unwind_definitions.specs.Row.{covers_pc};
 ghost use Rattle.unwind_definitions.specs.Scan.{found_or, scan};
-ghost use Rattle.eh_frame.specs.Readers.{GivesOr, Answers};
+ghost use Rattle.encoded_pointers.specs.Readers.{GivesOr, Answers};
 ghost use Rattle.eh_frame.specs.Search.{IsFirst, IsUncovered, IsUnreadable};
-ghost use Rattle.eh_frame.specs.View.{at};
-ghost use Rattle.eh_frame.specs.Views.{bases_of, cie_of, fde_of, entry_of, found_of, table_of};
+ghost use Rattle.encoded_pointers.specs.View.{at};
+ghost use Rattle.encoded_pointers.specs.Pointers.{bases_of};
+ghost use Rattle.eh_frame.specs.Views.{cie_of, fde_of, entry_of, found_of, table_of};
 
-use crate::bases::Bases;
 use crate::cie::Cie;
-use crate::cursor::Cursor;
 use crate::fde::Fde;
+use encoded_pointers::{Bases, Cursor};
 use unwind_definitions::Error;
 
 /// A frame table: the bytes of `.eh_frame`.

@@ -5,18 +5,16 @@ ghost use Rattle.unwind_definitions.specs.Forms.{plain};
 ghost use Rattle.unwind_definitions.specs.Pointers.{Bases as KnownBases};
 ghost use Rattle.unwind_definitions.specs.Entries.{fde_body, fde_data};
 ghost use Rattle.unwind_definitions.specs.Row.{covers_pc, row_at};
-ghost use Rattle.eh_frame.specs.Readers.{GivesOr, Answers};
-ghost use Rattle.eh_frame.specs.View.{at};
-ghost use Rattle.eh_frame.specs.Views.{bases_of, cie_of, fde_of};
-ghost use Rattle.eh_frame.specs.Rows.{GivesRow};
+ghost use Rattle.encoded_pointers.specs.Readers.{GivesOr, Answers};
+ghost use Rattle.encoded_pointers.specs.View.{at};
+ghost use Rattle.encoded_pointers.specs.Pointers.{bases_of};
+ghost use Rattle.eh_frame.specs.Views.{cie_of, fde_of};
+ghost use Rattle.frame_rows.specs.Rows.{GivesRow};
 
-use crate::bases::Bases;
 use crate::cie::Cie;
-use crate::cursor::Cursor;
-use crate::encoding::{RELATIVE_SDATA4, read_relative, read_sdata4};
 use crate::entries::EhFrame;
-use crate::program;
-use crate::row::Row;
+use encoded_pointers::{Bases, Cursor, RELATIVE_SDATA4, read_relative, read_sdata4};
+use frame_rows::Row;
 use unwind_definitions::Error;
 
 /// A frame description entry (FDE): the addresses of a function, and the program of its rows.
@@ -145,7 +143,7 @@ impl<'a> Fde<'a> {
         if !self.contains(pc) {
             return Err(Error::NoUnwindInfoForAddress);
         }
-        program::row_at(
+        frame_rows::row_at(
             self.cie.instructions(),
             self.instructions(),
             self.cie.factors(),

@@ -16,34 +16,16 @@
 //! Source: LSB, section on `.eh_frame`; DWARF 5 section 6.4.
 #![tactic(auto)]
 
-mod bases;
 mod cie;
-mod cursor;
-mod encoding;
 mod entries;
 mod fde;
-mod instruction;
-mod machine;
-mod pointer;
-mod program;
-mod register;
-mod register_map;
-mod row;
-mod rule;
-mod rules;
 
-pub use bases::Bases;
 pub use cie::Cie;
+pub use encoded_pointers::{Bases, Pointer};
 pub use entries::EhFrame;
 pub use fde::Fde;
-pub use pointer::Pointer;
-pub use register::Register;
-pub use register_map::RegisterMap;
-pub use row::{Registers, Row};
-pub use rule::{CfaRule, RegisterRule};
+pub use frame_rows::{CfaRule, Register, RegisterMap, RegisterRule, Registers, Row};
 pub use unwind_definitions::Error;
 
-#[cfg(test)]
-mod row_tests;
 #[cfg(test)]
 mod tests;

@@ -35,6 +35,29 @@ fn a_description_is_found(rt: HostRuntime) -> Result<(), Fail> {
     Ok(())
 }
 
+#[test]
+fn the_row_of_a_description(rt: HostRuntime) -> Result<(), Fail> {
+    let table = EhFrame::new(PUSH_RBX, 0x500000);
+    let bases = Bases::default();
+    let fde = table.fde_for_address(&bases, 0x401005)?;
+    let row = fde.unwind_info_for_address(&table, &bases, 0x401005)?;
+    assert_eq!(rt;
+        row.cfa(),
+        CfaRule::RegisterAndOffset {
+            register: Register(7),
+            offset: 16
+        }
+    );
+    assert_eq!(rt;
+        row.register(Register(3)),
+        Some(RegisterRule::Offset(0u64.wrapping_sub(16)))
+    );
+    assert_eq!(rt; row.registers().count(), 2);
+    let outside = fde.unwind_info_for_address(&table, &bases, 0x401010);
+    assert_eq!(rt; outside.err(), Some(Error::NoUnwindInfoForAddress));
+    Ok(())
+}
+
 // Behind the description stands an entry of version 3.
 #[test]
 fn an_unreadable_entry_ends_the_search(rt: HostRuntime) -> Result<(), Fail> {

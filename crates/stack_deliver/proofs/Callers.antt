@@ -13,7 +13,7 @@ use Rattle.unwind_definitions.specs.Row.{Run, CfaRule, rule_of, cfa_rule}
 use Rattle.unwind_definitions.specs.Caller.{Evaluates, StepFault, Table, x86_64, rule_value, placed, unruled, column_value, first_fault_below, fault_in, value_in, column_limit, cfa_value, caller_with, caller_of}
 use Rattle.unwind_arch.specs.declared.x86_64.Context.{Context}
 use Rattle.unwind_arch.specs.Contexts.{columns_of, with_column, context_of}
-use Rattle.eh_frame.specs.Rules.{rule_in, AscendsFrom}
+use Rattle.frame_rows.specs.Rules.{rule_in, AscendsFrom}
 use Rattle.stack_deliver.specs.Applied.{or_unsupported, and_then, applied, value_given}
 use Rattle.stack_deliver.specs.Stepping.{refusal_of, no_expressions, context_by}
 use Rattle.stack_deliver.proofs.ContextLemmas.{IsWhole, Holds, Writes, with_column-holds, context_of-columns}

@@ -12,8 +12,8 @@ use Rattle.unwind_definitions.specs.Row.{Run, row_at}
 use Rattle.unwind_definitions.specs.Scan.{scan}
 use Rattle.unwind_definitions.specs.Caller.{Columns, Evaluates, StepFault, x86_64, caller_of}
 use Rattle.unwind_definitions.specs.Caller as calls
-use Rattle.eh_frame.specs.RowValue.{RowValue}
-use Rattle.eh_frame.specs.Rows.{IsRowOf}
+use Rattle.frame_rows.specs.RowValue.{RowValue}
+use Rattle.frame_rows.specs.Rows.{IsRowOf}
 use Rattle.unwind_arch.specs.declared.x86_64.Context.{Context}
 use Rattle.stack_deliver.specs.declared.delivery.Stepped.{Stepped}
 use Rattle.stack_deliver.specs.declared.delivery.DeliverError.{DeliverError}

@@ -1,8 +1,8 @@
 // From a frame's registers to its caller's, by a row. DWARF 5 section 6.4.1.
 ghost use Rattle.std.specs.Prelude.{◌≡◌, map};
-ghost use Rattle.eh_frame.specs.Rules.{rule_meaning, cfa_meaning, entry_of};
-ghost use Rattle.eh_frame.specs.Left.{left};
-ghost use Rattle.eh_frame.specs.Rows.{IsRowOf};
+ghost use Rattle.frame_rows.specs.Rules.{rule_meaning, cfa_meaning, entry_of};
+ghost use Rattle.frame_rows.specs.Left.{left};
+ghost use Rattle.frame_rows.specs.Rows.{IsRowOf};
 ghost use Rattle.unwind_definitions.specs.Row.{Run};
 ghost use Rattle.unwind_definitions.specs.Caller.{x86_64, rule_value, cfa_value, caller_of, word_or_fault, held};
 ghost use Rattle.unwind_arch.specs.Contexts.{columns_of};

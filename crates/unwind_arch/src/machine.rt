@@ -1,7 +1,7 @@
 //! What unwinding needs to know of a machine.
 
 ghost use Rattle.std.specs.Prelude.{IsSome};
-ghost use Rattle.eh_frame.specs.declared.register.Register.{Register};
+ghost use Rattle.frame_rows.specs.declared.register.Register.{Register};
 
 use eh_frame::{Register, RegisterMap};
 

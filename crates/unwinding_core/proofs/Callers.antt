@@ -9,7 +9,7 @@ use Rattle.unwind_definitions.specs.declared.error.Error.TheVariants.{Unsupporte
 use Rattle.unwind_definitions.specs.Instructions.{Rule}
 use Rattle.unwind_definitions.specs.Row.{Run, CfaRule, rule_of, cfa_rule}
 use Rattle.unwind_definitions.specs.Caller.{Columns, Machine, Evaluates, StepFault, Table, rule_value, placed, unruled, column_value, first_fault_below, fault_in, value_in, column_limit, cfa_value, caller_with, caller_of}
-use Rattle.eh_frame.specs.Rules.{rule_in, AscendsFrom}
+use Rattle.frame_rows.specs.Rules.{rule_in, AscendsFrom}
 use Rattle.unwinding_core.specs.Calling.{and_then, applied, written_to}
 
 -- a column has a value

@@ -1,5 +1,6 @@
 -- A finder's answer as that of the definitions.
-use Rattle.eh_frame.specs.Views.{bases_of, fde_of, table_of}
+use Rattle.encoded_pointers.specs.Pointers.{bases_of}
+use Rattle.eh_frame.specs.Views.{fde_of, table_of}
 use Rattle.unwinding_core.specs.declared.find_fde.FDESearchResult.{FDESearchResult}
 use Rattle.unwinding_core.specs.Finding.{FoundFde}
 

@@ -1,5 +1,5 @@
 -- What a frame is to its callers.
-use Rattle.eh_frame.specs.RowValue.{RowValue}
+use Rattle.frame_rows.specs.RowValue.{RowValue}
 use Rattle.unwinding_core.specs.Finding.{FoundFde}
 
 -- the description that was found, and the row at the address

@@ -3,8 +3,8 @@ use Rattle.std.specs.Prelude.{◌≡◌, ◌-◌, ℕ, Bool, Option, Some, None,
 use Rattle.unwind_definitions.specs.declared.error.Error.{Error as Fault}
 use Rattle.unwind_definitions.specs.Forms.{plain}
 use Rattle.unwind_definitions.specs.Row.{Run, row_at}
-use Rattle.eh_frame.specs.RowValue.{RowValue}
-use Rattle.eh_frame.specs.Rows.{IsRowOf}
+use Rattle.frame_rows.specs.RowValue.{RowValue}
+use Rattle.frame_rows.specs.Rows.{IsRowOf}
 use Rattle.unwinding_core.specs.declared.frame.StepError.{StepError}
 use Rattle.unwinding_core.specs.declared.frame.StepError.TheVariants.{Table}
 use Rattle.unwinding_core.specs.Finding.{FoundFde}

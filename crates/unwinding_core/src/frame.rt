@@ -5,10 +5,10 @@ ghost use Rattle.std.specs.Prelude.{◌≡◌, ◌≢◌, ◌+◌, ◌%◌, ◌^
 ghost use Rattle.std.specs.Option.{unwrap_or};
 ghost use Rattle.unwind_definitions.specs.Row.{Run, covers_pc};
 ghost use Rattle.unwind_definitions.specs.Caller.{caller_of, rule_value, cfa_value, word_or_fault, held, unruled};
-ghost use Rattle.eh_frame.specs.Rules.{rule_meaning, cfa_meaning, entry_of};
-ghost use Rattle.eh_frame.specs.Left.{left};
-ghost use Rattle.eh_frame.specs.Rows.{IsRowOf};
-ghost use Rattle.eh_frame.specs.Views.{bases_of};
+ghost use Rattle.frame_rows.specs.Rules.{rule_meaning, cfa_meaning, entry_of};
+ghost use Rattle.frame_rows.specs.Left.{left};
+ghost use Rattle.frame_rows.specs.Rows.{IsRowOf};
+ghost use Rattle.encoded_pointers.specs.Pointers.{bases_of};
 ghost use Rattle.unwinding_core.specs.Finding.{FoundFde};
 ghost use Rattle.unwinding_core.specs.Answered.{answered};
 ghost use Rattle.unwinding_core.specs.Framed.{address_asked, GivesFrame, GivesRowOf};

@@ -1,7 +1,7 @@
 use Rattle.std.proofs.Common.{◌≡◌, map, Err, sym}
 use Rattle.std.proofs.lemmas.Result.{err_from_is_err_and}
-use Rattle.eh_frame.specs.Rules.{entry_of}
-use Rattle.eh_frame.specs.Left.{left}
+use Rattle.frame_rows.specs.Rules.{entry_of}
+use Rattle.frame_rows.specs.Left.{left}
 use Rattle.stack_deliver.specs.Stepping.{no_expressions}
 use Rattle.stack_deliver.specs.Applied.{applied, value_given}
 use Rattle.stack_deliver.proofs.Faults.{and_then_fault}

@@ -1,6 +1,6 @@
 use Rattle.std.proofs.Common.{◌≡◌, map}
-use Rattle.eh_frame.specs.Rules.{entry_of}
-use Rattle.eh_frame.specs.Left.{left}
+use Rattle.frame_rows.specs.Rules.{entry_of}
+use Rattle.frame_rows.specs.Left.{left}
 use Rattle.stack_deliver.specs.Applied.{applied}
 use Rattle.stack_deliver.specs.Stepping.{no_expressions}
 use Rattle.stack_deliver.proofs.caller.applied.Given as goal

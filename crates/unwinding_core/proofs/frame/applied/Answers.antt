@@ -1,7 +1,7 @@
 use Rattle.std.proofs.Common.{◌≡◌, map, Err, sym}
 use Rattle.std.proofs.lemmas.Result.{err_from_is_err_and}
-use Rattle.eh_frame.specs.Rules.{entry_of}
-use Rattle.eh_frame.specs.Left.{left}
+use Rattle.frame_rows.specs.Rules.{entry_of}
+use Rattle.frame_rows.specs.Left.{left}
 use Rattle.unwinding_core.specs.Calling.{no_expressions, applied, fault_of}
 use Rattle.unwinding_core.proofs.Faults.{and_then_fault}
 use Rattle.unwinding_core.proofs.frame.applied.Goals as goal

@@ -1,6 +1,6 @@
 use Rattle.std.proofs.Common.{◌≡◌, map}
-use Rattle.eh_frame.specs.Rules.{entry_of}
-use Rattle.eh_frame.specs.Left.{left}
+use Rattle.frame_rows.specs.Rules.{entry_of}
+use Rattle.frame_rows.specs.Left.{left}
 use Rattle.unwinding_core.specs.Calling.{no_expressions, applied}
 use Rattle.unwinding_core.proofs.frame.applied.Given as goal
 

@@ -1,7 +1,7 @@
 use Rattle.std.proofs.Common.{refl, ◌∙◌}
 use Rattle.std.proofs.lemmas.Result.{err_from_is_err_and}
 use Rattle.eh_frame.proofs.CieParts.{cie_behind, cie_whole}
-use Rattle.eh_frame.specs.View.{at}
+use Rattle.encoded_pointers.specs.View.{at}
 use Rattle.eh_frame.specs.Views.{plain_letters}
 use Rattle.eh_frame.proofs.cie.Cie.read.Goals as goal
 

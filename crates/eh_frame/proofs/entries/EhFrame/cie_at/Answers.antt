@@ -1,8 +1,8 @@
 use Rattle.std.proofs.Common.{sym, subst, Result}
 use Rattle.unwind_definitions.specs.declared.error.Error.{Error as Fault}
 use Rattle.unwind_definitions.specs.Entries.{Cie}
-use Rattle.eh_frame.specs.Readers.{Answers}
-use Rattle.eh_frame.specs.View.{at}
+use Rattle.encoded_pointers.specs.Readers.{Answers}
+use Rattle.encoded_pointers.specs.View.{at}
 use Rattle.eh_frame.specs.Views.{cie_of, table_of}
 use Rattle.eh_frame.proofs.EntryParts.{cie_is}
 use Rattle.eh_frame.proofs.entries.EhFrame.cie_at.Goals as goal

@@ -1,5 +1,5 @@
 use Rattle.std.proofs.lemmas.Result.{err_from_is_err_and}
-use Rattle.eh_frame.specs.View.{at}
+use Rattle.encoded_pointers.specs.View.{at}
 use Rattle.eh_frame.specs.Views.{entry_of, table_of}
 use Rattle.eh_frame.proofs.EntryParts.{no_entry, whole_entry}
 use Rattle.eh_frame.proofs.entries.EhFrame.entry_at.Goals as goal

@@ -1,7 +1,7 @@
 use Rattle.std.proofs.Common.{sym, ◌∙◌, arith}
 use Rattle.std.proofs.lemmas.Result.{err_from_is_err_and}
 use Rattle.eh_frame.proofs.FdeParts.{no_start, no_len, overflows, no_data, whole_fde}
-use Rattle.eh_frame.specs.View.{at}
+use Rattle.encoded_pointers.specs.View.{at}
 use Rattle.eh_frame.specs.Views.{cie_of}
 use Rattle.eh_frame.proofs.fde.Fde.read.Goals as goal
 

@@ -2,10 +2,11 @@ use Rattle.std.proofs.Common.{◌≡◌, true, sym, ◌∙◌}
 use Rattle.unwind_definitions.specs.Pointers.{Bases}
 use Rattle.unwind_definitions.specs.Entries.{Fde, address_encoding}
 use Rattle.unwind_definitions.specs.Row.{covers_pc}
-use Rattle.eh_frame.specs.View.{at}
-use Rattle.eh_frame.specs.Views.{bases_of, fde_of}
-use Rattle.eh_frame.specs.Decoded.{coding_by}
-use Rattle.eh_frame.proofs.Together.{of_description}
+use Rattle.encoded_pointers.specs.View.{at}
+use Rattle.encoded_pointers.specs.Pointers.{bases_of}
+use Rattle.eh_frame.specs.Views.{fde_of}
+use Rattle.frame_rows.specs.Decoded.{coding_by}
+use Rattle.eh_frame.proofs.Described.{of_description}
 use Rattle.eh_frame.proofs.fde.Fde.unwind_info_for_address.Goals as goal
 
 pub returns : goal.returns

@@ -1,7 +1,0 @@
-use Rattle.std.proofs.Common.{refl, arith}
-use Rattle.eh_frame.proofs.Steps.{step_advance}
-use Rattle.eh_frame.proofs.CannotFollow.{fits}
-use Rattle.eh_frame.proofs.machine.Machine.advance.Goals as goal
-
-pub returns : goal.returns
-returns c start run rep = (fits start c.args.self.now run rep c.args.delta (omega arith), step_advance start c.args.self.now run rep c.args.delta _ refl refl refl refl)

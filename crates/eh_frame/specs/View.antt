@@ -1,6 +1,0 @@
--- The code's cursor as a place in a table.
-use Rattle.unwind_definitions.specs.Input.{Input}
-use Rattle.eh_frame.specs.declared.cursor.Cursor.{Cursor}
-
-abbrev pub at : Cursor → Input
-at c = record { base = c.base; offset = c.offset; bytes = c.bytes.now }

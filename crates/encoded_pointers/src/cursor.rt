@@ -1,0 +1,307 @@
+//! Reading call frame bytes from left to right.
+//!
+//! DWARF 5 section 7: numbers are little-endian here, and section 7.6 has LEB128.
+
+ghost use Rattle.std.specs.Prelude.{◌≡◌, ◌==◌, ◌+◌, ◌<◌, ◌^◌, length, position, IfSome};
+ghost use Rattle.unwind_definitions.specs.Input.{signed};
+
+use unwind_definitions::Error;
+
+/// Bytes of a table that are still to be read, and where they stand.
+///
+/// A refused read leaves the cursor as it was.
+#[derive(Clone, Copy)]
+pub struct Cursor<'a> {
+    bytes: &'a [u8],
+    // the address of the table's first byte
+    base: u64,
+    // how many of the table's bytes stand before these
+    offset: u64,
+    ghost in_range: { offset + length bytes.now < 2 ^ 64 },
+}
+
+impl<'a> Cursor<'a> {
+    ghost use Rattle.std.specs.Prelude.{IfOk, ◌*◌, ◌-◌, ◌≤◌};
+    ghost use Rattle.std.specs.Int.{w8, w16, w32, w64, cast_unsigned};
+    ghost use Rattle.unwind_definitions.specs.Input.{number, uleb, uleb_from, sleb, sleb_from, skip, split, text, address_of};
+    ghost use Rattle.unwind_definitions.specs.Pointers.{signed_number};
+    ghost use Rattle.encoded_pointers.specs.Readers.{Gives, GivesOr, passes};
+    ghost use Rattle.encoded_pointers.specs.View.{at};
+
+    /// The bytes of a table from an offset on, of which there are none behind its end.
+    pub fn from_offset(bytes: &'a [u8], address: u64, offset: u64) -> Cursor<'a>
+        ensures { at result ≡ skip offset (record { base = address; offset = 0; bytes = bytes.now }) }
+    {
+        let start = offset.min(bytes.len() as u64);
+        Cursor {
+            bytes: &bytes[start as usize..],
+            base: address,
+            offset,
+        }
+    }
+
+    /// The next byte.
+    pub fn read_u8(&mut self) -> Result<u8, Error>
+        ensures { Gives (λ x. x) result (at self.old) (number w8) (at self.new) }
+    {
+        if self.bytes.is_empty() {
+            return Err(Error::UnexpectedEof);
+        }
+        let byte = self.bytes[0];
+        self.bytes = &self.bytes[1..];
+        self.offset += 1;
+        Ok(byte)
+    }
+
+    /// The next two bytes, the lowest first.
+    pub fn read_u16(&mut self) -> Result<u16, Error>
+        ensures { Gives (λ x. x) result (at self.old) (number w16) (at self.new) }
+    {
+        if self.bytes.len() < 2 {
+            return Err(Error::UnexpectedEof);
+        }
+        let (front, rest) = self.bytes.split_at(2);
+        let number = u16::from_le_bytes([front[0], front[1]]);
+        self.bytes = rest;
+        self.offset += 2;
+        Ok(number)
+    }
+
+    /// The next four bytes, the lowest first.
+    pub fn read_u32(&mut self) -> Result<u32, Error>
+        ensures { Gives (λ x. x) result (at self.old) (number w32) (at self.new) }
+    {
+        if self.bytes.len() < 4 {
+            return Err(Error::UnexpectedEof);
+        }
+        let (front, rest) = self.bytes.split_at(4);
+        let number = u32::from_le_bytes([front[0], front[1], front[2], front[3]]);
+        self.bytes = rest;
+        self.offset += 4;
+        Ok(number)
+    }
+
+    /// The next eight bytes, the lowest first.
+    pub fn read_u64(&mut self) -> Result<u64, Error>
+        ensures { Gives (λ x. x) result (at self.old) (number w64) (at self.new) }
+    {
+        if self.bytes.len() < 8 {
+            return Err(Error::UnexpectedEof);
+        }
+        let (front, rest) = self.bytes.split_at(8);
+        let number = u64::from_le_bytes([
+            front[0], front[1], front[2], front[3], front[4], front[5], front[6], front[7],
+        ]);
+        self.bytes = rest;
+        self.offset += 8;
+        Ok(number)
+    }
+
+    /// The next four bytes as a signed number, the lowest first.
+    pub fn read_i32(&mut self) -> Result<i32, Error>
+        ensures { Gives (cast_unsigned w64) result (at self.old) (signed_number w32 32) (at self.new) }
+    {
+        let number = self.read_u32()?;
+        Ok(number.cast_signed())
+    }
+
+    // An unsigned number of which at most `left` bytes may come.
+    // Behind a fault the cursor isn't told.
+    fn uleb_left(&mut self, left: u8) -> Result<u64, Error>
+        requires low { 1 ≤ left }
+        requires high { left ≤ 10 }
+        ensures reads { GivesOr (λ x. x) result (uleb_from left (at self.old)) (at self.new) }
+        ensures bound { IfOk result (λ v. v < 2 ^ (7 * left - 6)) }
+    {
+        let byte = self.read_u8()?;
+        if left == 1 {
+            if byte <= 1 {
+                return Ok(byte as u64);
+            }
+            return Err(Error::BadUnsignedLeb128);
+        }
+        if byte < 128 {
+            return Ok(byte as u64);
+        }
+        let high = self.uleb_left(left - 1)?;
+        Ok((byte - 128) as u64 + 128 * high)
+    }
+
+    /// An unsigned LEB128 number.
+    pub fn read_uleb128(&mut self) -> Result<u64, Error>
+        ensures { Gives (λ x. x) result (at self.old) uleb (at self.new) }
+    {
+        let mut rest = *self;
+        let byte = rest.read_u8()?;
+        // most numbers have one byte
+        if byte < 128 {
+            *self = rest;
+            return Ok(byte as u64);
+        }
+        self.read_long_uleb128()
+    }
+
+    // The same, whatever its length.
+    fn read_long_uleb128(&mut self) -> Result<u64, Error>
+        ensures { Gives (λ x. x) result (at self.old) uleb (at self.new) }
+    {
+        let mut rest = *self;
+        let number = rest.uleb_left(10)?;
+        *self = rest;
+        Ok(number)
+    }
+
+    // A signed number, as a word, of which at most `left` bytes may come.
+    // Behind a fault the cursor isn't told.
+    fn sleb_left(&mut self, left: u8) -> Result<u64, Error>
+        requires low { 1 ≤ left }
+        requires high { left ≤ 10 }
+        ensures { GivesOr (λ x. x) result (sleb_from left (at self.old)) (at self.new) }
+    {
+        let byte = self.read_u8()?;
+        if left == 1 {
+            return match byte {
+                0x00 => Ok(0),
+                0x7f => Ok(u64::MAX),
+                _ => Err(Error::BadSignedLeb128),
+            };
+        }
+        if byte < 128 {
+            return Ok(signed_seven_bits(byte));
+        }
+        let high = self.sleb_left(left - 1)?;
+        Ok(high.wrapping_mul(128).wrapping_add((byte - 128) as u64))
+    }
+
+    /// A signed LEB128 number.
+    pub fn read_sleb128(&mut self) -> Result<i64, Error>
+        ensures { Gives (cast_unsigned w64) result (at self.old) sleb (at self.new) }
+    {
+        let word = self.read_sleb128_word()?;
+        Ok(word.cast_signed())
+    }
+
+    /// A signed LEB128 number, as a word: numbers below 0 count from 2^64.
+    pub fn read_sleb128_word(&mut self) -> Result<u64, Error>
+        ensures { Gives (λ x. x) result (at self.old) sleb (at self.new) }
+    {
+        let mut rest = *self;
+        let byte = rest.read_u8()?;
+        // most numbers have one byte
+        if byte < 128 {
+            *self = rest;
+            return Ok(signed_seven_bits(byte));
+        }
+        self.read_long_sleb128_word()
+    }
+
+    // The same, whatever its length.
+    fn read_long_sleb128_word(&mut self) -> Result<u64, Error>
+        ensures { Gives (λ x. x) result (at self.old) sleb (at self.new) }
+    {
+        let mut rest = *self;
+        let word = rest.sleb_left(10)?;
+        *self = rest;
+        Ok(word)
+    }
+
+    /// Passes over so many bytes.
+    pub fn skip(&mut self, count: u64) -> Result<(), Error>
+        ensures { Gives (λ x. tt) result (at self.old) (passes count) (at self.new) }
+    {
+        if count > self.bytes.len() as u64 {
+            return Err(Error::UnexpectedEof);
+        }
+        self.bytes = &self.bytes[count as usize..];
+        self.offset += count;
+        Ok(())
+    }
+
+    /// The next so many bytes, as a cursor of their own.
+    pub fn split(&mut self, count: u64) -> Result<Cursor<'a>, Error>
+        ensures { Gives at result (at self.old) (split count) (at self.new) }
+    {
+        if count > self.bytes.len() as u64 {
+            return Err(Error::UnexpectedEof);
+        }
+        let (front, rest) = self.bytes.split_at(count as usize);
+        let part = Cursor {
+            bytes: front,
+            base: self.base,
+            offset: self.offset,
+        };
+        self.bytes = rest;
+        self.offset += count;
+        Ok(part)
+    }
+
+    /// The bytes before the next zero byte, which is passed too.
+    pub fn read_text(&mut self) -> Result<&'a [u8], Error>
+        ensures { Gives (λ s. s.now) result (at self.old) text (at self.new) }
+    {
+        match first_zero(self.bytes) {
+            None => Err(Error::UnexpectedEof),
+            Some(end) => {
+                let front = &self.bytes[..end];
+                self.bytes = &self.bytes[end + 1..];
+                self.offset += end as u64 + 1;
+                Ok(front)
+            }
+        }
+    }
+
+    /// The bytes that are left.
+    pub fn bytes(&self) -> &'a [u8]
+        ensures { result.now ≡ (at self.now).bytes }
+    {
+        self.bytes
+    }
+
+    /// How many of the table's bytes stand before the next one.
+    pub fn offset(&self) -> u64
+        ensures { result ≡ (at self.now).offset }
+    {
+        self.offset
+    }
+
+    /// Whether nothing is left.
+    pub fn is_empty(&self) -> bool
+        ensures { result ≡ (length (at self.now).bytes == 0) }
+    {
+        self.bytes.is_empty()
+    }
+
+    /// How many bytes are left.
+    pub fn len(&self) -> usize
+        ensures { result ≡ length (at self.now).bytes }
+    {
+        self.bytes.len()
+    }
+
+    /// The address of the next byte.
+    pub fn address(&self) -> u64
+        ensures { result ≡ address_of (at self.now) }
+    {
+        self.base.wrapping_add(self.offset)
+    }
+}
+
+// The index of the first zero byte.
+fn first_zero(bytes: &[u8]) -> Option<usize>
+    ensures is { result ≡ position (λ b. b == 0) bytes.now }
+    ensures within { IfSome result (λ n. n < length bytes.now) }
+{
+    bytes.iter().position(|byte| *byte == 0)
+}
+
+// A signed number of seven bits, as a word.
+fn signed_seven_bits(byte: u8) -> u64
+    requires { byte < 128 }
+    ensures { result ≡ signed 7 byte }
+{
+    if byte < 64 {
+        byte as u64
+    } else {
+        u64::MAX - 127 + byte as u64
+    }
+}

@@ -1,0 +1,7 @@
+mod RuleLists
+mod Pushed
+mod Columns
+mod Steps
+mod CannotFollow
+mod Reading
+mod Together

@@ -1,0 +1,71 @@
+-- The program of a common information entry and a description's own make the row.
+use Rattle.std.proofs.Common.{◌≡◌, ℕ, cond, List, [], length, Option, Some, None, Result, Ok, Err, refl, sym, ap, ◌∙◌}
+use Rattle.std.specs.Prelude.{is_some}
+use Rattle.std.specs.Option.{option_or}
+use Rattle.std.proofs.lemmas.Bool.{eq-eqb}
+use Rattle.unwind_definitions.specs.declared.error.Error.{Error as Fault}
+use Rattle.unwind_definitions.specs.declared.error.Error.TheVariants.{NoCfaRegister}
+use Rattle.unwind_definitions.specs.Instructions.{Instruction, Program}
+use Rattle.unwind_definitions.specs.Row.{Run, first_fault, up_to, or_else, common_fault, own_fault, from_common, row, cfa_rule}
+use Rattle.frame_rows.specs.Running.{outcome}
+use Rattle.frame_rows.specs.RowValue.{RowValue}
+use Rattle.frame_rows.specs.Rows.{GivesRow, IsLast}
+
+module _ {A B : Type 0} where
+  stops_at : (o : Option Fault) (a : A) (e : Fault) (x : Result B Fault) → or_else o (Ok a) ≡ Err e → or_else o x ≡ Err e
+  stops_at None a e x is = absurd cc
+  stops_at (Some d) a e x is = let same : d ≡ e = cc in ap (λ d. let r : Result B Fault = Err d in r) same
+
+  goes_on : (o : Option Fault) (a b : A) (x : Result B Fault) → or_else o (Ok a) ≡ Ok b → or_else o x ≡ x
+  goes_on None a b x is = refl
+  goes_on (Some d) a b x is = absurd cc
+
+value_is : {A : Type 0} (o : Option Fault) (a b : A) → or_else o (Ok a) ≡ Ok b → a ≡ b
+value_is None a b is = cc
+value_is (Some d) a b is = absurd cc
+
+-- what the first program ends with
+abbrev pub whole : List Instruction → Run
+whole instructions = record { common = []; own = instructions }
+
+common_is : (common : Program) → outcome 0 None (from_common []) common ≡ or_else (common_fault common) (Ok (whole common.instructions))
+unfolding outcome
+common_is common = ap (λ b. or_else (option_or (first_fault 0 (from_common []) common.instructions) (cond b common.fault None)) (Ok (whole common.instructions))) (eq-eqb (length common.instructions) (length common.instructions) refl)
+
+module _ (start pc : ℕ) (common own : Program) where
+  abbrev reached : List Instruction
+  reached = up_to start pc own.instructions
+
+  abbrev pub last : Run
+  last = record { common = common.instructions; own = up_to start pc own.instructions }
+
+  own_is : outcome start (Some pc) (from_common common.instructions) own ≡ or_else (own_fault start common.instructions own reached) (Ok last)
+  unfolding outcome
+  own_is = refl
+
+  abbrev ending : Result Run Fault
+  ending = cond (is_some (cfa_rule last)) (Ok last) (Err NoCfaRegister)
+
+  pub common_stops : (e : Fault) → outcome 0 None (from_common []) common ≡ Err e → row start pc common own ≡ Err e
+  common_stops e is = stops_at (common_fault common) (whole common.instructions) e (or_else (own_fault start common.instructions own reached) ending) (sym (common_is common) ∙ is)
+
+  pub common_run : (run : Run) → outcome 0 None (from_common []) common ≡ Ok run → whole common.instructions ≡ run
+  common_run run is = value_is (common_fault common) (whole common.instructions) run (sym (common_is common) ∙ is)
+
+  pub own_run : (run : Run) → outcome start (Some pc) (from_common common.instructions) own ≡ Ok run → last ≡ run
+  own_run run is = value_is (own_fault start common.instructions own reached) last run (sym own_is ∙ is)
+
+  past_common : (run : Run) → outcome 0 None (from_common []) common ≡ Ok run → row start pc common own ≡ or_else (own_fault start common.instructions own reached) ending
+  past_common run is = goes_on (common_fault common) (whole common.instructions) run (or_else (own_fault start common.instructions own reached) ending) (sym (common_is common) ∙ is)
+
+  pub own_stops : (run : Run) (e : Fault) → outcome 0 None (from_common []) common ≡ Ok run → outcome start (Some pc) (from_common common.instructions) own ≡ Err e → row start pc common own ≡ Err e
+  own_stops run e first is = past_common run first ∙ stops_at (own_fault start common.instructions own reached) last e ending (sym own_is ∙ is)
+
+  past_own : (run run' : Run) → outcome 0 None (from_common []) common ≡ Ok run → outcome start (Some pc) (from_common common.instructions) own ≡ Ok run' → row start pc common own ≡ ending
+  past_own run run' first second = past_common run first ∙ goes_on (own_fault start common.instructions own reached) last run' ending (sym own_is ∙ second)
+
+  pub row_made : (run run' : Run) (result : Result RowValue Fault) → outcome 0 None (from_common []) common ≡ Ok run → outcome start (Some pc) (from_common common.instructions) own ≡ Ok run' → IsLast last result → GivesRow result (row start pc common own)
+  row_made run run' (Ok r) first second is =
+      (last, past_own run run' first second ∙ ap (λ o. cond (is_some o) (Ok last) (Err NoCfaRegister)) is.cfa, is)
+  row_made run run' (Err e) first second is =
+      past_own run run' first second ∙ ap (λ o. cond (is_some o) (Ok last) (Err NoCfaRegister)) is.1 ∙ ap (λ d. let r : Result Run Fault = Err d in r) (sym is.0)

@@ -1,0 +1,15 @@
+use Rattle.std.proofs.Common.{refl, sym}
+use Rattle.unwind_definitions.specs.Instructions.{Cfa}
+use Rattle.frame_rows.proofs.Pushed.{cfa_whole}
+use Rattle.frame_rows.proofs.Steps.{step_nop, step_cfa}
+use Rattle.frame_rows.proofs.machine.Machine.run.Goals as goal
+
+pub returns-in-Nop : goal.returns-in-Nop
+returns-in-Nop c start run rep = rw c.in-Nop.is (refl, step_nop start c.args.self.now run rep)
+
+pub returns-in-DefineCfa : goal.returns-in-DefineCfa
+returns-in-DefineCfa c start run rep = rw c.in-DefineCfa.is (
+  refl,
+  step_cfa start c.args.self.now run rep _ (Cfa c.in-DefineCfa.register.0 c.in-DefineCfa.offset) (record { alone = λ is. refl; still = refl }) (λ k. refl) refl refl
+      (sym (cfa_whole run c.in-DefineCfa.register.0 c.in-DefineCfa.offset)) refl refl refl refl refl,
+)

@@ -1,0 +1,71 @@
+-- The running state of a frame program: what the instructions that ran so far have said. No public clause cites this.
+use Rattle.std.specs.Prelude.{◌≡◌, ℕ, ◌+◌, ◌^◌, Bool, false, ◌&&◌, List, [], ◌∷◌, ◌++◌, length, Option, Some, None, Result, Ok, Err, is_some, nat_lt, nat_le, ◌==◌, if◌then◌else◌}
+use Rattle.std.specs.Option.{option_or, option_map, unwrap_or}
+use Rattle.unwind_definitions.specs.declared.error.Error.{Error as Fault}
+use Rattle.unwind_definitions.specs.Instructions.{Rule, Instruction, Advance, SetLocation, Program}
+use Rattle.unwind_definitions.specs.Row.{Run, cut, cut_of, cfa_rule, rule_of, initial_rule, argument_size, location, up_to, first_fault, fault_of, is_open, or_else}
+use Rattle.frame_rows.specs.Rules.{rule_in, cfa_meaning}
+use Rattle.frame_rows.specs.declared.machine.RowState.{RowState}
+use Rattle.frame_rows.specs.declared.machine.Machine.{Machine}
+
+-- one more instruction of a description's own program
+abbrev pub push : Run → Instruction → Run
+push run i = record run { own = run.own ++ i ∷ [] }
+
+-- whether an instruction at a location leads past an address; where no address is asked, none does
+abbrev pub stops : ℕ → Option ℕ → Instruction → Bool
+stops at None i = false
+stops at (Some pc) (Advance n) = nat_lt pc (at + n) && nat_lt (at + n) (2 ^ 64)
+stops at (Some pc) (SetLocation a) = nat_lt pc a && nat_le at a
+stops at (Some pc) _ = false
+
+-- the instructions up to the address asked, or all
+abbrev pub part : ℕ → Option ℕ → List Instruction → List Instruction
+part at None is = is
+part at (Some pc) is = up_to at pc is
+
+-- what a program's part up to the address asked makes of what ran before it: the first fault, or all that ran
+unfoldable pub outcome : ℕ → Option ℕ → Run → Program → Result Run Fault
+outcome start pc run p = let is = part (location start run.own) pc p.instructions in
+    or_else (option_or (first_fault start run is) (if length is == length p.instructions then p.fault else None)) (Ok (record run { own = run.own ++ is }))
+
+-- the CFA, the rules and the argument size are those of a row
+pub record IsStateOf (state : RowState) (run : Run) : Type 0 where
+  pub cfa : option_map cfa_meaning state.cfa ≡ cfa_rule run
+  pub rules : (c : ℕ) → rule_in state.rules c ≡ rule_of run c
+  pub arguments : state.saved_args_size ≡ argument_size run
+
+-- No state is open: what follows is kept whole.
+abbrev pub IsClosed : List Instruction → Type 0
+IsClosed own = (rest : List Instruction) → cut (own ++ rest) ≡ cut own ++ cut rest
+
+-- A state is open since instructions: a restore leads back to them.
+abbrev pub IsOpenSince : List Instruction → List Instruction → Type 0
+IsOpenSince before own = (rest kept : List Instruction) → (cut_of rest).behind ≡ Some kept → cut (own ++ rest) ≡ cut before ++ kept
+
+-- what is remembered, if a state is open
+abbrev pub IsRemembered : Option RowState → Run → Type 0
+IsRemembered None run = IsClosed run.own
+IsRemembered (Some state) run = (before : List Instruction) × IsOpenSince before run.own × IsStateOf state (record run { own = before })
+
+-- the initial rules of a machine
+abbrev pub initial_rules : Machine → List (ℕ × Rule)
+initial_rules machine = unwrap_or machine.initial []
+
+-- the machine has run these instructions, from a location on
+pub record Represents (start : ℕ) (machine : Machine) (run : Run) : Type 0 where
+  pub here : machine.location ≡ location start run.own
+  pub state : IsStateOf machine.state run
+  pub opened : is_some machine.remembered ≡ is_open run.own
+  pub remembered : IsRemembered machine.remembered run
+  pub initial : (c : ℕ) → rule_in (initial_rules machine) c ≡ initial_rule run c
+
+-- the machine after one more instruction, or why it can't follow
+abbrev pub Follows : ℕ → Run → Instruction → Result (Unit {0}) Fault → Machine → Type 0
+Follows start run i (Ok done) new = (fault_of start run i ≡ None) × Represents start new (push run i)
+Follows start run i (Err e) new = fault_of start run i ≡ Some e
+
+-- what the machine ends with is what a program says
+abbrev pub Ends : ℕ → Result (Unit {0}) Fault → Machine → Result Run Fault → Type 0
+Ends start (Ok done) new due = (run : Run) × (due ≡ Ok run) × Represents start new run
+Ends start (Err e) new due = due ≡ Err e

@@ -1,0 +1,244 @@
+//! The virtual machine that frame programs run on, and what each instruction does to it.
+//! DWARF 5 sections 6.4.1 and 6.4.2.
+
+ghost use Rattle.std.specs.Prelude.{◌≡◌, ℕ, Some, IfOk, IfErr, OnErr, false};
+ghost use Rattle.std.specs.Option.{option_map};
+ghost use Rattle.unwind_definitions.specs.Row.{ColumnAndOffset, has_column};
+ghost use Rattle.frame_rows.specs.Rules.{cfa_meaning};
+
+use crate::instruction::CallFrameInstruction;
+use crate::register::Register;
+use crate::row::Row;
+use crate::rule::{CfaRule, RegisterRule};
+use crate::rules::RegisterRules;
+use unwind_definitions::Error;
+
+/// The row that the instructions so far make, which may lack a CFA.
+#[derive(Drop)]
+pub(crate) struct RowState<'a> {
+    cfa: Option<CfaRule<'a>>,
+    rules: RegisterRules<'a>,
+    saved_args_size: u64,
+}
+
+impl<'a> RowState<'a> {
+    fn copy(&self) -> RowState<'a>
+        ensures { result ≡ self.now }
+    {
+        RowState {
+            cfa: self.cfa,
+            rules: self.rules.copy(),
+            saved_args_size: self.saved_args_size,
+        }
+    }
+}
+
+/// The virtual machine that runs frame programs.
+#[derive(Drop)]
+pub(crate) struct Machine<'a> {
+    // the state that a restore leads back to
+    remembered: Option<RowState<'a>>,
+    location: u64,
+    state: RowState<'a>,
+    // the rules that the CIE's program ended with; None while that one runs, which has no rules before
+    initial: Option<RegisterRules<'a>>,
+}
+
+impl<'a> Machine<'a> {
+    ghost use Rattle.std.specs.Prelude.{[], List};
+    ghost use Rattle.unwind_definitions.specs.Instructions.{Instruction, Advance, Write, Reset, Remember, Restore, CfaColumn, CfaOffset};
+    ghost use Rattle.unwind_definitions.specs.Row.{Run, from_common};
+    ghost use Rattle.frame_rows.specs.Rules.{rule_meaning, rule_in};
+    ghost use Rattle.frame_rows.specs.Decoded.{meaning};
+    ghost use Rattle.frame_rows.specs.Running.{Represents, Follows, stops, initial_rules};
+    ghost use Rattle.frame_rows.specs.Rows.{IsLast};
+
+    /// A machine that is to run the program of a common information entry.
+    pub(crate) fn new() -> Machine<'a>
+        ensures { Represents 0 result (from_common []) }
+    {
+        Machine {
+            location: 0,
+            state: RowState {
+                cfa: None,
+                rules: RegisterRules::new(),
+                saved_args_size: 0,
+            },
+            remembered: None,
+            initial: None,
+        }
+    }
+
+    /// Makes what the entry's program said the beginning of a description's program, which starts
+    /// at a location.
+    pub(crate) fn begin(&mut self, location: u64)
+        ensures { (common : List Instruction) → Represents 0 self.old (record { common = []; own = common }) →
+            Represents location self.new (from_common common) }
+    {
+        self.location = location;
+        self.remembered = None;
+        self.initial = Some(self.state.rules.copy());
+    }
+
+    /// Whether an instruction leads past the address asked, if one is asked.
+    pub(crate) fn stops_before(
+        &self,
+        instruction: CallFrameInstruction<'a>,
+        pc: Option<u64>,
+    ) -> bool
+        ensures { result ≡ stops self.now.location pc (meaning instruction.entry) }
+    {
+        let location = self.location;
+        match (pc, instruction) {
+            (Some(pc), CallFrameInstruction::AdvanceLocation(delta)) => {
+                delta <= (u64::MAX - location) as u128 && (pc as u128) < location as u128 + delta
+            }
+            _ => false,
+        }
+    }
+
+    // Raises the location.
+    fn advance(&mut self, delta: u128) -> Result<(), Error>
+        ensures { (start : ℕ) (run : Run) → Represents start self.old run →
+            Follows start run (Advance delta) result self.new }
+    {
+        if delta > (u64::MAX - self.location) as u128 {
+            return Err(Error::AddressOverflow);
+        }
+        self.location += delta as u64;
+        Ok(())
+    }
+
+    fn set_rule(&mut self, register: Register, rule: RegisterRule<'a>) -> Result<(), Error>
+        ensures { (start : ℕ) (run : Run) → Represents start self.old run →
+            Follows start run (Write register.0 (rule_meaning rule.entry)) result self.new }
+    {
+        self.state.rules.set(register, rule)
+    }
+
+    fn initial_rule(&self, register: Register) -> Option<RegisterRule<'a>>
+        ensures { option_map rule_meaning result ≡ rule_in (initial_rules self.now) register.0 }
+    {
+        match &self.initial {
+            Some(rules) => rules.get(register),
+            None => None,
+        }
+    }
+
+    fn restore_initial_rule(&mut self, register: Register) -> Result<(), Error>
+        ensures { (start : ℕ) (run : Run) → Represents start self.old run →
+            Follows start run (Reset register.0) result self.new }
+    {
+        match self.initial_rule(register) {
+            Some(rule) => self.state.rules.set(register, rule),
+            None => {
+                self.state.rules.remove(register);
+                Ok(())
+            }
+        }
+    }
+
+    // Not inlined: a function clears the room of its locals, and a state would be cleared for each
+    // instruction.
+    #[inline(never)]
+    fn remember_state(&mut self) -> Result<(), Error>
+        ensures { (start : ℕ) (run : Run) → Represents start self.old run →
+            Follows start run Remember result self.new }
+    {
+        match self.remembered {
+            Some(_) => Err(Error::StackFull),
+            None => {
+                self.remembered = Some(self.state.copy());
+                Ok(())
+            }
+        }
+    }
+
+    #[inline(never)]
+    fn restore_state(&mut self) -> Result<(), Error>
+        ensures { (start : ℕ) (run : Run) → Represents start self.old run →
+            Follows start run Restore result self.new }
+    {
+        match self.remembered.take() {
+            Some(state) => {
+                self.state = state;
+                Ok(())
+            }
+            None => Err(Error::PopWithEmptyStack),
+        }
+    }
+
+    fn set_cfa_register(&mut self, register: Register) -> Result<(), Error>
+        ensures { (start : ℕ) (run : Run) → Represents start self.old run →
+            Follows start run (CfaColumn register.0) result self.new }
+    {
+        let (_, offset) = register_and_offset(self.state.cfa)?;
+        self.state.cfa = Some(CfaRule::RegisterAndOffset { register, offset });
+        Ok(())
+    }
+
+    fn set_cfa_offset(&mut self, offset: u64) -> Result<(), Error>
+        ensures { (start : ℕ) (run : Run) → Represents start self.old run →
+            Follows start run (CfaOffset offset) result self.new }
+    {
+        let (register, _) = register_and_offset(self.state.cfa)?;
+        self.state.cfa = Some(CfaRule::RegisterAndOffset { register, offset });
+        Ok(())
+    }
+
+    /// Runs one instruction. Behind a fault the machine isn't told.
+    pub(crate) fn run(&mut self, instruction: CallFrameInstruction<'a>) -> Result<(), Error>
+        ensures { (start : ℕ) (run : Run) → Represents start self.old run →
+            Follows start run (meaning instruction.entry) result self.new }
+    {
+        match instruction {
+            CallFrameInstruction::Nop => Ok(()),
+            CallFrameInstruction::AdvanceLocation(delta) => self.advance(delta),
+            CallFrameInstruction::SetRule { register, rule } => self.set_rule(register, rule),
+            CallFrameInstruction::RestoreInitialRule(register) => {
+                self.restore_initial_rule(register)
+            }
+            CallFrameInstruction::RememberState => self.remember_state(),
+            CallFrameInstruction::RestoreState => self.restore_state(),
+            CallFrameInstruction::DefineCfa { register, offset } => {
+                self.state.cfa = Some(CfaRule::RegisterAndOffset { register, offset });
+                Ok(())
+            }
+            CallFrameInstruction::DefineCfaRegister(register) => self.set_cfa_register(register),
+            CallFrameInstruction::DefineCfaOffset(offset) => self.set_cfa_offset(offset),
+        }
+    }
+
+    /// The row that the programs end with.
+    pub(crate) fn into_row(self) -> Result<Row<'a>, Error>
+        ensures { (start : ℕ) (run : Run) → Represents start self.entry run → IsLast run result }
+    {
+        let Machine {
+            location: _,
+            state,
+            remembered: _,
+            initial: _,
+        } = self;
+        let RowState {
+            cfa,
+            rules,
+            saved_args_size,
+        } = state;
+        match cfa {
+            Some(cfa) => Ok(Row::new(cfa, rules, saved_args_size)),
+            None => Err(Error::NoCfaRegister),
+        }
+    }
+}
+
+// The register and the offset of a CFA that is found by them.
+fn register_and_offset(cfa: Option<CfaRule>) -> Result<(Register, u64), Error>
+    ensures ok { IfOk result (λ r. option_map cfa_meaning cfa.entry ≡ Some (ColumnAndOffset r.0.0 r.1)) }
+    ensures err { IfErr result (λ e. e ≡ Error.NoCfaRegister) }
+    ensures none { OnErr result (has_column (option_map cfa_meaning cfa.entry) ≡ false) }
+{
+    match cfa {
+        Some(CfaRule::RegisterAndOffset { register, offset }) => Ok((register, offset)),
+        _ => Err(Error::NoCfaRegister),
+    }
+}
