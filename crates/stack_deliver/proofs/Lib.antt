@@ -1,7 +1,5 @@
 pub mod Apart
-pub mod Callers
 pub mod ContextLemmas
-pub mod Faults
 pub mod FirstEntry
 pub mod LineAnswers
 pub mod LineShows

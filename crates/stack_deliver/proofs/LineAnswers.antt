@@ -3,22 +3,20 @@ use Rattle.std.proofs.Common.{◌≡◌, ℕ, zero, suc, Bool, true, false, List
 use Rattle.memory_image.specs.Image.{Span, word_at}
 use Rattle.unwind_definitions.specs.declared.error.Error.{Error as Fault}
 use Rattle.unwind_definitions.specs.Forms.{plain}
-use Rattle.unwind_definitions.specs.Row.{Run}
-use Rattle.unwind_definitions.specs.Scan.{scan}
-use Rattle.unwind_definitions.specs.LanguageTable.{input_at}
-use Rattle.unwind_definitions.specs.Module.{bases_of}
+use Rattle.unwind_definitions.specs.Row.{Run, row_at}
 use Rattle.unwind_definitions.specs.Caller as calls
 use Rattle.unwind_arch.specs.declared.x86_64.Context.{Context}
 use Rattle.stack_deliver.specs.declared.space.Module.{Module}
 use Rattle.stack_deliver.specs.declared.delivery.Stepped.{Stepped}
 use Rattle.stack_deliver.specs.declared.delivery.DeliverError.{DeliverError}
 use Rattle.stack_deliver.specs.declared.delivery.DeliverError.TheVariants.{Unmapped, FrameLimit}
-use Rattle.stack_deliver.specs.declared.space.FrameInfoKind.{FrameInfoKind}
-use Rattle.stack_deliver.specs.declared.space.FrameInfoKind.TheVariants.{EhFrame, EhFrameHdr}
+use Rattle.unwinding_core.specs.Calling.{no_expressions}
+use Rattle.unwinding_core.specs.Finding.{FoundFde}
+use Rattle.unwinding_core.specs.Framed.{address_asked}
+use Rattle.unwinding_core.specs.Named.{found_by}
 use Rattle.unwind_arch.specs.Contexts.{columns_of}
 use Rattle.stack_deliver.specs.Modules.{SpaceValue, module_at}
-use Rattle.stack_deliver.specs.Processes.{module_of}
-use Rattle.stack_deliver.specs.Stepping.{step_of, in_module, by_table, called, run_found, stepped, context_by, no_expressions, address_asked, IsStepFault}
+use Rattle.stack_deliver.specs.Stepping.{step_of, in_module, called, by_row, stepped, context_by, IsStepFault}
 use Rattle.stack_deliver.specs.Delivering.{with_first, line_after, line_of, ended, delivery_of, NeedsMore}
 use Rattle.stack_deliver.proofs.StepAnswers.{step_unmapped}
 
@@ -27,31 +25,30 @@ abbrev pub OnStepFault : {A : Type 0} → Result A DeliverError → Type 0
 OnStepFault (Ok v) = Unit {0}
 OnStepFault (Err e) = IsStepFault e
 
-faults_context : (r : Result calls.Columns calls.StepFault) → OnStepFault (stepped (context_by r))
-faults_context (Ok columns) = tt
-faults_context (Err (calls.Table f)) = tt
-faults_context (Err (calls.Unmapped a)) = tt
+faults_context : (signal : Bool) (r : Result calls.Columns calls.StepFault) → OnStepFault (stepped signal (context_by r))
+faults_context signal (Ok columns) = tt
+faults_context signal (Err (calls.Table f)) = tt
+faults_context signal (Err (calls.Unmapped a)) = tt
 
-faults_called : (image : List Span) (c : Context) (r : Result (Option Run) Fault) → OnStepFault (called image c r)
-faults_called image c (Ok None) = tt
-faults_called image c (Ok (Some run)) = faults_context (calls.caller_of calls.x86_64 no_expressions image (columns_of c) run)
-faults_called image c (Err f) = tt
+faults_by_row : (image : List Span) (c : Context) (signal : Bool) (r : Result Run Fault) → OnStepFault (by_row image c signal r)
+faults_by_row image c signal (Ok run) = faults_context signal (calls.caller_of calls.x86_64 no_expressions image (columns_of c) run)
+faults_by_row image c signal (Err f) = tt
 
-faults_by_table : (image : List Span) (c : Context) (a : ℕ) (m : Module) (kind : FrameInfoKind) → OnStepFault (by_table image c a m kind)
-faults_by_table image c a m (EhFrame frame) = faults_called image c (run_found (bases_of (module_of m) frame) a (scan plain (bases_of (module_of m) frame) (input_at image frame) a))
-faults_by_table image c a m (EhFrameHdr header) = tt
+faults_called : (image : List Span) (c : Context) (a : ℕ) (o : Option FoundFde) → OnStepFault (called image c a o)
+faults_called image c a None = tt
+faults_called image c a (Some found) = faults_by_row image c found.fde.cie.letters.signal (row_at plain found.bases found.fde a)
 
 faults_in : (image : List Span) (c : Context) (a : ℕ) (o : Option Module) → OnStepFault (in_module image c a o)
 faults_in image c a None = tt
-faults_in image c a (Some m) = faults_by_table image c a m m.frame.kind
+faults_in image c a (Some m) = faults_called image c a (found_by m.frame image a)
 
 pub step_faults : (space : SpaceValue) (c : Context) (interrupted : Bool) → OnStepFault (step_of space c interrupted)
 unfolding step_of
 step_faults space c interrupted = go (eqb c.ra 0)
   where
-    go : (t : Bool) → OnStepFault (cond t (Ok None) (in_module space.image c (address_asked c interrupted) (module_at space.modules (address_asked c interrupted))))
+    go : (t : Bool) → OnStepFault (cond t (Ok None) (in_module space.image c (address_asked c.ra interrupted) (module_at space.modules (address_asked c.ra interrupted))))
     go true = tt
-    go false = faults_in space.image c (address_asked c interrupted) (module_at space.modules (address_asked c interrupted))
+    go false = faults_in space.image c (address_asked c.ra interrupted) (module_at space.modules (address_asked c.ra interrupted))
 
 first_limit : (c : Context) (r : Result (List Context) DeliverError) → with_first c r ≡ Err FrameLimit → r ≡ Err FrameLimit
 first_limit c (Ok cs) e = absurd cc

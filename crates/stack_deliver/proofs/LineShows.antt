@@ -17,12 +17,14 @@ use Rattle.unwind_laws.proofs.Booleans as lists
 use Rattle.unwind_laws.proofs.Found.{not_found}
 use Rattle.unwind_arch.specs.declared.x86_64.Context.{Context}
 use Rattle.stack_deliver.specs.declared.space.Module.{Module}
-use Rattle.stack_deliver.specs.declared.space.FrameInfoKind.{FrameInfoKind}
-use Rattle.stack_deliver.specs.declared.space.FrameInfoKind.TheVariants.{EhFrame, EhFrameHdr}
+use Rattle.unwinding_core.specs.declared.find_fde.custom.FrameInfoKind.{FrameInfoKind}
+use Rattle.unwinding_core.specs.declared.find_fde.custom.FrameInfoKind.TheVariants.{EhFrame, EhFrameHdr}
 use Rattle.unwind_arch.specs.Contexts.{columns_of}
 use Rattle.stack_deliver.specs.Modules.{SpaceValue, AreApart, contains, module_at}
 use Rattle.stack_deliver.specs.Processes.{tables_of, module_of, process_of}
-use Rattle.stack_deliver.specs.Stepping.{step_of, in_module, by_table}
+use Rattle.unwinding_core.specs.Finding.{table_bases}
+use Rattle.unwinding_core.specs.Named.{found_by_kind}
+use Rattle.stack_deliver.specs.Stepping.{step_of, in_module, called}
 use Rattle.stack_deliver.specs.Delivering.{line_of}
 use Rattle.stack_deliver.specs.Undone.{IsDescribedCall, HaveFrameTables, Undone, EachShows}
 use Rattle.stack_deliver.proofs.StepUndone.{step_undone}
@@ -52,22 +54,27 @@ contains_in_map (n ∷ ns) m has = go (λ h. contains_in_map ns m h) (lists.here
 
 module _ (space : SpaceValue) where
   -- a module's frame table doesn't contain the address
-  in_no_entry : (c : Context) (a : ℕ) (m : Module) → described.CoversNot plain space.image (module_of m) a → (kind : FrameInfoKind) → m.frame.kind ≡ kind → by_table space.image c a m kind ≡ Ok None
-  in_no_entry c a m u (EhFrameHdr h) named = refl
-  in_no_entry c a m u (EhFrame f) named =
+  in_no_entry : (a : ℕ) (m : Module) → described.CoversNot plain space.image (module_of m) a → (kind : FrameInfoKind) → m.frame.kind ≡ kind → found_by_kind m.frame.text_base kind space.image a ≡ None
+  in_no_entry a m u (EhFrameHdr h) named = refl
+  in_no_entry a m u (EhFrame f) named =
       let address : described.frame_address space.image (described.Frames f) ≡ Some u.frame =
       subst (λ (k : FrameInfoKind). described.frame_address space.image (tables_of k) ≡ Some u.frame) named u.address in
       let place : f ≡ u.frame = cc in
+      let header : described.header_of (tables_of m.frame.kind) ≡ None = rw named refl in
       let none : scan plain (described.bases_of (module_of m) f) (input_at space.image f) a ≡ Err NoUnwindInfoForAddress =
       subst (λ (g : ℕ). scan plain (described.bases_of (module_of m) g) (input_at space.image g) a ≡ Err NoUnwindInfoForAddress) (sym place) (not_found plain space.image (module_of m) a u) in
-      rw none refl
+      let same : table_bases m.frame.text_base f ≡ described.bases_of (module_of m) f = rw header refl in
+      rw (same, none) refl
+
+  ends_in_module : (c : Context) (a : ℕ) (m : Module) → found_by_kind m.frame.text_base m.frame.kind space.image a ≡ None → in_module space.image c a (Some m) ≡ Ok None
+  ends_in_module c a m none = rw none refl
 
   -- an address that nothing covers ends the stack
   by_module : (c : Context) (a : ℕ) → described.IsUncovered plain (process_of space) a → (o : Option Module) → module_at space.modules a ≡ o → in_module space.image c a o ≡ Ok None
   by_module c a free None found = refl
   by_module c a free (Some m) found =
       let r = module_at-found space.modules m a found in
-      in_no_entry c a m (free (module_of m) (contains_in_map space.modules m r.0) r.1) m.frame.kind refl
+      ends_in_module c a m (in_no_entry a m (free (module_of m) (contains_in_map space.modules m r.0) r.1) m.frame.kind refl)
 
   -- the stack ends where the return address is 0 or no function covers it
   ends : (functions : List Function) (c : Context) (s : State) → Shows (columns_of c) s → IsEnd space.image (described.IsUncovered plain (process_of space)) functions s → step_of space c false ≡ Ok None

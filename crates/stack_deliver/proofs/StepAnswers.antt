@@ -4,65 +4,63 @@ use Rattle.std.specs.Option.{option_or, option_map_or}
 use Rattle.std.proofs.lemmas.Bool.Decides.{nat_tests, eqb_tells}
 use Rattle.memory_image.specs.Image.{Span, word_at}
 use Rattle.unwind_definitions.specs.declared.error.Error.{Error as Fault}
-use Rattle.unwind_definitions.specs.declared.error.Error.TheVariants.{NoUnwindInfoForAddress, NoCfaRegister}
+use Rattle.unwind_definitions.specs.declared.error.Error.TheVariants.{NoCfaRegister}
 use Rattle.unwind_definitions.specs.Forms.{plain}
+use Rattle.unwind_definitions.specs.Input.{Input}
 use Rattle.unwind_definitions.specs.Instructions as rules
 use Rattle.unwind_definitions.specs.Pointers as pointers
 use Rattle.unwind_definitions.specs.Row.{Run, CfaRule, ColumnAndOffset, ByExpression, cfa_rule, rule_of, row_at}
 use Rattle.unwind_definitions.specs.Entries.{Fde}
 use Rattle.unwind_definitions.specs.Scan.{scan}
 use Rattle.unwind_definitions.specs.LanguageTable.{input_at}
-use Rattle.unwind_definitions.specs.Module.{bases_of}
 use Rattle.unwind_definitions.specs.Caller as calls
 use Rattle.unwind_arch.specs.declared.x86_64.Context.{Context}
+use Rattle.unwinding_core.specs.declared.find_fde.custom.FrameInfoKind.{FrameInfoKind}
+use Rattle.unwinding_core.specs.declared.find_fde.custom.FrameInfoKind.TheVariants.{EhFrame, EhFrameHdr}
+use Rattle.unwinding_core.specs.Calling.{no_expressions}
+use Rattle.unwinding_core.specs.Finding.{FoundFde, table_bases, found_in}
+use Rattle.unwinding_core.specs.Framed.{address_asked}
+use Rattle.unwinding_core.specs.Named.{found_by_kind, found_by}
 use Rattle.stack_deliver.specs.declared.space.Module.{Module}
 use Rattle.stack_deliver.specs.declared.delivery.DeliverError.{DeliverError}
 use Rattle.stack_deliver.specs.declared.delivery.DeliverError.TheVariants.{Unmapped}
-use Rattle.stack_deliver.specs.declared.space.FrameInfoKind.{FrameInfoKind}
-use Rattle.stack_deliver.specs.declared.space.FrameInfoKind.TheVariants.{EhFrame, EhFrameHdr}
 use Rattle.unwind_arch.specs.Contexts.{columns_of}
 use Rattle.stack_deliver.specs.Modules.{SpaceValue, module_at}
-use Rattle.stack_deliver.specs.Processes.{module_of}
-use Rattle.stack_deliver.specs.Stepping.{step_of, in_module, by_table, called, run_found, some_run, uncovered, stepped, context_by, no_expressions, address_asked, CoversNot, IsUncovered, EndsAt}
+use Rattle.stack_deliver.specs.Stepping.{step_of, in_module, called, by_row, stepped, context_by, FindsNone, IsUncovered, EndsAt}
 
-none_stepped : (r : Result Context DeliverError) → stepped r ≡ Ok None → ⊥
-none_stepped (Ok d) e = absurd cc
-none_stepped (Err x) e = absurd cc
+none_stepped : (signal : Bool) (r : Result Context DeliverError) → stepped signal r ≡ Ok None → ⊥
+none_stepped signal (Ok d) e = absurd cc
+none_stepped signal (Err x) e = absurd cc
 
--- a scan's answer that leads to no row
-none_found : (image : List Span) (c : Context) (r : Result (Option Run) Fault) → called image c r ≡ Ok None → r ≡ Ok None
-none_found image c (Ok None) e = refl
-none_found image c (Ok (Some run)) e = absurd (none_stepped (context_by (calls.caller_of calls.x86_64 no_expressions image (columns_of c) run)) e)
-none_found image c (Err x) e = absurd cc
+none_by_row : (image : List Span) (c : Context) (signal : Bool) (r : Result Run Fault) → by_row image c signal r ≡ Ok None → ⊥
+none_by_row image c signal (Ok run) e = none_stepped signal (context_by (calls.caller_of calls.x86_64 no_expressions image (columns_of c) run)) e
+none_by_row image c signal (Err x) e = absurd cc
 
-none_some : (r : Result Run Fault) → some_run r ≡ Ok None → ⊥
-none_some (Ok run) e = absurd cc
-none_some (Err x) e = absurd cc
+-- there is no caller where nothing is found
+none_called : (image : List Span) (c : Context) (a : ℕ) (o : Option FoundFde) → called image c a o ≡ Ok None → o ≡ None
+none_called image c a None e = refl
+none_called image c a (Some found) e = absurd (none_by_row image c found.fde.cie.letters.signal (row_at plain found.bases found.fde a) e)
 
--- a fault that ends the stack
-is_uncovered : (e : Fault) → uncovered e ≡ Ok None → e ≡ NoUnwindInfoForAddress
-is_uncovered NoUnwindInfoForAddress e = refl
-is_uncovered _ e = absurd cc
+-- a scan that leads to nothing has a fault
+none_scanned : (bases : pointers.Bases) (table : Input) (r : Result Fde Fault) → found_in bases table r ≡ None → (x : Fault) × (r ≡ Err x)
+none_scanned bases table (Ok fde) e = absurd cc
+none_scanned bases table (Err x) e = (x, refl)
 
-none_scanned : (bases : pointers.Bases) (a : ℕ) (r : Result Fde Fault) → run_found bases a r ≡ Ok None → r ≡ Err NoUnwindInfoForAddress
-none_scanned bases a (Ok fde) e = absurd (none_some (row_at plain bases fde a) e)
-none_scanned bases a (Err x) e = ap Err (is_uncovered x e)
+none_by_kind : (image : List Span) (text : Option ℕ) (kind : FrameInfoKind) (a : ℕ) → found_by_kind text kind image a ≡ None → FindsNone image text kind a
+none_by_kind image text (EhFrame frame) a e = none_scanned (table_bases text frame) (input_at image frame) (scan plain (table_bases text frame) (input_at image frame) a) e
+none_by_kind image text (EhFrameHdr header) a e = tt
 
-none_by_table : (image : List Span) (c : Context) (a : ℕ) (m : Module) (kind : FrameInfoKind) → by_table image c a m kind ≡ Ok None → CoversNot image m kind a
-none_by_table image c a m (EhFrame frame) e = none_scanned (bases_of (module_of m) frame) a (scan plain (bases_of (module_of m) frame) (input_at image frame) a) (none_found image c (run_found (bases_of (module_of m) frame) a (scan plain (bases_of (module_of m) frame) (input_at image frame) a)) e)
-none_by_table image c a m (EhFrameHdr header) e = tt
-
-by_table_none : (image : List Span) (c : Context) (a : ℕ) (m : Module) (kind : FrameInfoKind) → CoversNot image m kind a → by_table image c a m kind ≡ Ok None
-by_table_none image c a m (EhFrame frame) free = rw free refl
-by_table_none image c a m (EhFrameHdr header) free = refl
+by_kind_none : (image : List Span) (text : Option ℕ) (kind : FrameInfoKind) (a : ℕ) → FindsNone image text kind a → found_by_kind text kind image a ≡ None
+by_kind_none image text (EhFrame frame) a free = rw free.1 refl
+by_kind_none image text (EhFrameHdr header) a free = refl
 
 none_in_module : (image : List Span) (c : Context) (a : ℕ) (o : Option Module) → in_module image c a o ≡ Ok None → IsUncovered image o a
 none_in_module image c a None e = tt
-none_in_module image c a (Some m) e = none_by_table image c a m m.frame.kind e
+none_in_module image c a (Some m) e = none_by_kind image m.frame.text_base m.frame.kind a (none_called image c a (found_by m.frame image a) e)
 
 in_module_none : (image : List Span) (c : Context) (a : ℕ) (o : Option Module) → IsUncovered image o a → in_module image c a o ≡ Ok None
 in_module_none image c a None free = refl
-in_module_none image c a (Some m) free = by_table_none image c a m m.frame.kind free
+in_module_none image c a (Some m) free = rw (by_kind_none image m.frame.text_base m.frame.kind a free) refl
 
 -- a step answers the end of the stack where it ends, and nowhere else
 pub step_ends : (space : SpaceValue) (c : Context) (interrupted : Bool) → step_of space c interrupted ≡ Ok None → EndsAt space c interrupted
@@ -70,8 +68,8 @@ unfolding step_of
 step_ends space c interrupted e = elim (eqb_tells c.ra 0) as (λ t. EndsAt space c interrupted) [
   | inl none ↦ inl none.1
   | inr some ↦
-      let e' : in_module space.image c (address_asked c interrupted) (module_at space.modules (address_asked c interrupted)) ≡ Ok None = rw some.0 at e in
-      inr (some.1, none_in_module space.image c (address_asked c interrupted) (module_at space.modules (address_asked c interrupted)) e')
+      let e' : in_module space.image c (address_asked c.ra interrupted) (module_at space.modules (address_asked c.ra interrupted)) ≡ Ok None = rw some.0 at e in
+      inr (some.1, none_in_module space.image c (address_asked c.ra interrupted) (module_at space.modules (address_asked c.ra interrupted)) e')
 ]
 
 pub ends_step : (space : SpaceValue) (c : Context) (interrupted : Bool) → EndsAt space c interrupted → step_of space c interrupted ≡ Ok None
@@ -80,7 +78,7 @@ ends_step space c interrupted (inl none) = rw none refl
 ends_step space c interrupted (inr u) =
     let some : c.ra ≢ 0 = u.0 in
     let nonzero : eqb c.ra 0 ≡ false = grind (arith, nat_tests) in
-    rw nonzero (in_module_none space.image c (address_asked c interrupted) (module_at space.modules (address_asked c interrupted)) u.1)
+    rw nonzero (in_module_none space.image c (address_asked c.ra interrupted) (module_at space.modules (address_asked c.ra interrupted)) u.1)
 
 -- ---- a slot that isn't mapped
 
@@ -152,29 +150,28 @@ module _ (image : List Span) (columns : calls.Columns) (run : Run) (b : ℕ) whe
       go None e = absurd cc
       go (Some rule) e = unmapped_with (calls.cfa_value no_expressions columns rule) (unmapped_cfa rule) e
 
-by_context : (r : Result calls.Columns calls.StepFault) (b : ℕ) → stepped (context_by r) ≡ Err (Unmapped b) → r ≡ Err (calls.Unmapped b)
-by_context (Ok columns) b e = absurd cc
-by_context (Err (calls.Table f)) b e = absurd cc
-by_context (Err (calls.Unmapped a)) b e = cc
+by_context : (signal : Bool) (r : Result calls.Columns calls.StepFault) (b : ℕ) → stepped signal (context_by r) ≡ Err (Unmapped b) → r ≡ Err (calls.Unmapped b)
+by_context signal (Ok columns) b e = absurd cc
+by_context signal (Err (calls.Table f)) b e = absurd cc
+by_context signal (Err (calls.Unmapped a)) b e = cc
 
-unmapped_called : (image : List Span) (c : Context) (b : ℕ) (r : Result (Option Run) Fault) → called image c r ≡ Err (Unmapped b) → word_at image b ≡ None
-unmapped_called image c b (Ok None) e = absurd cc
-unmapped_called image c b (Ok (Some run)) e = unmapped_caller image (columns_of c) run b (by_context (calls.caller_of calls.x86_64 no_expressions image (columns_of c) run) b e)
-unmapped_called image c b (Err f) e = absurd cc
+unmapped_by_row : (image : List Span) (c : Context) (signal : Bool) (b : ℕ) (r : Result Run Fault) → by_row image c signal r ≡ Err (Unmapped b) → word_at image b ≡ None
+unmapped_by_row image c signal b (Ok run) e = unmapped_caller image (columns_of c) run b (by_context signal (calls.caller_of calls.x86_64 no_expressions image (columns_of c) run) b e)
+unmapped_by_row image c signal b (Err f) e = absurd cc
 
-unmapped_by_table : (image : List Span) (c : Context) (a b : ℕ) (m : Module) (kind : FrameInfoKind) → by_table image c a m kind ≡ Err (Unmapped b) → word_at image b ≡ None
-unmapped_by_table image c a b m (EhFrame frame) e = unmapped_called image c b (run_found (bases_of (module_of m) frame) a (scan plain (bases_of (module_of m) frame) (input_at image frame) a)) e
-unmapped_by_table image c a b m (EhFrameHdr header) e = absurd cc
+unmapped_called : (image : List Span) (c : Context) (a b : ℕ) (o : Option FoundFde) → called image c a o ≡ Err (Unmapped b) → word_at image b ≡ None
+unmapped_called image c a b None e = absurd cc
+unmapped_called image c a b (Some found) e = unmapped_by_row image c found.fde.cie.letters.signal b (row_at plain found.bases found.fde a) e
 
 unmapped_in : (image : List Span) (c : Context) (a b : ℕ) (o : Option Module) → in_module image c a o ≡ Err (Unmapped b) → word_at image b ≡ None
 unmapped_in image c a b None e = absurd cc
-unmapped_in image c a b (Some m) e = unmapped_by_table image c a b m m.frame.kind e
+unmapped_in image c a b (Some m) e = unmapped_called image c a b (found_by m.frame image a) e
 
 -- a step that answers an unmapped slot names one
 pub step_unmapped : (space : SpaceValue) (c : Context) (interrupted : Bool) (b : ℕ) → step_of space c interrupted ≡ Err (Unmapped b) → word_at space.image b ≡ None
 unfolding step_of
 step_unmapped space c interrupted b e = go (eqb c.ra 0) e
   where
-    go : (t : Bool) → cond t (Ok None) (in_module space.image c (address_asked c interrupted) (module_at space.modules (address_asked c interrupted))) ≡ Err (Unmapped b) → word_at space.image b ≡ None
+    go : (t : Bool) → cond t (Ok None) (in_module space.image c (address_asked c.ra interrupted) (module_at space.modules (address_asked c.ra interrupted))) ≡ Err (Unmapped b) → word_at space.image b ≡ None
     go true e = absurd cc
-    go false e = unmapped_in space.image c (address_asked c interrupted) b (module_at space.modules (address_asked c interrupted)) e
+    go false e = unmapped_in space.image c (address_asked c.ra interrupted) b (module_at space.modules (address_asked c.ra interrupted)) e

@@ -20,12 +20,15 @@ use Rattle.unwind_laws.proofs.Booleans as lists
 use Rattle.unwind_arch.specs.declared.x86_64.Context.{Context}
 use Rattle.stack_deliver.specs.declared.space.Module.{Module}
 use Rattle.stack_deliver.specs.declared.delivery.Stepped.{Stepped}
-use Rattle.stack_deliver.specs.declared.space.FrameInfoKind.{FrameInfoKind}
-use Rattle.stack_deliver.specs.declared.space.FrameInfoKind.TheVariants.{EhFrame, EhFrameHdr}
+use Rattle.unwinding_core.specs.declared.find_fde.custom.FrameInfoKind.{FrameInfoKind}
+use Rattle.unwinding_core.specs.declared.find_fde.custom.FrameInfoKind.TheVariants.{EhFrame, EhFrameHdr}
 use Rattle.unwind_arch.specs.Contexts.{columns_of, context_of, general_columns}
 use Rattle.stack_deliver.specs.Modules.{SpaceValue, AreApart, module_at}
 use Rattle.stack_deliver.specs.Processes.{tables_of, module_of, process_of}
-use Rattle.stack_deliver.specs.Stepping.{step_of, no_expressions, by_table}
+use Rattle.unwinding_core.specs.Calling.{no_expressions}
+use Rattle.unwinding_core.specs.Finding.{table_bases}
+use Rattle.unwinding_core.specs.Named.{found_by_kind}
+use Rattle.stack_deliver.specs.Stepping.{step_of, called}
 use Rattle.stack_deliver.specs.Undone.{IsDescribedCall, HaveFrameTables, Undone}
 
 -- a module of the process is one of the space
@@ -155,14 +158,15 @@ module _ (space : SpaceValue) (c : Context) (functions : List Function) (s : Sta
   answer m f same kind place found =
       let nonzero : eqb c.ra 0 ≡ false = let some : s.ra ≢ 0 = is.called.returns in let at : c.ra ≡ s.ra = ra_is in grind (arith, nat_tests) in
       let asked : c.ra - 1 ≡ s.ra - 1 = ap (λ (n : ℕ). n - 1) ra_is in
-      let scanned : scan plain (described.bases_of (module_of m) f) (input_at space.image f) (s.ra - 1) ≡ Ok step.finds.fde =
-      subst (λ (g : ℕ). scan plain (described.bases_of (module_of m) g) (input_at space.image g) (s.ra - 1) ≡ Ok step.finds.fde) (sym place)
-      (subst (λ (h : described.Module). scan plain (described.bases_of h step.finds.frame) (input_at space.image step.finds.frame) (s.ra - 1) ≡ Ok step.finds.fde) (sym same) step.finds.found) in
-      let row : row_at plain (described.bases_of (module_of m) f) step.finds.fde (s.ra - 1) ≡ Ok step.finds.run =
-      subst (λ (g : ℕ). row_at plain (described.bases_of (module_of m) g) step.finds.fde (s.ra - 1) ≡ Ok step.finds.run) (sym place)
-      (subst (λ (h : described.Module). row_at plain (described.bases_of h step.finds.frame) step.finds.fde (s.ra - 1) ≡ Ok step.finds.run) (sym same) step.finds.has_row) in
-      let tabled : by_table space.image c (s.ra - 1) m (EhFrame f) ≡ Ok (Some next) = rw (scanned, row, step.undoes.is_caller) refl in
-      rw (nonzero, asked, found) (subst (λ (k : FrameInfoKind). by_table space.image c (s.ra - 1) m k ≡ Ok (Some next)) (sym kind) tabled)
+      let header : described.header_of (tables_of m.frame.kind) ≡ None = rw kind refl in
+      let bases : described.bases_of step.finds.home step.finds.frame ≡ table_bases m.frame.text_base f =
+      subst (λ (h : described.Module). described.bases_of h step.finds.frame ≡ table_bases m.frame.text_base f) same
+      (subst (λ (g : ℕ). described.bases_of (module_of m) g ≡ table_bases m.frame.text_base f) place (rw header refl)) in
+      let scanned : scan plain (table_bases m.frame.text_base f) (input_at space.image f) (s.ra - 1) ≡ Ok step.finds.fde =
+      rw (← bases, place) step.finds.found in
+      let row : row_at plain (table_bases m.frame.text_base f) step.finds.fde (s.ra - 1) ≡ Ok step.finds.run = rw (← bases) step.finds.has_row in
+      let tabled : called space.image c (s.ra - 1) (found_by_kind m.frame.text_base (EhFrame f) space.image (s.ra - 1)) ≡ Ok (Some next) = rw (scanned, row, step.undoes.is_caller, step.finds.no_signal) refl in
+      rw (nonzero, asked, found) (subst (λ (k : FrameInfoKind). called space.image c (s.ra - 1) (found_by_kind m.frame.text_base k space.image (s.ra - 1)) ≡ Ok (Some next)) (sym kind) tabled)
 
   -- it names its frame table
   by_kind : (m : Module) (kind : FrameInfoKind) → module_of m ≡ step.finds.home → m.frame.kind ≡ kind → module_at space.modules (s.ra - 1) ≡ Some m → step_of space c false ≡ Ok (Some next)

@@ -1,4 +1,3 @@
-pub mod Applied
 pub mod Delivering
 pub mod Modules
 pub mod Nearest

@@ -2,6 +2,7 @@
 use Rattle.std.specs.Prelude.{ℕ, ◌<◌, ◌≤◌, Bool, ◌&&◌, List, [], ◌∷◌, Option, Some, None, nat_le, nat_lt, map, if◌then◌else◌}
 use Rattle.std.specs.Option.{option_map}
 use Rattle.memory_image.specs.Image.{Span, lower}
+use Rattle.unwinding_core.specs.declared.find_fde.custom.FrameInfo.{FrameInfo}
 use Rattle.stack_deliver.specs.declared.space.SpaceError.{SpaceError}
 use Rattle.stack_deliver.specs.declared.space.SpaceError.TheVariants.{Wraps, Overlap}
 use Rattle.stack_deliver.specs.declared.space.Module.{Module}
@@ -15,6 +16,10 @@ pub record SpaceValue : Type 0 where
 -- the address lies in the module
 abbrev pub contains : Module → ℕ → Bool
 contains m a = nat_le m.start a && nat_lt a m.end
+
+-- the frame tables of a module, for an address of its own
+abbrev pub frame_for : Module → ℕ → Option FrameInfo
+frame_for m a = if contains m a then Some m.frame else None
 
 -- the module that contains the address
 abbrev pub module_at : List Module → ℕ → Option Module

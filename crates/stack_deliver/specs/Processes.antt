@@ -1,8 +1,8 @@
 -- A space as the process of the definitions: memory, and the modules that lie in it.
 use Rattle.std.specs.Prelude.{map}
 use Rattle.unwind_definitions.specs.Module.{Tables, Frames, Header, Module as Described, Process}
-use Rattle.stack_deliver.specs.declared.space.FrameInfoKind.{FrameInfoKind}
-use Rattle.stack_deliver.specs.declared.space.FrameInfoKind.TheVariants.{EhFrame, EhFrameHdr}
+use Rattle.unwinding_core.specs.declared.find_fde.custom.FrameInfoKind.{FrameInfoKind}
+use Rattle.unwinding_core.specs.declared.find_fde.custom.FrameInfoKind.TheVariants.{EhFrame, EhFrameHdr}
 use Rattle.stack_deliver.specs.declared.space.Module.{Module}
 use Rattle.stack_deliver.specs.Modules.{SpaceValue}
 

@@ -6,6 +6,7 @@ use eh_frame::Error;
 use std::alloc::AllocFailed;
 use std::marker::Model;
 use unwind_arch::x86_64::Context;
+use unwinding_core::StepError;
 
 /// A cleanup that ran.
 #[derive(Clone, Copy, Debug, PartialEq, Eq)]
@@ -61,6 +62,20 @@ impl<T: Drop> From<AllocFailed<T>> for DeliverError {
 
     fn from(_e: AllocFailed<T>) -> DeliverError {
         DeliverError::NoMemory
+    }
+}
+
+impl From<StepError> for DeliverError {
+    ghost use Rattle.unwinding_core.specs.Calling.{fault_of};
+    ghost use Rattle.stack_deliver.specs.Stepping.{refusal_of};
+
+    ghost from_gives = { λ e r. r ≡ refusal_of (fault_of e) };
+
+    fn from(e: StepError) -> DeliverError {
+        match e {
+            StepError::Table(error) => DeliverError::Table(error),
+            StepError::Unmapped(address) => DeliverError::Unmapped(address),
+        }
     }
 }
 

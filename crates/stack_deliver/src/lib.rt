@@ -3,7 +3,6 @@
 //! and the landing at the handler.
 #![tactic(auto)]
 
-mod caller;
 mod delivering;
 mod delivery;
 mod resumes;
@@ -14,6 +13,7 @@ pub use delivering::deliver;
 pub use delivery::{DeliverError, Delivery, Outcome, Stepped, Trail};
 pub use eh_frame::Error;
 pub use resumes::{Resumes, first_entry_counts};
-pub use space::{FrameInfo, FrameInfoKind, Module, Space, SpaceError};
+pub use space::{Module, Space, SpaceError};
 pub use stepping::step;
 pub use unwind_arch::x86_64::Context;
+pub use unwinding_core::{FrameInfo, FrameInfoKind};

@@ -1,78 +1,84 @@
 // From a frame to its caller, by the frame table of the module that holds it.
-ghost use Rattle.std.specs.Prelude.{◌≡◌, ◌↔◌, ℕ, List, Some, None, Ok, Err, IsFalse};
+ghost use Rattle.std.specs.Prelude.{◌≡◌, ◌≢◌, ◌↔◌, ℕ, List, Some, None, Ok, Err, IsTrue, IsFalse};
 ghost use Rattle.memory_image.specs.Image.{word_at};
 ghost use Rattle.unwind_definitions.specs.State.{State, Shows};
-ghost use Rattle.unwind_definitions.specs.Scan.{scan};
-ghost use Rattle.unwind_definitions.specs.Forms.{plain};
 ghost use Rattle.unwind_definitions.specs.Function.{Function};
 ghost use Rattle.unwind_definitions.specs.Chain.{Call};
-ghost use Rattle.encoded_pointers.specs.Pointers.{bases_of};
-ghost use Rattle.eh_frame.specs.Views.{table_of};
 ghost use Rattle.unwind_arch.specs.Contexts.{columns_of};
-ghost use Rattle.stack_deliver.specs.Modules.{AreApart};
+ghost use Rattle.unwinding_core.specs.Framed.{address_asked, GivesFrame};
+ghost use Rattle.unwinding_core.specs.Named.{found_by};
+ghost use Rattle.stack_deliver.specs.Modules.{AreApart, contains};
 ghost use Rattle.stack_deliver.specs.Processes.{process_of};
-ghost use Rattle.stack_deliver.specs.Stepping.{FindsRow, run_found, in_module, step_of, EndsAt};
+ghost use Rattle.stack_deliver.specs.Stepping.{called, step_of, EndsAt};
 ghost use Rattle.stack_deliver.specs.Undone.{HaveFrameTables, IsDescribedCall, Undone};
 
-use crate::caller::caller;
 use crate::delivery::{DeliverError, Stepped};
-use crate::space::{FrameInfoKind, Module, Space};
-use eh_frame::{Bases, EhFrame, Error, Row};
+use crate::space::{Module, Space};
 use memory_image::{Ledger, MemoryImage, Steps};
-use unwind_arch::x86_64::Context;
+use unwind_arch::x86_64::{Arch, Context};
+use unwinding_core::{CustomFinder, Frame, StepError};
 
-/// The row at an address, `None` where no description contains it.
-fn row_at<'a>(frame: &EhFrame<'a>, bases: &Bases, address: u64) -> Result<Option<Row<'a>>, Error>
-    ensures { FindsRow result (run_found (bases_of bases.now) address (scan plain (bases_of bases.now) (table_of frame.now) address)) }
+/// A finder by the frame tables of a module.
+fn finder_of(holder: Module) -> CustomFinder<Module>
+    ensures { result ≡ Some holder }
 {
-    match frame.fde_for_address(bases, address) {
-        Ok(fde) => match fde.unwind_info_for_address(frame, bases, address) {
-            Ok(row) => Ok(Some(row)),
-            Err(error) => Err(error),
-        },
-        Err(Error::NoUnwindInfoForAddress) => Ok(None),
-        Err(error) => Err(error),
-    }
+    let mut finder = CustomFinder::new();
+    // It is refused only where one is set already.
+    let _ = finder.set_custom_eh_frame_finder(holder);
+    finder
 }
 
-/// The caller by a module's frame table. Header tables aren't read yet.
-fn in_module(
+/// The frame whose registers are `context`, by the frame tables of the module that it stands in.
+fn framed<'a, L: Ledger>(
+    image: &MemoryImage<'a>,
+    context: &Context,
+    interrupted: bool,
+    holder: Module,
+    steps: &mut Steps<L>,
+) -> Result<Option<Frame<'a, Arch>>, StepError>
+    requires returns { context.now.ra ≢ 0 }
+    requires inside { IsTrue (contains holder (address_asked context.now.ra interrupted)) }
+    ensures frame { GivesFrame (address_asked context.now.ra interrupted) (found_by holder.frame image.now (address_asked context.now.ra interrupted)) result }
+    ensures unticked { steps.new.number ≡ steps.old.number }
+{
+    Frame::from_context(image, &finder_of(holder), context, interrupted, steps)
+}
+
+/// The caller by a module's frame tables.
+fn in_module<L: Ledger>(
     image: &MemoryImage<'_>,
     context: &Context,
-    address: u64,
-    holder: &Module,
+    interrupted: bool,
+    holder: Module,
+    steps: &mut Steps<L>,
 ) -> Result<Option<Stepped>, DeliverError>
-    ensures { result ≡ in_module image.now context.now address (Some holder.now) }
+    requires returns { context.now.ra ≢ 0 }
+    requires inside { IsTrue (contains holder (address_asked context.now.ra interrupted)) }
+    ensures caller { result ≡ called image.now context.now (address_asked context.now.ra interrupted) (found_by holder.frame image.now (address_asked context.now.ra interrupted)) }
+    ensures unticked { steps.new.number ≡ steps.old.number }
 {
-    let FrameInfoKind::EhFrame(table) = holder.frame.kind else {
-        return Ok(None);
-    };
-    let bases = Bases {
-        text: holder.frame.text_base,
-        data_base: None,
-        func: None,
-        hdr: None,
-        frame: Some(table),
-    };
-    let frame = EhFrame::new(image.from(table).unwrap_or(&[]), table);
-    match row_at(&frame, &bases, address) {
-        Ok(None) => Ok(None),
-        Ok(Some(row)) => Ok(Some(Stepped {
-            context: caller(image, context, &row)?,
-            signal: false,
-        })),
-        Err(error) => Err(DeliverError::Table(error)),
+    match framed(image, context, interrupted, holder, steps)? {
+        None => Ok(None),
+        Some(frame) => {
+            let caller = frame.unwind(image, context)?;
+            Ok(Some(Stepped {
+                context: caller,
+                signal: frame.is_signal_trampoline(),
+            }))
+        }
     }
 }
 
 #[tactic(auto, unfolding(crate::specs::Stepping::step_of))]
-fn stepped(
+fn stepped<L: Ledger>(
     space: &Space<'_>,
     context: &Context,
     interrupted: bool,
+    steps: &mut Steps<L>,
 ) -> Result<Option<Stepped>, DeliverError>
     ensures exact { result ≡ step_of space.now context.now interrupted }
     ensures apart { AreApart 0 space.now.modules }
+    ensures unticked { steps.new.number ≡ steps.old.number }
 {
     let address = if interrupted {
         context.ra
@@ -80,7 +86,9 @@ fn stepped(
         context.ra.saturating_sub(1)
     };
     match space.module_at(address) {
-        Some(module) if context.ra != 0 => in_module(space.image(), context, address, &module),
+        Some(holder) if context.ra != 0 => {
+            in_module(space.image(), context, interrupted, holder, steps)
+        }
         _ => Ok(None),
     }
 }
@@ -89,14 +97,15 @@ fn stepped(
 ///
 /// The address asked is `ra`, less one unless the frame was `interrupted`: behind a call the
 /// instruction that called is the one before, which may be the last of its function. The stack
-/// ends where `ra` is 0, or where the address is in no module or in none of its descriptions.
-/// A scan of a frame table takes no counted steps.
+/// ends where `ra` is 0, or where the address is in no module or no description is found for it:
+/// none contains it, or an entry before can't be read. A scan of a frame table takes no counted
+/// steps.
 ///
 /// # Errors
 ///
-/// `Table` where an entry before the description, or the row, can't be read, or a register isn't
-/// the machine's; `Unmapped` with the address of a stack slot that isn't wholly mapped. The first
-/// fault counts, in the order in which the tables are read, and then by ascending register.
+/// `Table` where the row of the description can't be read or run, or a register isn't the
+/// machine's; `Unmapped` with the address of a stack slot that isn't wholly mapped. The first
+/// fault counts: those of the row, and then that of the lowest register.
 pub fn step<L: Ledger>(
     space: &Space<'_>,
     context: &Context,
@@ -108,7 +117,8 @@ pub fn step<L: Ledger>(
     ensures unmapped { (a : ℕ) → result ≡ Err (DeliverError.Unmapped a) → word_at space.now.image a ≡ None }
     ensures undone { (functions : List Function) (s : State) (call : Call) → HaveFrameTables (process_of space.now) → IsDescribedCall (process_of space.now) functions s call →
         Shows (columns_of context.now) s → IsFalse interrupted → Undone result (columns_of context.now) call.caller }
+    // A scan of a frame table isn't counted.
+    ensures unticked { steps.new.number ≡ steps.old.number }
 {
-    let _ = steps;
-    stepped(space, context, interrupted)
+    stepped(space, context, interrupted, steps)
 }

@@ -34,7 +34,7 @@ pub struct FrameInfo {
 /// What knows where the frame tables of the code at an address lie.
 ///
 /// Contracts see which tables may be named for an address.
-pub trait EhFrameFinder {
+pub trait EhFrameFinder: Drop {
     /// Whether these tables, or none, may be named for an address.
     ghost names: { Self → ℕ → Option FrameInfo → Type 0 };
 
@@ -49,11 +49,11 @@ pub struct SetCustomEhFrameFinderError;
 
 /// A finder by the frame tables that another value names. It finds nothing until that value is set.
 #[derive(Drop)]
-pub struct CustomFinder<E: EhFrameFinder + Drop> {
+pub struct CustomFinder<E: EhFrameFinder> {
     finder: Option<E>,
 }
 
-impl<E: EhFrameFinder + Drop> Model for CustomFinder<E> {
+impl<E: EhFrameFinder> Model for CustomFinder<E> {
     ghost use Rattle.std.specs.Prelude.{Option};
 
     ghost Value = { Option E };
@@ -61,7 +61,7 @@ impl<E: EhFrameFinder + Drop> Model for CustomFinder<E> {
     ghost view = { λ f. f.finder };
 }
 
-impl<E: EhFrameFinder + Drop> CustomFinder<E> {
+impl<E: EhFrameFinder> CustomFinder<E> {
     /// A finder that nothing is set in.
     pub fn new() -> CustomFinder<E>
         ensures { result ≡ None }
@@ -89,7 +89,7 @@ impl<E: EhFrameFinder + Drop> CustomFinder<E> {
     }
 }
 
-impl<E: EhFrameFinder + Drop> FDEFinder for CustomFinder<E> {
+impl<E: EhFrameFinder> FDEFinder for CustomFinder<E> {
     ghost finds = { FindsBy E.names };
 
     fn find_fde<'a, L: Ledger>(

@@ -1,9 +1,0 @@
--- A fault stays what it is.
-use Rattle.std.proofs.Common.{◌≡◌, Result, Ok, Err}
-use Rattle.unwind_definitions.specs.Caller.{StepFault}
-use Rattle.stack_deliver.specs.declared.delivery.DeliverError.{DeliverError}
-use Rattle.stack_deliver.specs.Applied.{and_then, value_given}
-
-pub and_then_fault : {A B : Type 0} → (r : Result A StepFault) (f : A → Result B StepFault) (e : DeliverError) → value_given r ≡ Err e → value_given (and_then r f) ≡ Err e
-and_then_fault (Ok v) f e fails = absurd cc
-and_then_fault (Err x) f e fails = cc
