@@ -18,7 +18,7 @@ contains_before m a h = grind (arith, nat_tests)
 contains_past : (m : Module) (a : ℕ) → m.end ≤ a → contains m a ≡ false
 contains_past m a h = grind (arith, nat_tests)
 
-contains_in : (m : Module) (a : ℕ) → m.start ≤ a → a < m.end → contains m a ≡ true
+pub contains_in : (m : Module) (a : ℕ) → m.start ≤ a → a < m.end → contains m a ≡ true
 contains_in m a h l = grind (arith, nat_tests)
 
 -- no module is below the first

@@ -1,6 +1,7 @@
 pub mod Apart
 pub mod ContextLemmas
 pub mod FirstEntry
+pub mod Framings
 pub mod LineAnswers
 pub mod LineShows
 pub mod Lines
