@@ -23,10 +23,10 @@ use Rattle.unwinding_core.specs.Framed.{address_asked}
 use Rattle.unwinding_core.specs.Named.{found_by_kind, found_by}
 use Rattle.stack_deliver.specs.declared.space.Module.{Module}
 use Rattle.stack_deliver.specs.declared.delivery.DeliverError.{DeliverError}
-use Rattle.stack_deliver.specs.declared.delivery.DeliverError.TheVariants.{Unmapped}
+use Rattle.stack_deliver.specs.declared.delivery.DeliverError.TheVariants.{Table, Unmapped}
 use Rattle.unwind_arch.specs.Contexts.{columns_of}
 use Rattle.stack_deliver.specs.Modules.{SpaceValue, module_at}
-use Rattle.stack_deliver.specs.Stepping.{step_of, in_module, called, by_row, stepped, context_by, FindsNone, IsUncovered, EndsAt}
+use Rattle.stack_deliver.specs.Stepping.{step_of, in_module, called, by_row, stepped, context_by, FindsNone, IsUncovered, EndsAt, RowFaults, FaultsAt}
 
 none_stepped : (signal : Bool) (r : Result Context DeliverError) → stepped signal r ≡ Ok None → ⊥
 none_stepped signal (Ok d) e = absurd cc
@@ -175,3 +175,52 @@ step_unmapped space c interrupted b e = go (eqb c.ra 0) e
     go : (t : Bool) → cond t (Ok None) (in_module space.image c (address_asked c.ra interrupted) (module_at space.modules (address_asked c.ra interrupted))) ≡ Err (Unmapped b) → word_at space.image b ≡ None
     go true e = absurd cc
     go false e = unmapped_in space.image c (address_asked c.ra interrupted) b (module_at space.modules (address_asked c.ra interrupted)) e
+
+-- ---- a fault of tables
+
+table_stepped : (signal : Bool) (r : Result calls.Columns calls.StepFault) (e : Fault) → stepped signal (context_by r) ≡ Err (Table e) → r ≡ Err (calls.Table e)
+table_stepped signal (Ok columns) e is = absurd cc
+table_stepped signal (Err (calls.Table f)) e is = cc
+table_stepped signal (Err (calls.Unmapped a)) e is = absurd cc
+
+table_by_row : (image : List Span) (c : Context) (signal : Bool) (r : Result Run Fault) (e : Fault) → by_row image c signal r ≡ Err (Table e) → RowFaults image c r e
+table_by_row image c signal (Ok run) e is = table_stepped signal (calls.caller_of calls.x86_64 no_expressions image (columns_of c) run) e is
+table_by_row image c signal (Err f) e is = cc
+
+by_row_table : (image : List Span) (c : Context) (signal : Bool) (r : Result Run Fault) (e : Fault) → RowFaults image c r e → by_row image c signal r ≡ Err (Table e)
+by_row_table image c signal (Ok run) e fault = rw fault refl
+by_row_table image c signal (Err f) e fault = rw fault refl
+
+module _ (space : SpaceValue) (c : Context) (interrupted : Bool) (e : Fault) where
+  abbrev asked : ℕ
+  asked = address_asked c.ra interrupted
+
+  table_found : c.ra ≢ 0 → (m : Module) → module_at space.modules asked ≡ Some m → (o : Option FoundFde) → found_by m.frame space.image asked ≡ o → called space.image c asked o ≡ Err (Table e) → FaultsAt space c interrupted e
+  table_found some m holds None finds is = absurd cc
+  table_found some m holds (Some found) finds is = record {
+    returns = some;
+    holder = m;
+    holds = holds;
+    found = found;
+    finds = finds;
+    fault = table_by_row space.image c found.fde.cie.letters.signal (row_at plain found.bases found.fde asked) e is;
+  }
+
+  table_in : c.ra ≢ 0 → (o : Option Module) → module_at space.modules asked ≡ o → in_module space.image c asked o ≡ Err (Table e) → FaultsAt space c interrupted e
+  table_in some None holds is = absurd cc
+  table_in some (Some m) holds is = table_found some m holds (found_by m.frame space.image asked) refl is
+
+  -- a step answers a fault of tables where there is one, and nowhere else
+  pub step_table : step_of space c interrupted ≡ Err (Table e) → FaultsAt space c interrupted e
+  unfolding step_of
+  step_table is = elim (eqb_tells c.ra 0) as (λ t. FaultsAt space c interrupted e) [
+    | inl none ↦ let no : Ok None ≡ Err (Table e) = rw none.0 at is in absurd cc
+    | inr some ↦ table_in some.1 (module_at space.modules asked) refl (rw some.0 at is)
+  ]
+
+  pub table_step : FaultsAt space c interrupted e → step_of space c interrupted ≡ Err (Table e)
+  unfolding step_of
+  table_step faults =
+      let some : c.ra ≢ 0 = faults.returns in
+      let nonzero : eqb c.ra 0 ≡ false = grind (arith, nat_tests) in
+      rw (nonzero, faults.holds, faults.finds) (by_row_table space.image c faults.found.fde.cie.letters.signal (row_at plain faults.found.bases faults.found.fde asked) e faults.fault)

@@ -71,6 +71,20 @@ IsUncovered image (Some m) a = FindsNone image m.frame.text_base m.frame.kind a
 abbrev pub EndsAt : SpaceValue → Context → Bool → Type 0
 EndsAt space c interrupted = (c.ra ≡ 0) ⊎ ((c.ra ≢ 0) × IsUncovered space.image (module_at space.modules (address_asked c.ra interrupted)) (address_asked c.ra interrupted))
 
+-- a row can't be read or run, or its CFA or a rule of it, the first with a fault, asks for a column that the machine doesn't have
+abbrev pub RowFaults : List Span → Context → Result Run Fault → Fault → Type 0
+RowFaults image c (Ok run) e = caller_of x86_64 no_expressions image (columns_of c) run ≡ Err (calls.Table e)
+RowFaults image c (Err f) e = f ≡ e
+
+-- a description is found for the address asked, whose row there faults
+pub record FaultsAt (space : SpaceValue) (c : Context) (interrupted : Bool) (e : Fault) : Type 0 where
+  pub returns : c.ra ≢ 0
+  pub holder : Module
+  pub holds : module_at space.modules (address_asked c.ra interrupted) ≡ Some holder
+  pub found : FoundFde
+  pub finds : found_by holder.frame space.image (address_asked c.ra interrupted) ≡ Some found
+  pub fault : RowFaults space.image c (row_at plain found.bases found.fde (address_asked c.ra interrupted)) e
+
 -- the faults that a step may answer
 abbrev pub IsStepFault : DeliverError → Type 0
 IsStepFault (Table e) = Unit {0}

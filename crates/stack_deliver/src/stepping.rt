@@ -1,6 +1,7 @@
 // From a frame to its caller, by the frame table of the module that holds it.
 ghost use Rattle.std.specs.Prelude.{◌≡◌, ◌≢◌, ◌↔◌, ℕ, List, Some, None, Ok, Err, IsTrue, IsFalse};
 ghost use Rattle.memory_image.specs.Image.{word_at};
+ghost use Rattle.unwind_definitions.specs.declared.error.Error.{Error as Fault};
 ghost use Rattle.unwind_definitions.specs.State.{State, Shows};
 ghost use Rattle.unwind_definitions.specs.Function.{Function};
 ghost use Rattle.unwind_definitions.specs.Chain.{Call};
@@ -9,7 +10,7 @@ ghost use Rattle.unwinding_core.specs.Framed.{address_asked, GivesFrame};
 ghost use Rattle.unwinding_core.specs.Named.{found_by};
 ghost use Rattle.stack_deliver.specs.Modules.{AreApart, contains};
 ghost use Rattle.stack_deliver.specs.Processes.{process_of};
-ghost use Rattle.stack_deliver.specs.Stepping.{called, step_of, EndsAt};
+ghost use Rattle.stack_deliver.specs.Stepping.{called, step_of, EndsAt, FaultsAt};
 ghost use Rattle.stack_deliver.specs.Undone.{HaveFrameTables, IsDescribedCall, Undone};
 
 use crate::delivery::{DeliverError, Stepped};
@@ -114,6 +115,7 @@ pub fn step<L: Ledger>(
 ) -> Result<Option<Stepped>, DeliverError>
     ensures exact { result ≡ step_of space.now context.now interrupted }
     ensures ends { (result ≡ Ok None) ↔ EndsAt space.now context.now interrupted }
+    ensures table { (e : Fault) → (result ≡ Err (DeliverError.Table e)) ↔ FaultsAt space.now context.now interrupted e }
     ensures unmapped { (a : ℕ) → result ≡ Err (DeliverError.Unmapped a) → word_at space.now.image a ≡ None }
     ensures undone { (functions : List Function) (s : State) (call : Call) → HaveFrameTables (process_of space.now) → IsDescribedCall (process_of space.now) functions s call →
         Shows (columns_of context.now) s → IsFalse interrupted → Undone result (columns_of context.now) call.caller }

@@ -5,7 +5,7 @@ use Rattle.unwind_arch.specs.Contexts.{columns_of}
 use Rattle.stack_deliver.specs.Undone.{Undone}
 use Rattle.stack_deliver.specs.Stepping.{step_of}
 use Rattle.stack_deliver.proofs.StepUndone.{step_undone}
-use Rattle.stack_deliver.proofs.StepAnswers.{step_ends, ends_step, step_unmapped}
+use Rattle.stack_deliver.proofs.StepAnswers.{step_ends, ends_step, step_unmapped, step_table, table_step}
 use Rattle.stack_deliver.proofs.stepping.step.Goals as goal
 
 pub returns-clause-undone : goal.returns-clause-undone
@@ -18,3 +18,6 @@ returns-clause-ends g c = (λ e. step_ends c.args.space.now c.args.context.now c
 
 pub returns-clause-unmapped : goal.returns-clause-unmapped
 returns-clause-unmapped g c a e = step_unmapped c.args.space.now c.args.context.now c.args.interrupted a (sym c.stepped.ensures.exact ∙ e)
+
+pub returns-clause-table : goal.returns-clause-table
+returns-clause-table g c e = (λ is. step_table c.args.space.now c.args.context.now c.args.interrupted e (sym c.stepped.ensures.exact ∙ is), λ faults. c.stepped.ensures.exact ∙ table_step c.args.space.now c.args.context.now c.args.interrupted e faults)
