@@ -3,6 +3,8 @@
 #![tactic(auto)]
 
 #[cfg(test)]
+mod frames;
+#[cfg(test)]
 mod macho;
 #[cfg(test)]
 mod macho_linked;

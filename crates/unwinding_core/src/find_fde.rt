@@ -11,6 +11,7 @@ pub mod custom;
 
 use eh_frame::{Bases, EhFrame, Fde};
 use memory_image::{Ledger, MemoryImage, Steps};
+use std::fmt;
 
 /// The description of the function at an address, as a finder answers it.
 #[derive(Clone, Copy)]
@@ -21,6 +22,20 @@ pub struct FDESearchResult<'a> {
     pub bases: Bases,
     /// The table that it stands in.
     pub eh_frame: EhFrame<'a>,
+}
+
+impl fmt::Debug for FDESearchResult<'_> {
+    /// The addresses of the function, and what the pointers of its table may be relative to. The
+    /// table's bytes, which may be many, are left out.
+    fn fmt<W: fmt::Write>(&self, f: &mut fmt::Formatter<W>) -> fmt::Result {
+        let start = self.fde.initial_address();
+        let len = self.fde.len();
+        write!(
+            f,
+            "FDESearchResult {{ start: {start:#x}, len: {len:#x}, bases: {:?} }}",
+            self.bases
+        )
+    }
 }
 
 /// What finds the description of the function at an address.

@@ -17,6 +17,7 @@ ghost use Rattle.unwinding_core.specs.Calling.{no_expressions, machine_of, value
 use crate::find_fde::{FDEFinder, FDESearchResult};
 use eh_frame::{Bases, CfaRule, Error, Register, RegisterMap, RegisterRule, Registers, Row};
 use memory_image::{Ledger, MemoryImage, Steps};
+use std::fmt;
 use std::marker::{Model, PhantomData};
 use unwind_arch::Machine;
 
@@ -116,10 +117,9 @@ impl<'a, M: Machine> Frame<'a, M> {
     fn at(fde_result: FDESearchResult<'a>, address: u64) -> Result<Frame<'a, M>, Error>
         ensures { GivesRowOf result (answered fde_result.entry) address }
     {
-        let row =
-            fde_result
-                .fde
-                .unwind_info_for_address(&fde_result.eh_frame, &fde_result.bases, address)?;
+        let row = fde_result
+            .fde
+            .unwind_info_for_address(&fde_result.eh_frame, &fde_result.bases, address)?;
         Ok(Frame {
             fde_result,
             row,
@@ -180,6 +180,18 @@ impl<'a, M: Machine> Frame<'a, M> {
         ensures { result ≡ self.now.found.fde.cie.letters.signal }
     {
         self.fde_result.fde.is_signal_trampoline()
+    }
+}
+
+impl<'a, M: Machine> fmt::Debug for Frame<'a, M> {
+    /// The description that was found, and how the canonical frame address follows.
+    fn fmt<W: fmt::Write>(&self, f: &mut fmt::Formatter<W>) -> fmt::Result {
+        let cfa = self.row.cfa();
+        write!(
+            f,
+            "Frame {{ fde_result: {:?}, cfa: {cfa:?} }}",
+            self.fde_result
+        )
     }
 }
 

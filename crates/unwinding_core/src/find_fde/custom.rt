@@ -107,11 +107,7 @@ impl<E: EhFrameFinder> FDEFinder for CustomFinder<E> {
 }
 
 /// The description that a scan of the named frame table finds. Header tables aren't read yet.
-fn find_named<'a>(
-    image: &MemoryImage<'a>,
-    pc: u64,
-    info: FrameInfo,
-) -> Option<FDESearchResult<'a>>
+fn find_named<'a>(image: &MemoryImage<'a>, pc: u64, info: FrameInfo) -> Option<FDESearchResult<'a>>
     ensures { option_map answered result ≡ found_by info image.now pc }
 {
     match info.kind {

@@ -14,5 +14,5 @@ returns g c run is =
     let gives : cfa_value no_expressions (columns old) row.cfa ≡ Ok c.in_ok-cfa.cfa =
     ap (λ (r : CfaRule). cfa_value no_expressions (columns old) r) (sym c.cfa.ensures) ∙ sym c.in_ok-cfa.ensures in
     c.applied.ensures ∙ rw (c.registers.ensures.rules, c.begun-before.ensures)
-        (row_caller (machine_of g.M.Machine.SP.0 g.M.Machine.RA.0) no_expressions c.args.image.now (columns old) c.in_ok-cfa.cfa run row.cfa row.rules
-            (g.met.M.Machine.has_sp old) (g.met.M.Machine.has_ra old) is.cfa gives c.registers.ensures.ascending is.rules)
+    (row_caller (machine_of g.M.Machine.SP.0 g.M.Machine.RA.0) no_expressions c.args.image.now (columns old) c.in_ok-cfa.cfa run row.cfa row.rules
+    (g.met.M.Machine.has_sp old) (g.met.M.Machine.has_ra old) is.cfa gives c.registers.ensures.ascending is.rules)

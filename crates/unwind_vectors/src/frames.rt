@@ -1,0 +1,275 @@
+// Frames of worked examples: how they are found, and what their callers are.
+use eh_frame::Bases;
+use memory_image::{MemoryImage, NoLedger, Steps};
+use stack_deliver::{Context, DeliverError, Error, FrameInfo, FrameInfoKind, Space, Stepped, step};
+use std::alloc::{AllocError, Global};
+use std::test::Fail;
+use unwind_arch::x86_64::Arch;
+use unwinding_core::{
+    CustomFinder, EhFrameFinder, FDEFinder, Frame, SetCustomEhFrameFinderError, StepError,
+};
+
+// A common information entry of version 1: code alignment 1, data alignment -8, return address in
+// column 16; the CFA is RSP plus 8, and the return address lies 8 below it.
+const COMMON: &str = "1400000000000000017a5200017810011b0c070890010000";
+
+// Pushes RBP, sets it, pushes RBX: 0x401000 to 0x401020.
+const FRAME_POINTER: &str = "180000001c000000e00ff0ff2000000000410e108602430d06458303";
+
+// Allocates 24 bytes, and stores R12 8 bytes above the stack pointer: 0x401000 to 0x401020.
+const STORE: &str = "140000001c000000e00ff0ff2000000000440e20458c030000000000";
+
+// A function whose second rule is for a vector register, which the machine's contexts don't have:
+// DW_CFA_offset of column 17.
+const VECTOR: &str = "140000001c000000e00ff0ff200000000091020000000000000000";
+
+// What names one frame table for every address.
+#[derive(Drop)]
+struct Named(FrameInfo);
+
+impl EhFrameFinder for Named {
+    ghost use Rattle.std.specs.Prelude.{◌≡◌, Some};
+
+    ghost names = { λ n pc info. info ≡ Some n.0 };
+
+    fn find(&self, pc: u64) -> Option<FrameInfo> {
+        let _ = pc;
+        Some(self.0)
+    }
+}
+
+// The bytes of a frame table: its entries in hexadecimal digits, and the end of the list.
+fn table(alloc: Global, entries: &[&str]) -> Result<Vec<u8>, Fail> {
+    let mut bytes = Vec::new(alloc);
+    for entry in entries {
+        bytes.extend_from_slice(&hex::decode(alloc, entry)?)?;
+    }
+    bytes.extend_from_slice(&[0; 4])?;
+    Ok(bytes)
+}
+
+fn words(alloc: Global, words: &[u64]) -> Result<Vec<u8>, AllocError> {
+    let mut bytes = Vec::new(alloc);
+    for word in words {
+        bytes.extend_from_slice(&word.to_le_bytes())?;
+    }
+    Ok(bytes)
+}
+
+// The frame tables at 0x500000.
+fn frame_table() -> FrameInfo {
+    FrameInfo {
+        text_base: None,
+        kind: FrameInfoKind::EhFrame(0x50_0000),
+    }
+}
+
+// One step, not interrupted, over a module from 0x401000 to 0x401020 with a frame table, and a
+// stack.
+fn stepped(
+    alloc: Global,
+    entries: &[&str],
+    stack: u64,
+    held: &[u64],
+    context: &Context,
+) -> Result<Result<Option<Stepped>, DeliverError>, Fail> {
+    let frames = table(alloc, entries)?;
+    let bytes = words(alloc, held)?;
+    let mut image = MemoryImage::new(alloc);
+    let _ = image.add(0x50_0000, &frames);
+    let _ = image.add(stack, &bytes);
+    let mut space = Space::new(alloc, image);
+    let _ = space.add_elf(0x40_1000, 0x40_1020, frame_table());
+    let mut steps = Steps::new(NoLedger);
+    Ok(step(&space, context, false, &mut steps))
+}
+
+#[test]
+fn a_frame_pointer_is_undone(rt: HostRuntime) -> Result<(), Fail> {
+    let mut context = Context::default();
+    context.ra = 0x40_1010;
+    context.registers[3] = 0x7;
+    context.registers[6] = 0x70c0;
+    context.registers[7] = 0x70b0;
+    context.registers[14] = 0x2e;
+    let held = [0, 0x11, 0xc, 0x40_1030, 0x22, 0x40_1060, 0, 0xb, 0xe, 0];
+    let answer = stepped(
+        rt.alloc(),
+        &[COMMON, FRAME_POINTER],
+        0x70b0,
+        &held,
+        &context,
+    )?;
+    let mut caller = context;
+    caller.ra = 0x40_1030;
+    caller.registers[3] = 0x11;
+    caller.registers[6] = 0xc;
+    caller.registers[7] = 0x70d0;
+    assert_eq!(rt;
+        answer,
+        Ok(Some(Stepped {
+            context: caller,
+            signal: false,
+        }))
+    );
+    Ok(())
+}
+
+#[test]
+fn a_stored_register_is_read_back(rt: HostRuntime) -> Result<(), Fail> {
+    let mut context = Context::default();
+    context.ra = 0x40_1010;
+    context.registers[7] = 0x7000;
+    context.registers[12] = 1;
+    let held = [1, 0xc12, 3, 0x40_1010];
+    let answer = stepped(rt.alloc(), &[COMMON, STORE], 0x7000, &held, &context)?;
+    let mut caller = context;
+    caller.registers[7] = 0x7020;
+    caller.registers[12] = 0xc12;
+    assert_eq!(rt;
+        answer,
+        Ok(Some(Stepped {
+            context: caller,
+            signal: false,
+        }))
+    );
+    Ok(())
+}
+
+#[test]
+fn faults_of_a_step_name_their_cause(rt: HostRuntime) -> Result<(), Fail> {
+    let mut context = Context::default();
+    context.ra = 0x40_1010;
+    context.registers[7] = 0x7000;
+    let held = [1, 0xc12, 3];
+    // The return address's slot, above two words that are there: the lowest column comes first.
+    let unmapped = stepped(rt.alloc(), &[COMMON, STORE], 0x7000, &held, &context)?;
+    assert_eq!(rt; unmapped, Err(DeliverError::Unmapped(0x7018)));
+    let vector = stepped(rt.alloc(), &[COMMON, VECTOR], 0x6ff8, &[1, 2], &context)?;
+    assert_eq!(rt;
+        vector,
+        Err(DeliverError::Table(Error::UnsupportedRegister))
+    );
+    // A version that isn't known ends the stack, as where no entry contains the address.
+    let unread = stepped(
+        rt.alloc(),
+        &["04000000000000000900000000", STORE],
+        0x7000,
+        &held,
+        &context,
+    )?;
+    assert_eq!(rt; unread, Ok(None));
+    Ok(())
+}
+
+#[test]
+fn a_finder_is_set_once(rt: HostRuntime) -> Result<(), Fail> {
+    let frames = table(rt.alloc(), &[COMMON, STORE])?;
+    let mut image = MemoryImage::new(rt.alloc());
+    assert_eq!(rt; image.add(0x50_0000, &frames), Ok(()));
+    let mut steps = Steps::new(NoLedger);
+    let mut finder = CustomFinder::new();
+    assert_eq!(rt;
+        finder.find_fde(&image, 0x40_1000, &mut steps).is_none(),
+        true
+    );
+    let header = FrameInfo {
+        text_base: None,
+        kind: FrameInfoKind::EhFrameHdr(0x50_0000),
+    };
+    assert_eq!(rt;
+        finder.set_custom_eh_frame_finder(Named(frame_table())),
+        Ok(())
+    );
+    assert_eq!(rt;
+        finder.set_custom_eh_frame_finder(Named(header)),
+        Err(SetCustomEhFrameFinderError)
+    );
+    let Some(found) = finder.find_fde(&image, 0x40_101f, &mut steps) else {
+        assert!(rt; false);
+        return Ok(());
+    };
+    assert_eq!(rt; found.fde.initial_address(), 0x40_1000);
+    assert_eq!(rt; found.bases.frame, Some(0x50_0000));
+    assert_eq!(rt; found.fde.is_signal_trampoline(), false);
+    assert_eq!(rt;
+        finder.find_fde(&image, 0x40_1020, &mut steps).is_none(),
+        true
+    );
+    Ok(())
+}
+
+#[test]
+fn a_frame_tells_what_was_found(rt: HostRuntime) -> Result<(), Fail> {
+    let frames = table(rt.alloc(), &[COMMON, STORE])?;
+    let mut image = MemoryImage::new(rt.alloc());
+    assert_eq!(rt; image.add(0x50_0000, &frames), Ok(()));
+    let mut finder = CustomFinder::new();
+    assert_eq!(rt;
+        finder.set_custom_eh_frame_finder(Named(frame_table())),
+        Ok(())
+    );
+    let mut steps = Steps::new(NoLedger);
+    let mut context = Context::default();
+    context.ra = 0x40_1020;
+    context.registers[7] = 0x7000;
+    // Behind a call that is the function's last instruction; at that address nothing is found.
+    let behind = Frame::<Arch>::from_context(&image, &finder, &context, false, &mut steps);
+    let Ok(Some(frame)) = behind else {
+        assert!(rt; false);
+        return Ok(());
+    };
+    assert_eq!(rt; frame.initial_address(), 0x40_1000);
+    assert_eq!(rt; frame.is_signal_trampoline(), false);
+    assert_eq!(rt;
+        frame.bases(),
+        Bases {
+            text: None,
+            data_base: None,
+            func: None,
+            hdr: None,
+            frame: Some(0x50_0000),
+        }
+    );
+    assert_eq!(rt;
+        frame.unwind(&image, &context),
+        Err(StepError::Unmapped(0x7008))
+    );
+    let mut adjusted = context;
+    frame.adjust_stack_for_args(&mut adjusted);
+    assert_eq!(rt; adjusted, context);
+    let at = Frame::<Arch>::from_context(&image, &finder, &context, true, &mut steps);
+    assert_eq!(rt; matches!(at, Ok(None)), true);
+    context.ra = 0;
+    let last = Frame::<Arch>::from_context(&image, &finder, &context, true, &mut steps);
+    assert_eq!(rt; matches!(last, Ok(None)), true);
+    Ok(())
+}
+
+#[test]
+fn frames_are_shown(rt: HostRuntime) -> Result<(), Fail> {
+    let frames = table(rt.alloc(), &[COMMON, STORE])?;
+    let mut image = MemoryImage::new(rt.alloc());
+    assert_eq!(rt; image.add(0x50_0000, &frames), Ok(()));
+    let mut finder = CustomFinder::new();
+    assert_eq!(rt;
+        finder.set_custom_eh_frame_finder(Named(frame_table())),
+        Ok(())
+    );
+    let mut steps = Steps::new(NoLedger);
+    let mut context = Context::default();
+    context.ra = 0x40_1010;
+    let Ok(Some(frame)) = Frame::<Arch>::from_context(&image, &finder, &context, false, &mut steps)
+    else {
+        assert!(rt; false);
+        return Ok(());
+    };
+    let text = format!(in rt.alloc(); "{frame:?}")?;
+    assert_eq!(rt;
+        text.as_str(),
+        "Frame { fde_result: FDESearchResult { start: 0x401000, len: 0x20, bases: Bases { text: None, data_base: None, func: None, hdr: None, frame: Some(5242880) } }, cfa: RegisterAndOffset { register: Register(7), offset: 32 } }"
+    );
+    let refused = format!(in rt.alloc(); "{:?}", SetCustomEhFrameFinderError)?;
+    assert_eq!(rt; refused.as_str(), "SetCustomEhFrameFinderError");
+    Ok(())
+}
