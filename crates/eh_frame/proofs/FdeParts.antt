@@ -1,13 +1,22 @@
 -- What a frame description entry is whose addresses are four signed bytes relative to their place.
-use Rattle.std.proofs.Common.{◌≡◌, ℕ, ◌+◌, ◌-◌, ◌^◌, ◌<◌, ◌≤◌, Option, Ok, Err, refl}
+use Rattle.std.proofs.Common.{◌≡◌, ℕ, ◌+◌, ◌-◌, ◌^◌, ◌<◌, ◌≤◌, Bool, true, false, not, Option, Ok, Err, refl}
+use Rattle.std.specs.Prelude.{◌==◌}
 use Rattle.std.specs.Int.{w32}
-use Rattle.std.proofs.lemmas.Bool.{le-leb, lt-leb}
+use Rattle.std.proofs.lemmas.Bool.{eqb-true, le-leb, lt-leb}
 use Rattle.unwind_definitions.specs.declared.error.Error.{Error as Fault}
 use Rattle.unwind_definitions.specs.declared.error.Error.TheVariants.{AddressOverflow}
 use Rattle.unwind_definitions.specs.Input.{Input}
 use Rattle.unwind_definitions.specs.Forms.{plain}
 use Rattle.unwind_definitions.specs.Pointers.{Bases, Pointer, direct, signed_number}
 use Rattle.unwind_definitions.specs.Entries.{Cie, address_encoding, fde_body, fde_data}
+
+-- an encoding that isn't told from 1b
+pub is_relative : (e : ℕ) → false ≡ not (e == 0x1b) → e ≡ 0x1b
+is_relative e same = go (e == 0x1b) refl same
+  where
+    go : (b : Bool) → (e == 0x1b) ≡ b → false ≡ not b → e ≡ 0x1b
+    go true is same = eqb-true e 0x1b is
+    go false is same = absurd cc
 
 module _ (bases : Bases) (cie : Cie) (offset : ℕ) (c : Input) (relative : address_encoding cie ≡ 0x1b) where
   -- the start can't be read

@@ -22,7 +22,7 @@ cie_of c = record {
   data_factor = c.data_alignment;
   return_column = c.return_column.0;
   augmentation = c.augmentation.now;
-  letters = plain_letters c.address_encoding;
+  letters = plain_letters c.address_encoding.0;
   program = at c.program;
 }
 

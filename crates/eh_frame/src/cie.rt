@@ -11,7 +11,7 @@ ghost use Rattle.encoded_pointers.specs.Readers.{Gives, GivesOr, Answers};
 ghost use Rattle.encoded_pointers.specs.View.{at};
 ghost use Rattle.eh_frame.specs.Views.{cie_of, plain_letters};
 
-use encoded_pointers::{Cursor, read_encoding};
+use encoded_pointers::{Cursor, DwEhPe, parse_pointer_encoding};
 use frame_rows::{AlignmentFactors, Register};
 use unwind_definitions::Error;
 
@@ -28,7 +28,7 @@ pub struct Cie<'a> {
     return_column: Register,
     augmentation: &'a [u8],
     // how a description's addresses are encoded, by the letter R
-    address_encoding: u8,
+    address_encoding: DwEhPe,
     program: Cursor<'a>,
 }
 
@@ -145,8 +145,8 @@ impl<'a> Cie<'a> {
     }
 
     // How the addresses of a description are encoded.
-    pub(crate) fn address_encoding(&self) -> u8
-        ensures { result ≡ address_encoding (cie_of self.now) }
+    pub(crate) fn address_encoding(&self) -> DwEhPe
+        ensures { result.0 ≡ address_encoding (cie_of self.now) }
     {
         self.address_encoding
     }
@@ -164,11 +164,11 @@ fn is_plain(augmentation: &[u8]) -> bool
 }
 
 // The bytes of the augmentation `zR`: their number, and how addresses are encoded.
-fn read_augmentation_data(input: &mut Cursor) -> Result<u8, Error>
-    ensures { (bases : Bases) → GivesOr plain_letters result
+fn read_augmentation_data(input: &mut Cursor) -> Result<DwEhPe, Error>
+    ensures { (bases : Bases) → GivesOr (λ e. plain_letters e.0) result
         (augmentation_data bases (0x7a ∷ 0x52 ∷ []) (at input.old)) (at input.new) }
 {
     let count = input.read_uleb128()?;
     let mut block = input.split(count)?;
-    read_encoding(&mut block)
+    parse_pointer_encoding(&mut block)
 }

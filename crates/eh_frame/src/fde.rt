@@ -13,7 +13,7 @@ ghost use Rattle.frame_rows.specs.Rows.{GivesRow};
 
 use crate::cie::Cie;
 use crate::entries::EhFrame;
-use encoded_pointers::{Bases, Cursor, RELATIVE_SDATA4, read_relative, read_sdata4};
+use encoded_pointers::{Bases, Cursor, DwEhPe, read_relative, read_sdata4};
 use frame_rows::Row;
 use unwind_definitions::Error;
 
@@ -35,7 +35,7 @@ impl<'a> Fde<'a> {
         ensures { (bases : KnownBases) → Answers fde_of result
             (fde_body plain bases (cie_of cie.entry) offset (at body.entry)) }
     {
-        if cie.address_encoding() != RELATIVE_SDATA4 {
+        if cie.address_encoding() != DwEhPe::RELATIVE_SDATA4 {
             return Err(Error::UnsupportedPointerEncoding);
         }
         let mut input = body;

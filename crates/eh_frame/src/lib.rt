@@ -21,7 +21,9 @@ mod entries;
 mod fde;
 
 pub use cie::Cie;
-pub use encoded_pointers::{Bases, Pointer};
+pub use encoded_pointers::{
+    Bases, Cursor, DwEhPe, Pointer, parse_encoded_pointer, parse_pointer_encoding,
+};
 pub use entries::EhFrame;
 pub use fde::Fde;
 pub use frame_rows::{CfaRule, Register, RegisterMap, RegisterRule, Registers, Row};

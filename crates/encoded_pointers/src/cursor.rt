@@ -9,7 +9,9 @@ use unwind_definitions::Error;
 
 /// Bytes of a table that are still to be read, and where they stand.
 ///
-/// A refused read leaves the cursor as it was.
+/// Each read takes its bytes from the front, the lowest first. A refused read leaves the cursor as it
+/// was.
+/// Source: DWARF 5 section 7.
 #[derive(Clone, Copy)]
 pub struct Cursor<'a> {
     bytes: &'a [u8],
@@ -21,14 +23,26 @@ pub struct Cursor<'a> {
 }
 
 impl<'a> Cursor<'a> {
-    ghost use Rattle.std.specs.Prelude.{IfOk, ◌*◌, ◌-◌, ◌≤◌};
+    ghost use Rattle.std.specs.Prelude.{IfOk, OnErr, ◌*◌, ◌-◌, ◌≤◌};
     ghost use Rattle.std.specs.Int.{w8, w16, w32, w64, cast_unsigned};
     ghost use Rattle.unwind_definitions.specs.Input.{number, uleb, uleb_from, sleb, sleb_from, skip, split, text, address_of};
     ghost use Rattle.unwind_definitions.specs.Pointers.{signed_number};
-    ghost use Rattle.encoded_pointers.specs.Readers.{Gives, GivesOr, passes};
+    ghost use Rattle.encoded_pointers.specs.Readers.{GivesOr, passes};
     ghost use Rattle.encoded_pointers.specs.View.{at};
 
-    /// The bytes of a table from an offset on, of which there are none behind its end.
+    /// A cursor at the first of `bytes`, whose address is `address`.
+    pub fn new(bytes: &'a [u8], address: u64) -> Cursor<'a>
+        ensures { at result ≡ record { base = address; offset = 0; bytes = bytes.now } }
+    {
+        Cursor {
+            bytes,
+            base: address,
+            offset: 0,
+        }
+    }
+
+    /// The bytes of a table from an offset on, of which there are none behind its end. The table's
+    /// first byte has the address `address`.
     pub fn from_offset(bytes: &'a [u8], address: u64, offset: u64) -> Cursor<'a>
         ensures { at result ≡ skip offset (record { base = address; offset = 0; bytes = bytes.now }) }
     {
@@ -41,8 +55,13 @@ impl<'a> Cursor<'a> {
     }
 
     /// The next byte.
+    ///
+    /// # Errors
+    ///
+    /// `UnexpectedEof` where no byte is left.
     pub fn read_u8(&mut self) -> Result<u8, Error>
-        ensures { Gives (λ x. x) result (at self.old) (number w8) (at self.new) }
+        ensures reads { GivesOr (λ x. x) result (number w8 (at self.old)) (at self.new) }
+        ensures unchanged { OnErr result (at self.new ≡ at self.old) }
     {
         if self.bytes.is_empty() {
             return Err(Error::UnexpectedEof);
@@ -54,8 +73,13 @@ impl<'a> Cursor<'a> {
     }
 
     /// The next two bytes, the lowest first.
+    ///
+    /// # Errors
+    ///
+    /// `UnexpectedEof` where fewer are left.
     pub fn read_u16(&mut self) -> Result<u16, Error>
-        ensures { Gives (λ x. x) result (at self.old) (number w16) (at self.new) }
+        ensures reads { GivesOr (λ x. x) result (number w16 (at self.old)) (at self.new) }
+        ensures unchanged { OnErr result (at self.new ≡ at self.old) }
     {
         if self.bytes.len() < 2 {
             return Err(Error::UnexpectedEof);
@@ -68,8 +92,13 @@ impl<'a> Cursor<'a> {
     }
 
     /// The next four bytes, the lowest first.
+    ///
+    /// # Errors
+    ///
+    /// `UnexpectedEof` where fewer are left.
     pub fn read_u32(&mut self) -> Result<u32, Error>
-        ensures { Gives (λ x. x) result (at self.old) (number w32) (at self.new) }
+        ensures reads { GivesOr (λ x. x) result (number w32 (at self.old)) (at self.new) }
+        ensures unchanged { OnErr result (at self.new ≡ at self.old) }
     {
         if self.bytes.len() < 4 {
             return Err(Error::UnexpectedEof);
@@ -82,8 +111,13 @@ impl<'a> Cursor<'a> {
     }
 
     /// The next eight bytes, the lowest first.
+    ///
+    /// # Errors
+    ///
+    /// `UnexpectedEof` where fewer are left.
     pub fn read_u64(&mut self) -> Result<u64, Error>
-        ensures { Gives (λ x. x) result (at self.old) (number w64) (at self.new) }
+        ensures reads { GivesOr (λ x. x) result (number w64 (at self.old)) (at self.new) }
+        ensures unchanged { OnErr result (at self.new ≡ at self.old) }
     {
         if self.bytes.len() < 8 {
             return Err(Error::UnexpectedEof);
@@ -97,11 +131,55 @@ impl<'a> Cursor<'a> {
         Ok(number)
     }
 
+    /// The next byte as a signed number.
+    ///
+    /// # Errors
+    ///
+    /// `UnexpectedEof` where no byte is left.
+    pub fn read_i8(&mut self) -> Result<i8, Error>
+        ensures reads { GivesOr (cast_unsigned w64) result (signed_number w8 8 (at self.old)) (at self.new) }
+        ensures unchanged { OnErr result (at self.new ≡ at self.old) }
+    {
+        let number = self.read_u8()?;
+        Ok(number.cast_signed())
+    }
+
+    /// The next two bytes as a signed number, the lowest first.
+    ///
+    /// # Errors
+    ///
+    /// `UnexpectedEof` where fewer are left.
+    pub fn read_i16(&mut self) -> Result<i16, Error>
+        ensures reads { GivesOr (cast_unsigned w64) result (signed_number w16 16 (at self.old)) (at self.new) }
+        ensures unchanged { OnErr result (at self.new ≡ at self.old) }
+    {
+        let number = self.read_u16()?;
+        Ok(number.cast_signed())
+    }
+
     /// The next four bytes as a signed number, the lowest first.
+    ///
+    /// # Errors
+    ///
+    /// `UnexpectedEof` where fewer are left.
     pub fn read_i32(&mut self) -> Result<i32, Error>
-        ensures { Gives (cast_unsigned w64) result (at self.old) (signed_number w32 32) (at self.new) }
+        ensures reads { GivesOr (cast_unsigned w64) result (signed_number w32 32 (at self.old)) (at self.new) }
+        ensures unchanged { OnErr result (at self.new ≡ at self.old) }
     {
         let number = self.read_u32()?;
+        Ok(number.cast_signed())
+    }
+
+    /// The next eight bytes as a signed number, the lowest first.
+    ///
+    /// # Errors
+    ///
+    /// `UnexpectedEof` where fewer are left.
+    pub fn read_i64(&mut self) -> Result<i64, Error>
+        ensures reads { GivesOr (cast_unsigned w64) result (signed_number w64 64 (at self.old)) (at self.new) }
+        ensures unchanged { OnErr result (at self.new ≡ at self.old) }
+    {
+        let number = self.read_u64()?;
         Ok(number.cast_signed())
     }
 
@@ -128,8 +206,14 @@ impl<'a> Cursor<'a> {
     }
 
     /// An unsigned LEB128 number.
+    ///
+    /// # Errors
+    ///
+    /// `UnexpectedEof` where the bytes end before the number does, and `BadUnsignedLeb128` where its
+    /// tenth byte is neither 00 nor 01. DWARF 5 section 7.6.
     pub fn read_uleb128(&mut self) -> Result<u64, Error>
-        ensures { Gives (λ x. x) result (at self.old) uleb (at self.new) }
+        ensures reads { GivesOr (λ x. x) result (uleb (at self.old)) (at self.new) }
+        ensures unchanged { OnErr result (at self.new ≡ at self.old) }
     {
         let mut rest = *self;
         let byte = rest.read_u8()?;
@@ -143,7 +227,8 @@ impl<'a> Cursor<'a> {
 
     // The same, whatever its length.
     fn read_long_uleb128(&mut self) -> Result<u64, Error>
-        ensures { Gives (λ x. x) result (at self.old) uleb (at self.new) }
+        ensures reads { GivesOr (λ x. x) result (uleb (at self.old)) (at self.new) }
+        ensures unchanged { OnErr result (at self.new ≡ at self.old) }
     {
         let mut rest = *self;
         let number = rest.uleb_left(10)?;
@@ -174,16 +259,27 @@ impl<'a> Cursor<'a> {
     }
 
     /// A signed LEB128 number.
+    ///
+    /// # Errors
+    ///
+    /// `UnexpectedEof` where the bytes end before the number does, and `BadSignedLeb128` where its
+    /// tenth byte is neither 00 nor 7f. DWARF 5 section 7.6.
     pub fn read_sleb128(&mut self) -> Result<i64, Error>
-        ensures { Gives (cast_unsigned w64) result (at self.old) sleb (at self.new) }
+        ensures reads { GivesOr (cast_unsigned w64) result (sleb (at self.old)) (at self.new) }
+        ensures unchanged { OnErr result (at self.new ≡ at self.old) }
     {
         let word = self.read_sleb128_word()?;
         Ok(word.cast_signed())
     }
 
     /// A signed LEB128 number, as a word: numbers below 0 count from 2^64.
+    ///
+    /// # Errors
+    ///
+    /// Those of [`Cursor::read_sleb128`].
     pub fn read_sleb128_word(&mut self) -> Result<u64, Error>
-        ensures { Gives (λ x. x) result (at self.old) sleb (at self.new) }
+        ensures reads { GivesOr (λ x. x) result (sleb (at self.old)) (at self.new) }
+        ensures unchanged { OnErr result (at self.new ≡ at self.old) }
     {
         let mut rest = *self;
         let byte = rest.read_u8()?;
@@ -197,7 +293,8 @@ impl<'a> Cursor<'a> {
 
     // The same, whatever its length.
     fn read_long_sleb128_word(&mut self) -> Result<u64, Error>
-        ensures { Gives (λ x. x) result (at self.old) sleb (at self.new) }
+        ensures reads { GivesOr (λ x. x) result (sleb (at self.old)) (at self.new) }
+        ensures unchanged { OnErr result (at self.new ≡ at self.old) }
     {
         let mut rest = *self;
         let word = rest.sleb_left(10)?;
@@ -206,8 +303,13 @@ impl<'a> Cursor<'a> {
     }
 
     /// Passes over so many bytes.
+    ///
+    /// # Errors
+    ///
+    /// `UnexpectedEof` where fewer are left.
     pub fn skip(&mut self, count: u64) -> Result<(), Error>
-        ensures { Gives (λ x. tt) result (at self.old) (passes count) (at self.new) }
+        ensures reads { GivesOr (λ x. tt) result (passes count (at self.old)) (at self.new) }
+        ensures unchanged { OnErr result (at self.new ≡ at self.old) }
     {
         if count > self.bytes.len() as u64 {
             return Err(Error::UnexpectedEof);
@@ -218,8 +320,13 @@ impl<'a> Cursor<'a> {
     }
 
     /// The next so many bytes, as a cursor of their own.
+    ///
+    /// # Errors
+    ///
+    /// `UnexpectedEof` where fewer are left.
     pub fn split(&mut self, count: u64) -> Result<Cursor<'a>, Error>
-        ensures { Gives at result (at self.old) (split count) (at self.new) }
+        ensures reads { GivesOr at result (split count (at self.old)) (at self.new) }
+        ensures unchanged { OnErr result (at self.new ≡ at self.old) }
     {
         if count > self.bytes.len() as u64 {
             return Err(Error::UnexpectedEof);
@@ -236,8 +343,13 @@ impl<'a> Cursor<'a> {
     }
 
     /// The bytes before the next zero byte, which is passed too.
+    ///
+    /// # Errors
+    ///
+    /// `UnexpectedEof` where no zero byte is left.
     pub fn read_text(&mut self) -> Result<&'a [u8], Error>
-        ensures { Gives (λ s. s.now) result (at self.old) text (at self.new) }
+        ensures reads { GivesOr (λ s. s.now) result (text (at self.old)) (at self.new) }
+        ensures unchanged { OnErr result (at self.new ≡ at self.old) }
     {
         match first_zero(self.bytes) {
             None => Err(Error::UnexpectedEof),

@@ -1,55 +1,92 @@
 //! How a pointer in call frame bytes is encoded. LSB, DWARF exception header encoding.
 
-ghost use Rattle.std.specs.Prelude.{◌≡◌};
-ghost use Rattle.std.specs.Int.{w32};
-ghost use Rattle.unwind_definitions.specs.Pointers.{Bases, direct, encoding, is_known, signed_number};
+ghost use Rattle.std.specs.Prelude.{◌≡◌, ◌==◌, ◌*◌, OnErr};
+ghost use Rattle.unwind_definitions.specs.Pointers.{application_of, encoding, format_of, is_indirect, is_known};
 ghost use Rattle.encoded_pointers.specs.Readers.{GivesOr};
 ghost use Rattle.encoded_pointers.specs.View.{at};
 
 use crate::cursor::Cursor;
 use unwind_definitions::Error;
 
-// that there is no pointer
-const OMIT: u8 = 0xff;
+/// How a pointer is encoded: a format, what its value is relative to, and whether it is the address
+/// of the pointer. Or that there is none.
+///
+/// Source: LSB, DWARF exception header encoding.
+#[derive(Clone, Copy, Debug, PartialEq, Eq)]
+pub struct DwEhPe(pub u8);
 
-/// A relative pointer of four signed bytes: `DW_EH_PE_pcrel | DW_EH_PE_sdata4`.
-pub const RELATIVE_SDATA4: u8 = 0x1b;
+// the format of an encoding
+const FORMAT: u8 = 0x0f;
 
-// How a pointer is encoded.
-pub fn read_encoding(input: &mut Cursor) -> Result<u8, Error>
-    ensures { GivesOr (λ x. x) result (encoding (at input.old)) (at input.new) }
+// its application
+const APPLICATION: u8 = 0x70;
+
+const INDIRECT: u8 = 0x80;
+
+impl DwEhPe {
+    /// `DW_EH_PE_absptr`: a word that is the address itself.
+    pub const ABSPTR: DwEhPe = DwEhPe(0x00);
+
+    /// `DW_EH_PE_pcrel | DW_EH_PE_sdata4`: four signed bytes, relative to their own place.
+    pub const RELATIVE_SDATA4: DwEhPe = DwEhPe(0x1b);
+
+    /// `DW_EH_PE_omit`: there is no pointer.
+    pub const OMIT: DwEhPe = DwEhPe(0xff);
+
+    /// How the value is spelled: the low four bits.
+    pub fn format(self) -> DwEhPe
+        ensures { result.0 ≡ format_of self.0 }
+    {
+        DwEhPe(self.0 & FORMAT)
+    }
+
+    /// What the value is relative to: the bits 0x70.
+    pub fn application(self) -> DwEhPe
+        ensures { result.0 ≡ 16 * application_of self.0 }
+    {
+        DwEhPe(self.0 & APPLICATION)
+    }
+
+    /// Whether the pointer stands at the address that is spelled: the bit 0x80 is set, and there is
+    /// a pointer.
+    pub fn is_indirect(self) -> bool
+        ensures { result ≡ is_indirect self.0 }
+    {
+        !self.is_absent() && self.0 & INDIRECT != 0
+    }
+
+    /// Whether there is no pointer: `DW_EH_PE_omit`.
+    pub fn is_absent(self) -> bool
+        ensures { result ≡ (self.0 == 0xff) }
+    {
+        self == DwEhPe::OMIT
+    }
+
+    /// Whether format and application are known, or there is no pointer.
+    pub fn is_valid_encoding(self) -> bool
+        ensures { result ≡ is_known self.0 }
+    {
+        let is_format = matches!(self.format().0, 0x00..=0x04 | 0x09..=0x0c);
+        let is_application = self.application().0 <= 0x50;
+        self.is_absent() || is_format && is_application
+    }
+}
+
+/// Reads how a pointer is encoded.
+///
+/// # Errors
+///
+/// `UnexpectedEof` where no byte is left, and `UnknownPointerEncoding` where the format or the
+/// application isn't known and the byte isn't that of no pointer. The cursor then stays.
+pub fn parse_pointer_encoding(input: &mut Cursor) -> Result<DwEhPe, Error>
+    ensures reads { GivesOr (λ e. e.0) result (encoding (at input.old)) (at input.new) }
+    ensures unchanged { OnErr result (at input.new ≡ at input.old) }
 {
-    let byte = input.read_u8()?;
-    if !is_known_encoding(byte) {
+    let mut rest = *input;
+    let encoding = DwEhPe(rest.read_u8()?);
+    if !encoding.is_valid_encoding() {
         return Err(Error::UnknownPointerEncoding);
     }
-    Ok(byte)
-}
-
-// Whether an encoding has a known format, the low four bits, and a known application, 0x70; or is
-// that of no pointer.
-fn is_known_encoding(byte: u8) -> bool
-    ensures { result ≡ is_known byte }
-{
-    let format = byte % 16;
-    let application = byte / 16 % 8;
-    byte == OMIT || (format <= 4 || 9 <= format && format <= 12) && application <= 5
-}
-
-// Four signed bytes, as a word.
-pub fn read_sdata4(input: &mut Cursor) -> Result<u64, Error>
-    ensures { GivesOr (λ x. x) result (signed_number w32 32 (at input.old)) (at input.new) }
-{
-    let number = input.read_i32()?;
-    Ok(i64::from(number).cast_unsigned())
-}
-
-// An address, by four signed bytes that say how far it is from their own place.
-pub fn read_relative(input: &mut Cursor) -> Result<u64, Error>
-    ensures { (bases : Bases) → GivesOr (λ x. x) result
-        (direct RELATIVE_SDATA4 bases (at input.old)) (at input.new) }
-{
-    let place = input.address();
-    let distance = read_sdata4(input)?;
-    Ok(place.wrapping_add(distance))
+    *input = rest;
+    Ok(encoding)
 }

@@ -1,8 +1,9 @@
 //! Reading the bytes of call frame information from left to right: numbers, and pointers by their
 //! encodings.
 //!
-//! [`Cursor`] reads, and leaves its place as it was where it can't. [`read_encoding`] judges how a
-//! pointer is encoded.
+//! [`Cursor`] reads, and stays where it is when it can't. [`parse_pointer_encoding`] reads how a
+//! pointer is encoded, and [`parse_encoded_pointer`] the pointer, which may be relative to one of
+//! its [`Bases`].
 //!
 //! Source: DWARF 5 section 7 for numbers, 7.6 for LEB128; LSB, DWARF exception header encoding.
 #![tactic(auto)]
@@ -14,6 +15,9 @@ mod pointer;
 
 pub use bases::Bases;
 pub use cursor::Cursor;
-pub use encoding::{RELATIVE_SDATA4, read_encoding, read_relative, read_sdata4};
-pub use pointer::Pointer;
+pub use encoding::{DwEhPe, parse_pointer_encoding};
+pub use pointer::{Pointer, parse_encoded_pointer, read_relative, read_sdata4, read_value};
 pub use unwind_definitions::Error;
+
+#[cfg(test)]
+mod tests;

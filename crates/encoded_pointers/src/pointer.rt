@@ -1,5 +1,17 @@
 //! Pointers in call frame bytes.
 
+ghost use Rattle.std.specs.Prelude.{◌≡◌, OnErr};
+ghost use Rattle.std.specs.Int.{w32};
+ghost use Rattle.unwind_definitions.specs.Pointers.{Bases as KnownBases, application_of, base_of, direct, format_of, known, pointer, signed_number, value};
+ghost use Rattle.encoded_pointers.specs.Readers.{Answers, GivesOr};
+ghost use Rattle.encoded_pointers.specs.Pointers.{bases_of, pointer_of};
+ghost use Rattle.encoded_pointers.specs.View.{at};
+
+use crate::bases::Bases;
+use crate::cursor::Cursor;
+use crate::encoding::DwEhPe;
+use unwind_definitions::Error;
+
 /// A pointer that call frame bytes spell.
 ///
 /// Source: LSB, DWARF exception header encoding.
@@ -9,4 +21,113 @@ pub enum Pointer {
     Direct(u64),
     /// The address of eight bytes that hold the address that it points to.
     Indirect(u64),
+}
+
+/// Reads a pointer: what it is relative to plus the number that its bytes spell, as words.
+///
+/// A pointer that is relative to its own place counts from its first byte. A number of 0 has no
+/// special meaning.
+/// Source: LSB, DWARF exception header encoding.
+///
+/// # Errors
+///
+/// The first that holds of these, and then the cursor stays:
+///
+/// - `CannotParseOmitPointerEncoding` where the encoding says that there is no pointer;
+/// - `UnknownPointerEncoding` where its format or its application isn't known;
+/// - `UnsupportedPointerEncoding` where the pointer is aligned;
+/// - `UndefinedBase` where `bases` doesn't have what it is relative to;
+/// - the fault of reading the number.
+pub fn parse_encoded_pointer(
+    encoding: DwEhPe,
+    bases: &Bases,
+    input: &mut Cursor,
+) -> Result<Pointer, Error>
+    ensures reads { GivesOr pointer_of result (pointer encoding.0 (bases_of bases.now) (at input.old)) (at input.new) }
+    ensures unchanged { OnErr result (at input.new ≡ at input.old) }
+{
+    if encoding.is_absent() {
+        return Err(Error::CannotParseOmitPointerEncoding);
+    }
+    if !encoding.is_valid_encoding() {
+        return Err(Error::UnknownPointerEncoding);
+    }
+    let base = base_address(encoding, bases, input.address())?;
+    let number = read_value(encoding, input)?;
+    let address = base.wrapping_add(number);
+    if encoding.is_indirect() {
+        Ok(Pointer::Indirect(address))
+    } else {
+        Ok(Pointer::Direct(address))
+    }
+}
+
+// What a pointer at `place` is relative to, 0 where it is an address by itself.
+fn base_address(encoding: DwEhPe, bases: &Bases, place: u64) -> Result<u64, Error>
+    ensures { Answers (λ x. x) result (base_of (bases_of bases.now) place (application_of encoding.0)) }
+{
+    match encoding.application().0 {
+        0x00 => Ok(0),
+        0x10 => Ok(place),
+        0x20 => known_base(bases.text),
+        0x30 => known_base(bases.data_base),
+        0x40 => known_base(bases.func),
+        _ => Err(Error::UnsupportedPointerEncoding),
+    }
+}
+
+fn known_base(base: Option<u64>) -> Result<u64, Error>
+    ensures { Answers (λ x. x) result (known base) }
+{
+    base.ok_or(Error::UndefinedBase)
+}
+
+/// Reads the number of a pointer by the format of its encoding alone, as a word: numbers below 0
+/// count from 2^64.
+///
+/// # Errors
+///
+/// The fault of reading the number. The cursor then stays.
+pub fn read_value(encoding: DwEhPe, input: &mut Cursor) -> Result<u64, Error>
+    ensures reads { GivesOr (λ x. x) result (value (format_of encoding.0) (at input.old)) (at input.new) }
+    ensures unchanged { OnErr result (at input.new ≡ at input.old) }
+{
+    match encoding.format().0 {
+        0x01 => input.read_uleb128(),
+        0x02 => Ok(u64::from(input.read_u16()?)),
+        0x03 => Ok(u64::from(input.read_u32()?)),
+        0x09 => input.read_sleb128_word(),
+        0x0a => Ok(i64::from(input.read_i16()?).cast_unsigned()),
+        0x0b => read_sdata4(input),
+        // of the other formats those of whole words are known
+        _ => input.read_u64(),
+    }
+}
+
+/// Reads an address by four signed bytes that say how far it is from their own place:
+/// `DW_EH_PE_pcrel | DW_EH_PE_sdata4`.
+///
+/// # Errors
+///
+/// `UnexpectedEof` where fewer bytes are left. The cursor then stays.
+pub fn read_relative(input: &mut Cursor) -> Result<u64, Error>
+    ensures reads { (bases : KnownBases) → GivesOr (λ x. x) result
+        (direct 0x1b bases (at input.old)) (at input.new) }
+    ensures unchanged { OnErr result (at input.new ≡ at input.old) }
+{
+    let place = input.address();
+    let distance = read_sdata4(input)?;
+    Ok(place.wrapping_add(distance))
+}
+
+/// Reads four signed bytes as a word: numbers below 0 count from 2^64.
+///
+/// # Errors
+///
+/// `UnexpectedEof` where fewer bytes are left. The cursor then stays.
+pub fn read_sdata4(input: &mut Cursor) -> Result<u64, Error>
+    ensures reads { GivesOr (λ x. x) result (signed_number w32 32 (at input.old)) (at input.new) }
+    ensures unchanged { OnErr result (at input.new ≡ at input.old) }
+{
+    Ok(i64::from(input.read_i32()?).cast_unsigned())
 }

@@ -8,15 +8,15 @@ use Rattle.eh_frame.proofs.entries.EhFrame.entry_in.Goals as goal
 pub returns-in_err-cie : goal.returns-in_err-cie
 returns-in_err-cie c = λ bases.
     let p = err_from_is_err_and c.from_residual-in_err-cie.result c.from_residual-in_err-cie.ensures.1 in
-    rw (p.1, p.2) (no_cie bases (table_of c.args.self.now) c.args.offset (at c.args.body) _ c.in_ok-id.field-0 c.offset-place.result c.in_ok-id.ensures c.if-id-eq0.false c.offset-place.ensures (omega arith) _ (c.in_err-cie.ensures bases))
+    rw (p.1, p.2) (no_cie bases (table_of c.args.self.now) c.args.offset (at c.args.body) _ c.in_ok-id.field-0 c.offset-place.result c.in_ok-id.ensures.reads c.if-id-eq0.false c.offset-place.ensures (omega arith) _ (c.in_err-cie.ensures bases))
 
 pub returns-in_err-read-2 : goal.returns-in_err-read-2
 returns-in_err-read-2 c = λ bases.
     let p = err_from_is_err_and c.from_residual-in_err-read-2.result c.from_residual-in_err-read-2.ensures.1 in
-    rw (p.1, p.2) (no_fde bases (table_of c.args.self.now) c.args.offset (at c.args.body) (at c.read_u32.new.self) c.in_ok-id.field-0 c.offset-place.result c.in_ok-id.ensures c.if-id-eq0.false c.offset-place.ensures (omega arith)
+    rw (p.1, p.2) (no_fde bases (table_of c.args.self.now) c.args.offset (at c.args.body) (at c.read_u32.new.self) c.in_ok-id.field-0 c.offset-place.result c.in_ok-id.ensures.reads c.if-id-eq0.false c.offset-place.ensures (omega arith)
     (cie_of c.in_ok-cie.cie) (c.in_ok-cie.ensures bases) _ (c.in_err-read-2.ensures bases))
 
 pub returns : goal.returns
 returns c = λ bases.
-    whole_fde bases (table_of c.args.self.now) c.args.offset (at c.args.body) (at c.read_u32.new.self) c.in_ok-id.field-0 c.offset-place.result c.in_ok-id.ensures c.if-id-eq0.false c.offset-place.ensures (omega arith)
+    whole_fde bases (table_of c.args.self.now) c.args.offset (at c.args.body) (at c.read_u32.new.self) c.in_ok-id.field-0 c.offset-place.result c.in_ok-id.ensures.reads c.if-id-eq0.false c.offset-place.ensures (omega arith)
     (cie_of c.in_ok-cie.cie) (c.in_ok-cie.ensures bases) (fde_of c.in_ok-read-2.field-0) (c.in_ok-read-2.ensures bases)

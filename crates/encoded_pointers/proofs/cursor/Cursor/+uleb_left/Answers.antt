@@ -10,7 +10,7 @@ returns-then-byte-lt128-clause-bound t c = bound_first c.args.left c.in_ok-byte.
 pub returns-in_err-high-clause-reads : goal.returns-in_err-high-clause-reads
 returns-in_err-high-clause-reads t c =
     let p = err_from_is_err_and c.from_residual-in_err-high.result c.from_residual-in_err-high.ensures.1 in
-    let step = uleb_more c.args.left (at c.args.self.now) c.in_ok-byte.byte (at c.read_u8.new.self) (omega arith) c.in_ok-byte.ensures (omega arith) in
+    let step = uleb_more c.args.left (at c.args.self.now) c.in_ok-byte.byte (at c.read_u8.new.self) (omega arith) c.in_ok-byte.ensures.reads (omega arith) in
     rw (p.1, p.2) (step ∙ rw c.in_err-high.ensures.reads refl)
 
 pub overflow_mul-result : goal.overflow_mul-result
