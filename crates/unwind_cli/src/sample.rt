@@ -1,14 +1,24 @@
-// The snapshot of the stored run: its tables describe a chain, and this is what is due for it.
+// Snapshots whose tables describe a chain, that of the stored run and another one, and what is due for
+// them.
 ghost use Rattle.std.specs.Prelude.{◌≡◌, [], ◌∷◌};
 ghost use Rattle.unwind_definitions.specs.Delivery.{delivery_of};
 ghost use Rattle.unwind_laws.specs.Pushing.{function, start, calls};
+ghost use Rattle.unwind_laws.specs.Storing as storing;
 ghost use Rattle.unwind_cli.specs.Described.{DescribesChain};
 ghost use Rattle.unwind_cli.specs.Report.{delivery_text};
 ghost use Rattle.unwind_cli.specs.Sample.{snapshot, text};
+ghost use Rattle.unwind_cli.specs.FramePointer as frame_pointer;
 
 /// The snapshot of the stored run meets what `run` asks of a described chain, and the text that is
 /// then due is this one.
 pub fn stored_run_is_described()
     ensures described { DescribesChain snapshot (function ∷ []) start calls }
     ensures written { delivery_text (delivery_of 0 start calls) ≡ text }
+{}
+
+/// A snapshot where a function that stores R12 into its frame is called by one that sets RBP as its
+/// frame pointer meets it too, and the text that is then due is this one.
+pub fn frame_pointer_is_described()
+    ensures described { DescribesChain frame_pointer.snapshot storing.functions storing.start storing.calls }
+    ensures written { delivery_text (delivery_of 0 storing.start storing.calls) ≡ frame_pointer.text }
 {}

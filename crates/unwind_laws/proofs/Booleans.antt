@@ -80,3 +80,9 @@ head_pairs R x xs y all (k, lt, e) = subst (R x) e (all 0 (suc k) y (omega arith
 pub pairs_one : {A : Type 0} (R : A → A → Type 0) (x : A) → AllPairs R (x ∷ [])
 pairs_one R x i zero d lt below = absurd (omega arith)
 pairs_one R x i (suc j) d lt below = absurd (omega arith)
+
+pub pairs_two : {A : Type 0} (R : A → A → Type 0) (x y : A) → R x y → AllPairs R (x ∷ y ∷ [])
+pairs_two R x y h i zero d lt below = absurd (omega arith)
+pairs_two R x y h zero (suc zero) d lt below = h
+pairs_two R x y h (suc i) (suc zero) d lt below = absurd (omega arith)
+pairs_two R x y h i (suc (suc j)) d lt below = absurd (omega arith)

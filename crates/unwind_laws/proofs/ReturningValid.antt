@@ -19,7 +19,7 @@ use Rattle.unwind_definitions.specs.Valid.{IsValid}
 use Rattle.unwind_definitions.specs.Stopped.{StandsAfter}
 use Rattle.unwind_laws.specs.Columns.{columns_of}
 use Rattle.unwind_laws.specs.Returning.{image, table, module_of_them, bases, cie, callee_fde, outermost_fde, foreign_fde, entries, run_of, pushed_one, pushed_two, in_first_body, in_second_body, in_outermost, callee, outermost, functions, process, state, start, caller, last, calls, interrupted, done, later}
-use Rattle.unwind_laws.proofs.Booleans.{both_true, either_true, either_false, here_or_later, none_in_nil, pairs_one}
+use Rattle.unwind_laws.proofs.Booleans.{both_true, either_true, either_false, here_or_later, none_in_nil, pairs_one, pairs_two}
 use Rattle.unwind_laws.proofs.RowFacts.{by_register, state_fits, unnamed, same_ended}
 use Rattle.unwind_laws.proofs.Steady.{is_steady, same_row_at}
 use Rattle.unwind_laws.proofs.PushingValid.{columns_show}
@@ -229,12 +229,6 @@ module _ (forms : Forms) (reads : Reads forms) where
   }
 
 -- ---- the functions and the calls
-pairs_two : {A : Type 0} (R : A → A → Type 0) (x y : A) → R x y → AllPairs R (x ∷ y ∷ [])
-pairs_two R x y h i zero d lt below = absurd (omega arith)
-pairs_two R x y h zero (suc zero) d lt below = h
-pairs_two R x y h (suc i) (suc zero) d lt below = absurd (omega arith)
-pairs_two R x y h i (suc (suc j)) d lt below = absurd (omega arith)
-
 none_pairs : {A : Type 0} (R : A → A → Type 0) → AllPairs R []
 none_pairs R i j d lt below = absurd (omega arith)
 

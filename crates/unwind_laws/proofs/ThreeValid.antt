@@ -18,7 +18,7 @@ use Rattle.unwind_definitions.specs.Chain.{IsCalled, IsChain}
 use Rattle.unwind_definitions.specs.Valid.{IsValid}
 use Rattle.unwind_laws.specs.Columns.{columns_of}
 use Rattle.unwind_laws.specs.Three.{header, image, table, cie_plain, cie_language, fde_a, fde_b, fde_c, fa, fb, fc, functions, entries, module_of_them, process, start, second, third, last, calls_through, calls, resumes, unlisted_process, unlisted_calls, module_with_header, header_image, header_process}
-use Rattle.unwind_laws.proofs.Booleans.{here_or_later, none_in_nil, pairs_one}
+use Rattle.unwind_laws.proofs.Booleans.{here_or_later, none_in_nil, pairs_one, pairs_two}
 use Rattle.unwind_laws.proofs.RowFacts.{by_register, state_fits}
 use Rattle.unwind_laws.proofs.PushingValid.{columns_show}
 use Rattle.unwind_laws.proofs.ThreeRows.{rows_a, rows_b, rows_c}
@@ -28,12 +28,6 @@ sites_b = record { range = record { from = 0x401028; to = 0x401038 }; action = C
 
 abbrev sites_c : List Site
 sites_c = record { range = record { from = 0x401058; to = 0x401068 }; action = Catch 0x401070 } ∷ []
-
-pairs_two : {A : Type 0} (R : A → A → Type 0) (x y : A) → R x y → AllPairs R (x ∷ y ∷ [])
-pairs_two R x y h i zero d lt below = absurd (omega arith)
-pairs_two R x y h zero (suc zero) d lt below = h
-pairs_two R x y h (suc i) (suc zero) d lt below = absurd (omega arith)
-pairs_two R x y h i (suc (suc j)) d lt below = absurd (omega arith)
 
 -- ---- the functions
 function_a : IsFunction SystemV fa

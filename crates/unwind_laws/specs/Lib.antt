@@ -6,6 +6,7 @@ pub mod Pushing
 pub mod Columns
 pub mod Three
 pub mod Returning
+pub mod Storing
 pub mod Apart
 pub mod Running
 pub mod Spelled

@@ -24,8 +24,9 @@ pub use rows::{
 };
 pub use samples::{
     calls_are_caught, calls_by_a_header_are_caught, calls_of_an_outermost_function_are_valid,
-    one_call_is_valid, other_slot_is_no_entering, state_stands_inside_a_prologue,
-    three_calls_are_valid, unlisted_call_ends_the_program, windows_function_is_entered,
+    calls_through_a_frame_pointer_are_valid, one_call_is_valid, other_slot_is_no_entering,
+    state_stands_inside_a_prologue, three_calls_are_valid, unlisted_call_ends_the_program,
+    windows_function_is_entered,
 };
 pub use tables::{
     function_is_found, header_table_answers_as_a_scan, scan_finds_first, site_search_finds_action,

@@ -1,9 +1,9 @@
 //! Processes that are valid, byte for byte, and what is delivered there.
 
-ghost use Rattle.std.specs.Prelude.{◌≡◌, ◌-◌, ℕ, [], ◌∷◌, false};
+ghost use Rattle.std.specs.Prelude.{◌≡◌, ◌-◌, ◌<◌, ℕ, [], ◌∷◌, false};
 ghost use Rattle.unwind_definitions.specs.Forms.{whole, plain};
 ghost use Rattle.unwind_definitions.specs.Prologue.{Windows, steps_of};
-ghost use Rattle.unwind_definitions.specs.Entered.{IsEntered};
+ghost use Rattle.unwind_definitions.specs.Entered.{IsEntered, stack_after};
 ghost use Rattle.unwind_definitions.specs.Function.{Terminate, IsFunction, action_at};
 ghost use Rattle.unwind_definitions.specs.Module.{IsProcess};
 ghost use Rattle.unwind_definitions.specs.Delivery.{delivery_of};
@@ -13,6 +13,7 @@ ghost use Rattle.unwind_laws.specs.Columns.{columns_of};
 ghost use Rattle.unwind_laws.specs.Pushing as pushing;
 ghost use Rattle.unwind_laws.specs.Three as three;
 ghost use Rattle.unwind_laws.specs.Returning as returning;
+ghost use Rattle.unwind_laws.specs.Storing as storing;
 ghost use Rattle.unwind_laws.specs.Windows as windows;
 
 /// A call of a function that pushes RBX, from a caller that returns to 0.
@@ -48,6 +49,16 @@ pub fn calls_of_an_outermost_function_are_valid()
 /// That function stopped inside its prologue, behind two of its three steps.
 pub fn state_stands_inside_a_prologue()
     ensures { StandsAfter returning.image returning.callee returning.done returning.later returning.caller returning.interrupted }
+{}
+
+/// A function that stores R12 into its frame, called by one that sets RBP as its frame pointer and in
+/// its body has a lower stack pointer than its prologue left.
+pub fn calls_through_a_frame_pointer_are_valid()
+    ensures process { IsProcess storing.process }
+    ensures whole { IsValid whole storing.process (columns_of storing.start) [] storing.functions storing.start storing.calls }
+    ensures plain { IsValid plain storing.process (columns_of storing.start) [] storing.functions storing.start storing.calls }
+    ensures lower { storing.caller.sp < stack_after (storing.last.sp - 8) (steps_of storing.framed.prologue) }
+    ensures delivery { delivery_of 0 storing.start storing.calls ≡ storing.delivery }
 {}
 
 /// Three functions, two of them with language tables: the second runs a cleanup, the third catches.
