@@ -1,11 +1,13 @@
 pub mod Apart
 pub mod Callers
+pub mod Chains
 pub mod ContextLemmas
 pub mod Faults
 pub mod FirstEntry
 pub mod LineAnswers
 pub mod LineShows
 pub mod Lines
+pub mod Results
 pub mod Returns
 pub mod StepAnswers
 pub mod StepUndone

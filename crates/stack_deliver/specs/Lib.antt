@@ -7,3 +7,4 @@ pub mod Resumes
 pub mod Shown
 pub mod Stepping
 pub mod Undone
+pub mod Walking
