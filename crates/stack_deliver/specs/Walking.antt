@@ -1,5 +1,5 @@
 -- What a walk and a delivery leave in a room, and why they are refused.
-use Rattle.std.specs.Prelude.{◌≡◌, ◌⊎◌, ℕ, zero, suc, ◌<◌, Bool, false, List, length, None, Result, Ok, Err, Some, Option}
+use Rattle.std.specs.Prelude.{◌≡◌, ◌⊎◌, ℕ, zero, suc, ◌<◌, Bool, List, length, None, Result, Ok, Err, Some}
 use Rattle.std.specs.List.{AllByRecursion}
 use Rattle.unwind_definitions.specs.Forms.{plain}
 use Rattle.unwind_definitions.specs.State.{State, Shows}

@@ -1,4 +1,4 @@
-use Rattle.std.proofs.Common.{◌≡◌, ◌-◌, ◌≤◌, length}
+use Rattle.std.proofs.Common.{◌≡◌, ◌-◌, length}
 use Rattle.stack_deliver.specs.Delivering.{line_of, with_front}
 use Rattle.stack_deliver.proofs.walking.line.Given as goal
 
