@@ -9,7 +9,7 @@ use unwind_arch::x86_64::Context;
 /// Place for the states that a walk or a delivery visits and for the cleanups that it runs.
 ///
 /// It is reserved once, 168 bytes for each place, and not filled: memory that no state reaches isn't
-/// touched. A walk into a room takes no more memory, so a sampler that keeps one allocates nothing.
+/// touched. A walk into a room takes no more, so a sampler that keeps one allocates nothing.
 ///
 /// Contracts see the states, the cleanups, and of how many of each there are the places.
 #[derive(Drop)]

@@ -1,5 +1,5 @@
 // The states of a stack, from its innermost frame outwards.
-ghost use Rattle.std.specs.Prelude.{◌≡◌, ◌≢◌, ◌⊎◌, ◌↔◌, ◌≤◌, ℕ, List, [], None, Ok, Err, length, slice_get, IsOk, IsOkAnd, IsFalse, MatchResult, OnErr};
+ghost use Rattle.std.specs.Prelude.{◌≡◌, ◌≢◌, ◌⊎◌, ◌↔◌, ◌≤◌, ℕ, List, [], None, Err, length, slice_get, IsOk, IsOkAnd, IsFalse, OnErr};
 ghost use Rattle.memory_image.specs.Image.{word_at};
 ghost use Rattle.unwind_definitions.specs.State.{State};
 ghost use Rattle.unwind_definitions.specs.Function.{Function};
@@ -82,8 +82,8 @@ pub(crate) fn modules_are_apart(space: &Space<'_>)
 ///
 /// The room is emptied first. Then it holds the states from the start outwards: each next one is the
 /// caller of the one before, by `step`, until the stack ends. `interrupted` says whether the start
-/// stands before its instruction and not behind a call; behind a signal's frame each further state
-/// does. No memory is taken.
+/// stands before its instruction and not behind a call; so does each state behind a signal's frame.
+/// No memory is taken.
 ///
 /// # Errors
 ///
