@@ -7,6 +7,7 @@
     snapshots.py modules N     the same with N more modules of 16 addresses, by descending address
     snapshots.py resumes N     the same with N return addresses
     snapshots.py frames N L    N frames of one function, with addresses of twelve digits, and the limit L
+    snapshots.py calls N L     N calls of the function, each of which keeps its caller's place for RBX, and the limit L
 """
 import random
 import sys
@@ -44,8 +45,23 @@ def frames(count, limit):
     )
 
 
+def calls(count, limit):
+    """A stack of so many calls: the place of the caller, from 1 on, and where it goes on."""
+    back = (0x401006).to_bytes(8, "little").hex()
+    slots = "".join(i.to_bytes(8, "little").hex() + back for i in range(1, count))
+    slots += count.to_bytes(8, "little").hex() + 16 * "0"
+    return '{"regions":[%s],"modules":[%s],"start":{"rip":"0x401006","rsp":"0x7000000","rbx":"0x9"},"limit":%d}' % (
+        ",".join([region(0x500000, TABLE), region(0x7000000, slots)]),
+        module(0x401000, 0x401010, 0x500000),
+        limit,
+    )
+
+
 def main():
     kind = sys.argv[1]
+    if kind == "calls":
+        print(calls(int(sys.argv[2]), int(sys.argv[3])), end="")
+        return
     if kind == "frames":
         print(frames(int(sys.argv[2]), int(sys.argv[3])), end="")
         return

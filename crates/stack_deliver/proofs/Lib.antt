@@ -1,10 +1,12 @@
 pub mod Apart
+pub mod Chains
 pub mod ContextLemmas
 pub mod FirstEntry
 pub mod Framings
 pub mod LineAnswers
 pub mod LineShows
 pub mod Lines
+pub mod Results
 pub mod Returns
 pub mod StepAnswers
 pub mod StepUndone

@@ -1,5 +1,5 @@
 -- When a line answers that the limit is met, and when that a slot isn't mapped.
-use Rattle.std.proofs.Common.{◌≡◌, ℕ, zero, suc, Bool, true, false, List, Option, Some, None, Result, Ok, Err, refl, subst, cond, eqb}
+use Rattle.std.proofs.Common.{inl, inr, ◌≡◌, ◌≢◌, ℕ, zero, suc, Bool, true, false, List, Option, Some, None, Result, Ok, Err, refl, ap, subst, ◌∙◌, cond, eqb}
 use Rattle.memory_image.specs.Image.{Span, word_at}
 use Rattle.unwind_definitions.specs.declared.error.Error.{Error as Fault}
 use Rattle.unwind_definitions.specs.Forms.{plain}
@@ -9,7 +9,7 @@ use Rattle.unwind_arch.specs.declared.x86_64.Context.{Context}
 use Rattle.stack_deliver.specs.declared.space.Module.{Module}
 use Rattle.stack_deliver.specs.declared.delivery.Stepped.{Stepped}
 use Rattle.stack_deliver.specs.declared.delivery.DeliverError.{DeliverError}
-use Rattle.stack_deliver.specs.declared.delivery.DeliverError.TheVariants.{Unmapped, FrameLimit}
+use Rattle.stack_deliver.specs.declared.delivery.DeliverError.TheVariants.{NoMemory, Unmapped, FrameLimit}
 use Rattle.unwinding_core.specs.Calling.{no_expressions}
 use Rattle.unwinding_core.specs.Finding.{FoundFde}
 use Rattle.unwinding_core.specs.Framed.{address_asked}
@@ -18,6 +18,7 @@ use Rattle.unwind_arch.specs.Contexts.{columns_of}
 use Rattle.stack_deliver.specs.Modules.{SpaceValue, module_at}
 use Rattle.stack_deliver.specs.Stepping.{step_of, in_module, called, by_row, stepped, context_by, IsStepFault}
 use Rattle.stack_deliver.specs.Delivering.{with_first, line_after, line_of, ended, delivery_of, NeedsMore}
+use Rattle.stack_deliver.specs.Walking.{StepFails}
 use Rattle.stack_deliver.proofs.StepAnswers.{step_unmapped}
 
 -- a step answers no fault but those of tables and of memory
@@ -87,19 +88,51 @@ line_unmapped space (suc room) c interrupted b e = go (step_of space c interrupt
     go (Ok (Some s)) is later e = later s (first_unmapped c (line_of space room s.context s.signal) b e)
     go (Err x) is later e = let at : step_of space c interrupted ≡ Err (Unmapped b) = cc in step_unmapped space c interrupted b at
 
+first_fault : (c : Context) (r : Result (List Context) DeliverError) (e : DeliverError) → with_first c r ≡ Err e → r ≡ Err e
+first_fault c (Ok cs) e is = absurd cc
+first_fault c (Err x) e is = cc
+
+fault_first : (c : Context) (r : Result (List Context) DeliverError) (e : DeliverError) → r ≡ Err e → with_first c r ≡ Err e
+fault_first c r e is = rw is refl
+
+-- any other fault is that of the step from one of the states
+pub line_fault : (space : SpaceValue) (room : ℕ) (c : Context) (interrupted : Bool) (e : DeliverError) → e ≢ FrameLimit → line_of space room c interrupted ≡ Err e → StepFails space room c interrupted e
+line_fault space zero c interrupted e other is = let same : e ≡ FrameLimit = cc in absurd (other same)
+line_fault space (suc room) c interrupted e other is = go (step_of space c interrupted) refl (λ s. line_fault space room s.context s.signal e other) is
+  where
+    go : (r : Result (Option Stepped) DeliverError) → step_of space c interrupted ≡ r → ((s : Stepped) → line_of space room s.context s.signal ≡ Err e → StepFails space room s.context s.signal e) →
+        line_after c r (line_of space room) ≡ Err e → StepFails space (suc room) c interrupted e
+    go (Ok None) steps later fails = absurd cc
+    go (Ok (Some s)) steps later fails = inr (s, steps, later s (first_fault c (line_of space room s.context s.signal) e fails))
+    go (Err x) steps later fails = let same : x ≡ e = cc in inl (steps ∙ ap Err same)
+
+pub fault_line : (space : SpaceValue) (room : ℕ) (c : Context) (interrupted : Bool) (e : DeliverError) → StepFails space room c interrupted e → line_of space room c interrupted ≡ Err e
+fault_line space zero c interrupted e fails = absurd fails
+fault_line space (suc room) c interrupted e (inl fails) = rw fails refl
+fault_line space (suc room) c interrupted e (inr later) = rw later.1 (fault_first c (line_of space room later.0.context later.0.signal) e (fault_line space room later.0.context later.0.signal e later.2))
+
+-- no line is refused for want of memory
+fails_memory : (space : SpaceValue) (room : ℕ) (c : Context) (interrupted : Bool) → StepFails space room c interrupted NoMemory → ⊥
+fails_memory space zero c interrupted fails = fails
+fails_memory space (suc room) c interrupted (inl fails) = go (step_of space c interrupted) fails (step_faults space c interrupted)
+  where
+    go : (r : Result (Option Stepped) DeliverError) → r ≡ Err NoMemory → OnStepFault r → ⊥
+    go (Ok v) e faults = absurd cc
+    go (Err x) e faults = let same : x ≡ NoMemory = cc in subst (λ (f : DeliverError). IsStepFault f) same faults
+fails_memory space (suc room) c interrupted (inr later) = fails_memory space room later.0.context later.0.signal later.2
+
+pub line_memory : (space : SpaceValue) (room : ℕ) (c : Context) (interrupted : Bool) → line_of space room c interrupted ≢ Err NoMemory
+line_memory space room c interrupted is = fails_memory space room c interrupted (line_fault space room c interrupted NoMemory (λ e. cc) is)
+
 ended_fault : (r : Result (List Context) DeliverError) (e : DeliverError) → ended r ≡ Err e → r ≡ Err e
 ended_fault (Ok cs) e is = absurd cc
 ended_fault (Err x) e is = cc
 
 -- the same of a delivery
-pub delivery_limit : (space : SpaceValue) (c : Context) (exception : ℕ) (resumes : List (ℕ × ℕ)) (limit : ℕ) → delivery_of space c exception resumes limit ≡ Err FrameLimit → NeedsMore space limit c false
+pub delivery_fault : (space : SpaceValue) (c : Context) (exception : ℕ) (resumes : List (ℕ × ℕ)) (limit : ℕ) (e : DeliverError) → delivery_of space c exception resumes limit ≡ Err e → line_of space limit c false ≡ Err e
 unfolding delivery_of
-delivery_limit space c exception resumes limit e = line_limit space limit c false (ended_fault (line_of space limit c false) FrameLimit e)
+delivery_fault space c exception resumes limit e is = ended_fault (line_of space limit c false) e is
 
-pub limit_delivery : (space : SpaceValue) (c : Context) (exception : ℕ) (resumes : List (ℕ × ℕ)) (limit : ℕ) → NeedsMore space limit c false → delivery_of space c exception resumes limit ≡ Err FrameLimit
+pub fault_delivery : (space : SpaceValue) (c : Context) (exception : ℕ) (resumes : List (ℕ × ℕ)) (limit : ℕ) (e : DeliverError) → line_of space limit c false ≡ Err e → delivery_of space c exception resumes limit ≡ Err e
 unfolding delivery_of
-limit_delivery space c exception resumes limit more = rw (limit_line space limit c false more) refl
-
-pub delivery_unmapped : (space : SpaceValue) (c : Context) (exception : ℕ) (resumes : List (ℕ × ℕ)) (limit b : ℕ) → delivery_of space c exception resumes limit ≡ Err (Unmapped b) → word_at space.image b ≡ None
-unfolding delivery_of
-delivery_unmapped space c exception resumes limit b e = line_unmapped space limit c false b (ended_fault (line_of space limit c false) (Unmapped b) e)
+fault_delivery space c exception resumes limit e is = rw is refl

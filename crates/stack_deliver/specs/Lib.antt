@@ -6,3 +6,4 @@ pub mod Resumes
 pub mod Shown
 pub mod Stepping
 pub mod Undone
+pub mod Walking

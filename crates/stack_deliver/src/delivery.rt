@@ -3,7 +3,7 @@ ghost use Rattle.std.specs.Prelude.{◌≡◌, length, slice_get};
 ghost use Rattle.stack_deliver.specs.declared.delivery.DeliverError.TheVariants.{NoMemory};
 
 use eh_frame::Error;
-use std::alloc::AllocFailed;
+use std::alloc::AllocError;
 use std::marker::Model;
 use unwind_arch::x86_64::Context;
 use unwinding_core::StepError;
@@ -28,6 +28,15 @@ pub enum Outcome {
     FatalPhase1,
     /// In a cleanup pass a language table said to terminate or wasn't readable, or the stack ended.
     FatalPhase2,
+}
+
+/// How a delivery into a room ended.
+#[derive(Clone, Copy, Debug, PartialEq, Eq)]
+pub struct Ending {
+    /// How it ended.
+    pub outcome: Outcome,
+    /// The registers at the handler, where it was installed.
+    pub landing: Option<Context>,
 }
 
 /// A caller's registers.
@@ -57,10 +66,10 @@ pub enum DeliverError {
     Table(Error),
 }
 
-impl<T: Drop> From<AllocFailed<T>> for DeliverError {
+impl From<AllocError> for DeliverError {
     ghost from_gives = { λ _ e. e ≡ NoMemory };
 
-    fn from(_e: AllocFailed<T>) -> DeliverError {
+    fn from(_e: AllocError) -> DeliverError {
         DeliverError::NoMemory
     }
 }

@@ -6,14 +6,18 @@
 mod delivering;
 mod delivery;
 mod resumes;
+mod room;
 mod space;
 mod stepping;
+mod walking;
 
-pub use delivering::deliver;
-pub use delivery::{DeliverError, Delivery, Outcome, Stepped, Trail};
+pub use delivering::{deliver, deliver_into};
+pub use delivery::{DeliverError, Delivery, Ending, Outcome, Stepped, Trail};
 pub use eh_frame::Error;
 pub use resumes::{Resumes, first_entry_counts};
+pub use room::Room;
 pub use space::{Module, Space, SpaceError};
 pub use stepping::step;
 pub use unwind_arch::x86_64::Context;
 pub use unwinding_core::{FrameInfo, FrameInfoKind};
+pub use walking::{Visited, walk, walk_into};

@@ -1,4 +1,4 @@
--- What is delivered of a snapshot whose tables describe a chain of functions without language tables.
+-- What is delivered and walked of a snapshot whose tables describe a chain.
 use Rattle.std.proofs.Common.{inl, inr, ◌≡◌, ◌≢◌, ℕ, zero, suc, ◌+◌, ◌-◌, ◌<◌, ◌≤◌, Bool, true, false, List, [], ◌∷◌, ◌++◌, length, Option, Some, None, Result, Ok, Err, get_or, refl, sym, ap, subst, ◌∙◌, arith, leb}
 use Rattle.std.specs.Prelude.{◌⊎◌, ◌&&◌, map, is_none, IsTrue, codes, if◌then◌else◌}
 use Rattle.std.specs.Option.{option_map, option_and_then, option_map_or}
@@ -26,18 +26,18 @@ use Rattle.stack_deliver.specs.Processes.{process_of}
 use Rattle.stack_deliver.specs.Delivering.{Delivered, delivery_of, line_of}
 use Rattle.stack_deliver.specs.declared.delivery.Trail.{Trail}
 use Rattle.stack_deliver.specs.Shown.{state_of, pair_of, landing_of, delivery_shown}
-use Rattle.stack_deliver.specs.Undone.{HaveFrameTables, EachShows}
+use Rattle.stack_deliver.specs.Walking.{ShowsDelivery}
 use Rattle.stack_deliver.proofs.Apart.{with_apart}
-use Rattle.stack_deliver.proofs.LineShows.{line_shows}
+use Rattle.stack_deliver.proofs.Chains as chains
 use Rattle.unwind_cli.specs.declared.errors.Field.{Field}
 use Rattle.unwind_cli.specs.declared.errors.Field.TheVariants as fields
 use Rattle.unwind_cli.specs.Content.{Content, takes_modules, modules_after, space_of}
 use Rattle.unwind_cli.specs.Fields.{word_or_zero_at}
 use Rattle.unwind_cli.specs.Snapshot.{◌>>=◌, needs, if_spaced, module_list, whole_numbers, regions_of, modules_of, start_of, resumes_of, limit_of, interrupted_of, snapshot_of}
 use Rattle.unwind_cli.specs.Answers.{value_of, content_with, content_by, content_of}
-use Rattle.unwind_cli.specs.Described.{DescribesChain}
-use Rattle.unwind_cli.specs.Report.{state_line, pad_line, state_lines, pad_lines, handler_lines, delivery_text, frame_line, frame_lines, cleanup_line, cleanup_lines, landing_line, landing_lines, report_of}
-use Rattle.unwind_cli.specs.Due.{delivery_from}
+use Rattle.unwind_cli.specs.Described.{DescribesChain, DescribesWalk}
+use Rattle.unwind_cli.specs.Report.{state_line, pad_line, state_lines, pad_lines, handler_lines, delivery_text, frame_line, frame_lines, cleanup_line, cleanup_lines, landing_line, landing_lines, report_of, walk_report_of, walk_text}
+use Rattle.unwind_cli.specs.Due.{delivery_from, walk_from}
 
 -- ---- a snapshot's modules are apart
 
@@ -108,47 +108,21 @@ content_apart bytes s is = go (value_of bytes) is
         said (Ok t) reads e = let same : t ≡ s = cc in apart_after [] s.modules tt (modules_taken d s (reads ∙ ap Ok same))
         said (Err f) reads e = absurd cc
 
--- ---- contexts that show states
-
--- the state that a context shows
-shown_state : (c : Context) (s : State) → Shows (columns_of c) s → state_of c ≡ s
-shown_state c s shows =
-    let ra : c.ra ≡ s.ra = let e = shows.ra in cc in
-    let sp : get_or c.registers 7 0 ≡ s.sp = let e = shows.sp in cc in
-    let rbx : get_or c.registers 3 0 ≡ s.rbx = let e : Some (get_or c.registers 3 0) ≡ Some s.rbx = shows.saved RBX in cc in
-    let rbp : get_or c.registers 6 0 ≡ s.rbp = let e : Some (get_or c.registers 6 0) ≡ Some s.rbp = shows.saved RBP in cc in
-    let r12 : get_or c.registers 12 0 ≡ s.r12 = let e : Some (get_or c.registers 12 0) ≡ Some s.r12 = shows.saved R12 in cc in
-    let r13 : get_or c.registers 13 0 ≡ s.r13 = let e : Some (get_or c.registers 13 0) ≡ Some s.r13 = shows.saved R13 in cc in
-    let r14 : get_or c.registers 14 0 ≡ s.r14 = let e : Some (get_or c.registers 14 0) ≡ Some s.r14 = shows.saved R14 in cc in
-    let r15 : get_or c.registers 15 0 ≡ s.r15 = let e : Some (get_or c.registers 15 0) ≡ Some s.r15 = shows.saved R15 in cc in
-    rw (ra, sp, rbx, rbp, r12, r13, r14, r15) refl
-
-shown_states : (cs : List Context) (ss : List State) → EachShows cs ss → map state_of cs ≡ ss
-shown_states [] [] each = refl
-shown_states (c ∷ cs) (s ∷ ss) each = let first : state_of c ≡ s = shown_state c s each.0 in let later : map state_of cs ≡ ss = shown_states cs ss each.1 in cc
-shown_states [] (s ∷ ss) each = absurd each
-shown_states (c ∷ cs) [] each = absurd each
-
--- ---- a chain without language tables
-
--- no frame decides
-none_decides : (functions : List Function) → AllByRecursion (λ (f : Function). f.sites ≡ None) functions → (p : Process) (s : State) (calls : List Call) → IsChain p.image (IsUncovered plain p) functions s calls → described.deciding_frame s calls ≡ None
-none_decides functions plain_all p s [] chain = refl
-none_decides functions plain_all p s (c ∷ calls) chain =
-    let free : c.callee.sites ≡ None = lists.all_contains (λ (f : Function). f.sites ≡ None) functions c.callee plain_all chain.0.listed in
-    rw free (none_decides functions plain_all p c.caller calls chain.1)
+-- ---- what is delivered and walked
 
 -- What is delivered of a snapshot whose tables describe a chain is what the definition says of the chain.
 pub chain_delivered : (s : Content) (functions : List Function) (start : State) (calls : List Call) → AreApart 0 (space_of s).modules → DescribesChain s functions start calls →
-    (d : Delivered) × (delivery_from s ≡ Ok d) × (delivery_shown d ≡ described.delivery_of s.exception start calls)
-unfolding delivery_from delivery_of
-chain_delivered s functions start calls apart is =
-    let p : Process = process_of (space_of s) in
-    let chain = valid_described plain p (columns_of s.start) s.resumes functions start calls is.valid in
-    let line = line_shows (space_of s) apart is.tables functions is.valid.are_functions start calls s.start s.limit is.valid.chain chain.described is.valid.shows is.shorter in
-    let states : map state_of line.0 ≡ states_of start calls = shown_states line.0 (states_of start calls) line.2 in
-    let none : described.deciding_frame start calls ≡ None = none_decides functions is.no_language p start calls is.valid.chain in
-    (record { visited = line.0; trail = []; outcome = EndOfStack; landing = None }, rw line.1 refl, rw (none, states) refl)
+    (d : Delivered) × (delivery_from s ≡ Ok d) × ShowsDelivery d s.exception start calls
+unfolding delivery_from
+chain_delivered s functions start calls apart is = chains.chain_delivered (space_of s) s.start s.exception s.resumes s.limit functions start calls apart is
+
+-- The walk over it visits the chain's states.
+pub chain_walked : (s : Content) (functions : List Function) (start : State) (calls : List Call) → AreApart 0 (space_of s).modules → DescribesWalk s functions start calls →
+    (cs : List Context) × (walk_from s ≡ Ok cs) × (map state_of cs ≡ states_of start calls)
+unfolding walk_from
+chain_walked s functions start calls apart is =
+    let w = chains.chain_walked (space_of s) s.start s.limit functions start calls apart is.1 in
+    (w.0, rw is.0 w.1, chains.shown_states w.0 (states_of start calls) w.2.states)
 
 -- ---- the report
 
@@ -170,3 +144,7 @@ landing_shown (Some c) = refl
 -- the report of a delivery is the text of what it shows
 pub report_shown : (d : Delivered) → report_of d ≡ delivery_text (delivery_shown d)
 report_shown d = rw (frames_shown 0 d.visited, cleanups_shown d.trail, landing_shown d.landing) refl
+
+-- and so is the report of a walk
+pub walk_shown : (cs : List Context) → walk_report_of cs ≡ walk_text (map state_of cs)
+walk_shown cs = rw (frames_shown 0 cs) refl

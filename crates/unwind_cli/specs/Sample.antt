@@ -17,8 +17,14 @@ snapshot = record {
   interrupted = false;
 }
 
--- what is written of it
+-- what is written of its delivery
 abbrev pub text : List ℕ
 text = line (codes "frame 0 ra=0x401006 sp=0x7000 rbx=0x9 rbp=0x0 r12=0x0 r13=0x0 r14=0x0 r15=0x0")
     ++ line (codes "frame 1 ra=0x0 sp=0x7010 rbx=0x5 rbp=0x0 r12=0x0 r13=0x0 r14=0x0 r15=0x0")
     ++ line (codes "outcome end of stack")
+
+-- what is written of its walk
+abbrev pub walked : List ℕ
+walked = line (codes "frame 0 ra=0x401006 sp=0x7000 rbx=0x9 rbp=0x0 r12=0x0 r13=0x0 r14=0x0 r15=0x0")
+    ++ line (codes "frame 1 ra=0x0 sp=0x7010 rbx=0x5 rbp=0x0 r12=0x0 r13=0x0 r14=0x0 r15=0x0")
+    ++ line (codes "end")

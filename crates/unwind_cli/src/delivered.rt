@@ -1,8 +1,9 @@
 // The report of a delivery.
 ghost use Rattle.std.specs.Prelude.{◌≡◌, ◌++◌, IfOk, OnOk};
-ghost use Rattle.unwind_cli.specs.Report.{fields_text, frame_line, frame_lines, cleanup_line, cleanup_lines, landing_line, outcome_name, outcome_line, report_of};
+ghost use Rattle.unwind_cli.specs.Report.{frame_lines, cleanup_line, cleanup_lines, landing_line, outcome_name, outcome_line, report_of};
 
 use crate::report::Report;
+use crate::states::{put_fields, put_frame};
 use stack_deliver::{Context, Delivery, Outcome, Trail};
 use std::alloc::{AllocError, Global};
 
@@ -15,30 +16,6 @@ fn name_of(outcome: Outcome) -> &'static str
         Outcome::FatalPhase1 => "fatal phase 1",
         Outcome::FatalPhase2 => "fatal phase 2",
     }
-}
-
-/// Puts the registers that calls keep.
-#[tactic(auto, unfolding(crate::specs::Report::fields_text, crate::specs::Report::state_fields))]
-fn put_fields(report: &mut Report, state: &Context) -> Result<(), AllocError>
-    ensures { OnOk result (report.new ≡ report.old ++ fields_text state.now) }
-{
-    report.put_field(" ra=", state.ra)?;
-    report.put_field(" sp=", state.registers[7])?;
-    report.put_field(" rbx=", state.registers[3])?;
-    report.put_field(" rbp=", state.registers[6])?;
-    report.put_field(" r12=", state.registers[12])?;
-    report.put_field(" r13=", state.registers[13])?;
-    report.put_field(" r14=", state.registers[14])?;
-    report.put_field(" r15=", state.registers[15])
-}
-
-#[tactic(auto, unfolding(crate::specs::Report::frame_line, crate::specs::Report::state_line, crate::specs::Report::fields_text))]
-fn put_frame(report: &mut Report, index: usize, state: &Context) -> Result<(), AllocError>
-    ensures { OnOk result (report.new ≡ report.old ++ frame_line index state.now) }
-{
-    report.put_count("frame ", index)?;
-    put_fields(report, state)?;
-    report.end_line()
 }
 
 #[tactic(auto, unfolding(crate::specs::Report::cleanup_line, crate::specs::Report::pad_line))]

@@ -1,12 +1,13 @@
 // Snapshots whose tables describe a chain, that of the stored run and another one, and what is due for
 // them.
 ghost use Rattle.std.specs.Prelude.{◌≡◌, [], ◌∷◌};
+ghost use Rattle.unwind_definitions.specs.Chain.{states_of};
 ghost use Rattle.unwind_definitions.specs.Delivery.{delivery_of};
 ghost use Rattle.unwind_laws.specs.Pushing.{function, start, calls};
 ghost use Rattle.unwind_laws.specs.Storing as storing;
-ghost use Rattle.unwind_cli.specs.Described.{DescribesChain};
-ghost use Rattle.unwind_cli.specs.Report.{delivery_text};
-ghost use Rattle.unwind_cli.specs.Sample.{snapshot, text};
+ghost use Rattle.unwind_cli.specs.Described.{DescribesChain, DescribesWalk};
+ghost use Rattle.unwind_cli.specs.Report.{delivery_text, walk_text};
+ghost use Rattle.unwind_cli.specs.Sample.{snapshot, text, walked};
 ghost use Rattle.unwind_cli.specs.FramePointer as frame_pointer;
 
 /// The snapshot of the stored run meets what `run` asks of a described chain, and the text that is
@@ -14,6 +15,12 @@ ghost use Rattle.unwind_cli.specs.FramePointer as frame_pointer;
 pub fn stored_run_is_described()
     ensures described { DescribesChain snapshot (function ∷ []) start calls }
     ensures written { delivery_text (delivery_of 0 start calls) ≡ text }
+{}
+
+/// The same of a walk over it.
+pub fn stored_run_is_walked()
+    ensures described { DescribesWalk snapshot (function ∷ []) start calls }
+    ensures written { walk_text (states_of start calls) ≡ walked }
 {}
 
 /// A snapshot where a function that stores R12 into its frame is called by one that sets RBP as its

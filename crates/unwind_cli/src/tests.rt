@@ -72,15 +72,84 @@ fn deliveries_are_told(rt: HostRuntime) -> Result<(), Fail> {
     Ok(())
 }
 
+/// Four states of the function, of which the last has the return address 0.
+const DEEP: &str =
+    "010000000000000006104000000000000200000000000000061040000000000003000000000000000000000000000000";
+
+const DEEP_FRAMES: &str =
+    "frame 0 ra=0x401006 sp=0x7000 rbx=0x9 rbp=0x0 r12=0x0 r13=0x0 r14=0x0 r15=0x0\nframe 1 ra=0x401006 sp=0x7010 rbx=0x1 rbp=0x0 r12=0x0 r13=0x0 r14=0x0 r15=0x0\nframe 2 ra=0x401006 sp=0x7020 rbx=0x2 rbp=0x0 r12=0x0 r13=0x0 r14=0x0 r15=0x0\nframe 3 ra=0x0 sp=0x7030 rbx=0x3 rbp=0x0 r12=0x0 r13=0x0 r14=0x0 r15=0x0\n";
+
+#[test]
+fn deep_stacks_are_told(rt: HostRuntime) -> Result<(), Fail> {
+    let alloc = rt.alloc();
+    for (word, ending) in [("deliver", "outcome end of stack\n"), ("walk", "end\n")] {
+        let input = snapshot(alloc, DEEP, MODULE, START, "\"limit\":3")?;
+        let (status, written) = ran(alloc, &[word], input.as_bytes())?;
+        assert_eq!(rt; status, 8);
+        assert_eq!(rt; written.as_slice(), b"refused: frame limit\n".as_slice());
+        let input = snapshot(alloc, DEEP, MODULE, START, "\"limit\":4")?;
+        let text = format!(in alloc; "{DEEP_FRAMES}{ending}")?;
+        let (status, written) = ran(alloc, &[word], input.as_bytes())?;
+        assert_eq!(rt; status, 0);
+        assert_eq!(rt; written.as_slice(), text.as_bytes());
+    }
+    Ok(())
+}
+
+#[test]
+fn walks_are_told(rt: HostRuntime) -> Result<(), Fail> {
+    let alloc = rt.alloc();
+    let two =
+        "frame 0 ra=0x401006 sp=0x7000 rbx=0x9 rbp=0x0 r12=0x0 r13=0x0 r14=0x0 r15=0x0\nframe 1 ra=0x0 sp=0x7010 rbx=0x5 rbp=0x0 r12=0x0 r13=0x0 r14=0x0 r15=0x0\nend\n";
+    // Stopped before its first instruction, the function has pushed nothing. Its return address is
+    // the word at the stack pointer, and the address before its start is in no module.
+    let pushed_nothing =
+        "frame 0 ra=0x401000 sp=0x7008 rbx=0x9 rbp=0x0 r12=0x0 r13=0x0 r14=0x0 r15=0x0\nframe 1 ra=0x0 sp=0x7010 rbx=0x9 rbp=0x0 r12=0x0 r13=0x0 r14=0x0 r15=0x0\nend\n";
+    let behind_a_call =
+        "frame 0 ra=0x401000 sp=0x7008 rbx=0x9 rbp=0x0 r12=0x0 r13=0x0 r14=0x0 r15=0x0\nend\n";
+    let before = "{\"rip\":\"0x401000\",\"rsp\":\"0x7008\",\"rbx\":\"0x9\"}";
+    for (start, rest, number, text) in [
+        (START, "\"limit\":2", 0, two),
+        (START, "\"limit\":1", 8, "refused: frame limit\n"),
+        (
+            before,
+            "\"limit\":2,\"interrupted\":true",
+            0,
+            pushed_nothing,
+        ),
+        (before, "\"limit\":2", 0, behind_a_call),
+        (
+            "{\"rip\":\"0x401006\",\"rsp\":\"0x7008\"}",
+            "\"limit\":2",
+            8,
+            "refused: unmapped 0x7010\n",
+        ),
+        (START, "\"limit\":0", 7, "bad snapshot: limit\n"),
+    ] {
+        let input = snapshot(alloc, STACK, MODULE, start, rest)?;
+        let (status, written) = ran(alloc, &["walk"], input.as_bytes())?;
+        assert_eq!(rt; status, number, "{text}");
+        assert_eq!(rt; written.as_slice(), text.as_bytes());
+    }
+    Ok(())
+}
+
 #[test]
 fn what_is_no_snapshot_is_refused(rt: HostRuntime) -> Result<(), Fail> {
     let alloc = rt.alloc();
     for (words, input, number, text) in [
-        (&[][..], "", 2, "usage: unwind_cli deliver\n"),
-        (&["walk"], "", 2, "usage: unwind_cli deliver\n"),
-        (&["deliver", "x"], "", 2, "usage: unwind_cli deliver\n"),
+        (&[][..], "", 2, "usage: unwind_cli deliver | walk\n"),
+        (&["walks"], "", 2, "usage: unwind_cli deliver | walk\n"),
+        (
+            &["deliver", "walk"],
+            "",
+            2,
+            "usage: unwind_cli deliver | walk\n",
+        ),
         (&["deliver"], "", 6, "not json\n"),
+        (&["walk"], "", 6, "not json\n"),
         (&["deliver"], "[]", 7, "bad snapshot: object\n"),
+        (&["walk"], "[]", 7, "bad snapshot: object\n"),
         (
             &["deliver"],
             "{\"seen\":[1.5]}",

@@ -12,3 +12,5 @@ mod macho_linked;
 mod pe;
 #[cfg(test)]
 mod resumes;
+#[cfg(test)]
+mod rooms;

@@ -1,0 +1,34 @@
+use Rattle.std.proofs.Common.{List, false, subst}
+use Rattle.unwind_arch.specs.declared.x86_64.Context.{Context}
+use Rattle.stack_deliver.specs.declared.delivery.DeliverError.TheVariants.{NoMemory, FrameLimit, Unmapped}
+use Rattle.stack_deliver.specs.Delivering.{line_of}
+use Rattle.stack_deliver.specs.Walking.{IsWalked, ShowChain}
+use Rattle.stack_deliver.proofs.LineAnswers.{line_limit, limit_line, line_fault, fault_line, line_unmapped, line_memory}
+use Rattle.stack_deliver.proofs.Results.{walked_fault, fault_walked, states_walked}
+use Rattle.stack_deliver.proofs.Chains.{chain_walked}
+use Rattle.stack_deliver.proofs.walking.walk_into.Goals as goal
+
+pub returns-clause-frame_limit : goal.returns-clause-frame_limit
+returns-clause-frame_limit g c = (
+  λ e. line_limit c.args.space.now c.args.limit c.args.start.now c.args.interrupted (walked_fault c.walked.result c.walked.new.room _ FrameLimit c.walked.ensures.exact e),
+  λ more. fault_walked c.walked.result c.walked.new.room _ FrameLimit c.walked.ensures.exact (limit_line c.args.space.now c.args.limit c.args.start.now c.args.interrupted more),
+)
+
+pub returns-clause-step_fault : goal.returns-clause-step_fault
+returns-clause-step_fault g c e other = (
+  λ is. line_fault c.args.space.now c.args.limit c.args.start.now c.args.interrupted e other (walked_fault c.walked.result c.walked.new.room _ e c.walked.ensures.exact is),
+  λ fails. fault_walked c.walked.result c.walked.new.room _ e c.walked.ensures.exact (fault_line c.args.space.now c.args.limit c.args.start.now c.args.interrupted e fails),
+)
+
+pub returns-clause-unmapped : goal.returns-clause-unmapped
+returns-clause-unmapped g c a e = line_unmapped c.args.space.now c.args.limit c.args.start.now c.args.interrupted a (walked_fault c.walked.result c.walked.new.room _ (Unmapped a) c.walked.ensures.exact e)
+
+pub returns-clause-takes_no_memory : goal.returns-clause-takes_no_memory
+returns-clause-takes_no_memory g c e = line_memory c.args.space.now c.args.limit c.args.start.now c.args.interrupted (walked_fault c.walked.result c.walked.new.room _ NoMemory c.walked.ensures.exact e)
+
+pub returns-clause-chain : goal.returns-clause-chain
+returns-clause-chain g c functions s calls starts called =
+    let w = chain_walked c.args.space.now c.args.start.now c.args.limit functions s calls c.modules_are_apart.ensures starts in
+    let exact : IsWalked c.walked.result c.walked.new.room (line_of c.args.space.now c.args.limit c.args.start.now false) = rw called at c.walked.ensures.exact in
+    let r = states_walked c.walked.result c.walked.new.room _ w.0 exact w.1 in
+    (r.0, subst (λ (cs : List Context). ShowChain cs s calls) r.1 w.2)

@@ -1,0 +1,71 @@
+-- What a walk and a delivery leave in a room, and why they are refused.
+use Rattle.std.specs.Prelude.{◌≡◌, ◌⊎◌, ℕ, zero, suc, ◌<◌, Bool, List, length, None, Result, Ok, Err, Some}
+use Rattle.std.specs.List.{AllByRecursion}
+use Rattle.unwind_definitions.specs.Forms.{plain}
+use Rattle.unwind_definitions.specs.State.{State, Shows}
+use Rattle.unwind_definitions.specs.Function.{Function}
+use Rattle.unwind_definitions.specs.Chain.{Call, states_of, StacksRise}
+use Rattle.unwind_definitions.specs.Delivery as described
+use Rattle.unwind_definitions.specs.Valid.{IsDescribedChain, IsValid}
+use Rattle.unwind_arch.specs.declared.x86_64.Context.{Context}
+use Rattle.unwind_arch.specs.Contexts.{columns_of}
+use Rattle.stack_deliver.specs.declared.delivery.Trail.{Trail}
+use Rattle.stack_deliver.specs.declared.delivery.Stepped.{Stepped}
+use Rattle.stack_deliver.specs.declared.delivery.Ending.{Ending}
+use Rattle.stack_deliver.specs.declared.delivery.DeliverError.{DeliverError}
+use Rattle.stack_deliver.specs.Modules.{SpaceValue}
+use Rattle.stack_deliver.specs.Processes.{process_of}
+use Rattle.stack_deliver.specs.Stepping.{step_of}
+use Rattle.stack_deliver.specs.Delivering.{Delivered}
+use Rattle.stack_deliver.specs.Shown.{delivery_shown}
+use Rattle.stack_deliver.specs.Undone.{HaveFrameTables, EachShows}
+
+-- the states and the cleanups that stand in a room, and of how many of each it has the places
+pub record RoomValue : Type 0 where
+  pub visited : List Context
+  pub trail : List Trail
+  pub limit : ℕ
+
+-- a walk's answer and the room behind it are the states that are due, or the fault
+abbrev pub IsWalked : {A : Type 0} → Result A DeliverError → RoomValue → Result (List Context) DeliverError → Type 0
+IsWalked (Ok done) room due = due ≡ Ok room.visited
+IsWalked (Err e) room due = due ≡ Err e
+
+-- a delivery: what it left in a room, and how it ended
+abbrev pub delivered_in : RoomValue → Ending → Delivered
+delivered_in room ending = record { visited = room.visited; trail = room.trail; outcome = ending.outcome; landing = ending.landing }
+
+-- a delivery's answer and the room behind it are the delivery that is due, or its fault
+abbrev pub IsDelivered : Result Ending DeliverError → RoomValue → Result Delivered DeliverError → Type 0
+IsDelivered (Ok ending) room due = due ≡ Ok (delivered_in room ending)
+IsDelivered (Err e) room due = due ≡ Err e
+
+-- The step from one of so many states, from a context outwards, faults so.
+abbrev pub StepFails : SpaceValue → ℕ → Context → Bool → DeliverError → Type 0
+StepFails space zero c interrupted e = ⊥
+StepFails space (suc room) c interrupted e = (step_of space c interrupted ≡ Err e) ⊎ ((s : Stepped) × (step_of space c interrupted ≡ Ok (Some s)) × StepFails space room s.context s.signal e)
+
+-- A context shows the innermost state of a chain of calls that is shorter than the limit. Modules name frame tables of the
+-- forms that are read, and these describe the functions of the chain.
+pub record StartsChain (space : SpaceValue) (c : Context) (limit : ℕ) (functions : List Function) (s : State) (calls : List Call) : Type 0 where
+  pub tables : HaveFrameTables (process_of space)
+  pub described : IsDescribedChain plain (process_of space) functions s calls
+  pub shows : Shows (columns_of c) s
+  pub shorter : length calls < limit
+
+-- contexts show the states of a chain from the innermost outwards, and the stack pointers of these strictly rise
+pub record ShowChain (cs : List Context) (s : State) (calls : List Call) : Type 0 where
+  pub states : EachShows cs (states_of s calls)
+  pub rise : StacksRise (states_of s calls)
+
+-- The same of a delivery: every module describes its part of the functions, and none of these has a language table, so that
+-- no frame names a handler.
+pub record StartsPlainChain (space : SpaceValue) (c : Context) (resumes : List (ℕ × ℕ)) (limit : ℕ) (functions : List Function) (s : State) (calls : List Call) : Type 0 where
+  pub tables : HaveFrameTables (process_of space)
+  pub no_language : AllByRecursion (λ (f : Function). f.sites ≡ None) functions
+  pub valid : IsValid plain (process_of space) (columns_of c) resumes functions s calls
+  pub shorter : length calls < limit
+
+-- what a delivery did is what the definition says of a chain of calls
+abbrev pub ShowsDelivery : Delivered → ℕ → State → List Call → Type 0
+ShowsDelivery d exception s calls = delivery_shown d ≡ described.delivery_of exception s calls

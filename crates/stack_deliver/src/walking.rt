@@ -1,0 +1,187 @@
+// The states of a stack, from its innermost frame outwards.
+ghost use Rattle.std.specs.Prelude.{◌≡◌, ◌≢◌, ◌⊎◌, ◌↔◌, ◌≤◌, ℕ, List, [], None, Err, length, slice_get, IsOk, IsOkAnd, IsFalse, OnErr};
+ghost use Rattle.memory_image.specs.Image.{word_at};
+ghost use Rattle.unwind_definitions.specs.State.{State};
+ghost use Rattle.unwind_definitions.specs.Function.{Function};
+ghost use Rattle.unwind_definitions.specs.Chain.{Call};
+ghost use Rattle.stack_deliver.specs.Delivering.{Delivers, NeedsMore, line_of};
+ghost use Rattle.stack_deliver.specs.Modules.{AreApart};
+ghost use Rattle.stack_deliver.specs.Walking.{IsWalked, StepFails, StartsChain, ShowChain};
+
+use crate::delivery::DeliverError;
+use crate::room::Room;
+use crate::space::Space;
+use crate::stepping::step;
+use memory_image::{Ledger, NoLedger, Steps};
+use std::alloc::Global;
+use std::marker::Model;
+use unwind_arch::x86_64::Context;
+
+/// Visits the states from the start outwards, of which there may be at most `limit`.
+fn line<L: Ledger>(
+    space: &Space<'_>,
+    start: &Context,
+    interrupted: bool,
+    limit: u32,
+    room: &mut Room,
+    steps: &mut Steps<L>,
+) -> Result<(), DeliverError>
+    requires within { limit ≤ room.old.limit }
+    requires empty { room.old.visited ≡ [] }
+    ensures exact { IsWalked result room.new (line_of space.now limit start.now interrupted) }
+    ensures kept { (room.new.trail ≡ room.old.trail) × (room.new.limit ≡ room.old.limit) }
+{
+    let mut context = *start;
+    let mut interrupted = interrupted;
+    for _ in 0..limit {
+        room.visit(context);
+        match step(space, &context, interrupted, steps)? {
+            None => return Ok(()),
+            Some(next) => {
+                context = next.context;
+                interrupted = next.signal;
+            }
+        }
+    }
+    Err(DeliverError::FrameLimit)
+}
+
+/// The same in a room that is emptied first, and after an error again.
+fn walked<L: Ledger>(
+    space: &Space<'_>,
+    start: &Context,
+    interrupted: bool,
+    limit: u32,
+    room: &mut Room,
+    steps: &mut Steps<L>,
+) -> Result<(), DeliverError>
+    requires { limit ≤ room.old.limit }
+    ensures exact { IsWalked result room.new (line_of space.now limit start.now interrupted) }
+    ensures emptied { OnErr result (room.new.visited ≡ []) }
+    ensures no_cleanup { room.new.trail ≡ [] }
+    ensures places { room.new.limit ≡ room.old.limit }
+{
+    room.clear();
+    match line(space, start, interrupted, limit, room, steps) {
+        Ok(()) => Ok(()),
+        Err(error) => {
+            room.clear();
+            Err(error)
+        }
+    }
+}
+
+/// No two modules of a space share an address, as its search for a module tells.
+pub(crate) fn modules_are_apart(space: &Space<'_>)
+    ensures { AreApart 0 space.now.modules }
+{
+    let _ = space.module_at(0);
+}
+
+/// Walks the stack whose innermost frame has the registers `start` into a room.
+///
+/// The room is emptied first. Then it holds the states from the start outwards: each next one is the
+/// caller of the one before, by `step`, until the stack ends. `interrupted` says whether the start
+/// stands before its instruction and not behind a call; so does each state behind a signal's frame.
+/// No memory is taken.
+///
+/// # Errors
+///
+/// `FrameLimit` where more than `limit` states are needed; the errors of a step, as they are. A
+/// fault of the step from the last allowed state comes before `FrameLimit`. The room is then empty.
+pub fn walk_into<L: Ledger>(
+    space: &Space<'_>,
+    start: &Context,
+    interrupted: bool,
+    limit: u32,
+    room: &mut Room,
+    steps: &mut Steps<L>,
+) -> Result<(), DeliverError>
+    requires { limit ≤ room.old.limit }
+    // The states are the line of the start, and an error is the line's first fault.
+    ensures exact { IsWalked result room.new (line_of space.now limit start.now interrupted) }
+    ensures emptied { OnErr result (room.new.visited ≡ []) }
+    ensures no_cleanup { room.new.trail ≡ [] }
+    ensures places { room.new.limit ≡ room.old.limit }
+    // The limit is met exactly where more states are needed.
+    ensures frame_limit { (result ≡ Err DeliverError.FrameLimit) ↔ NeedsMore space.now limit start.now interrupted }
+    ensures step_fault { (error : DeliverError) → error ≢ DeliverError.FrameLimit → (result ≡ Err error) ↔ StepFails space.now limit start.now interrupted error }
+    ensures unmapped { (a : ℕ) → result ≡ Err (DeliverError.Unmapped a) → word_at space.now.image a ≡ None }
+    ensures takes_no_memory { result ≢ Err DeliverError.NoMemory }
+    // A described chain that the limit has room for is walked to its end.
+    ensures chain { (functions : List Function) (s : State) (calls : List Call) → StartsChain space.now start.now limit functions s calls → IsFalse interrupted →
+        IsOk result × ShowChain room.new.visited s calls }
+{
+    modules_are_apart(space);
+    walked(space, start, interrupted, limit, room, steps)
+}
+
+/// The states of a stack that was walked.
+///
+/// Contracts see them from the start outwards.
+#[derive(Drop)]
+pub struct Visited {
+    states: Vec<Context>,
+}
+
+impl Model for Visited {
+    ghost use Rattle.std.specs.Prelude.{List};
+    ghost use Rattle.unwind_arch.specs.declared.x86_64.Context.{Context};
+
+    ghost Value = { List Context };
+
+    ghost view = { λ v. v.states.items };
+}
+
+impl Visited {
+    /// How many states there are.
+    pub fn len(&self) -> usize
+        ensures { result ≡ length self.now }
+    {
+        self.states.len()
+    }
+
+    /// The state at this place, from the start outwards.
+    pub fn get(&self, i: usize) -> Option<Context>
+        ensures { result ≡ slice_get self.now i }
+    {
+        self.states.get(i).copied()
+    }
+}
+
+/// Walks the stack whose innermost frame has the registers `start`.
+///
+/// It is `walk_into` over a room of `limit` places, which is reserved for it and not filled.
+///
+/// # Errors
+///
+/// `NoMemory` where memory ran out; else the errors of `walk_into`.
+pub fn walk(
+    alloc: Global,
+    space: &Space<'_>,
+    start: &Context,
+    interrupted: bool,
+    limit: u32,
+) -> Result<Visited, DeliverError>
+    ensures exact { Delivers result (line_of space.now limit start.now interrupted) }
+    // The limit is met exactly where more states are needed.
+    ensures frame_limit { result ≡ Err DeliverError.FrameLimit → NeedsMore space.now limit start.now interrupted }
+    ensures needs_more { NeedsMore space.now limit start.now interrupted → (result ≡ Err DeliverError.NoMemory) ⊎ (result ≡ Err DeliverError.FrameLimit) }
+    ensures step_fault { (error : DeliverError) → error ≢ DeliverError.FrameLimit → error ≢ DeliverError.NoMemory → result ≡ Err error → StepFails space.now limit start.now interrupted error }
+    ensures unmapped { (a : ℕ) → result ≡ Err (DeliverError.Unmapped a) → word_at space.now.image a ≡ None }
+    // A described chain that the limit has room for is walked to its end.
+    ensures chain { (functions : List Function) (s : State) (calls : List Call) → StartsChain space.now start.now limit functions s calls → IsFalse interrupted →
+        (result ≡ Err DeliverError.NoMemory) ⊎ IsOkAnd result (λ visited. ShowChain visited s calls) }
+{
+    let mut room = Room::new(alloc, limit)?;
+    walk_into(
+        space,
+        start,
+        interrupted,
+        limit,
+        &mut room,
+        &mut Steps::new(NoLedger),
+    )?;
+    let (states, _) = room.into_parts();
+    Ok(Visited { states })
+}
