@@ -50,10 +50,9 @@ fn push_u32(bytes: &mut Vec<u8>, word: u32) -> Result<(), AllocError> {
 // Behind the function so many descriptions of functions that push RBX, each at an address that lies
 // as far behind the last as its description does.
 fn push_descriptions(bytes: &mut Vec<u8>, count: u32) -> Result<(), AllocError> {
-    for _ in 0..count {
-        let offset = bytes.len() as u32;
+    for number in 0..count {
         push_u32(bytes, 20)?;
-        push_u32(bytes, offset.wrapping_add(4))?;
+        push_u32(bytes, number.wrapping_mul(24).wrapping_add(84))?;
         push_u32(bytes, 0x10_0000)?;
         push_u32(bytes, 16)?;
         bytes.extend_from_slice(&[0, 0x41, 0x0e, 0x10, 0x83, 0x02, 0, 0])?;

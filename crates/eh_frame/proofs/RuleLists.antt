@@ -1,5 +1,5 @@
 -- Where a column's entry stands, and what an edit there says of each column.
-use Rattle.std.proofs.Common.{◌≡◌, ◌≢◌, ℕ, zero, suc, ◌+◌, ◌-◌, ◌^◌, ◌<◌, ◌≤◌, Bool, true, false, cond, List, [], ◌∷◌, length, length-set, set, map, get_or, Option, Some, None, Result, Ok, Err, refl, sym, ap, ◌∙◌, subst, arith, add-one, eq-eqb}
+use Rattle.std.proofs.Common.{◌≡◌, ◌≢◌, ℕ, zero, suc, ◌+◌, ◌^◌, ◌<◌, ◌≤◌, Bool, true, false, cond, List, [], ◌∷◌, length, length-set, set, map, get_or, Option, Some, None, Result, Ok, Err, refl, sym, ap, ◌∙◌, subst, arith, eq-eqb}
 use Rattle.std.specs.Prelude.{is_some, nat_lt, ◌==◌}
 use Rattle.std.specs.List.{insert, remove, refill}
 use Rattle.std.specs.List.Sorted.{IsSearchInRange, IsBinarySearchResult, IsNonDecreasingBy}
@@ -293,9 +293,9 @@ module _ (r : Register) (items : List (Register × RegisterRule)) (asc : Ascends
       let n = length-map items entry_of in
       let sides = parted comparisons_rise in
       let below : (j : ℕ) → j < i → (get_or (map entry_of items) j (entry_of d)).0 < r.0 = λ j lt.
-        let same = column_at j d in let less : (get_or items j d).0.0 < r.0 = ranked _ r.0 _ (sym (sides.0 j d (omega arith) lt)) in omega arith in
+      let same = column_at j d in let less : (get_or items j d).0.0 < r.0 = ranked _ r.0 _ (sym (sides.0 j d (omega arith) lt)) in omega arith in
       let over : (j : ℕ) → i ≤ j → j < length (map entry_of items) → r.0 < (get_or (map entry_of items) j (entry_of d)).0 = λ j le lt.
-        let same = column_at j d in let more : r.0 < (get_or items j d).0.0 = ranked _ r.0 _ (sym (sides.1 j d le (omega arith))) in omega arith in
+      let same = column_at j d in let more : r.0 < (get_or items j d).0.0 = ranked _ r.0 _ (sym (sides.1 j d le (omega arith))) in omega arith in
       let at : 0 + i ≡ i = omega arith in
       sym (gap_there r.0 (entry_of d) 0 i (map entry_of items) (omega arith) below over ∙ ap Err at)
 
