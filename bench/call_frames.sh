@@ -1,7 +1,8 @@
 #!/usr/bin/env bash
-# Instructions of a scan of a frame table for each description that it passes, and of the row of a
-# function that gcc compiled, by callgrind. In a copy of the repository it adds a program that makes
-# a table, scans it and makes rows, proves and builds it, and runs it with several counts.
+# Instructions of a scan of a frame table for each description that it passes, of the row of a
+# function that gcc compiled, and of making and copying lists as a row holds them, by callgrind. In a
+# copy of the repository it adds a program that does these, proves and builds it, and runs it with
+# several counts.
 #
 #     bench/call_frames.sh [FILE]
 #
@@ -16,13 +17,15 @@ trap 'rm -rf "$copy"' EXIT
 cp -r "$top/crates" "$top/crates.txt" "$copy"
 [ ! -e "$top/HANDLES" ] || cp "$top/HANDLES" "$copy"
 
-echo 'call_frames: eh_frame anyhow' >>"$copy/crates.txt"
+echo 'call_frames: eh_frame arrayvec anyhow' >>"$copy/crates.txt"
 mkdir -p "$copy/crates/call_frames/src"
 cat >"$copy/crates/call_frames/src/main.rt" <<'RATTLE'
-//! Scans a frame table, or makes a row: `call_frames scan|row DESCRIPTIONS PASSES`.
+//! Scans a frame table, makes a row, or makes or copies a list of rules:
+//! `call_frames scan|row|new|cleared|clone|extend DESCRIPTIONS PASSES`.
 #![tactic(auto)]
 
 use anyhow::Result;
+use arrayvec::ArrayVec;
 use eh_frame::{Bases, EhFrame, Error, Register, RegisterRule};
 use std::alloc::AllocError;
 use std::env;
@@ -85,18 +88,83 @@ fn rows(frame: &EhFrame, passes: u32) -> Result<u64, Error> {
     Ok(total)
 }
 
+type Rules = ArrayVec<(Register, RegisterRule<'static>), 32>;
+
+const BLANK: [(Register, RegisterRule<'static>); 32] = [(Register(0), RegisterRule::Undefined); 32];
+
+#[inline(never)]
+fn new_list() -> Rules {
+    ArrayVec::new()
+}
+
+#[inline(never)]
+fn cleared_list() -> Rules {
+    let mut list = ArrayVec::from(BLANK);
+    list.clear();
+    list
+}
+
+#[inline(never)]
+fn cloned_list(list: &Rules) -> Rules {
+    match list.clone() {
+        Ok(copy) => copy,
+        Err(_) => cleared_list(),
+    }
+}
+
+#[inline(never)]
+fn extended_list(list: &Rules) -> Rules {
+    let mut copy = cleared_list();
+    let _fits = copy.try_extend_from_slice(list);
+    copy
+}
+
+fn lists(task: Task, passes: u32) -> u64 {
+    let mut list = cleared_list();
+    for column in 0..4 {
+        let _fits = list.try_push((Register(column), RegisterRule::Offset(u64::from(column))));
+    }
+    let mut total = 0u64;
+    for _ in 0..passes {
+        let made = match task {
+            Task::New => new_list(),
+            Task::Clone => cloned_list(&list),
+            Task::Extend => extended_list(&list),
+            _ => cleared_list(),
+        };
+        total = total.wrapping_add(made.len() as u64);
+    }
+    total
+}
+
+#[derive(Clone, Copy)]
+enum Task {
+    Scan,
+    Row,
+    New,
+    Cleared,
+    Clone,
+    Extend,
+}
+
 fn main(rt: HostRuntime) -> Result<()> {
-    let mut is_scan = false;
+    let mut task = Task::Row;
     let mut numbers = [0u32; 2];
     let mut place = 0usize;
     for word in env::args(&rt)? {
-        if word.as_str() == "scan" {
-            is_scan = true;
-        }
-        if let Ok(number) = word.parse::<u32>() {
-            if place < 2 {
-                numbers[place] = number;
-                place += 1;
+        match word.as_str() {
+            "scan" => task = Task::Scan,
+            "new" => task = Task::New,
+            "cleared" => task = Task::Cleared,
+            "clone" => task = Task::Clone,
+            "extend" => task = Task::Extend,
+            other => {
+                if let Ok(number) = other.parse::<u32>() {
+                    if place < 2 {
+                        numbers[place] = number;
+                        place += 1;
+                    }
+                }
             }
         }
     }
@@ -104,10 +172,10 @@ fn main(rt: HostRuntime) -> Result<()> {
     bytes.extend_from_slice(&FUNCTION)?;
     push_descriptions(&mut bytes, numbers[0])?;
     let frame = EhFrame::new(&bytes, TABLE_ADDRESS);
-    let told = if is_scan {
-        scan(&frame, numbers[1])
-    } else {
-        rows(&frame, numbers[1])?
+    let told = match task {
+        Task::Scan => scan(&frame, numbers[1]),
+        Task::Row => rows(&frame, numbers[1])?,
+        _ => lists(task, numbers[1]),
     };
     println!(rt; "{told}")?;
     Ok(())
@@ -129,3 +197,8 @@ done
 few=$(count /dev/null row 0 0)
 many=$(count "$counts" row 0 10000)
 echo "row: $(((many - few) / 10000)) instructions"
+for kind in new cleared clone extend; do
+    few=$(count /dev/null $kind 0 0)
+    many=$(count /dev/null $kind 0 10000)
+    echo "list, $kind: $(((many - few) / 10000)) instructions"
+done
