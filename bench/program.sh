@@ -34,7 +34,8 @@ measure() {
     python3 "$here/snapshots.py" "$@" >"$work/input"
     printf '%-20s %12s bytes\n' "$*" "$(wc -c <"$work/input")"
     printf '    proved  %18s instructions  %12s\n' "$(instructions "$proved" deliver)" "$(peak "$proved" deliver)"
-    printf '    plain   %18s instructions  %12s\n' "$(instructions "$plain")" "$(peak "$plain")"
+    printf '    plain   %18s instructions  %12s, %12s with the text let go early\n' \
+        "$(instructions "$plain")" "$(peak "$plain")" "$(peak "$plain" early)"
 }
 
 measure row

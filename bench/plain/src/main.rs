@@ -1,5 +1,6 @@
 //! The same work in plain Rust: reads a snapshot by serde_json and hex, pops one frame, and writes
-//! the report. It checks what the proved program checks, in the same order.
+//! the report. It checks what the proved program checks, in the same order. With the word `early`
+//! it lets the text go as soon as it has the JSON value, before it decodes any bytes.
 use serde_json::Value;
 use std::collections::BTreeMap;
 use std::fmt::Write as _;
@@ -137,10 +138,15 @@ enum Refusal {
     Bad(&'static str),
 }
 
-/// The snapshot of a text; the JSON value is let go before it is answered.
-fn read_snapshot(text: &[u8]) -> Result<Snapshot, Refusal> {
-    let value = serde_json::from_slice(text).map_err(|_| Refusal::NotJson)?;
-    read(&value).map_err(Refusal::Bad)
+/// The snapshot of a text; the text and its JSON value are let go before it is answered.
+fn read_snapshot(mut text: Vec<u8>, is_early: bool) -> Result<Snapshot, Refusal> {
+    let value = serde_json::from_slice(&text).map_err(|_| Refusal::NotJson)?;
+    if is_early {
+        text = Vec::new();
+    }
+    let snapshot = read(&value).map_err(Refusal::Bad);
+    drop(text);
+    snapshot
 }
 
 fn read_u64(image: &BTreeMap<u64, &[u8]>, address: u64) -> Option<u64> {
@@ -182,14 +188,13 @@ fn report(snapshot: &Snapshot) -> String {
 }
 
 fn main() -> ExitCode {
+    let is_early = std::env::args().any(|word| word == "early");
     let mut text = Vec::new();
     std::io::stdin().lock().take(MOST + 1).read_to_end(&mut text).unwrap();
     let (number, told) = if text.len() as u64 > MOST {
         (5, String::from("too long\n"))
     } else {
-        let snapshot = read_snapshot(&text);
-        drop(text);
-        match snapshot {
+        match read_snapshot(text, is_early) {
             Err(Refusal::NotJson) => (6, String::from("not json\n")),
             Err(Refusal::Bad(field)) => (7, format!("bad snapshot: {field}\n")),
             Ok(snapshot) => (0, report(&snapshot)),

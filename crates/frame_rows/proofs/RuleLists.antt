@@ -1,13 +1,19 @@
 -- Where a column's entry stands, and what an edit there says of each column.
-use Rattle.std.proofs.Common.{◌≡◌, ◌≢◌, ℕ, zero, suc, ◌+◌, ◌-◌, ◌^◌, ◌<◌, ◌≤◌, Bool, true, false, cond, List, [], ◌∷◌, length, set, map, get_or, take, drop, ◌++◌, Option, Some, None, Result, Ok, Err, refl, sym, ap, ◌∙◌, subst, arith, add-one, eq-eqb}
+use Rattle.std.proofs.Common.{◌≡◌, ◌≢◌, ℕ, zero, suc, ◌+◌, ◌^◌, ◌<◌, ◌≤◌, Bool, true, false, cond, List, [], ◌∷◌, length, length-set, set, map, get_or, Option, Some, None, Result, Ok, Err, refl, sym, ap, ◌∙◌, subst, arith, eq-eqb}
 use Rattle.std.specs.Prelude.{is_some, nat_lt, ◌==◌}
-use Rattle.std.specs.List.{insert, remove, copy_within}
-use Rattle.std.proofs.lemmas.Bool.{lt-ltb, ltb-true, ltb-false, eqb-true, eqb-false}
+use Rattle.std.specs.List.{insert, remove, refill}
+use Rattle.std.specs.List.Sorted.{IsSearchInRange, IsBinarySearchResult, IsNonDecreasingBy}
+use Rattle.std.specs.Ordering.{nat_cmp, ordering_index}
+use Rattle.std.proofs.lemmas.Bool.{lt-ltb, le-ltb, ltb-true, ltb-false, eqb-true, eqb-false}
+use Rattle.std.proofs.lemmas.Bool.Decides.{nat_tests}
+use Rattle.std.proofs.lemmas.Cmp.{ranked}
+use Rattle.arrayvec.proofs.ArrayVecLemmas.{items-with_items}
 use Rattle.unwind_definitions.specs.Instructions.{Rule}
 use Rattle.std.proofs.lemmas.List.{length-map, map-set}
 use Rattle.std.proofs.Math.ListN.{get_or-map}
 use Rattle.frame_rows.specs.declared.register.Register.{Register}
 use Rattle.frame_rows.specs.declared.rule.RegisterRule.{RegisterRule}
+use Rattle.frame_rows.specs.declared.rule.RegisterRule.TheVariants as rules
 use Rattle.frame_rows.specs.Rules.{entry_of, rule_meaning, rule_in, find_in, with_rule, AscendsFrom, is_room}
 
 pub ascends_weaker : (low low' : ℕ) (es : List (ℕ × Rule)) → low' ≤ low → AscendsFrom low es → AscendsFrom low' es
@@ -213,8 +219,8 @@ no_room column es none full = rw (none, full) refl
 pub more_room : (column : ℕ) (es : List (ℕ × Rule)) → rule_in es column ≡ None → length es < 32 → is_room column es ≡ true
 more_room column es none less = rw (none, lt-ltb (length es) 32 less) refl
 
-pub strict : (limit n : ℕ) → n ≢ limit → n ≤ limit → n < limit
-strict limit n ne le = omega (arith, ne)
+pub more_fit : (n : ℕ) → (n == 32) ≡ false → n ≤ 32 → n < 32
+more_fit n differs le = omega (arith, eqb-false n 32 differs)
 
 pub already_none : (c q : ℕ) (es : List (ℕ × Rule)) → rule_in es c ≡ None → rule_in es q ≡ with_rule c None es q
 already_none c q es none = go (c == q) refl
@@ -223,50 +229,79 @@ already_none c q es none = go (c == q) refl
     go true is = let same : c ≡ q = eqb-true c q is in rw is (rw same at none)
     go false is = rw is refl
 
--- ---- the places of an array
+-- ---- what a search finds
 
-kept_front : {A : Type 0} (n : ℕ) (xs ys : List A) → length xs ≡ n → take n (xs ++ ys) ≡ xs
-kept_front zero [] ys same = refl
-kept_front (suc n) [] ys same = absurd (omega arith)
-kept_front zero (x ∷ xs) ys same = absurd (omega arith)
-kept_front (suc n) (x ∷ xs) ys same = ap (λ l. x ∷ l) (kept_front n xs ys (omega arith))
+from_low : (low i : ℕ) (es : List (ℕ × Rule)) (d : ℕ × Rule) → AscendsFrom low es → i < length es → low ≤ (get_or es i d).0
+from_low low i [] d asc lt = absurd (omega arith)
+from_low low zero (e ∷ es) d asc lt = asc.0
+from_low low (suc i) (e ∷ es) d asc lt = let h : low ≤ e.0 = asc.0 in let k = from_low (suc e.0) i es d asc.1 (omega arith) in omega arith
 
-length_taken : {A : Type 0} (n : ℕ) (xs : List A) → n ≤ length xs → length (take n xs) ≡ n
-length_taken zero xs le = refl
-length_taken (suc n) [] le = absurd (omega arith)
-length_taken (suc n) (x ∷ xs) le = ap suc (length_taken n xs (omega arith))
+columns_rise : (low i j : ℕ) (es : List (ℕ × Rule)) (d : ℕ × Rule) → AscendsFrom low es → i ≤ j → j < length es → (get_or es i d).0 ≤ (get_or es j d).0
+columns_rise low i j [] d asc le lt = absurd (omega arith)
+columns_rise low zero zero (e ∷ es) d asc le lt = omega arith
+columns_rise low zero (suc j) (e ∷ es) d asc le lt = let k = from_low (suc e.0) j es d asc.1 (omega arith) in omega arith
+columns_rise low (suc i) zero (e ∷ es) d asc le lt = absurd (omega arith)
+columns_rise low (suc i) (suc j) (e ∷ es) d asc le lt = columns_rise (suc e.0) i j es d asc.1 (omega arith) (omega arith)
 
--- entries are moved up, and one is put into the gap
-shifted : {A : Type 0} (xs : List A) (i k n : ℕ) (x : A) → i + k ≡ n → n < length xs → take (suc n) (set ((take (suc i) xs ++ take k (drop i xs)) ++ drop (suc n) xs) i x) ≡ insert (take n xs) i x
-shifted [] i k n x sum lt = absurd (omega arith)
-shifted (y ∷ ys) zero k n x sum lt =
-    let same : k ≡ n = omega arith in
-    rw same (ap (λ l. x ∷ l) (kept_front n (take n (y ∷ ys)) (drop n ys) (length_taken n (y ∷ ys) (omega arith))))
-shifted (y ∷ ys) (suc i) k zero x sum lt = absurd (omega arith)
-shifted (y ∷ ys) (suc i) k (suc n) x sum lt = ap (λ l. y ∷ l) (shifted ys i k n x (omega arith) (omega arith))
+module _ (c : ℕ) (d : ℕ × Rule) where
+  found_there : (low k i : ℕ) (es : List (ℕ × Rule)) → AscendsFrom low es → i < length es → (get_or es i d).0 ≡ c → find_in c k es ≡ Ok (k + i)
+  found_there low k i [] asc lt same = absurd (omega arith)
+  found_there low k zero (e ∷ es) asc lt same =
+      let not_less : nat_lt e.0 c ≡ false = le-ltb e.0 c (omega arith) in
+      let is : (e.0 == c) ≡ true = eq-eqb e.0 c same in
+      rw (not_less, is) (ap Ok (omega arith))
+  found_there low k (suc i) (e ∷ es) asc lt same =
+      let h = from_low (suc e.0) i es d asc.1 (omega arith) in
+      let less : nat_lt e.0 c ≡ true = lt-ltb e.0 c (omega arith) in
+      rw less (found_there (suc e.0) (k + 1) i es asc.1 (omega arith) same ∙ ap Ok (omega arith))
 
-pub shift_up : {A : Type 0} (xs : List A) (i n : ℕ) (x : A) → i ≤ n → n < length xs → take (n + 1) (set (copy_within xs i n (i + 1)) i x) ≡ insert (take n xs) i x
-shift_up xs i n x le lt =
-    let sum : (i + 1) + (n - i) ≡ suc n = omega arith in
-    rw (sum, add-one i, add-one n) (shifted xs i (n - i) n x (omega arith) lt)
+  gap_there : (k i : ℕ) (es : List (ℕ × Rule)) → i ≤ length es → ((j : ℕ) → j < i → (get_or es j d).0 < c) → ((j : ℕ) → i ≤ j → j < length es → c < (get_or es j d).0) → find_in c k es ≡ Err (k + i)
+  gap_there k zero [] le below over = ap Err (omega arith)
+  gap_there k (suc i) [] le below over = absurd (omega arith)
+  gap_there k zero (e ∷ es) le below over =
+      let more : c < e.0 = over 0 (omega arith) (omega arith) in
+      let not_less : nat_lt e.0 c ≡ false = le-ltb e.0 c (omega arith) in
+      let other : (e.0 == c) ≡ false = differ e.0 c (λ same. omega arith) in
+      rw (not_less, other) (ap Err (omega arith))
+  gap_there k (suc i) (e ∷ es) le below over =
+      let before : e.0 < c = below 0 (omega arith) in
+      let less : nat_lt e.0 c ≡ true = lt-ltb e.0 c before in
+      rw less (gap_there (k + 1) i es (omega arith) (λ j lt. below (suc j) (omega arith)) (λ j le' lt. over (suc j) (omega arith) (omega arith)) ∙ ap Err (omega arith))
 
--- entries are moved down over one
-closed_up : {A : Type 0} (xs : List A) (i k n : ℕ) → i + k ≡ n → n < length xs → take n ((take i xs ++ take k (drop (suc i) xs)) ++ drop n xs) ≡ remove (take (suc n) xs) i
-closed_up [] i k n sum lt = absurd (omega arith)
-closed_up (y ∷ ys) zero k n sum lt =
-    let same : k ≡ n = omega arith in
-    rw same (kept_front n (take n ys) (drop n (y ∷ ys)) (length_taken n ys (omega arith)))
-closed_up (y ∷ ys) (suc i) k zero sum lt = absurd (omega arith)
-closed_up (y ∷ ys) (suc i) k (suc n) sum lt = ap (λ l. y ∷ l) (closed_up ys i k n (omega arith) (omega arith))
+-- a binary search by column ends where `find_in` does
+module _ (r : Register) (items : List (Register × RegisterRule)) (asc : AscendsFrom 0 (map entry_of items)) where
+  column_at : (i : ℕ) (d : Register × RegisterRule) → (get_or (map entry_of items) i (entry_of d)).0 ≡ (get_or items i d).0.0
+  column_at i d = ap (λ (e : ℕ × Rule). let n : ℕ = e.0 in n) (get_or-map entry_of items i d)
 
-pub shift_down : {A : Type 0} (xs : List A) (i n : ℕ) → i < n → n ≤ length xs → take (n - 1) (copy_within xs (i + 1) n i) ≡ remove (take n xs) i
-shift_down xs i zero lt le = absurd (omega arith)
-shift_down xs i (suc n) lt le =
-    let sum : i + (suc n - (i + 1)) ≡ n = omega arith in
-    let less : suc n - 1 ≡ n = omega arith in
-    rw (sum, less, add-one i) (closed_up xs i (suc n - suc i) n (omega arith) (omega arith))
+  comparisons_rise : IsNonDecreasingBy (λ e. ordering_index (nat_cmp e.0.0 r.0)) items
+  comparisons_rise i j d le lt =
+      let n = length-map items entry_of in
+      let rises = columns_rise 0 i j (map entry_of items) (entry_of d) asc le (omega arith) in
+      let one = column_at i d in let other = column_at j d in
+      let columns : (get_or items i d).0.0 ≤ (get_or items j d).0.0 = omega arith in
+      grind (arith, nat_tests)
 
-pub length_of_front : {A : Type 0} (n : ℕ) (xs : List A) → length (take n xs) ≤ n
-length_of_front zero xs = omega arith
-length_of_front (suc n) [] = omega arith
-length_of_front (suc n) (x ∷ xs) = let h = length_of_front n xs in omega arith
+  sought_there : (result : Result ℕ ℕ) → IsSearchInRange result (length items) → IsBinarySearchResult (λ e. nat_cmp e.0.0 r.0) items result → result ≡ find_in r.0 0 (map entry_of items)
+  sought_there (Ok i) bound equal =
+      let d : Register × RegisterRule = (record { 0 = 0 }, rules.Undefined) in
+      let n = length-map items entry_of in
+      let same : (get_or items i d).0.0 ≡ r.0 = ranked _ r.0 _ (sym (equal d)) in
+      let at : 0 + i ≡ i = omega arith in
+      sym (found_there r.0 (entry_of d) 0 0 i (map entry_of items) asc (omega arith) (column_at i d ∙ same) ∙ ap Ok at)
+  sought_there (Err i) bound parted =
+      let d : Register × RegisterRule = (record { 0 = 0 }, rules.Undefined) in
+      let n = length-map items entry_of in
+      let sides = parted comparisons_rise in
+      let below : (j : ℕ) → j < i → (get_or (map entry_of items) j (entry_of d)).0 < r.0 = λ j lt.
+      let same = column_at j d in let less : (get_or items j d).0.0 < r.0 = ranked _ r.0 _ (sym (sides.0 j d (omega arith) lt)) in omega arith in
+      let over : (j : ℕ) → i ≤ j → j < length (map entry_of items) → r.0 < (get_or (map entry_of items) j (entry_of d)).0 = λ j le lt.
+      let same = column_at j d in let more : r.0 < (get_or items j d).0.0 = ranked _ r.0 _ (sym (sides.1 j d le (omega arith))) in omega arith in
+      let at : 0 + i ≡ i = omega arith in
+      sym (gap_there r.0 (entry_of d) 0 i (map entry_of items) (omega arith) below over ∙ ap Err at)
+
+pub sought : (r : Register) (items : List (Register × RegisterRule)) (self : List (ℕ × Rule)) (result : Result ℕ ℕ) → map entry_of items ≡ self → AscendsFrom 0 self → IsSearchInRange result (length items) → IsBinarySearchResult (λ e. nat_cmp e.0.0 r.0) items result → result ≡ find_in r.0 0 self
+sought r items self result view asc bound found = sought_there r items (subst (AscendsFrom 0) (sym view) asc) result bound found ∙ ap (find_in r.0 0) view
+
+-- what was written through the slice of all items
+pub written : {X : Type 0} (xs ys : List X) (i : ℕ) (x : X) → ys ≡ xs → refill (length xs) xs (set ys i x) ≡ set xs i x
+written xs ys i x same = items-with_items (record { items = xs }) (set ys i x) (length-set ys i x ∙ ap length same) ∙ ap (λ l. set l i x) same

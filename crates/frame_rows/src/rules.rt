@@ -4,6 +4,7 @@ ghost use Rattle.std.specs.Prelude.{◌≡◌, ◌<◌, ℕ, List, length, IfOk,
 
 use crate::register::Register;
 use crate::rule::RegisterRule;
+use arrayvec::ArrayVec;
 use std::marker::Model;
 use unwind_definitions::Error;
 
@@ -18,25 +19,24 @@ const BLANK: [(Register, RegisterRule<'static>); CAPACITY] = [(
 
 /// The registers that have a rule, each with its rule, at most 32.
 ///
-/// They lie in the value itself: rows are made for each frame, and a list of so few is searched
-/// and copied in less time than one on the heap.
+/// They lie in the value itself: rows are made for each frame, and a list of so few is copied in
+/// less time than one on the heap.
 #[derive(Drop)]
 pub(crate) struct RegisterRules<'a> {
-    entries: [(Register, RegisterRule<'a>); CAPACITY],
-    len: usize,
+    entries: ArrayVec<(Register, RegisterRule<'a>), CAPACITY>,
 }
 
 impl<'a> Model for RegisterRules<'a> {
-    ghost use Rattle.std.specs.Prelude.{◌≡◌, ℕ, List, length, map, take, ◌≤◌};
+    ghost use Rattle.std.specs.Prelude.{ℕ, List, map};
     ghost use Rattle.unwind_definitions.specs.Instructions.{Rule};
 
     ghost Value = { List (ℕ × Rule) };
 
     ghost use Rattle.frame_rows.specs.Rules.{entry_of, AscendsFrom};
 
-    ghost view = { λ a. map entry_of (take a.len a.entries) };
+    ghost view = { λ a. map entry_of a.entries.items };
 
-    ghost invariant = { λ a. AscendsFrom 0 (map entry_of (take a.len a.entries)) × (a.len ≤ 32) × (length a.entries ≡ 32) };
+    ghost invariant = { λ a. AscendsFrom 0 (map entry_of a.entries.items) };
 }
 
 impl<'a> RegisterRules<'a> {
@@ -45,15 +45,16 @@ impl<'a> RegisterRules<'a> {
     ghost use Rattle.frame_rows.specs.Rules.{entry_of, rule_in, find_in, with_rule, rule_meaning, AscendsFrom, is_room};
 
     /// No rules.
-    // Not inlined: places that are cleared beside others would be cleared byte by byte.
+    // A list that is full and then cleared, as `ArrayVec::new` makes each place on its own, at
+    // several times the instructions. Not inlined: places that are cleared beside others would be
+    // cleared byte by byte.
     #[inline(never)]
     pub(crate) fn new() -> RegisterRules<'a>
         ensures { result ≡ [] }
     {
-        RegisterRules {
-            entries: BLANK,
-            len: 0,
-        }
+        let mut entries = ArrayVec::from(BLANK);
+        entries.clear();
+        RegisterRules { entries }
     }
 
     /// The registers that have a rule, by ascending column.
@@ -62,24 +63,15 @@ impl<'a> RegisterRules<'a> {
         ensures ascending { AscendsFrom 0 self.now }
         ensures count { length self.now ≤ 32 }
     {
-        &self.entries[..self.len]
+        self.entries.as_slice()
     }
 
     // The index of a register's entry, or where one can be put.
     fn find(&self, register: Register) -> Result<usize, usize>
         ensures { result ≡ find_in register.0 0 self.now }
     {
-        let entries = self.entries();
-        for (i, entry) in entries.iter().enumerate() {
-            if register.0 <= entry.0.0 {
-                return if entry.0.0 == register.0 {
-                    Ok(i)
-                } else {
-                    Err(i)
-                };
-            }
-        }
-        Err(entries.len())
+        self.entries()
+            .binary_search_by_key(&register.0, |entry| entry.0.0)
     }
 
     /// The rule of a register.
@@ -104,13 +96,10 @@ impl<'a> RegisterRules<'a> {
         match self.find(register) {
             Ok(i) => self.entries[i] = (register, rule),
             Err(i) => {
-                let len = self.len;
-                if len == CAPACITY {
+                if self.entries.is_full() {
                     return Err(Error::TooManyRegisterRules);
                 }
-                self.entries.copy_within(i..len, i + 1);
-                self.entries[i] = (register, rule);
-                self.len = len + 1;
+                self.entries.insert(i, (register, rule));
             }
         }
         Ok(())
@@ -122,9 +111,7 @@ impl<'a> RegisterRules<'a> {
     {
         match self.find(register) {
             Ok(i) => {
-                let len = self.len;
-                self.entries.copy_within(i + 1..len, i);
-                self.len = len - 1;
+                self.entries.remove(i);
             }
             Err(_) => {}
         }
@@ -134,9 +121,8 @@ impl<'a> RegisterRules<'a> {
     pub(crate) fn copy(&self) -> RegisterRules<'a>
         ensures { result ≡ self.now }
     {
-        RegisterRules {
-            entries: self.entries,
-            len: self.len,
-        }
+        let mut copy = RegisterRules::new();
+        let _fits = copy.entries.try_extend_from_slice(&self.entries);
+        copy
     }
 }

@@ -1,107 +1,60 @@
-use Rattle.std.proofs.Common.{◌≡◌, ◌<◌, ◌≤◌, length, length-set, map, take, ◌∙◌, arith}
-use Rattle.frame_rows.specs.Rules.{entry_of}
-use Rattle.std.proofs.lemmas.List.{length-map, length-take-le}
-use Rattle.std.proofs.Math.Seq.{take-set-lt}
-use Rattle.frame_rows.proofs.RuleLists.{found_by, placed_by, has_room, no_room, shift_up, length_of_front, strict}
+use Rattle.std.proofs.Common.{◌≡◌, ◌≤◌, Some, length, map, sym, ap, subst, ◌∙◌, arith}
+use Rattle.std.proofs.lemmas.Bool.{eqb-true}
+use Rattle.std.proofs.lemmas.List.{length-map}
+use Rattle.frame_rows.specs.Rules.{entry_of, rule_in, rule_meaning, with_rule, AscendsFrom}
+use Rattle.frame_rows.proofs.RuleLists.{found_by, placed_by, has_room, no_room, more_fit, written}
 use Rattle.frame_rows.proofs.rules.RegisterRules.set.Goals as goal
 
-pub offset_bounds-self-inside-i : goal.offset_bounds-self-inside-i
-offset_bounds-self-inside-i c =
-    let items = take c.self.inside.len c.self.inside.entries in
-    let f = found_by c.args.register items c.in-Ok.i c.self.invariant.0 c.args.self.now c.find.result (cc) c.find.ensures c.in-Ok.is in
-    let w = f.within in let n = length_of_front c.self.inside.len c.self.inside.entries in omega arith
+pub offset_bounds-deref_mut-i : goal.offset_bounds-deref_mut-i
+offset_bounds-deref_mut-i c =
+    let f = found_by c.args.register c.self.inside.entries.items c.in-Ok.i c.self.invariant c.args.self.now c.find.result c.self.view_is c.find.ensures c.in-Ok.is in
+    let fits : length c.deref_mut.result.now ≤ 32 = c.deref_mut.ensures.fits in
+    omega (arith, f.within, ap length c.deref_mut.ensures.value)
 
-pub bounds-self-inside-i : goal.bounds-self-inside-i
-bounds-self-inside-i c =
-    let items = take c.self.inside.len c.self.inside.entries in
-    let f = found_by c.args.register items c.in-Ok.i c.self.invariant.0 c.args.self.now c.find.result (cc) c.find.ensures c.in-Ok.is in
-    let w = f.within in let n = length_of_front c.self.inside.len c.self.inside.entries in omega arith
+pub bounds-deref_mut-i : goal.bounds-deref_mut-i
+bounds-deref_mut-i c =
+    let f = found_by c.args.register c.self.inside.entries.items c.in-Ok.i c.self.invariant c.args.self.now c.find.result c.self.view_is c.find.ensures c.in-Ok.is in
+    omega (arith, f.within, ap length c.deref_mut.ensures.value)
 
 pub invariant_of-self : goal.invariant_of-self
 invariant_of-self c =
-    let items = take c.self.inside.len c.self.inside.entries in
-    let f = found_by c.args.register items c.in-Ok.i c.self.invariant.0 c.args.self.now c.find.result (cc) c.find.ensures c.in-Ok.is in
-    let w = f.within in let n = length_of_front c.self.inside.len c.self.inside.entries in
-    let inside : c.in-Ok.i < c.self.inside.len = omega arith in
-    (rw (take-set-lt c.self.inside.len c.self.inside.entries c.in-Ok.i (c.args.register, c.args.rule) inside) (f.set_ascends c.args.rule), c.self.invariant.1, length-set c.self.inside.entries c.in-Ok.i (c.args.register, c.args.rule) ∙ c.self.invariant.2)
+    let f = found_by c.args.register c.self.inside.entries.items c.in-Ok.i c.self.invariant c.args.self.now c.find.result c.self.view_is c.find.ensures c.in-Ok.is in
+    let after = written c.self.inside.entries.items c.deref_mut.result.now c.in-Ok.i (c.args.register, c.args.rule) c.deref_mut.ensures.value in
+    subst (λ l. AscendsFrom 0 (map entry_of l)) (sym after) (f.set_ascends c.args.rule)
 
 pub returns-in-Ok-clause-ok : goal.returns-in-Ok-clause-ok
 returns-in-Ok-clause-ok c q =
-    let items = take c.self.inside.len c.self.inside.entries in
-    let same : c.args.self.now ≡ map entry_of items = cc in
-    let f = found_by c.args.register items c.in-Ok.i c.self.invariant.0 c.args.self.now c.find.result (cc) c.find.ensures c.in-Ok.is in
-    let w = f.within in let n = length_of_front c.self.inside.len c.self.inside.entries in
-    let inside : c.in-Ok.i < c.self.inside.len = omega arith in
-    rw (take-set-lt c.self.inside.len c.self.inside.entries c.in-Ok.i (c.args.register, c.args.rule) inside, same) (f.set_says c.args.rule q)
+    let f = found_by c.args.register c.self.inside.entries.items c.in-Ok.i c.self.invariant c.args.self.now c.find.result c.self.view_is c.find.ensures c.in-Ok.is in
+    let same : c.args.self.now ≡ map entry_of c.self.inside.entries.items = sym c.self.view_is in
+    let after = written c.self.inside.entries.items c.deref_mut.result.now c.in-Ok.i (c.args.register, c.args.rule) c.deref_mut.ensures.value in
+    subst (λ l. rule_in (map entry_of l) q ≡ with_rule c.args.register.0 (Some (rule_meaning c.args.rule)) c.args.self.now q) (sym after) (rw same (f.set_says c.args.rule q))
 
 pub returns-in-Ok-clause-room : goal.returns-in-Ok-clause-room
 returns-in-Ok-clause-room c =
-    let items = take c.self.inside.len c.self.inside.entries in
-    let same : c.args.self.now ≡ map entry_of items = cc in
-    let f = found_by c.args.register items c.in-Ok.i c.self.invariant.0 c.args.self.now c.find.result (cc) c.find.ensures c.in-Ok.is in
-    rw same (has_room c.args.register.0 (map entry_of items) f.has)
+    let f = found_by c.args.register c.self.inside.entries.items c.in-Ok.i c.self.invariant c.args.self.now c.find.result c.self.view_is c.find.ensures c.in-Ok.is in
+    let same : c.args.self.now ≡ map entry_of c.self.inside.entries.items = sym c.self.view_is in
+    rw same (has_room c.args.register.0 (map entry_of c.self.inside.entries.items) f.has)
 
-pub returns-then-len-eq-CAPACITY-clause-full : goal.returns-then-len-eq-CAPACITY-clause-full
-returns-then-len-eq-CAPACITY-clause-full c =
-    let items = take c.self.inside.len c.self.inside.entries in
-    let same : c.args.self.now ≡ map entry_of items = cc in
-    let p = placed_by c.args.register items c.in-Err.i c.self.invariant.0 c.args.self.now c.find.result (cc) c.find.ensures c.in-Err.is in
-    let full : length items ≡ 32 = let e = c.if-len-eq-CAPACITY.true in let le : c.self.inside.len ≤ length c.self.inside.entries = omega arith in length-take-le c.self.inside.len c.self.inside.entries le ∙ e in
-    rw same (no_room c.args.register.0 (map entry_of items) p.none (length-map items entry_of ∙ full))
+pub returns-then-is_full-clause-full : goal.returns-then-is_full-clause-full
+returns-then-is_full-clause-full c =
+    let p = placed_by c.args.register c.self.inside.entries.items c.in-Err.i c.self.invariant c.args.self.now c.find.result c.self.view_is c.find.ensures c.in-Err.is in
+    let same : c.args.self.now ≡ map entry_of c.self.inside.entries.items = sym c.self.view_is in
+    let full : length c.self.inside.entries.items ≡ 32 = eqb-true (length c.self.inside.entries.items) 32 (sym c.is_full.ensures.value ∙ c.if-is_full.true) in
+    rw same (no_room c.args.register.0 (map entry_of c.self.inside.entries.items) p.none (length-map c.self.inside.entries.items entry_of ∙ full))
 
-pub overflow_add-i : goal.overflow_add-i
-overflow_add-i c =
-    let items = take c.self.inside.len c.self.inside.entries in
-    let p = placed_by c.args.register items c.in-Err.i c.self.invariant.0 c.args.self.now c.find.result (cc) c.find.ensures c.in-Err.is in
-    let w = p.within in let n = length_of_front c.self.inside.len c.self.inside.entries in omega arith
-
-pub copy_within-requires-clause-start_le_end : goal.copy_within-requires-clause-start_le_end
-copy_within-requires-clause-start_le_end c =
-    let items = take c.self.inside.len c.self.inside.entries in
-    let p = placed_by c.args.register items c.in-Err.i c.self.invariant.0 c.args.self.now c.find.result (cc) c.find.ensures c.in-Err.is in
-    let w = p.within in let n = length_of_front c.self.inside.len c.self.inside.entries in omega arith
-
-pub copy_within-requires-clause-dest_in_bounds : goal.copy_within-requires-clause-dest_in_bounds
-copy_within-requires-clause-dest_in_bounds c =
-    let items = take c.self.inside.len c.self.inside.entries in
-    let p = placed_by c.args.register items c.in-Err.i c.self.invariant.0 c.args.self.now c.find.result (cc) c.find.ensures c.in-Err.is in
-    let w = p.within in let n = length_of_front c.self.inside.len c.self.inside.entries in
-    let less = strict 32 c.self.inside.len c.if-len-eq-CAPACITY.false c.self.invariant.1 in
-    omega arith
-
-pub offset_bounds-self-inside-i-in-Err : goal.offset_bounds-self-inside-i-in-Err
-offset_bounds-self-inside-i-in-Err c =
-    let items = take c.self.inside.len c.self.inside.entries in
-    let p = placed_by c.args.register items c.in-Err.i c.self.invariant.0 c.args.self.now c.find.result (cc) c.find.ensures c.in-Err.is in
-    let w = p.within in let n = length_of_front c.self.inside.len c.self.inside.entries in omega arith
-
-pub bounds-self-inside-i-in-Err : goal.bounds-self-inside-i-in-Err
-bounds-self-inside-i-in-Err c =
-    let items = take c.self.inside.len c.self.inside.entries in
-    let p = placed_by c.args.register items c.in-Err.i c.self.invariant.0 c.args.self.now c.find.result (cc) c.find.ensures c.in-Err.is in
-    let w = p.within in let n = length_of_front c.self.inside.len c.self.inside.entries in omega arith
+pub insert-requires : goal.insert-requires
+insert-requires c =
+    let p = placed_by c.args.register c.self.inside.entries.items c.in-Err.i c.self.invariant c.args.self.now c.find.result c.self.view_is c.find.ensures c.in-Err.is in
+    let fits : length c.self.inside.entries.items ≤ 32 = c.is_full.ensures.fits in
+    (omega arith, (p.within, more_fit (length c.self.inside.entries.items) (sym c.is_full.ensures.value ∙ c.if-is_full.false) fits))
 
 pub invariant_of-self-in-Err : goal.invariant_of-self-in-Err
 invariant_of-self-in-Err c =
-    let items = take c.self.inside.len c.self.inside.entries in
-    let p = placed_by c.args.register items c.in-Err.i c.self.invariant.0 c.args.self.now c.find.result (cc) c.find.ensures c.in-Err.is in
-    let w = p.within in let n = length_of_front c.self.inside.len c.self.inside.entries in
-    let less = strict 32 c.self.inside.len c.if-len-eq-CAPACITY.false c.self.invariant.1 in
-    let le : c.in-Err.i ≤ c.self.inside.len = omega arith in
-    let room : c.self.inside.len < length c.self.inside.entries = omega arith in
-    let kept = length-set c.copy_within.new.self c.in-Err.i (c.args.register, c.args.rule) in (
-      rw (c.copy_within.ensures.after, shift_up c.self.inside.entries c.in-Err.i c.self.inside.len (c.args.register, c.args.rule) le room) (p.ascends c.args.rule (omega arith)),
-      omega arith,
-      kept ∙ c.copy_within.ensures.len ∙ c.self.invariant.2,
-    )
+    let p = placed_by c.args.register c.self.inside.entries.items c.in-Err.i c.self.invariant c.args.self.now c.find.result c.self.view_is c.find.ensures c.in-Err.is in
+    subst (λ l. AscendsFrom 0 (map entry_of l)) (sym c.insert.ensures.items) (p.ascends c.args.rule (omega arith))
 
-pub returns-else-len-eq-CAPACITY-clause-ok : goal.returns-else-len-eq-CAPACITY-clause-ok
-returns-else-len-eq-CAPACITY-clause-ok c q =
-    let items = take c.self.inside.len c.self.inside.entries in
-    let same : c.args.self.now ≡ map entry_of items = cc in
-    let p = placed_by c.args.register items c.in-Err.i c.self.invariant.0 c.args.self.now c.find.result (cc) c.find.ensures c.in-Err.is in
-    let w = p.within in let n = length_of_front c.self.inside.len c.self.inside.entries in
-    let less = strict 32 c.self.inside.len c.if-len-eq-CAPACITY.false c.self.invariant.1 in
-    let le : c.in-Err.i ≤ c.self.inside.len = omega arith in
-    let room : c.self.inside.len < length c.self.inside.entries = omega arith in
-    rw (c.copy_within.ensures.after, shift_up c.self.inside.entries c.in-Err.i c.self.inside.len (c.args.register, c.args.rule) le room, same) (p.says c.args.rule q)
+pub returns-else-is_full-clause-ok : goal.returns-else-is_full-clause-ok
+returns-else-is_full-clause-ok c q =
+    let p = placed_by c.args.register c.self.inside.entries.items c.in-Err.i c.self.invariant c.args.self.now c.find.result c.self.view_is c.find.ensures c.in-Err.is in
+    let same : c.args.self.now ≡ map entry_of c.self.inside.entries.items = sym c.self.view_is in
+    subst (λ l. rule_in (map entry_of l) q ≡ with_rule c.args.register.0 (Some (rule_meaning c.args.rule)) c.args.self.now q) (sym c.insert.ensures.items) (rw same (p.says c.args.rule q))
