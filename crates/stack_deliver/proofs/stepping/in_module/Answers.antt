@@ -13,4 +13,4 @@ returns-in_ok-caller-in-Some-clause-caller g c =
     let made : c.framed.result ≡ Ok (Some c.in-Some.frame) = c.in_ok-framed.was ∙ ap Ok c.in-Some.is in
     let gives : GivesFrame a found (Ok (Some c.in-Some.frame)) = subst (λ (r : Result (Option FrameValue) StepError). GivesFrame a found r) made c.framed.ensures.frame in
     rw c.is_signal_trampoline.ensures
-        (caller_of_frame c.args.image.now c.args.context.now a found c.in-Some.frame (Ok c.in_ok-caller-in-Some.caller) gives (omega arith) c.in_ok-caller-in-Some.ensures.caller)
+    (caller_of_frame c.args.image.now c.args.context.now a found c.in-Some.frame (Ok c.in_ok-caller-in-Some.caller) gives (omega arith) c.in_ok-caller-in-Some.ensures.caller)
