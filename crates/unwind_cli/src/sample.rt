@@ -24,7 +24,7 @@ pub fn stored_run_is_walked()
 {}
 
 /// A snapshot where a function that stores R12 into its frame is called by one that sets RBP as its
-/// frame pointer meets it too, and the text that is then due is this one.
+/// frame pointer meets what `run` asks of a described chain too, and this text is then due.
 pub fn frame_pointer_is_described()
     ensures described { DescribesChain frame_pointer.snapshot storing.functions storing.start storing.calls }
     ensures written { delivery_text (delivery_of 0 storing.start storing.calls) ≡ frame_pointer.text }
