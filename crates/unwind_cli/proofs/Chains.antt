@@ -1,29 +1,19 @@
 -- What is delivered and walked of a snapshot whose tables describe a chain.
-use Rattle.std.proofs.Common.{inl, inr, ◌≡◌, ◌≢◌, ℕ, zero, suc, ◌+◌, ◌-◌, ◌<◌, ◌≤◌, Bool, true, false, List, [], ◌∷◌, ◌++◌, length, Option, Some, None, Result, Ok, Err, get_or, refl, sym, ap, subst, ◌∙◌, arith, leb}
-use Rattle.std.specs.Prelude.{◌⊎◌, ◌&&◌, map, is_none, IsTrue, codes, if◌then◌else◌}
-use Rattle.std.specs.Option.{option_map, option_and_then, option_map_or}
-use Rattle.std.specs.List.{Contains, AllByRecursion, find}
+use Rattle.std.proofs.Common.{◌≡◌, ℕ, ◌+◌, ◌<◌, Bool, true, false, List, [], ◌∷◌, ◌++◌, Option, Some, None, Result, Ok, Err, refl, ap, subst, ◌∙◌, arith, leb}
+use Rattle.std.specs.Prelude.{map, is_none, codes, if◌then◌else◌}
+use Rattle.std.specs.Option.{option_map, option_and_then}
 use Rattle.std.proofs.lemmas.Bool.Decides.{nat_tests}
 use Rattle.serde_json.specs.Data.{Data}
 use Rattle.serde_json.specs.Find.{get, as_array}
-use Rattle.unwind_definitions.specs.Forms.{plain}
-use Rattle.unwind_definitions.specs.Caller.{Columns}
-use Rattle.unwind_definitions.specs.State.{CalleeSaved, RBX, RBP, R12, R13, R14, R15, State, Shows}
-use Rattle.unwind_definitions.specs.Function.{Function, Action, NoAction, action_at}
-use Rattle.unwind_definitions.specs.Module.{Process, IsUncovered}
-use Rattle.unwind_definitions.specs.Chain.{Call, IsChain, states_of}
-use Rattle.unwind_definitions.specs.Delivery as described
-use Rattle.unwind_definitions.specs.Valid.{IsDescribedChain, IsValid}
+use Rattle.unwind_definitions.specs.State.{State}
+use Rattle.unwind_definitions.specs.Function.{Function}
+use Rattle.unwind_definitions.specs.Chain.{Call, states_of}
 use Rattle.unwind_laws.proofs.Booleans as lists
-use Rattle.unwind_laws.proofs.Walk.{valid_described}
 use Rattle.unwind_arch.specs.declared.x86_64.Context.{Context}
 use Rattle.stack_deliver.specs.declared.space.Module.{Module}
 use Rattle.stack_deliver.specs.declared.space.SpaceError.TheVariants.{Wraps, Overlap}
-use Rattle.stack_deliver.specs.declared.delivery.Outcome.TheVariants.{EndOfStack}
-use Rattle.unwind_arch.specs.Contexts.{columns_of}
-use Rattle.stack_deliver.specs.Modules.{SpaceValue, AreApart, lowest_shared, module_refusal, with_module}
-use Rattle.stack_deliver.specs.Processes.{process_of}
-use Rattle.stack_deliver.specs.Delivering.{Delivered, delivery_of, line_of}
+use Rattle.stack_deliver.specs.Modules.{AreApart, lowest_shared, module_refusal, with_module}
+use Rattle.stack_deliver.specs.Delivering.{Delivered}
 use Rattle.stack_deliver.specs.declared.delivery.Trail.{Trail}
 use Rattle.stack_deliver.specs.Shown.{state_of, pair_of, landing_of, delivery_shown}
 use Rattle.stack_deliver.specs.Walking.{ShowsDelivery}
