@@ -163,7 +163,7 @@ const NO_BASES: Bases = Bases {
 fn pointer_by(encoding: u8, bases: &Bases) -> (Result<Pointer, Error>, u64) {
     let mut input = Cursor::new(BYTES, 0x4000);
     let pointer = parse_encoded_pointer(DwEhPe(encoding), bases, &mut input);
-    (pointer, input.address() - 0x4000)
+    (pointer, input.address().wrapping_sub(0x4000))
 }
 
 // Of each format what Python's `struct` and the rules of LEB128 give.

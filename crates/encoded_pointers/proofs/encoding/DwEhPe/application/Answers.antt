@@ -1,4 +1,4 @@
-use Rattle.std.proofs.Common.{◌≡◌, ℕ, ◌*◌, ◌-◌, ◌<◌, ◌≤◌, ◌/◌, ◌%◌, ◌^◌, bit_and, arith}
+use Rattle.std.proofs.Common.{◌≡◌, ℕ, ◌*◌, ◌≤◌, ◌/◌, ◌%◌, bit_and, arith}
 use Rattle.std.proofs.lemmas.Nat.{and_mod, and_le_r}
 use Rattle.std.proofs.lemmas.Nat.Bits.{and_high_mask}
 use Rattle.encoded_pointers.proofs.encoding.DwEhPe.application.Goals as goal
