@@ -8,7 +8,7 @@ use Rattle.unwind_definitions.specs.declared.error.Error.{Error as Fault}
 use Rattle.unwind_definitions.specs.declared.error.Error.TheVariants.{UnexpectedEof}
 use Rattle.unwind_definitions.specs.Faults.{◌>>=◌}
 use Rattle.unwind_definitions.specs.Input.{Input, skip, split, number}
-use Rattle.unwind_definitions.specs.Forms.{plain}
+use Rattle.unwind_definitions.specs.Forms.{emitted}
 use Rattle.unwind_definitions.specs.Pointers.{Bases}
 use Rattle.unwind_definitions.specs.Entries.{Entry, Found, body, entry_in, found_in, entry_at}
 
@@ -72,7 +72,7 @@ ahead_by n c rest d four more =
     let le = four.0 in let fits = more.0 in
     (omega arith, omega arith)
 
-body_ahead : (c b d : Input) → body plain c ≡ Ok (Some b, d) → IsAhead c d.offset
+body_ahead : (c b d : Input) → body emitted c ≡ Ok (Some b, d) → IsAhead c d.offset
 body_ahead c b d e = go (length c.bytes == 0) (number w32 c) refl e
   where
     part : (n : ℕ × Input) (r : Result (Input × Input) Fault) → IsBehind 4 c n.1 → split n.0 n.1 ≡ r → (r >>= some_part) ≡ Ok (Some b, d) → IsAhead c d.offset
@@ -97,21 +97,21 @@ abbrev placed_before : ℕ → Entry → Result (Option Found) Fault
 placed_before next x = Ok (Some (record { entry = x; next = next }))
 
 -- The next entry stands ahead of an entry of a table, and not behind the table's end.
-pub entry_ahead : (bases : Bases) (table : Input) (offset : ℕ) (found : Found) → entry_at plain bases table offset ≡ Ok (Some found) → IsAhead (skip offset table) found.next
+pub entry_ahead : (bases : Bases) (table : Input) (offset : ℕ) (found : Found) → entry_at emitted bases table offset ≡ Ok (Some found) → IsAhead (skip offset table) found.next
 unfolding entry_at next_of
-entry_ahead bases table offset found at = go (body plain (skip offset table)) refl at
+entry_ahead bases table offset found at = go (body emitted (skip offset table)) refl at
   where
     inner : (b d : Input) (r : Result Entry Fault) → IsAhead (skip offset table) d.offset → (r >>= placed_before d.offset) ≡ Ok (Some found) → IsAhead (skip offset table) found.next
     inner b d (Err f) ahead h = absurd cc
     inner b d (Ok x) ahead h = subst (IsAhead (skip offset table)) (ap next_of h) ahead
 
-    go : (r : Result (Option Input × Input) Fault) → body plain (skip offset table) ≡ r → (r >>= λ b. found_in plain bases table offset b.0 b.1.offset) ≡ Ok (Some found) → IsAhead (skip offset table) found.next
+    go : (r : Result (Option Input × Input) Fault) → body emitted (skip offset table) ≡ r → (r >>= λ b. found_in emitted bases table offset b.0 b.1.offset) ≡ Ok (Some found) → IsAhead (skip offset table) found.next
     go (Err f) is h = absurd cc
     go (Ok (None, d)) is h = absurd cc
-    go (Ok (Some b, d)) is h = inner b d (entry_in plain bases table offset b) (body_ahead (skip offset table) b d is) h
+    go (Ok (Some b, d)) is h = inner b d (entry_in emitted bases table offset b) (body_ahead (skip offset table) b d is) h
 
 -- the same of a table that nothing stands before
-pub next_within : (bases : Bases) (table : Input) (offset : ℕ) (found : Found) → table.offset ≡ 0 → offset ≤ length table.bytes → entry_at plain bases table offset ≡ Ok (Some found) →
+pub next_within : (bases : Bases) (table : Input) (offset : ℕ) (found : Found) → table.offset ≡ 0 → offset ≤ length table.bytes → entry_at emitted bases table offset ≡ Ok (Some found) →
     (offset < found.next) × (found.next ≤ length table.bytes)
 next_within bases table offset found start within at =
     let ahead = entry_ahead bases table offset found at in

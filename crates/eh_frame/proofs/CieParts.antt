@@ -1,27 +1,27 @@
--- What a common information entry of the plain forms is, once its fields before the letters are read.
-use Rattle.std.proofs.Common.{◌≡◌, ℕ, List, [], ◌∷◌, Ok, refl, ◌∙◌}
+-- What a common information entry of the emitted forms is, once its fields before the letters are read.
+use Rattle.std.proofs.Common.{◌≡◌, ℕ, true, List, Ok, refl, ◌∙◌}
 use Rattle.std.specs.Int.{w8}
 use Rattle.unwind_definitions.specs.Faults.{◌>>=◌}
 use Rattle.unwind_definitions.specs.Input.{Input, number, uleb, sleb, text}
-use Rattle.unwind_definitions.specs.Forms.{plain}
+use Rattle.unwind_definitions.specs.Forms.{emitted, is_emitted_augmentation}
 use Rattle.unwind_definitions.specs.Pointers.{Bases}
 use Rattle.unwind_definitions.specs.Entries.{Letters, cie_body, augmentation_data}
 
 pub cie_behind : (bases : Bases) (offset : ℕ) (c after_version after_text after_code after_data after_column : Input) (version code data_factor column : ℕ) (letters : List ℕ) →
-    version ≡ 1 → letters ≡ 0x7a ∷ 0x52 ∷ [] →
+    version ≡ 1 → is_emitted_augmentation letters ≡ true →
     number w8 c ≡ Ok (version, after_version) → text after_version ≡ Ok (letters, after_text) → uleb after_text ≡ Ok (code, after_code) →
     sleb after_code ≡ Ok (data_factor, after_data) → number w8 after_data ≡ Ok (column, after_column) →
-    cie_body plain bases offset c ≡ (augmentation_data bases (0x7a ∷ 0x52 ∷ []) after_column >>= λ found.
+    cie_body emitted bases offset c ≡ (augmentation_data bases letters after_column >>= λ found.
     Ok (record { offset = offset; version = version; code_factor = code; data_factor = data_factor; return_column = column; augmentation = letters; letters = found.0; program = found.1 }))
-cie_behind bases offset c c1 c2 c3 c4 c5 version code data_factor column letters one zr e1 e2 e3 e4 e5 =
-    rw (e1, one, e2, zr, e3, e4, e5) refl
+cie_behind bases offset c c1 c2 c3 c4 c5 version code data_factor column letters one form e1 e2 e3 e4 e5 =
+    rw (e1, one, e2, form, e3, e4, e5) refl
 
 -- the same where the letters are read too
 pub cie_whole : (bases : Bases) (offset : ℕ) (c after_version after_text after_code after_data after_column program : Input) (version code data_factor column : ℕ) (letters : List ℕ) (found : Letters) →
-    version ≡ 1 → letters ≡ 0x7a ∷ 0x52 ∷ [] →
+    version ≡ 1 → is_emitted_augmentation letters ≡ true →
     number w8 c ≡ Ok (version, after_version) → text after_version ≡ Ok (letters, after_text) → uleb after_text ≡ Ok (code, after_code) →
     sleb after_code ≡ Ok (data_factor, after_data) → number w8 after_data ≡ Ok (column, after_column) →
-    augmentation_data bases (0x7a ∷ 0x52 ∷ []) after_column ≡ Ok (found, program) →
-    cie_body plain bases offset c ≡ Ok (record { offset = offset; version = version; code_factor = code; data_factor = data_factor; return_column = column; augmentation = letters; letters = found; program = program })
-cie_whole bases offset c c1 c2 c3 c4 c5 c6 version code data_factor column letters found one zr e1 e2 e3 e4 e5 e6 =
-    cie_behind bases offset c c1 c2 c3 c4 c5 version code data_factor column letters one zr e1 e2 e3 e4 e5 ∙ rw e6 refl
+    augmentation_data bases letters after_column ≡ Ok (found, program) →
+    cie_body emitted bases offset c ≡ Ok (record { offset = offset; version = version; code_factor = code; data_factor = data_factor; return_column = column; augmentation = letters; letters = found; program = program })
+cie_whole bases offset c c1 c2 c3 c4 c5 c6 version code data_factor column letters found one form e1 e2 e3 e4 e5 e6 =
+    cie_behind bases offset c c1 c2 c3 c4 c5 version code data_factor column letters one form e1 e2 e3 e4 e5 ∙ rw e6 refl

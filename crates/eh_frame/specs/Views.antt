@@ -1,6 +1,6 @@
 -- The code's records as those of the definitions.
-use Rattle.std.specs.Prelude.{ℕ, Some, None, false}
-use Rattle.unwind_definitions.specs.Entries.{Letters, Cie, Fde, Entry, ACie, AFde, Found}
+use Rattle.std.specs.Option.{option_map}
+use Rattle.unwind_definitions.specs.Entries.{Cie, Fde, Entry, ACie, AFde, Found}
 use Rattle.eh_frame.specs.declared.cie.Cie.{Cie as CodeCie}
 use Rattle.eh_frame.specs.declared.fde.Fde.{Fde as CodeFde}
 use Rattle.eh_frame.specs.declared.entries.EhFrame.{EhFrame}
@@ -9,10 +9,8 @@ use Rattle.eh_frame.specs.declared.entries.Entry.TheVariants as entries
 use Rattle.eh_frame.specs.declared.entries.Found.{Found as CodeFound}
 use Rattle.unwind_definitions.specs.Input.{Input}
 use Rattle.encoded_pointers.specs.View.{at}
-
--- what the augmentation zR says, with the encoding of addresses
-abbrev pub plain_letters : ℕ → Letters
-plain_letters address = record { language = None; personality = None; address = Some address; signal = false }
+use Rattle.encoded_pointers.specs.Pointers.{pointer_of}
+use Rattle.eh_frame.specs.Letters.{letters_of}
 
 abbrev pub cie_of : CodeCie → Cie
 cie_of c = record {
@@ -22,7 +20,7 @@ cie_of c = record {
   data_factor = c.data_alignment;
   return_column = c.return_column.0;
   augmentation = c.augmentation.now;
-  letters = plain_letters c.address_encoding.0;
+  letters = letters_of c.letters;
   program = at c.program;
 }
 
@@ -32,7 +30,7 @@ fde_of f = record {
   cie = cie_of f.cie;
   start = f.initial_address;
   size = f.len;
-  language = None;
+  language = option_map pointer_of f.lsda;
   program = at f.program;
 }
 

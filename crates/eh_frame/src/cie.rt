@@ -1,17 +1,20 @@
 //! Common information entries: what the descriptions of several functions share.
 
-ghost use Rattle.std.specs.Prelude.{◌≡◌, ◌∷◌, []};
-ghost use Rattle.std.specs.Bool.{OnTrue};
+ghost use Rattle.std.specs.Prelude.{◌≡◌};
+ghost use Rattle.std.specs.Option.{option_map};
 ghost use Rattle.std.specs.Int.{w64, cast_unsigned};
-ghost use Rattle.unwind_definitions.specs.Forms.{plain, is_plain_augmentation};
-ghost use Rattle.unwind_definitions.specs.Pointers.{Bases};
-ghost use Rattle.unwind_definitions.specs.Entries.{cie_body, augmentation_data, address_encoding, coding_of};
+ghost use Rattle.unwind_definitions.specs.Forms.{emitted};
+ghost use Rattle.unwind_definitions.specs.Pointers.{Bases as KnownBases};
+ghost use Rattle.unwind_definitions.specs.Entries.{cie_body, address_encoding, coding_of};
 ghost use Rattle.frame_rows.specs.Decoded.{coding_by};
-ghost use Rattle.encoded_pointers.specs.Readers.{Gives, GivesOr, Answers};
+ghost use Rattle.encoded_pointers.specs.Readers.{Answers};
 ghost use Rattle.encoded_pointers.specs.View.{at};
-ghost use Rattle.eh_frame.specs.Views.{cie_of, plain_letters};
+ghost use Rattle.encoded_pointers.specs.Pointers.{bases_of, pointer_of};
+ghost use Rattle.eh_frame.specs.Letters.{byte_of, personality_of};
+ghost use Rattle.eh_frame.specs.Views.{cie_of};
 
-use encoded_pointers::{Cursor, DwEhPe, parse_pointer_encoding};
+use crate::augmentation::{Letters, is_emitted, read_augmentation_data};
+use encoded_pointers::{Bases, Cursor, DwEhPe, Pointer};
 use frame_rows::{AlignmentFactors, Register};
 use unwind_definitions::Error;
 
@@ -27,15 +30,14 @@ pub struct Cie<'a> {
     data_alignment: u64,
     return_column: Register,
     augmentation: &'a [u8],
-    // how a description's addresses are encoded, by the letter R
-    address_encoding: DwEhPe,
+    letters: Letters,
     program: Cursor<'a>,
 }
 
 impl<'a> Cie<'a> {
     // What stands behind the first four bytes of the entry at `offset`.
-    pub(crate) fn read(offset: u64, body: Cursor<'a>) -> Result<Cie<'a>, Error>
-        ensures { (bases : Bases) → Answers cie_of result (cie_body plain bases offset (at body.entry)) }
+    pub(crate) fn read(offset: u64, body: Cursor<'a>, bases: &Bases) -> Result<Cie<'a>, Error>
+        ensures { Answers cie_of result (cie_body emitted (bases_of bases.now) offset (at body.entry)) }
     {
         let mut input = body;
         let version = input.read_u8()?;
@@ -43,13 +45,13 @@ impl<'a> Cie<'a> {
             return Err(Error::UnknownVersion);
         }
         let augmentation = input.read_text()?;
-        if !is_plain(augmentation) {
+        if !is_emitted(augmentation) {
             return Err(Error::UnknownAugmentation);
         }
         let code_alignment = input.read_uleb128()?;
         let data_alignment = input.read_sleb128_word()?;
         let return_column = Register(input.read_u8()? as u16);
-        let address_encoding = read_augmentation_data(&mut input)?;
+        let letters = read_augmentation_data(augmentation, bases, &mut input)?;
         Ok(Cie {
             offset,
             version,
@@ -57,7 +59,7 @@ impl<'a> Cie<'a> {
             data_alignment,
             return_column,
             augmentation,
-            address_encoding,
+            letters,
             program: input,
         })
     }
@@ -104,12 +106,12 @@ impl<'a> Cie<'a> {
         self.return_column
     }
 
-    /// Whether the functions of its descriptions are entered by a signal's delivery. No
-    /// augmentation that is read so far says so.
+    /// Whether the functions of its descriptions are entered by a signal's delivery: the
+    /// augmentation has an `S`. None that is read so far has one.
     pub fn is_signal_trampoline(&self) -> bool
         ensures { result ≡ (cie_of self.now).letters.signal }
     {
-        false
+        self.letters.is_signal
     }
 
     /// The instructions that the rows of each description begin with, in bytes.
@@ -136,7 +138,7 @@ impl<'a> Cie<'a> {
 
     // What the operands in the programs of the entry and of its descriptions are multiplied by.
     pub(crate) fn factors(&self) -> AlignmentFactors
-        ensures { (bases : Bases) → coding_by result (address_encoding (cie_of self.now)) bases ≡ coding_of bases (cie_of self.now) }
+        ensures { (bases : KnownBases) → coding_by result (address_encoding (cie_of self.now)) bases ≡ coding_of bases (cie_of self.now) }
     {
         AlignmentFactors {
             code: self.code_alignment,
@@ -144,31 +146,45 @@ impl<'a> Cie<'a> {
         }
     }
 
-    // How the addresses of a description are encoded.
-    pub(crate) fn address_encoding(&self) -> DwEhPe
+    /// The personality: the routine that reads the language tables of the descriptions. `None`
+    /// exactly where the augmentation has no `P`.
+    pub fn personality(&self) -> Option<Pointer>
+        ensures { option_map pointer_of result ≡ option_map (λ p. p.1) (cie_of self.now).letters.personality }
+    {
+        self.letters
+            .personality
+            .map(|personality| personality.pointer)
+    }
+
+    /// How the personality is encoded. `None` exactly where the augmentation has no `P`.
+    pub fn personality_encoding(&self) -> Option<DwEhPe>
+        ensures { option_map byte_of result ≡ option_map (λ p. p.0) (cie_of self.now).letters.personality }
+    {
+        self.letters
+            .personality
+            .map(|personality| personality.encoding)
+    }
+
+    /// How the descriptions encode the pointers to their language tables. `None` exactly where the
+    /// augmentation has no `L`.
+    pub fn lsda_encoding(&self) -> Option<DwEhPe>
+        ensures { option_map byte_of result ≡ (cie_of self.now).letters.language }
+    {
+        self.letters.language
+    }
+
+    /// How the descriptions encode the addresses of their functions. `None` exactly where the
+    /// augmentation has no `R`: they are whole words then.
+    pub fn address_encoding(&self) -> Option<DwEhPe>
+        ensures { option_map byte_of result ≡ (cie_of self.now).letters.address }
+    {
+        self.letters.address
+    }
+
+    // How the addresses of a description are encoded, whether the augmentation says it or not.
+    pub(crate) fn start_encoding(&self) -> DwEhPe
         ensures { result.0 ≡ address_encoding (cie_of self.now) }
     {
-        self.address_encoding
+        self.letters.address.unwrap_or(DwEhPe::ABSPTR)
     }
-}
-
-// Whether an augmentation is one that is read so far.
-fn is_plain(augmentation: &[u8]) -> bool
-    ensures is { result ≡ is_plain_augmentation augmentation.now }
-    ensures bytes { OnTrue result (augmentation.now ≡ 0x7a ∷ 0x52 ∷ []) }
-{
-    match augmentation {
-        [z, r] => *z == b'z' && *r == b'R',
-        _ => false,
-    }
-}
-
-// The bytes of the augmentation `zR`: their number, and how addresses are encoded.
-fn read_augmentation_data(input: &mut Cursor) -> Result<DwEhPe, Error>
-    ensures { (bases : Bases) → GivesOr (λ e. plain_letters e.0) result
-        (augmentation_data bases (0x7a ∷ 0x52 ∷ []) (at input.old)) (at input.new) }
-{
-    let count = input.read_uleb128()?;
-    let mut block = input.split(count)?;
-    parse_pointer_encoding(&mut block)
 }

@@ -3,9 +3,8 @@
 ghost use Rattle.std.specs.Prelude.{◌≡◌, ◌≢◌, ◌↔◌, IfErr, IfOk, IsTrue, Result, Some};
 ghost use Rattle.std.specs.Result.{IsErrOf};
 ghost use Rattle.std.specs.Option.{option_map, option_map_or};
-ghost use Rattle.unwind_definitions.specs.Forms.{plain};
+ghost use Rattle.unwind_definitions.specs.Forms.{emitted};
 ghost use Rattle.unwind_definitions.specs.Input.{skip};
-ghost use Rattle.unwind_definitions.specs.Pointers.{Bases as KnownBases};
 ghost use Rattle.unwind_definitions.specs.Entries.{Fde as Described, body, cie_at, cie_in, entry_in, entry_at};
 ghost use Rattle.unwind_definitions.specs.Row.{covers_pc};
 ghost use Rattle.unwind_definitions.specs.Scan.{found_or, scan};
@@ -56,33 +55,32 @@ impl<'a> EhFrame<'a> {
     /// The first frame description entry, in the table's order, that contains the address `pc`.
     ///
     /// Entries are read one after another, each once, and a description's common information
-    /// entry with it. `bases` is what their pointers may be relative to; those of the forms that
-    /// are read so far are relative to their own place.
+    /// entry with it. `bases` is what their pointers may be relative to.
     ///
     /// # Errors
     ///
     /// The error of the first entry before it that can't be read, or
     /// `NoUnwindInfoForAddress` where all entries can be read and none contains `pc`.
     pub fn fde_for_address(&self, bases: &Bases, pc: u64) -> Result<Fde<'a>, Error>
-        ensures scan { Answers fde_of result (scan plain (bases_of bases.now) (table_of self.now) pc) }
+        ensures scan { Answers fde_of result (scan emitted (bases_of bases.now) (table_of self.now) pc) }
         ensures contains { IfOk result (λ fde. IsTrue (covers_pc (fde_of fde) pc)) }
         ensures first { IfOk result (λ fde.
-            IsFirst plain (bases_of bases.now) (table_of self.now) pc 0 (fde_of fde)) }
+            IsFirst emitted (bases_of bases.now) (table_of self.now) pc 0 (fde_of fde)) }
         ensures fault { IfErr result (λ e. e ≢ Error.NoUnwindInfoForAddress →
-            IsUnreadable plain (bases_of bases.now) (table_of self.now) pc 0 e) }
+            IsUnreadable emitted (bases_of bases.now) (table_of self.now) pc 0 e) }
         ensures none { IsErrOf result Error.NoUnwindInfoForAddress ↔
-            IsUncovered plain (bases_of bases.now) (table_of self.now) pc 0 }
+            IsUncovered emitted (bases_of bases.now) (table_of self.now) pc 0 }
     {
-        self.scan(pc)
+        self.scan(bases, pc)
     }
 
     // The first description that contains an address.
-    fn scan(&self, pc: u64) -> Result<Fde<'a>, Error>
-        ensures { (bases : KnownBases) → Answers fde_of result
-            (scan plain bases (table_of self.now) pc) }
+    fn scan(&self, bases: &Bases, pc: u64) -> Result<Fde<'a>, Error>
+        ensures { Answers fde_of result
+            (scan emitted (bases_of bases.now) (table_of self.now) pc) }
     {
         let mut offset = 0;
-        while let Some(found) = self.entry_at(offset)? {
+        while let Some(found) = self.entry_at(offset, bases)? {
             if let Some(fde) = found.entry.containing(pc) {
                 return Ok(fde);
             }
@@ -100,15 +98,15 @@ impl<'a> EhFrame<'a> {
 
     // What stands at an offset, None at the end of the list.
     #[tactic(auto, unfolding(unwind_definitions::specs::Entries::entry_at))]
-    fn entry_at(&self, offset: u64) -> Result<Option<Found<'a>>, Error>
-        ensures { (bases : KnownBases) → Answers (option_map found_of) result
-            (entry_at plain bases (table_of self.now) offset) }
+    fn entry_at(&self, offset: u64, bases: &Bases) -> Result<Option<Found<'a>>, Error>
+        ensures { Answers (option_map found_of) result
+            (entry_at emitted (bases_of bases.now) (table_of self.now) offset) }
     {
         let mut input = self.from(offset);
         match read_body(&mut input)? {
             None => Ok(None),
             Some(body) => {
-                let entry = self.entry_in(offset, body)?;
+                let entry = self.entry_in(offset, body, bases)?;
                 Ok(Some(Found {
                     entry,
                     next: input.offset(),
@@ -118,32 +116,32 @@ impl<'a> EhFrame<'a> {
     }
 
     // The entry at `offset`, whose body is `body`.
-    fn entry_in(&self, offset: u64, body: Cursor<'a>) -> Result<Entry<'a>, Error>
-        ensures { (bases : KnownBases) → Answers entry_of result
-            (entry_in plain bases (table_of self.now) offset (at body.entry)) }
+    fn entry_in(&self, offset: u64, body: Cursor<'a>, bases: &Bases) -> Result<Entry<'a>, Error>
+        ensures { Answers entry_of result
+            (entry_in emitted (bases_of bases.now) (table_of self.now) offset (at body.entry)) }
     {
         let place = body.offset();
         let mut input = body;
         let id = input.read_u32()? as u64;
         if id == 0 {
-            return Ok(Entry::Cie(Cie::read(offset, input)?));
+            return Ok(Entry::Cie(Cie::read(offset, input, bases)?));
         }
         if id > place {
             return Err(Error::NotCie);
         }
-        let cie = self.cie_at(place - id)?;
-        Ok(Entry::Fde(Fde::read(cie, offset, input)?))
+        let cie = self.cie_at(place - id, bases)?;
+        Ok(Entry::Fde(Fde::read(cie, offset, input, bases)?))
     }
 
     // The common information entry at an offset.
-    fn cie_at(&self, offset: u64) -> Result<Cie<'a>, Error>
-        ensures { (bases : KnownBases) → Answers cie_of result
-            (cie_at plain bases (table_of self.now) offset) }
+    fn cie_at(&self, offset: u64, bases: &Bases) -> Result<Cie<'a>, Error>
+        ensures { Answers cie_of result
+            (cie_at emitted (bases_of bases.now) (table_of self.now) offset) }
     {
         let mut input = self.from(offset);
         match read_body(&mut input)? {
             None => Err(Error::NotCie),
-            Some(body) => cie_in(offset, body),
+            Some(body) => cie_in(offset, body, bases),
         }
     }
 }
@@ -162,21 +160,21 @@ impl<'a> Entry<'a> {
 }
 
 // The common information entry at `offset`, whose body is `body`.
-fn cie_in<'a>(offset: u64, body: Cursor<'a>) -> Result<Cie<'a>, Error>
-    ensures { (bases : KnownBases) → Answers cie_of result
-        (cie_in plain bases offset (Some (at body.entry))) }
+fn cie_in<'a>(offset: u64, body: Cursor<'a>, bases: &Bases) -> Result<Cie<'a>, Error>
+    ensures { Answers cie_of result
+        (cie_in emitted (bases_of bases.now) offset (Some (at body.entry))) }
 {
     let mut input = body;
     let id = input.read_u32()?;
     if id != 0 {
         return Err(Error::NotCie);
     }
-    Cie::read(offset, input)
+    Cie::read(offset, input, bases)
 }
 
 // The body of an entry, None at the end of the list: at the end of the table, or at a length of 0.
 fn read_body<'a>(input: &mut Cursor<'a>) -> Result<Option<Cursor<'a>>, Error>
-    ensures { GivesOr (option_map at) result (body plain (at input.old)) (at input.new) }
+    ensures { GivesOr (option_map at) result (body emitted (at input.old)) (at input.new) }
 {
     if input.is_empty() {
         return Ok(None);

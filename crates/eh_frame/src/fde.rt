@@ -1,19 +1,22 @@
 //! Frame description entries: where a function's code lies, and how its frame is undone.
 
-ghost use Rattle.std.specs.Prelude.{◌≡◌, ℕ, None};
-ghost use Rattle.unwind_definitions.specs.Forms.{plain};
-ghost use Rattle.unwind_definitions.specs.Pointers.{Bases as KnownBases};
-ghost use Rattle.unwind_definitions.specs.Entries.{fde_body, fde_data};
+ghost use Rattle.std.specs.Prelude.{◌≡◌};
+ghost use Rattle.std.specs.Option.{option_map};
+ghost use Rattle.unwind_definitions.specs.Forms.{emitted};
+ghost use Rattle.unwind_definitions.specs.Entries.{fde_body, fde_data, language_pointer};
 ghost use Rattle.unwind_definitions.specs.Row.{covers_pc, row_at};
 ghost use Rattle.encoded_pointers.specs.Readers.{GivesOr, Answers};
 ghost use Rattle.encoded_pointers.specs.View.{at};
-ghost use Rattle.encoded_pointers.specs.Pointers.{bases_of};
+ghost use Rattle.encoded_pointers.specs.Pointers.{bases_of, pointer_of};
+ghost use Rattle.eh_frame.specs.Letters.{byte_of};
 ghost use Rattle.eh_frame.specs.Views.{cie_of, fde_of};
 ghost use Rattle.frame_rows.specs.Rows.{GivesRow};
 
 use crate::cie::Cie;
 use crate::entries::EhFrame;
-use encoded_pointers::{Bases, Cursor, DwEhPe, read_relative, read_sdata4};
+use encoded_pointers::{
+    Bases, Cursor, DwEhPe, Pointer, parse_direct_pointer, parse_encoded_pointer, read_value,
+};
 use frame_rows::Row;
 use unwind_definitions::Error;
 
@@ -26,30 +29,35 @@ pub struct Fde<'a> {
     cie: Cie<'a>,
     initial_address: u64,
     len: u64,
+    lsda: Option<Pointer>,
     program: Cursor<'a>,
 }
 
 impl<'a> Fde<'a> {
     // What stands behind the first four bytes of the entry at `offset`, which names `cie`.
-    pub(crate) fn read(cie: Cie<'a>, offset: u64, body: Cursor<'a>) -> Result<Fde<'a>, Error>
-        ensures { (bases : KnownBases) → Answers fde_of result
-            (fde_body plain bases (cie_of cie.entry) offset (at body.entry)) }
+    pub(crate) fn read(
+        cie: Cie<'a>,
+        offset: u64,
+        body: Cursor<'a>,
+        bases: &Bases,
+    ) -> Result<Fde<'a>, Error>
+        ensures { Answers fde_of result
+            (fde_body emitted (bases_of bases.now) (cie_of cie.entry) offset (at body.entry)) }
     {
-        if cie.address_encoding() != DwEhPe::RELATIVE_SDATA4 {
-            return Err(Error::UnsupportedPointerEncoding);
-        }
+        let encoding = cie.start_encoding();
         let mut input = body;
-        let initial_address = read_relative(&mut input)?;
-        let len = read_sdata4(&mut input)?;
+        let initial_address = parse_direct_pointer(encoding, bases, &mut input)?;
+        let len = read_value(encoding, &mut input)?;
         if len > u64::MAX - initial_address {
             return Err(Error::AddressOverflow);
         }
-        skip_augmentation_data(&cie, &mut input)?;
+        let lsda = read_augmentation_data(&cie, bases, initial_address, &mut input)?;
         Ok(Fde {
             offset,
             cie,
             initial_address,
             len,
+            lsda,
             program: input,
         })
     }
@@ -88,6 +96,21 @@ impl<'a> Fde<'a> {
         ensures { result ≡ (fde_of self.now).cie.letters.signal }
     {
         self.cie.is_signal_trampoline()
+    }
+
+    /// The pointer to the function's language table. `None` exactly where the augmentation has no
+    /// `L`, or where its encoding says that there is none.
+    pub fn lsda(&self) -> Option<Pointer>
+        ensures { option_map pointer_of result ≡ (fde_of self.now).language }
+    {
+        self.lsda
+    }
+
+    /// The personality of the common information entry.
+    pub fn personality(&self) -> Option<Pointer>
+        ensures { option_map pointer_of result ≡ option_map (λ p. p.1) (fde_of self.now).cie.letters.personality }
+    {
+        self.cie.personality()
     }
 
     /// The instructions of the function's rows, behind those of the common information entry, in
@@ -138,7 +161,7 @@ impl<'a> Fde<'a> {
         bases: &Bases,
         pc: u64,
     ) -> Result<Row<'a>, Error>
-        ensures { GivesRow result (row_at plain (bases_of bases.now) (fde_of self.now) pc) }
+        ensures { GivesRow result (row_at emitted (bases_of bases.now) (fde_of self.now) pc) }
     {
         if !self.contains(pc) {
             return Err(Error::NoUnwindInfoForAddress);
@@ -153,14 +176,45 @@ impl<'a> Fde<'a> {
     }
 }
 
-// The bytes of an augmentation, where there is one: their number, and so many.
-fn skip_augmentation_data(cie: &Cie, input: &mut Cursor) -> Result<(), Error>
-    ensures { (bases : KnownBases) (start : ℕ) → GivesOr (λ x. None) result
-        (fde_data bases (cie_of cie.now) start (at input.old)) (at input.new) }
+// The bytes of an augmentation, where there is one: their number, and so many, with the pointer to
+// the language table of the function at `start`. Behind a fault the cursor isn't told.
+fn read_augmentation_data(
+    cie: &Cie,
+    bases: &Bases,
+    start: u64,
+    input: &mut Cursor,
+) -> Result<Option<Pointer>, Error>
+    ensures { GivesOr (option_map pointer_of) result
+        (fde_data (bases_of bases.now) (cie_of cie.now) start (at input.old)) (at input.new) }
 {
     if cie.augmentation().is_empty() {
-        return Ok(());
+        return Ok(None);
     }
     let count = input.read_uleb128()?;
-    input.skip(count)
+    let block = input.split(count)?;
+    read_language_pointer(cie.lsda_encoding(), bases, start, block)
+}
+
+// The pointer to the language table of the function at `start`, `None` where the augmentation has no
+// `L` or its encoding says that there is none.
+fn read_language_pointer(
+    encoding: Option<DwEhPe>,
+    bases: &Bases,
+    start: u64,
+    block: Cursor,
+) -> Result<Option<Pointer>, Error>
+    ensures { Answers (option_map pointer_of) result
+        (language_pointer (bases_of bases.now) start (option_map byte_of encoding) (at block.entry)) }
+{
+    match encoding {
+        Some(encoding) if !encoding.is_absent() => {
+            let bases = Bases {
+                func: Some(start),
+                ..*bases
+            };
+            let mut input = block;
+            Ok(Some(parse_encoded_pointer(encoding, &bases, &mut input)?))
+        }
+        _ => Ok(None),
+    }
 }

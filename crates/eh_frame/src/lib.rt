@@ -6,8 +6,8 @@
 //! [`Fde::unwind_info_for_address`] runs its program, and gives the [`Row`] by which the caller of
 //! the function's frame is found.
 //!
-//! The forms that are read so far: lengths of four bytes, common information entries of version 1
-//! with the augmentation `zR`, and starts of four signed bytes relative to their own place. Of the
+//! The forms that are read so far: lengths of four bytes, and common information entries of version
+//! 1 with the augmentations `zR`, `zPR` and `zPLR`. Pointers may have any encoding. Of the
 //! instructions `DW_CFA_advance_loc` and the three with an operand, `DW_CFA_offset`,
 //! `DW_CFA_restore`, `DW_CFA_nop`, `DW_CFA_undefined`, `DW_CFA_remember_state`,
 //! `DW_CFA_restore_state`, `DW_CFA_def_cfa`, `DW_CFA_def_cfa_register` and
@@ -16,6 +16,7 @@
 //! Source: LSB, section on `.eh_frame`; DWARF 5 section 6.4.
 #![tactic(auto)]
 
+mod augmentation;
 mod cie;
 mod entries;
 mod fde;

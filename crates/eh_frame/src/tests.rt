@@ -99,7 +99,17 @@ fn the_first_fault_is_told(rt: HostRuntime) -> Result<(), Fail> {
     // augmentation zPR, nothing behind it
     assert_eq!(rt;
         error_of(b"\x09\x00\x00\x00\x00\x00\x00\x00\x01\x7a\x50\x52\x00"),
+        Some(Error::UnexpectedEof)
+    );
+    // augmentation zRX
+    assert_eq!(rt;
+        error_of(b"\x09\x00\x00\x00\x00\x00\x00\x00\x01\x7a\x52\x58\x00"),
         Some(Error::UnknownAugmentation)
+    );
+    // augmentation zPR, whose personality is relative to a text that isn't known
+    assert_eq!(rt;
+        error_of(b"\x0f\x00\x00\x00\x00\x00\x00\x00\x01\x7a\x50\x52\x00\x01\x78\x10\x02\x2b\x1b"),
+        Some(Error::UndefinedBase)
     );
     // an augmentation without a zero byte
     assert_eq!(rt;
@@ -125,10 +135,17 @@ fn the_first_fault_is_told(rt: HostRuntime) -> Result<(), Fail> {
         error_of(b"\x0d\x00\x00\x00\x00\x00\x00\x00\x01\x7a\x52\x00\x01\x78\x10\x01\x0d"),
         Some(Error::UnknownPointerEncoding)
     );
-    // encoding 00
+    // encoding 00, and no address
     assert_eq!(rt;
         error_of(
             b"\x0d\x00\x00\x00\x00\x00\x00\x00\x01\x7a\x52\x00\x01\x78\x10\x01\x00\x04\x00\x00\x00\x15\x00\x00\x00"
+        ),
+        Some(Error::UnexpectedEof)
+    );
+    // encoding 9b
+    assert_eq!(rt;
+        error_of(
+            b"\x0d\x00\x00\x00\x00\x00\x00\x00\x01\x7a\x52\x00\x01\x78\x10\x01\x9b\x08\x00\x00\x00\x15\x00\x00\x00\x00\x00\x00\x00"
         ),
         Some(Error::UnsupportedPointerEncoding)
     );
@@ -158,5 +175,46 @@ fn the_first_fault_is_told(rt: HostRuntime) -> Result<(), Fail> {
     );
     // no entry
     assert_eq!(rt; error_of(b""), Some(Error::NoUnwindInfoForAddress));
+    Ok(())
+}
+
+// What `clang` and `ld` make of three functions at 0x401000, 0x401008 and 0x401009: one with a
+// personality by a cell and a language table, one with neither, and one with a personality alone.
+static LANGUAGES: [u8; 156] = [
+    0x14, 0, 0, 0, 0, 0, 0, 0, 0x01, 0x7a, 0x52, 0, 0x01, 0x78, 0x10, 0x01, 0x1b, 0x0c, 0x07, 0x08,
+    0x90, 0x01, 0, 0, 0x10, 0, 0, 0, 0x1c, 0, 0, 0, 0xe8, 0x0f, 0xf0, 0xff, 0x01, 0, 0, 0, 0, 0, 0,
+    0, 0x1c, 0, 0, 0, 0, 0, 0, 0, 0x01, 0x7a, 0x50, 0x4c, 0x52, 0, 0x01, 0x78, 0x10, 0x07, 0x9b,
+    0xc1, 0x0f, 0x10, 0, 0x1b, 0x1b, 0x0c, 0x07, 0x08, 0x90, 0x01, 0, 0, 0x1c, 0, 0, 0, 0x24, 0, 0,
+    0, 0xac, 0x0f, 0xf0, 0xff, 0x08, 0, 0, 0, 0x04, 0xa3, 0xff, 0x0f, 0, 0x41, 0x0e, 0x10, 0x83,
+    0x02, 0x46, 0x0e, 0x08, 0, 0, 0, 0x18, 0, 0, 0, 0, 0, 0, 0, 0x01, 0x7a, 0x50, 0x52, 0, 0x01,
+    0x78, 0x10, 0x06, 0x1b, 0x8b, 0x0f, 0xf0, 0xff, 0x1b, 0x0c, 0x07, 0x08, 0x90, 0x01, 0x10, 0, 0,
+    0, 0x20, 0, 0, 0, 0x79, 0x0f, 0xf0, 0xff, 0x01, 0, 0, 0, 0, 0, 0, 0,
+];
+
+// The addresses are those that `nm` and `readelf` tell of the linked file.
+#[test]
+fn personalities_and_language_tables(rt: HostRuntime) -> Result<(), Fail> {
+    let table = EhFrame::new(&LANGUAGES, 0x500000);
+    let bases = Bases::default();
+    let both = table.fde_for_address(&bases, 0x401007)?;
+    assert_eq!(rt; (both.initial_address(), both.len()), (0x401000, 8));
+    assert_eq!(rt; both.lsda(), Some(Pointer::Direct(0x600000)));
+    assert_eq!(rt; both.personality(), Some(Pointer::Indirect(0x601000)));
+    let cie = both.cie();
+    assert_eq!(rt; cie.augmentation(), b"zPLR".as_slice());
+    assert_eq!(rt; cie.personality(), both.personality());
+    assert_eq!(rt; cie.personality_encoding(), Some(DwEhPe(0x9b)));
+    assert_eq!(rt; cie.lsda_encoding(), Some(DwEhPe(0x1b)));
+    assert_eq!(rt; cie.address_encoding(), Some(DwEhPe(0x1b)));
+    let neither = table.fde_for_address(&bases, 0x401008)?;
+    assert_eq!(rt; (neither.initial_address(), neither.len()), (0x401008, 1));
+    assert_eq!(rt; (neither.lsda(), neither.personality()), (None, None));
+    assert_eq!(rt; neither.cie().personality_encoding(), None);
+    assert_eq!(rt; neither.cie().lsda_encoding(), None);
+    let alone = table.fde_for_address(&bases, 0x401009)?;
+    assert_eq!(rt; (alone.initial_address(), alone.lsda()), (0x401009, None));
+    assert_eq!(rt; alone.personality(), Some(Pointer::Direct(0x401009)));
+    assert_eq!(rt; alone.cie().personality_encoding(), Some(DwEhPe(0x1b)));
+    assert_eq!(rt; alone.cie().lsda_encoding(), None);
     Ok(())
 }

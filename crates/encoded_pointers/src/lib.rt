@@ -16,7 +16,7 @@ mod pointer;
 pub use bases::Bases;
 pub use cursor::Cursor;
 pub use encoding::{DwEhPe, parse_pointer_encoding};
-pub use pointer::{Pointer, parse_encoded_pointer, read_relative, read_sdata4, read_value};
+pub use pointer::{Pointer, parse_direct_pointer, parse_encoded_pointer, read_value};
 pub use unwind_definitions::Error;
 
 #[cfg(test)]

@@ -1,8 +1,7 @@
 //! Pointers in call frame bytes.
 
 ghost use Rattle.std.specs.Prelude.{◌≡◌, OnErr};
-ghost use Rattle.std.specs.Int.{w32};
-ghost use Rattle.unwind_definitions.specs.Pointers.{Bases as KnownBases, application_of, base_of, direct, format_of, known, pointer, signed_number, value};
+ghost use Rattle.unwind_definitions.specs.Pointers.{application_of, base_of, direct, format_of, known, pointer, value};
 ghost use Rattle.encoded_pointers.specs.Readers.{Answers, GivesOr};
 ghost use Rattle.encoded_pointers.specs.Pointers.{bases_of, pointer_of};
 ghost use Rattle.encoded_pointers.specs.View.{at};
@@ -98,36 +97,32 @@ pub fn read_value(encoding: DwEhPe, input: &mut Cursor) -> Result<u64, Error>
         0x03 => Ok(u64::from(input.read_u32()?)),
         0x09 => input.read_sleb128_word(),
         0x0a => Ok(i64::from(input.read_i16()?).cast_unsigned()),
-        0x0b => read_sdata4(input),
+        0x0b => Ok(i64::from(input.read_i32()?).cast_unsigned()),
         // of the other formats those of whole words are known
         _ => input.read_u64(),
     }
 }
 
-/// Reads an address by four signed bytes that say how far it is from their own place:
-/// `DW_EH_PE_pcrel | DW_EH_PE_sdata4`.
+/// Reads an address: a pointer that must not be indirect, which shows once it is read.
 ///
 /// # Errors
 ///
-/// `UnexpectedEof` where fewer bytes are left. The cursor then stays.
-pub fn read_relative(input: &mut Cursor) -> Result<u64, Error>
-    ensures reads { (bases : KnownBases) → GivesOr (λ x. x) result
-        (direct 0x1b bases (at input.old)) (at input.new) }
+/// Those of [`parse_encoded_pointer`], and then `UnsupportedPointerEncoding` where the pointer is
+/// indirect. The cursor then stays.
+pub fn parse_direct_pointer(
+    encoding: DwEhPe,
+    bases: &Bases,
+    input: &mut Cursor,
+) -> Result<u64, Error>
+    ensures reads { GivesOr (λ x. x) result (direct encoding.0 (bases_of bases.now) (at input.old)) (at input.new) }
     ensures unchanged { OnErr result (at input.new ≡ at input.old) }
 {
-    let place = input.address();
-    let distance = read_sdata4(input)?;
-    Ok(place.wrapping_add(distance))
-}
-
-/// Reads four signed bytes as a word: numbers below 0 count from 2^64.
-///
-/// # Errors
-///
-/// `UnexpectedEof` where fewer bytes are left. The cursor then stays.
-pub fn read_sdata4(input: &mut Cursor) -> Result<u64, Error>
-    ensures reads { GivesOr (λ x. x) result (signed_number w32 32 (at input.old)) (at input.new) }
-    ensures unchanged { OnErr result (at input.new ≡ at input.old) }
-{
-    Ok(i64::from(input.read_i32()?).cast_unsigned())
+    let mut rest = *input;
+    match parse_encoded_pointer(encoding, bases, &mut rest)? {
+        Pointer::Direct(address) => {
+            *input = rest;
+            Ok(address)
+        }
+        Pointer::Indirect(_) => Err(Error::UnsupportedPointerEncoding),
+    }
 }

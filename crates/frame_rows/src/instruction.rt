@@ -1,7 +1,7 @@
 //! The instructions of frame programs. DWARF 5 sections 6.4.2 and 7.24.
 
 ghost use Rattle.std.specs.Prelude.{◌≡◌, ℕ, ◌*◌};
-ghost use Rattle.unwind_definitions.specs.Forms.{plain};
+ghost use Rattle.unwind_definitions.specs.Forms.{emitted};
 ghost use Rattle.unwind_definitions.specs.Pointers.{Bases};
 ghost use Rattle.unwind_definitions.specs.Instructions.{column, instruction, Advance};
 ghost use Rattle.encoded_pointers.specs.Readers.{GivesOr};
@@ -108,7 +108,7 @@ pub(crate) fn read_instruction<'a>(
     factors: AlignmentFactors,
 ) -> Result<CallFrameInstruction<'a>, Error>
     ensures { (address : ℕ) (bases : Bases) →
-        GivesOr meaning result (instruction plain (coding_by factors address bases) (at input.old)) (at input.new) }
+        GivesOr meaning result (instruction emitted (coding_by factors address bases) (at input.old)) (at input.new) }
 {
     let byte = input.read_u8()?;
     let low = byte % 64;

@@ -2,7 +2,7 @@
 //! address. DWARF 5 sections 6.4.1 and 6.4.3.
 
 ghost use Rattle.std.specs.Prelude.{ℕ};
-ghost use Rattle.unwind_definitions.specs.Forms.{plain};
+ghost use Rattle.unwind_definitions.specs.Forms.{emitted};
 ghost use Rattle.unwind_definitions.specs.Pointers.{Bases};
 ghost use Rattle.unwind_definitions.specs.Instructions.{program};
 ghost use Rattle.unwind_definitions.specs.Row.{Run, row};
@@ -27,7 +27,7 @@ pub fn row_at<'a>(
     pc: u64,
 ) -> Result<Row<'a>, Error>
     ensures { (address : ℕ) (bases : Bases) → let coding = coding_by factors address bases in
-        GivesRow result (row start pc (program plain coding (at common.entry)) (program plain coding (at own.entry))) }
+        GivesRow result (row start pc (program emitted coding (at common.entry)) (program emitted coding (at own.entry))) }
 {
     let mut machine = Machine::new();
     run_program(&mut machine, common, factors, None)?;
@@ -46,7 +46,7 @@ fn run_program<'a>(
 ) -> Result<(), Error>
     ensures { (start : ℕ) (run : Run) (address : ℕ) (bases : Bases) → Represents start machine.old run →
         let coding = coding_by factors address bases in
-        Ends start result machine.new (outcome start pc run (program plain coding (at bytes.entry))) }
+        Ends start result machine.new (outcome start pc run (program emitted coding (at bytes.entry))) }
 {
     let mut input = bytes;
     for _turn in 0..bytes.len() {

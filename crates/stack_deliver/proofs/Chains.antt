@@ -2,7 +2,7 @@
 use Rattle.std.proofs.Common.{◌≡◌, ℕ, false, List, [], ◌∷◌, Some, None, Ok, get_or, refl}
 use Rattle.std.specs.Prelude.{map}
 use Rattle.std.specs.List.{AllByRecursion}
-use Rattle.unwind_definitions.specs.Forms.{plain}
+use Rattle.unwind_definitions.specs.Forms.{emitted}
 use Rattle.unwind_definitions.specs.State.{RBX, RBP, R12, R13, R14, R15, State, Shows}
 use Rattle.unwind_definitions.specs.Function.{Function}
 use Rattle.unwind_definitions.specs.Module.{Process, IsUncovered}
@@ -19,21 +19,21 @@ use Rattle.stack_deliver.specs.Processes.{process_of}
 use Rattle.stack_deliver.specs.Delivering.{Delivered, line_of, delivery_of}
 use Rattle.stack_deliver.specs.Shown.{state_of}
 use Rattle.stack_deliver.specs.Undone.{EachShows}
-use Rattle.stack_deliver.specs.Walking.{StartsChain, ShowChain, StartsPlainChain, ShowsDelivery}
+use Rattle.stack_deliver.specs.Walking.{StartsChain, ShowChain}
 use Rattle.stack_deliver.proofs.LineShows.{line_shows}
 
 -- the walk over a chain that the limit has room for
 pub chain_walked : (space : SpaceValue) (c : Context) (limit : ℕ) (functions : List Function) (s : State) (calls : List Call) → AreApart 0 space.modules → StartsChain space c limit functions s calls →
     (cs : List Context) × (line_of space limit c false ≡ Ok cs) × ShowChain cs s calls
 chain_walked space c limit functions s calls apart is =
-    let chain : IsDescribedChain plain (process_of space) functions s calls = is.described in
+    let chain : IsDescribedChain emitted (process_of space) functions s calls = is.described in
     let line = line_shows space apart is.tables functions chain.are_functions s calls c limit chain.chain chain.described is.shows is.shorter in
-    (line.0, line.1, record { states = line.2; rise = chain_rises plain (process_of space) functions s calls chain.chain })
+    (line.0, line.1, record { states = line.2; rise = chain_rises emitted (process_of space) functions s calls chain.chain })
 
 -- ---- contexts that show states
 
 -- the state that a context shows
-shown_state : (c : Context) (s : State) → Shows (columns_of c) s → state_of c ≡ s
+pub shown_state : (c : Context) (s : State) → Shows (columns_of c) s → state_of c ≡ s
 shown_state c s shows =
     let ra : c.ra ≡ s.ra = let e = shows.ra in cc in
     let sp : get_or c.registers 7 0 ≡ s.sp = let e = shows.sp in cc in
@@ -50,24 +50,3 @@ shown_states [] [] each = refl
 shown_states (c ∷ cs) (s ∷ ss) each = let first : state_of c ≡ s = shown_state c s each.0 in let later : map state_of cs ≡ ss = shown_states cs ss each.1 in cc
 shown_states [] (s ∷ ss) each = absurd each
 shown_states (c ∷ cs) [] each = absurd each
-
--- ---- a chain without language tables
-
--- no frame decides
-none_decides : (functions : List Function) → AllByRecursion (λ (f : Function). f.sites ≡ None) functions → (p : Process) (s : State) (calls : List Call) → IsChain p.image (IsUncovered plain p) functions s calls → described.deciding_frame s calls ≡ None
-none_decides functions plain_all p s [] chain = refl
-none_decides functions plain_all p s (c ∷ calls) chain =
-    let free : c.callee.sites ≡ None = lists.all_contains (λ (f : Function). f.sites ≡ None) functions c.callee plain_all chain.0.listed in
-    rw free (none_decides functions plain_all p c.caller calls chain.1)
-
--- what is delivered to it is what the definition says of the chain
-pub chain_delivered : (space : SpaceValue) (c : Context) (exception : ℕ) (resumes : List (ℕ × ℕ)) (limit : ℕ) (functions : List Function) (s : State) (calls : List Call) → AreApart 0 space.modules →
-    StartsPlainChain space c resumes limit functions s calls → (d : Delivered) × (delivery_of space c exception resumes limit ≡ Ok d) × ShowsDelivery d exception s calls
-unfolding delivery_of
-chain_delivered space c exception resumes limit functions s calls apart is =
-    let p : Process = process_of space in
-    let chain = valid_described plain p (columns_of c) resumes functions s calls is.valid in
-    let line = line_shows space apart is.tables functions is.valid.are_functions s calls c limit is.valid.chain chain.described is.valid.shows is.shorter in
-    let states : map state_of line.0 ≡ states_of s calls = shown_states line.0 (states_of s calls) line.2 in
-    let none : described.deciding_frame s calls ≡ None = none_decides functions is.no_language p s calls is.valid.chain in
-    (record { visited = line.0; trail = []; outcome = EndOfStack; landing = None }, rw line.1 refl, rw (none, states) refl)

@@ -2,7 +2,7 @@
 use Rattle.std.proofs.Common.{inl, inr, ◌≡◌, ◌≢◌, ℕ, zero, suc, Bool, true, false, List, Option, Some, None, Result, Ok, Err, refl, ap, subst, ◌∙◌, cond, eqb}
 use Rattle.memory_image.specs.Image.{Span, word_at}
 use Rattle.unwind_definitions.specs.declared.error.Error.{Error as Fault}
-use Rattle.unwind_definitions.specs.Forms.{plain}
+use Rattle.unwind_definitions.specs.Forms.{emitted}
 use Rattle.unwind_definitions.specs.Row.{Run, row_at}
 use Rattle.unwind_definitions.specs.Caller as calls
 use Rattle.unwind_arch.specs.declared.x86_64.Context.{Context}
@@ -17,7 +17,7 @@ use Rattle.unwinding_core.specs.Named.{found_by}
 use Rattle.unwind_arch.specs.Contexts.{columns_of}
 use Rattle.stack_deliver.specs.Modules.{SpaceValue, module_at}
 use Rattle.stack_deliver.specs.Stepping.{step_of, in_module, called, by_row, stepped, context_by, IsStepFault}
-use Rattle.stack_deliver.specs.Delivering.{with_first, line_after, line_of, ended, delivery_of, NeedsMore}
+use Rattle.stack_deliver.specs.Delivering.{with_first, line_after, line_of, NeedsMore}
 use Rattle.stack_deliver.specs.Walking.{StepFails}
 use Rattle.stack_deliver.proofs.StepAnswers.{step_unmapped}
 
@@ -37,7 +37,7 @@ faults_by_row image c signal (Err f) = tt
 
 faults_called : (image : List Span) (c : Context) (a : ℕ) (o : Option FoundFde) → OnStepFault (called image c a o)
 faults_called image c a None = tt
-faults_called image c a (Some found) = faults_by_row image c found.fde.cie.letters.signal (row_at plain found.bases found.fde a)
+faults_called image c a (Some found) = faults_by_row image c found.fde.cie.letters.signal (row_at emitted found.bases found.fde a)
 
 faults_in : (image : List Span) (c : Context) (a : ℕ) (o : Option Module) → OnStepFault (in_module image c a o)
 faults_in image c a None = tt
@@ -123,16 +123,3 @@ fails_memory space (suc room) c interrupted (inr later) = fails_memory space roo
 
 pub line_memory : (space : SpaceValue) (room : ℕ) (c : Context) (interrupted : Bool) → line_of space room c interrupted ≢ Err NoMemory
 line_memory space room c interrupted is = fails_memory space room c interrupted (line_fault space room c interrupted NoMemory (λ e. cc) is)
-
-ended_fault : (r : Result (List Context) DeliverError) (e : DeliverError) → ended r ≡ Err e → r ≡ Err e
-ended_fault (Ok cs) e is = absurd cc
-ended_fault (Err x) e is = cc
-
--- the same of a delivery
-pub delivery_fault : (space : SpaceValue) (c : Context) (exception : ℕ) (resumes : List (ℕ × ℕ)) (limit : ℕ) (e : DeliverError) → delivery_of space c exception resumes limit ≡ Err e → line_of space limit c false ≡ Err e
-unfolding delivery_of
-delivery_fault space c exception resumes limit e is = ended_fault (line_of space limit c false) e is
-
-pub fault_delivery : (space : SpaceValue) (c : Context) (exception : ℕ) (resumes : List (ℕ × ℕ)) (limit : ℕ) (e : DeliverError) → line_of space limit c false ≡ Err e → delivery_of space c exception resumes limit ≡ Err e
-unfolding delivery_of
-fault_delivery space c exception resumes limit e is = rw is refl

@@ -4,7 +4,7 @@ use Rattle.std.specs.Prelude.{◌⊎◌, IsTrue, map}
 use Rattle.std.specs.List.{Contains, AllByRecursion}
 use Rattle.std.proofs.lemmas.Bool.Decides.{nat_tests}
 use Rattle.unwind_definitions.specs.declared.error.Error.TheVariants.{NoUnwindInfoForAddress}
-use Rattle.unwind_definitions.specs.Forms.{plain}
+use Rattle.unwind_definitions.specs.Forms.{emitted}
 use Rattle.unwind_definitions.specs.State.{State, IsState, Shows}
 use Rattle.unwind_definitions.specs.Prologue.{SystemV}
 use Rattle.unwind_definitions.specs.Scan.{scan}
@@ -54,15 +54,15 @@ contains_in_map (n ∷ ns) m has = go (λ h. contains_in_map ns m h) (lists.here
 
 module _ (space : SpaceValue) where
   -- a module's frame table doesn't contain the address
-  in_no_entry : (a : ℕ) (m : Module) → described.CoversNot plain space.image (module_of m) a → (kind : FrameInfoKind) → m.frame.kind ≡ kind → found_by_kind m.frame.text_base kind space.image a ≡ None
+  in_no_entry : (a : ℕ) (m : Module) → described.CoversNot emitted space.image (module_of m) a → (kind : FrameInfoKind) → m.frame.kind ≡ kind → found_by_kind m.frame.text_base kind space.image a ≡ None
   in_no_entry a m u (EhFrameHdr h) named = refl
   in_no_entry a m u (EhFrame f) named =
       let address : described.frame_address space.image (described.Frames f) ≡ Some u.frame =
       subst (λ (k : FrameInfoKind). described.frame_address space.image (tables_of k) ≡ Some u.frame) named u.address in
       let place : f ≡ u.frame = cc in
       let header : described.header_of (tables_of m.frame.kind) ≡ None = rw named refl in
-      let none : scan plain (described.bases_of (module_of m) f) (input_at space.image f) a ≡ Err NoUnwindInfoForAddress =
-      subst (λ (g : ℕ). scan plain (described.bases_of (module_of m) g) (input_at space.image g) a ≡ Err NoUnwindInfoForAddress) (sym place) (not_found plain space.image (module_of m) a u) in
+      let none : scan emitted (described.bases_of (module_of m) f) (input_at space.image f) a ≡ Err NoUnwindInfoForAddress =
+      subst (λ (g : ℕ). scan emitted (described.bases_of (module_of m) g) (input_at space.image g) a ≡ Err NoUnwindInfoForAddress) (sym place) (not_found emitted space.image (module_of m) a u) in
       let same : table_bases m.frame.text_base f ≡ described.bases_of (module_of m) f = rw header refl in
       rw (same, none) refl
 
@@ -70,34 +70,34 @@ module _ (space : SpaceValue) where
   ends_in_module c a m none = rw none refl
 
   -- an address that nothing covers ends the stack
-  by_module : (c : Context) (a : ℕ) → described.IsUncovered plain (process_of space) a → (o : Option Module) → module_at space.modules a ≡ o → in_module space.image c a o ≡ Ok None
+  by_module : (c : Context) (a : ℕ) → described.IsUncovered emitted (process_of space) a → (o : Option Module) → module_at space.modules a ≡ o → in_module space.image c a o ≡ Ok None
   by_module c a free None found = refl
   by_module c a free (Some m) found =
       let r = module_at-found space.modules m a found in
       ends_in_module c a m (in_no_entry a m (free (module_of m) (contains_in_map space.modules m r.0) r.1) m.frame.kind refl)
 
   -- the stack ends where the return address is 0 or no function covers it
-  ends : (functions : List Function) (c : Context) (s : State) → Shows (columns_of c) s → IsEnd space.image (described.IsUncovered plain (process_of space)) functions s → step_of space c false ≡ Ok None
+  pub ends : (functions : List Function) (c : Context) (s : State) → Shows (columns_of c) s → IsEnd space.image (described.IsUncovered emitted (process_of space)) functions s → step_of space c false ≡ Ok None
   unfolding step_of
   ends functions c s shows end = go end.ends
     where
-      go : (s.ra ≡ 0) ⊎ ((s.ra ≢ 0) × described.IsUncovered plain (process_of space) (s.ra - 1)) → step_of space c false ≡ Ok None
+      go : (s.ra ≡ 0) ⊎ ((s.ra ≢ 0) × described.IsUncovered emitted (process_of space) (s.ra - 1)) → step_of space c false ≡ Ok None
       go (inl none) = let e : columns_of c 16 ≡ Some s.ra = shows.ra in let at : c.ra ≡ 0 = cc in rw at refl
       go (inr u) =
           let e : columns_of c 16 ≡ Some s.ra = shows.ra in
           let at : c.ra ≡ s.ra = cc in
           let some : s.ra ≢ 0 = u.0 in
           let nonzero : eqb c.ra 0 ≡ false = grind (arith, nat_tests) in
-          let free : described.IsUncovered plain (process_of space) (c.ra - 1) = subst (λ (n : ℕ). described.IsUncovered plain (process_of space) (n - 1)) (sym at) u.1 in
+          let free : described.IsUncovered emitted (process_of space) (c.ra - 1) = subst (λ (n : ℕ). described.IsUncovered emitted (process_of space) (n - 1)) (sym at) u.1 in
           rw nonzero (by_module c (c.ra - 1) free (module_at space.modules (c.ra - 1)) refl)
 
-  state_of : (functions : List Function) (s : State) (calls : List Call) → IsChain space.image (described.IsUncovered plain (process_of space)) functions s calls → IsState s
+  state_of : (functions : List Function) (s : State) (calls : List Call) → IsChain space.image (described.IsUncovered emitted (process_of space)) functions s calls → IsState s
   state_of functions s [] chain = chain.state
   state_of functions s (k ∷ calls) chain = chain.0.state
 
   -- The line from a context that shows the start of a chain, where there is room for it.
   pub line_shows : AreApart 0 space.modules → HaveFrameTables (process_of space) → (functions : List Function) → AllByRecursion (IsFunction SystemV) functions → (s : State) (calls : List Call) (c : Context) (room : ℕ) →
-      IsChain space.image (described.IsUncovered plain (process_of space)) functions s calls → AllByRecursion (λ (k : Call). LiesDescribed plain (process_of space) functions k.callee) calls → Shows (columns_of c) s → length calls < room →
+      IsChain space.image (described.IsUncovered emitted (process_of space)) functions s calls → AllByRecursion (λ (k : Call). LiesDescribed emitted (process_of space) functions k.callee) calls → Shows (columns_of c) s → length calls < room →
       (cs : List Context) × (line_of space room c false ≡ Ok cs) × EachShows cs (states_of s calls)
   line_shows apart tables functions are s [] c zero chain lie shows less = absurd (omega arith)
   line_shows apart tables functions are s [] c (suc room) chain lie shows less = (c ∷ [], rw (ends functions c s shows chain) refl, (shows, tt))

@@ -5,7 +5,7 @@ use Rattle.std.proofs.lemmas.Bool.Decides.{nat_tests, eqb_tells}
 use Rattle.memory_image.specs.Image.{Span, word_at}
 use Rattle.unwind_definitions.specs.declared.error.Error.{Error as Fault}
 use Rattle.unwind_definitions.specs.declared.error.Error.TheVariants.{NoCfaRegister}
-use Rattle.unwind_definitions.specs.Forms.{plain}
+use Rattle.unwind_definitions.specs.Forms.{emitted}
 use Rattle.unwind_definitions.specs.Input.{Input}
 use Rattle.unwind_definitions.specs.Instructions as rules
 use Rattle.unwind_definitions.specs.Pointers as pointers
@@ -39,7 +39,7 @@ none_by_row image c signal (Err x) e = absurd cc
 -- there is no caller where nothing is found
 none_called : (image : List Span) (c : Context) (a : ℕ) (o : Option FoundFde) → called image c a o ≡ Ok None → o ≡ None
 none_called image c a None e = refl
-none_called image c a (Some found) e = absurd (none_by_row image c found.fde.cie.letters.signal (row_at plain found.bases found.fde a) e)
+none_called image c a (Some found) e = absurd (none_by_row image c found.fde.cie.letters.signal (row_at emitted found.bases found.fde a) e)
 
 -- a scan that leads to nothing has a fault
 none_scanned : (bases : pointers.Bases) (table : Input) (r : Result Fde Fault) → found_in bases table r ≡ None → (x : Fault) × (r ≡ Err x)
@@ -47,7 +47,7 @@ none_scanned bases table (Ok fde) e = absurd cc
 none_scanned bases table (Err x) e = (x, refl)
 
 none_by_kind : (image : List Span) (text : Option ℕ) (kind : FrameInfoKind) (a : ℕ) → found_by_kind text kind image a ≡ None → FindsNone image text kind a
-none_by_kind image text (EhFrame frame) a e = none_scanned (table_bases text frame) (input_at image frame) (scan plain (table_bases text frame) (input_at image frame) a) e
+none_by_kind image text (EhFrame frame) a e = none_scanned (table_bases text frame) (input_at image frame) (scan emitted (table_bases text frame) (input_at image frame) a) e
 none_by_kind image text (EhFrameHdr header) a e = tt
 
 by_kind_none : (image : List Span) (text : Option ℕ) (kind : FrameInfoKind) (a : ℕ) → FindsNone image text kind a → found_by_kind text kind image a ≡ None
@@ -161,7 +161,7 @@ unmapped_by_row image c signal b (Err f) e = absurd cc
 
 unmapped_called : (image : List Span) (c : Context) (a b : ℕ) (o : Option FoundFde) → called image c a o ≡ Err (Unmapped b) → word_at image b ≡ None
 unmapped_called image c a b None e = absurd cc
-unmapped_called image c a b (Some found) e = unmapped_by_row image c found.fde.cie.letters.signal b (row_at plain found.bases found.fde a) e
+unmapped_called image c a b (Some found) e = unmapped_by_row image c found.fde.cie.letters.signal b (row_at emitted found.bases found.fde a) e
 
 unmapped_in : (image : List Span) (c : Context) (a b : ℕ) (o : Option Module) → in_module image c a o ≡ Err (Unmapped b) → word_at image b ≡ None
 unmapped_in image c a b None e = absurd cc
@@ -203,7 +203,7 @@ module _ (space : SpaceValue) (c : Context) (interrupted : Bool) (e : Fault) whe
     holds = holds;
     found = found;
     finds = finds;
-    fault = table_by_row space.image c found.fde.cie.letters.signal (row_at plain found.bases found.fde asked) e is;
+    fault = table_by_row space.image c found.fde.cie.letters.signal (row_at emitted found.bases found.fde asked) e is;
   }
 
   table_in : c.ra ≢ 0 → (o : Option Module) → module_at space.modules asked ≡ o → in_module space.image c asked o ≡ Err (Table e) → FaultsAt space c interrupted e
@@ -223,4 +223,4 @@ module _ (space : SpaceValue) (c : Context) (interrupted : Bool) (e : Fault) whe
   table_step faults =
       let some : c.ra ≢ 0 = faults.returns in
       let nonzero : eqb c.ra 0 ≡ false = grind (arith, nat_tests) in
-      rw (nonzero, faults.holds, faults.finds) (by_row_table space.image c faults.found.fde.cie.letters.signal (row_at plain faults.found.bases faults.found.fde asked) e faults.fault)
+      rw (nonzero, faults.holds, faults.finds) (by_row_table space.image c faults.found.fde.cie.letters.signal (row_at emitted faults.found.bases faults.found.fde asked) e faults.fault)

@@ -5,7 +5,7 @@ use Rattle.std.specs.Option.{unwrap_or}
 use Rattle.std.specs.List.{Contains}
 use Rattle.std.proofs.lemmas.Bool.Decides.{nat_tests, eqb_tells}
 use Rattle.std.proofs.lemmas.Bool.{ltb-true, leb-true}
-use Rattle.unwind_definitions.specs.Forms.{plain}
+use Rattle.unwind_definitions.specs.Forms.{emitted}
 use Rattle.unwind_definitions.specs.Row.{row_at}
 use Rattle.unwind_definitions.specs.Scan.{scan}
 use Rattle.unwind_definitions.specs.LanguageTable.{input_at}
@@ -37,7 +37,7 @@ pub record IsOf (modules : List Module) (home : described.Module) : Type 0 where
   pub among : Contains modules named
   pub same : module_of named ≡ home
 
-contains_map : (modules : List Module) (home : described.Module) → Contains (map module_of modules) home → IsOf modules home
+pub contains_map : (modules : List Module) (home : described.Module) → Contains (map module_of modules) home → IsOf modules home
 contains_map [] home has = absurd (lists.none_in_nil home has)
 contains_map (m ∷ ms) home has = go (λ h. contains_map ms home h) (lists.here_or_later (module_of m) (map module_of ms) home has)
   where
@@ -55,7 +55,7 @@ apart_above low (n ∷ ns) m apart has = go (λ h. apart_above n.end ns m apart.
     go later (inr h) = let a : low ≤ n.start = apart.0 in let b : n.start < n.end = apart.1 in let c = later h in omega (arith, c)
 
 -- the module that contains an address is found
-module_at-contains : (low : ℕ) (modules : List Module) (m : Module) (a : ℕ) → AreApart low modules → Contains modules m → m.start ≤ a → a < m.end → module_at modules a ≡ Some m
+pub module_at-contains : (low : ℕ) (modules : List Module) (m : Module) (a : ℕ) → AreApart low modules → Contains modules m → m.start ≤ a → a < m.end → module_at modules a ≡ Some m
 module_at-contains low [] m a apart has from below = absurd (lists.none_in_nil m has)
 module_at-contains low (n ∷ ns) m a apart has from below = go (λ h. module_at-contains n.end ns m a apart.2 h from below) (λ h. apart_above n.end ns m apart.2 h) (lists.here_or_later n ns m has)
   where
@@ -142,8 +142,8 @@ module _ (old : Context) (caller : Columns) (t : State) (shows : Shows caller t)
 -- The step undoes the call of a described function, in a process whose modules name their frame tables.
 module _ (space : SpaceValue) (c : Context) (functions : List Function) (s : State) (call : Call) (apart : AreApart 0 space.modules) (tables : HaveFrameTables (process_of space))
     (is : IsDescribedCall (process_of space) functions s call) (shows : Shows (columns_of c) s) where
-  abbrev step : Steps plain (process_of space) no_expressions (columns_of c) (s.ra - 1) call
-  step = one_step plain (process_of space) no_expressions functions (s.ra - 1) s call (columns_of c)
+  abbrev step : Steps emitted (process_of space) no_expressions (columns_of c) (s.ra - 1) call
+  step = one_step emitted (process_of space) no_expressions functions (s.ra - 1) s call (columns_of c)
       record { is_function = is.is_function; listed = is.listed; lies = is.lies; inside = is.called.inside; entered = is.called.entered; caller = is.caller; ends = is.ends } shows
 
   ra_is : c.ra ≡ s.ra
@@ -162,9 +162,9 @@ module _ (space : SpaceValue) (c : Context) (functions : List Function) (s : Sta
       let bases : described.bases_of step.finds.home step.finds.frame ≡ table_bases m.frame.text_base f =
       subst (λ (h : described.Module). described.bases_of h step.finds.frame ≡ table_bases m.frame.text_base f) same
       (subst (λ (g : ℕ). described.bases_of (module_of m) g ≡ table_bases m.frame.text_base f) place (rw header refl)) in
-      let scanned : scan plain (table_bases m.frame.text_base f) (input_at space.image f) (s.ra - 1) ≡ Ok step.finds.fde =
+      let scanned : scan emitted (table_bases m.frame.text_base f) (input_at space.image f) (s.ra - 1) ≡ Ok step.finds.fde =
       rw (← bases, place) step.finds.found in
-      let row : row_at plain (table_bases m.frame.text_base f) step.finds.fde (s.ra - 1) ≡ Ok step.finds.run = rw (← bases) step.finds.has_row in
+      let row : row_at emitted (table_bases m.frame.text_base f) step.finds.fde (s.ra - 1) ≡ Ok step.finds.run = rw (← bases) step.finds.has_row in
       let tabled : called space.image c (s.ra - 1) (found_by_kind m.frame.text_base (EhFrame f) space.image (s.ra - 1)) ≡ Ok (Some next) = rw (scanned, row, step.undoes.is_caller, step.finds.no_signal) refl in
       rw (nonzero, asked, found) (subst (λ (k : FrameInfoKind). called space.image c (s.ra - 1) (found_by_kind m.frame.text_base k space.image (s.ra - 1)) ≡ Ok (Some next)) (sym kind) tabled)
 

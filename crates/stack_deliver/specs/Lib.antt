@@ -1,6 +1,8 @@
 pub mod Delivering
 pub mod Modules
 pub mod Nearest
+pub mod Passes
+pub mod Passing
 pub mod Processes
 pub mod Resumes
 pub mod Shown

@@ -2,7 +2,7 @@
 use Rattle.std.specs.Prelude.{◌≡◌, ◌≢◌, ◌⊎◌, ℕ, ◌==◌, Bool, Option, Some, None, Result, Ok, Err, List, if◌then◌else◌}
 use Rattle.memory_image.specs.Image.{Span}
 use Rattle.unwind_definitions.specs.declared.error.Error.{Error as Fault}
-use Rattle.unwind_definitions.specs.Forms.{plain}
+use Rattle.unwind_definitions.specs.Forms.{emitted}
 use Rattle.unwind_definitions.specs.LanguageTable.{input_at}
 use Rattle.unwind_definitions.specs.Row.{Run, row_at}
 use Rattle.unwind_definitions.specs.Scan.{scan}
@@ -44,7 +44,7 @@ by_row image c signal (Err e) = Err (Table e)
 -- by the row at an address of the description that is found for it, if one is
 abbrev pub called : List Span → Context → ℕ → Option FoundFde → Result (Option Stepped) DeliverError
 called image c a None = Ok None
-called image c a (Some found) = by_row image c found.fde.cie.letters.signal (row_at plain found.bases found.fde a)
+called image c a (Some found) = by_row image c found.fde.cie.letters.signal (row_at emitted found.bases found.fde a)
 
 -- by the frame tables of the module that holds an address
 abbrev pub in_module : List Span → Context → ℕ → Option Module → Result (Option Stepped) DeliverError
@@ -59,7 +59,7 @@ step_of space c interrupted = if c.ra == 0 then Ok None else in_module space.ima
 
 -- A scan of a module's frame table finds no description for an address: none contains it, or an entry before can't be read.
 abbrev pub FindsNone : List Span → Option ℕ → FrameInfoKind → ℕ → Type 0
-FindsNone image text (EhFrame frame) a = (e : Fault) × (scan plain (table_bases text frame) (input_at image frame) a ≡ Err e)
+FindsNone image text (EhFrame frame) a = (e : Fault) × (scan emitted (table_bases text frame) (input_at image frame) a ≡ Err e)
 FindsNone image text (EhFrameHdr header) a = Unit {0}
 
 -- an address is in no module, or in one by whose tables nothing is found for it
@@ -83,7 +83,7 @@ pub record FaultsAt (space : SpaceValue) (c : Context) (interrupted : Bool) (e :
   pub holds : module_at space.modules (address_asked c.ra interrupted) ≡ Some holder
   pub found : FoundFde
   pub finds : found_by holder.frame space.image (address_asked c.ra interrupted) ≡ Some found
-  pub fault : RowFaults space.image c (row_at plain found.bases found.fde (address_asked c.ra interrupted)) e
+  pub fault : RowFaults space.image c (row_at emitted found.bases found.fde (address_asked c.ra interrupted)) e
 
 -- the faults that a step may answer
 abbrev pub IsStepFault : DeliverError → Type 0

@@ -1,7 +1,7 @@
 -- What it is for a step to undo a call.
 use Rattle.std.specs.Prelude.{◌≡◌, false, List, [], ◌∷◌, Some, None, Result, Ok, Option, IsTrue}
 use Rattle.std.specs.List.{Contains, AllByRecursion}
-use Rattle.unwind_definitions.specs.Forms.{plain}
+use Rattle.unwind_definitions.specs.Forms.{emitted}
 use Rattle.unwind_definitions.specs.Caller.{Columns}
 use Rattle.unwind_definitions.specs.State.{State, IsState, Shows, KeepsOthers}
 use Rattle.unwind_definitions.specs.Prologue.{SystemV}
@@ -23,7 +23,7 @@ HaveFrameTables p = AllByRecursion (λ (m : Module). header_of m.tables ≡ None
 pub record IsDescribedCall (p : Process) (functions : List Function) (s : State) (c : Call) : Type 0 where
   pub is_function : IsFunction SystemV c.callee
   pub listed : Contains functions c.callee
-  pub lies : LiesDescribed plain p functions c.callee
+  pub lies : LiesDescribed emitted p functions c.callee
   pub called : IsCalled p.image s c
   pub caller : IsState c.caller
   pub ends : IsTrue c.callee.outermost → c.caller.ra ≡ 0

@@ -1,7 +1,6 @@
 -- What a walk and a delivery leave in a room, and why they are refused.
-use Rattle.std.specs.Prelude.{◌≡◌, ◌⊎◌, ℕ, zero, suc, ◌<◌, Bool, List, length, None, Result, Ok, Err, Some}
-use Rattle.std.specs.List.{AllByRecursion}
-use Rattle.unwind_definitions.specs.Forms.{plain}
+use Rattle.std.specs.Prelude.{◌≡◌, ◌⊎◌, ℕ, zero, suc, ◌<◌, Bool, List, length, Result, Ok, Err, Some}
+use Rattle.unwind_definitions.specs.Forms.{emitted}
 use Rattle.unwind_definitions.specs.State.{State, Shows}
 use Rattle.unwind_definitions.specs.Function.{Function}
 use Rattle.unwind_definitions.specs.Chain.{Call, states_of, StacksRise}
@@ -49,7 +48,7 @@ StepFails space (suc room) c interrupted e = (step_of space c interrupted ≡ Er
 -- forms that are read, and these describe the functions of the chain.
 pub record StartsChain (space : SpaceValue) (c : Context) (limit : ℕ) (functions : List Function) (s : State) (calls : List Call) : Type 0 where
   pub tables : HaveFrameTables (process_of space)
-  pub described : IsDescribedChain plain (process_of space) functions s calls
+  pub described : IsDescribedChain emitted (process_of space) functions s calls
   pub shows : Shows (columns_of c) s
   pub shorter : length calls < limit
 
@@ -58,12 +57,11 @@ pub record ShowChain (cs : List Context) (s : State) (calls : List Call) : Type 
   pub states : EachShows cs (states_of s calls)
   pub rise : StacksRise (states_of s calls)
 
--- The same of a delivery: every module describes its part of the functions, and none of these has a language table, so that
--- no frame names a handler.
-pub record StartsPlainChain (space : SpaceValue) (c : Context) (resumes : List (ℕ × ℕ)) (limit : ℕ) (functions : List Function) (s : State) (calls : List Call) : Type 0 where
+-- The same of a delivery: every module describes its part of the functions, and where a handler takes the exception, the
+-- resume table says where each frame inside it goes on behind its cleanup.
+pub record StartsValidChain (space : SpaceValue) (c : Context) (resumes : List (ℕ × ℕ)) (limit : ℕ) (functions : List Function) (s : State) (calls : List Call) : Type 0 where
   pub tables : HaveFrameTables (process_of space)
-  pub no_language : AllByRecursion (λ (f : Function). f.sites ≡ None) functions
-  pub valid : IsValid plain (process_of space) (columns_of c) resumes functions s calls
+  pub valid : IsValid emitted (process_of space) (columns_of c) resumes functions s calls
   pub shorter : length calls < limit
 
 -- what a delivery did is what the definition says of a chain of calls

@@ -1,52 +1,121 @@
 // The delivery of an exception: the states from the start outwards.
-ghost use Rattle.std.specs.Prelude.{◌≡◌, ◌≢◌, ◌⊎◌, ◌↔◌, ◌≤◌, ℕ, List, [], None, Err, false, IsOkAnd, OnErr};
+ghost use Rattle.std.specs.Prelude.{◌≡◌, ◌≢◌, ◌⊎◌, ◌≤◌, ℕ, List, [], None, Err, length, IsOkAnd, OnErr};
 ghost use Rattle.memory_image.specs.Image.{word_at};
 ghost use Rattle.unwind_definitions.specs.State.{State};
 ghost use Rattle.unwind_definitions.specs.Function.{Function};
 ghost use Rattle.unwind_definitions.specs.Chain.{Call};
-ghost use Rattle.stack_deliver.specs.Delivering.{Delivers, NeedsMore, delivery_of};
-ghost use Rattle.stack_deliver.specs.Walking.{StepFails, StartsPlainChain, ShowsDelivery, IsDelivered, delivered_in};
+ghost use Rattle.stack_deliver.specs.Delivering.{Delivers, delivery_of};
+ghost use Rattle.stack_deliver.specs.Walking.{StartsValidChain, ShowsDelivery, IsDelivered, delivered_in};
 
 use crate::delivery::{DeliverError, Delivery, Ending, Outcome};
+use crate::passes::{passes, search};
 use crate::resumes::Resumes;
 use crate::room::Room;
 use crate::space::Space;
-use crate::walking::{modules_are_apart, walk_into};
+use crate::walking::modules_are_apart;
 use memory_image::{Ledger, NoLedger, Steps};
 use std::alloc::Global;
 use unwind_arch::x86_64::Context;
 
-/// The search for a handler.
+/// The search for a handler, and where a frame takes the exception the passes toward it.
 #[tactic(auto, unfolding(crate::specs::Delivering::delivery_of))]
-fn searched<L: Ledger>(
+fn delivered<L: Ledger>(
     space: &Space<'_>,
     start: &Context,
+    exception: u64,
+    resumes: &Resumes,
+    limit: u32,
+    room: &mut Room,
+    steps: &mut Steps<L>,
+) -> Result<Ending, DeliverError>
+    requires within { limit ≤ room.old.limit }
+    requires empty { (room.old.visited ≡ []) × (room.old.trail ≡ []) }
+    ensures exact { IsDelivered result room.new (delivery_of space.now start.now exception resumes.now limit) }
+    ensures places { room.new.limit ≡ room.old.limit }
+{
+    let Some(stop) = search(space, start, limit, room, steps)? else {
+        return Ok(without_landing(Outcome::EndOfStack));
+    };
+    if stop.pad().is_none() {
+        return Ok(without_landing(Outcome::FatalPhase1));
+    }
+    passes(
+        space,
+        start,
+        exception,
+        stop.kept(),
+        resumes,
+        limit,
+        room,
+        steps,
+    )
+}
+
+/// The same in a room that is emptied first, and after an error again.
+fn emptied<L: Ledger>(
+    space: &Space<'_>,
+    start: &Context,
+    exception: u64,
+    resumes: &Resumes,
     limit: u32,
     room: &mut Room,
     steps: &mut Steps<L>,
 ) -> Result<Ending, DeliverError>
     requires { limit ≤ room.old.limit }
-    ensures exact { (exception : ℕ) (resumes : List (ℕ × ℕ)) → IsDelivered result room.new (delivery_of space.now start.now exception resumes limit) }
+    ensures exact { IsDelivered result room.new (delivery_of space.now start.now exception resumes.now limit) }
     ensures emptied { OnErr result ((room.new.visited ≡ []) × (room.new.trail ≡ [])) }
     ensures places { room.new.limit ≡ room.old.limit }
 {
-    walk_into(space, start, false, limit, room, steps)?;
-    Ok(Ending {
-        outcome: Outcome::EndOfStack,
+    room.clear();
+    match delivered(space, start, exception, resumes, limit, room, steps) {
+        Ok(ending) => Ok(ending),
+        Err(error) => {
+            room.clear();
+            Err(error)
+        }
+    }
+}
+
+/// A context has sixteen general registers, as its type tells.
+fn registers_are_sixteen(context: Context)
+    ensures { length context.registers ≡ 16 }
+{
+    let _ = context;
+}
+
+fn without_landing(outcome: Outcome) -> Ending
+    ensures { result ≡ record { outcome = outcome; landing = None } }
+{
+    Ending {
+        outcome,
         landing: None,
-    })
+    }
 }
 
 /// Delivers an exception to the stack whose innermost frame has the registers `start`, into a room.
 ///
-/// The room is emptied first. The search visits states from the start outwards. No frame names a
-/// handler yet, so it ends with the stack, nothing is installed, and neither the exception nor the
-/// resume table is read. No memory is taken.
+/// The room is emptied first. A search visits states from the start outwards, and each is put into
+/// the room. Of a frame whose description names a personality, whichever, the language table is
+/// asked at the address of the call. The search ends at the first frame whose table asks for a
+/// handler or to end the program; a table that can't be read ends the program. The frame is kept by
+/// its stack pointer, less one where it stands behind a signal's frame.
+///
+/// Where a frame takes the exception, cleanup passes go from the start again. Each enters the first
+/// landing pad on its way, with RAX the exception and RDX 0. A pad of the kept frame is the landing.
+/// Any other is a cleanup: it is put on the trail, and the next pass starts at the return address
+/// that the resume table has for the pad. No memory is taken, and the class isn't read.
+/// Source: Itanium C++ ABI, exception handling, levels I and II.
 ///
 /// # Errors
 ///
-/// `FrameLimit` where more than `limit` states are needed; the errors of a step, as they are. A
-/// fault of the step from the last allowed state comes before `FrameLimit`. The room is then empty.
+/// The first in the order of work; the room is then empty.
+///
+/// - `FrameLimit` where a pass needs more than `limit` states. A fault of the step from the last
+///   allowed state comes first.
+/// - `PassLimit` where more than `limit` cleanups would run, `NoResume` where the resume table has
+///   no entry for a cleanup's pad.
+/// - `Unmapped` and `Table` as in a step, and where the cell that names the personality isn't wholly
+///   mapped.
 pub fn deliver_into<L: Ledger>(
     space: &Space<'_>,
     start: &Context,
@@ -62,20 +131,17 @@ pub fn deliver_into<L: Ledger>(
     ensures exact { IsDelivered result room.new (delivery_of space.now start.now exception resumes.now limit) }
     ensures emptied { OnErr result ((room.new.visited ≡ []) × (room.new.trail ≡ [])) }
     ensures places { room.new.limit ≡ room.old.limit }
-    // The limit is met exactly where more states are needed.
-    ensures frame_limit { (result ≡ Err DeliverError.FrameLimit) ↔ NeedsMore space.now limit start.now false }
-    ensures step_fault { (error : DeliverError) → error ≢ DeliverError.FrameLimit → (result ≡ Err error) ↔ StepFails space.now limit start.now false error }
     ensures unmapped { (a : ℕ) → result ≡ Err (DeliverError.Unmapped a) → word_at space.now.image a ≡ None }
     ensures takes_no_memory { result ≢ Err DeliverError.NoMemory }
-    // What is delivered to a described chain is what the definition says of the chain.
-    ensures chain { (functions : List Function) (s : State) (calls : List Call) → StartsPlainChain space.now start.now resumes.now limit functions s calls →
+    // What is delivered to a valid chain is what the definition says of the chain.
+    ensures chain { (functions : List Function) (s : State) (calls : List Call) → StartsValidChain space.now start.now resumes.now limit functions s calls →
         IsOkAnd result (λ ending. ShowsDelivery (delivered_in room.new ending) exception s calls) }
 {
-    let _ = exception;
+    // It is for languages that tell their own exceptions from those of others.
     let _ = class;
-    let _ = resumes;
     modules_are_apart(space);
-    searched(space, start, limit, room, steps)
+    registers_are_sixteen(*start);
+    emptied(space, start, exception, resumes, limit, room, steps)
 }
 
 /// Delivers an exception to the stack whose innermost frame has the registers `start`.
@@ -95,13 +161,9 @@ pub fn deliver(
     limit: u32,
 ) -> Result<Delivery, DeliverError>
     ensures exact { Delivers result (delivery_of space.now start.now exception resumes.now limit) }
-    // The limit is met exactly where more states are needed.
-    ensures frame_limit { result ≡ Err DeliverError.FrameLimit → NeedsMore space.now limit start.now false }
-    ensures needs_more { NeedsMore space.now limit start.now false → (result ≡ Err DeliverError.NoMemory) ⊎ (result ≡ Err DeliverError.FrameLimit) }
-    ensures step_fault { (error : DeliverError) → error ≢ DeliverError.FrameLimit → error ≢ DeliverError.NoMemory → result ≡ Err error → StepFails space.now limit start.now false error }
     ensures unmapped { (a : ℕ) → result ≡ Err (DeliverError.Unmapped a) → word_at space.now.image a ≡ None }
-    // What is delivered to a described chain is what the definition says of the chain.
-    ensures chain { (functions : List Function) (s : State) (calls : List Call) → StartsPlainChain space.now start.now resumes.now limit functions s calls →
+    // What is delivered to a valid chain is what the definition says of the chain.
+    ensures chain { (functions : List Function) (s : State) (calls : List Call) → StartsValidChain space.now start.now resumes.now limit functions s calls →
         (result ≡ Err DeliverError.NoMemory) ⊎ IsOkAnd result (λ delivery. ShowsDelivery delivery exception s calls) }
 {
     let mut room = Room::new(alloc, limit)?;

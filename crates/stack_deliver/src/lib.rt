@@ -5,6 +5,7 @@
 
 mod delivering;
 mod delivery;
+mod passes;
 mod resumes;
 mod room;
 mod space;

@@ -89,6 +89,14 @@ impl Room {
         self.visited.push_reserved(state);
     }
 
+    /// Puts one more cleanup into its place.
+    pub(crate) fn run_cleanup(&mut self, cleanup: Trail)
+        requires { length self.old.trail < self.old.limit }
+        ensures { self.new ≡ record self.old { trail = self.old.trail ++ cleanup ∷ [] } }
+    {
+        self.trail.push_reserved(cleanup);
+    }
+
     /// Takes out what stands in it. The places stay.
     pub(crate) fn clear(&mut self)
         ensures { self.new ≡ record self.old { visited = []; trail = [] } }

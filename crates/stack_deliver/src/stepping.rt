@@ -10,7 +10,9 @@ ghost use Rattle.unwinding_core.specs.Framed.{address_asked, GivesFrame};
 ghost use Rattle.unwinding_core.specs.Named.{found_by};
 ghost use Rattle.stack_deliver.specs.Modules.{AreApart, contains};
 ghost use Rattle.stack_deliver.specs.Processes.{process_of};
-ghost use Rattle.stack_deliver.specs.Stepping.{called, step_of, EndsAt, FaultsAt};
+ghost use Rattle.stack_deliver.specs.Passes.{FrameAt, frame_of, caller_by};
+ghost use Rattle.stack_deliver.specs.Passing.{IsFrameOf, GivesFrameAt};
+ghost use Rattle.stack_deliver.specs.Stepping.{step_of, EndsAt, FaultsAt};
 ghost use Rattle.stack_deliver.specs.Undone.{HaveFrameTables, IsDescribedCall, Undone};
 
 use crate::delivery::{DeliverError, Stepped};
@@ -45,39 +47,15 @@ fn framed<'a, L: Ledger>(
     Frame::from_context(image, &finder_of(holder), context, interrupted, steps)
 }
 
-/// The caller by a module's frame tables.
-fn in_module<L: Ledger>(
-    image: &MemoryImage<'_>,
-    context: &Context,
-    interrupted: bool,
-    holder: Module,
-    steps: &mut Steps<L>,
-) -> Result<Option<Stepped>, DeliverError>
-    requires returns { context.now.ra ≢ 0 }
-    requires inside { IsTrue (contains holder (address_asked context.now.ra interrupted)) }
-    ensures caller { result ≡ called image.now context.now (address_asked context.now.ra interrupted) (found_by holder.frame image.now (address_asked context.now.ra interrupted)) }
-    ensures unticked { steps.new.number ≡ steps.old.number }
-{
-    match framed(image, context, interrupted, holder, steps)? {
-        None => Ok(None),
-        Some(frame) => {
-            let caller = frame.unwind(image, context)?;
-            Ok(Some(Stepped {
-                context: caller,
-                signal: frame.is_signal_trampoline(),
-            }))
-        }
-    }
-}
-
-#[tactic(auto, unfolding(crate::specs::Stepping::step_of))]
-fn stepped<L: Ledger>(
-    space: &Space<'_>,
+/// The frame whose registers are `context`, `None` at the end of the stack.
+#[tactic(auto, unfolding(crate::specs::Passes::frame_of))]
+pub(crate) fn frame_at<'a, L: Ledger>(
+    space: &Space<'a>,
     context: &Context,
     interrupted: bool,
     steps: &mut Steps<L>,
-) -> Result<Option<Stepped>, DeliverError>
-    ensures exact { result ≡ step_of space.now context.now interrupted }
+) -> Result<Option<Frame<'a, Arch>>, DeliverError>
+    ensures frame { GivesFrameAt result (frame_of space.now context.now interrupted) }
     ensures apart { AreApart 0 space.now.modules }
     ensures unticked { steps.new.number ≡ steps.old.number }
 {
@@ -88,9 +66,40 @@ fn stepped<L: Ledger>(
     };
     match space.module_at(address) {
         Some(holder) if context.ra != 0 => {
-            in_module(space.image(), context, interrupted, holder, steps)
+            Ok(framed(space.image(), context, interrupted, holder, steps)?)
         }
         _ => Ok(None),
+    }
+}
+
+/// The caller of a frame.
+pub(crate) fn caller<'a>(
+    image: &MemoryImage<'a>,
+    frame: &Frame<'a, Arch>,
+    context: &Context,
+) -> Result<Stepped, DeliverError>
+    ensures { (f : FrameAt) → IsFrameOf frame.now f → result ≡ caller_by image.now context.now f }
+{
+    let caller = frame.unwind(image, context)?;
+    Ok(Stepped {
+        context: caller,
+        signal: frame.is_signal_trampoline(),
+    })
+}
+
+fn stepped<L: Ledger>(
+    space: &Space<'_>,
+    context: &Context,
+    interrupted: bool,
+    steps: &mut Steps<L>,
+) -> Result<Option<Stepped>, DeliverError>
+    ensures exact { result ≡ step_of space.now context.now interrupted }
+    ensures apart { AreApart 0 space.now.modules }
+    ensures unticked { steps.new.number ≡ steps.old.number }
+{
+    match frame_at(space, context, interrupted, steps)? {
+        None => Ok(None),
+        Some(frame) => Ok(Some(caller(space.image(), &frame, context)?)),
     }
 }
 

@@ -1,5 +1,5 @@
 -- What is delivered and walked of a snapshot whose tables describe a chain.
-use Rattle.std.proofs.Common.{◌≡◌, ℕ, ◌+◌, ◌<◌, Bool, true, false, List, [], ◌∷◌, ◌++◌, Option, Some, None, Result, Ok, Err, refl, ap, subst, ◌∙◌, arith, leb}
+use Rattle.std.proofs.Common.{◌≡◌, ℕ, suc, ◌+◌, ◌<◌, Bool, true, false, List, [], ◌∷◌, ◌++◌, length, Option, Some, None, Result, Ok, Err, refl, sym, ap, subst, ◌∙◌, arith, leb}
 use Rattle.std.specs.Prelude.{map, is_none, codes, if◌then◌else◌}
 use Rattle.std.specs.Option.{option_map, option_and_then}
 use Rattle.std.proofs.lemmas.Bool.Decides.{nat_tests}
@@ -16,14 +16,16 @@ use Rattle.stack_deliver.specs.Modules.{AreApart, lowest_shared, module_refusal,
 use Rattle.stack_deliver.specs.Delivering.{Delivered}
 use Rattle.stack_deliver.specs.declared.delivery.Trail.{Trail}
 use Rattle.stack_deliver.specs.Shown.{state_of, pair_of, landing_of, delivery_shown}
-use Rattle.stack_deliver.specs.Walking.{ShowsDelivery}
 use Rattle.stack_deliver.proofs.Apart.{with_apart}
 use Rattle.stack_deliver.proofs.Chains as chains
+use Rattle.stack_deliver.proofs.ContextLemmas.{IsWhole}
+use Rattle.stack_deliver.proofs.ChainDelivered.{DeliversChain}
+use Rattle.stack_deliver.proofs.ChainDelivered as delivered
 use Rattle.unwind_cli.specs.declared.errors.Field.{Field}
 use Rattle.unwind_cli.specs.declared.errors.Field.TheVariants as fields
 use Rattle.unwind_cli.specs.Content.{Content, takes_modules, modules_after, space_of}
-use Rattle.unwind_cli.specs.Fields.{word_or_zero_at}
-use Rattle.unwind_cli.specs.Snapshot.{◌>>=◌, needs, if_spaced, module_list, whole_numbers, regions_of, modules_of, start_of, resumes_of, limit_of, interrupted_of, snapshot_of}
+use Rattle.unwind_cli.specs.Fields.{word_at, word_or_zero_at}
+use Rattle.unwind_cli.specs.Snapshot.{◌>>=◌, needs, if_spaced, module_list, whole_numbers, regions_of, modules_of, registers_in, register_names, context_with, start_in, start_of, resumes_of, limit_of, interrupted_of, snapshot_of}
 use Rattle.unwind_cli.specs.Answers.{value_of, content_with, content_by, content_of}
 use Rattle.unwind_cli.specs.Described.{DescribesChain, DescribesWalk}
 use Rattle.unwind_cli.specs.Report.{state_line, pad_line, state_lines, pad_lines, handler_lines, delivery_text, frame_line, frame_lines, cleanup_line, cleanup_lines, landing_line, landing_lines, report_of, walk_report_of, walk_text}
@@ -98,13 +100,76 @@ content_apart bytes s is = go (value_of bytes) is
         said (Ok t) reads e = let same : t ≡ s = cc in apart_after [] s.modules tt (modules_taken d s (reads ∙ ap Ok same))
         said (Err f) reads e = absurd cc
 
+-- ---- a snapshot's start has sixteen registers
+
+registers_many : (keys : List (List ℕ)) (d : Data) (ws : List ℕ) → registers_in keys d ≡ Some ws → length ws ≡ length keys
+registers_many [] d ws e = let same : [] ≡ ws = cc in ap length (sym same)
+registers_many (key ∷ keys) d ws e = go (word_or_zero_at key d) (registers_in keys d) (λ vs reads. registers_many keys d vs reads) e
+  where
+    go : (w : Option ℕ) (o : Option (List ℕ)) → ((vs : List ℕ) → o ≡ Some vs → length vs ≡ length keys) → option_and_then (λ w. option_map (λ ws. w ∷ ws) o) w ≡ Some ws → length ws ≡ length (key ∷ keys)
+    go None o many e = absurd cc
+    go (Some w) None many e = absurd cc
+    go (Some w) (Some vs) many e =
+        let same : w ∷ vs ≡ ws = cc in
+        let count : length vs ≡ length keys = many vs refl in
+        ap length (sym same) ∙ ap suc count
+
+-- what a start is read from
+start_whole : (d : Data) (c : Context) → start_of d ≡ Some c → IsWhole c
+unfolding start_of
+start_whole d c reads = go (get (codes "start") d) reads
+  where
+    registered : (rip : ℕ) (e : Data) (o : Option (List ℕ)) → registers_in register_names e ≡ o → option_map (context_with rip) o ≡ Some c → IsWhole c
+    registered rip e None is h = absurd cc
+    registered rip e (Some ws) is h =
+        let same : context_with rip ws ≡ c = cc in
+        subst IsWhole same (registers_many register_names e ws is)
+
+    by_stack : (rip : ℕ) (e : Data) (o : Option ℕ) → option_and_then (λ rsp. option_map (context_with rip) (registers_in register_names e)) o ≡ Some c → IsWhole c
+    by_stack rip e None h = absurd cc
+    by_stack rip e (Some rsp) h = registered rip e (registers_in register_names e) refl h
+
+    by_address : (e : Data) (o : Option ℕ) → option_and_then (λ rip. option_and_then (λ rsp. option_map (context_with rip) (registers_in register_names e)) (word_at (codes "rsp") e)) o ≡ Some c → IsWhole c
+    by_address e None h = absurd cc
+    by_address e (Some rip) h = by_stack rip e (word_at (codes "rsp") e) h
+
+    go : (o : Option Data) → option_and_then start_in o ≡ Some c → IsWhole c
+    go None h = absurd cc
+    go (Some e) h = by_address e (word_at (codes "rip") e) h
+
+start_taken : (d : Data) (s : Content) → snapshot_of d ≡ Ok s → IsWhole s.start
+unfolding snapshot_of
+start_taken d s is =
+    let whole = bound (needs fields.Object (whole_numbers d)) _ s is in
+    let regions = bound (needs fields.Regions (regions_of d)) _ s whole.2 in
+    let modules = bound (needs fields.Modules (modules_of d)) _ s regions.2 in
+    let start = bound (needs fields.Start (start_of d)) _ s modules.2 in
+    let exception = bound (needs fields.Exception (word_or_zero_at (codes "exception") d)) _ s start.2 in
+    let class = bound (needs fields.Class (word_or_zero_at (codes "class") d)) _ s exception.2 in
+    let resumes = bound (needs fields.Resumes (resumes_of d)) _ s class.2 in
+    let limit = bound (needs fields.Limit (limit_of d)) _ s resumes.2 in
+    let interrupted = bound (needs fields.Interrupted (interrupted_of d)) _ s limit.2 in
+    let same : start.0 ≡ s.start = ap (λ (c : Content). c.start) (ok_same _ s interrupted.2) in
+    subst IsWhole same (start_whole d start.0 (needed fields.Start (start_of d) start.0 start.1))
+
+-- the start that bytes say has sixteen registers
+pub content_whole : (bytes : List ℕ) (s : Content) → content_of bytes ≡ Ok s → IsWhole s.start
+content_whole bytes s is = go (value_of bytes) is
+  where
+    go : (o : Option Data) → content_by o ≡ Ok s → IsWhole s.start
+    go None e = absurd cc
+    go (Some d) e = said (snapshot_of d) refl e
+      where
+        said : (r : Result Content Field) → snapshot_of d ≡ r → content_with r ≡ Ok s → IsWhole s.start
+        said (Ok t) reads e = let same : t ≡ s = cc in start_taken d s (reads ∙ ap Ok same)
+        said (Err f) reads e = absurd cc
+
 -- ---- what is delivered and walked
 
 -- What is delivered of a snapshot whose tables describe a chain is what the definition says of the chain.
-pub chain_delivered : (s : Content) (functions : List Function) (start : State) (calls : List Call) → AreApart 0 (space_of s).modules → DescribesChain s functions start calls →
-    (d : Delivered) × (delivery_from s ≡ Ok d) × ShowsDelivery d s.exception start calls
+pub chain_delivered : (s : Content) (functions : List Function) (start : State) (calls : List Call) → AreApart 0 (space_of s).modules → IsWhole s.start → DescribesChain s functions start calls → DeliversChain s.exception start calls (delivery_from s)
 unfolding delivery_from
-chain_delivered s functions start calls apart is = chains.chain_delivered (space_of s) s.start s.exception s.resumes s.limit functions start calls apart is
+chain_delivered s functions start calls apart whole is = delivered.chain_delivered (space_of s) s.start s.exception s.resumes s.limit functions start calls apart whole is
 
 -- The walk over it visits the chain's states.
 pub chain_walked : (s : Content) (functions : List Function) (start : State) (calls : List Call) → AreApart 0 (space_of s).modules → DescribesWalk s functions start calls →

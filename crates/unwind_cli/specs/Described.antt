@@ -3,13 +3,14 @@ use Rattle.std.specs.Prelude.{List, IsFalse}
 use Rattle.unwind_definitions.specs.State.{State}
 use Rattle.unwind_definitions.specs.Function.{Function}
 use Rattle.unwind_definitions.specs.Chain.{Call}
-use Rattle.stack_deliver.specs.Walking.{StartsChain, StartsPlainChain}
+use Rattle.stack_deliver.specs.Walking.{StartsChain, StartsValidChain}
 use Rattle.unwind_cli.specs.Content.{Content, space_of}
 
--- The snapshot's modules name frame tables of the forms that are read, which describe functions without language tables, and
--- its start shows the innermost state of a chain of calls over these that is shorter than its limit.
+-- The snapshot's modules name frame tables of the forms that are read, which describe functions, and its start shows the
+-- innermost state of a chain of calls over these that is shorter than its limit. Where a handler takes the exception, its
+-- resume table says where each frame inside the handler's goes on behind its cleanup.
 abbrev pub DescribesChain : Content → List Function → State → List Call → Type 0
-DescribesChain s functions start calls = StartsPlainChain (space_of s) s.start s.resumes s.limit functions start calls
+DescribesChain s functions start calls = StartsValidChain (space_of s) s.start s.resumes s.limit functions start calls
 
 -- The start stands behind a call and shows the innermost state of such a chain. Only the modules that the chain passes have
 -- to describe functions, which may have language tables.

@@ -31,6 +31,13 @@ abbrev pub is_plain_augmentation : List ℕ → Bool
 is_plain_augmentation (z ∷ r ∷ []) = (z == 0x7a) && (r == 0x52)
 is_plain_augmentation _ = false
 
+-- zR, zPR, zPLR
+abbrev pub is_emitted_augmentation : List ℕ → Bool
+is_emitted_augmentation (z ∷ p ∷ l ∷ r ∷ []) = (z == 0x7a) && (p == 0x50) && (l == 0x4c) && (r == 0x52)
+is_emitted_augmentation (z ∷ p ∷ r ∷ []) = (z == 0x7a) && (p == 0x50) && (r == 0x52)
+is_emitted_augmentation (z ∷ r ∷ []) = (z == 0x7a) && (r == 0x52)
+is_emitted_augmentation _ = false
+
 -- all forms
 abbrev pub whole : Forms
 whole = record {
@@ -41,8 +48,7 @@ whole = record {
   operation = λ op. nat_le op 0x16 || (op == 0x2e);
 }
 
--- The forms that compilers emit for functions without language tables, and that the readers take so far:
--- version 1, lengths of four bytes, augmentation zR, starts of four signed bytes relative to their place, and the
+-- The forms that compilers emit for functions without language tables: version 1, lengths of four bytes, augmentation zR, starts of four signed bytes relative to their place, and the
 -- instructions nop, the three advances with an operand, undefined, remember and restore of a state, and the
 -- definitions of the CFA by a register and an offset.
 abbrev pub plain : Forms
@@ -52,4 +58,15 @@ plain = record {
   augmentation = is_plain_augmentation;
   address = λ e. e == 0x1b;
   operation = is_among (0x00 ∷ 0x02 ∷ 0x03 ∷ 0x04 ∷ 0x07 ∷ 0x0a ∷ 0x0b ∷ 0x0c ∷ 0x0d ∷ 0x0e ∷ []);
+}
+
+-- The forms that the readers take so far: the same with a personality and a language table, and with pointers of all
+-- encodings.
+abbrev pub emitted : Forms
+emitted = record {
+  version = plain.version;
+  long_length = false;
+  augmentation = is_emitted_augmentation;
+  address = λ e. true;
+  operation = plain.operation;
 }

@@ -13,6 +13,7 @@ pub mod Entered
 pub mod Function
 pub mod DescribedRows
 pub mod LanguageTable
+pub mod LanguageSearch
 pub mod FrameTable
 pub mod Module
 pub mod Chain

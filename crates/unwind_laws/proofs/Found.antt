@@ -24,7 +24,7 @@ use Rattle.unwind_laws.specs.Undoes.{Undoes}
 use Rattle.unwind_laws.specs.Found.{FindsFunction}
 use Rattle.unwind_laws.proofs.Booleans.{both_true, either_true, here_or_later, none_in_nil, filter_contains, all_contains, first, tail_pairs, head_pairs}
 use Rattle.unwind_laws.proofs.Scanned.{scan_is}
-use Rattle.unwind_laws.proofs.Signal.{no_signal}
+use Rattle.unwind_laws.proofs.Signal.{no_signal, fde_read}
 use Rattle.unwind_laws.proofs.Undo.{body_undone, outermost_undone}
 
 pub ranges_inside : (ranges : List Range) (low high a : ℕ) → AreWithin low high ranges → list_any (in_range a) ranges ≡ true → (low ≤ a) × (a < high)
@@ -85,6 +85,7 @@ module _ (forms : Forms) (image : List Span) (m : Module) where
         found = is ∙ ap (λ (o : Option Fde). option_map_or (λ (x : Fde). ok x) o (Err NoUnwindInfoForAddress)) (found_first fdes fde a d.apart listed covers);
         covers = covers;
         no_signal = no_signal forms (bases_of m d.frame) (input_at image d.frame) 0 d.entries fde image d.frames.reads listed one.describes.code.cie;
+        read = fde_read forms (bases_of m d.frame) (input_at image d.frame) 0 d.entries fde d.frames.reads listed;
         describes = one.describes;
       }
     where

@@ -27,3 +27,7 @@ pub mod Relative
 pub mod WindowsEntered
 pub mod ByHeader
 pub mod SearchSites
+pub mod LanguageSites
+mod CutLanguage
+pub mod Letters
+pub mod Asked

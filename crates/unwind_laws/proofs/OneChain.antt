@@ -93,10 +93,10 @@ pub record SeenAlike (fs gs : List Frame) : Type 0 where
   pub trail : filter_map cleanup_of (before_first is_deciding fs) ≡ filter_map cleanup_of (before_first is_deciding gs)
   pub deciding : option_map view (find is_deciding fs) ≡ option_map view (find is_deciding gs)
 
-before_cons : {A : Type 0} (p : A → Bool) (x : A) (xs : List A) → p x ≡ false → before_first p (x ∷ xs) ≡ x ∷ before_first p xs
+pub before_cons : {A : Type 0} (p : A → Bool) (x : A) (xs : List A) → p x ≡ false → before_first p (x ∷ xs) ≡ x ∷ before_first p xs
 before_cons p x xs e = rw (e, one-add) refl
 
-before_now : {A : Type 0} (p : A → Bool) (x : A) (xs : List A) → p x ≡ true → before_first p (x ∷ xs) ≡ []
+pub before_now : {A : Type 0} (p : A → Bool) (x : A) (xs : List A) → p x ≡ true → before_first p (x ∷ xs) ≡ []
 before_now p x xs e = rw e refl
 
 same_cleanup : (f g : Frame) → f.state ≡ g.state → action_of_frame f ≡ action_of_frame g → cleanup_of f ≡ cleanup_of g

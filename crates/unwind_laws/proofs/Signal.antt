@@ -13,6 +13,7 @@ use Rattle.unwind_definitions.specs.Pointers.{Bases, encoding, pointer, direct, 
 use Rattle.unwind_definitions.specs.Entries.{Letters, letter, letters_from, no_letters, augmentation_data, Cie, Fde, Entry, ACie, AFde, Found, AreEntries, entry_at, entry_in, found_in, cie_at, cie_in, cie_body, fde_body, fde_data, sizes, return_column, body, address_encoding}
 use Rattle.unwind_definitions.specs.Scan.{fdes_of}
 use Rattle.unwind_definitions.specs.FrameTable.{IsEmittedAugmentation, IsEmittedCie}
+use Rattle.unwind_laws.specs.Found.{CieRead, FdeRead}
 use Rattle.unwind_laws.proofs.Booleans.{here_or_later, none_in_nil}
 
 -- what a reading that succeeded read first
@@ -61,6 +62,9 @@ augmentation_in {made} cie e = ap (λ (k : Cie). k.augmentation) (ok_same made c
 letters_in : {made : Cie} (cie : Cie) → ◌≡◌ {A = Result Cie Fault} (Ok made) (Ok cie) → cie.letters.signal ≡ made.letters.signal
 letters_in {made} cie e = sym (ap (λ (k : Cie). k.letters.signal) (ok_same made cie e))
 
+abbrev some_fde : Fde → Result Fde Fault
+some_fde k = Ok k
+
 module _ (forms : Forms) where
   of_cie : (bases : Bases) (o : ℕ) (c : Input) (cie : Cie) (image : List Span) → cie_body forms bases o c ≡ Ok cie → IsEmittedCie image cie → cie.letters.signal ≡ false
   of_cie bases o c cie image e emitted =
@@ -86,25 +90,20 @@ module _ (forms : Forms) where
       let f = bound (fde_data bases cie a.0.0 b.0.1) _ fde d.2 in
       sym (ap (λ (k : Fde). k.cie) (ok_same _ _ f.2))
 
-  pub record CieRead (bases : Bases) (cie : Cie) : Type 0 where
-    pub offset : ℕ
-    pub from : Input
-    pub is : cie_body forms bases offset from ≡ Ok cie
-
-  picked : (bases : Bases) (o : ℕ) (c : Input) (cie : Cie) (q : Bool) (e : Fault) → cond q (cie_body forms bases o c) (Err e) ≡ Ok cie → CieRead bases cie
+  picked : (bases : Bases) (o : ℕ) (c : Input) (cie : Cie) (q : Bool) (e : Fault) → cond q (cie_body forms bases o c) (Err e) ≡ Ok cie → CieRead forms bases cie
   picked bases o c cie true e h = record { offset = o; from = c; is = h }
   picked bases o c cie false e h = absurd cc
 
-  cie_read_in : (bases : Bases) (o : ℕ) (b : Option Input) (cie : Cie) → cie_in forms bases o b ≡ Ok cie → CieRead bases cie
+  cie_read_in : (bases : Bases) (o : ℕ) (b : Option Input) (cie : Cie) → cie_in forms bases o b ≡ Ok cie → CieRead forms bases cie
   cie_read_in bases o None cie e = absurd cc
   cie_read_in bases o (Some b) cie e = let a = bound (number w32 b) _ cie e in picked bases o a.0.1 cie (a.0.0 == 0) NotCie a.2
 
-  pub cie_read : (bases : Bases) (table : Input) (o : ℕ) (cie : Cie) → cie_at forms bases table o ≡ Ok cie → CieRead bases cie
+  pub cie_read : (bases : Bases) (table : Input) (o : ℕ) (cie : Cie) → cie_at forms bases table o ≡ Ok cie → CieRead forms bases cie
   cie_read bases table o cie e = let a = bound (body forms (skip o table)) _ cie e in cie_read_in bases o a.0.0 cie a.2
 
   -- what an entry that is a frame description says of its common description
   behind_id : (bases : Bases) (table : Input) (o id : ℕ) (b c : Input) (fde : Fde) (q q' : Bool) (e : Fault) →
-      cond q (cie_body forms bases o c >>= λ cie. Ok (ACie cie)) (cond q' (Err e) (cie_at forms bases table (b.offset - id) >>= λ cie. fde_body forms bases cie o c >>= λ k. Ok (AFde k))) ≡ Ok (AFde fde) → CieRead bases fde.cie
+      cond q (cie_body forms bases o c >>= λ cie. Ok (ACie cie)) (cond q' (Err e) (cie_at forms bases table (b.offset - id) >>= λ cie. fde_body forms bases cie o c >>= λ k. Ok (AFde k))) ≡ Ok (AFde fde) → FdeRead forms bases fde
   behind_id bases table o id b c fde true q' e h = let a = bound (cie_body forms bases o c) _ (AFde fde) h in absurd cc
   behind_id bases table o id b c fde false true e h = absurd cc
   behind_id bases table o id b c fde false false e h =
@@ -112,9 +111,14 @@ module _ (forms : Forms) where
       let d = bound (fde_body forms bases a.0 o c) (λ k. Ok (AFde k)) (AFde fde) a.2 in
       let same : d.0 ≡ fde = cc in
       let is : fde.cie ≡ a.0 = ap (λ (k : Fde). k.cie) (sym same) ∙ of_fde bases a.0 o c d.0 d.1 in
-      subst (CieRead bases) (sym is) (cie_read bases table (b.offset - id) a.0 a.1)
+      record {
+        common = subst (CieRead forms bases) (sym is) (cie_read bases table (b.offset - id) a.0 a.1);
+        offset = o;
+        from = c;
+        is = ap (λ (k : Cie). fde_body forms bases k o c) is ∙ d.1 ∙ ap (λ (k : Fde). some_fde k) same;
+      }
 
-  fde_read_in : (bases : Bases) (table : Input) (o : ℕ) (b : Input) (fde : Fde) → entry_in forms bases table o b ≡ Ok (AFde fde) → CieRead bases fde.cie
+  fde_read_in : (bases : Bases) (table : Input) (o : ℕ) (b : Input) (fde : Fde) → entry_in forms bases table o b ≡ Ok (AFde fde) → FdeRead forms bases fde
   fde_read_in bases table o b fde e = let a = bound (number w32 b) _ (AFde fde) e in behind_id bases table o a.0.0 b a.0.1 fde (a.0.0 == 0) (ltb b.offset a.0.0) NotCie a.2
 
   entry_same : (k k' : Entry) (n n' : ℕ) → ◌≡◌ {A = Result (Option Found) Fault} (Ok (Some (record { entry = k; next = n }))) (Ok (Some (record { entry = k'; next = n' }))) → k ≡ k'
@@ -124,25 +128,25 @@ module _ (forms : Forms) where
       let same : a ≡ b = cc in
       ap (λ (q : Found). q.entry) same
 
-  fde_read_at : (bases : Bases) (table : Input) (o : ℕ) (b : Option Input) (n next : ℕ) (fde : Fde) → found_in forms bases table o b n ≡ Ok (Some (record { entry = AFde fde; next = next })) → CieRead bases fde.cie
+  fde_read_at : (bases : Bases) (table : Input) (o : ℕ) (b : Option Input) (n next : ℕ) (fde : Fde) → found_in forms bases table o b n ≡ Ok (Some (record { entry = AFde fde; next = next })) → FdeRead forms bases fde
   fde_read_at bases table o None n next fde e = absurd cc
   fde_read_at bases table o (Some b) n next fde e =
       let a = bound (entry_in forms bases table o b) (λ k. Ok (Some (record { entry = k; next = n }))) (Some (record { entry = AFde fde; next = next })) e in
       let same : a.0 ≡ AFde fde = entry_same a.0 (AFde fde) n next a.2 in
       fde_read_in bases table o b fde (a.1 ∙ ap (λ (k : Entry). Ok k) same)
 
-  one_read : (bases : Bases) (table : Input) (o next : ℕ) (fde : Fde) → entry_at forms bases table o ≡ Ok (Some (record { entry = AFde fde; next = next })) → CieRead bases fde.cie
+  one_read : (bases : Bases) (table : Input) (o next : ℕ) (fde : Fde) → entry_at forms bases table o ≡ Ok (Some (record { entry = AFde fde; next = next })) → FdeRead forms bases fde
   unfolding entry_at
   one_read bases table o next fde e = let a = bound (body forms (skip o table)) _ (Some (record { entry = AFde fde; next = next })) e in fde_read_at bases table o a.0.0 _ next fde a.2
 
-  pub fde_read : (bases : Bases) (table : Input) (o : ℕ) (entries : List Entry) (fde : Fde) → AreEntries forms bases table o entries → Contains (fdes_of entries) fde → CieRead bases fde.cie
+  pub fde_read : (bases : Bases) (table : Input) (o : ℕ) (entries : List Entry) (fde : Fde) → AreEntries forms bases table o entries → Contains (fdes_of entries) fde → FdeRead forms bases fde
   fde_read bases table o [] fde reads has = absurd (none_in_nil fde has)
   fde_read bases table o (ACie cie ∷ es) fde reads has = fde_read bases table reads.0 es fde reads.2 has
   fde_read bases table o (AFde g ∷ es) fde reads has = elim (here_or_later g (fdes_of es) fde has) [
-    | inl same ↦ subst (λ (k : Fde). CieRead bases k.cie) same (one_read bases table o reads.0 g reads.1)
+    | inl same ↦ subst (λ (k : Fde). FdeRead forms bases k) same (one_read bases table o reads.0 g reads.1)
     | inr later ↦ fde_read bases table reads.0 es fde reads.2 later
   ]
 
   -- a description of emitted form is of no signal's frame
   pub no_signal : (bases : Bases) (table : Input) (o : ℕ) (entries : List Entry) (fde : Fde) (image : List Span) → AreEntries forms bases table o entries → Contains (fdes_of entries) fde → IsEmittedCie image fde.cie → fde.cie.letters.signal ≡ false
-  no_signal bases table o entries fde image reads has emitted = let r = fde_read bases table o entries fde reads has in of_cie bases r.offset r.from fde.cie image r.is emitted
+  no_signal bases table o entries fde image reads has emitted = let r = fde_read bases table o entries fde reads has in of_cie bases r.common.offset r.common.from fde.cie image r.common.is emitted

@@ -4,7 +4,7 @@ use Rattle.std.specs.Prelude.{IsTrue, IsFalse, ◌≢◌}
 use Rattle.std.specs.List.{Contains, AllByRecursion, list_any}
 use Rattle.std.proofs.lemmas.Bool.{leb-true, ltb-true, cases_lt}
 use Rattle.memory_image.specs.Image.{word_at}
-use Rattle.unwind_definitions.specs.Forms.{Forms, whole, plain}
+use Rattle.unwind_definitions.specs.Forms.{Forms, whole, plain, emitted as emitted_forms}
 use Rattle.unwind_definitions.specs.Instructions.{program, instruction_of}
 use Rattle.unwind_definitions.specs.Entries.{Fde, coding_of, AreEntries, entry_at}
 use Rattle.unwind_definitions.specs.Row.{row_at, rule_of}
@@ -68,6 +68,26 @@ reads_whole = record {
 pub reads_plain : Reads plain
 unfolding entry_at row_at instruction_of
 reads_plain = record {
+  listed = (24, refl, (48, refl, (80, refl, refl)));
+  at_storing = refl;
+  at_allocated = refl;
+  at_stored = refl;
+  at_framed = refl;
+  at_pushed = refl;
+  at_set = refl;
+  at_body = refl;
+  stay_storing = refl;
+  stay_allocated = refl;
+  stay_stored = refl;
+  stay_framed = refl;
+  stay_pushed = refl;
+  stay_set = refl;
+  stay_body = refl;
+}
+
+pub reads_emitted : Reads emitted_forms
+unfolding entry_at row_at instruction_of
+reads_emitted = record {
   listed = (24, refl, (48, refl, (80, refl, refl)));
   at_storing = refl;
   at_allocated = refl;
@@ -228,8 +248,8 @@ module _ (forms : Forms) (reads : Reads forms) where
     outermost = λ outer pc h. absurd cc;
   }
 
-  emitted : IsEmittedCie image cie
-  emitted = record { version = refl; code_factor = refl; data_factor = refl; return_column = refl; augmentation = inl refl; address = refl; language = inl refl; personality = tt; program = (2, refl) }
+  emitted_cie : IsEmittedCie image cie
+  emitted_cie = record { version = refl; code_factor = refl; data_factor = refl; return_column = refl; augmentation = inl refl; address = refl; language = inl refl; personality = tt; program = (2, refl) }
 
   each_fde : (P : Fde → Type 0) → P storing_fde → P framed_fde → (f : Fde) → Contains (storing_fde ∷ framed_fde ∷ []) f → P f
   each_fde P a b f h = elim (here_or_later storing_fde (framed_fde ∷ []) f h) [
@@ -242,8 +262,8 @@ module _ (forms : Forms) (reads : Reads forms) where
     reads = reads.listed;
     lengths = ((20, _, refl, lit< tt), ((20, _, refl, lit< tt), ((28, _, refl, lit< tt), tt)));
     each = (
-      record { fde = storing_fde; one = refl; describes = record { code = record { cie = emitted; earlier = lit< tt; start = refl; end = refl; rows = storing_rows }; language = refl } },
-      (record { fde = framed_fde; one = refl; describes = record { code = record { cie = emitted; earlier = lit< tt; start = refl; end = refl; rows = framed_rows }; language = refl } }, tt),
+      record { fde = storing_fde; one = refl; describes = record { code = record { cie = emitted_cie; earlier = lit< tt; start = refl; end = refl; rows = storing_rows }; language = refl } },
+      (record { fde = framed_fde; one = refl; describes = record { code = record { cie = emitted_cie; earlier = lit< tt; start = refl; end = refl; rows = framed_rows }; language = refl } }, tt),
     );
     foreign = each_fde (λ fde. IsFalse (list_any (λ f. has_range_of f fde) functions) → AllByRecursion (MeetsNot fde) functions) (λ none. absurd cc) (λ none. absurd cc);
   }

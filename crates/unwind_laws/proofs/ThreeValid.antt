@@ -23,10 +23,10 @@ use Rattle.unwind_laws.proofs.RowFacts.{by_register, state_fits}
 use Rattle.unwind_laws.proofs.PushingValid.{columns_show}
 use Rattle.unwind_laws.proofs.ThreeRows.{rows_a, rows_b, rows_c}
 
-abbrev sites_b : List Site
+abbrev pub sites_b : List Site
 sites_b = record { range = record { from = 0x401028; to = 0x401038 }; action = Cleanup 0x401040 } ∷ record { range = record { from = 0x401040; to = 0x401050 }; action = NoAction } ∷ []
 
-abbrev sites_c : List Site
+abbrev pub sites_c : List Site
 sites_c = record { range = record { from = 0x401058; to = 0x401068 }; action = Catch 0x401070 } ∷ []
 
 -- ---- the functions
@@ -85,10 +85,10 @@ each_fde P a b c f h = elim (here_or_later fde_a (fde_b ∷ fde_c ∷ []) f h) [
 ]
 
 module _ (b : ℕ) (more : List Span) where
-  language_b : IsLanguageTable (image b more) 0x502000 0x401020 sites_b
+  pub language_b : IsLanguageTable (image b more) 0x502000 0x401020 sites_b
   language_b = record { nonzero = λ e. absurd cc; size = 8; behind = _; header = refl; listed = _; actions = _; parts = refl; each = (_, refl, (_, refl, refl)) }
 
-  language_c : IsLanguageTable (image b more) 0x50200c 0x401050 sites_c
+  pub language_c : IsLanguageTable (image b more) 0x50200c 0x401050 sites_c
   language_c = record { nonzero = λ e. absurd cc; size = 4; behind = _; header = refl; listed = _; actions = _; parts = refl; each = (_, refl, refl) }
 
   emitted_language : IsEmittedCie (image b more) cie_language

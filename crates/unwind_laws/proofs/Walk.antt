@@ -60,6 +60,7 @@ module _ (forms : Forms) (p : Process) where
         fde = x.finds.fde;
         found = x.finds.found;
         no_signal = x.finds.no_signal;
+        read = x.finds.read;
         describes = x.finds.describes;
         run = u.run;
         has_row = u.has_row;

@@ -179,3 +179,11 @@ header_image = image 0x60 (record { start = 0x504000; bytes = header } ∷ [])
 
 abbrev pub header_process : Process
 header_process = record { image = header_image; modules = module_with_header ∷ [] }
+
+-- ---- the third function's language table with an action table that is cut inside its number
+
+abbrev pub cut_language : List ℕ
+cut_language = 0xff ∷ 0x9b ∷ 0x0c ∷ 0x01 ∷ 0x04 ∷ 0x08 ∷ 0x10 ∷ 0x20 ∷ 0x01 ∷ 0x81 ∷ []
+
+abbrev pub cut_image : List Span
+cut_image = record { start = 0x50200c; bytes = cut_language } ∷ []

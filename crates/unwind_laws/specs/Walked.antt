@@ -17,6 +17,7 @@ use Rattle.unwind_definitions.specs.Chain.{Call, IsEnd}
 use Rattle.unwind_definitions.specs.Valid.{LiesDescribed}
 use Rattle.unwind_definitions.specs.Stopped.{StandsAfter}
 use Rattle.unwind_laws.specs.Undoes.{Undoes}
+use Rattle.unwind_laws.specs.Found.{FdeRead}
 
 module _ (forms : Forms) (p : Process) where
   -- For an address, the module that it lies in has a frame table, where a scan finds a function's description, which has a row.
@@ -29,6 +30,7 @@ module _ (forms : Forms) (p : Process) where
     pub fde : Fde
     pub found : scan forms (bases_of home frame) (input_at p.image frame) a ≡ Ok fde
     pub no_signal : fde.cie.letters.signal ≡ false
+    pub read : FdeRead forms (bases_of home frame) fde
     pub describes : DescribesFunction forms p.image (bases_of home frame) f fde
     pub run : Run
     pub has_row : row_at forms (bases_of home frame) fde a ≡ Ok run

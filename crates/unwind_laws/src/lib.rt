@@ -24,11 +24,13 @@ pub use rows::{
 };
 pub use samples::{
     calls_are_caught, calls_by_a_header_are_caught, calls_of_an_outermost_function_are_valid,
-    calls_through_a_frame_pointer_are_valid, one_call_is_valid, other_slot_is_no_entering,
+    calls_through_a_frame_pointer_are_valid, cut_language_table_describes_nothing,
+    language_tables_ask, one_call_is_valid, other_slot_is_no_entering,
     state_stands_inside_a_prologue, three_calls_are_valid, unlisted_call_ends_the_program,
     windows_function_is_entered,
 };
 pub use tables::{
-    function_is_found, header_table_answers_as_a_scan, scan_finds_first, site_search_finds_action,
+    described_function_asks, described_language_table_asks, function_is_found,
+    header_table_answers_as_a_scan, letters_are_told, scan_finds_first, site_search_finds_action,
     uncovered_is_not_found,
 };

@@ -1,10 +1,15 @@
 //! Processes that are valid, byte for byte, and what is delivered there.
 
-ghost use Rattle.std.specs.Prelude.{◌≡◌, ◌-◌, ◌<◌, ℕ, [], ◌∷◌, false};
-ghost use Rattle.unwind_definitions.specs.Forms.{whole, plain};
+ghost use Rattle.std.specs.Prelude.{◌≡◌, ◌-◌, ◌<◌, ℕ, List, [], ◌∷◌, Some, Ok, Err, false};
+ghost use Rattle.unwind_definitions.specs.Forms.{emitted, plain, whole};
 ghost use Rattle.unwind_definitions.specs.Prologue.{Windows, steps_of};
 ghost use Rattle.unwind_definitions.specs.Entered.{IsEntered, stack_after};
-ghost use Rattle.unwind_definitions.specs.Function.{Terminate, IsFunction, action_at};
+ghost use Rattle.unwind_definitions.specs.declared.error.Error.TheVariants.{UnexpectedEof};
+ghost use Rattle.unwind_definitions.specs.Pointers.{Bases, Direct};
+ghost use Rattle.unwind_definitions.specs.Function.{Site, Cleanup, Catch, Terminate, IsFunction, action_at};
+ghost use Rattle.unwind_definitions.specs.LanguageTable.{input_at, IsLanguageTable, LeadsToLanguage};
+ghost use Rattle.unwind_definitions.specs.LanguageSearch.{search};
+ghost use Rattle.unwind_definitions.specs.Caller.{Table};
 ghost use Rattle.unwind_definitions.specs.Module.{IsProcess};
 ghost use Rattle.unwind_definitions.specs.Delivery.{delivery_of};
 ghost use Rattle.unwind_definitions.specs.Valid.{IsValid};
@@ -21,6 +26,7 @@ pub fn one_call_is_valid()
     ensures process { IsProcess pushing.process }
     ensures whole { IsValid whole pushing.process (columns_of pushing.start) [] (pushing.function ∷ []) pushing.start pushing.calls }
     ensures plain { IsValid plain pushing.process (columns_of pushing.start) [] (pushing.function ∷ []) pushing.start pushing.calls }
+    ensures emitted { IsValid emitted pushing.process (columns_of pushing.start) [] (pushing.function ∷ []) pushing.start pushing.calls }
     ensures delivery { delivery_of 0 pushing.start pushing.calls ≡ pushing.delivery }
 {}
 
@@ -34,6 +40,7 @@ pub fn three_calls_are_valid()
     ensures process { IsProcess pushing.process_of_three }
     ensures whole { IsValid whole pushing.process_of_three (columns_of pushing.start) [] (pushing.function ∷ []) pushing.start pushing.calls_of_three }
     ensures plain { IsValid plain pushing.process_of_three (columns_of pushing.start) [] (pushing.function ∷ []) pushing.start pushing.calls_of_three }
+    ensures emitted { IsValid emitted pushing.process_of_three (columns_of pushing.start) [] (pushing.function ∷ []) pushing.start pushing.calls_of_three }
     ensures delivery { delivery_of 0 pushing.start pushing.calls_of_three ≡ pushing.delivery_of_three }
 {}
 
@@ -43,6 +50,7 @@ pub fn calls_of_an_outermost_function_are_valid()
     ensures process { IsProcess returning.process }
     ensures whole { IsValid whole returning.process (columns_of returning.start) [] returning.functions returning.start returning.calls }
     ensures plain { IsValid plain returning.process (columns_of returning.start) [] returning.functions returning.start returning.calls }
+    ensures emitted { IsValid emitted returning.process (columns_of returning.start) [] returning.functions returning.start returning.calls }
     ensures delivery { delivery_of 0 returning.start returning.calls ≡ returning.delivery }
 {}
 
@@ -57,6 +65,7 @@ pub fn calls_through_a_frame_pointer_are_valid()
     ensures process { IsProcess storing.process }
     ensures whole { IsValid whole storing.process (columns_of storing.start) [] storing.functions storing.start storing.calls }
     ensures plain { IsValid plain storing.process (columns_of storing.start) [] storing.functions storing.start storing.calls }
+    ensures emitted { IsValid emitted storing.process (columns_of storing.start) [] storing.functions storing.start storing.calls }
     ensures lower { storing.caller.sp < stack_after (storing.last.sp - 8) (steps_of storing.framed.prologue) }
     ensures delivery { delivery_of 0 storing.start storing.calls ≡ storing.delivery }
 {}
@@ -79,6 +88,24 @@ pub fn unlisted_call_ends_the_program()
     ensures whole { IsValid whole three.unlisted_process (columns_of three.start) three.resumes three.functions three.start three.unlisted_calls }
     ensures action { action_at three.fc (0x401070 - 1) ≡ Terminate }
     ensures delivery { delivery_of three.exception three.start three.unlisted_calls ≡ three.unlisted_delivery }
+{}
+
+/// The language tables of these functions describe their sites. At the calls of the second and the
+/// third function they ask for a cleanup and for a handler, and at a call that no site holds the
+/// program ends.
+pub fn language_tables_ask()
+    ensures second { LeadsToLanguage three.process.image three.fb (Some (Direct 0x502000)) }
+    ensures third { LeadsToLanguage three.process.image three.fc (Some (Direct 0x50200c)) }
+    ensures cleanup { (bases : Bases) → search three.process.image bases three.fb.start (0x401030 - 1) (input_at three.process.image 0x502000) ≡ Ok (Cleanup 0x401040) }
+    ensures handler { (bases : Bases) → search three.process.image bases three.fc.start (0x401060 - 1) (input_at three.process.image 0x50200c) ≡ Ok (Catch 0x401070) }
+    ensures unlisted { (bases : Bases) → search three.process.image bases three.fc.start (0x401070 - 1) (input_at three.process.image 0x50200c) ≡ Ok Terminate }
+{}
+
+/// A language table whose action table is cut inside a number describes no sites, and at a call in
+/// the site that names this number it can't be read.
+pub fn cut_language_table_describes_nothing()
+    ensures undescribed { (sites : List Site) → IsLanguageTable three.cut_image 0x50200c three.fc.start sites → ⊥ }
+    ensures unread { (bases : Bases) → search three.cut_image bases three.fc.start (0x401060 - 1) (input_at three.cut_image 0x50200c) ≡ Err (Table UnexpectedEof) }
 {}
 
 /// A function under the rules of Windows, whose chained record tells of its first two steps, sets RBP

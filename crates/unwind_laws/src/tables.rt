@@ -1,19 +1,31 @@
 //! What is found in a frame table.
 
-ghost use Rattle.std.specs.Prelude.{◌≡◌, ℕ, ◌<◌, ◌≤◌, List, Ok, Err};
+ghost use Rattle.std.specs.Prelude.{◌≡◌, ℕ, ◌<◌, ◌≤◌, ◌^◌, List, ◌∷◌, Some, Ok, Err, is_some};
 ghost use Rattle.std.specs.List.{Contains};
 ghost use Rattle.memory_image.specs.Image.{Span};
-ghost use Rattle.unwind_definitions.specs.Forms.{Forms};
+ghost use Rattle.unwind_definitions.specs.Forms.{Forms, is_among};
 ghost use Rattle.unwind_definitions.specs.Input.{Input};
 ghost use Rattle.unwind_definitions.specs.Pointers.{Bases};
-ghost use Rattle.unwind_definitions.specs.Entries.{Entry, AreEntries};
+ghost use Rattle.unwind_definitions.specs.Entries.{Entry, Letters, AreEntries, augmentation_data};
 ghost use Rattle.unwind_definitions.specs.Scan.{fdes_of, scan};
-ghost use Rattle.unwind_definitions.specs.Function.{Function, Site, AreSitesOf, action_among};
-ghost use Rattle.unwind_definitions.specs.LanguageTable.{input_at};
+ghost use Rattle.unwind_definitions.specs.Prologue.{SystemV};
+ghost use Rattle.unwind_definitions.specs.Function.{Function, IsFunction, Site, AreSitesOf, action_among, action_at};
+ghost use Rattle.unwind_definitions.specs.LanguageTable.{input_at, IsLanguageTable};
+ghost use Rattle.unwind_definitions.specs.LanguageSearch.{search};
 ghost use Rattle.unwind_definitions.specs.Module.{Module, IsHeaderTable, DescribesModule, CoversNot, bases_of};
 ghost use Rattle.unwind_laws.specs.ByHeader.{BoundaryAnswers};
 ghost use Rattle.unwind_laws.specs.Searched.{searched};
-ghost use Rattle.unwind_laws.specs.Found.{found_among, nothing_found, FindsFunction};
+ghost use Rattle.unwind_laws.specs.Found.{found_among, nothing_found, AsksAs, FindsFunction};
+
+/// An augmentation of a `z` and letters names a personality exactly where `P` is among them, how the
+/// pointers to language tables are encoded exactly where `L` is, how addresses are encoded exactly
+/// where `R` is, and a signal's frame exactly where `S` is.
+pub fn letters_are_told()
+    ensures personality { (bases : Bases) (z : ℕ) (ls : List ℕ) (c d : Input) (found : Letters) → augmentation_data bases (z ∷ ls) c ≡ Ok (found, d) → is_some found.personality ≡ is_among ls 0x50 }
+    ensures language { (bases : Bases) (z : ℕ) (ls : List ℕ) (c d : Input) (found : Letters) → augmentation_data bases (z ∷ ls) c ≡ Ok (found, d) → is_some found.language ≡ is_among ls 0x4c }
+    ensures address { (bases : Bases) (z : ℕ) (ls : List ℕ) (c d : Input) (found : Letters) → augmentation_data bases (z ∷ ls) c ≡ Ok (found, d) → is_some found.address ≡ is_among ls 0x52 }
+    ensures signal { (bases : Bases) (z : ℕ) (ls : List ℕ) (c d : Input) (found : Letters) → augmentation_data bases (z ∷ ls) c ≡ Ok (found, d) → found.signal ≡ is_among ls 0x53 }
+{}
 
 /// A scan of a table whose entries all read answers the first description that contains the
 /// address, or that there is none.
@@ -46,4 +58,17 @@ pub fn header_table_answers_as_a_scan()
 /// begins past it, finds the action of the site that holds the address.
 pub fn site_search_finds_action()
     ensures { (f : Function) (sites : List Site) (a : ℕ) → AreSitesOf f sites → searched sites a ≡ action_among sites a }
+{}
+
+/// A search of a language table that describes a function's sites, on its bytes, finds the action of
+/// the site that holds the address, and that the program ends where none does.
+pub fn described_language_table_asks()
+    ensures { (image : List Span) (bases : Bases) (f : Function) (table a : ℕ) (sites : List Site) → f.sites ≡ Some sites → AreSitesOf f sites → f.end < 2 ^ 64 → IsLanguageTable image table f.start sites →
+        search image bases f.start a (input_at image table) ≡ Ok (action_at f a) }
+{}
+
+/// The description that is found for a described function asks what the function does: it names a
+/// personality where the function has a language table, and the table gives its actions.
+pub fn described_function_asks()
+    ensures { (forms : Forms) (image : List Span) (m : Module) (frame : ℕ) (f : Function) (a : ℕ) → IsFunction SystemV f → (finds : FindsFunction forms image m frame f a) → AsksAs image (bases_of m frame) f finds.fde }
 {}

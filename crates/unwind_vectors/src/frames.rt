@@ -25,7 +25,7 @@ const VECTOR: &str = "140000001c000000e00ff0ff200000000091020000000000000000";
 
 // What names one frame table for every address.
 #[derive(Drop)]
-struct Named(FrameInfo);
+pub(crate) struct Named(pub(crate) FrameInfo);
 
 impl EhFrameFinder for Named {
     ghost use Rattle.std.specs.Prelude.{◌≡◌, Some};

@@ -5,6 +5,8 @@
 #[cfg(test)]
 mod frames;
 #[cfg(test)]
+mod languages;
+#[cfg(test)]
 mod macho;
 #[cfg(test)]
 mod macho_linked;

@@ -1,5 +1,5 @@
 -- The caller's columns before any rule is applied.
-use Rattle.std.proofs.Common.{inl, inr, ◌≡◌, ◌≢◌, ℕ, Option, Some, None, true, false, refl, ◌∙◌}
+use Rattle.std.proofs.Common.{inl, inr, ◌≡◌, ◌≢◌, ℕ, Option, Some, None, true, false, ◌∙◌}
 use Rattle.std.specs.Prelude.{is_some, IsSome, OnSome}
 use Rattle.std.proofs.lemmas.Bool.Decides.{eqb_tells}
 use Rattle.unwind_definitions.specs.Caller.{Columns, unruled}

@@ -1,10 +1,10 @@
 -- A description that a search finds contains the address.
-use Rattle.std.proofs.Common.{◌≡◌, ℕ, zero, suc, Bool, true, false, List, Option, Some, None, Result, Ok, Err, refl, sym, ap, subst, ◌∙◌, cond}
+use Rattle.std.proofs.Common.{◌≡◌, ℕ, zero, suc, Bool, true, false, List, Option, Some, None, Result, Ok, Err, refl, sym, subst, cond}
 use Rattle.std.specs.Prelude.{IsTrue, length}
 use Rattle.memory_image.specs.Image.{Span}
 use Rattle.unwind_definitions.specs.declared.error.Error.{Error as Fault}
 use Rattle.unwind_definitions.specs.Faults.{◌>>=◌}
-use Rattle.unwind_definitions.specs.Forms.{Forms, plain}
+use Rattle.unwind_definitions.specs.Forms.{Forms, emitted}
 use Rattle.unwind_definitions.specs.Input.{Input}
 use Rattle.unwind_definitions.specs.LanguageTable.{input_at}
 use Rattle.unwind_definitions.specs.Pointers.{Bases}
@@ -14,7 +14,7 @@ use Rattle.unwind_definitions.specs.Scan.{scan, scan_from, scan_after, found_or}
 use Rattle.unwinding_core.specs.declared.find_fde.custom.FrameInfo.{FrameInfo}
 use Rattle.unwinding_core.specs.declared.find_fde.custom.FrameInfoKind.{FrameInfoKind}
 use Rattle.unwinding_core.specs.declared.find_fde.custom.FrameInfoKind.TheVariants.{EhFrame, EhFrameHdr}
-use Rattle.unwinding_core.specs.Finding.{FoundFde, found_in, table_bases, scanned}
+use Rattle.unwinding_core.specs.Finding.{FoundFde, found_in, table_bases}
 use Rattle.unwinding_core.specs.Named.{found_by_kind, found_named, FindsBy}
 
 module _ (forms : Forms) (bases : Bases) (table : Input) (pc : ℕ) (fde : Fde) where
@@ -40,14 +40,14 @@ module _ (forms : Forms) (bases : Bases) (table : Input) (pc : ℕ) (fde : Fde) 
   unfolding scan
   scan-covers e = covers_from (suc (length table.bytes)) 0 e
 
-in_found : (bases : Bases) (table : Input) (pc : ℕ) (found : FoundFde) (r : Result Fde Fault) → scan plain bases table pc ≡ r → found_in bases table r ≡ Some found → IsTrue (covers_pc found.fde pc)
+in_found : (bases : Bases) (table : Input) (pc : ℕ) (found : FoundFde) (r : Result Fde Fault) → scan emitted bases table pc ≡ r → found_in bases table r ≡ Some found → IsTrue (covers_pc found.fde pc)
 in_found bases table pc found (Ok fde) is e =
     let same : fde ≡ found.fde = cc in
-    subst (λ (f : Fde). IsTrue (covers_pc f pc)) same (scan-covers plain bases table pc fde is)
+    subst (λ (f : Fde). IsTrue (covers_pc f pc)) same (scan-covers emitted bases table pc fde is)
 in_found bases table pc found (Err x) is e = absurd cc
 
 by_kind : (text : Option ℕ) (kind : FrameInfoKind) (image : List Span) (pc : ℕ) (found : FoundFde) → found_by_kind text kind image pc ≡ Some found → IsTrue (covers_pc found.fde pc)
-by_kind text (EhFrame frame) image pc found e = in_found (table_bases text frame) (input_at image frame) pc found (scan plain (table_bases text frame) (input_at image frame) pc) refl e
+by_kind text (EhFrame frame) image pc found e = in_found (table_bases text frame) (input_at image frame) pc found (scan emitted (table_bases text frame) (input_at image frame) pc) refl e
 by_kind text (EhFrameHdr header) image pc found e = absurd cc
 
 by_name : (info : Option FrameInfo) (image : List Span) (pc : ℕ) (found : FoundFde) → found_named info image pc ≡ Some found → IsTrue (covers_pc found.fde pc)

@@ -1,8 +1,8 @@
 -- What a search for the description of a function answers. DWARF 5 section 6.4.1; LSB, section on .eh_frame.
-use Rattle.std.specs.Prelude.{ℕ, List, Option, Some, None, Result, Ok, Err, is_ok}
+use Rattle.std.specs.Prelude.{ℕ, List, Option, Some, None, Result, Ok, Err}
 use Rattle.memory_image.specs.Image.{Span}
 use Rattle.unwind_definitions.specs.declared.error.Error.{Error as Fault}
-use Rattle.unwind_definitions.specs.Forms.{plain}
+use Rattle.unwind_definitions.specs.Forms.{emitted}
 use Rattle.unwind_definitions.specs.Input.{Input}
 use Rattle.unwind_definitions.specs.LanguageTable.{input_at}
 use Rattle.unwind_definitions.specs.Module.{no_bases}
@@ -26,4 +26,4 @@ found_in bases table (Err e) = None
 
 -- by a scan of the frame table at an address: its first description that contains pc, unless an entry before it can't be read
 abbrev pub scanned : Option ℕ → List Span → ℕ → ℕ → Option FoundFde
-scanned text image frame pc = found_in (table_bases text frame) (input_at image frame) (scan plain (table_bases text frame) (input_at image frame) pc)
+scanned text image frame pc = found_in (table_bases text frame) (input_at image frame) (scan emitted (table_bases text frame) (input_at image frame) pc)

@@ -5,3 +5,7 @@ pub mod Covering
 pub mod Calling
 pub mod FrameValue
 pub mod Framed
+pub mod Languages
+pub mod Actions
+pub mod Columns
+pub mod Personalities

@@ -4,18 +4,21 @@
 ghost use Rattle.std.specs.Prelude.{◌≡◌, ◌≢◌, ◌+◌, ◌%◌, ◌^◌, ℕ, Option, Some, None, Ok, IfOk, map, IfSome, IsTrue};
 ghost use Rattle.std.specs.Option.{unwrap_or};
 ghost use Rattle.unwind_definitions.specs.Row.{Run, covers_pc};
+ghost use Rattle.unwind_definitions.specs.LanguageSearch.{language_address, personality_address, target};
 ghost use Rattle.unwind_definitions.specs.Caller.{caller_of, rule_value, cfa_value, word_or_fault, held, unruled};
 ghost use Rattle.frame_rows.specs.Rules.{rule_meaning, cfa_meaning, entry_of};
 ghost use Rattle.frame_rows.specs.Left.{left};
 ghost use Rattle.frame_rows.specs.Rows.{IsRowOf};
-ghost use Rattle.encoded_pointers.specs.Pointers.{bases_of};
+ghost use Rattle.encoded_pointers.specs.Pointers.{bases_of, pointer_of};
 ghost use Rattle.unwinding_core.specs.Finding.{FoundFde};
 ghost use Rattle.unwinding_core.specs.Answered.{answered};
 ghost use Rattle.unwinding_core.specs.Framed.{address_asked, GivesFrame, GivesRowOf};
 ghost use Rattle.unwinding_core.specs.Calling.{no_expressions, machine_of, value_given, columns_given, applied, rule_applied};
 
 use crate::find_fde::{FDEFinder, FDESearchResult};
-use eh_frame::{Bases, CfaRule, Error, Register, RegisterMap, RegisterRule, Registers, Row};
+use eh_frame::{
+    Bases, CfaRule, Error, Pointer, Register, RegisterMap, RegisterRule, Registers, Row,
+};
 use memory_image::{Ledger, MemoryImage, Steps};
 use std::fmt;
 use std::marker::{Model, PhantomData};
@@ -174,6 +177,35 @@ impl<'a, M: Machine> Frame<'a, M> {
         self.fde_result.fde.initial_address()
     }
 
+    /// The address of the personality: the routine that reads the function's language table. `None`
+    /// where the description names none.
+    ///
+    /// # Errors
+    ///
+    /// `Unmapped` with the address of the cell that holds the address, where it isn't wholly mapped.
+    pub fn personality(&self, image: &MemoryImage<'_>) -> Result<Option<u64>, StepError>
+        ensures { value_given result ≡ personality_address image.now self.now.found.fde }
+    {
+        match self.fde_result.fde.personality() {
+            None => Ok(None),
+            Some(pointer) => Ok(Some(target(image, pointer)?)),
+        }
+    }
+
+    /// The address of the function's language table, 0 where it has none.
+    ///
+    /// # Errors
+    ///
+    /// `Unmapped` with the address of the cell that holds the address, where it isn't wholly mapped.
+    pub fn lsda(&self, image: &MemoryImage<'_>) -> Result<u64, StepError>
+        ensures { value_given result ≡ language_address image.now self.now.found.fde }
+    {
+        match self.fde_result.fde.lsda() {
+            None => Ok(0),
+            Some(pointer) => target(image, pointer),
+        }
+    }
+
     /// Whether the frame is one that a signal's delivery made: its caller stands before the
     /// instruction at its return address and not behind a call.
     pub fn is_signal_trampoline(&self) -> bool
@@ -196,7 +228,7 @@ impl<'a, M: Machine> fmt::Debug for Frame<'a, M> {
 }
 
 /// The return address.
-fn return_address<M: Machine>(context: &M::Context) -> u64
+pub(crate) fn return_address<M: Machine>(context: &M::Context) -> u64
     ensures { M.Context.columns context.now M.RA.0 ≡ Some result }
 {
     context.get(M::RA).unwrap_or(0)
@@ -223,6 +255,16 @@ fn word_at(image: &MemoryImage<'_>, address: u64) -> Result<u64, StepError>
     match image.read_u64(address) {
         Some(word) => Ok(word),
         None => Err(StepError::Unmapped(address)),
+    }
+}
+
+/// Where a pointer leads: to its address, or to the address that the cell there holds.
+pub(crate) fn target(image: &MemoryImage<'_>, pointer: Pointer) -> Result<u64, StepError>
+    ensures { value_given result ≡ target image.now (pointer_of pointer) }
+{
+    match pointer {
+        Pointer::Direct(address) => Ok(address),
+        Pointer::Indirect(cell) => word_at(image, cell),
     }
 }
 

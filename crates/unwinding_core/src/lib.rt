@@ -5,11 +5,22 @@
 //! registers of its caller.
 #![tactic(auto)]
 
+mod abi;
 mod find_fde;
 mod frame;
+mod language_table;
+mod personality;
 
+pub use abi::context::{
+    _Unwind_GetCFA, _Unwind_GetDataRelBase, _Unwind_GetGR, _Unwind_GetIP, _Unwind_GetIPInfo,
+    _Unwind_GetLanguageSpecificData, _Unwind_GetRegionStart, _Unwind_GetTextRelBase, _Unwind_SetGR,
+    _Unwind_SetIP, UnwindContext,
+};
+pub use abi::{UnwindAction, UnwindReasonCode};
 pub use find_fde::custom::{
     CustomFinder, EhFrameFinder, FrameInfo, FrameInfoKind, SetCustomEhFrameFinderError,
 };
 pub use find_fde::{FDEFinder, FDESearchResult};
 pub use frame::{Frame, StepError};
+pub use language_table::{EhAction, find_eh_action};
+pub use personality::{Personality, RustPersonality};

@@ -1,5 +1,5 @@
 use Rattle.std.proofs.Common.{ℕ, ◌≡◌, ◌-◌}
-use Rattle.unwind_definitions.specs.Forms.{plain}
+use Rattle.unwind_definitions.specs.Forms.{emitted}
 use Rattle.unwind_definitions.specs.Pointers.{Bases}
 use Rattle.unwind_definitions.specs.Instructions.{program_from}
 use Rattle.unwind_definitions.specs.Row.{Run}
@@ -11,4 +11,4 @@ use Rattle.frame_rows.proofs.program.run_program.Given as goal
 -- the machine has run some instructions, from which what is left gives what all give
 abbrev pub invariant-loop-turn : goal.invariant-loop-turn
 invariant-loop-turn l = (start : ℕ) (run : Run) (address : ℕ) (bases : Bases) → Represents start l.fn.machine run → (now : Run) × Represents start l.machine now
-    × (outcome start l.pc now (program_from plain (l._turn-end - l._turn) (coding_by l.factors address bases) (at l.input)) ≡ outcome start l.pc run (program_from plain l._turn-end (coding_by l.factors address bases) (at l.fn.bytes)))
+    × (outcome start l.pc now (program_from emitted (l._turn-end - l._turn) (coding_by l.factors address bases) (at l.input)) ≡ outcome start l.pc run (program_from emitted l._turn-end (coding_by l.factors address bases) (at l.fn.bytes)))

@@ -1,4 +1,3 @@
-use Rattle.std.proofs.Common.{◌≡◌}
 use Rattle.std.specs.Prelude.{IsSome}
 use Rattle.unwinding_core.proofs.Begun.{given, begun-columns}
 use Rattle.unwinding_core.proofs.frame.begun.Goals as goal

@@ -1,8 +1,7 @@
 use Rattle.std.proofs.Common.{◌≡◌, Ok, sym, ap, ◌∙◌}
-use Rattle.std.specs.Prelude.{IsSome}
 use Rattle.unwind_definitions.specs.Row.{CfaRule}
-use Rattle.unwind_definitions.specs.Caller.{Columns, cfa_value}
-use Rattle.unwinding_core.specs.Calling.{no_expressions, machine_of, applied}
+use Rattle.unwind_definitions.specs.Caller.{cfa_value}
+use Rattle.unwinding_core.specs.Calling.{no_expressions, machine_of}
 use Rattle.unwinding_core.proofs.Callers.{row_caller}
 use Rattle.unwinding_core.proofs.frame.caller.Goals as goal
 

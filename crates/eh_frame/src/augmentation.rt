@@ -1,0 +1,119 @@
+//! What an augmentation says, letter by letter. LSB, section on `.eh_frame`.
+
+ghost use Rattle.std.specs.Prelude.{◌≡◌};
+ghost use Rattle.unwind_definitions.specs.Forms.{is_emitted_augmentation};
+ghost use Rattle.unwind_definitions.specs.Entries.{augmentation_data, letter, letters_from, no_letters};
+ghost use Rattle.encoded_pointers.specs.Readers.{Answers, GivesOr};
+ghost use Rattle.encoded_pointers.specs.Pointers.{bases_of};
+ghost use Rattle.encoded_pointers.specs.View.{at};
+ghost use Rattle.eh_frame.specs.Letters.{letters_of};
+
+use encoded_pointers::{
+    Bases, Cursor, DwEhPe, Pointer, parse_encoded_pointer, parse_pointer_encoding,
+};
+use unwind_definitions::Error;
+
+/// What the letters of an augmentation say.
+#[derive(Clone, Copy)]
+pub(crate) struct Letters {
+    /// L: how the pointers to language tables are encoded.
+    pub(crate) language: Option<DwEhPe>,
+    /// P: the personality, and how it is encoded.
+    pub(crate) personality: Option<Personality>,
+    /// R: how addresses are encoded.
+    pub(crate) address: Option<DwEhPe>,
+    /// S: that the frame is a signal's.
+    pub(crate) is_signal: bool,
+}
+
+/// A personality with its encoding.
+#[derive(Clone, Copy)]
+pub(crate) struct Personality {
+    pub(crate) encoding: DwEhPe,
+    pub(crate) pointer: Pointer,
+}
+
+const NO_LETTERS: Letters = Letters {
+    language: None,
+    personality: None,
+    address: None,
+    is_signal: false,
+};
+
+/// Whether an augmentation, without its zero byte, is one that is read so far.
+pub(crate) fn is_emitted(augmentation: &[u8]) -> bool
+    ensures { result ≡ is_emitted_augmentation augmentation.now }
+{
+    match augmentation {
+        [z, r] => *z == b'z' && *r == b'R',
+        [z, p, r] => *z == b'z' && *p == b'P' && *r == b'R',
+        [z, p, l, r] => *z == b'z' && *p == b'P' && *l == b'L' && *r == b'R',
+        _ => false,
+    }
+}
+
+/// What stands behind the return column: with a z a length, and so many bytes for the other
+/// letters. Behind a fault the cursor isn't told.
+pub(crate) fn read_augmentation_data(
+    augmentation: &[u8],
+    bases: &Bases,
+    input: &mut Cursor,
+) -> Result<Letters, Error>
+    ensures { GivesOr letters_of result
+        (augmentation_data (bases_of bases.now) augmentation.now (at input.old)) (at input.new) }
+{
+    if augmentation.is_empty() {
+        return Ok(NO_LETTERS);
+    }
+    let count = input.read_uleb128()?;
+    let block = input.split(count)?;
+    read_letters(&augmentation[1..], bases, block)
+}
+
+// What letters say, by the bytes of their block.
+fn read_letters(letters: &[u8], bases: &Bases, block: Cursor) -> Result<Letters, Error>
+    ensures { Answers letters_of result
+        (letters_from (bases_of bases.now) letters.now no_letters (at block.entry)) }
+{
+    let mut input = block;
+    let mut found = NO_LETTERS;
+    for byte in letters {
+        found = read_letter(*byte, bases, found, &mut input)?;
+    }
+    Ok(found)
+}
+
+// One letter, with what it takes of the block.
+fn read_letter(
+    byte: u8,
+    bases: &Bases,
+    before: Letters,
+    input: &mut Cursor,
+) -> Result<Letters, Error>
+    ensures { GivesOr letters_of result
+        (letter (bases_of bases.now) byte (letters_of before) (at input.old)) (at input.new) }
+{
+    match byte {
+        b'L' => Ok(Letters {
+            language: Some(parse_pointer_encoding(input)?),
+            ..before
+        }),
+        b'P' => {
+            let encoding = parse_pointer_encoding(input)?;
+            let pointer = parse_encoded_pointer(encoding, bases, input)?;
+            Ok(Letters {
+                personality: Some(Personality { encoding, pointer }),
+                ..before
+            })
+        }
+        b'R' => Ok(Letters {
+            address: Some(parse_pointer_encoding(input)?),
+            ..before
+        }),
+        b'S' => Ok(Letters {
+            is_signal: true,
+            ..before
+        }),
+        _ => Err(Error::UnknownAugmentation),
+    }
+}

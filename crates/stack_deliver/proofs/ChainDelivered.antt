@@ -1,0 +1,136 @@
+-- What is delivered to a valid chain is what the definition says of it.
+use Rattle.std.proofs.Common.{◌≡◌, ℕ, ◌<◌, ◌≤◌, Bool, true, false, List, [], ◌∷◌, ◌++◌, length, get_or, Option, Some, None, Result, Ok, Err, refl, sym, ap, subst, ◌∙◌, arith}
+use Rattle.std.specs.Prelude.{IsTrue, map}
+use Rattle.std.specs.List.{find}
+use Rattle.std.specs.Option.{option_map, option_map_or}
+use Rattle.unwind_definitions.specs.Forms.{emitted}
+use Rattle.unwind_definitions.specs.State.{State}
+use Rattle.unwind_definitions.specs.Function.{Function, Action, NoAction, Cleanup, Catch, Filter, Terminate}
+use Rattle.unwind_definitions.specs.Chain.{Call, states_of}
+use Rattle.unwind_definitions.specs.Delivery as described
+use Rattle.unwind_definitions.specs.Valid.{IsDescribedChain}
+use Rattle.unwind_laws.proofs.Walk.{valid_described}
+use Rattle.unwind_arch.specs.declared.x86_64.Context.{Context}
+use Rattle.unwind_arch.specs.Contexts.{columns_of}
+use Rattle.stack_deliver.specs.declared.delivery.Outcome.TheVariants.{Installed, EndOfStack, FatalPhase1}
+use Rattle.stack_deliver.specs.declared.delivery.DeliverError.{DeliverError}
+use Rattle.stack_deliver.specs.declared.passes.Phase.TheVariants as phase
+use Rattle.stack_deliver.specs.Modules.{SpaceValue, AreApart}
+use Rattle.stack_deliver.specs.Processes.{process_of}
+use Rattle.stack_deliver.specs.Shown.{state_of, landing_of, pair_of, outcome_of, delivery_shown}
+use Rattle.stack_deliver.specs.Undone.{EachShows}
+use Rattle.stack_deliver.specs.Passes.{Line, Stop, Passed, pass_of, kept_at, pad_of, passes_of}
+use Rattle.stack_deliver.specs.Delivering.{Delivered, delivered_after, undelivered, delivered_at, delivered_to, delivered_by, delivery_of}
+use Rattle.stack_deliver.specs.Walking.{StartsValidChain, ShowsDelivery}
+use Rattle.stack_deliver.proofs.ContextLemmas.{IsWhole}
+use Rattle.stack_deliver.proofs.Chains.{shown_states}
+use Rattle.stack_deliver.proofs.PassesShow.{seen, StopIs, StopShows, SearchShows, search_shows, by_pass, lands_in, PassesShow, passes_show}
+
+-- a frame that is found decides
+decides_found : (fs : List described.Frame) (f : described.Frame) → find described.is_deciding fs ≡ Some f → described.is_deciding f ≡ true
+decides_found [] f found = absurd cc
+decides_found (g ∷ gs) f found = go (λ e. decides_found gs f e) (described.is_deciding g) refl
+  where
+    go : (find described.is_deciding gs ≡ Some f → described.is_deciding f ≡ true) → (b : Bool) → described.is_deciding g ≡ b → described.is_deciding f ≡ true
+    go later true is =
+        let here : find described.is_deciding (g ∷ gs) ≡ Some g = rw is refl in
+        let both : ◌≡◌ {A = Option described.Frame} (Some g) (Some f) = sym here ∙ found in
+        let same : g ≡ f = cc in
+        ap described.is_deciding (sym same) ∙ is
+    go later false is = let past : find described.is_deciding (g ∷ gs) ≡ find described.is_deciding gs = rw is refl in later (sym past ∙ found)
+
+abbrev made : List State → List (ℕ × ℕ) → Option described.Landing → described.Outcome → described.Delivery
+made visited trail landing outcome = record { visited = visited; trail = trail; landing = landing; outcome = outcome }
+
+same_made : (v w : List State) (t u : List (ℕ × ℕ)) (l m : Option described.Landing) (o q : described.Outcome) → v ≡ w → t ≡ u → l ≡ m → o ≡ q → made v t l o ≡ made w u m q
+same_made v w t u l m o q a b c d = ap (λ x. made x t l o) a ∙ ap (λ x. made w x l o) b ∙ ap (λ x. made w u x o) c ∙ ap (λ x. made w u m x) d
+
+-- a delivery that is what the definition says
+pub record DeliversChain (exception : ℕ) (s : State) (calls : List Call) (r : Result Delivered DeliverError) : Type 0 where
+  pub delivered : Delivered
+  pub is : r ≡ Ok delivered
+  pub shows : ShowsDelivery delivered exception s calls
+
+module _ (space : SpaceValue) (c : Context) (exception : ℕ) (resumes : List (ℕ × ℕ)) (limit : ℕ) (functions : List Function) (s : State) (calls : List Call) (apart : AreApart 0 space.modules) (whole : IsWhole c)
+    (is : StartsValidChain space c resumes limit functions s calls) where
+  chain : IsDescribedChain emitted (process_of space) functions s calls
+  chain = valid_described emitted (process_of space) (columns_of c) resumes functions s calls is.valid
+
+  abbrev passes : ℕ → Result Passed DeliverError
+  passes kept = passes_of space exception kept resumes limit limit c
+
+  -- no frame decides
+  undecided : (contexts : List Context) → described.deciding_frame s calls ≡ None → EachShows contexts (states_of s calls) → DeliversChain exception s calls (delivered_to contexts None passes)
+  undecided contexts none states = record {
+    delivered = undelivered contexts EndOfStack;
+    is = refl;
+    shows = ap (λ (visited : List State). made visited [] None described.EndOfStack) (shown_states contexts (states_of s calls) states) ∙ sym (ap due none);
+  }
+    where
+      due : Option described.Frame → described.Delivery
+      due o = option_map_or (λ (f : described.Frame). described.decided_by exception (described.inner_frames s calls) f.state (described.action_of_frame f)) o (described.not_installed (states_of s calls) described.EndOfStack)
+
+  module _ (contexts : List Context) (stop : Stop) (f : described.Frame) (decided : described.deciding_frame s calls ≡ Some f) (stops : StopIs stop f) (states : EachShows contexts (seen s calls (Some f))) where
+    visited : map state_of contexts ≡ described.states_in (described.inner_frames s calls) ++ f.state ∷ []
+    visited = shown_states contexts (seen s calls (Some f)) states
+
+    due_is : (x : Action) → described.action_of_frame f ≡ x → described.delivery_of exception s calls ≡ described.decided_by exception (described.inner_frames s calls) f.state x
+    due_is x acts = ap (λ (o : Option described.Frame). option_map_or (λ (g : described.Frame). described.decided_by exception (described.inner_frames s calls) g.state (described.action_of_frame g)) o (described.not_installed (states_of s calls) described.EndOfStack)) decided
+        ∙ ap (described.decided_by exception (described.inner_frames s calls) f.state) acts
+
+    pad_is : (x : Action) → described.action_of_frame f ≡ x → pad_of stop.action ≡ pad_of x
+    pad_is x acts = ap pad_of (stops.action ∙ acts)
+
+    terminates : (x : Action) → described.action_of_frame f ≡ x → pad_of x ≡ None → described.decided_by exception (described.inner_frames s calls) f.state x ≡ described.not_installed (described.states_in (described.inner_frames s calls) ++ f.state ∷ []) described.FatalPhase1 →
+        DeliversChain exception s calls (delivered_to contexts (Some stop) passes)
+    terminates x acts none due = record {
+      delivered = undelivered contexts FatalPhase1;
+      is = ap (λ (o : Option ℕ). delivered_at contexts o (passes (kept_at stop.context stop.interrupted))) (pad_is x acts ∙ none);
+      shows = ap (λ (v : List State). made v [] None described.FatalPhase1) visited ∙ sym (due_is x acts ∙ due);
+    }
+
+    kept_is : kept_at stop.context stop.interrupted ≡ f.state.sp
+    kept_is = ap (kept_at stop.context) stops.unmarked ∙ sp
+      where
+        sp : get_or stop.context.registers 7 0 ≡ f.state.sp
+        sp = let e : columns_of stop.context 7 ≡ Some f.state.sp = stops.shows.sp in cc
+
+    accepted : (x : Action) (pad : ℕ) → described.action_of_frame f ≡ x → IsTrue (described.accepts x) → pad_of x ≡ Some pad →
+        described.decided_by exception (described.inner_frames s calls) f.state x ≡ described.installed exception (described.inner_frames s calls) f.state pad →
+        lands_in space apart is.tables functions is.valid.are_functions exception (kept_at stop.context stop.interrupted) resumes limit f.state x ≡ Some (described.landing_at exception f.state pad) →
+        DeliversChain exception s calls (delivered_to contexts (Some stop) passes)
+    accepted x pad acts accepts named due lands =
+        let kept : ℕ = kept_at stop.context stop.interrupted in
+        let accepting : IsTrue (described.accepts (described.action_of_frame f)) = subst (λ (y : Action). IsTrue (described.accepts y)) (sym acts) accepts in
+        let within = is.shorter in
+        let shown = passes_show space apart is.tables functions is.valid.are_functions exception kept resumes limit s calls c limit limit f is.valid.chain chain.described is.valid.shows whole within within (omega arith) decided accepting kept_is
+        (is.valid.resumed f decided accepting) in
+        let run : passes kept ≡ Ok shown.passed = by_pass space apart is.tables functions is.valid.are_functions exception kept resumes limit limit c ∙ shown.is in
+        record {
+          delivered = record { visited = contexts; trail = shown.passed.trail; outcome = shown.passed.ending.outcome; landing = shown.passed.ending.landing };
+          is = ap (λ (o : Option ℕ). delivered_at contexts o (passes kept)) (pad_is x acts ∙ named) ∙ ap (delivered_after contexts) run;
+          shows = same_made _ _ _ _ _ _ _ _ visited shown.trail (shown.landing ∙ ap (lands_in space apart is.tables functions is.valid.are_functions exception kept resumes limit f.state) acts ∙ lands) (ap outcome_of shown.outcome) ∙ sym (due_is x acts ∙ due);
+        }
+
+    -- the frame that decides
+    by_action : (x : Action) → described.action_of_frame f ≡ x → DeliversChain exception s calls (delivered_to contexts (Some stop) passes)
+    by_action NoAction acts = terminates NoAction acts refl refl
+    by_action (Cleanup pad) acts =
+        let decides : described.is_deciding f ≡ true = decides_found (described.frames_of s calls) f decided in
+        let not : described.is_deciding f ≡ false = ap described.decides acts in
+        absurd cc
+    by_action (Catch pad) acts = accepted (Catch pad) pad acts refl refl refl refl
+    by_action (Filter pad) acts = accepted (Filter pad) pad acts refl refl refl refl
+    by_action Terminate acts = terminates Terminate acts refl refl
+
+  by_stop : (contexts : List Context) (o : Option described.Frame) (stop : Option Stop) → described.deciding_frame s calls ≡ o → StopShows stop o → EachShows contexts (seen s calls o) → DeliversChain exception s calls (delivered_to contexts stop passes)
+  by_stop contexts None None decided stops states = undecided contexts decided states
+  by_stop contexts (Some f) (Some stop) decided stops states = by_action contexts stop f decided stops states (described.action_of_frame f) refl
+  by_stop contexts None (Some stop) decided stops states = absurd stops
+  by_stop contexts (Some f) None decided stops states = absurd stops
+
+  pub chain_delivered : DeliversChain exception s calls (delivery_of space c exception resumes limit)
+  unfolding delivery_of
+  chain_delivered =
+      let search : SearchShows (pass_of phase.Search space limit c false) s calls = search_shows space apart is.tables functions is.valid.are_functions s calls c limit is.valid.chain chain.described is.valid.shows is.shorter in
+      rw search.is (by_stop search.line.contexts (described.deciding_frame s calls) search.line.stop refl search.stop search.states)

@@ -1,0 +1,166 @@
+-- What a delivery's errors are: faults of steps, unmapped words, and limits.
+use Rattle.std.proofs.Common.{◌≡◌, ◌≢◌, ℕ, zero, suc, Bool, true, false, cond, List, Option, Some, None, Result, Ok, Err, refl, sym, ap, subst, ◌∙◌}
+use Rattle.std.specs.Option.{option_map, option_map_or}
+use Rattle.memory_image.specs.Image.{Span, word_at}
+use Rattle.unwind_definitions.specs.declared.error.Error.{Error as Fault}
+use Rattle.unwind_definitions.specs.Pointers.{Pointer, Direct, Indirect}
+use Rattle.unwind_definitions.specs.Function.{Action}
+use Rattle.unwind_definitions.specs.LanguageSearch as tables
+use Rattle.unwind_definitions.specs.Caller as calls
+use Rattle.unwind_arch.specs.declared.x86_64.Context.{Context}
+use Rattle.unwinding_core.specs.Finding.{FoundFde}
+use Rattle.stack_deliver.specs.declared.delivery.Stepped.{Stepped}
+use Rattle.stack_deliver.specs.declared.delivery.Trail.{Trail}
+use Rattle.stack_deliver.specs.declared.delivery.DeliverError.{DeliverError}
+use Rattle.stack_deliver.specs.declared.delivery.DeliverError.TheVariants.{NoMemory, Unmapped, FrameLimit, PassLimit, NoResume, Table}
+use Rattle.stack_deliver.specs.declared.passes.Phase.{Phase}
+use Rattle.stack_deliver.specs.declared.passes.Phase.TheVariants as phase
+use Rattle.stack_deliver.specs.Modules.{SpaceValue}
+use Rattle.stack_deliver.specs.Resumes.{return_of}
+use Rattle.stack_deliver.specs.Stepping.{step_of, refusal_of, IsStepFault}
+use Rattle.stack_deliver.specs.Passes.{FrameAt, frame_of, caller_by, asked_if_named, asked_of, stops, Turn, Ends, Stops, Goes, goes, turn_asked, turn_by, turn_of, Line, with_context, line_turn, pass_of, PassEnd, Finishes, Elsewhere, end_of, cleanup_of, cleanup_at, resume_at, Passed, with_cleanup, resumed, followed, passes_of, kept_at, pad_of, Stop}
+use Rattle.stack_deliver.specs.Delivering.{Delivered, delivered_after, delivered_at, delivered_to, delivered_by, delivery_of}
+use Rattle.stack_deliver.proofs.Framings.{some_next, stepped_by, step_is}
+use Rattle.stack_deliver.proofs.LineAnswers.{OnStepFault, step_faults}
+use Rattle.stack_deliver.proofs.StepAnswers.{step_unmapped}
+
+-- an error of a delivery, but want of memory; an unmapped word isn't mapped
+abbrev pub IsCause : List Span → DeliverError → Type 0
+IsCause image NoMemory = ⊥
+IsCause image (Unmapped a) = word_at image a ≡ None
+IsCause image FrameLimit = Unit {0}
+IsCause image PassLimit = Unit {0}
+IsCause image (NoResume pad) = Unit {0}
+IsCause image (Table e) = Unit {0}
+
+abbrev pub OnCause : {A : Type 0} → List Span → Result A DeliverError → Type 0
+OnCause image (Ok x) = Unit {0}
+OnCause image (Err e) = IsCause image e
+
+step_cause : (space : SpaceValue) (c : Context) (interrupted : Bool) (e : DeliverError) → step_of space c interrupted ≡ Err e → IsCause space.image e
+step_cause space c interrupted e fails = go e fails (subst OnStepFault fails (step_faults space c interrupted))
+  where
+    go : (x : DeliverError) → step_of space c interrupted ≡ Err x → IsStepFault x → IsCause space.image x
+    go (Table f) is fault = tt
+    go (Unmapped a) is fault = step_unmapped space c interrupted a is
+    go NoMemory is fault = absurd fault
+    go FrameLimit is fault = absurd fault
+    go PassLimit is fault = absurd fault
+    go (NoResume pad) is fault = absurd fault
+
+-- ---- what names the personality
+
+abbrev OnTarget : List Span → Result ℕ calls.StepFault → Type 0
+OnTarget image (Ok a) = Unit {0}
+OnTarget image (Err e) = IsCause image (refusal_of e)
+
+target_cause : (image : List Span) (p : Pointer) → OnTarget image (tables.target image p)
+target_cause image (Direct a) = tt
+target_cause image (Indirect a) = go (word_at image a) refl
+  where
+    go : (o : Option ℕ) → word_at image a ≡ o → OnTarget image (option_map_or Ok o (Err (calls.Unmapped a)))
+    go None none = none
+    go (Some w) some = tt
+
+asked_cause : (image : List Span) (c : Context) (interrupted : Bool) (found : FoundFde) → OnCause image (asked_of image c interrupted found)
+asked_cause image c interrupted found = go found.fde.cie.letters.personality
+  where
+    by_target : (r : Result ℕ calls.StepFault) → OnTarget image r → OnCause image (asked_if_named image c interrupted found (tables.some_address r))
+    by_target (Ok a) on = tt
+    by_target (Err e) on = on
+
+    go : (o : Option (ℕ × Pointer)) → OnCause image (asked_if_named image c interrupted found (option_map_or (λ p. tables.some_address (tables.target image p)) (option_map (λ p. p.1) o) (Ok None)))
+    go None = tt
+    go (Some p) = by_target (tables.target image p.1) (target_cause image p.1)
+
+-- ---- passes
+
+module _ (space : SpaceValue) where
+  turn_cause : (p : Phase) (c : Context) (interrupted : Bool) → OnCause space.image (turn_of p space c interrupted)
+  unfolding turn_of
+  turn_cause p c interrupted = by_frame (frame_of space c interrupted) refl
+    where
+      by_caller : (f : FrameAt) → frame_of space c interrupted ≡ Ok (Some f) → (r : Result Stepped DeliverError) → caller_by space.image c f ≡ r → OnCause space.image (goes r)
+      by_caller f framed (Ok next) is = tt
+      by_caller f framed (Err e) is = step_cause space c interrupted e (step_is space c interrupted ∙ ap (stepped_by space.image c) framed ∙ ap some_next is)
+
+      by_test : (f : FrameAt) → frame_of space c interrupted ≡ Ok (Some f) → (asked : Action) (b : Bool) (past : Context) → OnCause space.image (cond b (Ok (Stops asked past)) (goes (caller_by space.image c f)))
+      by_test f framed asked true past = tt
+      by_test f framed asked false past = by_caller f framed (caller_by space.image c f) refl
+
+      by_action : (f : FrameAt) → frame_of space c interrupted ≡ Ok (Some f) → (r : Result Action DeliverError) → OnCause space.image r → OnCause space.image (turn_asked p space.image c f r)
+      by_action f framed (Ok asked) on = by_test f framed asked (stops p asked) _
+      by_action f framed (Err e) on = on
+
+      by_frame : (r : Result (Option FrameAt) DeliverError) → frame_of space c interrupted ≡ r → OnCause space.image (turn_by p space.image c interrupted r)
+      by_frame (Ok None) is = tt
+      by_frame (Ok (Some f)) is = by_action f is (asked_of space.image c interrupted f.found) (asked_cause space.image c interrupted f.found)
+      by_frame (Err e) is = step_cause space c interrupted e (step_is space c interrupted ∙ ap (stepped_by space.image c) is)
+
+  context_cause : (c : Context) (r : Result Line DeliverError) → OnCause space.image r → OnCause space.image (with_context c r)
+  context_cause c (Ok line) on = tt
+  context_cause c (Err e) on = on
+
+  pub pass_cause : (p : Phase) (room : ℕ) (c : Context) (interrupted : Bool) → OnCause space.image (pass_of p space room c interrupted)
+  pass_cause p zero c interrupted = tt
+  pass_cause p (suc room) c interrupted = go (turn_of p space c interrupted) (turn_cause p c interrupted) (λ d mark. pass_cause p room d mark)
+    where
+      go : (r : Result Turn DeliverError) → OnCause space.image r → ((d : Context) (mark : Bool) → OnCause space.image (pass_of p space room d mark)) → OnCause space.image (line_turn c interrupted r (pass_of p space room))
+      go (Ok Ends) on later = tt
+      go (Ok (Stops asked past)) on later = tt
+      go (Ok (Goes next)) on later = context_cause c (pass_of p space room next.context next.signal) (later next.context next.signal)
+      go (Err e) on later = on
+
+  end_cause : (exception kept : ℕ) (r : Result Line DeliverError) → OnCause space.image r → OnCause space.image (end_of exception kept r)
+  end_cause exception kept (Ok line) on = tt
+  end_cause exception kept (Err e) on = on
+
+  cleanup_cause : (t : Trail) (r : Result Passed DeliverError) → OnCause space.image r → OnCause space.image (with_cleanup t r)
+  cleanup_cause t (Ok passed) on = tt
+  cleanup_cause t (Err e) on = on
+
+  module _ (exception kept : ℕ) (resumes : List (ℕ × ℕ)) (limit : ℕ) where
+    pub passes_cause : (places : ℕ) (c : Context) → OnCause space.image (passes_of space exception kept resumes limit places c)
+    passes_cause zero c = go (cleanup_of space exception kept limit c) (end_cause exception kept (pass_of phase.Cleanup space limit c false) (pass_cause phase.Cleanup limit c false))
+      where
+        go : (r : Result PassEnd DeliverError) → OnCause space.image r → OnCause space.image (followed r (λ pad entered. Err PassLimit))
+        go (Ok (Finishes ending)) on = tt
+        go (Ok (Elsewhere pad d)) on = tt
+        go (Err e) on = on
+    passes_cause (suc n) c = go (cleanup_of space exception kept limit c) (end_cause exception kept (pass_of phase.Cleanup space limit c false) (pass_cause phase.Cleanup limit c false)) (λ d. passes_cause n d)
+      where
+        by_resume : (pad : ℕ) (entered : Context) (o : Option ℕ) → ((d : Context) → OnCause space.image (passes_of space exception kept resumes limit n d)) → OnCause space.image (resumed (cleanup_at pad entered) (resume_at pad entered o) (passes_of space exception kept resumes limit n))
+        by_resume pad entered None later = tt
+        by_resume pad entered (Some ret) later = cleanup_cause (cleanup_at pad entered) (passes_of space exception kept resumes limit n (record entered { ra = ret })) (later (record entered { ra = ret }))
+
+        go : (r : Result PassEnd DeliverError) → OnCause space.image r → ((d : Context) → OnCause space.image (passes_of space exception kept resumes limit n d)) →
+            OnCause space.image (followed r (λ pad entered. resumed (cleanup_at pad entered) (resume_at pad entered (return_of resumes pad)) (passes_of space exception kept resumes limit n)))
+        go (Ok (Finishes ending)) on later = tt
+        go (Ok (Elsewhere pad d)) on later = by_resume pad d (return_of resumes pad) later
+        go (Err e) on later = on
+
+  after_cause : (visited : List Context) (r : Result Passed DeliverError) → OnCause space.image r → OnCause space.image (delivered_after visited r)
+  after_cause visited (Ok passed) on = tt
+  after_cause visited (Err e) on = on
+
+  pub delivery_cause : (c : Context) (exception : ℕ) (resumes : List (ℕ × ℕ)) (limit : ℕ) → OnCause space.image (delivery_of space c exception resumes limit)
+  unfolding delivery_of
+  delivery_cause c exception resumes limit = go (pass_of phase.Search space limit c false) (pass_cause phase.Search limit c false)
+    where
+      at_pad : (visited : List Context) (o : Option ℕ) (kept : ℕ) → OnCause space.image (delivered_at visited o (passes_of space exception kept resumes limit limit c))
+      at_pad visited None kept = tt
+      at_pad visited (Some pad) kept = after_cause visited (passes_of space exception kept resumes limit limit c) (passes_cause exception kept resumes limit limit c)
+
+      to_stop : (visited : List Context) (o : Option Stop) → OnCause space.image (delivered_to visited o (λ kept. passes_of space exception kept resumes limit limit c))
+      to_stop visited None = tt
+      to_stop visited (Some stop) = at_pad visited (pad_of stop.action) (kept_at stop.context stop.interrupted)
+
+      go : (r : Result Line DeliverError) → OnCause space.image r → OnCause space.image (delivered_by r (λ kept. passes_of space exception kept resumes limit limit c))
+      go (Ok line) on = to_stop line.contexts line.stop
+      go (Err e) on = on
+
+  pub delivery_unmapped : (c : Context) (exception : ℕ) (resumes : List (ℕ × ℕ)) (limit a : ℕ) → delivery_of space c exception resumes limit ≡ Err (Unmapped a) → word_at space.image a ≡ None
+  delivery_unmapped c exception resumes limit a fails = subst (OnCause space.image) fails (delivery_cause c exception resumes limit)
+
+  pub delivery_memory : (c : Context) (exception : ℕ) (resumes : List (ℕ × ℕ)) (limit : ℕ) → delivery_of space c exception resumes limit ≢ Err NoMemory
+  delivery_memory c exception resumes limit fails = subst (OnCause space.image) fails (delivery_cause c exception resumes limit)

@@ -1,0 +1,158 @@
+-- The frame at a context that shows a state of a described chain.
+use Rattle.std.proofs.Common.{inl, inr, ◌≡◌, ◌≢◌, ℕ, ◌+◌, ◌-◌, ◌%◌, ◌^◌, ◌<◌, Bool, true, false, List, length, Option, Some, None, Result, Ok, Err, refl, sym, ap, subst, ◌∙◌, arith, cond, eqb, ltb, leb}
+use Rattle.std.specs.Prelude.{◌&&◌, IsTrue, map}
+use Rattle.std.specs.List.{Contains}
+use Rattle.std.proofs.lemmas.Bool.Decides.{nat_tests}
+use Rattle.std.proofs.lemmas.Bool.{ltb-true, leb-true}
+use Rattle.memory_image.specs.Image.{Span}
+use Rattle.unwind_definitions.specs.Forms.{emitted}
+use Rattle.unwind_definitions.specs.Pointers.{Bases}
+use Rattle.unwind_definitions.specs.Row.{row_at, argument_size}
+use Rattle.unwind_definitions.specs.Scan.{scan}
+use Rattle.unwind_definitions.specs.LanguageTable.{input_at}
+use Rattle.unwind_definitions.specs.LanguageSearch.{personality_address, address_of_call, language_action}
+use Rattle.unwind_definitions.specs.Caller.{Columns, StepFault, x86_64, caller_of}
+use Rattle.unwind_definitions.specs.State.{State, Shows}
+use Rattle.unwind_definitions.specs.Function.{Function, Action, NoAction, action_at}
+use Rattle.unwind_definitions.specs.Chain.{Call}
+use Rattle.unwind_definitions.specs.Module as described
+use Rattle.unwind_laws.specs.Found.{AsksAs}
+use Rattle.unwind_laws.specs.Walked.{Steps}
+use Rattle.unwind_laws.proofs.Asked.{asks_as, ends_below}
+use Rattle.unwind_laws.proofs.Found.{body_inside}
+use Rattle.unwind_laws.proofs.Walk.{one_step}
+use Rattle.unwind_laws.proofs.Booleans as lists
+use Rattle.unwind_arch.specs.declared.x86_64.Context.{Context}
+use Rattle.unwind_arch.specs.Contexts.{columns_of, context_of}
+use Rattle.unwinding_core.specs.declared.find_fde.custom.FrameInfoKind.{FrameInfoKind}
+use Rattle.unwinding_core.specs.declared.find_fde.custom.FrameInfoKind.TheVariants.{EhFrame, EhFrameHdr}
+use Rattle.unwinding_core.specs.Calling.{no_expressions}
+use Rattle.unwinding_core.specs.Finding.{FoundFde, table_bases}
+use Rattle.unwinding_core.specs.Named.{found_by_kind}
+use Rattle.stack_deliver.specs.declared.space.Module.{Module}
+use Rattle.stack_deliver.specs.declared.delivery.Stepped.{Stepped}
+use Rattle.stack_deliver.specs.declared.delivery.DeliverError.{DeliverError}
+use Rattle.stack_deliver.specs.Modules.{SpaceValue, AreApart, module_at}
+use Rattle.stack_deliver.specs.Processes.{tables_of, module_of, process_of}
+use Rattle.stack_deliver.specs.Stepping.{step_of, context_by}
+use Rattle.stack_deliver.specs.Undone.{IsDescribedCall, HaveFrameTables, Undone}
+use Rattle.stack_deliver.specs.Passes.{FrameAt, frame_by, frame_of, marked, caller_by, asked_if_named, asked_of}
+use Rattle.stack_deliver.proofs.ContextLemmas.{IsWhole}
+use Rattle.stack_deliver.proofs.Framings.{some_next, stepped_by, step_is}
+use Rattle.stack_deliver.proofs.StepUndone.{IsOf, contains_map, module_at-contains, step_undone}
+
+-- the frame that a context shows of a called function, what its language asks, and its caller
+pub record Met (space : SpaceValue) (c : Context) (s : State) (call : Call) : Type 0 where
+  pub frame : FrameAt
+  pub framed : frame_of space c false ≡ Ok (Some frame)
+  pub asks : asked_of space.image c false frame.found ≡ Ok (action_at call.callee (s.ra - 1))
+  pub no_arguments : argument_size frame.run ≡ 0
+  pub next : Stepped
+  pub called : caller_by space.image c frame ≡ Ok next
+  pub unmarked : next.signal ≡ false
+  pub shows : Shows (columns_of next.context) call.caller
+  pub whole : IsWhole next.context
+  pub address : s.ra < 2 ^ 64
+
+some_same : (r : Result Stepped DeliverError) (next : Stepped) → some_next r ≡ Ok (Some next) → r ≡ Ok next
+some_same (Ok n) next e = let same : n ≡ next = cc in ap Ok same
+some_same (Err x) next e = absurd cc
+
+-- a caller has sixteen registers
+caller_whole : (image : List Span) (c : Context) (f : FrameAt) (next : Stepped) → caller_by image c f ≡ Ok next → IsWhole next.context
+caller_whole image c f next e = go (caller_of x86_64 no_expressions image (columns_of c) f.run) e
+  where
+    go : (r : Result Columns StepFault) → marked f.found.fde.cie.letters.signal (context_by r) ≡ Ok next → IsWhole next.context
+    go (Ok columns) is =
+        let same : record { context = context_of columns; signal = f.found.fde.cie.letters.signal } ≡ next = cc in
+        subst (λ (n : Stepped). IsWhole n.context) same refl
+    go (Err x) is = absurd (none (context_by (Err x)) refl is)
+      where
+        none : (q : Result Context DeliverError) → context_by (Err x) ≡ q → marked f.found.fde.cie.letters.signal q ≡ Ok next → ⊥
+        none (Ok d) same is = absurd cc
+        none (Err y) same is = absurd cc
+
+-- what is asked, where a description asks what its function does
+asked_as : (image : List Span) (c : Context) (found : FoundFde) (f : Function) (a : ℕ) → AsksAs image found.bases f found.fde → address_of_call c.ra false ≡ a → asked_of image c false found ≡ Ok (action_at f a)
+asked_as image c found f a asks at = ap (asked_if_named image c false found) asks.personality ∙ go asks.routine asks.silent
+  where
+    go : (o : Option ℕ) → (o ≡ None → f.sites ≡ None) → asked_if_named image c false found (Ok o) ≡ Ok (action_at f a)
+    go None silent = let none : f.sites ≡ None = silent refl in rw none refl
+    go (Some routine) silent = rw (at, asks.action a) refl
+
+module _ (space : SpaceValue) (c : Context) (functions : List Function) (s : State) (call : Call) (apart : AreApart 0 space.modules) (tables : HaveFrameTables (process_of space))
+    (is : IsDescribedCall (process_of space) functions s call) (shows : Shows (columns_of c) s) where
+  abbrev step : Steps emitted (process_of space) no_expressions (columns_of c) (s.ra - 1) call
+  step = one_step emitted (process_of space) no_expressions functions (s.ra - 1) s call (columns_of c)
+      record { is_function = is.is_function; listed = is.listed; lies = is.lies; inside = is.called.inside; entered = is.called.entered; caller = is.caller; ends = is.ends } shows
+
+  ra_is : c.ra ≡ s.ra
+  ra_is = let e : columns_of c 16 ≡ Some s.ra = shows.ra in cc
+
+  abbrev frame_at : Module → ℕ → FrameAt
+  frame_at m f = record { found = record { fde = step.finds.fde; bases = table_bases m.frame.text_base f; table = input_at space.image f }; run = step.finds.run }
+
+  -- the return address is a word, for its function ends below 2 ^ 64
+  small : s.ra < 2 ^ 64
+  small =
+      let lies = body_inside call.callee (s.ra - 1) is.is_function is.called.inside in
+      let below = ends_below emitted (described.bases_of step.finds.home step.finds.frame) step.finds.fde step.finds.read in
+      let end = step.finds.describes.code.end in
+      omega (arith, lies.1)
+
+  asked_at : address_of_call c.ra false ≡ s.ra - 1
+  asked_at = let some : s.ra ≢ 0 = is.called.returns in let low = small in let same = ra_is in omega arith
+
+  found_with : (m : Module) (f : ℕ) → module_of m ≡ step.finds.home → m.frame.kind ≡ EhFrame f → f ≡ step.finds.frame → module_at space.modules (s.ra - 1) ≡ Some m → Met space c s call
+  unfolding frame_of
+  found_with m f same kind place found =
+      let nonzero : eqb c.ra 0 ≡ false = let some : s.ra ≢ 0 = is.called.returns in let at : c.ra ≡ s.ra = ra_is in grind (arith, nat_tests) in
+      let asked : c.ra - 1 ≡ s.ra - 1 = ap (λ (n : ℕ). n - 1) ra_is in
+      let header : described.header_of (tables_of m.frame.kind) ≡ None = rw kind refl in
+      let bases : described.bases_of step.finds.home step.finds.frame ≡ table_bases m.frame.text_base f =
+      subst (λ (h : described.Module). described.bases_of h step.finds.frame ≡ table_bases m.frame.text_base f) same
+      (subst (λ (g : ℕ). described.bases_of (module_of m) g ≡ table_bases m.frame.text_base f) place (rw header refl)) in
+      let scanned : scan emitted (table_bases m.frame.text_base f) (input_at space.image f) (s.ra - 1) ≡ Ok step.finds.fde =
+      rw (← bases, place) step.finds.found in
+      let row : row_at emitted (table_bases m.frame.text_base f) step.finds.fde (s.ra - 1) ≡ Ok step.finds.run = rw (← bases) step.finds.has_row in
+      let tabled : frame_by (s.ra - 1) (found_by_kind m.frame.text_base (EhFrame f) space.image (s.ra - 1)) ≡ Ok (Some (frame_at m f)) = rw (scanned, row) refl in
+      let framed : frame_of space c false ≡ Ok (Some (frame_at m f)) =
+      rw (nonzero, asked, found) (subst (λ (k : FrameInfoKind). frame_by (s.ra - 1) (found_by_kind m.frame.text_base k space.image (s.ra - 1)) ≡ Ok (Some (frame_at m f))) (sym kind) tabled) in
+      let undone : Undone (step_of space c false) (columns_of c) call.caller = step_undone space c functions s call apart tables is shows in
+      let called : caller_by space.image c (frame_at m f) ≡ Ok undone.next =
+      some_same (caller_by space.image c (frame_at m f)) undone.next (ap (stepped_by space.image c) (sym framed) ∙ sym (step_is space c false) ∙ undone.answered) in
+      let asks : AsksAs space.image (table_bases m.frame.text_base f) call.callee step.finds.fde =
+      subst (λ (b : Bases). AsksAs space.image b call.callee step.finds.fde) bases (asks_as emitted space.image (described.bases_of step.finds.home step.finds.frame) call.callee step.finds.fde is.is_function step.finds.read step.finds.describes) in
+      record {
+        frame = frame_at m f;
+        framed = framed;
+        asks = asked_as space.image c (frame_at m f).found call.callee (s.ra - 1) asks asked_at;
+        no_arguments = step.finds.no_arguments;
+        next = undone.next;
+        called = called;
+        unmarked = undone.unmarked;
+        shows = undone.shows;
+        whole = caller_whole space.image c (frame_at m f) undone.next called;
+        address = small;
+      }
+
+  by_kind : (m : Module) (kind : FrameInfoKind) → module_of m ≡ step.finds.home → m.frame.kind ≡ kind → module_at space.modules (s.ra - 1) ≡ Some m → Met space c s call
+  by_kind m (EhFrame f) same kind found =
+      let address : described.frame_address space.image (tables_of m.frame.kind) ≡ Some step.finds.frame = subst (λ (h : described.Module). described.frame_address space.image h.tables ≡ Some step.finds.frame) (sym same) step.finds.address in
+      let at : described.frame_address space.image (tables_of (EhFrame f)) ≡ Some step.finds.frame = rw kind at address in
+      let place : f ≡ step.finds.frame = cc in
+      found_with m f same kind place found
+  by_kind m (EhFrameHdr h) same kind found =
+      let free : described.header_of step.finds.home.tables ≡ None = lists.all_contains (λ (k : described.Module). described.header_of k.tables ≡ None) (map module_of space.modules) step.finds.home tables step.finds.known in
+      let own : described.header_of (tables_of m.frame.kind) ≡ None = subst (λ (k : described.Module). described.header_of k.tables ≡ None) (sym same) free in
+      let other : described.header_of (tables_of (EhFrameHdr h)) ≡ None = rw kind at own in
+      absurd cc
+
+  pub met : Met space c s call
+  met =
+      let named : IsOf space.modules step.finds.home = contains_map space.modules step.finds.home step.finds.known in
+      let m : Module = named.named in
+      let inside : IsTrue (described.in_module (s.ra - 1) (module_of m)) = subst (λ (h : described.Module). IsTrue (described.in_module (s.ra - 1) h)) (sym named.same) step.finds.inside in
+      let both = lists.both_true (leb m.start (s.ra - 1)) (ltb (s.ra - 1) m.end) inside in
+      let found : module_at space.modules (s.ra - 1) ≡ Some m = module_at-contains 0 space.modules m (s.ra - 1) apart named.among (leb-true m.start (s.ra - 1) both.0) (ltb-true (s.ra - 1) m.end both.1) in
+      by_kind m m.frame.kind named.same refl found

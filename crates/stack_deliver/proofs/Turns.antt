@@ -1,0 +1,171 @@
+-- The turn of a pass at a state of a described chain.
+use Rattle.std.proofs.Common.{inl, inr, ◌≡◌, ◌≢◌, ℕ, zero, suc, ◌+◌, ◌-◌, ◌%◌, ◌^◌, ◌<◌, ◌≤◌, Bool, true, false, List, [], ◌∷◌, length, get_or, set, Option, Some, None, Result, Ok, Err, refl, sym, ap, subst, ◌∙◌, arith}
+use Rattle.std.specs.Prelude.{◌⊎◌, IsTrue}
+use Rattle.std.specs.List.{Contains, AllByRecursion, find}
+use Rattle.std.proofs.lemmas.List.{set-get_or, get_or-set_same, get_or-set_other}
+use Rattle.std.proofs.Math.ListN.{length-set}
+use Rattle.memory_image.specs.Image.{Span}
+use Rattle.unwind_definitions.specs.Forms.{emitted}
+use Rattle.unwind_definitions.specs.Row.{argument_size}
+use Rattle.unwind_definitions.specs.State.{CalleeSaved, RBX, RBP, R12, R13, R14, R15, State, IsState, value_of, column_of, Shows}
+use Rattle.unwind_definitions.specs.Prologue.{SystemV, steps_of, distance}
+use Rattle.unwind_definitions.specs.Entered.{IsEntered}
+use Rattle.unwind_definitions.specs.Function.{Function, IsFunction, Action, in_body, action_at}
+use Rattle.unwind_definitions.specs.Module.{IsUncovered}
+use Rattle.unwind_definitions.specs.Chain.{Call, IsCalled, IsEnd, IsLink, IsChain}
+use Rattle.unwind_definitions.specs.Valid.{LiesDescribed}
+use Rattle.unwind_laws.proofs.Booleans as lists
+use Rattle.unwind_arch.specs.declared.x86_64.Context.{Context}
+use Rattle.unwind_arch.specs.Contexts.{columns_of}
+use Rattle.stack_deliver.specs.declared.delivery.Stepped.{Stepped}
+use Rattle.stack_deliver.specs.declared.delivery.DeliverError.{DeliverError}
+use Rattle.stack_deliver.specs.declared.passes.Phase.{Phase}
+use Rattle.stack_deliver.specs.Modules.{SpaceValue, AreApart}
+use Rattle.stack_deliver.specs.Processes.{process_of}
+use Rattle.stack_deliver.specs.Stepping.{step_of}
+use Rattle.stack_deliver.specs.Undone.{IsDescribedCall, HaveFrameTables}
+use Rattle.stack_deliver.specs.Passes.{FrameAt, frame_of, caller_by, stops, past_arguments, Turn, Ends, Stops, Goes, turn_of, Line, with_context, pass_of, enters}
+use Rattle.stack_deliver.proofs.ContextLemmas.{IsWhole}
+use Rattle.stack_deliver.proofs.Framings.{some_next, stepped_by, step_is}
+use Rattle.stack_deliver.proofs.LineShows.{ends}
+use Rattle.stack_deliver.proofs.MetFrames.{Met, met}
+use Rattle.stack_deliver.proofs.PassLines.{stop_at}
+
+abbrev pub action_in : State → Call → Action
+action_in s k = action_at k.callee (s.ra - 1)
+
+module _ (space : SpaceValue) (c : Context) (s : State) (k : Call) (m : Met space c s k) (shows : Shows (columns_of c) s) (small : s.sp < 2 ^ 64) where
+  -- a frame without arguments is entered with its own registers
+  past_same : past_arguments c (argument_size m.frame.run) ≡ c
+  past_same =
+      let e : columns_of c 7 ≡ Some s.sp = shows.sp in
+      let sp : get_or c.registers 7 0 ≡ s.sp = cc in
+      let none : argument_size m.frame.run ≡ 0 = m.no_arguments in
+      let v : (get_or c.registers 7 0 + argument_size m.frame.run) % 2 ^ 64 ≡ get_or c.registers 7 0 = omega arith in
+      ap (λ (n : ℕ). record c { registers = set c.registers 7 n }) v ∙ ap (λ (registers : List ℕ). record c { registers = registers }) (set-get_or c.registers 7 0)
+
+  pub met_stops : (p : Phase) → stops p (action_in s k) ≡ true → turn_of p space c false ≡ Ok (Stops (action_in s k) c)
+  unfolding turn_of
+  met_stops p asks = rw (m.framed, m.asks, asks, past_same) refl
+
+  pub met_goes : (p : Phase) → stops p (action_in s k) ≡ false → turn_of p space c false ≡ Ok (Goes m.next)
+  unfolding turn_of
+  met_goes p asks = rw (m.framed, m.asks, asks, m.called) refl
+
+  -- a pass that stops there
+  pub pass_stops_at : (p : Phase) (room : ℕ) → 0 < room → stops p (action_in s k) ≡ true → pass_of p space room c false ≡ Ok (record { contexts = c ∷ []; stop = Some (stop_at c false (action_in s k) c) })
+  pass_stops_at p zero some asks = absurd (omega arith)
+  pass_stops_at p (suc n) some asks = rw (met_stops p asks) refl
+
+  -- a pass that goes on there
+  pub pass_goes_on : (p : Phase) (room : ℕ) → 0 < room → stops p (action_in s k) ≡ false → pass_of p space room c false ≡ with_context c (pass_of p space (room - 1) m.next.context false)
+  pass_goes_on p zero some asks = absurd (omega arith)
+  pass_goes_on p (suc n) some asks = let less : suc n - 1 ≡ n = omega arith in rw (less, met_goes p asks, m.unmarked) refl
+
+-- ---- the end of the stack
+
+none_framed : (image : List Span) (c : Context) (r : Result (Option FrameAt) DeliverError) → stepped_by image c r ≡ Ok None → r ≡ Ok None
+none_framed image c (Ok None) e = refl
+none_framed image c (Ok (Some f)) e = absurd (never (callers f) e)
+  where
+    callers : FrameAt → Result Stepped DeliverError
+    callers g = caller_by image c g
+
+    never : (r : Result Stepped DeliverError) → some_next r ≡ Ok None → ⊥
+    never (Ok n) e = absurd cc
+    never (Err x) e = absurd cc
+none_framed image c (Err x) e = absurd cc
+
+-- a pass ends there
+pub pass_ends_at : (space : SpaceValue) (functions : List Function) (c : Context) (s : State) (p : Phase) (room : ℕ) → 0 < room → Shows (columns_of c) s → IsEnd space.image (IsUncovered emitted (process_of space)) functions s →
+    pass_of p space room c false ≡ Ok (record { contexts = c ∷ []; stop = None })
+unfolding turn_of
+pass_ends_at space functions c s p zero some shows end = absurd (omega arith)
+pass_ends_at space functions c s p (suc n) some shows end =
+    let framed : frame_of space c false ≡ Ok None = none_framed space.image c (frame_of space c false) (sym (step_is space c false) ∙ ends space functions c s shows end) in
+    rw framed refl
+
+-- ---- calls of a chain
+
+pub call_in : (space : SpaceValue) (functions : List Function) → AllByRecursion (IsFunction SystemV) functions → (s : State) (k : Call) (calls : List Call) → IsChain space.image (IsUncovered emitted (process_of space)) functions s (k ∷ calls) →
+    LiesDescribed emitted (process_of space) functions k.callee → IsDescribedCall (process_of space) functions s k
+call_in space functions are s k calls chain lies =
+    let link : IsLink space.image functions s k calls = chain.0 in
+    record {
+      is_function = lists.all_contains (IsFunction SystemV) functions k.callee are link.listed;
+      listed = link.listed;
+      lies = lies;
+      called = link.called;
+      caller = state_in k.caller calls chain.1;
+      ends = λ outer. (link.last outer).1;
+    }
+  where
+    state_in : (t : State) (rest : List Call) → IsChain space.image (IsUncovered emitted (process_of space)) functions t rest → IsState t
+    state_in t [] chain = chain.state
+    state_in t (k ∷ rest) chain = chain.0.state
+
+-- at another return address
+abbrev pub returning : State → ℕ → State
+returning s ret = record s { ra = ret }
+
+kept_value : (s : State) (ret : ℕ) (r : CalleeSaved) → value_of r (returning s ret) ≡ value_of r s
+kept_value s ret RBX = refl
+kept_value s ret RBP = refl
+kept_value s ret R12 = refl
+kept_value s ret R13 = refl
+kept_value s ret R14 = refl
+kept_value s ret R15 = refl
+
+-- a call's function goes on elsewhere in its body, with the same registers
+pub call_resumed : (space : SpaceValue) (functions : List Function) (s : State) (k : Call) (ret : ℕ) → IsDescribedCall (process_of space) functions s k → ret ≢ 0 → IsTrue (in_body k.callee (ret - 1)) → IsDescribedCall (process_of space) functions (returning s ret) k
+call_resumed space functions s k ret is returns inside =
+    let entered : IsEntered space.image k.callee.outermost (steps_of k.callee.prologue) k.caller s = is.called.entered in
+    record {
+      is_function = is.is_function;
+      listed = is.listed;
+      lies = is.lies;
+      called = record {
+        returns = returns;
+        inside = inside;
+        entered = record { room = entered.room; returns = entered.returns; leaves = entered.leaves; stack = entered.stack; keeps = λ r none. kept_value s ret r ∙ entered.keeps r none };
+      };
+      caller = is.caller;
+      ends = is.ends;
+    }
+
+-- ---- contexts that enter a landing pad
+
+module _ (c : Context) (s : State) (exception pad : ℕ) (shows : Shows (columns_of c) s) where
+  entered_at : (k : ℕ) → k ≢ 0 → k ≢ 1 → get_or (set (set c.registers 0 exception) 1 0) k 0 ≡ get_or c.registers k 0
+  entered_at k not_rax not_rdx = get_or-set_other (set c.registers 0 exception) 1 k 0 0 not_rdx ∙ get_or-set_other c.registers 0 k exception 0 not_rax
+
+  abbrev some_number : ℕ → Option ℕ
+  some_number n = Some n
+
+  -- the state of the frame, at whatever return address
+  pub entered_shows : (ret : ℕ) → Shows (columns_of (record (enters c exception pad) { ra = ret })) (returning s ret)
+  entered_shows ret = record {
+    ra = refl;
+    sp = ap some_number (entered_at 7 (λ e. cc) (λ e. cc)) ∙ shows.sp;
+    saved = each;
+  }
+    where
+      each : (r : CalleeSaved) → columns_of (record (enters c exception pad) { ra = ret }) (column_of r) ≡ Some (value_of r (returning s ret))
+      each RBX = ap some_number (entered_at 3 (λ e. cc) (λ e. cc)) ∙ shows.saved RBX
+      each RBP = ap some_number (entered_at 6 (λ e. cc) (λ e. cc)) ∙ shows.saved RBP
+      each R12 = ap some_number (entered_at 12 (λ e. cc) (λ e. cc)) ∙ shows.saved R12
+      each R13 = ap some_number (entered_at 13 (λ e. cc) (λ e. cc)) ∙ shows.saved R13
+      each R14 = ap some_number (entered_at 14 (λ e. cc) (λ e. cc)) ∙ shows.saved R14
+      each R15 = ap some_number (entered_at 15 (λ e. cc) (λ e. cc)) ∙ shows.saved R15
+
+  pub entered_sp : get_or (enters c exception pad).registers 7 0 ≡ s.sp
+  entered_sp = let e : Some (get_or c.registers 7 0) ≡ Some s.sp = shows.sp in let sp : get_or c.registers 7 0 ≡ s.sp = cc in entered_at 7 (λ e. cc) (λ e. cc) ∙ sp
+
+  pub entered_rax : IsWhole c → get_or (enters c exception pad).registers 0 0 ≡ exception
+  entered_rax whole = get_or-set_other (set c.registers 0 exception) 1 0 0 0 (λ e. cc) ∙ get_or-set_same c.registers 0 exception 0 (omega arith)
+
+  pub entered_rdx : IsWhole c → get_or (enters c exception pad).registers 1 0 ≡ 0
+  entered_rdx whole = let long : length (set c.registers 0 exception) ≡ length c.registers = length-set c.registers 0 exception in get_or-set_same (set c.registers 0 exception) 1 0 0 (omega arith)
+
+  pub entered_whole : IsWhole c → IsWhole (enters c exception pad)
+  entered_whole whole = length-set (set c.registers 0 exception) 1 0 ∙ length-set c.registers 0 exception ∙ whole

@@ -1,0 +1,15 @@
+use Rattle.std.proofs.Common.{◌≡◌, ◌-◌, ◌≤◌, length}
+use Rattle.stack_deliver.specs.Passes.{passes_of}
+use Rattle.stack_deliver.specs.Passing.{with_cleanups}
+use Rattle.stack_deliver.proofs.passes.passes.Given as goal
+
+abbrev pub invariant-loop-ending : goal.invariant-loop-ending
+invariant-loop-ending g l = record {
+  passes : with_cleanups l.room.trail (passes_of l.space l.exception l.kept l.resumes l.limit (l.limit - length l.room.trail) l.context) ≡ passes_of l.space l.exception l.kept l.resumes l.limit l.limit l.start;
+  full : length l.room.trail ≤ l.limit;
+  visited : l.room.visited ≡ l.fn.room.visited;
+  places : l.room.limit ≡ l.fn.room.limit;
+}
+
+abbrev pub decreases-loop-ending : goal.decreases-loop-ending
+decreases-loop-ending g l = l.limit - length l.room.trail

@@ -1,0 +1,220 @@
+-- The passes of a delivery over a stack: the search for a frame whose language takes the exception, and then the cleanups on the
+-- way to it. Itanium C++ ABI, exception handling, level I, section 1.3; level II for what language tables ask.
+use Rattle.std.specs.Prelude.{ℕ, zero, suc, ◌+◌, ◌-◌, ◌%◌, ◌^◌, ◌==◌, Bool, true, false, List, [], ◌∷◌, Option, Some, None, Result, Ok, Err, slice_index, slice_set, if◌then◌else◌}
+use Rattle.memory_image.specs.Image.{Span}
+use Rattle.unwind_definitions.specs.declared.error.Error.{Error as Fault}
+use Rattle.unwind_definitions.specs.Forms.{emitted}
+use Rattle.unwind_definitions.specs.Row.{Run, row_at, argument_size}
+use Rattle.unwind_definitions.specs.Caller.{StepFault, x86_64, caller_of}
+use Rattle.unwind_definitions.specs.Function.{Action, NoAction, Cleanup, Catch, Filter, Terminate}
+use Rattle.unwind_definitions.specs.Delivery.{decides}
+use Rattle.unwind_definitions.specs.LanguageSearch.{personality_address, address_of_call, language_action}
+use Rattle.unwind_arch.specs.declared.x86_64.Context.{Context}
+use Rattle.unwind_arch.specs.Contexts.{columns_of}
+use Rattle.unwinding_core.specs.Calling.{no_expressions}
+use Rattle.unwinding_core.specs.Finding.{FoundFde}
+use Rattle.unwinding_core.specs.Framed.{address_asked}
+use Rattle.unwinding_core.specs.Named.{found_by}
+use Rattle.stack_deliver.specs.declared.delivery.Stepped.{Stepped}
+use Rattle.stack_deliver.specs.declared.delivery.Trail.{Trail}
+use Rattle.stack_deliver.specs.declared.delivery.Ending.{Ending}
+use Rattle.stack_deliver.specs.declared.delivery.Outcome.TheVariants.{Installed, FatalPhase2}
+use Rattle.stack_deliver.specs.declared.delivery.DeliverError.{DeliverError}
+use Rattle.stack_deliver.specs.declared.delivery.DeliverError.TheVariants.{Table, FrameLimit, PassLimit, NoResume}
+use Rattle.stack_deliver.specs.declared.passes.Phase.{Phase}
+use Rattle.stack_deliver.specs.declared.passes.Phase.TheVariants as phase
+use Rattle.stack_deliver.specs.declared.space.Module.{Module}
+use Rattle.stack_deliver.specs.Modules.{SpaceValue, module_at}
+use Rattle.stack_deliver.specs.Resumes.{return_of}
+use Rattle.stack_deliver.specs.Stepping.{refusal_of, context_by}
+
+-- ---- the frame at a context
+
+-- a description, and its row at the address asked
+pub record FrameAt : Type 0 where
+  pub found : FoundFde
+  pub run : Run
+
+abbrev pub frame_with : FoundFde → Result Run Fault → Result (Option FrameAt) DeliverError
+frame_with found (Ok run) = Ok (Some (record { found = found; run = run }))
+frame_with found (Err e) = Err (Table e)
+
+abbrev pub frame_by : ℕ → Option FoundFde → Result (Option FrameAt) DeliverError
+frame_by a None = Ok None
+frame_by a (Some found) = frame_with found (row_at emitted found.bases found.fde a)
+
+abbrev pub frame_in : List Span → ℕ → Option Module → Result (Option FrameAt) DeliverError
+frame_in image a None = Ok None
+frame_in image a (Some m) = frame_by a (found_by m.frame image a)
+
+-- The frame that a context shows, None at the end of the stack. It is the one by which a step finds the caller.
+unfoldable pub frame_of : SpaceValue → Context → Bool → Result (Option FrameAt) DeliverError
+frame_of space c interrupted =
+    if c.ra == 0 then Ok None
+    else frame_in space.image (address_asked c.ra interrupted) (module_at space.modules (address_asked c.ra interrupted))
+
+abbrev pub marked : Bool → Result Context DeliverError → Result Stepped DeliverError
+marked signal (Ok c) = Ok (record { context = c; signal = signal })
+marked signal (Err e) = Err e
+
+-- the frame's caller, and whether the frame is a signal's
+abbrev pub caller_by : List Span → Context → FrameAt → Result Stepped DeliverError
+caller_by image c f = marked f.found.fde.cie.letters.signal (context_by (caller_of x86_64 no_expressions image (columns_of c) f.run))
+
+-- ---- what the language of a frame asks
+
+-- the program ends at a table that can't be read
+abbrev pub or_terminate : Result Action StepFault → Action
+or_terminate (Ok action) = action
+or_terminate (Err e) = Terminate
+
+abbrev pub asked_if_named : List Span → Context → Bool → FoundFde → Result (Option ℕ) StepFault → Result Action DeliverError
+asked_if_named image c interrupted found (Ok None) = Ok NoAction
+asked_if_named image c interrupted found (Ok (Some routine)) = Ok (or_terminate (language_action image found.bases found.fde (address_of_call c.ra interrupted)))
+asked_if_named image c interrupted found (Err e) = Err (refusal_of e)
+
+-- What is asked of the frame at a context: where its description names a personality, whichever, what its language table says.
+abbrev pub asked_of : List Span → Context → Bool → FoundFde → Result Action DeliverError
+asked_of image c interrupted found = asked_if_named image c interrupted found (personality_address image found.fde)
+
+-- ---- a pass
+
+-- the search stops where a frame decides, and a cleanup pass where anything is asked
+abbrev pub stops : Phase → Action → Bool
+stops phase.Search action = decides action
+stops phase.Cleanup NoAction = false
+stops phase.Cleanup _ = true
+
+-- a context whose stack pointer is past the arguments that the callee removes
+abbrev pub past_arguments : Context → ℕ → Context
+past_arguments c size = record c { registers = slice_set c.registers 7 ((slice_index c.registers 7 + size) % 2 ^ 64) }
+
+-- where a pass stops: the context, whether it stands behind a signal's frame, what is asked there, and the context past its
+-- arguments, with which a landing pad is entered
+pub record Stop : Type 0 where
+  pub context : Context
+  pub interrupted : Bool
+  pub action : Action
+  pub past : Context
+
+-- what a pass meets at a context: the end of the stack, an action for which it stops, or the caller
+pub data Turn : Type 0 where
+  Ends : Turn
+  Stops : Action → Context → Turn
+  Goes : Stepped → Turn
+
+abbrev pub goes : Result Stepped DeliverError → Result Turn DeliverError
+goes (Ok next) = Ok (Goes next)
+goes (Err e) = Err e
+
+abbrev pub turn_asked : Phase → List Span → Context → FrameAt → Result Action DeliverError → Result Turn DeliverError
+turn_asked p image c f (Ok action) = if stops p action then Ok (Stops action (past_arguments c (argument_size f.run))) else goes (caller_by image c f)
+turn_asked p image c f (Err e) = Err e
+
+abbrev pub turn_by : Phase → List Span → Context → Bool → Result (Option FrameAt) DeliverError → Result Turn DeliverError
+turn_by p image c interrupted (Ok None) = Ok Ends
+turn_by p image c interrupted (Ok (Some f)) = turn_asked p image c f (asked_of image c interrupted f.found)
+turn_by p image c interrupted (Err e) = Err e
+
+-- A pass at a context. The row is read first, then what names the personality, then the language table, and the caller last.
+unfoldable pub turn_of : Phase → SpaceValue → Context → Bool → Result Turn DeliverError
+turn_of p space c interrupted = turn_by p space.image c interrupted (frame_of space c interrupted)
+
+-- the contexts that a pass meets, and where it stops, None at the end of the stack
+pub record Line : Type 0 where
+  pub contexts : List Context
+  pub stop : Option Stop
+
+abbrev pub with_context : Context → Result Line DeliverError → Result Line DeliverError
+with_context c (Ok line) = Ok (record line { contexts = c ∷ line.contexts })
+with_context c (Err e) = Err e
+
+abbrev pub line_turn : Context → Bool → Result Turn DeliverError → (Context → Bool → Result Line DeliverError) → Result Line DeliverError
+line_turn c interrupted (Ok Ends) outer = Ok (record { contexts = c ∷ []; stop = None })
+line_turn c interrupted (Ok (Stops action past)) outer = Ok (record { contexts = c ∷ []; stop = Some (record { context = c; interrupted = interrupted; action = action; past = past }) })
+line_turn c interrupted (Ok (Goes next)) outer = with_context c (outer next.context next.signal)
+line_turn c interrupted (Err e) outer = Err e
+
+-- A pass from a context outwards, where there is room for so many contexts.
+abbrev pub pass_of : Phase → SpaceValue → ℕ → Context → Bool → Result Line DeliverError
+pass_of p space zero c interrupted = Err FrameLimit
+pass_of p space (suc room) c interrupted = line_turn c interrupted (turn_of p space c interrupted) (pass_of p space room)
+
+-- the mark by which a pass knows the frame that the search decided for: its stack pointer, less 1 behind a signal's frame
+abbrev pub kept_at : Context → Bool → ℕ
+kept_at c interrupted = if interrupted then (slice_index c.registers 7 + (2 ^ 64 - 1)) % 2 ^ 64 else slice_index c.registers 7
+
+-- ---- the passes of a delivery
+
+-- the outcome where the program ends in a cleanup pass, or the stack does
+abbrev pub fatal : Ending
+fatal = record { outcome = FatalPhase2; landing = None }
+
+abbrev pub landed : Context → Ending
+landed c = record { outcome = Installed; landing = Some c }
+
+abbrev pub pad_of : Action → Option ℕ
+pad_of (Cleanup pad) = Some pad
+pad_of (Catch pad) = Some pad
+pad_of (Filter pad) = Some pad
+pad_of _ = None
+
+-- a context that enters a landing pad: RAX holds the exception, and RDX 0
+abbrev pub enters : Context → ℕ → ℕ → Context
+enters c exception pad = record c { registers = slice_set (slice_set c.registers 0 exception) 1 0; ra = pad }
+
+-- how a cleanup pass ends: the delivery ends with it, or a landing pad is entered elsewhere than at the kept frame
+pub data PassEnd : Type 0 where
+  Finishes : Ending → PassEnd
+  Elsewhere : ℕ → Context → PassEnd
+
+abbrev pub end_at : ℕ → ℕ → Stop → Option ℕ → PassEnd
+end_at exception kept stop None = Finishes fatal
+end_at exception kept stop (Some pad) =
+    if kept_at stop.context stop.interrupted == kept then Finishes (landed (enters stop.past exception pad))
+    else Elsewhere pad (enters stop.past exception pad)
+
+abbrev pub end_by : ℕ → ℕ → Option Stop → PassEnd
+end_by exception kept None = Finishes fatal
+end_by exception kept (Some stop) = end_at exception kept stop (pad_of stop.action)
+
+abbrev pub end_of : ℕ → ℕ → Result Line DeliverError → Result PassEnd DeliverError
+end_of exception kept (Ok line) = Ok (end_by exception kept line.stop)
+end_of exception kept (Err e) = Err e
+
+-- A cleanup pass from a context toward the kept frame, of at most so many contexts.
+abbrev pub cleanup_of : SpaceValue → ℕ → ℕ → ℕ → Context → Result PassEnd DeliverError
+cleanup_of space exception kept limit c = end_of exception kept (pass_of phase.Cleanup space limit c false)
+
+-- the cleanup at a pad that is entered
+abbrev pub cleanup_at : ℕ → Context → Trail
+cleanup_at pad c = record { pad = pad; sp = slice_index c.registers 7 }
+
+-- the context at which the next pass starts: it returns from the cleanup to the address that the resume table has for its pad
+abbrev pub resume_at : ℕ → Context → Option ℕ → Result Context DeliverError
+resume_at pad c None = Err (NoResume pad)
+resume_at pad c (Some ret) = Ok (record c { ra = ret })
+
+-- the cleanups that ran, and how the passes ended
+pub record Passed : Type 0 where
+  pub trail : List Trail
+  pub ending : Ending
+
+abbrev pub with_cleanup : Trail → Result Passed DeliverError → Result Passed DeliverError
+with_cleanup t (Ok passed) = Ok (record passed { trail = t ∷ passed.trail })
+with_cleanup t (Err e) = Err e
+
+abbrev pub resumed : Trail → Result Context DeliverError → (Context → Result Passed DeliverError) → Result Passed DeliverError
+resumed t (Ok c) later = with_cleanup t (later c)
+resumed t (Err e) later = Err e
+
+abbrev pub followed : Result PassEnd DeliverError → (ℕ → Context → Result Passed DeliverError) → Result Passed DeliverError
+followed (Ok (Finishes ending)) later = Ok (record { trail = []; ending = ending })
+followed (Ok (Elsewhere pad c)) later = later pad c
+followed (Err e) later = Err e
+
+module _ (space : SpaceValue) (exception kept : ℕ) (resumes : List (ℕ × ℕ)) (limit : ℕ) where
+  -- The passes from a context on toward the kept frame, where the trail has places for so many cleanups.
+  abbrev pub passes_of : ℕ → Context → Result Passed DeliverError
+  passes_of zero c = followed (cleanup_of space exception kept limit c) (λ pad entered. Err PassLimit)
+  passes_of (suc places) c = followed (cleanup_of space exception kept limit c) (λ pad entered. resumed (cleanup_at pad entered) (resume_at pad entered (return_of resumes pad)) (passes_of places))

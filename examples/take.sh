@@ -1,0 +1,64 @@
+#!/usr/bin/env bash
+# Takes the snapshot of a program in out/, and writes what gdb says of the same process.
+#
+#   take.sh walk NAME SNAPSHOT FRAMES        where it waits: gdb's frames
+#   take.sh steps NAME COUNT                 before each of so many instructions, into out/NAME.steps
+#   take.sh delivery NAME SNAPSHOT REPORT    where it throws: gdb's frames, the landing pads, the handler
+#
+# The program runs without an environment and without a random layout, so that addresses and bytes
+# are the same each time, and nothing of the machine is in its stack.
+set -euo pipefail
+cd "$(dirname "$0")/out"
+
+begin() {
+    env -i setarch -R "./$1" &
+    process=$!
+    trap 'kill "$process"' EXIT
+    until grep -q '^34 ' "/proc/$process/syscall"; do sleep 0.1; done
+}
+
+in_gdb() {
+    gdb -nx -q -p "$process" -batch -x ../../tools/frames.py -x ../landings.py -x ../../tools/snapshot.py -x ../steps.py "$@"
+}
+
+# A process that gdb let go after its catch may have ended by itself.
+end() {
+    trap - EXIT
+    kill "$process" 2> /dev/null || true
+    wait "$process" || true
+}
+
+of_report() {
+    grep -E '^(frame|end|cleanup|landing|outcome)'
+}
+
+take_walk() {
+    begin "$1"
+    in_gdb -ex "snapshot ../$2 --interrupted --limit 64 --module $1"
+    in_gdb -ex 'frames --program' | of_report > "../$3"
+    end
+}
+
+take_steps() {
+    rm -rf "$1.steps"
+    mkdir "$1.steps"
+    begin "$1"
+    in_gdb -ex "steps $2 $1.steps $1" > /dev/null
+    end
+}
+
+# The return addresses behind cleanups are known only when they have run, and the stack that a
+# delivery begins with only before: so the program runs twice.
+take_delivery() {
+    local told marks
+    begin "$1"
+    told=$(in_gdb -ex 'landings catcher')
+    end
+    of_report <<< "$told" > "../$3"
+    marks=$(grep -E '^--exception' <<< "$told"; sed -n 's/^resume /--resume /p' <<< "$told")
+    begin "$1"
+    in_gdb -ex raised -ex "snapshot ../$2 --limit 64 --module $1 ${marks//$'\n'/ }"
+    end
+}
+
+"take_$1" "${@:2}"

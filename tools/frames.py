@@ -1,0 +1,74 @@
+"""A command of gdb that prints the frames that gdb itself finds, in the form of a walk's report.
+
+    gdb -p PID -batch -x tools/frames.py -ex "frames"
+
+    frames [--program]
+
+Each line holds what `info registers` shows in that frame. With --program they end with the first
+frame that stands outside of the program's own file. It is there to compare with: it reads nothing
+that tools/snapshot.py or unwind_cli wrote.
+"""
+from __future__ import annotations
+
+from typing import Iterator
+
+import gdb
+
+# gdb runs each script in one namespace, so these names differ from those of tools/snapshot.py.
+SHOWN_REGISTERS = "rbx rbp r12 r13 r14 r15".split()
+
+
+def frames_outwards() -> Iterator[gdb.Frame]:
+    """The selected thread's frames, those above main and the entry point too."""
+    gdb.execute("set backtrace past-main on")
+    gdb.execute("set backtrace past-entry on")
+    frame = gdb.newest_frame()
+    while frame is not None:
+        yield frame
+        frame = frame.older()
+
+
+def shown_word(frame: gdb.Frame, name: str) -> str:
+    """A register as the report spells it, or a dash where gdb doesn't know it."""
+    try:
+        return f"{int(frame.read_register(name)) % 2**64:#x}"
+    except gdb.error:
+        return "-"
+
+
+def frame_line(level: int, frame: gdb.Frame) -> str:
+    """The line of a frame."""
+    fields = [f"ra={shown_word(frame, 'rip')}", f"sp={shown_word(frame, 'rsp')}"]
+    fields += [f"{name}={shown_word(frame, name)}" for name in SHOWN_REGISTERS]
+    return f"frame {level} " + " ".join(fields)
+
+
+def is_in_program(frame: gdb.Frame) -> bool:
+    """Whether the frame stands in the program's own file, and not in a shared library."""
+    return gdb.current_progspace().solib_name(frame.pc()) is None
+
+
+class FramesCommand(gdb.Command):
+    """Print each frame's registers in the form of a walk's report: frames [--program]"""
+
+    def __init__(self) -> None:
+        super().__init__("frames", gdb.COMMAND_STACK)
+
+    def invoke(self, argument: str, from_tty: bool) -> None:
+        """Prints them."""
+        words = gdb.string_to_argv(argument)
+        if words not in ([], ["--program"]):
+            raise gdb.GdbError("frames: usage: frames [--program]")
+        if gdb.selected_thread() is None:
+            raise gdb.GdbError("frames: no thread is selected")
+        for level, frame in enumerate(frames_outwards()):
+            # A function that was inlined has no frame of its own, and shows its caller's registers.
+            if frame.type() == gdb.INLINE_FRAME:
+                raise gdb.GdbError("frames: an inlined function stands between; build without -g")
+            print(frame_line(level, frame))
+            if words and not is_in_program(frame):
+                break
+        print("end")
+
+
+FramesCommand()
