@@ -1,9 +1,10 @@
 // The delivery of an exception: the states from the start outwards.
-ghost use Rattle.std.specs.Prelude.{◌≡◌, ◌≢◌, ◌⊎◌, ◌≤◌, ℕ, List, [], None, Err, length, IsOkAnd, OnErr};
+ghost use Rattle.std.specs.Prelude.{◌≡◌, ◌≢◌, ◌⊎◌, ◌↔◌, ◌≤◌, ℕ, List, [], None, Err, length, IsOkAnd, OnErr};
 ghost use Rattle.memory_image.specs.Image.{word_at};
 ghost use Rattle.unwind_definitions.specs.State.{State};
 ghost use Rattle.unwind_definitions.specs.Function.{Function};
 ghost use Rattle.unwind_definitions.specs.Chain.{Call};
+ghost use Rattle.stack_deliver.specs.Causes.{InPasses, TrailIsFull, HasNoReturn};
 ghost use Rattle.stack_deliver.specs.Delivering.{Delivers, delivery_of};
 ghost use Rattle.stack_deliver.specs.Walking.{StartsValidChain, ShowsDelivery, IsDelivered, delivered_in};
 
@@ -133,6 +134,9 @@ pub fn deliver_into<L: Ledger>(
     ensures places { room.new.limit ≡ room.old.limit }
     ensures unmapped { (a : ℕ) → result ≡ Err (DeliverError.Unmapped a) → word_at space.now.image a ≡ None }
     ensures takes_no_memory { result ≢ Err DeliverError.NoMemory }
+    // The trail is full, or a cleanup has no return address, exactly where a pass toward the handler meets that.
+    ensures pass_limit { (result ≡ Err DeliverError.PassLimit) ↔ InPasses space.now start.now exception resumes.now limit (λ kept. TrailIsFull space.now exception kept resumes.now limit) }
+    ensures no_resume { (pad : ℕ) → (result ≡ Err (DeliverError.NoResume pad)) ↔ InPasses space.now start.now exception resumes.now limit (λ kept. HasNoReturn space.now exception kept resumes.now limit pad) }
     // What is delivered to a valid chain is what the definition says of the chain.
     ensures chain { (functions : List Function) (s : State) (calls : List Call) → StartsValidChain space.now start.now resumes.now limit functions s calls →
         IsOkAnd result (λ ending. ShowsDelivery (delivered_in room.new ending) exception s calls) }
