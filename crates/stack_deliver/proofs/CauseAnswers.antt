@@ -95,7 +95,7 @@ module _ (space : SpaceValue) (exception kept : ℕ) (resumes : List (ℕ × ℕ
 -- ---- a pass's own errors are faults and its limit
 
 module _ (space : SpaceValue) where
-  turn_faults : (p : Phase) (c : Context) (interrupted : Bool) → OnStepFault (turn_of p space c interrupted)
+  pub turn_faults : (p : Phase) (c : Context) (interrupted : Bool) → OnStepFault (turn_of p space c interrupted)
   unfolding turn_of
   turn_faults p c interrupted = by_frame (frame_of space c interrupted) refl
     where
@@ -176,7 +176,7 @@ module _ (space : SpaceValue) where
 -- ---- the delivery
 
 module _ (space : SpaceValue) (c : Context) (exception : ℕ) (resumes : List (ℕ × ℕ)) (limit : ℕ) where
-  abbrev toward : ℕ → Result Passed DeliverError
+  abbrev pub toward : ℕ → Result Passed DeliverError
   toward kept = passes_of space exception kept resumes limit limit c
 
   after_error : (visited : List Context) (r : Result Passed DeliverError) (e : DeliverError) → delivered_after visited r ≡ Err e → r ≡ Err e
@@ -184,9 +184,9 @@ module _ (space : SpaceValue) (c : Context) (exception : ℕ) (resumes : List (�
   after_error visited (Err x) e is = cc
 
   -- what refuses a delivery refuses the search or the passes
-  refused_by : (e : DeliverError) → (pass_of phase.Search space limit c false ≡ Err e → ⊥) → delivery_of space c exception resumes limit ≡ Err e → (kept : ℕ) × TakenAt space limit c kept × (toward kept ≡ Err e)
+  pub refused_either : (e : DeliverError) → delivery_of space c exception resumes limit ≡ Err e → (pass_of phase.Search space limit c false ≡ Err e) ⊎ ((kept : ℕ) × TakenAt space limit c kept × (toward kept ≡ Err e))
   unfolding delivery_of
-  refused_by e never fails = go (pass_of phase.Search space limit c false) refl fails
+  refused_either e fails = go (pass_of phase.Search space limit c false) refl fails
     where
       at_pad : (line : Line) → pass_of phase.Search space limit c false ≡ Ok line → (stop : Stop) → line.stop ≡ Some stop → (o : Option ℕ) → pad_of stop.action ≡ o → delivered_at line.contexts o (toward (kept_at stop.context stop.interrupted)) ≡ Err e →
           (kept : ℕ) × TakenAt space limit c kept × (toward kept ≡ Err e)
@@ -201,14 +201,25 @@ module _ (space : SpaceValue) (c : Context) (exception : ℕ) (resumes : List (�
       at_stop line is None stops h = absurd cc
       at_stop line is (Some stop) stops h = at_pad line is stop stops (pad_of stop.action) refl h
 
-      go : (r : Result Line DeliverError) → pass_of phase.Search space limit c false ≡ r → delivered_by r toward ≡ Err e → (kept : ℕ) × TakenAt space limit c kept × (toward kept ≡ Err e)
-      go (Ok line) is h = at_stop line is line.stop refl h
-      go (Err x) is h = let same : x ≡ e = cc in absurd (never (is ∙ ap failed same))
+      go : (r : Result Line DeliverError) → pass_of phase.Search space limit c false ≡ r → delivered_by r toward ≡ Err e → (pass_of phase.Search space limit c false ≡ Err e) ⊎ ((kept : ℕ) × TakenAt space limit c kept × (toward kept ≡ Err e))
+      go (Ok line) is h = inr (at_stop line is line.stop refl h)
+      go (Err x) is h = let same : x ≡ e = cc in inl (is ∙ ap failed same)
         where
           failed : DeliverError → Result Line DeliverError
           failed y = Err y
 
-  refuses : (e : DeliverError) (kept : ℕ) → TakenAt space limit c kept → toward kept ≡ Err e → delivery_of space c exception resumes limit ≡ Err e
+  refused_by : (e : DeliverError) → (pass_of phase.Search space limit c false ≡ Err e → ⊥) → delivery_of space c exception resumes limit ≡ Err e → (kept : ℕ) × TakenAt space limit c kept × (toward kept ≡ Err e)
+  refused_by e never fails = go (refused_either e fails)
+    where
+      go : (pass_of phase.Search space limit c false ≡ Err e) ⊎ ((kept : ℕ) × TakenAt space limit c kept × (toward kept ≡ Err e)) → (kept : ℕ) × TakenAt space limit c kept × (toward kept ≡ Err e)
+      go (inl is) = absurd (never is)
+      go (inr r) = r
+
+  pub search_refuses : (e : DeliverError) → pass_of phase.Search space limit c false ≡ Err e → delivery_of space c exception resumes limit ≡ Err e
+  unfolding delivery_of
+  search_refuses e is = ap (λ r. delivered_by r toward) is
+
+  pub refuses : (e : DeliverError) (kept : ℕ) → TakenAt space limit c kept → toward kept ≡ Err e → delivery_of space c exception resumes limit ≡ Err e
   unfolding delivery_of
   refuses e kept taken fails =
       let own : toward (kept_at taken.stop.context taken.stop.interrupted) ≡ Err e = ap toward (sym taken.mark) ∙ fails in

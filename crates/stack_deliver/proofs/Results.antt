@@ -3,6 +3,7 @@ use Rattle.std.proofs.Common.{inl, inr, ◌≡◌, ◌≢◌, List, Result, Ok, 
 use Rattle.std.specs.Prelude.{◌⊎◌, IsOk, IsOkAnd}
 use Rattle.unwind_arch.specs.declared.x86_64.Context.{Context}
 use Rattle.stack_deliver.specs.declared.delivery.Ending.{Ending}
+use Rattle.stack_deliver.specs.declared.delivery.Outcome.{Outcome}
 use Rattle.stack_deliver.specs.declared.delivery.DeliverError.{DeliverError}
 use Rattle.stack_deliver.specs.declared.delivery.DeliverError.TheVariants.{NoMemory}
 use Rattle.stack_deliver.specs.Delivering.{Delivered, Delivers}
@@ -35,6 +36,10 @@ fault_delivered (Err x) room due e is fails = let same : x ≡ e = cc in ap Err 
 pub ending_delivered : (r : Result Ending DeliverError) (room : RoomValue) (due : Result Delivered DeliverError) (d : Delivered) (P : Delivered → Type 0) → IsDelivered r room due → due ≡ Ok d → P d → IsOkAnd r (λ ending. P (delivered_in room ending))
 ending_delivered (Ok ending) room due d P is goes p = let same : d ≡ delivered_in room ending = cc in rw same at p
 ending_delivered (Err x) room due d P is goes p = absurd cc
+
+pub delivered_ending : (r : Result Ending DeliverError) (room : RoomValue) (due : Result Delivered DeliverError) (o : Outcome) → IsDelivered r room due → IsOkAnd r (λ ending. ending.outcome ≡ o) → (d : Delivered) × (due ≡ Ok d) × (d.outcome ≡ o)
+delivered_ending (Ok ending) room due o is ends = (delivered_in room ending, is, ends)
+delivered_ending (Err x) room due o is ends = absurd ends
 
 -- ---- answers that want of memory may stand for
 

@@ -64,7 +64,7 @@ module _ (space : SpaceValue) (c : Context) (s : State) (k : Call) (m : Met spac
 
 -- ---- the end of the stack
 
-none_framed : (image : List Span) (c : Context) (r : Result (Option FrameAt) DeliverError) → stepped_by image c r ≡ Ok None → r ≡ Ok None
+pub none_framed : (image : List Span) (c : Context) (r : Result (Option FrameAt) DeliverError) → stepped_by image c r ≡ Ok None → r ≡ Ok None
 none_framed image c (Ok None) e = refl
 none_framed image c (Ok (Some f)) e = absurd (never (callers f) e)
   where

@@ -1,9 +1,11 @@
 pub mod Causes
 pub mod Delivering
+pub mod Meeting
 pub mod Modules
 pub mod Nearest
 pub mod Passes
 pub mod Passing
+pub mod Personality
 pub mod Processes
 pub mod Resumes
 pub mod Shown

@@ -4,7 +4,7 @@ ghost use Rattle.memory_image.specs.Image.{word_at};
 ghost use Rattle.unwind_definitions.specs.State.{State};
 ghost use Rattle.unwind_definitions.specs.Function.{Function};
 ghost use Rattle.unwind_definitions.specs.Chain.{Call};
-ghost use Rattle.stack_deliver.specs.Causes.{InPasses, TrailIsFull, HasNoReturn};
+ghost use Rattle.stack_deliver.specs.Causes.{IsRefused, EndsBy};
 ghost use Rattle.stack_deliver.specs.Delivering.{Delivers, delivery_of};
 ghost use Rattle.stack_deliver.specs.Walking.{StartsValidChain, ShowsDelivery, IsDelivered, delivered_in};
 
@@ -134,9 +134,9 @@ pub fn deliver_into<L: Ledger>(
     ensures places { room.new.limit ≡ room.old.limit }
     ensures unmapped { (a : ℕ) → result ≡ Err (DeliverError.Unmapped a) → word_at space.now.image a ≡ None }
     ensures takes_no_memory { result ≢ Err DeliverError.NoMemory }
-    // The trail is full, or a cleanup has no return address, exactly where a pass toward the handler meets that.
-    ensures pass_limit { (result ≡ Err DeliverError.PassLimit) ↔ InPasses space.now start.now exception resumes.now limit (λ kept. TrailIsFull space.now exception kept resumes.now limit) }
-    ensures no_resume { (pad : ℕ) → (result ≡ Err (DeliverError.NoResume pad)) ↔ InPasses space.now start.now exception resumes.now limit (λ kept. HasNoReturn space.now exception kept resumes.now limit pad) }
+    // Each error comes exactly for its cause, and each outcome exactly where the search or a pass meets what it says.
+    ensures refused { (error : DeliverError) → (result ≡ Err error) ↔ IsRefused space.now start.now exception resumes.now limit error }
+    ensures ended { (outcome : Outcome) → IsOkAnd result (λ ending. ending.outcome ≡ outcome) ↔ EndsBy space.now start.now exception resumes.now limit outcome }
     // What is delivered to a valid chain is what the definition says of the chain.
     ensures chain { (functions : List Function) (s : State) (calls : List Call) → StartsValidChain space.now start.now resumes.now limit functions s calls →
         IsOkAnd result (λ ending. ShowsDelivery (delivered_in room.new ending) exception s calls) }
@@ -166,6 +166,12 @@ pub fn deliver(
 ) -> Result<Delivery, DeliverError>
     ensures exact { Delivers result (delivery_of space.now start.now exception resumes.now limit) }
     ensures unmapped { (a : ℕ) → result ≡ Err (DeliverError.Unmapped a) → word_at space.now.image a ≡ None }
+    // Each error but that of memory comes only for its cause, and each outcome only where the search or a pass meets what it says.
+    ensures refused { (error : DeliverError) → error ≢ DeliverError.NoMemory → result ≡ Err error → IsRefused space.now start.now exception resumes.now limit error }
+    ensures ended { (outcome : Outcome) → IsOkAnd result (λ delivery. delivery.outcome ≡ outcome) → EndsBy space.now start.now exception resumes.now limit outcome }
+    // For each cause nothing else comes, unless memory runs out.
+    ensures refuses { (error : DeliverError) → IsRefused space.now start.now exception resumes.now limit error → (result ≡ Err DeliverError.NoMemory) ⊎ (result ≡ Err error) }
+    ensures ends { (outcome : Outcome) → EndsBy space.now start.now exception resumes.now limit outcome → (result ≡ Err DeliverError.NoMemory) ⊎ IsOkAnd result (λ delivery. delivery.outcome ≡ outcome) }
     // What is delivered to a valid chain is what the definition says of the chain.
     ensures chain { (functions : List Function) (s : State) (calls : List Call) → StartsValidChain space.now start.now resumes.now limit functions s calls →
         (result ≡ Err DeliverError.NoMemory) ⊎ IsOkAnd result (λ delivery. ShowsDelivery delivery exception s calls) }

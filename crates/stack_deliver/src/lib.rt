@@ -6,6 +6,7 @@
 mod delivering;
 mod delivery;
 mod passes;
+mod personality;
 mod resumes;
 mod room;
 mod space;
@@ -15,6 +16,7 @@ mod walking;
 pub use delivering::{deliver, deliver_into};
 pub use delivery::{DeliverError, Delivery, Ending, Outcome, Stepped, Trail};
 pub use eh_frame::Error;
+pub use personality::passes_ask_the_personality;
 pub use resumes::{Resumes, first_entry_counts};
 pub use room::Room;
 pub use space::{Module, Space, SpaceError};

@@ -1,10 +1,11 @@
-use Rattle.std.proofs.Common.{◌∙◌}
-use Rattle.stack_deliver.specs.declared.delivery.DeliverError.TheVariants.{NoMemory, Unmapped, PassLimit, NoResume}
+use Rattle.std.proofs.Common.{◌≡◌, subst}
+use Rattle.stack_deliver.specs.declared.delivery.DeliverError.TheVariants.{NoMemory, Unmapped}
+use Rattle.stack_deliver.specs.Causes.{EndsBy}
 use Rattle.stack_deliver.specs.Delivering.{Delivered}
 use Rattle.stack_deliver.specs.Walking.{ShowsDelivery}
 use Rattle.stack_deliver.proofs.DeliverFaults.{delivery_unmapped, delivery_memory}
-use Rattle.stack_deliver.proofs.Results.{delivered_fault, fault_delivered, ending_delivered}
-use Rattle.stack_deliver.proofs.CauseAnswers.{limit_met, met_limit, unresumed, no_return}
+use Rattle.stack_deliver.proofs.Results.{delivered_fault, fault_delivered, ending_delivered, delivered_ending}
+use Rattle.stack_deliver.proofs.DeliveryAnswers.{refused_why, why_refused, ended_by, by_end}
 use Rattle.stack_deliver.proofs.ChainDelivered.{chain_delivered}
 use Rattle.stack_deliver.proofs.delivering.deliver_into.Goals as goal
 
@@ -19,14 +20,18 @@ returns-clause-chain g c functions s calls starts =
     let d = chain_delivered c.args.space.now c.args.start.now c.args.exception c.args.resumes.now c.args.limit functions s calls c.modules_are_apart.ensures c.registers_are_sixteen.ensures starts in
     ending_delivered c.emptied.result c.emptied.new.room _ d.delivered (λ (x : Delivered). ShowsDelivery x c.args.exception s calls) c.emptied.ensures.exact d.is d.shows
 
-pub returns-clause-pass_limit : goal.returns-clause-pass_limit
-returns-clause-pass_limit g c = (
-  λ e. limit_met c.args.space.now c.args.start.now c.args.exception c.args.resumes.now c.args.limit (delivered_fault c.emptied.result c.emptied.new.room _ PassLimit c.emptied.ensures.exact e),
-  λ full. fault_delivered c.emptied.result c.emptied.new.room _ PassLimit c.emptied.ensures.exact (met_limit c.args.space.now c.args.start.now c.args.exception c.args.resumes.now c.args.limit full),
+pub returns-clause-refused : goal.returns-clause-refused
+returns-clause-refused g c error = (
+  λ e. refused_why c.args.space.now c.args.start.now c.args.exception c.args.resumes.now c.args.limit error (delivered_fault c.emptied.result c.emptied.new.room _ error c.emptied.ensures.exact e),
+  λ why. fault_delivered c.emptied.result c.emptied.new.room _ error c.emptied.ensures.exact (why_refused c.args.space.now c.args.start.now c.args.exception c.args.resumes.now c.args.limit error why),
 )
 
-pub returns-clause-no_resume : goal.returns-clause-no_resume
-returns-clause-no_resume g c pad = (
-  λ e. unresumed c.args.space.now c.args.start.now c.args.exception c.args.resumes.now c.args.limit pad (delivered_fault c.emptied.result c.emptied.new.room _ (NoResume pad) c.emptied.ensures.exact e),
-  λ none. fault_delivered c.emptied.result c.emptied.new.room _ (NoResume pad) c.emptied.ensures.exact (no_return c.args.space.now c.args.start.now c.args.exception c.args.resumes.now c.args.limit pad none),
+pub returns-clause-ended : goal.returns-clause-ended
+returns-clause-ended g c outcome = (
+  λ ends.
+      let d = delivered_ending c.emptied.result c.emptied.new.room _ outcome c.emptied.ensures.exact ends in
+      subst (EndsBy c.args.space.now c.args.start.now c.args.exception c.args.resumes.now c.args.limit) d.2 (ended_by c.args.space.now c.args.start.now c.args.exception c.args.resumes.now c.args.limit d.0 d.1),
+  λ by.
+      let d = by_end c.args.space.now c.args.start.now c.args.exception c.args.resumes.now c.args.limit outcome by in
+      ending_delivered c.emptied.result c.emptied.new.room _ d.0 (λ (x : Delivered). x.outcome ≡ outcome) c.emptied.ensures.exact d.1 d.2,
 )

@@ -1,0 +1,230 @@
+-- What a pass answers, in the words of what it meets.
+use Rattle.std.proofs.Common.{inl, inr, ◌≡◌, ◌≢◌, ℕ, zero, suc, Bool, true, false, cond, List, [], ◌∷◌, Option, Some, None, Result, Ok, Err, refl, sym, ap, subst, ◌∙◌}
+use Rattle.std.specs.Prelude.{◌⊎◌}
+use Rattle.memory_image.specs.Image.{Span}
+use Rattle.unwind_definitions.specs.Caller as calls
+use Rattle.unwind_definitions.specs.Function.{Action, NoAction, Cleanup, Catch, Filter, Terminate}
+use Rattle.unwind_definitions.specs.LanguageSearch.{personality_address, address_of_call, language_action}
+use Rattle.unwind_definitions.specs.Row.{argument_size}
+use Rattle.unwind_arch.specs.declared.x86_64.Context.{Context}
+use Rattle.unwinding_core.specs.Finding.{FoundFde}
+use Rattle.stack_deliver.specs.declared.delivery.Stepped.{Stepped}
+use Rattle.stack_deliver.specs.declared.delivery.DeliverError.{DeliverError}
+use Rattle.stack_deliver.specs.declared.delivery.DeliverError.TheVariants.{FrameLimit}
+use Rattle.stack_deliver.specs.declared.passes.Phase.{Phase}
+use Rattle.stack_deliver.specs.Modules.{SpaceValue}
+use Rattle.stack_deliver.specs.Stepping.{step_of, refusal_of}
+use Rattle.stack_deliver.specs.Passes.{FrameAt, frame_of, caller_by, or_terminate, asked_if_named, asked_of, stops, past_arguments, goes, turn_asked, turn_by, Line, Stop, Turn, Ends, Stops, Goes, turn_of, with_context, line_turn, pass_of}
+use Rattle.stack_deliver.specs.Passing.{stop_in}
+use Rattle.stack_deliver.specs.Meeting.{Asks, GoesTo, EndsProgram, StackEnds, CantRead, Meets, GoesOnFrom}
+use Rattle.stack_deliver.proofs.Framings.{some_next, stepped_by, step_is}
+use Rattle.stack_deliver.proofs.Turns.{none_framed}
+
+-- ---- a turn
+
+module _ (p : Phase) (space : SpaceValue) (c : Context) (interrupted : Bool) where
+  abbrev framed : Result (Option FrameAt) DeliverError
+  framed = frame_of space c interrupted
+
+  -- the caller by a frame is the step's
+  next_is : (f : FrameAt) (next : Stepped) → framed ≡ Ok (Some f) → caller_by space.image c f ≡ Ok next → step_of space c interrupted ≡ Ok (Some next)
+  next_is f next is called = step_is space c interrupted ∙ ap (stepped_by space.image c) is ∙ ap some_next called
+
+  is_next : (f : FrameAt) (next : Stepped) → framed ≡ Ok (Some f) → step_of space c interrupted ≡ Ok (Some next) → caller_by space.image c f ≡ Ok next
+  is_next f next is steps = go (caller_by space.image c f) (sym (step_is space c interrupted ∙ ap (stepped_by space.image c) is) ∙ steps)
+    where
+      go : (r : Result Stepped DeliverError) → some_next r ≡ Ok (Some next) → r ≡ Ok next
+      go (Ok x) e = cc
+      go (Err x) e = absurd cc
+
+  fails_next : (f : FrameAt) (e : DeliverError) → framed ≡ Ok (Some f) → step_of space c interrupted ≡ Err e → caller_by space.image c f ≡ Err e
+  fails_next f e is steps = go (caller_by space.image c f) (sym (step_is space c interrupted ∙ ap (stepped_by space.image c) is) ∙ steps)
+    where
+      go : (r : Result Stepped DeliverError) → some_next r ≡ Err e → r ≡ Err e
+      go (Ok x) h = absurd cc
+      go (Err x) h = cc
+
+  next_fails : (f : FrameAt) (e : DeliverError) → framed ≡ Ok (Some f) → caller_by space.image c f ≡ Err e → step_of space c interrupted ≡ Err e
+  next_fails f e is called = step_is space c interrupted ∙ ap (stepped_by space.image c) is ∙ ap some_next called
+
+  -- the end of the stack
+  pub turn_ends : StackEnds space c interrupted → turn_of p space c interrupted ≡ Ok Ends
+  unfolding turn_of
+  turn_ends ends = let is : framed ≡ Ok None = none_framed space.image c framed (sym (step_is space c interrupted) ∙ ends) in rw is refl
+
+  -- what a turn is, by what it meets
+  abbrev pub IsTurn : Result Turn DeliverError → Type 0
+  IsTurn (Ok Ends) = StackEnds space c interrupted
+  IsTurn (Ok (Stops wanted past)) = Asks space c interrupted wanted × (stops p wanted ≡ true)
+  IsTurn (Ok (Goes next)) = GoesTo p space c interrupted next
+  IsTurn (Err e) = CantRead p e space c interrupted
+
+  by_caller : (f : FrameAt) (wanted : Action) → Asks space c interrupted wanted → stops p wanted ≡ false → framed ≡ Ok (Some f) → (r : Result Stepped DeliverError) → caller_by space.image c f ≡ r → IsTurn (goes r)
+  by_caller f wanted asks silent is (Ok next) called = record { action = wanted; asks = asks; silent = silent; caller = next_is f next is called }
+  by_caller f wanted asks silent is (Err e) called = inr (inr (wanted, asks, silent, next_fails f e is called))
+
+  by_test : (f : FrameAt) (wanted : Action) → Asks space c interrupted wanted → framed ≡ Ok (Some f) → (b : Bool) → stops p wanted ≡ b → IsTurn (cond b (Ok (Stops wanted (past_arguments c (argument_size f.run)))) (goes (caller_by space.image c f)))
+  by_test f wanted asks is true stopped = (asks, stopped)
+  by_test f wanted asks is false silent = by_caller f wanted asks silent is (caller_by space.image c f) refl
+
+  cell_fails : (f : FrameAt) (e : DeliverError) → framed ≡ Ok (Some f) → (r : Result (Option ℕ) calls.StepFault) → personality_address space.image f.found.fde ≡ r → asked_if_named space.image c interrupted f.found r ≡ Err e → CantRead p e space c interrupted
+  cell_fails f e is (Ok None) named fails = absurd cc
+  cell_fails f e is (Ok (Some routine)) named fails = absurd cc
+  cell_fails f e is (Err fault) named fails = inr (inl (f, fault, is, named, cc))
+
+  by_asked : (f : FrameAt) → framed ≡ Ok (Some f) → (r : Result Action DeliverError) → asked_of space.image c interrupted f.found ≡ r → IsTurn (turn_asked p space.image c f r)
+  by_asked f is (Ok wanted) asked = by_test f wanted (record { frame = f; framed = is; asked = asked }) is (stops p wanted) refl
+  by_asked f is (Err e) asked = cell_fails f e is (personality_address space.image f.found.fde) refl asked
+
+  by_frame : (r : Result (Option FrameAt) DeliverError) → framed ≡ r → IsTurn (turn_by p space.image c interrupted r)
+  by_frame (Ok None) is = step_is space c interrupted ∙ ap (stepped_by space.image c) is
+  by_frame (Ok (Some f)) is = by_asked f is (asked_of space.image c interrupted f.found) refl
+  by_frame (Err e) is = inl is
+
+  turn_is : IsTurn (turn_of p space c interrupted)
+  unfolding turn_of
+  turn_is = by_frame framed refl
+
+  pub turn_meets : (r : Result Turn DeliverError) → turn_of p space c interrupted ≡ r → IsTurn r
+  turn_meets r is = subst IsTurn is turn_is
+
+  -- a frame that asks for something for which the pass stops
+  pub turn_stops : (wanted : Action) → (asks : Asks space c interrupted wanted) → stops p wanted ≡ true → turn_of p space c interrupted ≡ Ok (Stops wanted (past_arguments c (argument_size asks.frame.run)))
+  unfolding turn_of
+  turn_stops wanted asks stopped = rw (asks.framed, asks.asked, stopped) refl
+
+  -- a frame that asks for nothing of that kind
+  pub turn_goes : (next : Stepped) → GoesTo p space c interrupted next → turn_of p space c interrupted ≡ Ok (Goes next)
+  unfolding turn_of
+  turn_goes next to = rw (to.asks.framed, to.asks.asked, to.silent, is_next to.asks.frame next to.asks.framed to.caller) refl
+
+  -- what can't be read
+  pub turn_fails : (e : DeliverError) → CantRead p e space c interrupted → turn_of p space c interrupted ≡ Err e
+  unfolding turn_of
+  turn_fails e (inl row) = rw row refl
+  turn_fails e (inr (inl cell)) =
+      let f : FrameAt = cell.0 in let fault : calls.StepFault = cell.1 in
+      rw (cell.2, cell.3, cell.4) refl
+  turn_fails e (inr (inr caller)) =
+      let wanted : Action = caller.0 in let asks : Asks space c interrupted wanted = caller.1 in
+      rw (asks.framed, asks.asked, caller.2, fails_next asks.frame e asks.framed caller.3) refl
+
+-- ---- the language's answer to end the program
+
+module _ (space : SpaceValue) (c : Context) (interrupted : Bool) where
+  pub ends_asks : EndsProgram space c interrupted → Asks space c interrupted Terminate
+  ends_asks ends = record { frame = ends.frame; framed = ends.framed; asked = ap (asked_if_named space.image c interrupted ends.frame.found) ends.named ∙ fatal ends.fatal }
+    where
+      asked : Result Action calls.StepFault
+      asked = language_action space.image ends.frame.found.bases ends.frame.found.fde (address_of_call c.ra interrupted)
+
+      answer : Result Action calls.StepFault → Result Action DeliverError
+      answer r = Ok (or_terminate r)
+
+      fatal : (asked ≡ Ok Terminate) ⊎ ((e : calls.StepFault) × (asked ≡ Err e)) → answer asked ≡ Ok Terminate
+      fatal (inl is) = ap answer is
+      fatal (inr fails) = ap answer fails.1
+
+  pub asks_ends : Asks space c interrupted Terminate → EndsProgram space c interrupted
+  asks_ends asks = go (personality_address space.image asks.frame.found.fde) refl asks.asked
+    where
+      by_table : (routine : ℕ) → personality_address space.image asks.frame.found.fde ≡ Ok (Some routine) → (r : Result Action calls.StepFault) → language_action space.image asks.frame.found.bases asks.frame.found.fde (address_of_call c.ra interrupted) ≡ r → or_terminate r ≡ Terminate → EndsProgram space c interrupted
+      by_table routine named (Ok wanted) is e = record { frame = asks.frame; framed = asks.framed; routine = routine; named = named; fatal = inl (is ∙ ap Ok e) }
+      by_table routine named (Err fault) is e = record { frame = asks.frame; framed = asks.framed; routine = routine; named = named; fatal = inr (fault, is) }
+
+      go : (r : Result (Option ℕ) calls.StepFault) → personality_address space.image asks.frame.found.fde ≡ r → asked_if_named space.image c interrupted asks.frame.found r ≡ Ok Terminate → EndsProgram space c interrupted
+      go (Ok None) named e = let bad : NoAction ≡ Terminate = cc in absurd cc
+      go (Ok (Some routine)) named e = by_table routine named (language_action space.image asks.frame.found.bases asks.frame.found.fde (address_of_call c.ra interrupted)) refl cc
+      go (Err fault) named e = absurd cc
+
+-- ---- a pass
+
+module _ (p : Phase) (space : SpaceValue) where
+  -- the last turn of a pass gives this
+  abbrev pub Last : Result (Option Stop) DeliverError → Context → Bool → Type 0
+  Last (Ok None) c interrupted = turn_of p space c interrupted ≡ Ok Ends
+  Last (Ok (Some stop)) c interrupted = (stop.context ≡ c) × (stop.interrupted ≡ interrupted) × (turn_of p space c interrupted ≡ Ok (Stops stop.action stop.past))
+  Last (Err e) c interrupted = turn_of p space c interrupted ≡ Err e
+
+  stop_same : (c : Context) (r : Result Line DeliverError) → stop_in (with_context c r) ≡ stop_in r
+  stop_same c (Ok line) = refl
+  stop_same c (Err e) = refl
+
+  -- a pass needs more room, or its last turn gives its answer
+  pub pass_last : (room : ℕ) (c : Context) (interrupted : Bool) (r : Result (Option Stop) DeliverError) → stop_in (pass_of p space room c interrupted) ≡ r →
+      ((r ≡ Err FrameLimit) × GoesOnFrom p space room c interrupted) ⊎ Meets p space (Last r) room c interrupted
+  pass_last zero c interrupted r is = inl (sym is, tt)
+  pass_last (suc room) c interrupted r is = go (turn_of p space c interrupted) refl (λ d mark. pass_last room d mark r) is
+    where
+      go : (t : Result Turn DeliverError) → turn_of p space c interrupted ≡ t →
+          ((d : Context) (mark : Bool) → stop_in (pass_of p space room d mark) ≡ r → ((r ≡ Err FrameLimit) × GoesOnFrom p space room d mark) ⊎ Meets p space (Last r) room d mark) →
+          stop_in (line_turn c interrupted t (pass_of p space room)) ≡ r → ((r ≡ Err FrameLimit) × GoesOnFrom p space (suc room) c interrupted) ⊎ Meets p space (Last r) (suc room) c interrupted
+      go (Ok Ends) turns outer is = inr (inl (subst (λ x. Last x c interrupted) is turns))
+      go (Ok (Stops wanted past)) turns outer is = inr (inl (subst (λ x. Last x c interrupted) is (refl, refl, turns)))
+      go (Ok (Goes next)) turns outer is = on (outer next.context next.signal (sym (stop_same c (pass_of p space room next.context next.signal)) ∙ is))
+        where
+          to : GoesTo p space c interrupted next
+          to = turn_meets p space c interrupted (Ok (Goes next)) turns
+
+          on : ((r ≡ Err FrameLimit) × GoesOnFrom p space room next.context next.signal) ⊎ Meets p space (Last r) room next.context next.signal →
+              ((r ≡ Err FrameLimit) × GoesOnFrom p space (suc room) c interrupted) ⊎ Meets p space (Last r) (suc room) c interrupted
+          on (inl more) = inl (more.0, (next, to, more.1))
+          on (inr meets) = inr (inr (next, to, meets))
+      go (Err e) turns outer is = inr (inl (subst (λ x. Last x c interrupted) is turns))
+
+  -- the answer of the last turn is the pass's
+  pub last_pass : (room : ℕ) (c : Context) (interrupted : Bool) (r : Result (Option Stop) DeliverError) → Meets p space (Last r) room c interrupted → stop_in (pass_of p space room c interrupted) ≡ r
+  last_pass zero c interrupted r meets = absurd meets
+  last_pass (suc room) c interrupted (Ok None) (inl last) = rw last refl
+  last_pass (suc room) c interrupted (Ok (Some stop)) (inl last) = rw (last.2, ← last.0, ← last.1) refl
+  last_pass (suc room) c interrupted (Err e) (inl last) = rw last refl
+  last_pass (suc room) c interrupted r (inr later) =
+      let next : Stepped = later.0 in
+      let rest : stop_in (pass_of p space room next.context next.signal) ≡ r = last_pass room next.context next.signal r later.2 in
+      rw (turn_goes p space c interrupted next later.1) (stop_same c (pass_of p space room next.context next.signal) ∙ rest)
+
+  -- a pass that goes on from each context meets its limit
+  pub more_pass : (room : ℕ) (c : Context) (interrupted : Bool) → GoesOnFrom p space room c interrupted → stop_in (pass_of p space room c interrupted) ≡ Err FrameLimit
+  more_pass zero c interrupted more = refl
+  more_pass (suc room) c interrupted more =
+      let next : Stepped = more.0 in
+      let rest : stop_in (pass_of p space room next.context next.signal) ≡ Err FrameLimit = more_pass room next.context next.signal more.2 in
+      rw (turn_goes p space c interrupted next more.1) (stop_same c (pass_of p space room next.context next.signal) ∙ rest)
+
+  pub meets_too : (P Q : Context → Bool → Type 0) → ((c : Context) (interrupted : Bool) → P c interrupted → Q c interrupted) → (room : ℕ) (c : Context) (interrupted : Bool) → Meets p space P room c interrupted → Meets p space Q room c interrupted
+  meets_too P Q each zero c interrupted meets = absurd meets
+  meets_too P Q each (suc room) c interrupted (inl now) = inl (each c interrupted now)
+  meets_too P Q each (suc room) c interrupted (inr later) = inr (later.0, later.1, meets_too P Q each room later.0.context later.0.signal later.2)
+
+  -- nothing is met that never is
+  pub meets_never : (P : Context → Bool → Type 0) → ((c : Context) (interrupted : Bool) → P c interrupted → ⊥) → (room : ℕ) (c : Context) (interrupted : Bool) → Meets p space P room c interrupted → ⊥
+  meets_never P never zero c interrupted meets = meets
+  meets_never P never (suc room) c interrupted (inl now) = never c interrupted now
+  meets_never P never (suc room) c interrupted (inr later) = meets_never P never room later.0.context later.0.signal later.2
+
+  -- one of two is met
+  pub meets_either : (P Q : Context → Bool → Type 0) (room : ℕ) (c : Context) (interrupted : Bool) → Meets p space (λ d mark. P d mark ⊎ Q d mark) room c interrupted → Meets p space P room c interrupted ⊎ Meets p space Q room c interrupted
+  meets_either P Q zero c interrupted meets = absurd meets
+  meets_either P Q (suc room) c interrupted (inl (inl now)) = inl (inl now)
+  meets_either P Q (suc room) c interrupted (inl (inr now)) = inr (inl now)
+  meets_either P Q (suc room) c interrupted (inr later) = go (meets_either P Q room later.0.context later.0.signal later.2)
+    where
+      go : Meets p space P room later.0.context later.0.signal ⊎ Meets p space Q room later.0.context later.0.signal → Meets p space P (suc room) c interrupted ⊎ Meets p space Q (suc room) c interrupted
+      go (inl meets) = inl (inr (later.0, later.1, meets))
+      go (inr meets) = inr (inr (later.0, later.1, meets))
+
+  -- a frame that asks for something for which the pass stops
+  abbrev pub StopsFor : (Context → Bool → Action → Type 0) → Context → Bool → Type 0
+  StopsFor Q c interrupted = (wanted : Action) × Asks space c interrupted wanted × (stops p wanted ≡ true) × Q c interrupted wanted
+
+  -- the pass stops at the first of them
+  pub meets_stop : (Q : Context → Bool → Action → Type 0) (room : ℕ) (c : Context) (interrupted : Bool) → Meets p space (StopsFor Q) room c interrupted → (stop : Stop) × Meets p space (Last (Ok (Some stop))) room c interrupted × Q stop.context stop.interrupted stop.action
+  meets_stop Q zero c interrupted meets = absurd meets
+  meets_stop Q (suc room) c interrupted (inl now) =
+      let wanted : Action = now.0 in let asks : Asks space c interrupted wanted = now.1 in
+      let past : Context = past_arguments c (argument_size asks.frame.run) in
+      (record { context = c; interrupted = interrupted; action = wanted; past = past }, inl (refl, refl, turn_stops p space c interrupted wanted asks now.2), now.3)
+  meets_stop Q (suc room) c interrupted (inr later) =
+      let next : Stepped = later.0 in
+      let r = meets_stop Q room next.context next.signal later.2 in
+      (r.0, inr (next, later.1, r.1), r.2)

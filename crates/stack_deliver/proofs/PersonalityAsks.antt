@@ -1,0 +1,80 @@
+-- What the personality of Rust answers for a frame is what the passes ask of it.
+use Rattle.std.proofs.Common.{inl, inr, ◌≡◌, ◌≢◌, ℕ, zero, suc, pos, ◌+◌, ◌%◌, ◌^◌, Bool, true, false, cond, eqb, List, [], ◌∷◌, length, get_or, set, Option, Some, None, Result, Ok, Err, refl, sym, ap, subst, ◌∙◌, arith}
+use Rattle.std.proofs.lemmas.Bool.Decides.{nat_tests}
+use Rattle.std.proofs.lemmas.List.{get_or-set_other}
+use Rattle.memory_image.specs.Image.{Span}
+use Rattle.unwind_definitions.specs.Caller.{Columns, StepFault}
+use Rattle.unwind_definitions.specs.Function.{Action, NoAction, Cleanup, Catch, Filter, Terminate}
+use Rattle.unwind_definitions.specs.LanguageSearch.{personality_address, address_of_call, language_action}
+use Rattle.unwind_arch.specs.declared.x86_64.Context.{Context}
+use Rattle.unwind_arch.specs.Contexts.{columns_of}
+use Rattle.unwinding_core.specs.declared.abi.TheConstants.UnwindReasonCode.{FATAL_PHASE1_ERROR, FATAL_PHASE2_ERROR}
+use Rattle.unwinding_core.specs.Columns.{with_value}
+use Rattle.unwinding_core.specs.FrameValue.{FrameValue}
+use Rattle.unwinding_core.specs.Personalities.{Asked, landed, searched, answered_by}
+use Rattle.stack_deliver.specs.declared.delivery.DeliverError.{DeliverError}
+use Rattle.stack_deliver.specs.Passes.{or_terminate, asked_if_named, enters, past_arguments}
+use Rattle.stack_deliver.specs.Personality.{landing_columns, InSearch, InCleanup, IsAsked, AnswersCleanup, answer_for}
+use Rattle.stack_deliver.proofs.ContextLemmas.{IsWhole, Holds, with_column-holds}
+
+is_same : (m n : ℕ) → eqb m n ≡ true → m ≡ n
+is_same m n same = grind (arith, nat_tests)
+
+is_other : (m n : ℕ) → eqb m n ≡ false → m ≢ n
+is_other m n other = grind (arith, nat_tests)
+
+-- ---- the registers of a landing pad
+
+holds_columns : (c d : Context) (k v : ℕ) → Holds c d k v → with_value (columns_of c) k v ≡ columns_of d
+holds_columns c d k v holds = λ i j. each j i
+  where
+    by_test : (j : ℕ) (b : Bool) → eqb j k ≡ b → cond b (Some v) (columns_of c j) ≡ columns_of d j
+    by_test j true same = let here : j ≡ k = is_same j k same in sym holds.here ∙ ap (columns_of d) (sym here)
+    by_test j false other = sym (holds.others j (is_other j k other))
+
+    each : (j : ℕ) → with_value (columns_of c) k v j ≡ columns_of d j
+    each j = by_test j (eqb j k) refl
+
+pub landed_columns : (c : Context) (exception pad : ℕ) → IsWhole c → landed landing_columns exception pad (columns_of c) ≡ columns_of (enters c exception pad)
+landed_columns c exception pad whole =
+    let c1 : Context = record c { registers = set c.registers 0 exception } in
+    let h1 : Holds c c1 0 exception = (with_column-holds c 0 exception whole).1 in
+    let c2 : Context = record c1 { registers = set c1.registers 1 0 } in
+    let h2 : Holds c1 c2 1 0 = (with_column-holds c1 1 0 h1.whole).1 in
+    let h3 : Holds c2 (enters c exception pad) 16 pad = (with_column-holds c2 16 pad h2.whole).1 in
+    ap (λ (columns : Columns). with_value (with_value columns 1 0) 16 pad) (holds_columns c c1 0 exception h1)
+    ∙ ap (λ (columns : Columns). with_value columns 16 pad) (holds_columns c1 c2 1 0 h2)
+    ∙ holds_columns c2 (enters c exception pad) 16 pad h3
+
+-- ---- answers
+
+module _ (image : List Span) (c : Context) (interrupted : Bool) (frame : FrameValue) (action : Action) (asked : Asked) (is : IsAsked image c interrupted frame action) where
+  abbrev table : Result Action StepFault
+  table = language_action image frame.found.bases frame.found.fde (address_of_call c.ra interrupted)
+
+  told : or_terminate table ≡ action
+  told = inner (ap (asked_if_named image c interrupted frame.found) (sym is.named) ∙ is.asks)
+    where
+      inner : ◌≡◌ {A = Result Action DeliverError} (Ok (or_terminate table)) (Ok action) → or_terminate table ≡ action
+      inner e = cc
+
+  pub answers_search : InSearch asked → answer_for asked image frame c interrupted ≡ (searched action, columns_of c)
+  answers_search in_search = rw in_search.version (by_table table told)
+    where
+      by_table : (r : Result Action StepFault) → or_terminate r ≡ action → answered_by landing_columns asked (columns_of c) r ≡ (searched action, columns_of c)
+      by_table (Ok x) e = rw (in_search.search, e) refl
+      by_table (Err fault) e = rw (← e) refl
+
+  pub answers_cleanup : InCleanup asked → IsWhole c → AnswersCleanup action asked.exception c (answer_for asked image frame c interrupted)
+  answers_cleanup in_cleanup whole = rw in_cleanup.version (by_table table told)
+    where
+      by_action : (x : Action) → AnswersCleanup x asked.exception c (answered_by landing_columns asked (columns_of c) (Ok x))
+      by_action NoAction = rw in_cleanup.cleanup refl
+      by_action (Cleanup pad) = rw (in_cleanup.cleanup, landed_columns c asked.exception pad whole) refl
+      by_action (Catch pad) = rw (in_cleanup.cleanup, landed_columns c asked.exception pad whole) refl
+      by_action (Filter pad) = rw (in_cleanup.cleanup, in_cleanup.unforced, landed_columns c asked.exception pad whole) refl
+      by_action Terminate = rw in_cleanup.cleanup (inl refl)
+
+      by_table : (r : Result Action StepFault) → or_terminate r ≡ action → AnswersCleanup action asked.exception c (answered_by landing_columns asked (columns_of c) r)
+      by_table (Ok x) e = subst (λ (y : Action). AnswersCleanup y asked.exception c (answered_by landing_columns asked (columns_of c) (Ok x))) e (by_action x)
+      by_table (Err fault) e = subst (λ (y : Action). AnswersCleanup y asked.exception c (answered_by landing_columns asked (columns_of c) (Err fault))) e (inr refl)
