@@ -1,18 +1,10 @@
-//! Worked examples of the library crates, and bytes that other tools made, as tests. There is nothing
-//! here to call.
+//! Worked examples of Mach-O and PE unwind data, and sections that compilers and linkers made, as
+//! tests. There is nothing here to call.
 #![tactic(auto)]
 
-#[cfg(test)]
-mod frames;
-#[cfg(test)]
-mod languages;
 #[cfg(test)]
 mod macho;
 #[cfg(test)]
 mod macho_linked;
 #[cfg(test)]
 mod pe;
-#[cfg(test)]
-mod resumes;
-#[cfg(test)]
-mod rooms;

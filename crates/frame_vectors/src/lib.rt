@@ -1,0 +1,12 @@
+//! Worked examples of call frames, language tables and stacks, and tables that compilers made, as
+//! tests. There is nothing here to call.
+#![tactic(auto)]
+
+#[cfg(test)]
+mod frames;
+#[cfg(test)]
+mod languages;
+#[cfg(test)]
+mod resumes;
+#[cfg(test)]
+mod rooms;
