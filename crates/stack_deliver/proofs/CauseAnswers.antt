@@ -1,5 +1,5 @@
 -- When a delivery answers that the trail is full or a cleanup has no return address.
-use Rattle.std.proofs.Common.{inl, inr, ◌≡◌, ℕ, zero, suc, ◌<◌, Bool, true, false, cond, List, Option, Some, None, Result, Ok, Err, refl, sym, ap, subst, ◌∙◌, arith}
+use Rattle.std.proofs.Common.{inl, inr, ◌≡◌, ℕ, zero, suc, Bool, true, false, cond, List, Option, Some, None, Result, Ok, Err, refl, sym, ap, subst, ◌∙◌, arith}
 use Rattle.std.specs.Prelude.{◌⊎◌}
 use Rattle.unwind_definitions.specs.Function.{Action}
 use Rattle.unwind_definitions.specs.LanguageSearch.{personality_address}
@@ -16,10 +16,10 @@ use Rattle.stack_deliver.specs.Modules.{SpaceValue}
 use Rattle.stack_deliver.specs.Resumes.{return_of}
 use Rattle.stack_deliver.specs.Stepping.{step_of, refusal_of, IsStepFault}
 use Rattle.stack_deliver.specs.Passes.{FrameAt, frame_of, caller_by, asked_if_named, asked_of, stops, goes, turn_asked, turn_by, Line, Stop, Turn, Ends, Stops, Goes, turn_of, with_context, line_turn, pass_of, kept_at, pad_of, PassEnd, Finishes, Elsewhere, end_of, cleanup_of, cleanup_at, resume_at, Passed, with_cleanup, resumed, followed, passes_of}
-use Rattle.stack_deliver.specs.Delivering.{Delivered, delivered_after, delivered_at, delivered_to, delivered_by, delivery_of}
+use Rattle.stack_deliver.specs.Delivering.{delivered_after, delivered_at, delivered_to, delivered_by, delivery_of}
 use Rattle.stack_deliver.proofs.Framings.{some_next, stepped_by, step_is}
 use Rattle.stack_deliver.proofs.LineAnswers.{OnStepFault, step_faults}
-use Rattle.stack_deliver.specs.Causes.{TakenAt, Cleans, SomePass, TrailIsFull, HasNoReturn, InPasses}
+use Rattle.stack_deliver.specs.Causes.{TakenAt, SomePass, TrailIsFull, HasNoReturn, InPasses}
 
 module _ (space : SpaceValue) (exception kept : ℕ) (resumes : List (ℕ × ℕ)) (limit : ℕ) where
   abbrev passes : ℕ → Context → Result Passed DeliverError

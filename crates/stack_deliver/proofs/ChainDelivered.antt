@@ -1,8 +1,8 @@
 -- What is delivered to a valid chain is what the definition says of it.
-use Rattle.std.proofs.Common.{◌≡◌, ℕ, ◌<◌, ◌≤◌, Bool, true, false, List, [], ◌∷◌, ◌++◌, length, get_or, Option, Some, None, Result, Ok, Err, refl, sym, ap, subst, ◌∙◌, arith}
+use Rattle.std.proofs.Common.{◌≡◌, ℕ, Bool, true, false, List, [], ◌∷◌, ◌++◌, get_or, Option, Some, None, Result, Ok, refl, sym, ap, subst, ◌∙◌, arith}
 use Rattle.std.specs.Prelude.{IsTrue, map}
 use Rattle.std.specs.List.{find}
-use Rattle.std.specs.Option.{option_map, option_map_or}
+use Rattle.std.specs.Option.{option_map_or}
 use Rattle.unwind_definitions.specs.Forms.{emitted}
 use Rattle.unwind_definitions.specs.State.{State}
 use Rattle.unwind_definitions.specs.Function.{Function, Action, NoAction, Cleanup, Catch, Filter, Terminate}
@@ -12,19 +12,19 @@ use Rattle.unwind_definitions.specs.Valid.{IsDescribedChain}
 use Rattle.unwind_laws.proofs.Walk.{valid_described}
 use Rattle.unwind_arch.specs.declared.x86_64.Context.{Context}
 use Rattle.unwind_arch.specs.Contexts.{columns_of}
-use Rattle.stack_deliver.specs.declared.delivery.Outcome.TheVariants.{Installed, EndOfStack, FatalPhase1}
+use Rattle.stack_deliver.specs.declared.delivery.Outcome.TheVariants.{EndOfStack, FatalPhase1}
 use Rattle.stack_deliver.specs.declared.delivery.DeliverError.{DeliverError}
 use Rattle.stack_deliver.specs.declared.passes.Phase.TheVariants as phase
 use Rattle.stack_deliver.specs.Modules.{SpaceValue, AreApart}
 use Rattle.stack_deliver.specs.Processes.{process_of}
-use Rattle.stack_deliver.specs.Shown.{state_of, landing_of, pair_of, outcome_of, delivery_shown}
+use Rattle.stack_deliver.specs.Shown.{state_of, outcome_of}
 use Rattle.stack_deliver.specs.Undone.{EachShows}
-use Rattle.stack_deliver.specs.Passes.{Line, Stop, Passed, pass_of, kept_at, pad_of, passes_of}
-use Rattle.stack_deliver.specs.Delivering.{Delivered, delivered_after, undelivered, delivered_at, delivered_to, delivered_by, delivery_of}
+use Rattle.stack_deliver.specs.Passes.{Stop, Passed, pass_of, kept_at, pad_of, passes_of}
+use Rattle.stack_deliver.specs.Delivering.{Delivered, delivered_after, undelivered, delivered_at, delivered_to, delivery_of}
 use Rattle.stack_deliver.specs.Walking.{StartsValidChain, ShowsDelivery}
 use Rattle.stack_deliver.proofs.ContextLemmas.{IsWhole}
 use Rattle.stack_deliver.proofs.Chains.{shown_states}
-use Rattle.stack_deliver.proofs.PassesShow.{seen, StopIs, StopShows, SearchShows, search_shows, by_pass, lands_in, PassesShow, passes_show}
+use Rattle.stack_deliver.proofs.PassesShow.{seen, StopIs, StopShows, SearchShows, search_shows, by_pass, lands_in, passes_show}
 
 -- a frame that is found decides
 decides_found : (fs : List described.Frame) (f : described.Frame) → find described.is_deciding fs ≡ Some f → described.is_deciding f ≡ true

@@ -1,22 +1,17 @@
 -- What a walk over a described chain visits, and what is delivered to one without language tables.
-use Rattle.std.proofs.Common.{◌≡◌, ℕ, false, List, [], ◌∷◌, Some, None, Ok, get_or, refl}
+use Rattle.std.proofs.Common.{◌≡◌, ℕ, false, List, [], ◌∷◌, Some, Ok, get_or, refl}
 use Rattle.std.specs.Prelude.{map}
-use Rattle.std.specs.List.{AllByRecursion}
 use Rattle.unwind_definitions.specs.Forms.{emitted}
 use Rattle.unwind_definitions.specs.State.{RBX, RBP, R12, R13, R14, R15, State, Shows}
 use Rattle.unwind_definitions.specs.Function.{Function}
-use Rattle.unwind_definitions.specs.Module.{Process, IsUncovered}
-use Rattle.unwind_definitions.specs.Chain.{Call, IsChain, states_of}
-use Rattle.unwind_definitions.specs.Delivery as described
+use Rattle.unwind_definitions.specs.Chain.{Call}
 use Rattle.unwind_definitions.specs.Valid.{IsDescribedChain}
-use Rattle.unwind_laws.proofs.Booleans as lists
-use Rattle.unwind_laws.proofs.Walk.{valid_described, chain_rises}
+use Rattle.unwind_laws.proofs.Walk.{chain_rises}
 use Rattle.unwind_arch.specs.declared.x86_64.Context.{Context}
 use Rattle.unwind_arch.specs.Contexts.{columns_of}
-use Rattle.stack_deliver.specs.declared.delivery.Outcome.TheVariants.{EndOfStack}
 use Rattle.stack_deliver.specs.Modules.{SpaceValue, AreApart}
 use Rattle.stack_deliver.specs.Processes.{process_of}
-use Rattle.stack_deliver.specs.Delivering.{Delivered, line_of, delivery_of}
+use Rattle.stack_deliver.specs.Delivering.{line_of}
 use Rattle.stack_deliver.specs.Shown.{state_of}
 use Rattle.stack_deliver.specs.Undone.{EachShows}
 use Rattle.stack_deliver.specs.Walking.{StartsChain, ShowChain}

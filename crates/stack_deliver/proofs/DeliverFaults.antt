@@ -1,8 +1,7 @@
 -- What a delivery's errors are: faults of steps, unmapped words, and limits.
-use Rattle.std.proofs.Common.{◌≡◌, ◌≢◌, ℕ, zero, suc, Bool, true, false, cond, List, Option, Some, None, Result, Ok, Err, refl, sym, ap, subst, ◌∙◌}
+use Rattle.std.proofs.Common.{◌≡◌, ◌≢◌, ℕ, zero, suc, Bool, true, false, cond, List, Option, Some, None, Result, Ok, Err, refl, ap, subst, ◌∙◌}
 use Rattle.std.specs.Option.{option_map, option_map_or}
 use Rattle.memory_image.specs.Image.{Span, word_at}
-use Rattle.unwind_definitions.specs.declared.error.Error.{Error as Fault}
 use Rattle.unwind_definitions.specs.Pointers.{Pointer, Direct, Indirect}
 use Rattle.unwind_definitions.specs.Function.{Action}
 use Rattle.unwind_definitions.specs.LanguageSearch as tables
@@ -19,7 +18,7 @@ use Rattle.stack_deliver.specs.Modules.{SpaceValue}
 use Rattle.stack_deliver.specs.Resumes.{return_of}
 use Rattle.stack_deliver.specs.Stepping.{step_of, refusal_of, IsStepFault}
 use Rattle.stack_deliver.specs.Passes.{FrameAt, frame_of, caller_by, asked_if_named, asked_of, stops, Turn, Ends, Stops, Goes, goes, turn_asked, turn_by, turn_of, Line, with_context, line_turn, pass_of, PassEnd, Finishes, Elsewhere, end_of, cleanup_of, cleanup_at, resume_at, Passed, with_cleanup, resumed, followed, passes_of, kept_at, pad_of, Stop}
-use Rattle.stack_deliver.specs.Delivering.{Delivered, delivered_after, delivered_at, delivered_to, delivered_by, delivery_of}
+use Rattle.stack_deliver.specs.Delivering.{delivered_after, delivered_at, delivered_to, delivered_by, delivery_of}
 use Rattle.stack_deliver.proofs.Framings.{some_next, stepped_by, step_is}
 use Rattle.stack_deliver.proofs.LineAnswers.{OnStepFault, step_faults}
 use Rattle.stack_deliver.proofs.StepAnswers.{step_unmapped}

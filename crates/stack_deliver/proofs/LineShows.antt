@@ -24,7 +24,7 @@ use Rattle.stack_deliver.specs.Modules.{SpaceValue, AreApart, contains, module_a
 use Rattle.stack_deliver.specs.Processes.{tables_of, module_of, process_of}
 use Rattle.unwinding_core.specs.Finding.{table_bases}
 use Rattle.unwinding_core.specs.Named.{found_by_kind}
-use Rattle.stack_deliver.specs.Stepping.{step_of, in_module, called}
+use Rattle.stack_deliver.specs.Stepping.{step_of, in_module}
 use Rattle.stack_deliver.specs.Delivering.{line_of}
 use Rattle.stack_deliver.specs.Undone.{IsDescribedCall, HaveFrameTables, Undone, EachShows}
 use Rattle.stack_deliver.proofs.StepUndone.{step_undone}

@@ -1,19 +1,17 @@
 -- What a pass answers, in the words of what it meets.
-use Rattle.std.proofs.Common.{inl, inr, ◌≡◌, ◌≢◌, ℕ, zero, suc, Bool, true, false, cond, List, [], ◌∷◌, Option, Some, None, Result, Ok, Err, refl, sym, ap, subst, ◌∙◌}
+use Rattle.std.proofs.Common.{inl, inr, ◌≡◌, ℕ, zero, suc, Bool, true, false, cond, Option, Some, None, Result, Ok, Err, refl, sym, ap, subst, ◌∙◌}
 use Rattle.std.specs.Prelude.{◌⊎◌}
-use Rattle.memory_image.specs.Image.{Span}
 use Rattle.unwind_definitions.specs.Caller as calls
-use Rattle.unwind_definitions.specs.Function.{Action, NoAction, Cleanup, Catch, Filter, Terminate}
+use Rattle.unwind_definitions.specs.Function.{Action, NoAction, Terminate}
 use Rattle.unwind_definitions.specs.LanguageSearch.{personality_address, address_of_call, language_action}
 use Rattle.unwind_definitions.specs.Row.{argument_size}
 use Rattle.unwind_arch.specs.declared.x86_64.Context.{Context}
-use Rattle.unwinding_core.specs.Finding.{FoundFde}
 use Rattle.stack_deliver.specs.declared.delivery.Stepped.{Stepped}
 use Rattle.stack_deliver.specs.declared.delivery.DeliverError.{DeliverError}
 use Rattle.stack_deliver.specs.declared.delivery.DeliverError.TheVariants.{FrameLimit}
 use Rattle.stack_deliver.specs.declared.passes.Phase.{Phase}
 use Rattle.stack_deliver.specs.Modules.{SpaceValue}
-use Rattle.stack_deliver.specs.Stepping.{step_of, refusal_of}
+use Rattle.stack_deliver.specs.Stepping.{step_of}
 use Rattle.stack_deliver.specs.Passes.{FrameAt, frame_of, caller_by, or_terminate, asked_if_named, asked_of, stops, past_arguments, goes, turn_asked, turn_by, Line, Stop, Turn, Ends, Stops, Goes, turn_of, with_context, line_turn, pass_of}
 use Rattle.stack_deliver.specs.Passing.{stop_in}
 use Rattle.stack_deliver.specs.Meeting.{Asks, GoesTo, EndsProgram, StackEnds, CantRead, Meets, GoesOnFrom}

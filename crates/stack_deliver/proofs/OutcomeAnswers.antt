@@ -1,26 +1,24 @@
 -- How a delivery ends and why it is refused, in the words of what its passes meet.
-use Rattle.std.proofs.Common.{inl, inr, ◌≡◌, ◌≢◌, ℕ, zero, suc, Bool, true, false, cond, eqb, List, [], ◌∷◌, Option, Some, None, Result, Ok, Err, refl, sym, ap, subst, ◌∙◌, arith}
+use Rattle.std.proofs.Common.{inl, inr, ◌≡◌, ◌≢◌, ℕ, zero, suc, Bool, true, false, cond, eqb, List, [], ◌∷◌, Option, Some, None, Result, Ok, Err, refl, ap, subst, ◌∙◌, arith}
 use Rattle.std.proofs.lemmas.Bool.Decides.{nat_tests}
-use Rattle.std.specs.Prelude.{◌⊎◌, ◌↔◌}
+use Rattle.std.specs.Prelude.{◌⊎◌}
 use Rattle.unwind_definitions.specs.Function.{Action, NoAction, Cleanup, Catch, Filter, Terminate}
 use Rattle.unwind_arch.specs.declared.x86_64.Context.{Context}
-use Rattle.stack_deliver.specs.declared.delivery.Stepped.{Stepped}
 use Rattle.stack_deliver.specs.declared.delivery.Trail.{Trail}
 use Rattle.stack_deliver.specs.declared.delivery.Ending.{Ending}
 use Rattle.stack_deliver.specs.declared.delivery.Outcome.{Outcome}
 use Rattle.stack_deliver.specs.declared.delivery.Outcome.TheVariants.{Installed, EndOfStack, FatalPhase1, FatalPhase2}
 use Rattle.stack_deliver.specs.declared.delivery.DeliverError.{DeliverError}
-use Rattle.stack_deliver.specs.declared.delivery.DeliverError.TheVariants.{NoMemory, Unmapped, FrameLimit, PassLimit, NoResume, Table}
+use Rattle.stack_deliver.specs.declared.delivery.DeliverError.TheVariants.{FrameLimit, PassLimit}
 use Rattle.stack_deliver.specs.declared.passes.Phase.{Phase}
 use Rattle.stack_deliver.specs.declared.passes.Phase.TheVariants as phase
 use Rattle.stack_deliver.specs.Modules.{SpaceValue}
 use Rattle.stack_deliver.specs.Resumes.{return_of}
-use Rattle.stack_deliver.specs.Stepping.{step_of, IsStepFault}
-use Rattle.stack_deliver.specs.Passes.{FrameAt, stops, Line, Stop, Turn, Ends, Stops, Goes, turn_of, pass_of, kept_at, pad_of, fatal, landed, enters, PassEnd, Finishes, Elsewhere, end_at, end_by, end_of, cleanup_of, cleanup_at, resume_at, Passed, with_cleanup, resumed, followed, passes_of}
+use Rattle.stack_deliver.specs.Passes.{stops, Line, Stop, Ends, Stops, turn_of, pass_of, kept_at, pad_of, fatal, landed, enters, PassEnd, Finishes, Elsewhere, end_at, end_by, end_of, cleanup_of, cleanup_at, resume_at, Passed, with_cleanup, resumed, followed, passes_of}
 use Rattle.stack_deliver.specs.Passing.{stop_in}
-use Rattle.stack_deliver.specs.Meeting.{Asks, EndsProgram, AsksForPad, StackEnds, CantRead, Meets, GoesOnFrom, TakesAt, Fails}
-use Rattle.stack_deliver.specs.Causes.{TakenAt, SomePass, InPasses, IsRefused, EndsBy}
-use Rattle.stack_deliver.proofs.MeetAnswers.{Last, turn_meets, turn_ends, turn_stops, turn_fails, ends_asks, asks_ends, pass_last, last_pass, more_pass, meets_too, meets_never, meets_either, StopsFor, meets_stop}
+use Rattle.stack_deliver.specs.Meeting.{Asks, EndsProgram, StackEnds, CantRead, Meets, GoesOnFrom, TakesAt, Fails}
+use Rattle.stack_deliver.specs.Causes.{SomePass}
+use Rattle.stack_deliver.proofs.MeetAnswers.{Last, turn_meets, turn_ends, turn_fails, ends_asks, asks_ends, pass_last, last_pass, meets_too, meets_either, StopsFor, meets_stop}
 
 is_same : (m n : ℕ) → eqb m n ≡ true → m ≡ n
 is_same m n same = grind (arith, nat_tests)

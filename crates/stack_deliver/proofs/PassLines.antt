@@ -1,5 +1,5 @@
 -- One turn of a pass, and one pass of several: what they leave.
-use Rattle.std.proofs.Common.{◌≡◌, ℕ, zero, suc, ◌<◌, Bool, false, List, [], ◌∷◌, ◌++◌, Option, Some, None, Result, Ok, Err, refl, sym, ap, ◌∙◌, append_assoc, append-nil, arith}
+use Rattle.std.proofs.Common.{◌≡◌, ℕ, zero, suc, ◌<◌, Bool, List, [], ◌∷◌, ◌++◌, Option, Some, None, Result, Ok, Err, refl, sym, ap, ◌∙◌, append_assoc, append-nil, arith}
 use Rattle.unwind_definitions.specs.Function.{Action}
 use Rattle.unwind_arch.specs.declared.x86_64.Context.{Context}
 use Rattle.stack_deliver.specs.declared.delivery.Stepped.{Stepped}
@@ -10,7 +10,7 @@ use Rattle.stack_deliver.specs.declared.delivery.DeliverError.TheVariants.{PassL
 use Rattle.stack_deliver.specs.declared.passes.Phase.{Phase}
 use Rattle.stack_deliver.specs.Modules.{SpaceValue}
 use Rattle.stack_deliver.specs.Resumes.{return_of}
-use Rattle.stack_deliver.specs.Passes.{Line, Stop, Turn, Ends, Stops, Goes, turn_of, line_turn, with_context, pass_of, PassEnd, Finishes, Elsewhere, end_of, end_by, cleanup_of, cleanup_at, resume_at, Passed, with_cleanup, resumed, followed, passes_of}
+use Rattle.stack_deliver.specs.Passes.{Line, Stop, Ends, Stops, Goes, turn_of, line_turn, with_context, pass_of, PassEnd, Finishes, Elsewhere, end_of, end_by, cleanup_of, cleanup_at, resume_at, Passed, with_cleanup, resumed, followed, passes_of}
 use Rattle.stack_deliver.specs.Passing.{with_contexts, stop_in, with_cleanups}
 
 -- ---- a turn of a pass that keeps its contexts

@@ -1,16 +1,16 @@
 -- The search and the passes of a delivery to a valid chain.
-use Rattle.std.proofs.Common.{inl, inr, ◌≡◌, ◌≢◌, ℕ, zero, suc, ◌+◌, ◌-◌, ◌^◌, ◌<◌, ◌≤◌, Bool, true, false, List, [], ◌∷◌, ◌++◌, length, get_or, Option, Some, None, Result, Ok, Err, refl, sym, ap, subst, ◌∙◌, arith, eqb}
-use Rattle.std.specs.Prelude.{◌⊎◌, ◌==◌, IsTrue, IfSome, map}
-use Rattle.std.specs.List.{Contains, AllByRecursion, find, before_first, filter_map, cons_option}
+use Rattle.std.proofs.Common.{◌≡◌, ◌≢◌, ℕ, zero, suc, ◌-◌, ◌^◌, ◌<◌, ◌≤◌, Bool, true, false, List, [], ◌∷◌, ◌++◌, length, Option, Some, None, Result, Ok, Err, refl, sym, ap, subst, ◌∙◌, arith, eqb}
+use Rattle.std.specs.Prelude.{◌==◌, IsTrue, IfSome, map}
+use Rattle.std.specs.List.{AllByRecursion, filter_map, cons_option}
 use Rattle.std.specs.Option.{option_map}
 use Rattle.std.proofs.lemmas.Bool.Decides.{nat_tests}
 use Rattle.unwind_definitions.specs.Forms.{emitted}
-use Rattle.unwind_definitions.specs.State.{State, IsState, Shows}
+use Rattle.unwind_definitions.specs.State.{State, Shows}
 use Rattle.unwind_definitions.specs.Prologue.{SystemV, steps_of}
 use Rattle.unwind_definitions.specs.Function.{Function, IsFunction, Action, NoAction, Cleanup, Catch, Filter, Terminate, in_body, action_at}
 use Rattle.unwind_definitions.specs.Module.{IsUncovered}
-use Rattle.unwind_definitions.specs.Chain.{Call, IsLink, IsChain, states_of}
-use Rattle.unwind_definitions.specs.Delivery.{Frame, frames_of, action_of_frame, is_deciding, decides, accepts, cleanup_of, cleanup_pad, states_in, inner_frames, deciding_frame, Landing, landing_at, resume_of, GoesOn, Resumes}
+use Rattle.unwind_definitions.specs.Chain.{Call, IsChain, states_of}
+use Rattle.unwind_definitions.specs.Delivery.{Frame, frames_of, action_of_frame, is_deciding, accepts, cleanup_of, cleanup_pad, states_in, inner_frames, deciding_frame, Landing, landing_at, resume_of, GoesOn, Resumes}
 use Rattle.unwind_definitions.specs.Valid.{LiesDescribed}
 use Rattle.unwind_laws.proofs.Undo.{rises}
 use Rattle.unwind_laws.proofs.OneChain.{before_cons, before_now}
@@ -31,7 +31,7 @@ use Rattle.stack_deliver.proofs.ContextLemmas.{IsWhole}
 use Rattle.stack_deliver.proofs.Chains.{shown_state}
 use Rattle.stack_deliver.proofs.MetFrames.{Met, met}
 use Rattle.stack_deliver.proofs.PassLines.{stop_at}
-use Rattle.stack_deliver.proofs.Turns.{action_in, pass_stops_at, pass_goes_on, pass_ends_at, call_in, returning, call_resumed, entered_shows, entered_sp, entered_rax, entered_rdx, entered_whole}
+use Rattle.stack_deliver.proofs.Turns.{action_in, pass_stops_at, pass_goes_on, pass_ends_at, call_in, returning, call_resumed, entered_shows, entered_sp, entered_rax, entered_rdx}
 
 -- the frame of a call's callee
 abbrev pub frame_in : State → Call → Frame

@@ -1,19 +1,17 @@
 -- What the personality of Rust answers for a frame is what the passes ask of it.
-use Rattle.std.proofs.Common.{inl, inr, ◌≡◌, ◌≢◌, ℕ, zero, suc, pos, ◌+◌, ◌%◌, ◌^◌, Bool, true, false, cond, eqb, List, [], ◌∷◌, length, get_or, set, Option, Some, None, Result, Ok, Err, refl, sym, ap, subst, ◌∙◌, arith}
+use Rattle.std.proofs.Common.{inl, inr, ◌≡◌, ◌≢◌, ℕ, Bool, true, false, cond, eqb, List, set, Some, Result, Ok, Err, refl, sym, ap, subst, ◌∙◌, arith}
 use Rattle.std.proofs.lemmas.Bool.Decides.{nat_tests}
-use Rattle.std.proofs.lemmas.List.{get_or-set_other}
 use Rattle.memory_image.specs.Image.{Span}
 use Rattle.unwind_definitions.specs.Caller.{Columns, StepFault}
 use Rattle.unwind_definitions.specs.Function.{Action, NoAction, Cleanup, Catch, Filter, Terminate}
-use Rattle.unwind_definitions.specs.LanguageSearch.{personality_address, address_of_call, language_action}
+use Rattle.unwind_definitions.specs.LanguageSearch.{address_of_call, language_action}
 use Rattle.unwind_arch.specs.declared.x86_64.Context.{Context}
 use Rattle.unwind_arch.specs.Contexts.{columns_of}
-use Rattle.unwinding_core.specs.declared.abi.TheConstants.UnwindReasonCode.{FATAL_PHASE1_ERROR, FATAL_PHASE2_ERROR}
 use Rattle.unwinding_core.specs.Columns.{with_value}
 use Rattle.unwinding_core.specs.FrameValue.{FrameValue}
 use Rattle.unwinding_core.specs.Personalities.{Asked, landed, searched, answered_by}
 use Rattle.stack_deliver.specs.declared.delivery.DeliverError.{DeliverError}
-use Rattle.stack_deliver.specs.Passes.{or_terminate, asked_if_named, enters, past_arguments}
+use Rattle.stack_deliver.specs.Passes.{or_terminate, asked_if_named, enters}
 use Rattle.stack_deliver.specs.Personality.{landing_columns, InSearch, InCleanup, IsAsked, AnswersCleanup, answer_for}
 use Rattle.stack_deliver.proofs.ContextLemmas.{IsWhole, Holds, with_column-holds}
 

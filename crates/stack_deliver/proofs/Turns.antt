@@ -1,18 +1,18 @@
 -- The turn of a pass at a state of a described chain.
-use Rattle.std.proofs.Common.{inl, inr, ◌≡◌, ◌≢◌, ℕ, zero, suc, ◌+◌, ◌-◌, ◌%◌, ◌^◌, ◌<◌, ◌≤◌, Bool, true, false, List, [], ◌∷◌, length, get_or, set, Option, Some, None, Result, Ok, Err, refl, sym, ap, subst, ◌∙◌, arith}
-use Rattle.std.specs.Prelude.{◌⊎◌, IsTrue}
-use Rattle.std.specs.List.{Contains, AllByRecursion, find}
+use Rattle.std.proofs.Common.{◌≡◌, ◌≢◌, ℕ, zero, suc, ◌+◌, ◌-◌, ◌%◌, ◌^◌, ◌<◌, true, false, List, [], ◌∷◌, length, get_or, set, Option, Some, None, Result, Ok, Err, refl, sym, ap, ◌∙◌, arith}
+use Rattle.std.specs.Prelude.{IsTrue}
+use Rattle.std.specs.List.{AllByRecursion}
 use Rattle.std.proofs.lemmas.List.{set-get_or, get_or-set_same, get_or-set_other}
 use Rattle.std.proofs.Math.ListN.{length-set}
 use Rattle.memory_image.specs.Image.{Span}
 use Rattle.unwind_definitions.specs.Forms.{emitted}
 use Rattle.unwind_definitions.specs.Row.{argument_size}
 use Rattle.unwind_definitions.specs.State.{CalleeSaved, RBX, RBP, R12, R13, R14, R15, State, IsState, value_of, column_of, Shows}
-use Rattle.unwind_definitions.specs.Prologue.{SystemV, steps_of, distance}
+use Rattle.unwind_definitions.specs.Prologue.{SystemV, steps_of}
 use Rattle.unwind_definitions.specs.Entered.{IsEntered}
 use Rattle.unwind_definitions.specs.Function.{Function, IsFunction, Action, in_body, action_at}
 use Rattle.unwind_definitions.specs.Module.{IsUncovered}
-use Rattle.unwind_definitions.specs.Chain.{Call, IsCalled, IsEnd, IsLink, IsChain}
+use Rattle.unwind_definitions.specs.Chain.{Call, IsEnd, IsLink, IsChain}
 use Rattle.unwind_definitions.specs.Valid.{LiesDescribed}
 use Rattle.unwind_laws.proofs.Booleans as lists
 use Rattle.unwind_arch.specs.declared.x86_64.Context.{Context}
@@ -20,15 +20,14 @@ use Rattle.unwind_arch.specs.Contexts.{columns_of}
 use Rattle.stack_deliver.specs.declared.delivery.Stepped.{Stepped}
 use Rattle.stack_deliver.specs.declared.delivery.DeliverError.{DeliverError}
 use Rattle.stack_deliver.specs.declared.passes.Phase.{Phase}
-use Rattle.stack_deliver.specs.Modules.{SpaceValue, AreApart}
+use Rattle.stack_deliver.specs.Modules.{SpaceValue}
 use Rattle.stack_deliver.specs.Processes.{process_of}
-use Rattle.stack_deliver.specs.Stepping.{step_of}
-use Rattle.stack_deliver.specs.Undone.{IsDescribedCall, HaveFrameTables}
-use Rattle.stack_deliver.specs.Passes.{FrameAt, frame_of, caller_by, stops, past_arguments, Turn, Ends, Stops, Goes, turn_of, Line, with_context, pass_of, enters}
+use Rattle.stack_deliver.specs.Undone.{IsDescribedCall}
+use Rattle.stack_deliver.specs.Passes.{FrameAt, frame_of, caller_by, stops, past_arguments, Stops, Goes, turn_of, with_context, pass_of, enters}
 use Rattle.stack_deliver.proofs.ContextLemmas.{IsWhole}
 use Rattle.stack_deliver.proofs.Framings.{some_next, stepped_by, step_is}
 use Rattle.stack_deliver.proofs.LineShows.{ends}
-use Rattle.stack_deliver.proofs.MetFrames.{Met, met}
+use Rattle.stack_deliver.proofs.MetFrames.{Met}
 use Rattle.stack_deliver.proofs.PassLines.{stop_at}
 
 abbrev pub action_in : State → Call → Action

@@ -9,7 +9,7 @@ use Rattle.stack_deliver.specs.declared.passes.Phase.TheVariants as phase
 use Rattle.stack_deliver.specs.Modules.{SpaceValue}
 use Rattle.stack_deliver.specs.Resumes.{return_of}
 use Rattle.stack_deliver.specs.Meeting.{EndsProgram, StackEnds, CantRead, Meets, GoesOnFrom, TakesAt, Fails}
-use Rattle.stack_deliver.specs.Passes.{Line, Stop, pass_of, kept_at, pad_of, PassEnd, Elsewhere, cleanup_of}
+use Rattle.stack_deliver.specs.Passes.{Line, Stop, pass_of, kept_at, pad_of, Elsewhere, cleanup_of}
 
 -- the search stops at a frame that takes the exception, and this is its mark
 pub record TakenAt (space : SpaceValue) (limit : ℕ) (c : Context) (kept : ℕ) : Type 0 where

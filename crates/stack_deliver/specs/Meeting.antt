@@ -1,5 +1,5 @@
 -- What a pass comes to, in the words of its answers: where the stack ends, what is asked of a frame, and what can't be read.
-use Rattle.std.specs.Prelude.{◌≡◌, ◌⊎◌, ℕ, zero, suc, Bool, false, Option, Some, None, Ok, Err}
+use Rattle.std.specs.Prelude.{◌≡◌, ◌⊎◌, ℕ, zero, suc, Bool, false, Some, None, Ok, Err}
 use Rattle.unwind_definitions.specs.Caller.{StepFault}
 use Rattle.unwind_definitions.specs.Function.{Action, Terminate}
 use Rattle.unwind_definitions.specs.LanguageSearch.{personality_address, address_of_call, language_action}
@@ -9,7 +9,7 @@ use Rattle.stack_deliver.specs.declared.delivery.DeliverError.{DeliverError}
 use Rattle.stack_deliver.specs.declared.passes.Phase.{Phase}
 use Rattle.stack_deliver.specs.Modules.{SpaceValue}
 use Rattle.stack_deliver.specs.Stepping.{step_of, refusal_of}
-use Rattle.stack_deliver.specs.Passes.{FrameAt, frame_of, caller_by, asked_of, stops, kept_at, pad_of}
+use Rattle.stack_deliver.specs.Passes.{FrameAt, frame_of, asked_of, stops, kept_at, pad_of}
 
 -- ---- at a context
 

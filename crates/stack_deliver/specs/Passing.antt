@@ -1,5 +1,5 @@
 -- What the code of a pass answers, in the words of the definitions.
-use Rattle.std.specs.Prelude.{◌≡◌, ◌++◌, Bool, List, Option, Some, None, Result, Ok, Err}
+use Rattle.std.specs.Prelude.{◌≡◌, ◌++◌, List, Option, Some, None, Result, Ok, Err}
 use Rattle.std.specs.Option.{option_map}
 use Rattle.frame_rows.specs.Rows.{IsRowOf}
 use Rattle.unwind_arch.specs.declared.x86_64.Context.{Context}

@@ -9,7 +9,7 @@ use Rattle.unwinding_core.specs.declared.abi.TheConstants.UnwindReasonCode.{INST
 use Rattle.unwinding_core.specs.declared.abi.TheConstants.UnwindAction.{SEARCH_PHASE, FORCE_UNWIND}
 use Rattle.unwinding_core.specs.Actions.{shares}
 use Rattle.unwinding_core.specs.FrameValue.{FrameValue}
-use Rattle.unwinding_core.specs.Personalities.{Asked, Answer, Landing, searched, rust_answers}
+use Rattle.unwinding_core.specs.Personalities.{Asked, Answer, Landing, rust_answers}
 use Rattle.stack_deliver.specs.Passes.{asked_of, enters}
 
 -- The columns of the return address and of the two registers that a landing pad finds its arguments in, RAX and RDX.

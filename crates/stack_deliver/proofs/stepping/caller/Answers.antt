@@ -1,10 +1,7 @@
-use Rattle.std.proofs.Common.{◌≡◌, Bool, Ok, Result, arith, sym, ap, ◌∙◌}
+use Rattle.std.proofs.Common.{Ok, arith}
 use Rattle.unwind_definitions.specs.Caller.{x86_64, caller_of}
 use Rattle.unwind_arch.specs.Contexts.{columns_of}
 use Rattle.unwinding_core.specs.Calling.{no_expressions}
-use Rattle.unwinding_core.specs.Finding.{FoundFde}
-use Rattle.stack_deliver.specs.Stepping.{context_by}
-use Rattle.stack_deliver.specs.Passes.{marked}
 use Rattle.stack_deliver.proofs.Framings.{given}
 use Rattle.stack_deliver.proofs.stepping.caller.Goals as goal
 
