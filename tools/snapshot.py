@@ -15,6 +15,7 @@ Wants gdb with Python (tried: 13.1) and pyelftools (tried: 0.29, Debian's python
 from __future__ import annotations
 
 import argparse
+import functools
 import io
 import json
 import os
@@ -28,11 +29,16 @@ import gdb
 try:
     from elftools.common.exceptions import ELFError
     from elftools.common.utils import struct_parse
+    from elftools.dwarf import callframe
     from elftools.dwarf.callframe import CIE, CallFrameInfo
     from elftools.dwarf.structs import DWARFStructs
     from elftools.elf.elffile import ELFFile
 except ImportError as error:
     raise gdb.GdbError(f"snapshot: wants pyelftools (Debian: python3-pyelftools): {error}")
+
+# Before its version 0.30, pyelftools makes these structures anew for each entry of a table, and then
+# a C library's table takes some fifteen times as long.
+callframe.DWARFStructs = functools.cache(DWARFStructs)
 
 REGISTERS = "rip rsp rax rbx rcx rdx rsi rdi rbp r8 r9 r10 r11 r12 r13 r14 r15".split()
 
