@@ -39,12 +39,16 @@ without_outermost() {
     grep -v '^frame [0-9]* ra=0x0 ' "$1"
 }
 
+# The addresses of `bt`, from its #0 on: as gdb reads a core it prints another one.
+addresses_of_bt() {
+    tac "$1" | sed '/^#0 /q' | tac | sed -nE 's/^#[0-9]+ +0x0*([0-9a-f]+) in .*/0x\1/p'
+}
+
 compare_one() {
     "$2" walk < "$1.json" > "$1.walk"
     diff <(without_outermost "$1.walk") <(grep -E '^(frame|end)' "$1.gdb")
-    diff <(without_outermost "$1.walk" | sed -nE 's/^frame [0-9]+ ra=(\S+) .*/\1/p') \
-        <(sed -nE 's/^#[0-9]+ +0x0*([0-9a-f]+) in .*/0x\1/p' "$1.gdb")
-    echo "$(basename "$1"): the same $(grep -c '^#' "$1.gdb") frames"
+    diff <(without_outermost "$1.walk" | sed -nE 's/^frame [0-9]+ ra=(\S+) .*/\1/p') <(addresses_of_bt "$1.gdb")
+    echo "$(basename "$1"): the same $(addresses_of_bt "$1.gdb" | wc -l) frames"
 }
 
 compare() {
