@@ -12,6 +12,7 @@ int notes = 0;
 Noted::~Noted() { notes = 10 * notes + number; }
 
 KEPT int thrower(int n) {
+    wait_here();
     if (n > 0) {
         throw n;
     }
@@ -38,6 +39,5 @@ KEPT int catcher(int n) {
 }
 
 int main(int count, char **) {
-    wait_here();
     return catcher(count);
 }

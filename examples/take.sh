@@ -21,6 +21,11 @@ in_gdb() {
     gdb -nx -q -p "$process" -batch -x ../../tools/frames.py -x ../landings.py -x ../../tools/snapshot.py -x ../steps.py "$@"
 }
 
+# Only its owner may read a snapshot that the command writes; these hold nothing of anybody.
+for_all() {
+    chmod a+r "../$1"
+}
+
 # A process that gdb let go after its catch may have ended by itself.
 end() {
     trap - EXIT
@@ -35,6 +40,7 @@ of_report() {
 take_walk() {
     begin "$1"
     in_gdb -ex "snapshot ../$2 --interrupted --limit 64 --module $1"
+    for_all "$2"
     in_gdb -ex 'frames --program' | of_report > "../$3"
     end
 }
@@ -58,6 +64,7 @@ take_delivery() {
     marks=$(grep -E '^--exception' <<< "$told"; sed -n 's/^resume /--resume /p' <<< "$told")
     begin "$1"
     in_gdb -ex raised -ex "snapshot ../$2 --limit 64 --module $1 ${marks//$'\n'/ }"
+    for_all "$2"
     end
 }
 

@@ -15,6 +15,7 @@ Wants gdb with Python (tried: 13.1) and pyelftools (tried: 0.29, Debian's python
 from __future__ import annotations
 
 import argparse
+import functools
 import io
 import json
 import os
@@ -28,11 +29,16 @@ import gdb
 try:
     from elftools.common.exceptions import ELFError
     from elftools.common.utils import struct_parse
+    from elftools.dwarf import callframe
     from elftools.dwarf.callframe import CIE, CallFrameInfo
     from elftools.dwarf.structs import DWARFStructs
     from elftools.elf.elffile import ELFFile
 except ImportError as error:
-    raise gdb.GdbError(f"snapshot: wants pyelftools (Debian: python3-pyelftools): {error}")
+    raise gdb.GdbError(f"snapshot: wants pyelftools (Debian: python3-pyelftools): {error}") from None
+
+# Before its version 0.30, pyelftools makes these structures anew for each entry of a table, and then
+# a C library's table takes some fifteen times as long.
+callframe.DWARFStructs = functools.cache(DWARFStructs)
 
 REGISTERS = "rip rsp rax rbx rcx rdx rsi rdi rbp r8 r9 r10 r11 r12 r13 r14 r15".split()
 
@@ -224,10 +230,15 @@ def check_same(elf: ELFFile, bias: int) -> None:
     """
     for name in (".note.gnu.build-id", ".eh_frame"):
         place = section_range(elf, bias, name)
-        if place is not None:
-            if bytes_at(place, f"its {name}") != elf.get_section_by_name(name).data():
-                raise Refused(f"its file isn't the one that was loaded: {name} differs")
-            return
+        if place is None:
+            continue
+        try:
+            loaded = bytes_at(place, name)
+        except Refused as reason:
+            raise Refused(f"its file may not be the one that was loaded: {reason}")
+        if loaded != elf.get_section_by_name(name).data():
+            raise Refused(f"its file isn't the one that was loaded: {name} differs")
+        return
 
 
 def code_ranges(elf: ELFFile, bias: int) -> list[Range]:
@@ -450,7 +461,7 @@ def tell_of_mark(frame: gdb.Frame, interrupted: bool) -> None:
 
 def replace_file(file: str, text: str) -> None:
     """Writes the text beside the file, and then renames it, so that no half file is ever there."""
-    part = tempfile.NamedTemporaryFile("w", dir=os.path.dirname(file) or ".", prefix=".snapshot-", delete=False)
+    part = tempfile.NamedTemporaryFile("w", dir=os.path.dirname(file), prefix=".snapshot-", delete=False)
     try:
         with part:
             part.write(text)
@@ -461,7 +472,10 @@ def replace_file(file: str, text: str) -> None:
 
 
 def write_whole(file: str, text: str) -> None:
-    """Writes a file, or leaves what was there."""
+    """Writes an ordinary file, or leaves what was there."""
+    file = os.path.realpath(file)
+    if os.path.exists(file) and not os.path.isfile(file):
+        raise Refused(f"{file} can't be written: it is no ordinary file")
     if len(text) > MOST_BYTES:
         raise Refused(f"the snapshot would have {len(text)} bytes, and {MOST_BYTES} are taken; name fewer modules")
     try:
@@ -477,6 +491,7 @@ class Arguments(argparse.ArgumentParser):
     """A reader of the command's words that neither leaves gdb nor prints where it refuses."""
 
     def error(self, message: str) -> NoReturn:
+        """Refuses the words, and says what the command takes."""
         raise Refused(f"{message}\nusage: {self.usage}")
 
 

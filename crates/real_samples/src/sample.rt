@@ -1,9 +1,9 @@
-// The part of a snapshot that a walk needs.
+// What a snapshot says of a walk and of a delivery.
 
-use crate::words::word_at;
+use crate::words::{as_word, word_at};
 use memory_image::{ImageError, MemoryImage};
 use serde_json::Value;
-use stack_deliver::{Context, FrameInfo, FrameInfoKind, Module, Space, SpaceError};
+use stack_deliver::{Context, FrameInfo, FrameInfoKind, Module, Resumes, Space, SpaceError};
 use std::alloc::{AllocError, Global};
 
 /// Bytes that lie at an address and behind it.
@@ -13,12 +13,22 @@ pub struct Region {
     bytes: Vec<u8>,
 }
 
-/// A stopped thread: memory, the modules in it, and the registers.
+/// Where a delivery goes on after the cleanup at a landing pad.
+#[derive(Drop)]
+pub struct Resume {
+    pad: u64,
+    return_address: u64,
+}
+
+/// A stopped thread: memory, the modules in it, the registers, and an exception that it threw.
 #[derive(Drop)]
 pub struct Sample {
     regions: Vec<Region>,
     modules: Vec<Module>,
+    resumes: Vec<Resume>,
     pub start: Context,
+    pub exception: u64,
+    pub class: u64,
     pub interrupted: bool,
     pub limit: u32,
 }
@@ -51,6 +61,15 @@ impl Sample {
             }
         }
         Ok(Some(space))
+    }
+
+    /// The resume table.
+    pub fn resumes(&self, alloc: Global) -> Result<Resumes, AllocError> {
+        let mut table = Resumes::new(alloc);
+        for resume in &self.resumes {
+            table.add(resume.pad, resume.return_address)?;
+        }
+        Ok(table)
     }
 }
 
@@ -110,6 +129,33 @@ fn modules_of(alloc: Global, value: &Value) -> Result<Option<Vec<Module>>, Alloc
     Ok(Some(modules))
 }
 
+/// The entry of a resume table that an array of two words says.
+fn resume_of(value: &Value) -> Option<Resume> {
+    let pair = value.as_array()?;
+    let [pad, return_address] = pair.as_slice() else {
+        return None;
+    };
+    Some(Resume {
+        pad: as_word(pad)?,
+        return_address: as_word(return_address)?,
+    })
+}
+
+/// Each item an entry; none where the snapshot has no resume table.
+fn resume_items_of(alloc: Global, value: &Value) -> Result<Option<Vec<Resume>>, AllocError> {
+    let mut resumes = Vec::new(alloc);
+    let Some(items) = value.get("resumes").and_then(Value::as_array) else {
+        return Ok(Some(resumes));
+    };
+    for item in items {
+        match resume_of(item) {
+            Some(resume) => resumes.push(resume)?,
+            None => return Ok(None),
+        }
+    }
+    Ok(Some(resumes))
+}
+
 /// The registers at the start, by their columns.
 fn start_of(value: &Value) -> Option<Context> {
     let start = value.get("start")?;
@@ -156,10 +202,16 @@ pub fn read_sample(alloc: Global, text: &str) -> Result<Option<Sample>, AllocErr
     let (Some(start), Some(limit)) = (start_of(&value), limit_of(&value)) else {
         return Ok(None);
     };
+    let Some(resumes) = resume_items_of(alloc, &value)? else {
+        return Ok(None);
+    };
     Ok(Some(Sample {
         regions,
         modules,
+        resumes,
         start,
+        exception: word_at(&value, "exception").unwrap_or(0),
+        class: word_at(&value, "class").unwrap_or(0),
         interrupted: interrupted == Some(true),
         limit,
     }))

@@ -3,7 +3,7 @@
 use serde_json::Value;
 
 /// The word that a value is: `0x` and hexadecimal digits.
-fn as_word(value: &Value) -> Option<u64> {
+pub fn as_word(value: &Value) -> Option<u64> {
     let digits = value.as_str()?.strip_prefix("0x")?;
     u64::from_str_radix(digits, 16).ok()
 }

@@ -1,0 +1,98 @@
+#!/usr/bin/env bash
+# Tries what tools/snapshot.py must refuse, and prints what it says: one line each, the status, and the
+# files that are left. Every refusal has to have status 1 and leave no file; the two tries at the end,
+# of a program without symbols and of a core with its program, have to succeed.
+#
+#   refusals.sh        wants out/ built
+set -uo pipefail
+cd "$(dirname "$0")"
+script=$PWD/../tools/snapshot.py
+programs=$PWD/out
+scratch=$(mktemp -d)
+trap 'kill $processes 2> /dev/null; rm -rf "$scratch"' EXIT
+processes=
+failed=0
+mkdir "$scratch/written"
+
+# Starts a program, and leaves its number in `started`.
+start() {
+    "$@" &
+    started=$!
+    processes="$processes $started"
+    until grep -qE '^(34|29) ' "/proc/$started/syscall"; do sleep 0.1; done
+}
+
+# Runs gdb with `words` behind `snapshot`, and looks at its status and at the files that it leaves.
+try() {
+    local wanted=$1 what=$2 words=$3 said status left
+    said=$(cd "$scratch/written" && gdb -nx -batch "${@:4}" -x "$script" -ex "snapshot $words" 2>&1 < /dev/null)
+    status=$?
+    left=$(ls -A "$scratch/written" | tr '\n' ' ')
+    rm -rf "$scratch"/written/* "$scratch"/written/.snapshot*
+    echo "$what: $(grep -E '^(snapshot:|wrote)' <<< "$said" | sed "s#$scratch/##g; s#$programs/##g" | head -1) [status $status; files: ${left:-none}]"
+    [ "$status" = "$wanted" ] && [ -z "$left" ] || { [ "$wanted" = 0 ] && [ "$left" = "a.json " ]; } || failed=1
+}
+
+refused() { try 1 "$@"; }
+taken() { try 0 "$@"; }
+
+without_process() {
+    refused 'no such process' 'a.json --interrupted' -p 4194305
+    refused 'no process and no core' 'a.json'
+    refused 'a program that does not run' 'a.json' "$programs/nested-gcc-O2"
+}
+
+of_words() {
+    refused 'no file named' '--interrupted' -p "$live"
+    refused 'an unknown option' 'a.json --all' -p "$live"
+    refused 'limit 0' 'a.json --limit 0' -p "$live"
+    refused 'a word past 64 bits' 'a.json --exception 0x10000000000000000' -p "$live"
+    refused 'half an entry' 'a.json --resume 0x401000' -p "$live"
+    refused '--module that names none' 'a.json --module libnone.so' -p "$live"
+    refused 'a folder that is not there' 'none/a.json' -p "$live"
+    refused 'a folder' "$scratch" -p "$live"
+    refused 'a device' '/dev/full' -p "$live"
+}
+
+of_files() {
+    strip -o "$scratch/stripped" "$programs/nested-gcc-O2"
+    objcopy -R .eh_frame -R .eh_frame_hdr "$programs/nested-gcc-O2" "$scratch/tableless"
+    cp "$programs/nested-gcc-O2" "$scratch/gone"
+    start "$scratch/tableless"
+    refused 'a program without .eh_frame' 'a.json' -p "$started"
+    start "$scratch/gone"
+    gdb -nx -batch -p "$started" -ex "gcore $scratch/core" > /dev/null 2>&1
+    mv "$scratch/gone" "$scratch/kept"
+    rm "$scratch/kept"
+    refused "a process whose program's file is gone" 'a.json' -p "$started"
+    refused "a core without the program's file" 'a.json' -c "$scratch/core"
+    refused 'a core with another program' 'a.json' "$programs/frame_pointer-gcc-O0" "$scratch/core"
+    head -c 3000 "$scratch/core" > "$scratch/cut"
+    refused 'a core that was cut off' 'a.json' "$programs/nested-gcc-O2" "$scratch/cut"
+    start "$scratch/stripped"
+    taken 'a stripped program' 'a.json --interrupted' -p "$started"
+    taken 'a core with its program' 'a.json --interrupted' "$programs/nested-gcc-O2" "$scratch/core"
+}
+
+# A program of 32 bits, without a C library, where the system runs such programs.
+of_32_bits() {
+    printf 'void _start(void) { for (;;) { int r = 29; __asm__ volatile("int $0x80" : "+a"(r)); } }\n' > "$scratch/small.c"
+    if gcc -m32 -nostdlib -static -fno-pic -o "$scratch/small" "$scratch/small.c" 2> /dev/null && start "$scratch/small"; then
+        refused 'a process of 32 bits' 'a.json' -p "$started"
+    fi
+}
+
+# A file of more than some kilobytes can't be written: a full disk is alike.
+without_room() {
+    ulimit -f 8
+    refused 'no room for the file' 'a.json' -p "$live"
+}
+
+start "$programs/nested-gcc-O2"
+live=$started
+without_process
+of_words
+of_files
+of_32_bits
+(without_room; exit "$failed") || failed=1
+exit "$failed"
