@@ -7,3 +7,4 @@ mod Searching
 mod Faults
 mod Answered
 mod Described
+mod Sharing

@@ -1,6 +1,6 @@
 //! The entries of a frame table, one after another.
 
-ghost use Rattle.std.specs.Prelude.{◌≡◌, ◌≢◌, ◌↔◌, IfErr, IfOk, IsTrue, Result, Some};
+ghost use Rattle.std.specs.Prelude.{◌≡◌, ◌≢◌, ◌↔◌, IfErr, IfOk, IfSome, IsTrue, Result, Some};
 ghost use Rattle.std.specs.Result.{IsErrOf};
 ghost use Rattle.std.specs.Option.{option_map, option_map_or};
 ghost use Rattle.unwind_definitions.specs.Forms.{emitted};
@@ -9,6 +9,7 @@ ghost use Rattle.unwind_definitions.specs.Entries.{Fde as Described, body, cie_a
 ghost use Rattle.unwind_definitions.specs.Row.{covers_pc};
 ghost use Rattle.unwind_definitions.specs.Scan.{found_or, scan};
 ghost use Rattle.encoded_pointers.specs.Readers.{GivesOr, Answers};
+ghost use Rattle.eh_frame.specs.Shared.{shared, StandsIn};
 ghost use Rattle.eh_frame.specs.Search.{IsFirst, IsUncovered, IsUnreadable};
 ghost use Rattle.encoded_pointers.specs.View.{at};
 ghost use Rattle.encoded_pointers.specs.Pointers.{bases_of};
@@ -55,7 +56,7 @@ impl<'a> EhFrame<'a> {
     /// The first frame description entry, in the table's order, that contains the address `pc`.
     ///
     /// Entries are read one after another, each once, and a description's common information
-    /// entry with it. `bases` is what their pointers may be relative to.
+    /// entry with it, where it isn't the one before. `bases` is what their pointers may be relative to.
     ///
     /// # Errors
     ///
@@ -79,11 +80,13 @@ impl<'a> EhFrame<'a> {
         ensures { Answers fde_of result
             (scan emitted (bases_of bases.now) (table_of self.now) pc) }
     {
+        let mut known = None;
         let mut offset = 0;
-        while let Some(found) = self.entry_at(offset, bases)? {
+        while let Some(found) = self.entry_at(offset, &known, bases)? {
             if let Some(fde) = found.entry.containing(pc) {
                 return Ok(fde);
             }
+            known = Some(found.entry.shared());
             offset = found.next;
         }
         Err(Error::NoUnwindInfoForAddress)
@@ -96,9 +99,16 @@ impl<'a> EhFrame<'a> {
         Cursor::from_offset(self.bytes, self.address, offset)
     }
 
-    // What stands at an offset, None at the end of the list.
+    // What stands at an offset, None at the end of the list. A common information entry that is known
+    // isn't read again.
     #[tactic(auto, unfolding(unwind_definitions::specs::Entries::entry_at))]
-    fn entry_at(&self, offset: u64, bases: &Bases) -> Result<Option<Found<'a>>, Error>
+    fn entry_at(
+        &self,
+        offset: u64,
+        known: &Option<Cie<'a>>,
+        bases: &Bases,
+    ) -> Result<Option<Found<'a>>, Error>
+        requires { IfSome known.now (λ cie. StandsIn (bases_of bases.now) (table_of self.now) (cie_of cie)) }
         ensures { Answers (option_map found_of) result
             (entry_at emitted (bases_of bases.now) (table_of self.now) offset) }
     {
@@ -106,7 +116,7 @@ impl<'a> EhFrame<'a> {
         match read_body(&mut input)? {
             None => Ok(None),
             Some(body) => {
-                let entry = self.entry_in(offset, body, bases)?;
+                let entry = self.entry_in(offset, body, known, bases)?;
                 Ok(Some(Found {
                     entry,
                     next: input.offset(),
@@ -116,7 +126,14 @@ impl<'a> EhFrame<'a> {
     }
 
     // The entry at `offset`, whose body is `body`.
-    fn entry_in(&self, offset: u64, body: Cursor<'a>, bases: &Bases) -> Result<Entry<'a>, Error>
+    fn entry_in(
+        &self,
+        offset: u64,
+        body: Cursor<'a>,
+        known: &Option<Cie<'a>>,
+        bases: &Bases,
+    ) -> Result<Entry<'a>, Error>
+        requires { IfSome known.now (λ cie. StandsIn (bases_of bases.now) (table_of self.now) (cie_of cie)) }
         ensures { Answers entry_of result
             (entry_in emitted (bases_of bases.now) (table_of self.now) offset (at body.entry)) }
     {
@@ -129,8 +146,25 @@ impl<'a> EhFrame<'a> {
         if id > place {
             return Err(Error::NotCie);
         }
-        let cie = self.cie_at(place - id, bases)?;
+        let cie = self.known_or_read(place - id, known, bases)?;
         Ok(Entry::Fde(Fde::read(cie, offset, input, bases)?))
+    }
+
+    // The common information entry at an offset: that which is known, where it stands there.
+    fn known_or_read(
+        &self,
+        offset: u64,
+        known: &Option<Cie<'a>>,
+        bases: &Bases,
+    ) -> Result<Cie<'a>, Error>
+        requires { IfSome known.now (λ cie. StandsIn (bases_of bases.now) (table_of self.now) (cie_of cie)) }
+        ensures { Answers cie_of result
+            (cie_at emitted (bases_of bases.now) (table_of self.now) offset) }
+    {
+        match known {
+            Some(cie) if cie.offset() == offset => Ok(*cie),
+            _ => self.cie_at(offset, bases),
+        }
     }
 
     // The common information entry at an offset.
@@ -147,13 +181,23 @@ impl<'a> EhFrame<'a> {
 }
 
 impl<'a> Entry<'a> {
-    // The entry, where it is a description that contains an address.
-    fn containing(self, pc: u64) -> Option<Fde<'a>>
-        ensures { (later : Result Described Error) →
-            found_or pc (entry_of self.entry) later ≡ option_map_or (λ fde. Ok (fde_of fde)) result later }
+    // The entry itself, or the one that a description names.
+    fn shared(&self) -> Cie<'a>
+        ensures { cie_of result ≡ shared (entry_of self.now) }
     {
         match self {
-            Entry::Fde(fde) if fde.contains(pc) => Some(fde),
+            Entry::Cie(cie) => *cie,
+            Entry::Fde(fde) => fde.cie(),
+        }
+    }
+
+    // The entry, where it is a description that contains an address.
+    fn containing(&self, pc: u64) -> Option<Fde<'a>>
+        ensures { (later : Result Described Error) →
+            found_or pc (entry_of self.now) later ≡ option_map_or (λ fde. Ok (fde_of fde)) result later }
+    {
+        match self {
+            Entry::Fde(fde) if fde.contains(pc) => Some(*fde),
             _ => None,
         }
     }

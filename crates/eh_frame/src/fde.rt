@@ -10,14 +10,14 @@ ghost use Rattle.encoded_pointers.specs.View.{at};
 ghost use Rattle.encoded_pointers.specs.Pointers.{bases_of, pointer_of};
 ghost use Rattle.eh_frame.specs.Letters.{byte_of};
 ghost use Rattle.eh_frame.specs.Views.{cie_of, fde_of};
-ghost use Rattle.frame_rows.specs.Rows.{GivesRow};
+ghost use Rattle.frame_rows.specs.Rows.{GivesRow, made};
 
 use crate::cie::Cie;
 use crate::entries::EhFrame;
 use encoded_pointers::{
     Bases, Cursor, DwEhPe, Pointer, parse_direct_pointer, parse_encoded_pointer, read_value,
 };
-use frame_rows::Row;
+use frame_rows::{Row, RowRoom};
 use unwind_definitions::Error;
 
 /// A frame description entry (FDE): the addresses of a function, and the program of its rows.
@@ -167,6 +167,33 @@ impl<'a> Fde<'a> {
             return Err(Error::NoUnwindInfoForAddress);
         }
         frame_rows::row_at(
+            self.cie.instructions(),
+            self.instructions(),
+            self.cie.factors(),
+            self.initial_address,
+            pc,
+        )
+    }
+
+    /// Makes the same row in `rows`, in place of the one that was made there before.
+    ///
+    /// # Errors
+    ///
+    /// Those of [`Fde::unwind_info_for_address`].
+    #[tactic(auto, unfolding(unwind_definitions::specs::Row::row_at))]
+    pub fn make_row(
+        &self,
+        frame: &EhFrame<'a>,
+        bases: &Bases,
+        pc: u64,
+        rows: &mut RowRoom<'a>,
+    ) -> Result<(), Error>
+        ensures { GivesRow (made result rows.new) (row_at emitted (bases_of bases.now) (fde_of self.now) pc) }
+    {
+        if !self.contains(pc) {
+            return Err(Error::NoUnwindInfoForAddress);
+        }
+        rows.make(
             self.cie.instructions(),
             self.instructions(),
             self.cie.factors(),

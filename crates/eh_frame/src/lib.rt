@@ -4,7 +4,7 @@
 //! read from left to right, and the first fault is told.
 //!
 //! [`Fde::unwind_info_for_address`] runs its program, and gives the [`Row`] by which the caller of
-//! the function's frame is found.
+//! the function's frame is found. [`Fde::make_row`] makes one row after another in a [`RowRoom`].
 //!
 //! The forms that are read so far: lengths of four bytes, and common information entries of version
 //! 1 with the augmentations `zR`, `zPR` and `zPLR`. Pointers may have any encoding. Of the
@@ -27,7 +27,7 @@ pub use encoded_pointers::{
 };
 pub use entries::EhFrame;
 pub use fde::Fde;
-pub use frame_rows::{CfaRule, Register, RegisterMap, RegisterRule, Registers, Row};
+pub use frame_rows::{CfaRule, Register, RegisterMap, RegisterRule, Registers, Row, RowRoom};
 pub use unwind_definitions::Error;
 
 #[cfg(test)]

@@ -24,7 +24,7 @@ module _ (start : ℕ) (m : Machine) (run : Run) (rep : Represents start m run) 
     state = state;
     opened = ap is_some memory ∙ rep.opened ∙ sym (open-push run.own i ∙ ap (λ o. unwrap_or o (is_open run.own)) plain.still);
     remembered = subst (λ r. IsRemembered r (push run i)) (sym memory) (kept_memory run i plain m.remembered rep.remembered);
-    initial = λ c. ap (λ es. rule_in (unwrap_or es []) c) initial ∙ rep.initial c;
+    initial = λ c. ap (λ es. rule_in es c) initial ∙ rep.initial c;
   }
 
   pub state_nop : IsStateOf m.state (push run Nop)
@@ -101,7 +101,7 @@ module _ (start : ℕ) (m : Machine) (run : Run) (rep : Represents start m run) 
         });
         opened = ap is_some memory ∙ sym (open-push run.own Remember);
         remembered = subst (λ r. IsRemembered r (push run Remember)) (sym memory) (run.own, open_remember run.own closed, rep.state);
-        initial = λ c. ap (λ es. rule_in (unwrap_or es []) c) initial ∙ rep.initial c;
+        initial = λ c. ap (λ es. rule_in es c) initial ∙ rep.initial c;
       }
 
   -- the remembered state is restored
@@ -118,5 +118,5 @@ module _ (start : ℕ) (m : Machine) (run : Run) (rep : Represents start m run) 
         });
         opened = ap is_some memory ∙ sym (open-push run.own Restore);
         remembered = subst (λ r. IsRemembered r (push run Restore)) (sym memory) (closed_restore r.0 run.own r.1);
-        initial = λ c. ap (λ es. rule_in (unwrap_or es []) c) initial ∙ rep.initial c;
+        initial = λ c. ap (λ es. rule_in es c) initial ∙ rep.initial c;
       }

@@ -1,5 +1,5 @@
 -- The program of a common information entry and a description's own make the row.
-use Rattle.std.proofs.Common.{◌≡◌, ℕ, cond, List, [], length, Option, Some, None, Result, Ok, Err, refl, sym, ap, ◌∙◌}
+use Rattle.std.proofs.Common.{◌≡◌, ℕ, cond, List, [], length, Option, Some, None, Result, Ok, Err, refl, sym, ap, subst, ◌∙◌}
 use Rattle.std.specs.Prelude.{is_some}
 use Rattle.std.specs.Option.{option_or}
 use Rattle.std.proofs.lemmas.Bool.{eq-eqb}
@@ -7,7 +7,8 @@ use Rattle.unwind_definitions.specs.declared.error.Error.{Error as Fault}
 use Rattle.unwind_definitions.specs.declared.error.Error.TheVariants.{NoCfaRegister}
 use Rattle.unwind_definitions.specs.Instructions.{Instruction, Program}
 use Rattle.unwind_definitions.specs.Row.{Run, first_fault, up_to, or_else, common_fault, own_fault, from_common, row, cfa_rule}
-use Rattle.frame_rows.specs.Running.{outcome}
+use Rattle.frame_rows.specs.declared.machine.Machine.{Machine}
+use Rattle.frame_rows.specs.Running.{Represents, outcome, Ends, MakesRow}
 use Rattle.frame_rows.specs.RowValue.{RowValue}
 use Rattle.frame_rows.specs.Rows.{GivesRow, IsLast}
 
@@ -69,3 +70,8 @@ module _ (start pc : ℕ) (common own : Program) where
       (last, past_own run run' first second ∙ ap (λ o. cond (is_some o) (Ok last) (Err NoCfaRegister)) is.cfa, is)
   row_made run run' (Err e) first second is =
       past_own run run' first second ∙ ap (λ o. cond (is_some o) (Ok last) (Err NoCfaRegister)) is.1 ∙ ap (λ d. let r : Result Run Fault = Err d in r) (sym is.0)
+
+  -- both programs have run, or the second can't
+  pub ran_both : (run : Run) (r : Result (Unit {0}) Fault) (new : Machine) → outcome 0 None (from_common []) common ≡ Ok run → Ends start r new (outcome start (Some pc) (from_common common.instructions) own) → MakesRow start r new (row start pc common own)
+  ran_both run (Ok done) new first ends = (last, subst (λ run. Represents start new run) (sym (own_run ends.0 ends.1)) ends.2, λ r is. row_made run ends.0 r first ends.1 is)
+  ran_both run (Err e) new first ends = own_stops run e first ends

@@ -21,3 +21,8 @@ GivesRow (Err e) due = due ≡ Err e
 abbrev pub IsLast : Run → Result RowValue Fault → Type 0
 IsLast run (Ok row) = IsRowOf row run
 IsLast run (Err e) = (e ≡ NoCfaRegister) × (cfa_rule run ≡ None)
+
+-- the row that a call leaves in its place, or its fault
+abbrev pub made : Result (Unit {0}) Fault → RowValue → Result RowValue Fault
+made (Ok done) row = Ok row
+made (Err e) row = Err e

@@ -5,6 +5,8 @@ use Rattle.unwind_definitions.specs.declared.error.Error.{Error as Fault}
 use Rattle.unwind_definitions.specs.Instructions.{Rule, Instruction, Advance, SetLocation, Program}
 use Rattle.unwind_definitions.specs.Row.{Run, cut, cut_of, cfa_rule, rule_of, initial_rule, argument_size, location, up_to, first_fault, fault_of, is_open, or_else}
 use Rattle.frame_rows.specs.Rules.{rule_in, cfa_meaning}
+use Rattle.frame_rows.specs.RowValue.{RowValue}
+use Rattle.frame_rows.specs.Rows.{GivesRow, IsLast}
 use Rattle.frame_rows.specs.declared.machine.RowState.{RowState}
 use Rattle.frame_rows.specs.declared.machine.Machine.{Machine}
 
@@ -50,7 +52,7 @@ IsRemembered (Some state) run = (before : List Instruction) × IsOpenSince befor
 
 -- the initial rules of a machine
 abbrev pub initial_rules : Machine → List (ℕ × Rule)
-initial_rules machine = unwrap_or machine.initial []
+initial_rules machine = machine.initial
 
 -- the machine has run these instructions, from a location on
 pub record Represents (start : ℕ) (machine : Machine) (run : Run) : Type 0 where
@@ -64,6 +66,11 @@ pub record Represents (start : ℕ) (machine : Machine) (run : Run) : Type 0 whe
 abbrev pub Follows : ℕ → Run → Instruction → Result (Unit {0}) Fault → Machine → Type 0
 Follows start run i (Ok done) new = (fault_of start run i ≡ None) × Represents start new (push run i)
 Follows start run i (Err e) new = fault_of start run i ≡ Some e
+
+-- The machine has run what a row is made of: what it ends with gives the row, or a fault is the row's.
+abbrev pub MakesRow : ℕ → Result (Unit {0}) Fault → Machine → Result Run Fault → Type 0
+MakesRow start (Ok done) new due = (run : Run) × Represents start new run × ((r : Result RowValue Fault) → IsLast run r → GivesRow r due)
+MakesRow start (Err e) new due = due ≡ Err e
 
 -- what the machine ends with is what a program says
 abbrev pub Ends : ℕ → Result (Unit {0}) Fault → Machine → Result Run Fault → Type 0

@@ -40,8 +40,8 @@ pub(crate) struct Machine<'a> {
     remembered: Option<RowState<'a>>,
     location: u64,
     state: RowState<'a>,
-    // the rules that the CIE's program ended with; None while that one runs, which has no rules before
-    initial: Option<RegisterRules<'a>>,
+    // the rules that the CIE's program ended with; none while that one runs, which has no rules before
+    initial: RegisterRules<'a>,
 }
 
 impl<'a> Machine<'a> {
@@ -51,7 +51,7 @@ impl<'a> Machine<'a> {
     ghost use Rattle.frame_rows.specs.Rules.{rule_meaning, rule_in};
     ghost use Rattle.frame_rows.specs.Decoded.{meaning};
     ghost use Rattle.frame_rows.specs.Running.{Represents, Follows, stops, initial_rules};
-    ghost use Rattle.frame_rows.specs.Rows.{IsLast};
+    ghost use Rattle.frame_rows.specs.Rows.{IsLast, made};
 
     /// A machine that is to run the program of a common information entry.
     pub(crate) fn new() -> Machine<'a>
@@ -65,7 +65,30 @@ impl<'a> Machine<'a> {
                 saved_args_size: 0,
             },
             remembered: None,
-            initial: None,
+            initial: RegisterRules::new(),
+        }
+    }
+
+    /// Makes it one that is to run the program of a common information entry, whatever it ran
+    /// before.
+    pub(crate) fn restart(&mut self)
+        ensures { Represents 0 self.new (from_common []) }
+    {
+        self.location = 0;
+        self.state.cfa = None;
+        self.state.rules.clear();
+        self.state.saved_args_size = 0;
+        self.forget();
+        self.initial.clear();
+    }
+
+    // Forgets the state that is remembered, if one is. It is asked first, as `None` is written over
+    // the room of a whole state.
+    fn forget(&mut self)
+        ensures { self.new ≡ record self.old { remembered = None } }
+    {
+        if self.remembered.is_some() {
+            self.remembered = None;
         }
     }
 
@@ -76,8 +99,8 @@ impl<'a> Machine<'a> {
             Represents location self.new (from_common common) }
     {
         self.location = location;
-        self.remembered = None;
-        self.initial = Some(self.state.rules.copy());
+        self.forget();
+        self.initial.assign(&self.state.rules);
     }
 
     /// Whether an instruction leads past the address asked, if one is asked.
@@ -119,10 +142,7 @@ impl<'a> Machine<'a> {
     fn initial_rule(&self, register: Register) -> Option<RegisterRule<'a>>
         ensures { option_map rule_meaning result ≡ rule_in (initial_rules self.now) register.0 }
     {
-        match &self.initial {
-            Some(rules) => rules.get(register),
-            None => None,
-        }
+        self.initial.get(register)
     }
 
     fn restore_initial_rule(&mut self, register: Register) -> Result<(), Error>
@@ -206,6 +226,19 @@ impl<'a> Machine<'a> {
             }
             CallFrameInstruction::DefineCfaRegister(register) => self.set_cfa_register(register),
             CallFrameInstruction::DefineCfaOffset(offset) => self.set_cfa_offset(offset),
+        }
+    }
+
+    /// Puts the row that the programs end with in place of another.
+    pub(crate) fn put_row(&self, row: &mut Row<'a>) -> Result<(), Error>
+        ensures { (start : ℕ) (run : Run) → Represents start self.now run → IsLast run (made result row.new) }
+    {
+        match self.state.cfa {
+            Some(cfa) => {
+                row.assign(cfa, &self.state.rules, self.state.saved_args_size);
+                Ok(())
+            }
+            None => Err(Error::NoCfaRegister),
         }
     }
 

@@ -9,7 +9,7 @@ ghost use Rattle.unwind_definitions.specs.Row.{Run, row};
 ghost use Rattle.encoded_pointers.specs.View.{at};
 ghost use Rattle.frame_rows.specs.Decoded.{coding_by};
 ghost use Rattle.frame_rows.specs.Rows.{GivesRow};
-ghost use Rattle.frame_rows.specs.Running.{Represents, outcome, Ends};
+ghost use Rattle.frame_rows.specs.Running.{Represents, outcome, Ends, MakesRow};
 
 use crate::instruction::{AlignmentFactors, read_instruction};
 use crate::machine::Machine;
@@ -19,6 +19,8 @@ use unwind_definitions::Error;
 
 /// The row at an address of a description whose program begins at `start`. The program of its
 /// common information entry runs first, and whole.
+///
+/// Where one row after another is made, [`RowRoom`](crate::RowRoom) takes fewer instructions.
 pub fn row_at<'a>(
     common: Cursor<'a>,
     own: Cursor<'a>,
@@ -30,10 +32,28 @@ pub fn row_at<'a>(
         GivesRow result (row start pc (program emitted coding (at common.entry)) (program emitted coding (at own.entry))) }
 {
     let mut machine = Machine::new();
-    run_program(&mut machine, common, factors, None)?;
-    machine.begin(start);
-    run_program(&mut machine, own, factors, Some(pc))?;
+    run_programs(&mut machine, common, own, factors, start, pc)?;
     machine.into_row()
+}
+
+/// Runs the program of a common information entry, whole, and then a description's own, which
+/// begins at `start`, up to the advance that leads past an address. What the machine ran before
+/// doesn't matter, and behind a fault it isn't told.
+pub(crate) fn run_programs<'a>(
+    machine: &mut Machine<'a>,
+    common: Cursor<'a>,
+    own: Cursor<'a>,
+    factors: AlignmentFactors,
+    start: u64,
+    pc: u64,
+) -> Result<(), Error>
+    ensures { (address : ℕ) (bases : Bases) → let coding = coding_by factors address bases in
+        MakesRow start result machine.new (row start pc (program emitted coding (at common.entry)) (program emitted coding (at own.entry))) }
+{
+    machine.restart();
+    run_program(machine, common, factors, None)?;
+    machine.begin(start);
+    run_program(machine, own, factors, Some(pc))
 }
 
 // Runs a program, whole or up to the advance that leads past an address. Behind a fault the

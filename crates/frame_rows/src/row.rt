@@ -51,6 +51,24 @@ impl<'a> Row<'a> {
         }
     }
 
+    /// Makes it the row of these in place of its own.
+    pub(crate) fn assign(
+        &mut self,
+        cfa: CfaRule<'a>,
+        rules: &RegisterRules<'a>,
+        saved_args_size: u64,
+    )
+        ensures { self.new ≡ record {
+          cfa = cfa_meaning cfa.entry;
+          rules = rules.now;
+          saved_args_size = saved_args_size;
+        } }
+    {
+        self.cfa = cfa;
+        self.rules.assign(rules);
+        self.saved_args_size = saved_args_size;
+    }
+
     /// How the CFA is found.
     pub fn cfa(&self) -> CfaRule<'a>
         ensures { cfa_meaning result ≡ self.now.cfa }

@@ -117,6 +117,21 @@ impl<'a> RegisterRules<'a> {
         }
     }
 
+    /// Takes all rules away.
+    pub(crate) fn clear(&mut self)
+        ensures { self.new ≡ [] }
+    {
+        self.entries.clear();
+    }
+
+    /// Puts the rules of another list in place of its own. Places that aren't used aren't written.
+    pub(crate) fn assign(&mut self, other: &RegisterRules<'a>)
+        ensures { self.new ≡ other.now }
+    {
+        self.entries.clear();
+        let _fits = self.entries.try_extend_from_slice(&other.entries);
+    }
+
     /// The same rules.
     pub(crate) fn copy(&self) -> RegisterRules<'a>
         ensures { result ≡ self.now }

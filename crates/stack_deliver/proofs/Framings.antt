@@ -47,7 +47,7 @@ stepped_by image c (Ok None) = Ok None
 stepped_by image c (Ok (Some f)) = some_next (caller_by image c f)
 stepped_by image c (Err e) = Err e
 
-marked_is : (signal : Bool) (r : Result Context DeliverError) → stepped signal r ≡ some_next (marked signal r)
+pub marked_is : (signal : Bool) (r : Result Context DeliverError) → stepped signal r ≡ some_next (marked signal r)
 marked_is signal (Ok c) = refl
 marked_is signal (Err e) = refl
 

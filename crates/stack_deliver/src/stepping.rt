@@ -1,25 +1,30 @@
 // From a frame to its caller, by the frame table of the module that holds it.
 ghost use Rattle.std.specs.Prelude.{◌≡◌, ◌≢◌, ◌↔◌, ℕ, List, Some, None, Ok, Err, IsTrue, IsFalse};
+ghost use Rattle.std.specs.Option.{option_map};
 ghost use Rattle.memory_image.specs.Image.{word_at};
 ghost use Rattle.unwind_definitions.specs.declared.error.Error.{Error as Fault};
 ghost use Rattle.unwind_definitions.specs.State.{State, Shows};
 ghost use Rattle.unwind_definitions.specs.Function.{Function};
 ghost use Rattle.unwind_definitions.specs.Chain.{Call};
 ghost use Rattle.unwind_arch.specs.Contexts.{columns_of};
+ghost use Rattle.frame_rows.specs.Rows.{IsRowOf};
+ghost use Rattle.unwind_definitions.specs.Row.{Run};
+ghost use Rattle.unwinding_core.specs.Answered.{answered};
 ghost use Rattle.unwinding_core.specs.Framed.{address_asked, GivesFrame};
 ghost use Rattle.unwinding_core.specs.Named.{found_by};
 ghost use Rattle.stack_deliver.specs.Modules.{AreApart, contains};
 ghost use Rattle.stack_deliver.specs.Processes.{process_of};
 ghost use Rattle.stack_deliver.specs.Passes.{FrameAt, frame_of, caller_by};
 ghost use Rattle.stack_deliver.specs.Passing.{IsFrameOf, GivesFrameAt};
-ghost use Rattle.stack_deliver.specs.Stepping.{step_of, EndsAt, FaultsAt};
+ghost use Rattle.stack_deliver.specs.Stepping.{step_of, by_row, called, in_module, EndsAt, FaultsAt};
 ghost use Rattle.stack_deliver.specs.Undone.{HaveFrameTables, IsDescribedCall, Undone};
 
 use crate::delivery::{DeliverError, Stepped};
 use crate::space::{Module, Space};
+use eh_frame::{Row, RowRoom};
 use memory_image::{Ledger, MemoryImage, Steps};
 use unwind_arch::x86_64::{Arch, Context};
-use unwinding_core::{CustomFinder, Frame, StepError};
+use unwinding_core::{CustomFinder, FDEFinder, FDESearchResult, Frame, StepError, caller_by_row};
 
 /// A finder by the frame tables of a module.
 fn finder_of(holder: Module) -> CustomFinder<Module>
@@ -87,19 +92,92 @@ pub(crate) fn caller<'a>(
     })
 }
 
-fn stepped<L: Ledger>(
-    space: &Space<'_>,
+/// The description of the function at an address of a module, by the module's frame tables.
+fn found_in<'a, L: Ledger>(
+    image: &MemoryImage<'a>,
+    address: u64,
+    holder: Module,
+    steps: &mut Steps<L>,
+) -> Option<FDESearchResult<'a>>
+    requires { IsTrue (contains holder address) }
+    ensures found { option_map answered result ≡ found_by holder.frame image.now address }
+    ensures unticked { steps.new.number ≡ steps.old.number }
+{
+    finder_of(holder).find_fde(image, address, steps)
+}
+
+/// The caller of a frame, by its row.
+fn caller_with(
+    image: &MemoryImage<'_>,
+    context: &Context,
+    row: &Row<'_>,
+    signal: bool,
+) -> Result<Option<Stepped>, DeliverError>
+    ensures { (run : Run) → IsRowOf row.now run → result ≡ by_row image.now context.now signal (Ok run) }
+{
+    let context = caller_by_row::<Arch>(image, context, row)?;
+    Ok(Some(Stepped { context, signal }))
+}
+
+/// The caller of a frame, by its description. The row at the address is made in `rows`.
+fn caller_of<'a>(
+    image: &MemoryImage<'a>,
+    context: &Context,
+    address: u64,
+    found: &FDESearchResult<'a>,
+    rows: &mut RowRoom<'a>,
+) -> Result<Option<Stepped>, DeliverError>
+    ensures { result ≡ called image.now context.now address (Some (answered found.now)) }
+{
+    match found.make_row(address, rows) {
+        Err(fault) => Err(DeliverError::Table(fault)),
+        Ok(()) => caller_with(image, context, rows.row(), found.fde.is_signal_trampoline()),
+    }
+}
+
+/// The caller of a frame that stands at an address of a module.
+fn caller_in<'a, L: Ledger>(
+    image: &MemoryImage<'a>,
+    context: &Context,
+    address: u64,
+    holder: Module,
+    rows: &mut RowRoom<'a>,
+    steps: &mut Steps<L>,
+) -> Result<Option<Stepped>, DeliverError>
+    requires { IsTrue (contains holder address) }
+    ensures exact { result ≡ in_module image.now context.now address (Some holder) }
+    ensures unticked { steps.new.number ≡ steps.old.number }
+{
+    match found_in(image, address, holder, steps) {
+        None => Ok(None),
+        Some(found) => caller_of(image, context, address, &found, rows),
+    }
+}
+
+/// The caller of the frame whose registers `context` holds, as `step` gives it. Its row is made in
+/// `rows`, and no frame is made.
+#[tactic(auto, unfolding(crate::specs::Stepping::step_of))]
+pub(crate) fn stepped<'a, L: Ledger>(
+    space: &Space<'a>,
     context: &Context,
     interrupted: bool,
+    rows: &mut RowRoom<'a>,
     steps: &mut Steps<L>,
 ) -> Result<Option<Stepped>, DeliverError>
     ensures exact { result ≡ step_of space.now context.now interrupted }
     ensures apart { AreApart 0 space.now.modules }
     ensures unticked { steps.new.number ≡ steps.old.number }
 {
-    match frame_at(space, context, interrupted, steps)? {
-        None => Ok(None),
-        Some(frame) => Ok(Some(caller(space.image(), &frame, context)?)),
+    let address = if interrupted {
+        context.ra
+    } else {
+        context.ra.saturating_sub(1)
+    };
+    match space.module_at(address) {
+        Some(holder) if context.ra != 0 => {
+            caller_in(space.image(), context, address, holder, rows, steps)
+        }
+        _ => Ok(None),
     }
 }
 
@@ -131,5 +209,5 @@ pub fn step<L: Ledger>(
     // A scan of a frame table isn't counted.
     ensures unticked { steps.new.number ≡ steps.old.number }
 {
-    stepped(space, context, interrupted, steps)
+    stepped(space, context, interrupted, &mut RowRoom::new(), steps)
 }

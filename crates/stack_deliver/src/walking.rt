@@ -11,7 +11,8 @@ ghost use Rattle.stack_deliver.specs.Walking.{IsWalked, StepFails, StartsChain, 
 use crate::delivery::DeliverError;
 use crate::room::Room;
 use crate::space::Space;
-use crate::stepping::step;
+use crate::stepping::stepped;
+use eh_frame::RowRoom;
 use memory_image::{Ledger, NoLedger, Steps};
 use std::alloc::Global;
 use std::marker::Model;
@@ -31,11 +32,12 @@ fn line<L: Ledger>(
     ensures exact { IsWalked result room.new (line_of space.now limit start.now interrupted) }
     ensures kept { (room.new.trail ≡ room.old.trail) × (room.new.limit ≡ room.old.limit) }
 {
+    let mut rows = RowRoom::new();
     let mut context = *start;
     let mut interrupted = interrupted;
     for _ in 0..limit {
         room.visit(context);
-        match step(space, &context, interrupted, steps)? {
+        match stepped(space, &context, interrupted, &mut rows, steps)? {
             None => return Ok(()),
             Some(next) => {
                 context = next.context;

@@ -29,6 +29,11 @@ abbrev pub columns_given : {C : Type 0} → (C → Columns) → Result C StepErr
 columns_given columns (Ok c) = Ok (columns c)
 columns_given columns (Err e) = Err (fault_of e)
 
+-- the context that a call leaves in its place, or its fault
+abbrev pub written_in : {C : Type 0} → Result (Unit {0}) StepError → C → Result C StepError
+written_in (Ok done) c = Ok c
+written_in (Err e) c = Err e
+
 -- the columns with another value in one, which the machine has to have
 abbrev pub written_to : Option ℕ → Columns → ℕ → ℕ → Result Columns StepFault
 written_to None columns k v = Err (Table UnsupportedRegister)

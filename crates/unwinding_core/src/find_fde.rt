@@ -3,13 +3,15 @@
 ghost use Rattle.std.specs.Prelude.{◌≡◌, ◌+◌, ℕ, List, Option, Some, IsTrue};
 ghost use Rattle.std.specs.Option.{option_map};
 ghost use Rattle.memory_image.specs.Image.{Span};
-ghost use Rattle.unwind_definitions.specs.Row.{covers_pc};
+ghost use Rattle.unwind_definitions.specs.Forms.{emitted};
+ghost use Rattle.unwind_definitions.specs.Row.{covers_pc, row_at};
+ghost use Rattle.frame_rows.specs.Rows.{GivesRow, made};
 ghost use Rattle.unwinding_core.specs.Finding.{FoundFde};
 ghost use Rattle.unwinding_core.specs.Answered.{answered};
 
 pub mod custom;
 
-use eh_frame::{Bases, EhFrame, Fde};
+use eh_frame::{Bases, EhFrame, Error, Fde, RowRoom};
 use memory_image::{Ledger, MemoryImage, Steps};
 use std::fmt;
 
@@ -22,6 +24,21 @@ pub struct FDESearchResult<'a> {
     pub bases: Bases,
     /// The table that it stands in.
     pub eh_frame: EhFrame<'a>,
+}
+
+impl<'a> FDESearchResult<'a> {
+    /// Makes the row at an address of the function in `rows`, in place of the one that was made
+    /// there before.
+    ///
+    /// # Errors
+    ///
+    /// The first fault of the row: those of [`Fde::unwind_info_for_address`].
+    pub fn make_row(&self, address: u64, rows: &mut RowRoom<'a>) -> Result<(), Error>
+        ensures row { GivesRow (made result rows.new) (row_at emitted (answered self.now).bases (answered self.now).fde address) }
+    {
+        self.fde
+            .make_row(&self.eh_frame, &self.bases, address, rows)
+    }
 }
 
 impl fmt::Debug for FDESearchResult<'_> {

@@ -13,7 +13,7 @@ ghost use Rattle.encoded_pointers.specs.Pointers.{bases_of, pointer_of};
 ghost use Rattle.unwinding_core.specs.Finding.{FoundFde};
 ghost use Rattle.unwinding_core.specs.Answered.{answered};
 ghost use Rattle.unwinding_core.specs.Framed.{address_asked, GivesFrame, GivesRowOf};
-ghost use Rattle.unwinding_core.specs.Calling.{no_expressions, machine_of, value_given, columns_given, applied, rule_applied};
+ghost use Rattle.unwinding_core.specs.Calling.{no_expressions, machine_of, value_given, columns_given, written_in, applied, rule_applied};
 
 use crate::find_fde::{FDEFinder, FDESearchResult};
 use eh_frame::{
@@ -149,7 +149,7 @@ impl<'a, M: Machine> Frame<'a, M> {
         ensures caller { (run : Run) → IsRowOf self.now.row run →
             columns_given M.Context.columns result ≡ caller_of (machine_of M.SP.0 M.RA.0) no_expressions image.now (M.Context.columns context.now) run }
     {
-        caller::<M>(image, context, &self.row)
+        caller_by_row::<M>(image, context, &self.row)
     }
 
     /// Takes the arguments that the frame's callee removes off the stack of `context`: their size
@@ -235,12 +235,18 @@ pub(crate) fn return_address<M: Machine>(context: &M::Context) -> u64
 }
 
 /// The registers of the caller of the frame whose registers are `context`, by its row.
-fn caller<M: Machine>(
+///
+/// It is [`Frame::unwind`] where the row isn't a frame's.
+///
+/// # Errors
+///
+/// Those of [`Frame::unwind`].
+pub fn caller_by_row<M: Machine>(
     image: &MemoryImage<'_>,
     context: &M::Context,
     row: &Row<'_>,
 ) -> Result<M::Context, StepError>
-    ensures { (run : Run) → IsRowOf row.now run →
+    ensures caller { (run : Run) → IsRowOf row.now run →
         columns_given M.Context.columns result ≡ caller_of (machine_of M.SP.0 M.RA.0) no_expressions image.now (M.Context.columns context.now) run }
 {
     let cfa = cfa::<M>(context, row.cfa())?;
@@ -323,20 +329,20 @@ fn ruled<M: Machine>(
     }
 }
 
-/// Registers with the value that a rule gives a column.
+/// Writes the value that a rule gives a column. Behind a fault the registers aren't told.
 fn rule_applied<M: Machine>(
     image: &MemoryImage<'_>,
     context: &M::Context,
     cfa: u64,
     register: Register,
     rule: RegisterRule<'_>,
-    mut caller: M::Context,
-) -> Result<M::Context, StepError>
-    ensures { columns_given M.Context.columns result ≡ rule_applied no_expressions image.now (M.Context.columns context.now) cfa (entry_of (register, rule.entry)) (M.Context.columns caller) }
+    caller: &mut M::Context,
+) -> Result<(), StepError>
+    ensures { columns_given M.Context.columns (written_in result caller.new) ≡ rule_applied no_expressions image.now (M.Context.columns context.now) cfa (entry_of (register, rule.entry)) (M.Context.columns caller.old) }
 {
     let value = ruled::<M>(image, context, cfa, register, rule)?;
     match caller.set(register, value) {
-        Some(()) => Ok(caller),
+        Some(()) => Ok(()),
         None => Err(UNSUPPORTED),
     }
 }
@@ -353,7 +359,7 @@ fn applied<M: Machine>(
 {
     let mut caller = begun;
     for (register, rule) in rules {
-        caller = rule_applied::<M>(image, context, cfa, register, rule, caller)?;
+        rule_applied::<M>(image, context, cfa, register, rule, &mut caller)?;
     }
     Ok(caller)
 }

@@ -2,7 +2,8 @@
 //!
 //! A finder ([`FDEFinder`]) answers the description of the function at an address. A [`Frame`] is
 //! made of it and of the row at that address, for any machine of `unwind_arch`, and gives the
-//! registers of its caller.
+//! registers of its caller. Where frame after frame is left, [`FDESearchResult::make_row`] makes their
+//! rows in one place, and [`caller_by_row`] gives the callers.
 #![tactic(auto)]
 
 mod abi;
@@ -21,6 +22,6 @@ pub use find_fde::custom::{
     CustomFinder, EhFrameFinder, FrameInfo, FrameInfoKind, SetCustomEhFrameFinderError,
 };
 pub use find_fde::{FDEFinder, FDESearchResult};
-pub use frame::{Frame, StepError};
+pub use frame::{Frame, StepError, caller_by_row};
 pub use language_table::{EhAction, find_eh_action};
 pub use personality::{Personality, RustPersonality};

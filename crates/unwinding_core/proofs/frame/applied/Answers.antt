@@ -6,9 +6,9 @@ use Rattle.unwinding_core.specs.Calling.{no_expressions, applied, fault_of}
 use Rattle.unwinding_core.proofs.Faults.{and_then_fault}
 use Rattle.unwinding_core.proofs.frame.applied.Goals as goal
 
-pub returns-in_err-caller : goal.returns-in_err-caller
-returns-in_err-caller g c =
+pub returns-in_err-rule_applied : goal.returns-in_err-rule_applied
+returns-in_err-rule_applied g c =
     let p = err_from_is_err_and c.from_residual.result c.from_residual.ensures.1 in
-    let fails : applied no_expressions c.args.image.now (g.M.Context.RegisterMap.columns c.args.context.now) c.args.cfa (map entry_of (left c.args.rules)) (g.M.Context.RegisterMap.columns c.args.begun) ≡ Err (fault_of c.in_err-caller.field-0.0) =
-    rw (← c.loop-register.invariant, c.in-Some.ensures.steps) (and_then_fault _ _ _ (sym c.in_err-caller.ensures)) in
+    let fails : applied no_expressions c.args.image.now (g.M.Context.RegisterMap.columns c.args.context.now) c.args.cfa (map entry_of (left c.args.rules)) (g.M.Context.RegisterMap.columns c.args.begun) ≡ Err (fault_of c.in_err-rule_applied.field-0.0) =
+    rw (← c.loop-register.invariant, c.in-Some.ensures.steps) (and_then_fault _ _ _ (sym c.in_err-rule_applied.ensures)) in
     rw (p.1, p.2) (sym fails)

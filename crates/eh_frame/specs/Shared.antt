@@ -1,0 +1,15 @@
+-- The common information entries of a table, which several of its descriptions share.
+use Rattle.std.specs.Prelude.{◌≡◌, Ok}
+use Rattle.unwind_definitions.specs.Forms.{emitted}
+use Rattle.unwind_definitions.specs.Input.{Input}
+use Rattle.unwind_definitions.specs.Pointers.{Bases}
+use Rattle.unwind_definitions.specs.Entries.{Cie, Entry, ACie, AFde, cie_at}
+
+-- the entry itself, or the one that a description names
+abbrev pub shared : Entry → Cie
+shared (ACie cie) = cie
+shared (AFde fde) = fde.cie
+
+-- a common information entry is what a table has at its offset
+abbrev pub StandsIn : Bases → Input → Cie → Type 0
+StandsIn bases table cie = cie_at emitted bases table cie.offset ≡ Ok cie

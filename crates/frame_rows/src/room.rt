@@ -1,0 +1,79 @@
+//! Room for one row after another. DWARF 5 sections 6.4.1 and 6.4.3.
+
+ghost use Rattle.std.specs.Prelude.{◌≡◌, ℕ, []};
+ghost use Rattle.unwind_definitions.specs.Forms.{emitted};
+ghost use Rattle.unwind_definitions.specs.Pointers.{Bases};
+ghost use Rattle.unwind_definitions.specs.Instructions.{program};
+ghost use Rattle.unwind_definitions.specs.Row.{row, ColumnAndOffset};
+ghost use Rattle.encoded_pointers.specs.View.{at};
+ghost use Rattle.frame_rows.specs.Decoded.{coding_by};
+ghost use Rattle.frame_rows.specs.Rows.{GivesRow, made};
+
+use crate::instruction::AlignmentFactors;
+use crate::machine::Machine;
+use crate::program::run_programs;
+use crate::register::Register;
+use crate::row::Row;
+use crate::rule::CfaRule;
+use crate::rules::RegisterRules;
+use encoded_pointers::Cursor;
+use std::marker::Model;
+use unwind_definitions::Error;
+
+/// Room in which one row after another is made.
+///
+/// A row and what its programs need take some 4 KB, which are cleared when the room is made and not
+/// again for each row. Contracts see the row that was made last.
+#[derive(Drop)]
+pub struct RowRoom<'a> {
+    machine: Machine<'a>,
+    row: Row<'a>,
+}
+
+impl<'a> Model for RowRoom<'a> {
+    ghost use Rattle.frame_rows.specs.RowValue.{RowValue};
+
+    ghost Value = { RowValue };
+
+    ghost view = { λ r. r.row };
+}
+
+impl<'a> RowRoom<'a> {
+    /// Room in which no row was made yet: its row has no rules, and its CFA is register 0.
+    pub fn new() -> RowRoom<'a>
+        ensures { result ≡ record { cfa = ColumnAndOffset 0 0; rules = []; saved_args_size = 0 } }
+    {
+        let cfa = CfaRule::RegisterAndOffset {
+            register: Register(0),
+            offset: 0,
+        };
+        RowRoom {
+            machine: Machine::new(),
+            row: Row::new(cfa, RegisterRules::new(), 0),
+        }
+    }
+
+    /// The row that was made last. Behind a fault it isn't told.
+    pub fn row(&self) -> &Row<'a>
+        ensures { result.now ≡ self.now }
+    {
+        &self.row
+    }
+
+    /// Makes the row at an address of a description whose program begins at `start`, as
+    /// [`row_at`](crate::row_at) does.
+    pub fn make(
+        &mut self,
+        common: Cursor<'a>,
+        own: Cursor<'a>,
+        factors: AlignmentFactors,
+        start: u64,
+        pc: u64,
+    ) -> Result<(), Error>
+        ensures { (address : ℕ) (bases : Bases) → let coding = coding_by factors address bases in
+            GivesRow (made result self.new) (row start pc (program emitted coding (at common.entry)) (program emitted coding (at own.entry))) }
+    {
+        run_programs(&mut self.machine, common, own, factors, start, pc)?;
+        self.machine.put_row(&mut self.row)
+    }
+}
