@@ -92,6 +92,22 @@ pub(crate) fn caller<'a>(
     })
 }
 
+fn stepped<L: Ledger>(
+    space: &Space<'_>,
+    context: &Context,
+    interrupted: bool,
+    steps: &mut Steps<L>,
+) -> Result<Option<Stepped>, DeliverError>
+    ensures exact { result ≡ step_of space.now context.now interrupted }
+    ensures apart { AreApart 0 space.now.modules }
+    ensures unticked { steps.new.number ≡ steps.old.number }
+{
+    match frame_at(space, context, interrupted, steps)? {
+        None => Ok(None),
+        Some(frame) => Ok(Some(caller(space.image(), &frame, context)?)),
+    }
+}
+
 /// The description of the function at an address of a module, by the module's frame tables.
 fn found_in<'a, L: Ledger>(
     image: &MemoryImage<'a>,
@@ -157,7 +173,7 @@ fn caller_in<'a, L: Ledger>(
 /// The caller of the frame whose registers `context` holds, as `step` gives it. Its row is made in
 /// `rows`, and no frame is made.
 #[tactic(auto, unfolding(crate::specs::Stepping::step_of))]
-pub(crate) fn stepped<'a, L: Ledger>(
+pub(crate) fn stepped_in<'a, L: Ledger>(
     space: &Space<'a>,
     context: &Context,
     interrupted: bool,
@@ -209,5 +225,5 @@ pub fn step<L: Ledger>(
     // A scan of a frame table isn't counted.
     ensures unticked { steps.new.number ≡ steps.old.number }
 {
-    stepped(space, context, interrupted, &mut RowRoom::new(), steps)
+    stepped(space, context, interrupted, steps)
 }

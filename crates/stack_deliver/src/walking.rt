@@ -11,7 +11,7 @@ ghost use Rattle.stack_deliver.specs.Walking.{IsWalked, StepFails, StartsChain, 
 use crate::delivery::DeliverError;
 use crate::room::Room;
 use crate::space::Space;
-use crate::stepping::stepped;
+use crate::stepping::stepped_in;
 use eh_frame::RowRoom;
 use memory_image::{Ledger, NoLedger, Steps};
 use std::alloc::Global;
@@ -37,7 +37,7 @@ fn line<L: Ledger>(
     let mut interrupted = interrupted;
     for _ in 0..limit {
         room.visit(context);
-        match stepped(space, &context, interrupted, &mut rows, steps)? {
+        match stepped_in(space, &context, interrupted, &mut rows, steps)? {
             None => return Ok(()),
             Some(next) => {
                 context = next.context;
