@@ -7,3 +7,6 @@ mod Searching
 mod Faults
 mod Answered
 mod Described
+mod Halving
+mod PastEnd
+mod Named

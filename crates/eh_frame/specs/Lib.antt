@@ -1,3 +1,4 @@
 pub mod Letters
 pub mod Views
 pub mod Search
+pub mod Headers
