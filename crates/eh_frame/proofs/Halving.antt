@@ -61,8 +61,8 @@ half : (size new left : ℕ) → 0 < size → new ≤ size / 2 → size < 2 ^ le
 half size new zero some le lt = absurd (omega arith)
 half size new (suc l) some le lt = let double : 2 ^ suc l ≡ 2 * 2 ^ l = pow-succ' 2 l in (l, refl, omega arith)
 
-pub halved : (count before now size new : ℕ) → IsHalved count before now size → 0 < size → new ≤ size / 2 → IsHalved count before (now + 1) new
-halved count before now size new h some le =
+pub halved : (count before now next size new : ℕ) → next ≡ now + 1 → IsHalved count before now size → 0 < size → new ≤ size / 2 → IsHalved count before next new
+halved count before now next size new step h some le =
     let c = h.counted in
     record { taken = h.taken + 1; counted = omega arith; digits = λ d lt. fewer d (h.digits d lt) }
   where

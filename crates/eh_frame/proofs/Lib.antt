@@ -10,3 +10,4 @@ mod Described
 mod Halving
 mod PastEnd
 mod Named
+mod HeaderParts

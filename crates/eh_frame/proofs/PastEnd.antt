@@ -2,6 +2,7 @@
 use Rattle.std.proofs.Common.{◌≡◌, ℕ, ◌+◌, ◌-◌, ◌*◌, ◌%◌, ◌^◌, ◌<◌, ◌≤◌, Bool, true, false, List, [], length, drop, Result, Ok, Err, refl, sym, ap, ◌∙◌, arith, inl, inr}
 use Rattle.std.specs.Prelude.{min, ◌==◌, if◌then◌else◌}
 use Rattle.std.specs.Int.{w16, w32, w64}
+use Rattle.std.proofs.lemmas.Bool.{le-ltb}
 use Rattle.std.proofs.lemmas.Bool.Decides.{leb_tells}
 use Rattle.std.proofs.lemmas.List.{drop_all}
 use Rattle.unwind_definitions.specs.declared.error.Error.{Error as Fault}
@@ -9,6 +10,7 @@ use Rattle.unwind_definitions.specs.Faults.{UnexpectedEof, UnsupportedPointerEnc
 use Rattle.unwind_definitions.specs.Input.{Input, Reads, address_of, number, uleb, sleb, skip}
 use Rattle.unwind_definitions.specs.Pointers.{Bases, Pointer, Direct, Indirect, is_known, is_indirect, format_of, application_of, signed_number, value, known, base_of, pointer, direct_target, direct}
 use Rattle.unwind_definitions.specs.Header.{PairTable, pair_from, pair_at}
+use Rattle.encoded_pointers.specs.Readers.{passes}
 
 -- nothing is left at a place
 abbrev none_at : ℕ → ℕ → Input
@@ -55,6 +57,16 @@ same_pair e base a b bases =
     let same : pointer e bases (none_at base a) ≡ pointer e bases (none_at base b) =
         no_pointer e base a bases ∙ ap (refused e) (same_end bases (address_of (none_at base a)) (address_of (none_at base b)) (application_of e)) ∙ sym (no_pointer e base b bases) in
     ap (λ (r : Result (Pointer × Input) Fault). (r >>= λ p. direct_target p.0 >>= λ x. Ok (x, p.1)) >>= λ start. direct e bases start.1 >>= λ place. Ok (start.0, place.0)) same
+
+-- so many bytes that are there are passed
+pub passed : (k : ℕ) (c d : Input) → k ≤ length c.bytes → passes k c ≡ Ok (tt, d) → d ≡ skip k c
+passed k c d le e =
+    let h = rw (le-ltb (length c.bytes) k le) at e in
+    let same : (tt, skip k c) ≡ (tt, d) = behind_same _ _ h in
+    sym (ap (λ (p : Unit {0} × Input). p.1) same)
+  where
+    behind_same : (x y : Unit {0} × Input) → ◌≡◌ {A = Result (Unit {0} × Input) Fault} (Ok x) (Ok y) → x ≡ y
+    behind_same x y e = cc
 
 pub pair_there : (t : PairTable) (i k : ℕ) → k ≡ min (min (i * (2 * t.width)) (2 ^ 64 - 1)) (length t.pairs.bytes) → length t.pairs.bytes < 2 ^ 64 → pair_from t.encoding t.bases (skip k t.pairs) ≡ pair_at t i
 pair_there t i k is small = elim (leb_tells (i * (2 * t.width)) (length t.pairs.bytes)) [

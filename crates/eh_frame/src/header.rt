@@ -7,7 +7,6 @@ ghost use Rattle.unwind_definitions.specs.Header.{header, pair_at, pair_count, p
 ghost use Rattle.encoded_pointers.specs.Readers.{Answers, GivesOr};
 ghost use Rattle.encoded_pointers.specs.View.{at};
 ghost use Rattle.encoded_pointers.specs.Pointers.{bases_of, pointer_of};
-ghost use Rattle.eh_frame.specs.Headers.{header_of, pairs_of};
 
 use encoded_pointers::{
     Bases, Cursor, DwEhPe, Pointer, parse_direct_pointer, parse_encoded_pointer,
@@ -31,6 +30,8 @@ pub struct EhFrameHdr<'a> {
 }
 
 impl<'a> EhFrameHdr<'a> {
+    ghost use Rattle.eh_frame.specs.Headers.{header_of, pairs_of};
+
     /// Reads a header from its bytes, the first of which has the address `address`.
     ///
     /// `bases` is what its pointers may be relative to; what is relative to the data is relative to
@@ -116,6 +117,8 @@ pub struct HdrTable<'a> {
 }
 
 impl<'a> HdrTable<'a> {
+    ghost use Rattle.eh_frame.specs.Headers.{pairs_of};
+
     /// How many entries the header says that the table has.
     pub fn len(&self) -> u64
         ensures { result ≡ (pairs_of self.now).count }

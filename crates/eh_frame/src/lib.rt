@@ -34,4 +34,6 @@ pub use header::{EhFrameHdr, HdrTable};
 pub use unwind_definitions::Error;
 
 #[cfg(test)]
+mod header_tests;
+#[cfg(test)]
 mod tests;
