@@ -8,6 +8,7 @@
     snapshots.py resumes N     the same with N return addresses
     snapshots.py frames N L    N frames of one function, with addresses of twelve digits, and the limit L
     snapshots.py calls N L     N calls of the function, each of which keeps its caller's place for RBX, and the limit L
+    snapshots.py passed K N L  the same, where a scan passes K descriptions before the function's
     snapshots.py cleanups N L [WORD..]
                                an exception below N calls of a function with a cleanup, the first of them from one
                                with a handler, and the limit L. The words: `uncaught`, where no call site holds
@@ -75,13 +76,23 @@ def frames(count, limit):
     )
 
 
-def calls(count, limit):
+def table_behind(passed):
+    """The frame table with so many descriptions of other functions before the function's."""
+    entries = bytearray.fromhex(TABLE[:48])
+    for start in [0x600000 + 16 * i for i in range(passed)] + [0x401000]:
+        place = len(entries) + 4
+        fields = [20, place, start - (0x500000 + place + 4), 16]
+        entries += b"".join(n.to_bytes(4, "little", signed=True) for n in fields) + bytes.fromhex(TABLE[80:96])
+    return entries.hex() + 8 * "0"
+
+
+def calls(count, limit, table=TABLE):
     """A stack of so many calls: the place of the caller, from 1 on, and where it goes on."""
     back = (0x401006).to_bytes(8, "little").hex()
     slots = "".join(i.to_bytes(8, "little").hex() + back for i in range(1, count))
     slots += count.to_bytes(8, "little").hex() + 16 * "0"
     return '{"regions":[%s],"modules":[%s],"start":{"rip":"0x401006","rsp":"0x7000000","rbx":"0x9"},"limit":%d}' % (
-        ",".join([region(0x500000, TABLE), region(0x7000000, slots)]),
+        ",".join([region(0x500000, table), region(0x7000000, slots)]),
         module(0x401000, 0x401010, 0x500000),
         limit,
     )
@@ -130,6 +141,10 @@ def main():
         return
     if kind == "calls":
         print(calls(int(sys.argv[2]), int(sys.argv[3])), end="")
+        return
+    if kind == "passed":
+        passed, count, limit = map(int, sys.argv[2:5])
+        print(calls(count, limit, table_behind(passed)), end="")
         return
     if kind == "frames":
         print(frames(int(sys.argv[2]), int(sys.argv[3])), end="")
