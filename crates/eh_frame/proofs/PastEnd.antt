@@ -67,7 +67,7 @@ pair_behind e bases start = direct e bases start.1 >>= λ place. both start.0 pl
 same_pair : (e base a b : ℕ) (bases : Bases) → pair_from e bases (none_at base a) ≡ pair_from e bases (none_at base b)
 same_pair e base a b bases =
     let same : pointer e bases (none_at base a) ≡ pointer e bases (none_at base b) =
-        no_pointer e base a bases ∙ ap (refused e) (same_end bases (address_of (none_at base a)) (address_of (none_at base b)) (application_of e)) ∙ sym (no_pointer e base b bases) in
+    no_pointer e base a bases ∙ ap (refused e) (same_end bases (address_of (none_at base a)) (address_of (none_at base b)) (application_of e)) ∙ sym (no_pointer e base b bases) in
     ap (λ (r : Result (Pointer × Input) Fault). (r >>= direct_from) >>= pair_behind e bases) same
 
 -- so many bytes that are there are passed
@@ -83,16 +83,16 @@ passed k c d le e =
 pub pair_there : (t : PairTable) (i k : ℕ) → k ≡ min (min (i * (2 * t.width)) (2 ^ 64 - 1)) (length t.pairs.bytes) → length t.pairs.bytes < 2 ^ 64 → pair_from t.encoding t.bases (skip k t.pairs) ≡ pair_at t i
 pair_there t i k is small = elim (leb_tells (i * (2 * t.width)) (length t.pairs.bytes)) [
   | inl p ↦ (
-    let le = p.1 in
-    let same : k ≡ i * (2 * t.width) = omega arith in
-    ap (λ n. pair_from t.encoding t.bases (skip n t.pairs)) same
-  )
+      let le = p.1 in
+      let same : k ≡ i * (2 * t.width) = omega arith in
+      ap (λ n. pair_from t.encoding t.bases (skip n t.pairs)) same
+      )
   | inr p ↦ (
-    let lt = p.1 in
-    let none : drop k t.pairs.bytes ≡ [] = drop_all k t.pairs.bytes (omega arith) in
-    let also : drop (i * (2 * t.width)) t.pairs.bytes ≡ [] = drop_all (i * (2 * t.width)) t.pairs.bytes (omega arith) in
-    ap (λ (l : List ℕ). pair_from t.encoding t.bases (record { base = t.pairs.base; offset = t.pairs.offset + k; bytes = l })) none
-        ∙ same_pair t.encoding t.pairs.base (t.pairs.offset + k) (t.pairs.offset + i * (2 * t.width)) t.bases
-        ∙ sym (ap (λ (l : List ℕ). pair_from t.encoding t.bases (record { base = t.pairs.base; offset = t.pairs.offset + i * (2 * t.width); bytes = l })) also)
-  )
+      let lt = p.1 in
+      let none : drop k t.pairs.bytes ≡ [] = drop_all k t.pairs.bytes (omega arith) in
+      let also : drop (i * (2 * t.width)) t.pairs.bytes ≡ [] = drop_all (i * (2 * t.width)) t.pairs.bytes (omega arith) in
+      ap (λ (l : List ℕ). pair_from t.encoding t.bases (record { base = t.pairs.base; offset = t.pairs.offset + k; bytes = l })) none
+      ∙ same_pair t.encoding t.pairs.base (t.pairs.offset + k) (t.pairs.offset + i * (2 * t.width)) t.bases
+      ∙ sym (ap (λ (l : List ℕ). pair_from t.encoding t.bases (record { base = t.pairs.base; offset = t.pairs.offset + i * (2 * t.width); bytes = l })) also)
+      )
 ]

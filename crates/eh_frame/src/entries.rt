@@ -194,10 +194,12 @@ fn described<'a>(found: Option<Found<'a>>) -> Result<Fde<'a>, Error>
     ensures { Answers fde_of result (fde_in (option_map found_of found.entry)) }
 {
     match found {
-        Some(Found {
-            entry: Entry::Fde(fde),
-            ..
-        }) => Ok(fde),
+        Some(
+            Found {
+                entry: Entry::Fde(fde),
+                ..
+            },
+        ) => Ok(fde),
         _ => Err(Error::NotFde),
     }
 }

@@ -28,11 +28,7 @@ static HEADER: [u8; 68] = [
 
 // What a search of a table finds for an address: where the description starts and stands, or the
 // error; and how many steps it took.
-fn search(
-    table: &HdrTable,
-    frame: &EhFrame,
-    pc: u64,
-) -> (Result<(u64, u64), Error>, u64) {
+fn search(table: &HdrTable, frame: &EhFrame, pc: u64) -> (Result<(u64, u64), Error>, u64) {
     let mut steps = Steps::new(Counted { count: 0 });
     let found = table.fde_for_address(frame, &Bases::default(), pc, &mut steps);
     let place = match found {
@@ -139,7 +135,11 @@ fn the_first_fault_of_a_header_is_told(rt: HostRuntime) {
     fault_of(&rt, b"\x01\x1b\x05", Error::UnknownPointerEncoding);
     fault_of(&rt, b"\x01\x1b\x03\x6b", Error::UnknownPointerEncoding);
     // no pointer to the frame table, an aligned one, and one relative to a text that isn't known
-    fault_of(&rt, b"\x01\xff\x03\x3b", Error::CannotParseOmitPointerEncoding);
+    fault_of(
+        &rt,
+        b"\x01\xff\x03\x3b",
+        Error::CannotParseOmitPointerEncoding,
+    );
     fault_of(&rt, b"\x01\x50\x03\x3b", Error::UnsupportedPointerEncoding);
     fault_of(&rt, b"\x01\x2b\x03\x3b", Error::UndefinedBase);
     fault_of(&rt, b"\x01\x1b\x03\x3b\x00\x00\x00", Error::UnexpectedEof);
@@ -149,7 +149,11 @@ fn the_first_fault_of_a_header_is_told(rt: HostRuntime) {
         b"\x01\x1b\x13\x3b\x00\x00\x00\x00\x01\x00\x00\x00",
         Error::UnsupportedPointerEncoding,
     );
-    fault_of(&rt, b"\x01\x1b\x03\x3b\x00\x00\x00\x00\x01", Error::UnexpectedEof);
+    fault_of(
+        &rt,
+        b"\x01\x1b\x03\x3b\x00\x00\x00\x00\x01",
+        Error::UnexpectedEof,
+    );
 }
 
 fn has_no_table(rt: &impl Abort, bytes: &[u8]) -> Result<(), Fail> {
@@ -165,14 +169,25 @@ fn headers_without_a_table(rt: HostRuntime) -> Result<(), Fail> {
     has_no_table(&rt, b"\x01\x1b\x03\x3b\x00\x00\x00\x00\x00\x00\x00\x00")?;
     // no table, and addresses in LEB128
     has_no_table(&rt, b"\x01\x1b\x03\xff\x00\x00\x00\x00")?;
-    has_no_table(&rt, b"\x01\x1b\x03\x01\x00\x00\x00\x00\x01\x00\x00\x00\x01\x02")?;
-    has_no_table(&rt, b"\x01\x1b\x03\x39\x00\x00\x00\x00\x01\x00\x00\x00\x01\x02")
+    has_no_table(
+        &rt,
+        b"\x01\x1b\x03\x01\x00\x00\x00\x00\x01\x00\x00\x00\x01\x02",
+    )?;
+    has_no_table(
+        &rt,
+        b"\x01\x1b\x03\x39\x00\x00\x00\x00\x01\x00\x00\x00\x01\x02",
+    )
 }
 
 // The first entry of a table whose addresses are encoded so, and whose bytes are 00 to 0e. It stands
 // at 0x50400a.
-fn first_entry(rt: &impl Abort, encoding: u8, wanted: Result<(u64, u64), Error>) -> Result<(), Fail> {
-    let mut bytes = *b"\x01\x1b\x02\x00\x00\x00\x00\x00\x01\x00\x00\x01\x02\x03\x04\x05\x06\x07\x08\x09\x0a\x0b\x0c\x0d\x0e";
+fn first_entry(
+    rt: &impl Abort,
+    encoding: u8,
+    wanted: Result<(u64, u64), Error>,
+) -> Result<(), Fail> {
+    let mut bytes =
+        *b"\x01\x1b\x02\x00\x00\x00\x00\x00\x01\x00\x00\x01\x02\x03\x04\x05\x06\x07\x08\x09\x0a\x0b\x0c\x0d\x0e";
     bytes[3] = encoding;
     let header = EhFrameHdr::parse(&bytes, 0x504000, &Bases::default())?;
     let Some(table) = header.table() else {
