@@ -3,7 +3,8 @@ use Rattle.std.proofs.Common.{◌≡◌, ℕ, List, Result, Ok, Err, refl, sym, 
 use Rattle.std.specs.Prelude.{◌==◌}
 use Rattle.std.specs.Int.{w8}
 use Rattle.unwind_definitions.specs.declared.error.Error.{Error as Fault}
-use Rattle.unwind_definitions.specs.Faults.{UnknownVersion, ◌>>=◌, unless}
+use Rattle.unwind_definitions.specs.declared.error.Error.TheVariants.{UnknownVersion}
+use Rattle.unwind_definitions.specs.Faults.{◌>>=◌, unless}
 use Rattle.unwind_definitions.specs.Input.{Input, number}
 use Rattle.unwind_definitions.specs.Pointers.{Bases, Pointer, encoding, pointer}
 use Rattle.unwind_definitions.specs.Header.{FrameHeader, bases_in, pair_count, header}

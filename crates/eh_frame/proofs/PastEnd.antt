@@ -1,14 +1,14 @@
 -- A pair past the end of its table's bytes is read as at their end.
 use Rattle.std.proofs.Common.{◌≡◌, ℕ, ◌+◌, ◌-◌, ◌*◌, ◌%◌, ◌^◌, ◌<◌, ◌≤◌, Bool, true, false, List, [], length, drop, Result, Ok, Err, refl, sym, ap, ◌∙◌, arith, inl, inr}
 use Rattle.std.specs.Prelude.{min, ◌==◌, if◌then◌else◌}
-use Rattle.std.specs.Int.{w16, w32, w64}
 use Rattle.std.proofs.lemmas.Bool.{le-ltb}
 use Rattle.std.proofs.lemmas.Bool.Decides.{leb_tells}
 use Rattle.std.proofs.lemmas.List.{drop_all}
 use Rattle.unwind_definitions.specs.declared.error.Error.{Error as Fault}
-use Rattle.unwind_definitions.specs.Faults.{UnexpectedEof, UnsupportedPointerEncoding, CannotParseOmitPointerEncoding, UnknownPointerEncoding, ◌>>=◌, unless}
-use Rattle.unwind_definitions.specs.Input.{Input, Reads, address_of, number, uleb, sleb, skip}
-use Rattle.unwind_definitions.specs.Pointers.{Bases, Pointer, Direct, Indirect, is_known, is_indirect, format_of, application_of, signed_number, value, known, base_of, pointer, direct_target, direct}
+use Rattle.unwind_definitions.specs.declared.error.Error.TheVariants.{UnexpectedEof, CannotParseOmitPointerEncoding, UnknownPointerEncoding}
+use Rattle.unwind_definitions.specs.Faults.{◌>>=◌, unless}
+use Rattle.unwind_definitions.specs.Input.{Input, Reads, address_of, skip}
+use Rattle.unwind_definitions.specs.Pointers.{Bases, Pointer, is_known, format_of, application_of, value, base_of, pointer, direct_target, direct}
 use Rattle.unwind_definitions.specs.Header.{PairTable, pair_from, pair_at}
 use Rattle.encoded_pointers.specs.Readers.{passes}
 
@@ -52,11 +52,23 @@ refused e behind = if e == 255 then Err CannotParseOmitPointerEncoding else (unl
 no_pointer : (e base offset : ℕ) (bases : Bases) → pointer e bases (none_at base offset) ≡ refused e (ends (base_of bases (address_of (none_at base offset)) (application_of e)))
 no_pointer e base offset bases = rw (no_value (format_of e) base offset) refl
 
+abbrev placed : ℕ → Input → Result (ℕ × Input) Fault
+placed x d = Ok (x, d)
+
+abbrev direct_from : Pointer × Input → Result (ℕ × Input) Fault
+direct_from p = direct_target p.0 >>= λ x. placed x p.1
+
+abbrev both : ℕ → ℕ → Result (ℕ × ℕ) Fault
+both x y = Ok (x, y)
+
+abbrev pair_behind : ℕ → Bases → ℕ × Input → Result (ℕ × ℕ) Fault
+pair_behind e bases start = direct e bases start.1 >>= λ place. both start.0 place.0
+
 same_pair : (e base a b : ℕ) (bases : Bases) → pair_from e bases (none_at base a) ≡ pair_from e bases (none_at base b)
 same_pair e base a b bases =
     let same : pointer e bases (none_at base a) ≡ pointer e bases (none_at base b) =
     no_pointer e base a bases ∙ ap (refused e) (same_end bases (address_of (none_at base a)) (address_of (none_at base b)) (application_of e)) ∙ sym (no_pointer e base b bases) in
-    ap (λ (r : Result (Pointer × Input) Fault). (r >>= λ p. direct_target p.0 >>= λ x. Ok (x, p.1)) >>= λ start. direct e bases start.1 >>= λ place. Ok (start.0, place.0)) same
+    ap (λ (r : Result (Pointer × Input) Fault). (r >>= direct_from) >>= pair_behind e bases) same
 
 -- so many bytes that are there are passed
 pub passed : (k : ℕ) (c d : Input) → k ≤ length c.bytes → passes k c ≡ Ok (tt, d) → d ≡ skip k c

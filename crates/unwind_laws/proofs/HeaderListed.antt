@@ -63,7 +63,7 @@ module _ (image : List Span) (h frame : ℕ) (fdes : List Fde) (bases : Bases) (
       let pointer_is : pointer 0x1b (bases_in h bases) (input h 4 (drop 4 (table_at image h))) ≡ Ok (Direct frame, table.counted) = pointer_read (bases_in h bases) (skip 4 (input_at image h)) table.counted frame table.pointer in
       let counts : pair_count 0x03 0x3b table.counted ≡ Ok (length fdes, table.listed) = table.count in
       ap (λ (l : List ℕ). header bases (input h 0 l)) bytes_are ∙ head_read bases h (drop 4 (table_at image h)) ∙ ap (λ (r : Result (Pointer × Input) Fault). r >>= behind_head bases h) pointer_is
-          ∙ ap (λ (r : Result (ℕ × Input) Fault). r >>= λ count. Ok (record { frame = Direct frame; count = count.0; encoding = 0x3b; bases = bases_in h bases; pairs = count.1 })) counts
+      ∙ ap (λ (r : Result (ℕ × Input) Fault). r >>= λ count. Ok (record { frame = Direct frame; count = count.0; encoding = 0x3b; bases = bases_in h bases; pairs = count.1 })) counts
 
 -- ---- the pairs
 skip_none : (c : Input) → skip 0 c ≡ c
@@ -140,11 +140,11 @@ inside (y ∷ ys) (suc i) x e = let ih = inside ys i x e in omega arith
 no_wrap : (ss : List Span) (a k : ℕ) → IsLaidOut 0 ss → k < length (table_at ss a) → a + k < 2 ^ 64
 no_wrap ss a k laid lt = elim (leb_tells (2 ^ 64) (a + k)) [
   | inl p ↦ (
-    let cut : length (drop k (table_at ss a)) ≡ length (table_at ss a) - k = length-drop k (table_at ss a) in
-    let none : drop k (table_at ss a) ≡ [] = sym (table_at-add ss 0 a k laid lt) ∙ table_past ss 0 (a + k) laid p.1 in
-    let empty : length (drop k (table_at ss a)) ≡ 0 = ap length none in
-    absurd (omega arith)
-  )
+      let cut : length (drop k (table_at ss a)) ≡ length (table_at ss a) - k = length-drop k (table_at ss a) in
+      let none : drop k (table_at ss a) ≡ [] = sym (table_at-add ss 0 a k laid lt) ∙ table_past ss 0 (a + k) laid p.1 in
+      let empty : length (drop k (table_at ss a)) ≡ 0 = ap length none in
+      absurd (omega arith)
+      )
   | inr p ↦ p.1
 ]
 
@@ -192,7 +192,7 @@ module _ (forms : Forms) (image : List Span) (m : Module) (functions : List Func
   named : (p : ℕ × ℕ) → AnswersBy forms image m d.frame pc p → IsLaidOut 0 image → found_by forms (bases_of m d.frame) (input_at image d.frame) pc (Ok (Some p)) ≡ scanned
   named p by laid =
       let at : fde_at_address forms (bases_of m d.frame) (input_at image d.frame) p.1 ≡ Ok by.fde =
-          ap (λ (q : ℕ × ℕ). fde_at_address forms (bases_of m d.frame) (input_at image d.frame) q.1) by.names.pair ∙ found_there forms image (bases_of m d.frame) d.frame by.names.next by.fde laid by.names.placed in
+      ap (λ (q : ℕ × ℕ). fde_at_address forms (bases_of m d.frame) (input_at image d.frame) q.1) by.names.pair ∙ found_there forms image (bases_of m d.frame) d.frame by.names.next by.fde laid by.names.placed in
       ap (λ (r : Result Fde Fault). r >>= λ fde. containing pc fde) at ∙ sym by.answer
 
   behind : (i : ℕ) (p : ℕ × ℕ) → slice_get table.pairs i ≡ Some p → StartsBehind listed pc i → pc < p.0
@@ -216,9 +216,9 @@ module _ (forms : Forms) (image : List Span) (m : Module) (functions : List Func
       let same : q.0 ≡ p = ok_same q.0 p read in
       let at : slice_get table.pairs finds.index ≡ Some p = q.1 ∙ ap (λ (x : ℕ × ℕ). Some x) same in
       let is : boundary table.pairs pc ≡ Some p = boundary_at table.pairs pc finds.index p table.ascend at finds.at_or_before (λ r next.
-          let lt = inside table.pairs (suc finds.index) r next in let many = as_many in
-          let one : finds.index + 1 ≡ suc finds.index = omega arith in
-          behind (suc finds.index) r next (subst (StartsBehind listed pc) one (finds.next_behind (omega arith)))) in
+      let lt = inside table.pairs (suc finds.index) r next in let many = as_many in
+      let one : finds.index + 1 ≡ suc finds.index = omega arith in
+      behind (suc finds.index) r next (subst (StartsBehind listed pc) one (finds.next_behind (omega arith)))) in
       let by : MatchOption (boundary table.pairs pc) (scanned ≡ nothing_found) (AnswersBy forms image m d.frame pc) = header_answers forms image m functions d pc h table in
       named p (subst (λ (o : Option (ℕ × ℕ)). MatchOption o (scanned ≡ nothing_found) (AnswersBy forms image m d.frame pc)) is by) laid
 
