@@ -43,9 +43,7 @@ fn search(table: &HdrTable, frame: &EhFrame, pc: u64) -> (Result<(u64, u64), Err
 fn a_linked_table_is_searched(rt: HostRuntime) -> Result<(), Fail> {
     let header = EhFrameHdr::parse(&HEADER, 0x402000, &Bases::default())?;
     assert_eq!(rt; header.eh_frame_ptr(), Pointer::Direct(0x402048));
-    let Some(table) = header.table() else {
-        return Err(Fail);
-    };
+    let table = header.table().unwrap();
     assert_eq!(rt; table.len(), 7);
     let frame = EhFrame::new(&FRAMES, 0x402048);
     let printed: [(u64, u64, u64); 7] = [
@@ -96,9 +94,7 @@ static HEADER_OF_THREE: [u8; 36] = [
 fn three_functions_take_two_steps(rt: HostRuntime) -> Result<(), Fail> {
     let header = EhFrameHdr::parse(&HEADER_OF_THREE, 0x504000, &Bases::default())?;
     assert_eq!(rt; header.eh_frame_ptr(), Pointer::Direct(0x500000));
-    let Some(table) = header.table() else {
-        return Err(Fail);
-    };
+    let table = header.table().unwrap();
     let frame = EhFrame::new(&THREE, 0x500000);
     let mut damaged = THREE;
     damaged[8] = 2;
@@ -190,9 +186,7 @@ fn first_entry(
         *b"\x01\x1b\x02\x00\x00\x00\x00\x00\x01\x00\x00\x01\x02\x03\x04\x05\x06\x07\x08\x09\x0a\x0b\x0c\x0d\x0e";
     bytes[3] = encoding;
     let header = EhFrameHdr::parse(&bytes, 0x504000, &Bases::default())?;
-    let Some(table) = header.table() else {
-        return Err(Fail);
-    };
+    let table = header.table().unwrap();
     let mut steps = Steps::new(Counted { count: 0 });
     if table.len() > 0 {
         assert_eq!(rt; table.entry(0, &mut steps), wanted);
