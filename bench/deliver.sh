@@ -35,11 +35,9 @@ expect() {
     }
 }
 
-# How often a pass met a frame, and how often it stepped to a caller, in the last run.
+# How often a pass met a frame in the last run.
 steps() {
-    for name in stack_deliver::passes::meet stack_deliver::stepping::caller; do
-        python3 "$here/called.py" "$work/callgrind" $name
-    done | sed 's/^/         calls: /'
+    python3 "$here/called.py" "$work/callgrind" stack_deliver::passes::meet | sed 's/^/         calls: /'
 }
 
 # NAME WORDS: the costs by length.
