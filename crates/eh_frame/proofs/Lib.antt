@@ -8,7 +8,3 @@ mod Faults
 mod Answered
 mod Described
 mod Sharing
-mod Halving
-mod PastEnd
-mod Named
-mod HeaderParts

@@ -2,4 +2,3 @@ pub mod Letters
 pub mod Views
 pub mod Search
 pub mod Shared
-pub mod Headers

@@ -13,4 +13,3 @@ pub mod Spelled
 pub mod Windows
 pub mod ByHeader
 pub mod Searched
-pub mod Listing
