@@ -1,15 +1,17 @@
 -- Reading an entry never says that no description contains an address.
-use Rattle.std.proofs.Common.{◌≡◌, ℕ, zero, suc, ◌+◌, ◌-◌, ◌%◌, ◌^◌, Bool, true, false, List, [], ◌∷◌, position, Option, Some, None, Result, Ok, Err, ap}
+use Rattle.std.proofs.Common.{◌≡◌, ℕ, zero, suc, ◌+◌, ◌-◌, ◌*◌, ◌%◌, ◌^◌, Bool, true, false, List, [], ◌∷◌, length, position, Option, Some, None, Result, Ok, Err, ap}
 use Rattle.std.specs.Prelude.{if◌then◌else◌, ◌==◌, nat_lt, nat_le}
 use Rattle.std.specs.Int.{Width, w8, w16, w32, w64}
 use Rattle.unwind_definitions.specs.declared.error.Error.{Error as Fault}
-use Rattle.unwind_definitions.specs.declared.error.Error.TheVariants.{AddressOverflow, NotCie, UnsupportedPointerEncoding, CannotParseOmitPointerEncoding, UnknownPointerEncoding, BadSignedLeb128, NoUnwindInfoForAddress}
+use Rattle.unwind_definitions.specs.declared.error.Error.TheVariants.{UnexpectedEof, AddressOverflow, NotCie, UnsupportedPointerEncoding, CannotParseOmitPointerEncoding, UnknownPointerEncoding, BadSignedLeb128, NoUnwindInfoForAddress}
 use Rattle.unwind_definitions.specs.Faults.{◌>>=◌, unless}
 use Rattle.unwind_definitions.specs.Forms.{Forms}
 use Rattle.unwind_definitions.specs.Input.{Input, Reads, address_of, skip, split, number, uleb_from, uleb, sleb_from, sleb, text_before, text}
 use Rattle.unwind_definitions.specs.Pointers.{Bases, Pointer, Direct, Indirect, is_known, is_indirect, format_of, application_of, encoding, signed_number, value, known, base_of, pointer, direct_target, direct}
 use Rattle.unwind_definitions.specs.Instructions.{column}
-use Rattle.unwind_definitions.specs.Entries.{Letters, Cie, ACie, AFde, address_encoding, letter, letters_from, no_letters, augmentation_data, sizes, return_column, cie_body, language_pointer, fde_data, fde_body, body, length_behind, cie_in, cie_at, entry_in, found_in, entry_at}
+use Rattle.unwind_definitions.specs.Entries.{Letters, Cie, Entry, ACie, AFde, Found, address_encoding, letter, letters_from, no_letters, augmentation_data, sizes, return_column, cie_body, language_pointer, fde_data, fde_body, body, length_behind, cie_in, cie_at, entry_in, found_in, entry_at}
+use Rattle.unwind_definitions.specs.Header.{PairTable, pair_from, pair_at}
+use Rattle.unwind_definitions.specs.HeaderSearch.{fde_in, fde_at_address}
 
 abbrev Other : {A : Type 0} → Result A Fault → Type 0
 Other r = r ≡ Err NoUnwindInfoForAddress → ⊥
@@ -186,3 +188,25 @@ module _ (forms : Forms) (bases : Bases) where
   pub other_entry_at : (table : Input) (offset : ℕ) → entry_at forms bases table offset ≡ Err NoUnwindInfoForAddress → ⊥
   unfolding entry_at
   other_entry_at table offset = other_then _ _ (other_body (skip offset table)) (λ b. other_found_in table offset b.0 b.1.offset)
+
+-- ---- headers
+other_pair_from : (e : ℕ) (bases : Bases) (c : Input) → Other (pair_from e bases c)
+other_pair_from e bases c = other_then _ _ (other_direct e bases c) (λ start. other_then _ _ (other_direct e bases start.1) (λ place. other_ok (start.0, place.0)))
+
+-- nor does reading a pair of a header's table
+pub other_pair_at : (t : PairTable) (i : ℕ) → pair_at t i ≡ Err NoUnwindInfoForAddress → ⊥
+other_pair_at t i = other_pair_from t.encoding t.bases (skip (i * (2 * t.width)) t.pairs)
+
+other_fde_in : (o : Option Found) → Other (fde_in o)
+other_fde_in None = other_err _ (λ h. cc)
+other_fde_in (Some found) = go found.entry
+  where
+    go : (e : Entry) → Other (fde_in (Some (record { entry = e; next = found.next })))
+    go (ACie cie) = other_err _ (λ h. cc)
+    go (AFde fde) = other_ok fde
+
+-- nor does reading a description
+pub other_fde_at_address : (forms : Forms) (bases : Bases) (table : Input) (a : ℕ) → fde_at_address forms bases table a ≡ Err NoUnwindInfoForAddress → ⊥
+other_fde_at_address forms bases table a =
+    other_if (nat_lt a table.base) _ _ (other_err UnexpectedEof (λ h. cc)) (other_if (nat_lt (length table.bytes) (a - table.base)) _ _ (other_err UnexpectedEof (λ h. cc))
+    (other_then _ _ (other_entry_at forms bases table (a - table.base)) other_fde_in))

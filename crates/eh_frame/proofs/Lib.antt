@@ -8,3 +8,7 @@ mod Faults
 mod Answered
 mod Described
 mod Sharing
+mod Halving
+mod PastEnd
+mod Named
+mod HeaderParts

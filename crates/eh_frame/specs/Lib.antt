@@ -2,3 +2,4 @@ pub mod Letters
 pub mod Views
 pub mod Search
 pub mod Shared
+pub mod Headers

@@ -8,6 +8,7 @@ ghost use Rattle.unwind_definitions.specs.Input.{skip};
 ghost use Rattle.unwind_definitions.specs.Entries.{Fde as Described, body, cie_at, cie_in, entry_in, entry_at};
 ghost use Rattle.unwind_definitions.specs.Row.{covers_pc};
 ghost use Rattle.unwind_definitions.specs.Scan.{found_or, scan};
+ghost use Rattle.unwind_definitions.specs.HeaderSearch.{fde_at, fde_at_address, fde_in};
 ghost use Rattle.encoded_pointers.specs.Readers.{GivesOr, Answers};
 ghost use Rattle.eh_frame.specs.Shared.{shared, StandsIn};
 ghost use Rattle.eh_frame.specs.Search.{IsFirst, IsUncovered, IsUnreadable};
@@ -73,6 +74,35 @@ impl<'a> EhFrame<'a> {
             IsUncovered emitted (bases_of bases.now) (table_of self.now) pc 0 }
     {
         self.scan(bases, pc)
+    }
+
+    /// The frame description entry at an offset of the table. `bases` is what its pointers may be
+    /// relative to.
+    ///
+    /// # Errors
+    ///
+    /// - `UnexpectedEof` where the offset is past the table's end;
+    /// - the error of the entry, where it can't be read;
+    /// - `NotFde` where it is a common information entry, or the end of the list.
+    pub fn fde_at(&self, bases: &Bases, offset: u64) -> Result<Fde<'a>, Error>
+        ensures { Answers fde_of result
+            (fde_at emitted (bases_of bases.now) (table_of self.now) offset) }
+    {
+        if offset > self.bytes.len() as u64 {
+            return Err(Error::UnexpectedEof);
+        }
+        described(self.entry_at(offset, &None, bases)?)
+    }
+
+    // The same at an address, which isn't below the table's.
+    pub(crate) fn fde_at_address(&self, bases: &Bases, address: u64) -> Result<Fde<'a>, Error>
+        ensures { Answers fde_of result
+            (fde_at_address emitted (bases_of bases.now) (table_of self.now) address) }
+    {
+        if address < self.address {
+            return Err(Error::UnexpectedEof);
+        }
+        self.fde_at(bases, address - self.address)
     }
 
     // The first description that contains an address.
@@ -200,6 +230,21 @@ impl<'a> Entry<'a> {
             Entry::Fde(fde) if fde.contains(pc) => Some(*fde),
             _ => None,
         }
+    }
+}
+
+// An entry, where it is a description.
+fn described<'a>(found: Option<Found<'a>>) -> Result<Fde<'a>, Error>
+    ensures { Answers fde_of result (fde_in (option_map found_of found.entry)) }
+{
+    match found {
+        Some(
+            Found {
+                entry: Entry::Fde(fde),
+                ..
+            },
+        ) => Ok(fde),
+        _ => Err(Error::NotFde),
     }
 }
 

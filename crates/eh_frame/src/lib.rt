@@ -20,6 +20,8 @@ mod augmentation;
 mod cie;
 mod entries;
 mod fde;
+mod header;
+mod header_search;
 
 pub use cie::Cie;
 pub use encoded_pointers::{
@@ -28,7 +30,10 @@ pub use encoded_pointers::{
 pub use entries::EhFrame;
 pub use fde::Fde;
 pub use frame_rows::{CfaRule, Register, RegisterMap, RegisterRule, Registers, Row, RowRoom};
+pub use header::{EhFrameHdr, HdrTable};
 pub use unwind_definitions::Error;
 
+#[cfg(test)]
+mod header_tests;
 #[cfg(test)]
 mod tests;

@@ -6,6 +6,8 @@ pub mod Instructions
 pub mod Entries
 pub mod Row
 pub mod Scan
+pub mod Header
+pub mod HeaderSearch
 pub mod Caller
 pub mod State
 pub mod Prologue

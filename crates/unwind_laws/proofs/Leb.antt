@@ -15,7 +15,7 @@ abbrev input : ℕ → ℕ → List ℕ → Input
 input base offset bytes = record { base = base; offset = offset; bytes = bytes }
 
 -- the first byte
-one_byte : (base offset b : ℕ) (bs : List ℕ) → number w8 (input base offset (b ∷ bs)) ≡ Ok (b, input base (offset + 1) bs)
+pub one_byte : (base offset b : ℕ) (bs : List ℕ) → number w8 (input base offset (b ∷ bs)) ≡ Ok (b, input base (offset + 1) bs)
 one_byte base offset b bs = let some : 1 ≤ length (b ∷ bs) = omega arith in rw (le-ltb (length (b ∷ bs)) 1 some) refl
 
 no_byte : (base offset : ℕ) → number w8 (input base offset []) ≡ Err UnexpectedEof

@@ -26,6 +26,7 @@ pub mod Leb
 pub mod Relative
 pub mod WindowsEntered
 pub mod ByHeader
+pub mod HeaderListed
 pub mod SearchSites
 pub mod LanguageSites
 mod CutLanguage

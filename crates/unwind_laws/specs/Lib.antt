@@ -13,3 +13,4 @@ pub mod Spelled
 pub mod Windows
 pub mod ByHeader
 pub mod Searched
+pub mod Listing

@@ -1,19 +1,23 @@
 //! What is found in a frame table.
 
-ghost use Rattle.std.specs.Prelude.{◌≡◌, ℕ, ◌<◌, ◌≤◌, ◌^◌, List, ◌∷◌, Some, Ok, Err, is_some};
+ghost use Rattle.std.specs.Prelude.{◌≡◌, ℕ, ◌<◌, ◌≤◌, ◌^◌, List, ◌∷◌, Some, Result, Ok, Err, is_some};
 ghost use Rattle.std.specs.List.{Contains};
-ghost use Rattle.memory_image.specs.Image.{Span};
+ghost use Rattle.memory_image.specs.Image.{Span, IsLaidOut};
 ghost use Rattle.unwind_definitions.specs.Forms.{Forms, is_among};
 ghost use Rattle.unwind_definitions.specs.Input.{Input};
 ghost use Rattle.unwind_definitions.specs.Pointers.{Bases};
-ghost use Rattle.unwind_definitions.specs.Entries.{Entry, Letters, AreEntries, augmentation_data};
+ghost use Rattle.unwind_definitions.specs.Entries.{Entry, Fde, Letters, AreEntries, augmentation_data};
 ghost use Rattle.unwind_definitions.specs.Scan.{fdes_of, scan};
 ghost use Rattle.unwind_definitions.specs.Prologue.{SystemV};
 ghost use Rattle.unwind_definitions.specs.Function.{Function, IsFunction, Site, AreSitesOf, action_among, action_at};
 ghost use Rattle.unwind_definitions.specs.LanguageTable.{input_at, IsLanguageTable};
 ghost use Rattle.unwind_definitions.specs.LanguageSearch.{search};
 ghost use Rattle.unwind_definitions.specs.Module.{Module, IsHeaderTable, DescribesModule, CoversNot, bases_of};
+ghost use Rattle.unwind_definitions.specs.declared.error.Error.{Error};
+ghost use Rattle.unwind_definitions.specs.Header.{FrameHeader, PairTable, header, table_in};
+ghost use Rattle.unwind_definitions.specs.HeaderSearch.{IsTableAnswer};
 ghost use Rattle.unwind_laws.specs.ByHeader.{BoundaryAnswers};
+ghost use Rattle.unwind_laws.specs.Listing.{listing};
 ghost use Rattle.unwind_laws.specs.Searched.{searched};
 ghost use Rattle.unwind_laws.specs.Found.{found_among, nothing_found, AsksAs, FindsFunction};
 
@@ -52,6 +56,16 @@ pub fn uncovered_is_not_found()
 pub fn header_table_answers_as_a_scan()
     ensures { (forms : Forms) (image : List Span) (m : Module) (functions : List Function) (d : DescribesModule forms image m functions) (a h : ℕ) (table : IsHeaderTable image h d.frame (fdes_of d.entries)) →
         BoundaryAnswers forms image m d.frame table.pairs a }
+{}
+
+/// The header of a described module reads, whatever its pointers may be relative to: it leads to the
+/// frame table, and says how many descriptions that has. Where its table may answer so for an
+/// address, a scan answers the same.
+pub fn header_search_answers_as_a_scan()
+    ensures reads { (image : List Span) (h frame : ℕ) (fdes : List Fde) (bases : Bases) (table : IsHeaderTable image h frame fdes) → header bases (input_at image h) ≡ Ok (listing h bases frame fdes table.listed) }
+    ensures answers { (forms : Forms) (image : List Span) (m : Module) (functions : List Function) (d : DescribesModule forms image m functions) (h : ℕ) (bases : Bases) (table : IsHeaderTable image h d.frame (fdes_of d.entries)) (pc : ℕ) (found : FrameHeader) (t : PairTable) (answer : Result Fde Error) →
+        IsLaidOut 0 image → header bases (input_at image h) ≡ Ok found → table_in found ≡ Some t → IsTableAnswer forms (bases_of m d.frame) (input_at image d.frame) t pc answer →
+        answer ≡ scan forms (bases_of m d.frame) (input_at image d.frame) pc }
 {}
 
 /// A search through a function's call sites in order, which ends at one that holds the address or

@@ -1,0 +1,102 @@
+-- What a search of a header's table may find for an address, whatever the table's bytes are.
+-- LSB, section on the .eh_frame_hdr section: the pairs ascend, so that a search may halve.
+use Rattle.std.specs.Prelude.{◌≡◌, ℕ, ◌+◌, ◌-◌, ◌^◌, ◌<◌, ◌≤◌, true, false, length, Option, Some, None, Result, Ok, Err, nat_lt, if◌then◌else◌}
+use Rattle.unwind_definitions.specs.Faults.{Fault, UnexpectedEof, NotFde, NoUnwindInfoForAddress, ◌>>=◌}
+use Rattle.unwind_definitions.specs.Forms.{Forms}
+use Rattle.unwind_definitions.specs.Input.{Input}
+use Rattle.unwind_definitions.specs.Pointers.{Bases}
+use Rattle.unwind_definitions.specs.Entries.{Fde, Entry, ACie, AFde, Found, entry_at}
+use Rattle.unwind_definitions.specs.Row.{covers_pc}
+use Rattle.unwind_definitions.specs.Header.{PairTable, pair_at}
+
+-- ---- boundaries
+
+-- the pair at an index can be read, and starts behind an address
+abbrev pub StartsBehind : PairTable → ℕ → ℕ → Type 0
+StartsBehind t pc i = (p : ℕ × ℕ) × (pair_at t i ≡ Ok p) × (pc < p.0)
+
+-- a pair starts at or before an address, and the next one, if there is one, behind it
+pub record IsBoundary (t : PairTable) (pc : ℕ) (p : ℕ × ℕ) : Type 0 where
+  pub index : ℕ
+  pub within : index < t.count
+  pub reads : pair_at t index ≡ Ok p
+  pub at_or_before : p.0 ≤ pc
+  pub next_behind : index + 1 < t.count → StartsBehind t pc (index + 1)
+
+-- there is no pair, or the first one starts behind an address
+abbrev pub StartsAbove : PairTable → ℕ → Type 0
+StartsAbove t pc = 0 < t.count → StartsBehind t pc 0
+
+-- a pair can't be read
+abbrev pub IsUnreadablePair : PairTable → Fault → Type 0
+IsUnreadablePair t e = (i : ℕ) × (i < t.count) × (pair_at t i ≡ Err e)
+
+-- A search finds a boundary; none, only where the table starts above the address; or the fault of a pair. Where the pairs
+-- ascend there is one boundary at most, and of equal starts the last one is it.
+abbrev pub Finds : PairTable → ℕ → Result (Option (ℕ × ℕ)) Fault → Type 0
+Finds t pc (Ok (Some p)) = IsBoundary t pc p
+Finds t pc (Ok None) = StartsAbove t pc
+Finds t pc (Err e) = IsUnreadablePair t e
+
+-- each number of digits by which the count can be spelled in base 2 is one up to which so many may go
+abbrev pub AreWithinDigits : ℕ → ℕ → Type 0
+AreWithinDigits count n = (digits : ℕ) → count < 2 ^ digits → n ≤ digits
+
+-- ---- descriptions
+
+-- an entry, where it is a description
+abbrev pub fde_in : Option Found → Result Fde Fault
+fde_in None = Err NotFde
+fde_in (Some found) = described found.entry
+  where
+    described : Entry → Result Fde Fault
+    described (ACie cie) = Err NotFde
+    described (AFde fde) = Ok fde
+
+-- a description, where it contains an address
+abbrev pub containing : ℕ → Fde → Result Fde Fault
+containing pc fde = if covers_pc fde pc then Ok fde else Err NoUnwindInfoForAddress
+
+module _ (forms : Forms) (bases : Bases) (frame : Input) where
+  -- the description at an offset of a frame table
+  abbrev pub fde_at : ℕ → Result Fde Fault
+  fde_at offset = if nat_lt (length frame.bytes) offset then Err UnexpectedEof else (entry_at forms bases frame offset >>= λ found. fde_in found)
+
+  -- the same at an address, which isn't below the table's
+  abbrev pub fde_at_address : ℕ → Result Fde Fault
+  fde_at_address a = if nat_lt a frame.base then Err UnexpectedEof else fde_at (a - frame.base)
+
+  -- what follows from what a search found: the description that a boundary names, where it contains the address
+  abbrev pub found_by : ℕ → Result (Option (ℕ × ℕ)) Fault → Result Fde Fault
+  found_by pc (Err e) = Err e
+  found_by pc (Ok None) = Err NoUnwindInfoForAddress
+  found_by pc (Ok (Some p)) = fde_at_address p.1 >>= λ fde. containing pc fde
+
+  -- what the table may answer for an address
+  pub record IsTableAnswer (t : PairTable) (pc : ℕ) (answer : Result Fde Fault) : Type 0 where
+    pub place : Result (Option (ℕ × ℕ)) Fault
+    pub finds : Finds t pc place
+    pub is : answer ≡ found_by pc place
+
+  -- ---- an answer, in words
+
+  -- a boundary names a description that contains the address
+  pub record IsNamed (t : PairTable) (pc : ℕ) (fde : Fde) : Type 0 where
+    pub place : ℕ × ℕ
+    pub boundary : IsBoundary t pc place
+    pub stands : fde_at_address place.1 ≡ Ok fde
+    pub contains : covers_pc fde pc ≡ true
+
+  -- a boundary names a description that doesn't contain the address
+  pub record IsNamedElsewhere (t : PairTable) (pc : ℕ) : Type 0 where
+    pub place : ℕ × ℕ
+    pub boundary : IsBoundary t pc place
+    pub fde : Fde
+    pub stands : fde_at_address place.1 ≡ Ok fde
+    pub misses : covers_pc fde pc ≡ false
+
+  -- what a boundary names can't be read, or is no description
+  pub record IsUnreadableNamed (t : PairTable) (pc : ℕ) (e : Fault) : Type 0 where
+    pub place : ℕ × ℕ
+    pub boundary : IsBoundary t pc place
+    pub unread : fde_at_address place.1 ≡ Err e

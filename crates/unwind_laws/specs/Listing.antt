@@ -1,0 +1,10 @@
+-- The header of a frame table whose descriptions its table lists.
+use Rattle.std.specs.Prelude.{ℕ, List, length}
+use Rattle.unwind_definitions.specs.Input.{Input}
+use Rattle.unwind_definitions.specs.Pointers.{Bases, Direct}
+use Rattle.unwind_definitions.specs.Entries.{Fde}
+use Rattle.unwind_definitions.specs.Header.{FrameHeader, bases_in}
+
+-- it leads to the frame table, and has one pair for each description, four signed bytes for each address
+abbrev pub listing : ℕ → Bases → ℕ → List Fde → Input → FrameHeader
+listing h bases frame fdes listed = record { frame = Direct frame; count = length fdes; encoding = 0x3b; bases = bases_in h bases; pairs = listed }
