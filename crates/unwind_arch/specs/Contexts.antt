@@ -35,6 +35,6 @@ context_of columns = record {
 }
 
 -- a context that was written, if it was
-abbrev pub written : Option (Unit {0}) → Context → Option Context
+abbrev pub written : {C : Type 0} → Option (Unit {0}) → C → Option C
 written None c = None
 written (Some done) c = Some c

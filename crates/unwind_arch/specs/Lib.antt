@@ -1,1 +1,5 @@
 pub mod Contexts
+pub mod X86
+pub mod Aarch64
+pub mod Files
+pub mod Riscv32
