@@ -1,45 +1,40 @@
 -- A search that halves: what is known between two steps, and how many steps there are.
-use Rattle.std.proofs.Common.{◌≡◌, ℕ, zero, suc, ◌+◌, ◌-◌, ◌*◌, ◌/◌, ◌^◌, ◌<◌, ◌≤◌, Option, Some, None, Ok, refl, ap, subst, ◌∙◌, arith}
+use Rattle.std.proofs.Common.{◌≡◌, ℕ, zero, suc, ◌+◌, ◌-◌, ◌*◌, ◌/◌, ◌^◌, ◌<◌, ◌≤◌, Option, Some, None, Ok, Err, refl, ap, ◌∙◌, arith}
 use Rattle.std.proofs.Math.Nat.{pow-succ'}
 use Rattle.unwind_definitions.specs.Header.{PairTable, pair_at}
-use Rattle.unwind_definitions.specs.HeaderSearch.{StartsBehind, Finds, AreWithinDigits}
+use Rattle.memory_image.specs.Halving.{place_before}
+use Rattle.unwind_definitions.specs.declared.error.Error.{Error as Fault}
+use Rattle.unwind_definitions.specs.HeaderSearch.{pair_of_place, boundary_in, AreWithinDigits}
+use Rattle.unwind_definitions.specs.HeaderSearchLaws.{GoesOn, goes_up, goes_down, faults, answers}
 
 -- ---- what is known
 
--- the pair just below an index is the one that was found, or there is none below
-abbrev pub IsFoundBelow : PairTable → ℕ → ℕ → Option (ℕ × ℕ) → Type 0
-IsFoundBelow t pc low None = low ≡ 0
-IsFoundBelow t pc low (Some p) = (0 < low) × (pair_at t (low - 1) ≡ Ok p) × (p.0 ≤ pc)
-
--- The boundary stands just below one of the indices from low to high.
+-- The pair just below the place from low to high at which halving ends is the one that was found, or there is none below;
+-- and the halving from low to high comes to what the whole one does.
 pub record IsBetween (t : PairTable) (pc low high : ℕ) (found : Option (ℕ × ℕ)) : Type 0 where
-  pub ordered : low ≤ high
   pub within : high ≤ t.count
-  pub below : IsFoundBelow t pc low found
-  pub behind : high < t.count → StartsBehind t pc high
+  pub below : pair_of_place t (place_before low) ≡ Ok found
+  pub goes_on : GoesOn t pc low high
 
 pub begun : (t : PairTable) (pc : ℕ) → IsBetween t pc 0 t.count None
-begun t pc = record { ordered = omega arith; within = omega arith; below = refl; behind = λ lt. absurd (omega arith) }
+begun t pc = record { within = omega arith; below = refl; goes_on = refl }
 
-pub raised : (t : PairTable) (pc low high middle : ℕ) (found : Option (ℕ × ℕ)) (p : ℕ × ℕ) → IsBetween t pc low high found → middle < high → pair_at t middle ≡ Ok p → p.0 ≤ pc → IsBetween t pc (middle + 1) high (Some p)
-raised t pc low high middle found p s lt at le =
-    let one : middle + 1 - 1 ≡ middle = omega arith in
-    record { ordered = omega arith; within = s.within; below = (omega arith, ap (pair_at t) one ∙ at, le); behind = s.behind }
+pub raised : (t : PairTable) (pc low high : ℕ) (found : Option (ℕ × ℕ)) (p : ℕ × ℕ) → IsBetween t pc low high found → low < high → pair_at t (low + (high - low) / 2) ≡ Ok p → p.0 ≤ pc →
+    IsBetween t pc (low + (high - low) / 2 + 1) high (Some p)
+raised t pc low high found p s lt at le =
+    let one : low + (high - low) / 2 + 1 ≡ suc (low + (high - low) / 2) = omega arith in
+    let here : pair_of_place t (Some (low + (high - low) / 2)) ≡ Ok (Some p) = rw at refl in
+    record { within = s.within; below = ap (λ (n : ℕ). pair_of_place t (place_before n)) one ∙ here; goes_on = goes_up t pc low high p lt s.within at le s.goes_on }
 
-pub lowered : (t : PairTable) (pc low high middle : ℕ) (found : Option (ℕ × ℕ)) (p : ℕ × ℕ) → IsBetween t pc low high found → low ≤ middle → middle < high → pair_at t middle ≡ Ok p → pc < p.0 → IsBetween t pc low middle found
-lowered t pc low high middle found p s ge lt at above = let w = s.within in record { ordered = ge; within = omega arith; below = s.below; behind = λ below. (p, at, above) }
+pub lowered : (t : PairTable) (pc low high : ℕ) (found : Option (ℕ × ℕ)) (p : ℕ × ℕ) → IsBetween t pc low high found → low < high → pair_at t (low + (high - low) / 2) ≡ Ok p → pc < p.0 →
+    IsBetween t pc low (low + (high - low) / 2) found
+lowered t pc low high found p s lt at above = let w = s.within in record { within = omega arith; below = s.below; goes_on = goes_down t pc low high p lt s.within at above s.goes_on }
 
-pub ended : (t : PairTable) (pc low high : ℕ) (found : Option (ℕ × ℕ)) → IsBetween t pc low high found → high ≤ low → Finds t pc (Ok found)
-ended t pc low high None s le = λ some.
-    let bottom : low ≡ 0 = s.below in
-    let at : high ≡ 0 = omega arith in
-    subst (StartsBehind t pc) at (s.behind (omega arith))
-ended t pc low high (Some p) s le =
-    let some = s.below.0 in
-    let o = s.ordered in
-    let w = s.within in
-    let at : high ≡ low - 1 + 1 = omega arith in
-    record { index = low - 1; within = omega arith; reads = s.below.1; at_or_before = s.below.2; next_behind = λ lt. subst (StartsBehind t pc) at (s.behind (omega arith)) }
+pub faulted : (t : PairTable) (pc low high : ℕ) (found : Option (ℕ × ℕ)) (e : Fault) → IsBetween t pc low high found → low < high → pair_at t (low + (high - low) / 2) ≡ Err e → boundary_in t pc ≡ Err e
+faulted t pc low high found e s lt at = faults t pc low high e lt s.within at s.goes_on
+
+pub ended : (t : PairTable) (pc low high : ℕ) (found : Option (ℕ × ℕ)) → IsBetween t pc low high found → high ≤ low → boundary_in t pc ≡ Ok found
+ended t pc low high found s le = answers t pc low high found le s.goes_on s.below
 
 -- ---- how many steps
 

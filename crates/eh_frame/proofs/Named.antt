@@ -10,7 +10,8 @@ use Rattle.unwind_definitions.specs.Pointers.{Bases}
 use Rattle.unwind_definitions.specs.Entries.{Fde}
 use Rattle.unwind_definitions.specs.Row.{covers_pc}
 use Rattle.unwind_definitions.specs.Header.{PairTable, pair_at}
-use Rattle.unwind_definitions.specs.HeaderSearch.{IsBoundary, StartsAbove, IsUnreadablePair, Finds, fde_at_address, containing, found_by, IsTableAnswer, IsNamed, IsNamedElsewhere, IsUnreadableNamed}
+use Rattle.unwind_definitions.specs.HeaderSearch.{IsBoundary, StartsAbove, IsUnreadablePair, Finds, fde_at_address, containing, found_by, table_answer, IsTableAnswer, IsNamed, IsNamedElsewhere, IsUnreadableNamed}
+use Rattle.unwind_definitions.specs.HeaderSearchLaws.{table_answer-is}
 use Rattle.encoded_pointers.specs.Readers.{Answers}
 use Rattle.eh_frame.specs.declared.fde.Fde.{Fde as CodeFde}
 use Rattle.eh_frame.specs.Views.{fde_of}
@@ -83,6 +84,10 @@ module _ (forms : Forms) (bases : Bases) (frame : Input) (t : PairTable) (pc : �
   misses e is (Above same s) = inl s
   misses e is (Damaged u) = absurd (other_fde_at_address forms bases frame u.place.1 (u.unread ∙ ap (λ (x : Fault). Err x) is))
   misses e is (Elsewhere same n) = inr n
+
+  -- what the table answers it may answer
+  pub answer_may : (r : Result CodeFde Fault) → Answers fde_of r (table_answer forms bases frame t pc) → IsTableAnswer forms bases frame t pc (answer_of r)
+  answer_may r is = subst (IsTableAnswer forms bases frame t pc) (sym (answer_is r (table_answer forms bases frame t pc) is)) (table_answer-is t pc forms bases frame)
 
   pub answer_named : (r : Result CodeFde Fault) → IsTableAnswer forms bases frame t pc (answer_of r) → IfOk r (λ fde. IsNamed forms bases frame t pc (fde_of fde))
   answer_named (Ok fde) by = names (fde_of fde) by

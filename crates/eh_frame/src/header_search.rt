@@ -2,7 +2,7 @@
 
 ghost use Rattle.std.specs.Prelude.{◌≡◌, ◌≢◌, ◌+◌, ◌⊎◌, ℕ, IfErr, IfOk};
 ghost use Rattle.unwind_definitions.specs.Forms.{emitted};
-ghost use Rattle.unwind_definitions.specs.HeaderSearch.{AreWithinDigits, Finds, IsNamed, IsNamedElsewhere, IsTableAnswer, IsUnreadableNamed, IsUnreadablePair, StartsAbove, containing, found_by};
+ghost use Rattle.unwind_definitions.specs.HeaderSearch.{AreWithinDigits, IsNamed, IsNamedElsewhere, IsTableAnswer, IsUnreadableNamed, IsUnreadablePair, StartsAbove, boundary_in, containing, found_by, table_answer};
 ghost use Rattle.encoded_pointers.specs.Readers.{Answers};
 ghost use Rattle.encoded_pointers.specs.Pointers.{bases_of};
 ghost use Rattle.eh_frame.specs.Views.{fde_of, table_of};
@@ -19,9 +19,9 @@ impl<'a> HdrTable<'a> {
     /// The description of the function that contains the address `pc`, by a search that halves.
     ///
     /// The search finds a boundary: an entry that starts at or before `pc`, and the next one, if
-    /// there is one, behind it. In an ascending table there is one at most; in another any may be
-    /// found. Its description is the answer where it contains `pc`. `frame` is the frame table, and
-    /// `bases` what its pointers may be relative to.
+    /// there is one, behind it. In an ascending table there is one at most; in another the one that
+    /// halving leads to is found. Its description is the answer where it contains `pc`. `frame` is
+    /// the frame table, and `bases` what its pointers may be relative to.
     ///
     /// Each entry that is read takes one counted step, and there are no more of these than binary
     /// digits in `len`.
@@ -40,6 +40,8 @@ impl<'a> HdrTable<'a> {
         pc: u64,
         steps: &mut Steps<L>,
     ) -> Result<Fde<'a>, Error>
+        ensures exact { Answers fde_of result
+            (table_answer emitted (bases_of bases.now) (table_of frame.now) (pairs_of self.now) pc) }
         ensures answer { IsTableAnswer emitted (bases_of bases.now) (table_of frame.now) (pairs_of self.now) pc (answer_of result) }
         ensures named { IfOk result (λ fde.
             IsNamed emitted (bases_of bases.now) (table_of frame.now) (pairs_of self.now) pc (fde_of fde)) }
@@ -63,7 +65,8 @@ impl<'a> HdrTable<'a> {
         pc: u64,
         steps: &mut Steps<L>,
     ) -> Result<Fde<'a>, Error>
-        ensures answer { IsTableAnswer emitted (bases_of bases.now) (table_of frame.now) (pairs_of self.now) pc (answer_of result) }
+        ensures exact { Answers fde_of result
+            (table_answer emitted (bases_of bases.now) (table_of frame.now) (pairs_of self.now) pc) }
         ensures ticks { (taken : ℕ) × (steps.new.number ≡ steps.old.number + taken)
             × AreWithinDigits (pairs_of self.now).count taken }
     {
@@ -71,13 +74,13 @@ impl<'a> HdrTable<'a> {
         named(entry, frame, bases, pc)
     }
 
-    // A boundary for an address.
+    // The boundary for an address that halving leads to.
     fn boundary<L: Ledger>(
         &self,
         pc: u64,
         steps: &mut Steps<L>,
     ) -> Result<Option<(u64, u64)>, Error>
-        ensures finds { Finds (pairs_of self.now) pc result }
+        ensures exact { Answers (λ x. x) result (boundary_in (pairs_of self.now) pc) }
         ensures ticks { (taken : ℕ) × (steps.new.number ≡ steps.old.number + taken)
             × AreWithinDigits (pairs_of self.now).count taken }
     {

@@ -1,6 +1,7 @@
 -- What a search of a header's table may find for an address, whatever the table's bytes are.
 -- LSB, section on the .eh_frame_hdr section: the pairs ascend, so that a search may halve.
-use Rattle.std.specs.Prelude.{◌≡◌, ℕ, ◌+◌, ◌-◌, ◌^◌, ◌<◌, ◌≤◌, true, false, length, Option, Some, None, Result, Ok, Err, nat_lt, if◌then◌else◌}
+use Rattle.std.specs.Prelude.{◌≡◌, ℕ, zero, suc, ◌+◌, ◌-◌, ◌/◌, ◌^◌, ◌<◌, ◌≤◌, Bool, true, false, length, Option, Some, None, Result, Ok, Err, nat_lt, nat_le, if◌then◌else◌}
+use Rattle.memory_image.specs.Halving.{place_before}
 use Rattle.unwind_definitions.specs.Faults.{Fault, UnexpectedEof, NotFde, NoUnwindInfoForAddress, ◌>>=◌}
 use Rattle.unwind_definitions.specs.Forms.{Forms}
 use Rattle.unwind_definitions.specs.Input.{Input}
@@ -38,6 +39,29 @@ Finds t pc (Ok (Some p)) = IsBoundary t pc p
 Finds t pc (Ok None) = StartsAbove t pc
 Finds t pc (Err e) = IsUnreadablePair t e
 
+-- ---- the search by halving
+
+-- Halving, as in a list of keys, by a test that may fault: at the first fault it ends.
+unfoldable pub halved_or : ℕ → (ℕ → Result Bool Fault) → ℕ → ℕ → Result ℕ Fault
+halved_or zero test low high = Ok low
+halved_or (suc turns) test low high =
+    if nat_lt low high then (test (low + (high - low) / 2) >>= λ holds. if holds then halved_or turns test (low + (high - low) / 2 + 1) high else halved_or turns test low (low + (high - low) / 2))
+    else Ok low
+
+-- whether the pair at an index starts at or before an address
+abbrev pub starts_by : PairTable → ℕ → ℕ → Result Bool Fault
+starts_by t pc i = pair_at t i >>= λ p. Ok (nat_le p.0 pc)
+
+-- the pair at an index, if there is one
+abbrev pub pair_of_place : PairTable → Option ℕ → Result (Option (ℕ × ℕ)) Fault
+pair_of_place t None = Ok None
+pair_of_place t (Some i) = pair_at t i >>= λ p. Ok (Some p)
+
+-- The pair that halving answers: in a table whose starts ascend, the last one at or before an address. A pair on the way
+-- that can't be read is a fault.
+unfoldable pub boundary_in : PairTable → ℕ → Result (Option (ℕ × ℕ)) Fault
+boundary_in t pc = halved_or t.count (starts_by t pc) 0 t.count >>= λ place. pair_of_place t (place_before place)
+
 -- each number of digits by which the count can be spelled in base 2 is one up to which so many may go
 abbrev pub AreWithinDigits : ℕ → ℕ → Type 0
 AreWithinDigits count n = (digits : ℕ) → count < 2 ^ digits → n ≤ digits
@@ -71,6 +95,10 @@ module _ (forms : Forms) (bases : Bases) (frame : Input) where
   found_by pc (Err e) = Err e
   found_by pc (Ok None) = Err NoUnwindInfoForAddress
   found_by pc (Ok (Some p)) = fde_at_address p.1 >>= λ fde. containing pc fde
+
+  -- what a table answers for an address
+  abbrev pub table_answer : PairTable → ℕ → Result Fde Fault
+  table_answer t pc = found_by pc (boundary_in t pc)
 
   -- what the table may answer for an address
   pub record IsTableAnswer (t : PairTable) (pc : ℕ) (answer : Result Fde Fault) : Type 0 where

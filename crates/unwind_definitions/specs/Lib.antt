@@ -8,6 +8,7 @@ pub mod Row
 pub mod Scan
 pub mod Header
 pub mod HeaderSearch
+pub mod HeaderSearchLaws
 pub mod Caller
 pub mod State
 pub mod Prologue
