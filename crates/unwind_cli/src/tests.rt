@@ -1,0 +1,75 @@
+// Whole runs over memory, with what a reader of the formats expects of them. A case is a table's line;
+// one function runs it.
+use super::*;
+use memory_image::{MemorySink, MemorySource};
+use std::alloc::{AllocError, Global};
+use std::process::Abort;
+use std::test::Fail;
+
+mod deliveries;
+mod ends;
+mod refusals;
+mod walks;
+
+/// A run: its words, the pieces of its input, and the number and the lines that are due.
+struct Case {
+    words: &'static [&'static str],
+    input: &'static [&'static str],
+    number: u8,
+    lines: &'static [&'static str],
+}
+
+/// The pieces, each with the ending after it.
+fn joined(alloc: Global, pieces: &[&str], ending: &str) -> Result<String, AllocError> {
+    let mut text = String::new(alloc);
+    for piece in pieces {
+        text.push_str(piece)?;
+        text.push_str(ending)?;
+    }
+    Ok(text)
+}
+
+/// The number that a run answers and the text that it writes. The calls of its ends that are named fail.
+fn run_over(
+    alloc: Global,
+    words: &[&str],
+    input: &str,
+    reads: &[u64],
+    writes: &[u64],
+) -> Result<(u8, Vec<u8>), AllocError> {
+    let mut list = Words::new(alloc);
+    for word in words {
+        list.push(word)?;
+    }
+    let mut source = MemorySource::new(input.as_bytes(), 100, reads);
+    let mut sink = MemorySink::new(alloc, 4096, writes)?;
+    let status = run(alloc, &list, &mut source, &mut sink);
+    Ok((status.number(), Vec::from_slice(alloc, sink.held())?))
+}
+
+/// Runs the cases.
+fn run_cases(rt: &impl Abort, alloc: Global, cases: &[Case]) -> Result<(), Fail> {
+    for case in cases {
+        let input = joined(alloc, case.input, "")?;
+        let text = joined(alloc, case.lines, "\n")?;
+        let (number, written) = run_over(alloc, case.words, input.as_str(), &[], &[])?;
+        assert_eq!(rt; number, case.number, "{text}");
+        assert_eq!(rt; written.as_slice(), text.as_bytes());
+    }
+    Ok(())
+}
+
+/// One region: a frame table of the function 0x401000 to 0x401010, which pushes RBX; and the start of
+/// another, a stack at 0x7000.
+const TABLE: &str =
+    "{\"regions\":[{\"address\":\"0x500000\",\"bytes\":\"1400000000000000017a5200017810011b0c070890010000140000001c000000e00ff0ff1000000000410e108302000000000000\"},{\"address\":\"0x7000\",\"bytes\":\"";
+
+/// A stack: RBX's value, and 0 for the return address.
+const STACK: &str = "05000000000000000000000000000000";
+
+/// The function's module, and what is to come is the start.
+const MODULE: &str =
+    "\"}],\"modules\":[{\"kind\":\"elf\",\"start\":\"0x401000\",\"end\":\"0x401010\",\"eh_frame\":\"0x500000\"}],\"start\":";
+
+/// A start behind a call in the function, behind its push.
+const START: &str = "{\"rip\":\"0x401006\",\"rsp\":\"0x7000\",\"rbx\":\"0x9\"},";
