@@ -2,16 +2,13 @@
 //! lie where the program runs; examples/README.md says how they and the expected lines were made.
 #![tactic(auto)]
 
-mod report;
-mod sample;
-mod words;
-
-use crate::report::{put_cleanup, put_frame, put_landing, put_outcome};
-use crate::sample::{Sample, read_sample};
 use anyhow::{Result, bail};
-use stack_deliver::{Delivery, deliver, walk};
+use stack_deliver::{deliver, walk};
+use stack_report::{Report, report_of, walk_report_of};
+use stack_snapshot::{Snapshot, read_snapshot};
 use std::alloc::Global;
 use std::fs;
+use std::str;
 
 /// Snapshots to be walked. The compilers' names are in those of the files, and how far they optimise.
 const WALKS: [&str; 8] = [
@@ -37,98 +34,65 @@ const DELIVERIES: [&str; 4] = [
 const OF_DELIVERIES: &str =
     "Deliveries. A landing's rdx is 0 here. In the process it was the number of the catch clause, which C++ puts there.";
 
-/// The lines of a snapshot's walk: one for each state, and `end`.
-fn walk_report(alloc: Global, sample: &Sample) -> Result<String> {
-    let Some(space) = sample.space(alloc)? else {
-        bail!("regions or modules share an address");
-    };
-    let visited = match walk(
+/// The report of a snapshot's walk.
+fn walk_report(alloc: Global, snapshot: &Snapshot) -> Result<Report> {
+    let space = snapshot.space(alloc)?;
+    let start = snapshot.start();
+    match walk(
         alloc,
         &space,
-        &sample.start,
-        sample.interrupted,
-        sample.limit,
+        &start,
+        snapshot.interrupted(),
+        snapshot.limit(),
     ) {
-        Ok(visited) => visited,
+        Ok(visited) => Ok(walk_report_of(alloc, &visited)?),
         Err(_) => bail!("the walk is refused"),
-    };
-    let mut report = String::new(alloc);
-    for index in 0..visited.len() {
-        let state = visited.get(index).unwrap();
-        put_frame(&mut report, index, &state)?;
     }
-    report.push_str("end")?;
-    Ok(report)
 }
 
-/// What is delivered of the exception that a snapshot names.
-fn delivery_in(alloc: Global, sample: &Sample) -> Result<Delivery> {
-    let Some(space) = sample.space(alloc)? else {
-        bail!("regions or modules share an address");
-    };
-    let resumes = sample.resumes(alloc)?;
+/// The report of a snapshot's delivery.
+fn delivery_report(alloc: Global, snapshot: &Snapshot) -> Result<Report> {
+    let space = snapshot.space(alloc)?;
+    let start = snapshot.start();
     match deliver(
         alloc,
         &space,
-        &sample.start,
-        sample.exception,
-        sample.class,
-        &resumes,
-        sample.limit,
+        &start,
+        snapshot.exception(),
+        snapshot.class(),
+        snapshot.resumes(),
+        snapshot.limit(),
     ) {
-        Ok(delivery) => Ok(delivery),
+        Ok(delivery) => Ok(report_of(alloc, &delivery)?),
         Err(_) => bail!("the delivery is refused"),
     }
 }
 
-/// Puts a line for each state that the search visited.
-fn put_frames(report: &mut String, delivery: &Delivery) -> Result<()> {
-    for index in 0..delivery.visited_len() {
-        let state = delivery.visited(index).unwrap();
-        put_frame(report, index, &state)?;
-    }
-    Ok(())
-}
-
-/// Puts a line for each cleanup that ran.
-fn put_cleanups(report: &mut String, delivery: &Delivery) -> Result<()> {
-    for index in 0..delivery.trail_len() {
-        put_cleanup(report, delivery.trail(index).unwrap())?;
-    }
-    Ok(())
-}
-
-/// The lines of a snapshot's delivery: states, cleanups, the landing and the outcome.
-fn delivery_report(alloc: Global, sample: &Sample) -> Result<String> {
-    let delivery = delivery_in(alloc, sample)?;
-    let mut report = String::new(alloc);
-    put_frames(&mut report, &delivery)?;
-    put_cleanups(&mut report, &delivery)?;
-    if let Some(state) = delivery.landing() {
-        put_landing(&mut report, &state)?;
-    }
-    put_outcome(&mut report, delivery.outcome())?;
-    Ok(report)
-}
-
 /// The snapshot in a file.
-fn sample_in(rt: &HostRuntime, name: &str) -> Result<Sample> {
+fn snapshot_in(rt: &HostRuntime, name: &str) -> Result<Snapshot> {
     let text = fs::read_to_string(rt, name)?;
-    match read_sample(rt.alloc(), text.as_str())? {
-        Some(sample) => Ok(sample),
-        None => bail!("no snapshot"),
+    match read_snapshot(rt.alloc(), text.as_bytes()) {
+        Ok(snapshot) => Ok(snapshot),
+        Err(_) => bail!("no snapshot"),
     }
+}
+
+/// Prints the file's name and its report.
+fn print_report(rt: &HostRuntime, name: &str, report: &Report) -> Result<()> {
+    let lines = str::from_utf8(report.bytes())?;
+    print!(rt; "{name}\n{lines}")?;
+    Ok(())
 }
 
 fn main(rt: HostRuntime) -> Result<()> {
     for name in WALKS {
-        let report = walk_report(rt.alloc(), &sample_in(&rt, name)?)?;
-        println!(rt; "{name}\n{report}")?;
+        let report = walk_report(rt.alloc(), &snapshot_in(&rt, name)?)?;
+        print_report(&rt, name, &report)?;
     }
     println!(rt; "{OF_DELIVERIES}")?;
     for name in DELIVERIES {
-        let report = delivery_report(rt.alloc(), &sample_in(&rt, name)?)?;
-        println!(rt; "{name}\n{report}")?;
+        let report = delivery_report(rt.alloc(), &snapshot_in(&rt, name)?)?;
+        print_report(&rt, name, &report)?;
     }
     Ok(())
 }

@@ -1,170 +1,19 @@
 -- What is delivered and walked of a snapshot whose tables describe a chain.
-use Rattle.std.proofs.Common.{◌≡◌, ℕ, suc, ◌+◌, ◌<◌, Bool, true, false, List, [], ◌∷◌, ◌++◌, length, Option, Some, None, Result, Ok, Err, refl, sym, ap, subst, ◌∙◌, arith, leb}
-use Rattle.std.specs.Prelude.{map, is_none, codes, if◌then◌else◌}
-use Rattle.std.specs.Option.{option_map, option_and_then}
-use Rattle.std.proofs.lemmas.Bool.Decides.{nat_tests}
-use Rattle.serde_json.specs.Data.{Data}
-use Rattle.serde_json.specs.Find.{get, as_array}
+use Rattle.std.proofs.Common.{◌≡◌, List, Ok}
+use Rattle.std.specs.Prelude.{map}
 use Rattle.unwind_definitions.specs.State.{State}
 use Rattle.unwind_definitions.specs.Function.{Function}
 use Rattle.unwind_definitions.specs.Chain.{Call, states_of}
-use Rattle.unwind_laws.proofs.Booleans as lists
 use Rattle.unwind_arch.specs.declared.x86_64.Context.{Context}
-use Rattle.stack_deliver.specs.declared.space.Module.{Module}
-use Rattle.stack_deliver.specs.declared.space.SpaceError.TheVariants.{Wraps, Overlap}
-use Rattle.stack_deliver.specs.Modules.{AreApart, lowest_shared, module_refusal, with_module}
-use Rattle.stack_deliver.specs.Delivering.{Delivered}
-use Rattle.stack_deliver.specs.declared.delivery.Trail.{Trail}
-use Rattle.stack_deliver.specs.Shown.{state_of, pair_of, landing_of, delivery_shown}
-use Rattle.stack_deliver.proofs.Apart.{with_apart}
+use Rattle.stack_deliver.specs.Modules.{AreApart}
+use Rattle.stack_deliver.specs.Shown.{state_of}
 use Rattle.stack_deliver.proofs.Chains as chains
 use Rattle.stack_deliver.proofs.ContextLemmas.{IsWhole}
 use Rattle.stack_deliver.proofs.ChainDelivered.{DeliversChain}
 use Rattle.stack_deliver.proofs.ChainDelivered as delivered
-use Rattle.unwind_cli.specs.declared.errors.Field.{Field}
-use Rattle.unwind_cli.specs.declared.errors.Field.TheVariants as fields
-use Rattle.unwind_cli.specs.Content.{Content, takes_modules, modules_after, space_of}
-use Rattle.unwind_cli.specs.Fields.{word_at, word_or_zero_at}
-use Rattle.unwind_cli.specs.Snapshot.{◌>>=◌, needs, if_spaced, module_list, whole_numbers, regions_of, modules_of, registers_in, register_names, context_with, start_in, start_of, resumes_of, limit_of, interrupted_of, snapshot_of}
-use Rattle.unwind_cli.specs.Answers.{value_of, content_with, content_by, content_of}
+use Rattle.stack_snapshot.specs.Content.{Content, space_of}
 use Rattle.unwind_cli.specs.Described.{DescribesChain, DescribesWalk}
-use Rattle.unwind_cli.specs.Report.{state_line, pad_line, state_lines, pad_lines, handler_lines, delivery_text, frame_line, frame_lines, cleanup_line, cleanup_lines, landing_line, landing_lines, report_of, walk_report_of, walk_text}
 use Rattle.unwind_cli.specs.Due.{delivery_from, walk_from}
-
--- ---- a snapshot's modules are apart
-
--- what refuses no module
-free_module : (taken : List Module) (m : Module) → is_none (module_refusal taken m) ≡ true → (m.start < m.end) × (lowest_shared taken m.start m.end ≡ None)
-free_module taken m free = go (leb m.end m.start) refl (lowest_shared taken m.start m.end) refl free
-  where
-    go : (b : Bool) → leb m.end m.start ≡ b → (o : Option ℕ) → lowest_shared taken m.start m.end ≡ o → is_none (if b then Some Wraps else option_map Overlap o) ≡ true → (m.start < m.end) × (lowest_shared taken m.start m.end ≡ None)
-    go true low o is e = absurd cc
-    go false high (Some n) is e = absurd cc
-    go false high None is e = (grind (arith, nat_tests), is)
-
-apart_after : (taken ms : List Module) → AreApart 0 taken → takes_modules taken ms ≡ true → AreApart 0 (modules_after taken ms)
-apart_after taken [] apart takes = apart
-apart_after taken (m ∷ ms) apart takes =
-    let both = lists.both_true (is_none (module_refusal taken m)) (takes_modules (with_module m taken) ms) takes in
-    let free = free_module taken m both.0 in
-    apart_after (with_module m taken) ms (with_apart taken 0 m apart (omega arith) free.0 free.1) both.1
-
--- a reading that gave a value began with one
-bound : {A B : Type 0} (r : Result A Field) (f : A → Result B Field) (y : B) → (r >>= f) ≡ Ok y → (x : A) × (r ≡ Ok x) × (f x ≡ Ok y)
-bound (Ok x) f y e = (x, refl, e)
-bound (Err e) f y is = absurd cc
-
-needed : {A : Type 0} (field : Field) (o : Option A) (x : A) → needs field o ≡ Ok x → o ≡ Some x
-needed field None x e = absurd cc
-needed field (Some y) x e = cc
-
-spaced : (o : Option (List Module)) (ms : List Module) → option_and_then if_spaced o ≡ Some ms → takes_modules [] ms ≡ true
-spaced None ms e = absurd cc
-spaced (Some ns) ms e = go (takes_modules [] ns) refl e
-  where
-    go : (b : Bool) → takes_modules [] ns ≡ b → (if b then Some ns else None) ≡ Some ms → takes_modules [] ms ≡ true
-    go true is e = let same : ns ≡ ms = cc in subst (λ (l : List Module). takes_modules [] l ≡ true) same is
-    go false is e = absurd cc
-
-abbrev ok : Content → Result Content Field
-ok s = Ok s
-
-ok_same : (x y : Content) → ok x ≡ Ok y → x ≡ y
-ok_same x y e = cc
-
--- a snapshot's modules are taken, one after another
-pub modules_taken : (d : Data) (s : Content) → snapshot_of d ≡ Ok s → takes_modules [] s.modules ≡ true
-unfolding snapshot_of modules_of
-modules_taken d s is =
-    let whole = bound (needs fields.Object (whole_numbers d)) _ s is in
-    let regions = bound (needs fields.Regions (regions_of d)) _ s whole.2 in
-    let modules = bound (needs fields.Modules (modules_of d)) _ s regions.2 in
-    let start = bound (needs fields.Start (start_of d)) _ s modules.2 in
-    let exception = bound (needs fields.Exception (word_or_zero_at (codes "exception") d)) _ s start.2 in
-    let class = bound (needs fields.Class (word_or_zero_at (codes "class") d)) _ s exception.2 in
-    let resumes = bound (needs fields.Resumes (resumes_of d)) _ s class.2 in
-    let limit = bound (needs fields.Limit (limit_of d)) _ s resumes.2 in
-    let interrupted = bound (needs fields.Interrupted (interrupted_of d)) _ s limit.2 in
-    let same : modules.0 ≡ s.modules = ap (λ (c : Content). c.modules) (ok_same _ s interrupted.2) in
-    subst (λ (ms : List Module). takes_modules [] ms ≡ true) same (spaced (option_and_then module_list (option_and_then as_array (get (codes "modules") d))) modules.0 (needed fields.Modules (modules_of d) modules.0 modules.1))
-
--- the modules of what bytes say are apart
-pub content_apart : (bytes : List ℕ) (s : Content) → content_of bytes ≡ Ok s → AreApart 0 (space_of s).modules
-content_apart bytes s is = go (value_of bytes) is
-  where
-    go : (o : Option Data) → content_by o ≡ Ok s → AreApart 0 (space_of s).modules
-    go None e = absurd cc
-    go (Some d) e = said (snapshot_of d) refl e
-      where
-        said : (r : Result Content Field) → snapshot_of d ≡ r → content_with r ≡ Ok s → AreApart 0 (space_of s).modules
-        said (Ok t) reads e = let same : t ≡ s = cc in apart_after [] s.modules tt (modules_taken d s (reads ∙ ap Ok same))
-        said (Err f) reads e = absurd cc
-
--- ---- a snapshot's start has sixteen registers
-
-registers_many : (keys : List (List ℕ)) (d : Data) (ws : List ℕ) → registers_in keys d ≡ Some ws → length ws ≡ length keys
-registers_many [] d ws e = let same : [] ≡ ws = cc in ap length (sym same)
-registers_many (key ∷ keys) d ws e = go (word_or_zero_at key d) (registers_in keys d) (λ vs reads. registers_many keys d vs reads) e
-  where
-    go : (w : Option ℕ) (o : Option (List ℕ)) → ((vs : List ℕ) → o ≡ Some vs → length vs ≡ length keys) → option_and_then (λ w. option_map (λ ws. w ∷ ws) o) w ≡ Some ws → length ws ≡ length (key ∷ keys)
-    go None o many e = absurd cc
-    go (Some w) None many e = absurd cc
-    go (Some w) (Some vs) many e =
-        let same : w ∷ vs ≡ ws = cc in
-        let count : length vs ≡ length keys = many vs refl in
-        ap length (sym same) ∙ ap suc count
-
--- what a start is read from
-start_whole : (d : Data) (c : Context) → start_of d ≡ Some c → IsWhole c
-unfolding start_of
-start_whole d c reads = go (get (codes "start") d) reads
-  where
-    registered : (rip : ℕ) (e : Data) (o : Option (List ℕ)) → registers_in register_names e ≡ o → option_map (context_with rip) o ≡ Some c → IsWhole c
-    registered rip e None is h = absurd cc
-    registered rip e (Some ws) is h =
-        let same : context_with rip ws ≡ c = cc in
-        subst IsWhole same (registers_many register_names e ws is)
-
-    by_stack : (rip : ℕ) (e : Data) (o : Option ℕ) → option_and_then (λ rsp. option_map (context_with rip) (registers_in register_names e)) o ≡ Some c → IsWhole c
-    by_stack rip e None h = absurd cc
-    by_stack rip e (Some rsp) h = registered rip e (registers_in register_names e) refl h
-
-    by_address : (e : Data) (o : Option ℕ) → option_and_then (λ rip. option_and_then (λ rsp. option_map (context_with rip) (registers_in register_names e)) (word_at (codes "rsp") e)) o ≡ Some c → IsWhole c
-    by_address e None h = absurd cc
-    by_address e (Some rip) h = by_stack rip e (word_at (codes "rsp") e) h
-
-    go : (o : Option Data) → option_and_then start_in o ≡ Some c → IsWhole c
-    go None h = absurd cc
-    go (Some e) h = by_address e (word_at (codes "rip") e) h
-
-start_taken : (d : Data) (s : Content) → snapshot_of d ≡ Ok s → IsWhole s.start
-unfolding snapshot_of
-start_taken d s is =
-    let whole = bound (needs fields.Object (whole_numbers d)) _ s is in
-    let regions = bound (needs fields.Regions (regions_of d)) _ s whole.2 in
-    let modules = bound (needs fields.Modules (modules_of d)) _ s regions.2 in
-    let start = bound (needs fields.Start (start_of d)) _ s modules.2 in
-    let exception = bound (needs fields.Exception (word_or_zero_at (codes "exception") d)) _ s start.2 in
-    let class = bound (needs fields.Class (word_or_zero_at (codes "class") d)) _ s exception.2 in
-    let resumes = bound (needs fields.Resumes (resumes_of d)) _ s class.2 in
-    let limit = bound (needs fields.Limit (limit_of d)) _ s resumes.2 in
-    let interrupted = bound (needs fields.Interrupted (interrupted_of d)) _ s limit.2 in
-    let same : start.0 ≡ s.start = ap (λ (c : Content). c.start) (ok_same _ s interrupted.2) in
-    subst IsWhole same (start_whole d start.0 (needed fields.Start (start_of d) start.0 start.1))
-
--- the start that bytes say has sixteen registers
-pub content_whole : (bytes : List ℕ) (s : Content) → content_of bytes ≡ Ok s → IsWhole s.start
-content_whole bytes s is = go (value_of bytes) is
-  where
-    go : (o : Option Data) → content_by o ≡ Ok s → IsWhole s.start
-    go None e = absurd cc
-    go (Some d) e = said (snapshot_of d) refl e
-      where
-        said : (r : Result Content Field) → snapshot_of d ≡ r → content_with r ≡ Ok s → IsWhole s.start
-        said (Ok t) reads e = let same : t ≡ s = cc in start_taken d s (reads ∙ ap Ok same)
-        said (Err f) reads e = absurd cc
-
--- ---- what is delivered and walked
 
 -- What is delivered of a snapshot whose tables describe a chain is what the definition says of the chain.
 pub chain_delivered : (s : Content) (functions : List Function) (start : State) (calls : List Call) → AreApart 0 (space_of s).modules → IsWhole s.start → DescribesChain s functions start calls → DeliversChain s.exception start calls (delivery_from s)
@@ -178,28 +27,3 @@ unfolding walk_from
 chain_walked s functions start calls apart is =
     let w = chains.chain_walked (space_of s) s.start s.limit functions start calls apart is.1 in
     (w.0, rw is.0 w.1, chains.shown_states w.0 (states_of start calls) w.2.states)
-
--- ---- the report
-
-frames_shown : (i : ℕ) (cs : List Context) → frame_lines i cs ≡ state_lines i (map state_of cs)
-unfolding frame_line
-frames_shown i [] = refl
-frames_shown i (c ∷ cs) = ap (λ (rest : List ℕ). state_line i (state_of c) ++ rest) (frames_shown (i + 1) cs)
-
-cleanups_shown : (ts : List Trail) → cleanup_lines ts ≡ pad_lines (map pair_of ts)
-unfolding cleanup_line
-cleanups_shown [] = refl
-cleanups_shown (t ∷ ts) = ap (λ (rest : List ℕ). pad_line (pair_of t) ++ rest) (cleanups_shown ts)
-
-landing_shown : (o : Option Context) → landing_lines o ≡ handler_lines (option_map landing_of o)
-unfolding landing_line
-landing_shown None = refl
-landing_shown (Some c) = refl
-
--- the report of a delivery is the text of what it shows
-pub report_shown : (d : Delivered) → report_of d ≡ delivery_text (delivery_shown d)
-report_shown d = rw (frames_shown 0 d.visited, cleanups_shown d.trail, landing_shown d.landing) refl
-
--- and so is the report of a walk
-pub walk_shown : (cs : List Context) → walk_report_of cs ≡ walk_text (map state_of cs)
-walk_shown cs = rw (frames_shown 0 cs) refl

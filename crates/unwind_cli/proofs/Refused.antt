@@ -7,15 +7,15 @@ use Rattle.unwind_arch.specs.declared.x86_64.Context.{Context}
 use Rattle.stack_deliver.specs.Delivering.{Delivered}
 use Rattle.stack_deliver.specs.declared.delivery.DeliverError.{DeliverError}
 use Rattle.stack_deliver.specs.declared.delivery.DeliverError.TheVariants.{NoMemory}
-use Rattle.unwind_cli.specs.declared.errors.SnapshotError.{SnapshotError}
-use Rattle.unwind_cli.specs.declared.errors.SnapshotError.TheVariants as faults
+use Rattle.stack_snapshot.specs.declared.errors.SnapshotError.{SnapshotError}
+use Rattle.stack_snapshot.specs.declared.errors.SnapshotError.TheVariants as faults
 use Rattle.unwind_cli.specs.declared.status.Status.{Status}
 use Rattle.unwind_cli.specs.declared.status.Status.TheVariants.{ReadFault, WriteFault, TooLong, Refused, Memory}
 use Rattle.unwind_cli.specs.declared.words.Command.{Command}
 use Rattle.unwind_cli.specs.declared.words.Command.TheVariants.{Deliver, Walk}
-use Rattle.unwind_cli.specs.Answers.{content_of}
-use Rattle.unwind_cli.specs.Content.{Content}
-use Rattle.unwind_cli.specs.Report.{line}
+use Rattle.stack_snapshot.specs.Answers.{content_of}
+use Rattle.stack_snapshot.specs.Content.{Content}
+use Rattle.stack_report.specs.Report.{line}
 use Rattle.unwind_cli.specs.Due.{Verdict, verdict, delivery_from, walk_from, refused_due, delivery_due, walk_due, content_due, command_due, Refuses, Tells, Yields, ComesExactly}
 
 -- a snapshot was read, and the command's work on it meets an error other than want of memory

@@ -4,7 +4,7 @@ use Rattle.unwind_definitions.specs.State.{State}
 use Rattle.unwind_definitions.specs.Function.{Function}
 use Rattle.unwind_definitions.specs.Chain.{Call}
 use Rattle.stack_deliver.specs.Walking.{StartsChain, StartsValidChain}
-use Rattle.unwind_cli.specs.Content.{Content, space_of}
+use Rattle.stack_snapshot.specs.Content.{Content, space_of}
 
 -- The snapshot's modules name frame tables of the forms that are read, which describe functions, and its start shows the
 -- innermost state of a chain of calls over these that is shorter than its limit. Where a handler takes the exception, its

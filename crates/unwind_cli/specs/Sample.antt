@@ -2,8 +2,8 @@
 use Rattle.std.specs.Prelude.{ℕ, List, [], ◌∷◌, ◌++◌, codes, None, false}
 use Rattle.unwind_laws.specs.Pushing.{frames, stack}
 use Rattle.unwinding_core.specs.declared.find_fde.custom.FrameInfoKind.TheVariants.{EhFrame}
-use Rattle.unwind_cli.specs.Content.{Content}
-use Rattle.unwind_cli.specs.Report.{line}
+use Rattle.stack_snapshot.specs.Content.{Content}
+use Rattle.stack_report.specs.Report.{line}
 
 abbrev pub snapshot : Content
 snapshot = record {

@@ -7,7 +7,7 @@ ghost use Rattle.unwind_laws.specs.Pushing.{function, start, calls};
 ghost use Rattle.unwind_laws.specs.Storing as storing;
 ghost use Rattle.unwind_laws.specs.Three as three;
 ghost use Rattle.unwind_cli.specs.Described.{DescribesChain, DescribesWalk};
-ghost use Rattle.unwind_cli.specs.Report.{delivery_text, walk_text};
+ghost use Rattle.stack_report.specs.Report.{delivery_text, walk_text};
 ghost use Rattle.unwind_cli.specs.Sample.{snapshot, text, walked};
 ghost use Rattle.unwind_cli.specs.FramePointer as frame_pointer;
 ghost use Rattle.unwind_cli.specs.Caught as caught;

@@ -3,9 +3,9 @@ use Rattle.std.specs.Fmt.{digits}
 use Rattle.unwind_definitions.specs.State.{CalleeSaved, RBX, RBP, R12, R13, R14, R15, column_of, value_of, Shows}
 use Rattle.unwind_laws.specs.Three.{start}
 use Rattle.unwind_arch.specs.Contexts.{columns_of}
-use Rattle.unwind_cli.specs.Digits.{hexadecimal}
+use Rattle.stack_report.specs.Digits.{hexadecimal}
 use Rattle.unwind_cli.specs.Caught.{snapshot}
-use Rattle.unwind_cli.specs.Report.{state_fields, state_line, pad_line, handler_line}
+use Rattle.stack_report.specs.Report.{state_fields, state_line, pad_line, handler_line}
 use Rattle.unwind_cli.proofs.CaughtReads.{caught_read}
 use Rattle.unwind_cli.proofs.sample.caught_exception_is_described.Goals as goal
 

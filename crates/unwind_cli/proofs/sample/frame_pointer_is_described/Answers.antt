@@ -5,9 +5,9 @@ use Rattle.unwind_definitions.specs.Forms.{emitted}
 use Rattle.unwind_laws.specs.Storing.{start}
 use Rattle.unwind_laws.proofs.StoringValid.{pointed_valid, reads_emitted}
 use Rattle.unwind_arch.specs.Contexts.{columns_of}
-use Rattle.unwind_cli.specs.Digits.{hexadecimal}
+use Rattle.stack_report.specs.Digits.{hexadecimal}
 use Rattle.unwind_cli.specs.FramePointer.{snapshot}
-use Rattle.unwind_cli.specs.Report.{state_fields, state_line}
+use Rattle.stack_report.specs.Report.{state_fields, state_line}
 use Rattle.unwind_cli.proofs.sample.frame_pointer_is_described.Goals as goal
 
 saved : (r : CalleeSaved) → columns_of snapshot.start (column_of r) ≡ Some (value_of r start)

@@ -5,9 +5,9 @@ use Rattle.unwind_definitions.specs.Forms.{emitted}
 use Rattle.unwind_laws.specs.Pushing.{start}
 use Rattle.unwind_laws.proofs.PushingValid.{one_valid, reads_emitted}
 use Rattle.unwind_arch.specs.Contexts.{columns_of}
-use Rattle.unwind_cli.specs.Digits.{hexadecimal}
+use Rattle.stack_report.specs.Digits.{hexadecimal}
 use Rattle.unwind_cli.specs.Sample.{snapshot}
-use Rattle.unwind_cli.specs.Report.{state_fields, state_line}
+use Rattle.stack_report.specs.Report.{state_fields, state_line}
 use Rattle.unwind_cli.proofs.sample.stored_run_is_described.Goals as goal
 
 saved : (r : CalleeSaved) → columns_of snapshot.start (column_of r) ≡ Some (value_of r start)

@@ -1,0 +1,46 @@
+-- Why there is no report.
+use Rattle.std.specs.Prelude.{ℕ, List, ◌++◌, codes}
+use Rattle.unwind_definitions.specs.declared.error.Error.{Error}
+use Rattle.unwind_definitions.specs.declared.error.Error.TheVariants as errors
+use Rattle.stack_deliver.specs.declared.delivery.DeliverError.{DeliverError}
+use Rattle.stack_deliver.specs.declared.delivery.DeliverError.TheVariants as refusals
+use Rattle.stack_report.specs.Digits.{hexadecimal}
+use Rattle.stack_report.specs.Report.{line}
+
+abbrev pub error_name : Error → List ℕ
+error_name errors.UnexpectedEof = codes "UnexpectedEof"
+error_name errors.UnknownPointerEncoding = codes "UnknownPointerEncoding"
+error_name errors.UnsupportedPointerEncoding = codes "UnsupportedPointerEncoding"
+error_name errors.CannotParseOmitPointerEncoding = codes "CannotParseOmitPointerEncoding"
+error_name errors.UndefinedBase = codes "UndefinedBase"
+error_name errors.BadUnsignedLeb128 = codes "BadUnsignedLeb128"
+error_name errors.BadSignedLeb128 = codes "BadSignedLeb128"
+error_name errors.UnknownVersion = codes "UnknownVersion"
+error_name errors.UnsupportedAddressSize = codes "UnsupportedAddressSize"
+error_name errors.UnknownAugmentation = codes "UnknownAugmentation"
+error_name errors.NotCie = codes "NotCie"
+error_name errors.NotFde = codes "NotFde"
+error_name errors.AddressOverflow = codes "AddressOverflow"
+error_name errors.LocationGoesBack = codes "LocationGoesBack"
+error_name errors.UnknownInstruction = codes "UnknownInstruction"
+error_name errors.NoCfaRegister = codes "NoCfaRegister"
+error_name errors.TooManyRegisterRules = codes "TooManyRegisterRules"
+error_name errors.StackFull = codes "StackFull"
+error_name errors.PopWithEmptyStack = codes "PopWithEmptyStack"
+error_name errors.UnsupportedRegister = codes "UnsupportedRegister"
+error_name errors.UnknownOperation = codes "UnknownOperation"
+error_name errors.DivisionByZero = codes "DivisionByZero"
+error_name errors.BadBranch = codes "BadBranch"
+error_name errors.TooManyOperations = codes "TooManyOperations"
+error_name errors.NoUnwindInfoForAddress = codes "NoUnwindInfoForAddress"
+
+abbrev pub refusal_text : DeliverError → List ℕ
+refusal_text refusals.NoMemory = codes "no memory"
+refusal_text (refusals.Unmapped a) = codes "unmapped " ++ hexadecimal a
+refusal_text refusals.FrameLimit = codes "frame limit"
+refusal_text refusals.PassLimit = codes "pass limit"
+refusal_text (refusals.NoResume pad) = codes "no resume " ++ hexadecimal pad
+refusal_text (refusals.Table e) = codes "table " ++ error_name e
+
+abbrev pub refused_line : DeliverError → List ℕ
+refused_line e = line (codes "refused: " ++ refusal_text e)

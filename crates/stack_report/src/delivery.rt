@@ -1,0 +1,86 @@
+// The report of a delivery.
+ghost use Rattle.std.specs.Prelude.{◌≡◌, ◌++◌, IfOk, OnOk};
+ghost use Rattle.stack_report.specs.Report.{frame_lines, cleanup_line, cleanup_lines, landing_line, outcome_name, outcome_line, report_of};
+
+use crate::buffer::Report;
+use crate::states::{put_fields, put_frame};
+use stack_deliver::{Context, Delivery, Outcome, Trail};
+use std::alloc::{AllocError, Global};
+
+fn name_of(outcome: Outcome) -> &'static str
+    ensures { result.now ≡ outcome_name outcome }
+{
+    match outcome {
+        Outcome::Installed => "installed",
+        Outcome::EndOfStack => "end of stack",
+        Outcome::FatalPhase1 => "fatal phase 1",
+        Outcome::FatalPhase2 => "fatal phase 2",
+    }
+}
+
+#[tactic(auto, unfolding(crate::specs::Report::cleanup_line, crate::specs::Report::pad_line))]
+fn put_cleanup(report: &mut Report, trail: Trail) -> Result<(), AllocError>
+    ensures { OnOk result (report.new ≡ report.old ++ cleanup_line trail) }
+{
+    report.put_field("cleanup pad=", trail.pad)?;
+    report.put_field(" sp=", trail.sp)?;
+    report.end_line()
+}
+
+#[tactic(auto, unfolding(crate::specs::Report::landing_line, crate::specs::Report::handler_line, crate::specs::Report::fields_text))]
+fn put_landing(report: &mut Report, state: &Context) -> Result<(), AllocError>
+    ensures { OnOk result (report.new ≡ report.old ++ landing_line state.now) }
+{
+    report.put("landing")?;
+    put_fields(report, state)?;
+    report.put_field(" rax=", state.registers[0])?;
+    report.put_field(" rdx=", state.registers[1])?;
+    report.end_line()
+}
+
+fn put_outcome(report: &mut Report, outcome: Outcome) -> Result<(), AllocError>
+    ensures { OnOk result (report.new ≡ report.old ++ outcome_line outcome) }
+{
+    report.put("outcome ")?;
+    report.put(name_of(outcome))?;
+    report.end_line()
+}
+
+fn put_frames(report: &mut Report, delivery: &Delivery) -> Result<(), AllocError>
+    ensures { OnOk result (report.new ≡ report.old ++ frame_lines 0 delivery.now.visited) }
+{
+    for index in 0..delivery.visited_len() {
+        let state = delivery.visited(index).unwrap();
+        put_frame(report, index, &state)?;
+    }
+    Ok(())
+}
+
+fn put_cleanups(report: &mut Report, delivery: &Delivery) -> Result<(), AllocError>
+    ensures { OnOk result (report.new ≡ report.old ++ cleanup_lines delivery.now.trail) }
+{
+    for index in 0..delivery.trail_len() {
+        let trail = delivery.trail(index).unwrap();
+        put_cleanup(report, trail)?;
+    }
+    Ok(())
+}
+
+/// The report of a delivery: a line for each visited state, a line for each cleanup, the state at
+/// the handler where one accepted, and how the delivery ended.
+///
+/// # Errors
+///
+/// `AllocError` where memory ran out.
+pub fn report_of(alloc: Global, delivery: &Delivery) -> Result<Report, AllocError>
+    ensures { IfOk result (λ report. report ≡ report_of delivery.now) }
+{
+    let mut report = Report::new(alloc);
+    put_frames(&mut report, delivery)?;
+    put_cleanups(&mut report, delivery)?;
+    if let Some(state) = delivery.landing() {
+        put_landing(&mut report, &state)?;
+    }
+    put_outcome(&mut report, delivery.outcome())?;
+    Ok(report)
+}

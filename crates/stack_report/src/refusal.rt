@@ -1,0 +1,74 @@
+// Why there is no report.
+ghost use Rattle.std.specs.Prelude.{◌≡◌, ◌++◌, IfOk, OnOk};
+ghost use Rattle.stack_report.specs.Refusals.{error_name, refusal_text, refused_line};
+
+use crate::buffer::Report;
+use stack_deliver::{DeliverError, Error};
+use std::alloc::{AllocError, Global};
+
+fn error_name(error: Error) -> &'static str
+    ensures { result.now ≡ error_name error }
+{
+    match error {
+        Error::UnexpectedEof => "UnexpectedEof",
+        Error::UnknownPointerEncoding => "UnknownPointerEncoding",
+        Error::UnsupportedPointerEncoding => "UnsupportedPointerEncoding",
+        Error::CannotParseOmitPointerEncoding => "CannotParseOmitPointerEncoding",
+        Error::UndefinedBase => "UndefinedBase",
+        Error::BadUnsignedLeb128 => "BadUnsignedLeb128",
+        Error::BadSignedLeb128 => "BadSignedLeb128",
+        Error::UnknownVersion => "UnknownVersion",
+        Error::UnsupportedAddressSize => "UnsupportedAddressSize",
+        Error::UnknownAugmentation => "UnknownAugmentation",
+        Error::NotCie => "NotCie",
+        Error::NotFde => "NotFde",
+        Error::AddressOverflow => "AddressOverflow",
+        Error::LocationGoesBack => "LocationGoesBack",
+        Error::UnknownInstruction => "UnknownInstruction",
+        Error::NoCfaRegister => "NoCfaRegister",
+        Error::TooManyRegisterRules => "TooManyRegisterRules",
+        Error::StackFull => "StackFull",
+        Error::PopWithEmptyStack => "PopWithEmptyStack",
+        Error::UnsupportedRegister => "UnsupportedRegister",
+        Error::UnknownOperation => "UnknownOperation",
+        Error::DivisionByZero => "DivisionByZero",
+        Error::BadBranch => "BadBranch",
+        Error::TooManyOperations => "TooManyOperations",
+        Error::NoUnwindInfoForAddress => "NoUnwindInfoForAddress",
+    }
+}
+
+fn put_named(report: &mut Report, label: &str, name: &str) -> Result<(), AllocError>
+    ensures { OnOk result (report.new ≡ report.old ++ (label.now ++ name.now)) }
+{
+    report.put(label)?;
+    report.put(name)
+}
+
+fn put_refusal(report: &mut Report, error: DeliverError) -> Result<(), AllocError>
+    ensures { OnOk result (report.new ≡ report.old ++ refusal_text error) }
+{
+    match error {
+        DeliverError::NoMemory => report.put("no memory"),
+        DeliverError::Unmapped(address) => report.put_field("unmapped ", address),
+        DeliverError::FrameLimit => report.put("frame limit"),
+        DeliverError::PassLimit => report.put("pass limit"),
+        DeliverError::NoResume(pad) => report.put_field("no resume ", pad),
+        DeliverError::Table(error) => put_named(report, "table ", error_name(error)),
+    }
+}
+
+/// Says why nothing was delivered or walked, in a line.
+///
+/// # Errors
+///
+/// `AllocError` where memory ran out.
+pub fn refused_line(alloc: Global, error: DeliverError) -> Result<Report, AllocError>
+    ensures { IfOk result (λ report. report ≡ refused_line error) }
+{
+    let mut report = Report::new(alloc);
+    report.put("refused: ")?;
+    put_refusal(&mut report, error)?;
+    report.end_line()?;
+    Ok(report)
+}

@@ -1,0 +1,20 @@
+-- Lists that are read item by item.
+use Rattle.std.proofs.Common.{ℕ, ◌≡◌, ◌≢◌, List, [], ◌∷◌, ◌++◌, length, Option, None, option_map, refl}
+use Rattle.serde_json.specs.View.{items_view}
+use Rattle.serde_json.specs.declared.value.Value.{Value}
+use Rattle.stack_deliver.specs.Resumes.{with_resumes}
+use Rattle.stack_snapshot.specs.Snapshot.{resume_in}
+
+-- the values before, and then those that are read
+abbrev pub with_front : {A : Type 0} → List A → Option (List A) → Option (List A)
+with_front front read = option_map (λ xs. front ++ xs) read
+
+-- the table after those that are read
+abbrev pub with_table : List (ℕ × ℕ) → Option (List (ℕ × ℕ)) → Option (List (ℕ × ℕ))
+with_table table read = option_map (λ es. with_resumes table es) read
+
+pub resume_in_other : (vs : List Value) → length vs ≢ 2 → resume_in (items_view vs) ≡ None
+resume_in_other [] h = refl
+resume_in_other (a ∷ []) h = refl
+resume_in_other (a ∷ b ∷ []) h = absurd (h refl)
+resume_in_other (a ∷ b ∷ c ∷ vs) h = refl

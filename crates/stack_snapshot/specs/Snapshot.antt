@@ -1,0 +1,167 @@
+-- What a JSON value says as a snapshot, or which of its fields is the first faulty one.
+use Rattle.std.specs.Prelude.{ℕ, ◌&&◌, ◌||◌, Bool, is_some, List, [], ◌∷◌, Option, Some, None, Result, Ok, Err, codes, nat_le, if◌then◌else◌, option_map, option_and_then}
+use Rattle.serde_json.specs.Data.{Data, Items, no_items, item}
+use Rattle.serde_json.specs.Find.{get, as_array, as_object, as_str}
+use Rattle.serde_json.specs.Written.{has_float}
+use Rattle.memory_image.specs.Image.{Span}
+use Rattle.unwind_arch.specs.declared.x86_64.Context.{Context}
+use Rattle.stack_deliver.specs.declared.space.Module.{Module}
+use Rattle.unwinding_core.specs.declared.find_fde.custom.FrameInfo.{FrameInfo}
+use Rattle.unwinding_core.specs.declared.find_fde.custom.FrameInfoKind.TheVariants.{EhFrame}
+use Rattle.stack_deliver.specs.Resumes.{resume_table}
+use Rattle.stack_snapshot.specs.declared.errors.Field.{Field}
+use Rattle.stack_snapshot.specs.declared.errors.Field.TheVariants as fields
+use Rattle.std.specs.Str.{bytes_eq}
+use Rattle.stack_snapshot.specs.Fields.{as_word, word_at, word_or_zero_at, bytes_at, number_at, flag_or_false}
+use Rattle.stack_snapshot.specs.Content.{Content, takes_regions, takes_modules}
+
+-- the second reading, where the first one gave a value
+infixl 10 ◌>>=◌
+abbrev pub ◌>>=◌ : {A B : Type 0} → Result A Field → (A → Result B Field) → Result B Field
+Ok x >>= f = f x
+Err e >>= f = Err e
+
+-- a value, or the fault of a field
+abbrev pub needs : {A : Type 0} → Field → Option A → Result A Field
+needs field None = Err field
+needs field (Some x) = Ok x
+
+-- what each item says, where each of them says something
+abbrev pub each_of : {A : Type 0} → (Data → Option A) → Items → Option (List A)
+each_of f no_items = Some []
+each_of f (item d ds) = option_and_then (λ x. option_map (λ xs. x ∷ xs) (each_of f ds)) (f d)
+
+-- ---- regions
+
+-- an address and bytes
+abbrev pub region_with : List ℕ → ℕ → Span
+region_with bytes address = record { start = address; bytes = bytes }
+
+-- the region that an object says
+abbrev pub region_of : Data → Option Span
+region_of d = option_and_then (λ bytes. option_map (region_with bytes) (word_at (codes "address") d)) (bytes_at (codes "bytes") d)
+
+-- each item a region
+abbrev pub region_list : Items → Option (List Span)
+region_list = each_of region_of
+
+-- the regions where an image takes them
+abbrev pub if_taken : List Span → Option (List Span)
+if_taken rs = if takes_regions [] rs then Some rs else None
+
+-- regions that an image takes, one after another
+unfoldable pub regions_of : Data → Option (List Span)
+regions_of d = option_and_then if_taken (option_and_then region_list (option_and_then as_array (get (codes "regions") d)))
+
+-- ---- modules
+
+-- the frame table of a module; a header table and a base of the text are refused so far
+abbrev pub frame_info_with : ℕ → FrameInfo
+frame_info_with table = record { text_base = None; kind = EhFrame table }
+
+-- exactly the frame table
+abbrev pub frame_info_of : Data → Option FrameInfo
+frame_info_of d = if is_some (get (codes "eh_frame_hdr") d) || is_some (get (codes "text_base") d) then None else option_map frame_info_with (word_at (codes "eh_frame") d)
+
+-- the addresses from start to before end, and the frame table
+abbrev pub elf_of : Data → Option Module
+elf_of d = option_and_then (λ start. option_and_then (λ end. option_map (λ frame. record { start = start; end = end; frame = frame }) (frame_info_of d)) (word_at (codes "end") d)) (word_at (codes "start") d)
+
+-- a module of the kind that is named; ELF is the only one so far
+abbrev pub module_of_kind : Data → List ℕ → Option Module
+module_of_kind d kind = if bytes_eq kind (codes "elf") then elf_of d else None
+
+-- the module that an object says
+abbrev pub module_of : Data → Option Module
+module_of d = option_and_then (module_of_kind d) (option_and_then as_str (get (codes "kind") d))
+
+-- each item a module
+abbrev pub module_list : Items → Option (List Module)
+module_list = each_of module_of
+
+-- the modules where a space takes them
+abbrev pub if_spaced : List Module → Option (List Module)
+if_spaced ms = if takes_modules [] ms then Some ms else None
+
+-- modules that a space takes, one after another
+unfoldable pub modules_of : Data → Option (List Module)
+modules_of d = option_and_then if_spaced (option_and_then module_list (option_and_then as_array (get (codes "modules") d)))
+
+-- ---- the start
+
+-- the words at sixteen keys, 0 where a key is missing
+abbrev pub registers_in : List (List ℕ) → Data → Option (List ℕ)
+registers_in [] d = Some []
+registers_in (key ∷ keys) d = option_and_then (λ w. option_map (λ ws. w ∷ ws) (registers_in keys d)) (word_or_zero_at key d)
+
+-- the general registers by their columns
+abbrev pub register_names : List (List ℕ)
+register_names = codes "rax" ∷ codes "rdx" ∷ codes "rcx" ∷ codes "rbx" ∷ codes "rsi" ∷ codes "rdi" ∷ codes "rbp" ∷ codes "rsp" ∷ codes "r8" ∷ codes "r9" ∷ codes "r10" ∷ codes "r11" ∷ codes "r12" ∷ codes "r13" ∷ codes "r14" ∷ codes "r15" ∷ []
+
+-- an instruction pointer and the general registers; the control registers are 0
+abbrev pub context_with : ℕ → List ℕ → Context
+context_with rip registers = record { registers = registers; ra = rip; mcxsr = 0; fcw = 0 }
+
+-- the instruction pointer and the stack pointer have to be there
+abbrev pub start_in : Data → Option Context
+start_in d = option_and_then (λ rip. option_and_then (λ rsp. option_map (context_with rip) (registers_in register_names d)) (word_at (codes "rsp") d)) (word_at (codes "rip") d)
+
+-- the registers at the start
+unfoldable pub start_of : Data → Option Context
+start_of d = option_and_then start_in (get (codes "start") d)
+
+-- ---- the other fields
+
+-- exactly two words
+abbrev pub resume_in : Items → Option (ℕ × ℕ)
+resume_in no_items = None
+resume_in (item pad no_items) = None
+resume_in (item pad (item ret no_items)) = option_and_then (λ p. option_map (λ r. (p, r)) (as_word ret)) (as_word pad)
+resume_in (item pad (item ret (item d ds))) = None
+
+-- an array of exactly two words
+abbrev pub resume_of : Data → Option (ℕ × ℕ)
+resume_of d = option_and_then resume_in (as_array d)
+
+-- each item a landing pad and its return address
+abbrev pub resume_list : Items → Option (List (ℕ × ℕ))
+resume_list = each_of resume_of
+
+-- the return addresses by pad: of several entries of one pad the first counts
+abbrev pub resumes_by : Option Data → Option (List (ℕ × ℕ))
+resumes_by None = Some []
+resumes_by (Some d) = option_map resume_table (option_and_then resume_list (as_array d))
+
+-- the return addresses by pad, none where the field is missing
+unfoldable pub resumes_of : Data → Option (List (ℕ × ℕ))
+resumes_of d = resumes_by (get (codes "resumes") d)
+
+-- 1 to 1,048,576
+abbrev pub if_in_range : ℕ → Option ℕ
+if_in_range n = if nat_le 1 n && nat_le n 1048576 then Some n else None
+
+-- the most states of a pass
+unfoldable pub limit_of : Data → Option ℕ
+limit_of d = option_and_then if_in_range (number_at (codes "limit") d)
+
+-- whether the start stands before its instruction, false where the field is missing
+unfoldable pub interrupted_of : Data → Option Bool
+interrupted_of d = flag_or_false (get (codes "interrupted") d)
+
+-- an object without a float at any place
+unfoldable pub whole_numbers : Data → Option Data
+whole_numbers d = if has_float d then None else option_map (λ members. d) (as_object d)
+
+-- the snapshot that a value says, or the first faulty field
+unfoldable pub snapshot_of : Data → Result Content Field
+snapshot_of d = do
+  whole ← needs fields.Object (whole_numbers d)
+  regions ← needs fields.Regions (regions_of d)
+  modules ← needs fields.Modules (modules_of d)
+  start ← needs fields.Start (start_of d)
+  exception ← needs fields.Exception (word_or_zero_at (codes "exception") d)
+  class ← needs fields.Class (word_or_zero_at (codes "class") d)
+  resumes ← needs fields.Resumes (resumes_of d)
+  limit ← needs fields.Limit (limit_of d)
+  interrupted ← needs fields.Interrupted (interrupted_of d)
+  Ok (record { regions = regions; modules = modules; start = start; exception = exception; class = class; resumes = resumes; limit = limit; interrupted = interrupted })

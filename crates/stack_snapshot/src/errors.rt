@@ -1,0 +1,75 @@
+// Why bytes are no snapshot.
+ghost use Rattle.std.specs.Prelude.{◌≡◌, Some};
+ghost use Rattle.stack_snapshot.specs.declared.errors.SnapshotError.TheVariants.{NoMemory};
+ghost use Rattle.stack_snapshot.specs.Names.{field_name};
+
+use std::alloc::{AllocError, AllocFailed};
+
+/// A part of a snapshot, in the order in which faults are looked for.
+#[derive(Clone, Copy, Debug, PartialEq, Eq)]
+pub enum Field {
+    /// The whole value: it is no object, or a number in it is no 64-bit integer.
+    Object,
+    /// The memory.
+    Regions,
+    /// The modules in it.
+    Modules,
+    /// The registers from which the stack is unwound.
+    Start,
+    /// The exception's word.
+    Exception,
+    /// The exception's class.
+    Class,
+    /// The return addresses of landing pads.
+    Resumes,
+    /// The most states of a pass.
+    Limit,
+    /// Whether the start stands before its instruction and not behind a call.
+    Interrupted,
+}
+
+impl Field {
+    /// The part's name, in lower case.
+    pub fn name(&self) -> &'static str
+        ensures { result.now ≡ field_name self.now }
+    {
+        match self {
+            Field::Object => "object",
+            Field::Regions => "regions",
+            Field::Modules => "modules",
+            Field::Start => "start",
+            Field::Exception => "exception",
+            Field::Class => "class",
+            Field::Resumes => "resumes",
+            Field::Limit => "limit",
+            Field::Interrupted => "interrupted",
+        }
+    }
+}
+
+/// Why bytes are no snapshot.
+#[derive(Clone, Copy, Debug, PartialEq, Eq)]
+pub enum SnapshotError {
+    /// Memory ran out.
+    NoMemory,
+    /// The bytes are no JSON text, or arrays and objects are nested more than 127 deep.
+    NotJson,
+    /// The JSON value is no snapshot; this is its first faulty field.
+    Bad(Field),
+}
+
+impl From<AllocError> for SnapshotError {
+    ghost from_gives = { λ _ e. e ≡ NoMemory };
+
+    fn from(_e: AllocError) -> SnapshotError {
+        SnapshotError::NoMemory
+    }
+}
+
+impl<T: Drop> From<AllocFailed<T>> for SnapshotError {
+    ghost from_gives = { λ _ e. e ≡ NoMemory };
+
+    fn from(_e: AllocFailed<T>) -> SnapshotError {
+        SnapshotError::NoMemory
+    }
+}

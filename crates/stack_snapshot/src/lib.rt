@@ -1,0 +1,13 @@
+//! Reads a snapshot of a stopped thread from JSON: regions of memory, the modules that lie in them, the
+//! registers from which the stack is unwound, and the delivery that is asked for. docs/FORMATS.md has
+//! the format.
+#![tactic(auto)]
+
+mod errors;
+mod fields;
+mod reading;
+mod snapshot;
+
+pub use errors::{Field, SnapshotError};
+pub use reading::read_snapshot;
+pub use snapshot::Snapshot;

@@ -1,0 +1,303 @@
+// From JSON to a snapshot.
+ghost use Rattle.std.specs.Prelude.{◌≡◌, ◌<◌, [], true, length, IfOk, Err, ◌⊎◌, is_some, option_map};
+ghost use Rattle.serde_json.specs.Find.{get};
+ghost use Rattle.serde_json.specs.View.{view, items_view};
+ghost use Rattle.stack_snapshot.specs.Snapshot.{needs, region_of, region_list, regions_of, frame_info_of, elf_of, module_of, module_list, modules_of, registers_in, register_names, start_of, resume_in, resume_of, resume_list, resumes_of, limit_of, interrupted_of, whole_numbers, snapshot_of};
+ghost use Rattle.stack_deliver.specs.Resumes.{resume_table};
+ghost use Rattle.stack_snapshot.specs.Fields.{bytes_at};
+ghost use Rattle.stack_snapshot.specs.Answers.{Gives, content_of};
+ghost use Rattle.stack_snapshot.specs.Content.{takes_regions, takes_modules};
+ghost use Rattle.stack_snapshot.specs.Owned.{span_of, spans_of};
+
+use crate::errors::{Field, SnapshotError};
+use crate::fields::{as_word, has_float, number_at, word_at, word_or_zero_at};
+use crate::snapshot::{Region, Snapshot, image_of_regions, space_of_modules};
+use hex::FromHexError;
+use memory_image::MemoryImage;
+use serde_json::Value;
+use stack_deliver::{Context, FrameInfo, FrameInfoKind, Module, Resumes};
+use std::alloc::Global;
+
+/// The bytes at a key, or the fault of the field.
+fn bytes_at(alloc: Global, value: &Value, key: &str, field: Field) -> Result<Vec<u8>, SnapshotError>
+    ensures { Gives (λ bytes. bytes.items) result (needs field (bytes_at key.now (view value.now))) }
+{
+    let text = value
+        .get(key)
+        .and_then(Value::as_str)
+        .ok_or(SnapshotError::Bad(field))?;
+    match hex::decode(alloc, text) {
+        Ok(bytes) => Ok(bytes),
+        Err(FromHexError::OutOfMemory) => Err(SnapshotError::NoMemory),
+        Err(_) => Err(SnapshotError::Bad(field)),
+    }
+}
+
+/// The region that an object says.
+fn region_of(alloc: Global, value: &Value) -> Result<Region, SnapshotError>
+    ensures { Gives span_of result (needs Field.Regions (region_of (view value.now))) }
+{
+    let bytes = bytes_at(alloc, value, "bytes", Field::Regions)?;
+    let address = word_at(value, "address").ok_or(SnapshotError::Bad(Field::Regions))?;
+    Ok(Region { address, bytes })
+}
+
+/// Each item a region.
+fn region_list(alloc: Global, items: &[Value]) -> Result<Vec<Region>, SnapshotError>
+    ensures { Gives (λ regions. spans_of regions.items) result (needs Field.Regions (region_list (items_view items.now))) }
+{
+    let mut regions = Vec::new(alloc);
+    for item in items {
+        regions.push(region_of(alloc, item)?)?;
+    }
+    Ok(regions)
+}
+
+/// The regions, which an image takes in their order.
+#[tactic(auto, unfolding(crate::specs::Snapshot::regions_of))]
+fn regions_of(alloc: Global, value: &Value) -> Result<Vec<Region>, SnapshotError>
+    ensures reads { Gives (λ regions. spans_of regions.items) result (needs Field.Regions (regions_of (view value.now))) }
+    ensures taken { IfOk result (λ regions. takes_regions [] (spans_of regions.items) ≡ true) }
+{
+    let items = value
+        .get("regions")
+        .and_then(Value::as_array)
+        .ok_or(SnapshotError::Bad(Field::Regions))?;
+    let regions = region_list(alloc, items)?;
+    match image_of_regions(alloc, &regions)? {
+        Some(_) => {}
+        None => return Err(SnapshotError::Bad(Field::Regions)),
+    }
+    Ok(regions)
+}
+
+/// The frame table of a module. A header table and a base of the text are refused so far.
+fn frame_info_of(value: &Value) -> Option<FrameInfo>
+    ensures { result ≡ frame_info_of (view value.now) }
+{
+    if value.get("eh_frame_hdr").is_some() || value.get("text_base").is_some() {
+        return None;
+    }
+    let table = word_at(value, "eh_frame")?;
+    Some(FrameInfo {
+        text_base: None,
+        kind: FrameInfoKind::EhFrame(table),
+    })
+}
+
+/// The addresses of an ELF module and its frame table.
+fn elf_of(value: &Value) -> Option<Module>
+    ensures { result ≡ elf_of (view value.now) }
+{
+    let start = word_at(value, "start")?;
+    let end = word_at(value, "end")?;
+    let frame = frame_info_of(value)?;
+    Some(Module { start, end, frame })
+}
+
+/// The module that an object says.
+fn module_of(value: &Value) -> Option<Module>
+    ensures { result ≡ module_of (view value.now) }
+{
+    match value.get("kind")?.as_str()? {
+        "elf" => elf_of(value),
+        _ => None,
+    }
+}
+
+/// Each item a module.
+fn module_list(alloc: Global, items: &[Value]) -> Result<Vec<Module>, SnapshotError>
+    ensures { Gives (λ modules. modules.items) result (needs Field.Modules (module_list (items_view items.now))) }
+{
+    let mut modules = Vec::new(alloc);
+    for item in items {
+        modules.push(module_of(item).ok_or(SnapshotError::Bad(Field::Modules))?)?;
+    }
+    Ok(modules)
+}
+
+/// The modules, which a space takes in their order.
+#[tactic(auto, unfolding(crate::specs::Snapshot::modules_of))]
+fn modules_of(alloc: Global, value: &Value) -> Result<Vec<Module>, SnapshotError>
+    ensures reads { Gives (λ modules. modules.items) result (needs Field.Modules (modules_of (view value.now))) }
+    ensures taken { IfOk result (λ modules. takes_modules [] modules.items ≡ true) }
+{
+    let items = value
+        .get("modules")
+        .and_then(Value::as_array)
+        .ok_or(SnapshotError::Bad(Field::Modules))?;
+    let modules = module_list(alloc, items)?;
+    match space_of_modules(alloc, MemoryImage::new(alloc), &modules)? {
+        Some(_) => {}
+        None => return Err(SnapshotError::Bad(Field::Modules)),
+    }
+    Ok(modules)
+}
+
+/// The general registers by their columns, 0 where a word is missing.
+fn registers_of(start: &Value) -> Option<[u64; 16]>
+    ensures { result ≡ registers_in register_names (view start.now) }
+{
+    Some([
+        word_or_zero_at(start, "rax")?,
+        word_or_zero_at(start, "rdx")?,
+        word_or_zero_at(start, "rcx")?,
+        word_or_zero_at(start, "rbx")?,
+        word_or_zero_at(start, "rsi")?,
+        word_or_zero_at(start, "rdi")?,
+        word_or_zero_at(start, "rbp")?,
+        word_or_zero_at(start, "rsp")?,
+        word_or_zero_at(start, "r8")?,
+        word_or_zero_at(start, "r9")?,
+        word_or_zero_at(start, "r10")?,
+        word_or_zero_at(start, "r11")?,
+        word_or_zero_at(start, "r12")?,
+        word_or_zero_at(start, "r13")?,
+        word_or_zero_at(start, "r14")?,
+        word_or_zero_at(start, "r15")?,
+    ])
+}
+
+/// The registers at the start.
+#[tactic(auto, unfolding(crate::specs::Snapshot::start_of))]
+fn start_of(value: &Value) -> Option<Context>
+    ensures { result ≡ start_of (view value.now) }
+{
+    let start = value.get("start")?;
+    let ra = word_at(start, "rip")?;
+    word_at(start, "rsp")?;
+    let registers = registers_of(start)?;
+    Some(Context {
+        registers,
+        ra,
+        mcxsr: 0,
+        fcw: 0,
+    })
+}
+
+/// An array of exactly two words.
+fn resume_of(value: &Value) -> Option<(u64, u64)>
+    ensures { result ≡ resume_of (view value.now) }
+{
+    resume_in(value.as_array()?)
+}
+
+/// Exactly two words.
+fn resume_in(items: &[Value]) -> Option<(u64, u64)>
+    ensures { result ≡ resume_in (items_view items.now) }
+{
+    match items {
+        [pad, ret] => Some((as_word(pad)?, as_word(ret)?)),
+        _ => None,
+    }
+}
+
+/// Each item a landing pad and its return address.
+fn resume_list(alloc: Global, items: &[Value]) -> Result<Resumes, SnapshotError>
+    ensures { Gives (λ resumes. resumes) result (needs Field.Resumes (option_map resume_table (resume_list (items_view items.now)))) }
+{
+    let mut resumes = Resumes::new(alloc);
+    for item in items {
+        let (pad, ret) = resume_of(item).ok_or(SnapshotError::Bad(Field::Resumes))?;
+        resumes.add(pad, ret)?;
+    }
+    Ok(resumes)
+}
+
+/// The return addresses by pad, none where the field is missing.
+#[tactic(auto, unfolding(crate::specs::Snapshot::resumes_of))]
+fn resumes_of(alloc: Global, value: &Value) -> Result<Resumes, SnapshotError>
+    ensures { Gives (λ resumes. resumes) result (needs Field.Resumes (resumes_of (view value.now))) }
+{
+    match value.get("resumes") {
+        None => Ok(Resumes::new(alloc)),
+        Some(found) => match found.as_array() {
+            Some(items) => resume_list(alloc, items),
+            None => Err(SnapshotError::Bad(Field::Resumes)),
+        },
+    }
+}
+
+/// The most states of a pass.
+#[tactic(auto, unfolding(crate::specs::Snapshot::limit_of))]
+fn limit_of(value: &Value) -> Option<u32>
+    ensures { result ≡ limit_of (view value.now) }
+{
+    let limit = number_at(value, "limit")?;
+    if 1 <= limit && limit <= 1_048_576 {
+        Some(limit as u32)
+    } else {
+        None
+    }
+}
+
+/// Whether the start stands before its instruction, false where the field is missing.
+#[tactic(auto, unfolding(crate::specs::Snapshot::interrupted_of))]
+fn interrupted_of(value: &Value) -> Option<bool>
+    ensures { result ≡ interrupted_of (view value.now) }
+{
+    match value.get("interrupted") {
+        Some(found) => found.as_bool(),
+        None => Some(false),
+    }
+}
+
+/// Whether the value is an object in which every number is a 64-bit integer.
+#[tactic(auto, unfolding(crate::specs::Snapshot::whole_numbers))]
+fn is_whole(value: &Value) -> bool
+    ensures { result ≡ is_some (whole_numbers (view value.now)) }
+{
+    !has_float(value) && value.is_object()
+}
+
+/// The snapshot that a value says, or its first faulty field.
+#[tactic(auto, unfolding(crate::specs::Snapshot::snapshot_of))]
+fn snapshot_of(alloc: Global, value: &Value) -> Result<Snapshot, SnapshotError>
+    ensures { Gives (λ snapshot. snapshot) result (snapshot_of (view value.now)) }
+{
+    if !is_whole(value) {
+        return Err(SnapshotError::Bad(Field::Object));
+    }
+    let regions = regions_of(alloc, value)?;
+    let modules = modules_of(alloc, value)?;
+    let start = start_of(value).ok_or(SnapshotError::Bad(Field::Start))?;
+    let exception = word_or_zero_at(value, "exception").ok_or(SnapshotError::Bad(
+        Field::Exception,
+    ))?;
+    let class = word_or_zero_at(value, "class").ok_or(SnapshotError::Bad(Field::Class))?;
+    let resumes = resumes_of(alloc, value)?;
+    let limit = limit_of(value).ok_or(SnapshotError::Bad(Field::Limit))?;
+    let interrupted = interrupted_of(value).ok_or(SnapshotError::Bad(Field::Interrupted))?;
+    Ok(Snapshot {
+        regions,
+        modules,
+        start,
+        exception,
+        class,
+        resumes,
+        limit,
+        interrupted,
+    })
+}
+
+/// Reads a snapshot.
+///
+/// # Errors
+///
+/// In this order: `NotJson` where the bytes are no JSON text, `Bad` with the first faulty field
+/// where the value is no snapshot. `NoMemory` may come in the place of each answer.
+pub fn read_snapshot(alloc: Global, bytes: &[u8]) -> Result<Snapshot, SnapshotError>
+    ensures reads { (result ≡ Err SnapshotError.NoMemory) ⊎ (result ≡ content_of bytes.now) }
+    ensures memory { result ≡ Err SnapshotError.NoMemory → 0 < length bytes.now }
+{
+    let value = match Value::from_slice(alloc, bytes) {
+        Ok(value) => value,
+        Err(error) => {
+            if error.is_memory() {
+                return Err(SnapshotError::NoMemory);
+            }
+            return Err(SnapshotError::NotJson);
+        }
+    };
+    snapshot_of(alloc, &value)
+}

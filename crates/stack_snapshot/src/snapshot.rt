@@ -1,0 +1,147 @@
+// A snapshot: memory by regions, the modules in it, and a delivery to make.
+ghost use Rattle.std.specs.Prelude.{◌≡◌, IfOk, MatchOption, true, false, []};
+ghost use Rattle.stack_snapshot.specs.Content.{image_of, modules_after, space_of, takes_regions, takes_modules};
+ghost use Rattle.stack_snapshot.specs.Owned.{spans_of};
+
+use memory_image::{ImageError, MemoryImage};
+use stack_deliver::{Context, Module, Resumes, Space, SpaceError};
+use std::alloc::{AllocError, Global};
+use std::marker::Model;
+
+/// Bytes that lie at an address and behind it.
+#[derive(Drop)]
+pub struct Region {
+    pub address: u64,
+    pub bytes: Vec<u8>,
+}
+
+/// A stack with what belongs to it: memory, the modules in it, and a delivery to make.
+///
+/// Its regions are accepted by an image and its modules by a space, in order.
+#[derive(Drop)]
+pub struct Snapshot {
+    pub(crate) regions: Vec<Region>,
+    pub(crate) modules: Vec<Module>,
+    pub(crate) start: Context,
+    pub(crate) exception: u64,
+    pub(crate) class: u64,
+    pub(crate) resumes: Resumes,
+    pub(crate) limit: u32,
+    pub(crate) interrupted: bool,
+}
+
+impl Model for Snapshot {
+    ghost use Rattle.std.specs.Prelude.{◌≡◌, [], true};
+    ghost use Rattle.stack_snapshot.specs.Content.{Content, takes_regions, takes_modules};
+    ghost use Rattle.stack_snapshot.specs.Owned.{spans_of};
+
+    ghost Value = { Content };
+
+    ghost view = { λ s. record { regions = spans_of s.regions.items; modules = s.modules.items; start = s.start; exception = s.exception; class = s.class; resumes = s.resumes; limit = s.limit; interrupted = s.interrupted } };
+
+    ghost invariant = { λ s. (takes_regions [] (spans_of s.regions.items) ≡ true) × (takes_modules [] s.modules.items ≡ true) };
+}
+
+impl Snapshot {
+    /// The registers from which the stack is unwound.
+    pub fn start(&self) -> Context
+        ensures { result ≡ self.now.start }
+    {
+        self.start
+    }
+
+    /// The exception's word, which the handler gets.
+    pub fn exception(&self) -> u64
+        ensures { result ≡ self.now.exception }
+    {
+        self.exception
+    }
+
+    /// The exception's class.
+    pub fn class(&self) -> u64
+        ensures { result ≡ self.now.class }
+    {
+        self.class
+    }
+
+    /// The return addresses of landing pads.
+    pub fn resumes(&self) -> &Resumes
+        ensures { result.now ≡ self.now.resumes }
+    {
+        &self.resumes
+    }
+
+    /// The most states of a pass, from 1 to 1,048,576.
+    pub fn limit(&self) -> u32
+        ensures { result ≡ self.now.limit }
+    {
+        self.limit
+    }
+
+    /// Whether the start stands before its instruction and not behind a call.
+    pub fn interrupted(&self) -> bool
+        ensures { result ≡ self.now.interrupted }
+    {
+        self.interrupted
+    }
+
+    /// What is unwound: the image of the regions, with the modules in it.
+    ///
+    /// # Errors
+    ///
+    /// `AllocError` where memory ran out.
+    pub fn space(&self, alloc: Global) -> Result<Space<'_>, AllocError>
+        ensures { IfOk result (λ space. space ≡ space_of self.now) }
+    {
+        let _modules = &self.modules;
+        let image = match image_of_regions(alloc, &self.regions) {
+            Ok(Some(image)) => image,
+            Ok(None) => unreachable!(),
+            Err(error) => return Err(error),
+        };
+        match space_of_modules(alloc, image, &self.modules) {
+            Ok(Some(space)) => Ok(space),
+            Ok(None) => unreachable!(),
+            Err(error) => Err(error),
+        }
+    }
+}
+
+/// The image of the regions, if each is taken.
+pub(crate) fn image_of_regions(
+    alloc: Global,
+    regions: &[Region],
+) -> Result<Option<MemoryImage<'_>>, AllocError>
+    ensures { IfOk result (λ image. MatchOption image (takes_regions [] (spans_of regions.now) ≡ false)
+        (λ image. (takes_regions [] (spans_of regions.now) ≡ true) × (image ≡ image_of [] (spans_of regions.now)))) }
+{
+    let mut image = MemoryImage::new(alloc);
+    for region in regions {
+        match image.add(region.address, &region.bytes) {
+            Ok(()) => {}
+            Err(ImageError::NoMemory) => return Err(AllocError),
+            Err(_) => return Ok(None),
+        }
+    }
+    Ok(Some(image))
+}
+
+/// The space of the modules, if each is taken.
+pub(crate) fn space_of_modules<'a>(
+    alloc: Global,
+    image: MemoryImage<'a>,
+    modules: &[Module],
+) -> Result<Option<Space<'a>>, AllocError>
+    ensures { IfOk result (λ space. MatchOption space (takes_modules [] modules.now ≡ false)
+        (λ space. (takes_modules [] modules.now ≡ true) × (space ≡ record { image = image.entry; modules = modules_after [] modules.now }))) }
+{
+    let mut space = Space::new(alloc, image);
+    for module in modules {
+        match space.add_elf(module.start, module.end, module.frame) {
+            Ok(()) => {}
+            Err(SpaceError::NoMemory) => return Err(AllocError),
+            Err(_) => return Ok(None),
+        }
+    }
+    Ok(Some(space))
+}

@@ -1,0 +1,249 @@
+// Whole runs over three functions of which one has a cleanup and one a handler. The tables, the stacks
+// and the texts are worked out by hand from the formats.
+use super::*;
+
+/// Descriptions of three functions, and what is to come is the end of the region. That at 0x401000 pushes
+/// RBP, sets it, pushes RBX and allocates 8. That at 0x401020 pushes RBX, and has a language table with a
+/// cleanup at 0x401040. That at 0x401050 pushes R14 and RBX and allocates 8; its language table has a
+/// handler at 0x401070.
+const TABLE: &str =
+    "{\"regions\":[{\"address\":\"0x500000\",\"bytes\":\"1400000000000000017a5200017810011b0c070890010000180000001c000000e00ff0ff2000000000410e108602430d064583031c00000000000000017a504c5200017810079bb92f00001b1b0c0708900100001800000024000000c40ff0ff30000000049b1f0000410e10830200002000000040000000d80ff0ff30000000048b1f0000420e10410e18440e2083038e02000000000000";
+
+/// The same where the row of the first function asks for an expression.
+const FOREIGN_TABLE: &str =
+    "{\"regions\":[{\"address\":\"0x500000\",\"bytes\":\"1400000000000000017a5200017810011b0c070890010000180000001c000000e00ff0ff20000000000f037710060000000000001c00000000000000017a504c5200017810079bb92f00001b1b0c0708900100001800000024000000c40ff0ff30000000049b1f0000410e10830200002000000040000000d80ff0ff30000000048b1f0000420e10410e18440e2083038e02000000000000";
+
+/// The two language tables, the cell that holds the personality's address, and what is to come is the
+/// rest of a stack's address and its bytes.
+const LANGUAGE: &str =
+    "\"},{\"address\":\"0x502000\",\"bytes\":\"ffff01080810200020100000ff9b0c010408102001010000000000\"},{\"address\":\"0x503000\",\"bytes\":\"0040400000000000\"},{\"address\":\"0x70";
+
+/// The module, and what is to come is the start.
+const MODULE: &str =
+    "\"}],\"modules\":[{\"kind\":\"elf\",\"start\":\"0x401000\",\"end\":\"0x401080\",\"eh_frame\":\"0x500000\"}],\"exception\":\"0x900000\",\"limit\":8,\"start\":";
+
+const STACK: &str =
+    "b0\",\"bytes\":\"000000000000000011000000000000000c0000000000000030104000000000002200000000000000601040000000000000000000000000000b000000000000000e000000000000000000000000000000";
+
+/// The cleanup's function calls itself twice.
+const DEEP_STACK: &str =
+    "90\",\"bytes\":\"000000000000000011000000000000000c00000000000000301040000000000011000000000000003010400000000000110000000000000030104000000000002200000000000000601040000000000000000000000000000b000000000000000e000000000000000000000000000000";
+
+/// The handler's function is left at an address that no call site holds.
+const UNLISTED_STACK: &str =
+    "b0\",\"bytes\":\"000000000000000011000000000000000c0000000000000030104000000000002200000000000000701040000000000000000000000000000b000000000000000e000000000000000000000000000000";
+
+/// The cleanup's function is left by a call that ends it, and is asked nothing there.
+const LAST_CALL_STACK: &str =
+    "b0\",\"bytes\":\"000000000000000011000000000000000c0000000000000050104000000000002200000000000000601040000000000000000000000000000b000000000000000e000000000000000000000000000000";
+
+const START: &str =
+    "{\"rip\":\"0x401010\",\"rsp\":\"0x70b0\",\"rbx\":\"0x7\",\"rbp\":\"0x70c0\",\"r14\":\"0x2e\"}";
+
+/// A stack pointer 48 lower.
+const LOWER_START: &str =
+    "{\"rip\":\"0x401010\",\"rsp\":\"0x7080\",\"rbx\":\"0x7\",\"rbp\":\"0x70c0\",\"r14\":\"0x2e\"}";
+
+const DEEP_START: &str =
+    "{\"rip\":\"0x401010\",\"rsp\":\"0x7090\",\"rbx\":\"0x7\",\"rbp\":\"0x70a0\",\"r14\":\"0x2e\"}";
+
+/// The start of the second function's state.
+const SECOND_START: &str =
+    "{\"rip\":\"0x401030\",\"rsp\":\"0x70d0\",\"rbx\":\"0x11\",\"rbp\":\"0xc\",\"r14\":\"0x2e\"}";
+
+const RESUMES: &str = ",\"resumes\":[[\"0x401040\",\"0x401048\"]]}";
+
+/// A second entry of the pad doesn't count.
+const TWICE: &str =
+    ",\"resumes\":[[\"0x401040\",\"0x401048\"],[\"0x401040\",\"0x0\"]]}";
+
+/// Its address less one is under no call site.
+const NOWHERE: &str = ",\"resumes\":[[\"0x401040\",\"0x401040\"]]}";
+
+const FIRST: &str =
+    "frame 0 ra=0x401010 sp=0x70b0 rbx=0x7 rbp=0x70c0 r12=0x0 r13=0x0 r14=0x2e r15=0x0";
+const SECOND: &str =
+    "frame 1 ra=0x401030 sp=0x70d0 rbx=0x11 rbp=0xc r12=0x0 r13=0x0 r14=0x2e r15=0x0";
+const THIRD: &str =
+    "frame 2 ra=0x401060 sp=0x70e0 rbx=0x22 rbp=0xc r12=0x0 r13=0x0 r14=0x2e r15=0x0";
+const CLEANUP: &str = "cleanup pad=0x401040 sp=0x70d0";
+const LANDING: &str =
+    "landing ra=0x401070 sp=0x70e0 rbx=0x22 rbp=0xc r12=0x0 r13=0x0 r14=0x2e r15=0x0 rax=0x900000 rdx=0x0";
+const INSTALLED: &str = "outcome installed";
+
+static CASES: [Case; 13] = [
+    Case {
+        words: &["deliver"],
+        input: &[TABLE, LANGUAGE, STACK, MODULE, START, RESUMES],
+        number: 0,
+        lines: &[
+            FIRST,
+            SECOND,
+            THIRD,
+            CLEANUP,
+            LANDING,
+            INSTALLED,
+        ],
+    },
+    // A walk reads no language tables and no resume table.
+    Case {
+        words: &["walk"],
+        input: &[TABLE, LANGUAGE, STACK, MODULE, START, RESUMES],
+        number: 0,
+        lines: &[
+            FIRST,
+            SECOND,
+            THIRD,
+            "frame 3 ra=0x0 sp=0x7100 rbx=0xb rbp=0xc r12=0x0 r13=0x0 r14=0xe r15=0x0",
+            "end",
+        ],
+    },
+    Case {
+        words: &["walk"],
+        input: &[TABLE, LANGUAGE, STACK, MODULE, START, "}"],
+        number: 0,
+        lines: &[
+            FIRST,
+            SECOND,
+            THIRD,
+            "frame 3 ra=0x0 sp=0x7100 rbx=0xb rbp=0xc r12=0x0 r13=0x0 r14=0xe r15=0x0",
+            "end",
+        ],
+    },
+    // A frame pointer allows a lower stack.
+    Case {
+        words: &["deliver"],
+        input: &[TABLE, LANGUAGE, STACK, MODULE, LOWER_START, RESUMES],
+        number: 0,
+        lines: &[
+            "frame 0 ra=0x401010 sp=0x7080 rbx=0x7 rbp=0x70c0 r12=0x0 r13=0x0 r14=0x2e r15=0x0",
+            SECOND,
+            THIRD,
+            CLEANUP,
+            LANDING,
+            INSTALLED,
+        ],
+    },
+    // Each frame is cleaned once.
+    Case {
+        words: &["deliver"],
+        input: &[TABLE, LANGUAGE, DEEP_STACK, MODULE, DEEP_START, RESUMES],
+        number: 0,
+        lines: &[
+            "frame 0 ra=0x401010 sp=0x7090 rbx=0x7 rbp=0x70a0 r12=0x0 r13=0x0 r14=0x2e r15=0x0",
+            "frame 1 ra=0x401030 sp=0x70b0 rbx=0x11 rbp=0xc r12=0x0 r13=0x0 r14=0x2e r15=0x0",
+            "frame 2 ra=0x401030 sp=0x70c0 rbx=0x11 rbp=0xc r12=0x0 r13=0x0 r14=0x2e r15=0x0",
+            "frame 3 ra=0x401030 sp=0x70d0 rbx=0x11 rbp=0xc r12=0x0 r13=0x0 r14=0x2e r15=0x0",
+            "frame 4 ra=0x401060 sp=0x70e0 rbx=0x22 rbp=0xc r12=0x0 r13=0x0 r14=0x2e r15=0x0",
+            "cleanup pad=0x401040 sp=0x70b0",
+            "cleanup pad=0x401040 sp=0x70c0",
+            CLEANUP,
+            LANDING,
+            INSTALLED,
+        ],
+    },
+    Case {
+        words: &["deliver"],
+        input: &[TABLE, LANGUAGE, DEEP_STACK, MODULE, DEEP_START, TWICE],
+        number: 0,
+        lines: &[
+            "frame 0 ra=0x401010 sp=0x7090 rbx=0x7 rbp=0x70a0 r12=0x0 r13=0x0 r14=0x2e r15=0x0",
+            "frame 1 ra=0x401030 sp=0x70b0 rbx=0x11 rbp=0xc r12=0x0 r13=0x0 r14=0x2e r15=0x0",
+            "frame 2 ra=0x401030 sp=0x70c0 rbx=0x11 rbp=0xc r12=0x0 r13=0x0 r14=0x2e r15=0x0",
+            "frame 3 ra=0x401030 sp=0x70d0 rbx=0x11 rbp=0xc r12=0x0 r13=0x0 r14=0x2e r15=0x0",
+            "frame 4 ra=0x401060 sp=0x70e0 rbx=0x22 rbp=0xc r12=0x0 r13=0x0 r14=0x2e r15=0x0",
+            "cleanup pad=0x401040 sp=0x70b0",
+            "cleanup pad=0x401040 sp=0x70c0",
+            CLEANUP,
+            LANDING,
+            INSTALLED,
+        ],
+    },
+    // A cleanup needs a return address.
+    Case {
+        words: &["deliver"],
+        input: &[TABLE, LANGUAGE, STACK, MODULE, START, "}"],
+        number: 8,
+        lines: &[
+            "refused: no resume 0x401040",
+        ],
+    },
+    Case {
+        words: &["deliver"],
+        input: &[TABLE, LANGUAGE, STACK, MODULE, START, NOWHERE],
+        number: 0,
+        lines: &[
+            FIRST,
+            SECOND,
+            THIRD,
+            CLEANUP,
+            "outcome fatal phase 2",
+        ],
+    },
+    // A call that no site holds ends the program.
+    Case {
+        words: &["deliver"],
+        input: &[TABLE, LANGUAGE, UNLISTED_STACK, MODULE, START, RESUMES],
+        number: 0,
+        lines: &[
+            FIRST,
+            SECOND,
+            "frame 2 ra=0x401070 sp=0x70e0 rbx=0x22 rbp=0xc r12=0x0 r13=0x0 r14=0x2e r15=0x0",
+            "outcome fatal phase 1",
+        ],
+    },
+    Case {
+        words: &["deliver"],
+        input: &[TABLE, LANGUAGE, UNLISTED_STACK, MODULE, START, "}"],
+        number: 0,
+        lines: &[
+            FIRST,
+            SECOND,
+            "frame 2 ra=0x401070 sp=0x70e0 rbx=0x22 rbp=0xc r12=0x0 r13=0x0 r14=0x2e r15=0x0",
+            "outcome fatal phase 1",
+        ],
+    },
+    // A call that ends a function is its own.
+    Case {
+        words: &["deliver"],
+        input: &[TABLE, LANGUAGE, LAST_CALL_STACK, MODULE, START, RESUMES],
+        number: 0,
+        lines: &[
+            FIRST,
+            "frame 1 ra=0x401050 sp=0x70d0 rbx=0x11 rbp=0xc r12=0x0 r13=0x0 r14=0x2e r15=0x0",
+            THIRD,
+            LANDING,
+            INSTALLED,
+        ],
+    },
+    Case {
+        words: &["deliver"],
+        input: &[TABLE, LANGUAGE, LAST_CALL_STACK, MODULE, START, "}"],
+        number: 0,
+        lines: &[
+            FIRST,
+            "frame 1 ra=0x401050 sp=0x70d0 rbx=0x11 rbp=0xc r12=0x0 r13=0x0 r14=0x2e r15=0x0",
+            THIRD,
+            LANDING,
+            INSTALLED,
+        ],
+    },
+    // Descriptions of other code are free.
+    Case {
+        words: &["deliver"],
+        input: &[FOREIGN_TABLE, LANGUAGE, STACK, MODULE, SECOND_START, RESUMES],
+        number: 0,
+        lines: &[
+            "frame 0 ra=0x401030 sp=0x70d0 rbx=0x11 rbp=0xc r12=0x0 r13=0x0 r14=0x2e r15=0x0",
+            "frame 1 ra=0x401060 sp=0x70e0 rbx=0x22 rbp=0xc r12=0x0 r13=0x0 r14=0x2e r15=0x0",
+            CLEANUP,
+            LANDING,
+            INSTALLED,
+        ],
+    },
+];
+
+#[test]
+fn exceptions_are_delivered(rt: HostRuntime) -> Result<(), Fail> {
+    run_cases(&rt, rt.alloc(), &CASES)
+}

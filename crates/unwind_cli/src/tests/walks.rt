@@ -1,0 +1,120 @@
+// Stacks of one function that pushes RBX, walked and delivered.
+use super::*;
+
+/// Four states of the function, of which the last has the return address 0.
+const DEEP: &str =
+    "010000000000000006104000000000000200000000000000061040000000000003000000000000000000000000000000";
+
+/// The address before this start is in no module.
+const BEFORE: &str = "{\"rip\":\"0x401000\",\"rsp\":\"0x7008\",\"rbx\":\"0x9\"},";
+
+const NO_RETURN: &str = "{\"rip\":\"0x401006\",\"rsp\":\"0x7008\"},";
+
+const OUTERMOST: &str = "{\"rip\":\"0x0\",\"rsp\":\"0x7000\",\"rbx\":\"0x9\"},";
+
+/// Two thirds of a frame.
+const SHORT: &str = "050000000000000000000000";
+
+const FIRST: &str =
+    "frame 0 ra=0x401006 sp=0x7000 rbx=0x9 rbp=0x0 r12=0x0 r13=0x0 r14=0x0 r15=0x0";
+const SECOND: &str =
+    "frame 1 ra=0x0 sp=0x7010 rbx=0x5 rbp=0x0 r12=0x0 r13=0x0 r14=0x0 r15=0x0";
+const DEEP_SECOND: &str =
+    "frame 1 ra=0x401006 sp=0x7010 rbx=0x1 rbp=0x0 r12=0x0 r13=0x0 r14=0x0 r15=0x0";
+const DEEP_THIRD: &str =
+    "frame 2 ra=0x401006 sp=0x7020 rbx=0x2 rbp=0x0 r12=0x0 r13=0x0 r14=0x0 r15=0x0";
+const DEEP_LAST: &str =
+    "frame 3 ra=0x0 sp=0x7030 rbx=0x3 rbp=0x0 r12=0x0 r13=0x0 r14=0x0 r15=0x0";
+const AT_START: &str =
+    "frame 0 ra=0x401000 sp=0x7008 rbx=0x9 rbp=0x0 r12=0x0 r13=0x0 r14=0x0 r15=0x0";
+// Stopped before its first instruction, the function has pushed nothing.
+const BEHIND_NOTHING: &str =
+    "frame 1 ra=0x0 sp=0x7010 rbx=0x9 rbp=0x0 r12=0x0 r13=0x0 r14=0x0 r15=0x0";
+const OUTERMOST_STATE: &str =
+    "frame 0 ra=0x0 sp=0x7000 rbx=0x9 rbp=0x0 r12=0x0 r13=0x0 r14=0x0 r15=0x0";
+
+static CASES: [Case; 13] = [
+    Case {
+        words: &["walk"],
+        input: &[TABLE, STACK, MODULE, START, "\"limit\":2}"],
+        number: 0,
+        lines: &[FIRST, SECOND, "end"],
+    },
+    Case {
+        words: &["walk"],
+        input: &[TABLE, STACK, MODULE, START, "\"limit\":1}"],
+        number: 8,
+        lines: &["refused: frame limit"],
+    },
+    Case {
+        words: &["walk"],
+        input: &[TABLE, STACK, MODULE, BEFORE, "\"limit\":2,\"interrupted\":true}"],
+        number: 0,
+        lines: &[AT_START, BEHIND_NOTHING, "end"],
+    },
+    Case {
+        words: &["walk"],
+        input: &[TABLE, STACK, MODULE, BEFORE, "\"limit\":2}"],
+        number: 0,
+        lines: &[AT_START, "end"],
+    },
+    Case {
+        words: &["walk"],
+        input: &[TABLE, STACK, MODULE, NO_RETURN, "\"limit\":2}"],
+        number: 8,
+        lines: &["refused: unmapped 0x7010"],
+    },
+    Case {
+        words: &["walk"],
+        input: &[TABLE, STACK, MODULE, START, "\"limit\":0}"],
+        number: 7,
+        lines: &["bad snapshot: limit"],
+    },
+    Case {
+        words: &["walk"],
+        input: &[TABLE, DEEP, MODULE, START, "\"limit\":3}"],
+        number: 8,
+        lines: &["refused: frame limit"],
+    },
+    Case {
+        words: &["walk"],
+        input: &[TABLE, DEEP, MODULE, START, "\"limit\":4}"],
+        number: 0,
+        lines: &[FIRST, DEEP_SECOND, DEEP_THIRD, DEEP_LAST, "end"],
+    },
+    Case {
+        words: &["deliver"],
+        input: &[TABLE, STACK, MODULE, OUTERMOST, "\"limit\":1}"],
+        number: 0,
+        lines: &[OUTERMOST_STATE, "outcome end of stack"],
+    },
+    Case {
+        words: &["deliver"],
+        input: &[TABLE, STACK, MODULE, START, "\"limit\":1}"],
+        number: 8,
+        lines: &["refused: frame limit"],
+    },
+    Case {
+        words: &["deliver"],
+        input: &[TABLE, SHORT, MODULE, START, "\"limit\":2}"],
+        number: 8,
+        lines: &["refused: unmapped 0x7008"],
+    },
+    Case {
+        words: &["deliver"],
+        input: &[TABLE, DEEP, MODULE, START, "\"limit\":3}"],
+        number: 8,
+        lines: &["refused: frame limit"],
+    },
+    Case {
+        words: &["deliver"],
+        input: &[TABLE, DEEP, MODULE, START, "\"limit\":4}"],
+        number: 0,
+        lines: &[FIRST, DEEP_SECOND, DEEP_THIRD, DEEP_LAST, "outcome end of stack"],
+    },
+];
+
+#[test]
+fn stacks_of_one_function_are_unwound(rt: HostRuntime) -> Result<(), Fail> {
+    run_cases(&rt, rt.alloc(), &CASES)
+}
