@@ -1,5 +1,5 @@
 // Snapshots whose tables describe a chain, that of the stored run and others, and what is due for them.
-ghost use Rattle.std.specs.Prelude.{◌≡◌, [], ◌∷◌};
+ghost use Rattle.std.specs.Prelude.{◌≡◌, [], ◌∷◌, codes};
 ghost use Rattle.unwind_definitions.specs.State.{Shows};
 ghost use Rattle.unwind_definitions.specs.Chain.{states_of};
 ghost use Rattle.unwind_definitions.specs.Delivery.{delivery_of};
@@ -10,9 +10,12 @@ ghost use Rattle.unwind_arch.specs.Contexts.{columns_of};
 ghost use Rattle.stack_deliver.specs.Processes.{process_of};
 ghost use Rattle.stack_deliver.specs.Undone.{HaveFrameTables, IsDescribedCall};
 ghost use Rattle.stack_snapshot.specs.Content.{space_of};
+ghost use Rattle.unwind_cli.specs.declared.words.Command.TheVariants as command;
+ghost use Rattle.unwind_cli.specs.Due.{Asks};
 ghost use Rattle.unwind_cli.specs.Described.{DescribesChain, DescribesWalk};
 ghost use Rattle.stack_report.specs.Report.{delivery_text, walk_text};
-ghost use Rattle.unwind_cli.specs.Sample.{snapshot, text, walked};
+ghost use Rattle.unwind_cli.specs.Sample.{json, snapshot, text, walked};
+ghost use Rattle.stack_snapshot.specs.Answers.{content_of};
 ghost use Rattle.unwind_cli.specs.FramePointer as frame_pointer;
 ghost use Rattle.unwind_cli.specs.Caught as caught;
 
@@ -21,6 +24,13 @@ ghost use Rattle.unwind_cli.specs.Caught as caught;
 pub fn stored_run_is_described()
     ensures described { DescribesChain snapshot (function ∷ []) start calls }
     ensures written { delivery_text (delivery_of 0 start calls) ≡ text }
+{}
+
+/// The stored run's bytes are that snapshot, so that it meets the other premise of `run`'s clauses too.
+pub fn stored_run_is_read()
+    ensures read { content_of json ≡ Ok snapshot }
+    ensures delivered { Asks command.Deliver (codes "deliver" ∷ []) (Some json) snapshot }
+    ensures walked { Asks command.Walk (codes "walk" ∷ []) (Some json) snapshot }
 {}
 
 /// The same of a walk over it.
