@@ -7,8 +7,7 @@ use stack_deliver::{deliver, walk};
 use stack_report::{Report, report_of, walk_report_of};
 use stack_snapshot::{Snapshot, read_snapshot};
 use std::alloc::Global;
-use std::fs;
-use std::str;
+use std::{fs, str};
 
 /// Snapshots to be walked. The compilers' names are in those of the files, and how far they optimise.
 const WALKS: [&str; 8] = [

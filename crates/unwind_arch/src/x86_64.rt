@@ -79,6 +79,10 @@ impl Arch {
     pub const UNWIND_PRIVATE_DATA_SIZE: usize = 6;
 }
 
+// As in the `unwinding` crate's table of machines.
+const _: () = prove!(MAX_REG_RULES == 17);
+const _: () = prove!(Arch::UNWIND_PRIVATE_DATA_SIZE == 6);
+
 impl Machine for Arch {
     type Context = Context;
 

@@ -1,14 +1,21 @@
-// Snapshots whose tables describe a chain, that of the stored run and two others, and what is due for
-// them.
-ghost use Rattle.std.specs.Prelude.{◌≡◌, [], ◌∷◌};
+// Snapshots whose tables describe a chain, that of the stored run and others, and what is due for them.
+ghost use Rattle.std.specs.Prelude.{◌≡◌, [], ◌∷◌, codes};
+ghost use Rattle.unwind_definitions.specs.State.{Shows};
 ghost use Rattle.unwind_definitions.specs.Chain.{states_of};
 ghost use Rattle.unwind_definitions.specs.Delivery.{delivery_of};
 ghost use Rattle.unwind_laws.specs.Pushing.{function, start, calls};
 ghost use Rattle.unwind_laws.specs.Storing as storing;
 ghost use Rattle.unwind_laws.specs.Three as three;
+ghost use Rattle.unwind_arch.specs.Contexts.{columns_of};
+ghost use Rattle.stack_deliver.specs.Processes.{process_of};
+ghost use Rattle.stack_deliver.specs.Undone.{HaveFrameTables, IsDescribedCall};
+ghost use Rattle.stack_snapshot.specs.Content.{space_of};
+ghost use Rattle.unwind_cli.specs.declared.words.Command.TheVariants as command;
+ghost use Rattle.unwind_cli.specs.Due.{Asks};
 ghost use Rattle.unwind_cli.specs.Described.{DescribesChain, DescribesWalk};
 ghost use Rattle.stack_report.specs.Report.{delivery_text, walk_text};
-ghost use Rattle.unwind_cli.specs.Sample.{snapshot, text, walked};
+ghost use Rattle.unwind_cli.specs.Sample.{json, snapshot, text, walked};
+ghost use Rattle.stack_snapshot.specs.Answers.{content_of};
 ghost use Rattle.unwind_cli.specs.FramePointer as frame_pointer;
 ghost use Rattle.unwind_cli.specs.Caught as caught;
 
@@ -17,6 +24,13 @@ ghost use Rattle.unwind_cli.specs.Caught as caught;
 pub fn stored_run_is_described()
     ensures described { DescribesChain snapshot (function ∷ []) start calls }
     ensures written { delivery_text (delivery_of 0 start calls) ≡ text }
+{}
+
+/// The stored run's bytes are that snapshot, so that it meets the other premise of `run`'s clauses too.
+pub fn stored_run_is_read()
+    ensures read { content_of json ≡ Ok snapshot }
+    ensures delivered { Asks command.Deliver (codes "deliver" ∷ []) (Some json) snapshot }
+    ensures walked { Asks command.Walk (codes "walk" ∷ []) (Some json) snapshot }
 {}
 
 /// The same of a walk over it.
@@ -38,4 +52,44 @@ pub fn frame_pointer_is_described()
 pub fn caught_exception_is_described()
     ensures described { DescribesChain caught.snapshot three.functions three.start three.calls }
     ensures written { delivery_text (delivery_of three.exception three.start three.calls) ≡ caught.text }
+{}
+
+/// The same where the functions lie in two modules.
+pub fn functions_in_two_modules_are_described()
+    ensures described { DescribesChain caught.in_two_modules three.functions three.start three.calls }
+    ensures written { delivery_text (delivery_of three.exception three.start three.calls) ≡ caught.text }
+{}
+
+/// The same where the function between calls itself twice: its cleanup runs three times.
+pub fn three_cleanups_are_described()
+    ensures described { DescribesChain caught.deep three.functions three.deep_start three.deep_calls }
+    ensures written { delivery_text (delivery_of three.exception three.deep_start three.deep_calls) ≡ caught.deep_text }
+{}
+
+/// The same where the outermost function is left at an address that no call site holds: the program
+/// ends.
+pub fn unlisted_call_is_described()
+    ensures described { DescribesChain caught.unlisted three.functions three.start three.unlisted_calls }
+    ensures written { delivery_text (delivery_of three.exception three.start three.unlisted_calls) ≡ caught.unlisted_text }
+{}
+
+/// A chain that ends where no module is: the innermost of these functions, alone in its module.
+pub fn call_from_outside_is_described()
+    ensures described { DescribesChain caught.first (three.fa ∷ []) three.start (three.first_call ∷ []) }
+    ensures written { delivery_text (delivery_of three.exception three.start (three.first_call ∷ [])) ≡ caught.first_text }
+{}
+
+/// What a step asks of a call that it undoes is met by that function, which pushes, sets a frame
+/// pointer and allocates.
+pub fn pushed_call_is_described()
+    ensures tables { HaveFrameTables (process_of (space_of caught.first)) }
+    ensures call { IsDescribedCall (process_of (space_of caught.first)) (three.fa ∷ []) three.start three.first_call }
+    ensures shows { Shows (columns_of caught.first.start) three.start }
+{}
+
+/// And by one that allocates and stores a register.
+pub fn stored_call_is_described()
+    ensures tables { HaveFrameTables (process_of (space_of frame_pointer.snapshot)) }
+    ensures call { IsDescribedCall (process_of (space_of frame_pointer.snapshot)) storing.functions storing.start (record { callee = storing.storing; caller = storing.caller }) }
+    ensures shows { Shows (columns_of frame_pointer.snapshot.start) storing.start }
 {}

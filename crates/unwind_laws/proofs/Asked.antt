@@ -1,23 +1,23 @@
 -- A described function's description asks what the function does.
 use Rattle.std.proofs.Common.{inl, inr, ◌≡◌, ◌≢◌, ℕ, ◌+◌, ◌-◌, ◌^◌, ◌<◌, ◌≤◌, Bool, true, false, cond, eqb, List, [], ◌∷◌, length, Option, Some, None, Result, Ok, Err, refl, sym, ap, subst, ◌∙◌, arith}
-use Rattle.std.specs.Prelude.{◌⊎◌, ◌==◌, is_some, nat_le, MatchOption, IfSome}
+use Rattle.std.specs.Prelude.{◌==◌, is_some, nat_le, MatchOption, IfSome}
 use Rattle.std.specs.Int.{w8}
 use Rattle.std.proofs.lemmas.Bool.{eqb-true, leb-true}
 use Rattle.std.proofs.lemmas.Bool.Decides.{nat_tests}
 use Rattle.memory_image.specs.Image.{Span, word_at}
 use Rattle.unwind_definitions.specs.declared.error.Error.{Error as Fault}
-use Rattle.unwind_definitions.specs.declared.error.Error.TheVariants.{UnknownVersion, UnknownAugmentation, UnknownPointerEncoding, UnsupportedPointerEncoding, AddressOverflow}
+use Rattle.unwind_definitions.specs.declared.error.Error.TheVariants.{UnknownVersion, UnknownAugmentation, UnsupportedPointerEncoding, AddressOverflow}
 use Rattle.unwind_definitions.specs.Faults.{◌>>=◌, unless}
 use Rattle.unwind_definitions.specs.Forms.{Forms}
-use Rattle.unwind_definitions.specs.Input.{Input, address_of, number, split, text, uleb, sleb}
-use Rattle.unwind_definitions.specs.Pointers.{Bases, Pointer, Direct, Indirect, is_known, application_of, base_of, encoding, pointer, direct, value, format_of}
-use Rattle.unwind_definitions.specs.Entries.{Letters, letter, letters_from, no_letters, augmentation_data, Cie, Fde, cie_body, fde_body, fde_data, language_pointer, sizes, return_column, address_encoding}
+use Rattle.unwind_definitions.specs.Input.{Input, number, split, text, uleb, sleb}
+use Rattle.unwind_definitions.specs.Pointers.{Bases, Pointer, Direct, Indirect, encoding, pointer, direct, value, format_of}
+use Rattle.unwind_definitions.specs.Entries.{Letters, letter, letters_from, no_letters, augmentation_data, Cie, Fde, fde_data, language_pointer, sizes, return_column, address_encoding}
 use Rattle.unwind_definitions.specs.Prologue.{SystemV}
-use Rattle.unwind_definitions.specs.Function.{Function, Site, AreSitesOf, IsFunction, NoAction, action_at, action_among}
-use Rattle.unwind_definitions.specs.LanguageTable.{input_at, IsLanguageTable, LeadsToLanguage}
+use Rattle.unwind_definitions.specs.Function.{Function, Site, AreSitesOf, IsFunction, action_at}
+use Rattle.unwind_definitions.specs.LanguageTable.{LeadsToLanguage}
 use Rattle.unwind_definitions.specs.LanguageSearch as tables
-use Rattle.unwind_definitions.specs.Caller.{StepFault, Unmapped, word_or_fault}
-use Rattle.unwind_definitions.specs.FrameTable.{IsCell, IsEmittedPersonality, IsEmittedAugmentation, IsEmittedCie, DescribesFunction}
+use Rattle.unwind_definitions.specs.Caller.{StepFault}
+use Rattle.unwind_definitions.specs.FrameTable.{IsEmittedPersonality, IsEmittedAugmentation, DescribesFunction}
 use Rattle.unwind_laws.specs.Found.{CieRead, FdeRead, AsksAs}
 use Rattle.unwind_laws.proofs.Signal.{bound, ok_same}
 use Rattle.unwind_laws.proofs.Letters.{personality_said, language_said}

@@ -15,6 +15,7 @@ pub mod Steady
 pub mod PushingValid
 pub mod ThreeRows
 pub mod ThreeValid
+pub mod ThreeReads
 pub mod ReturningValid
 pub mod StoringValid
 pub mod OneModule

@@ -30,7 +30,7 @@ abbrev pub sites_c : List Site
 sites_c = record { range = record { from = 0x401058; to = 0x401068 }; action = Catch 0x401070 } ∷ []
 
 -- ---- the functions
-function_a : IsFunction SystemV fa
+pub function_a : IsFunction SystemV fa
 function_a = record {
   prologue = record {
     ends = (lit< tt, (lit< tt, (lit< tt, (lit< tt, tt))));
@@ -43,7 +43,7 @@ function_a = record {
   outermost = λ e. absurd cc;
 }
 
-function_b : IsFunction SystemV fb
+pub function_b : IsFunction SystemV fb
 function_b = record {
   prologue = record { ends = (lit< tt, tt); each = (refl, tt); once = pairs_one (λ (a b : Save). a.register ≢ b.register) _ };
   has_body = λ e. absurd cc;
@@ -52,7 +52,7 @@ function_b = record {
   outermost = λ e. absurd cc;
 }
 
-function_c : IsFunction SystemV fc
+pub function_c : IsFunction SystemV fc
 function_c = record {
   prologue = record { ends = (lit< tt, (lit< tt, (lit< tt, tt))); each = (refl, (refl, ((lit< tt, refl), tt))); once = pairs_two (λ (a b : Save). a.register ≢ b.register) _ _ (λ e. absurd cc) };
   has_body = λ e. absurd cc;
@@ -62,10 +62,10 @@ function_c = record {
 }
 
 -- ---- the tables
-emitted_plain : (memory : List Span) → IsEmittedCie memory cie_plain
+pub emitted_plain : (memory : List Span) → IsEmittedCie memory cie_plain
 emitted_plain memory = record { version = refl; code_factor = refl; data_factor = refl; return_column = refl; augmentation = inl refl; address = refl; language = inl refl; personality = tt; program = (2, refl) }
 
-pairs_three : AllPairs DescriptionsApart (fde_a ∷ fde_b ∷ fde_c ∷ [])
+pub pairs_three : AllPairs DescriptionsApart (fde_a ∷ fde_b ∷ fde_c ∷ [])
 pairs_three i zero d lt below = absurd (omega arith)
 pairs_three zero (suc zero) d lt below = inl (lit≤ tt)
 pairs_three zero (suc (suc zero)) d lt below = inl (lit≤ tt)
@@ -75,7 +75,7 @@ pairs_three (suc (suc i)) (suc zero) d lt below = absurd (omega arith)
 pairs_three (suc (suc i)) (suc (suc zero)) d lt below = absurd (omega arith)
 pairs_three i (suc (suc (suc j))) d lt below = absurd (omega arith)
 
-each_fde : (P : Fde → Type 0) → P fde_a → P fde_b → P fde_c → (f : Fde) → Contains (fde_a ∷ fde_b ∷ fde_c ∷ []) f → P f
+pub each_fde : (P : Fde → Type 0) → P fde_a → P fde_b → P fde_c → (f : Fde) → Contains (fde_a ∷ fde_b ∷ fde_c ∷ []) f → P f
 each_fde P a b c f h = elim (here_or_later fde_a (fde_b ∷ fde_c ∷ []) f h) [
   | inl e ↦ subst P e a
   | inr h2 ↦ elim (here_or_later fde_b (fde_c ∷ []) f h2) [
@@ -91,7 +91,7 @@ module _ (b : ℕ) (more : List Span) where
   pub language_c : IsLanguageTable (image b more) 0x50200c 0x401050 sites_c
   language_c = record { nonzero = λ e. absurd cc; size = 4; behind = _; header = refl; listed = _; actions = _; parts = refl; each = (_, refl, refl) }
 
-  emitted_language : IsEmittedCie (image b more) cie_language
+  pub emitted_language : IsEmittedCie (image b more) cie_language
   unfolding word_at
   emitted_language = record { version = refl; code_factor = refl; data_factor = refl; return_column = refl; augmentation = inr (inr refl); address = refl; language = inr refl; personality = inr (refl, λ e. absurd cc); program = (2, refl) }
 
@@ -123,12 +123,12 @@ module _ (b : ℕ) (more : List Span) where
   }
 
 -- ---- the calls
-words : (s : State) → s.ra < 2 ^ 64 → s.sp < 2 ^ 64 → s.rbx < 2 ^ 64 → s.rbp < 2 ^ 64 → s.r14 < 2 ^ 64 → s.r12 ≡ 0 → s.r13 ≡ 0 → s.r15 ≡ 0 → IsState s
+pub words : (s : State) → s.ra < 2 ^ 64 → s.sp < 2 ^ 64 → s.rbx < 2 ^ 64 → s.rbp < 2 ^ 64 → s.r14 < 2 ^ 64 → s.r12 ≡ 0 → s.r13 ≡ 0 → s.r15 ≡ 0 → IsState s
 words s a b c d e f g h = state_fits s a b c d (omega arith) (omega arith) e (omega arith)
 
 -- of a byte, whatever regions stand behind
 module _ (b ra : ℕ) (more : List Span) (at : word_at (image b more) 0x70d8 ≡ Some ra) where
-  entered_a : IsEntered (image b more) false (steps_of fa.prologue) second start
+  pub entered_a : IsEntered (image b more) false (steps_of fa.prologue) second start
   unfolding word_at
   entered_a = record {
     room = lit≤ tt;
@@ -173,7 +173,7 @@ module _ (b ra : ℕ) (more : List Span) (at : word_at (image b more) 0x70d8 ≡
     ),
   )
 
-listed_word : (more : List Span) → word_at (image 0x60 more) 0x70d8 ≡ Some 0x401060
+pub listed_word : (more : List Span) → word_at (image 0x60 more) 0x70d8 ≡ Some 0x401060
 unfolding word_at
 listed_word more = refl
 
@@ -181,10 +181,10 @@ unlisted_word : (more : List Span) → word_at (image 0x70 more) 0x70d8 ≡ Some
 unfolding word_at
 unlisted_word more = refl
 
-listed_chain : (more : List Span) (Uncovered : ℕ → Type 0) → IsChain (image 0x60 more) Uncovered functions start calls
+pub listed_chain : (more : List Span) (Uncovered : ℕ → Type 0) → IsChain (image 0x60 more) Uncovered functions start calls
 listed_chain more Uncovered = let at = listed_word more in chain_is 0x60 0x401060 more at Uncovered (lit< tt) (record { returns = λ e. absurd cc; inside = refl; entered = entered_c 0x60 0x401060 more at })
 
-unlisted_chain : (more : List Span) (Uncovered : ℕ → Type 0) → IsChain (image 0x70 more) Uncovered functions start unlisted_calls
+pub unlisted_chain : (more : List Span) (Uncovered : ℕ → Type 0) → IsChain (image 0x70 more) Uncovered functions start unlisted_calls
 unlisted_chain more Uncovered = let at = unlisted_word more in chain_is 0x70 0x401070 more at Uncovered (lit< tt) (record { returns = λ e. absurd cc; inside = refl; entered = entered_c 0x70 0x401070 more at })
 
 -- an exception in these calls is caught

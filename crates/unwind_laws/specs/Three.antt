@@ -9,7 +9,7 @@ use Rattle.unwind_definitions.specs.Prologue.{Followed, Push, Allocate, SetFrame
 use Rattle.unwind_definitions.specs.Function.{Function, NoAction, Cleanup, Catch}
 use Rattle.unwind_definitions.specs.Module.{Module, Process, Frames, Header}
 use Rattle.unwind_definitions.specs.Chain.{Call}
-use Rattle.unwind_definitions.specs.Delivery.{Delivery, Installed, FatalPhase1}
+use Rattle.unwind_definitions.specs.Delivery.{Delivery, Installed, EndOfStack, FatalPhase1}
 
 abbrev pub frames : List ℕ
 frames = 0x14 ∷ 0x00 ∷ 0x00 ∷ 0x00 ∷ 0x00 ∷ 0x00 ∷ 0x00 ∷ 0x00 ∷ 0x01 ∷ 0x7a ∷ 0x52 ∷ 0x00 ∷ 0x01 ∷ 0x78 ∷ 0x10 ∷ 0x01 ∷ 0x1b ∷ 0x0c ∷ 0x07 ∷ 0x08 ∷ 0x90 ∷ 0x01 ∷ 0x00 ∷ 0x00 ∷
@@ -163,6 +163,63 @@ unlisted_calls = calls_through 0x401070
 
 abbrev pub unlisted_delivery : Delivery
 unlisted_delivery = record { visited = start ∷ second ∷ third 0x401070 ∷ []; trail = []; landing = None; outcome = FatalPhase1 }
+
+-- ---- the same in two modules, which name one frame table
+
+abbrev pub module_of_first : Module
+module_of_first = record { start = 0x401000; end = 0x401020; text = None; tables = Frames 0x500000 }
+
+abbrev pub module_of_others : Module
+module_of_others = record { start = 0x401020; end = 0x401080; text = None; tables = Frames 0x500000 }
+
+abbrev pub process_of_two : Process
+process_of_two = record { image = image 0x60 []; modules = module_of_first ∷ module_of_others ∷ [] }
+
+-- ---- the first function alone in its module, called from an address that no module holds
+
+abbrev pub process_of_first : Process
+process_of_first = record { image = image 0x60 []; modules = module_of_first ∷ [] }
+
+abbrev pub first_call : Call
+first_call = record { callee = fa; caller = second }
+
+abbrev pub first_delivery : Delivery
+first_delivery = record { visited = start ∷ second ∷ []; trail = []; landing = None; outcome = EndOfStack }
+
+-- ---- the same where the second function calls itself twice, so that its cleanup runs three times
+
+abbrev pub deep_stack : List ℕ
+deep_stack = 0x00 ∷ 0x00 ∷ 0x00 ∷ 0x00 ∷ 0x00 ∷ 0x00 ∷ 0x00 ∷ 0x00 ∷ 0x11 ∷ 0x00 ∷ 0x00 ∷ 0x00 ∷ 0x00 ∷ 0x00 ∷ 0x00 ∷ 0x00 ∷
+    0x0c ∷ 0x00 ∷ 0x00 ∷ 0x00 ∷ 0x00 ∷ 0x00 ∷ 0x00 ∷ 0x00 ∷ 0x30 ∷ 0x10 ∷ 0x40 ∷ 0x00 ∷ 0x00 ∷ 0x00 ∷ 0x00 ∷ 0x00 ∷
+    0x11 ∷ 0x00 ∷ 0x00 ∷ 0x00 ∷ 0x00 ∷ 0x00 ∷ 0x00 ∷ 0x00 ∷ 0x30 ∷ 0x10 ∷ 0x40 ∷ 0x00 ∷ 0x00 ∷ 0x00 ∷ 0x00 ∷ 0x00 ∷
+    0x11 ∷ 0x00 ∷ 0x00 ∷ 0x00 ∷ 0x00 ∷ 0x00 ∷ 0x00 ∷ 0x00 ∷ 0x30 ∷ 0x10 ∷ 0x40 ∷ 0x00 ∷ 0x00 ∷ 0x00 ∷ 0x00 ∷ 0x00 ∷
+    0x22 ∷ 0x00 ∷ 0x00 ∷ 0x00 ∷ 0x00 ∷ 0x00 ∷ 0x00 ∷ 0x00 ∷ 0x60 ∷ 0x10 ∷ 0x40 ∷ 0x00 ∷ 0x00 ∷ 0x00 ∷ 0x00 ∷ 0x00 ∷
+    0x00 ∷ 0x00 ∷ 0x00 ∷ 0x00 ∷ 0x00 ∷ 0x00 ∷ 0x00 ∷ 0x00 ∷ 0x0b ∷ 0x00 ∷ 0x00 ∷ 0x00 ∷ 0x00 ∷ 0x00 ∷ 0x00 ∷ 0x00 ∷
+    0x0e ∷ 0x00 ∷ 0x00 ∷ 0x00 ∷ 0x00 ∷ 0x00 ∷ 0x00 ∷ 0x00 ∷ 0x00 ∷ 0x00 ∷ 0x00 ∷ 0x00 ∷ 0x00 ∷ 0x00 ∷ 0x00 ∷ 0x00 ∷ []
+
+abbrev pub deep_image : List Span
+deep_image = record { start = 0x7090; bytes = deep_stack } ∷ record { start = 0x500000; bytes = frames } ∷ record { start = 0x502000; bytes = languages } ∷ record { start = 0x503000; bytes = cell } ∷ []
+
+abbrev pub deep_process : Process
+deep_process = record { image = deep_image; modules = module_of_them ∷ [] }
+
+abbrev pub deep_start : State
+deep_start = state 0x401010 0x7090 7 0x70a0 0x2e
+
+-- the state in the second function, by its stack pointer
+abbrev pub deep_second : ℕ → State
+deep_second sp = state 0x401030 sp 0x11 0xc 0x2e
+
+abbrev pub deep_calls : List Call
+deep_calls = record { callee = fa; caller = deep_second 0x70b0 } ∷ record { callee = fb; caller = deep_second 0x70c0 } ∷ record { callee = fb; caller = deep_second 0x70d0 } ∷ record { callee = fb; caller = third 0x401060 } ∷ record { callee = fc; caller = last } ∷ []
+
+abbrev pub deep_delivery : Delivery
+deep_delivery = record {
+  visited = deep_start ∷ deep_second 0x70b0 ∷ deep_second 0x70c0 ∷ deep_second 0x70d0 ∷ third 0x401060 ∷ [];
+  trail = (0x401040, 0x70b0) ∷ (0x401040, 0x70c0) ∷ (0x401040, 0x70d0) ∷ [];
+  landing = Some (record { state = third 0x401070; rax = exception; rdx = 0 });
+  outcome = Installed;
+}
 
 -- ---- the same with a header table
 

@@ -2,10 +2,11 @@
 //! in a contract here is proved.
 //!
 //! `numbers` says which bytes a number is read from, `rows` how a row is read and what it undoes, `tables` what is found in a described module,
-//! `chains` what a described chain determines, and `samples` shows processes that are valid.
+//! `chains` what a described chain determines, `forms` which forms of call frame bytes the readers take at least, and `samples` shows processes that are valid.
 #![tactic(auto)]
 
 mod chains;
+mod forms;
 mod numbers;
 mod rows;
 mod samples;
@@ -15,6 +16,7 @@ pub use chains::{
     call_is_undone, chain_is_one, chain_is_walked, delivery_is_one, part_of_a_call_is_undone,
     slots_lie_in_the_frame, stack_pointers_rise, valid_chain_is_described,
 };
+pub use forms::emitted_forms_are_read;
 pub use numbers::{
     relative_pointer_is_spelled, signed_number_is_spelled, unsigned_number_is_spelled,
 };
@@ -23,9 +25,10 @@ pub use rows::{
     prologue_row_undoes, reading_gives_row, running_says_row,
 };
 pub use samples::{
-    calls_are_caught, calls_by_a_header_are_caught, calls_of_an_outermost_function_are_valid,
-    calls_through_a_frame_pointer_are_valid, cut_language_table_describes_nothing,
-    language_tables_ask, one_call_is_valid, other_slot_is_no_entering,
+    call_from_outside_is_valid, calls_are_caught, calls_by_a_header_are_caught,
+    calls_of_an_outermost_function_are_valid, calls_through_a_frame_pointer_are_valid,
+    calls_through_two_modules_are_caught, cut_language_table_describes_nothing,
+    each_call_is_cleaned, language_tables_ask, one_call_is_valid, other_slot_is_no_entering,
     state_stands_inside_a_prologue, three_calls_are_valid, unlisted_call_ends_the_program,
     windows_function_is_entered,
 };

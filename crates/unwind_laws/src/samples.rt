@@ -1,6 +1,6 @@
 //! Processes that are valid, byte for byte, and what is delivered there.
 
-ghost use Rattle.std.specs.Prelude.{◌≡◌, ◌-◌, ◌<◌, ℕ, List, [], ◌∷◌, Some, Ok, Err, false};
+ghost use Rattle.std.specs.Prelude.{◌≡◌, ◌≢◌, ◌-◌, ◌<◌, ℕ, List, [], ◌∷◌, Some, Ok, Err, false};
 ghost use Rattle.unwind_definitions.specs.Forms.{emitted, plain, whole};
 ghost use Rattle.unwind_definitions.specs.Prologue.{Windows, steps_of};
 ghost use Rattle.unwind_definitions.specs.Entered.{IsEntered, stack_after};
@@ -74,6 +74,7 @@ pub fn calls_through_a_frame_pointer_are_valid()
 pub fn calls_are_caught()
     ensures process { IsProcess three.process }
     ensures whole { IsValid whole three.process (columns_of three.start) three.resumes three.functions three.start three.calls }
+    ensures emitted { IsValid emitted three.process (columns_of three.start) three.resumes three.functions three.start three.calls }
     ensures delivery { delivery_of three.exception three.start three.calls ≡ three.delivery }
 {}
 
@@ -86,8 +87,31 @@ pub fn calls_by_a_header_are_caught()
 /// The same where the third function's call is in no site of its language table.
 pub fn unlisted_call_ends_the_program()
     ensures whole { IsValid whole three.unlisted_process (columns_of three.start) three.resumes three.functions three.start three.unlisted_calls }
+    ensures emitted { IsValid emitted three.unlisted_process (columns_of three.start) three.resumes three.functions three.start three.unlisted_calls }
     ensures action { action_at three.fc (0x401070 - 1) ≡ Terminate }
     ensures delivery { delivery_of three.exception three.start three.unlisted_calls ≡ three.unlisted_delivery }
+{}
+
+/// The same where the functions lie in two modules.
+pub fn calls_through_two_modules_are_caught()
+    ensures process { IsProcess three.process_of_two }
+    ensures emitted { IsValid emitted three.process_of_two (columns_of three.start) three.resumes three.functions three.start three.calls }
+{}
+
+/// The same where the second function calls itself twice: its cleanup runs three times.
+pub fn each_call_is_cleaned()
+    ensures process { IsProcess three.deep_process }
+    ensures emitted { IsValid emitted three.deep_process (columns_of three.deep_start) three.resumes three.functions three.deep_start three.deep_calls }
+    ensures delivery { delivery_of three.exception three.deep_start three.deep_calls ≡ three.deep_delivery }
+{}
+
+/// The first of these functions alone in its module, called from an address that no module holds: the
+/// stack ends there.
+pub fn call_from_outside_is_valid()
+    ensures process { IsProcess three.process_of_first }
+    ensures emitted { IsValid emitted three.process_of_first (columns_of three.start) [] (three.fa ∷ []) three.start (three.first_call ∷ []) }
+    ensures outside { three.second.ra ≢ 0 }
+    ensures delivery { delivery_of three.exception three.start (three.first_call ∷ []) ≡ three.first_delivery }
 {}
 
 /// The language tables of these functions describe their sites. At the calls of the second and the

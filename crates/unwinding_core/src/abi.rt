@@ -6,6 +6,12 @@ ghost use Rattle.unwinding_core.specs.Actions.{ShareBit, shares};
 
 pub mod context;
 
+pub use context::{
+    _Unwind_GetCFA, _Unwind_GetDataRelBase, _Unwind_GetGR, _Unwind_GetIP, _Unwind_GetIPInfo,
+    _Unwind_GetLanguageSpecificData, _Unwind_GetRegionStart, _Unwind_GetTextRelBase, _Unwind_SetGR,
+    _Unwind_SetIP, UnwindContext,
+};
+
 use std::ops::BitOr;
 
 /// How an unwinding came out, or a step of it.
@@ -34,6 +40,17 @@ impl UnwindReasonCode {
     /// The frame asks nothing: its caller is next.
     pub const CONTINUE_UNWIND: UnwindReasonCode = UnwindReasonCode(8);
 }
+
+// The numbers of the interface.
+const _: () = prove!(UnwindReasonCode::NO_REASON.0 == 0);
+const _: () = prove!(UnwindReasonCode::FOREIGN_EXCEPTION_CAUGHT.0 == 1);
+const _: () = prove!(UnwindReasonCode::FATAL_PHASE2_ERROR.0 == 2);
+const _: () = prove!(UnwindReasonCode::FATAL_PHASE1_ERROR.0 == 3);
+const _: () = prove!(UnwindReasonCode::NORMAL_STOP.0 == 4);
+const _: () = prove!(UnwindReasonCode::END_OF_STACK.0 == 5);
+const _: () = prove!(UnwindReasonCode::HANDLER_FOUND.0 == 6);
+const _: () = prove!(UnwindReasonCode::INSTALL_CONTEXT.0 == 7);
+const _: () = prove!(UnwindReasonCode::CONTINUE_UNWIND.0 == 8);
 
 /// What a personality is called for, as a set of bits.
 ///
@@ -68,6 +85,13 @@ impl UnwindAction {
         self.0.cast_unsigned() & other.0.cast_unsigned() != 0
     }
 }
+
+// The bits of the interface.
+const _: () = prove!(UnwindAction::SEARCH_PHASE.0 == 1);
+const _: () = prove!(UnwindAction::CLEANUP_PHASE.0 == 2);
+const _: () = prove!(UnwindAction::HANDLER_FRAME.0 == 4);
+const _: () = prove!(UnwindAction::FORCE_UNWIND.0 == 8);
+const _: () = prove!(UnwindAction::END_OF_STACK.0 == 16);
 
 impl BitOr for UnwindAction {
     type Output = UnwindAction;

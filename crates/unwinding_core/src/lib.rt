@@ -6,18 +6,24 @@
 //! rows in one place, and [`caller_by_row`] gives the callers.
 #![tactic(auto)]
 
-mod abi;
+pub mod abi;
 mod find_fde;
 mod frame;
 mod language_table;
 mod personality;
 
-pub use abi::context::{
+/// Finders by the frame tables that another value names.
+pub mod custom_eh_frame_finder {
+    pub use crate::find_fde::custom::{
+        CustomFinder, EhFrameFinder, FrameInfo, FrameInfoKind, SetCustomEhFrameFinderError,
+    };
+}
+
+pub use abi::{
     _Unwind_GetCFA, _Unwind_GetDataRelBase, _Unwind_GetGR, _Unwind_GetIP, _Unwind_GetIPInfo,
     _Unwind_GetLanguageSpecificData, _Unwind_GetRegionStart, _Unwind_GetTextRelBase, _Unwind_SetGR,
-    _Unwind_SetIP, UnwindContext,
+    _Unwind_SetIP, UnwindAction, UnwindContext, UnwindReasonCode,
 };
-pub use abi::{UnwindAction, UnwindReasonCode};
 pub use find_fde::custom::{
     CustomFinder, EhFrameFinder, FrameInfo, FrameInfoKind, SetCustomEhFrameFinderError,
 };

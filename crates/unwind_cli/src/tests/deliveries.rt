@@ -54,21 +54,25 @@ const SECOND_START: &str =
 const RESUMES: &str = ",\"resumes\":[[\"0x401040\",\"0x401048\"]]}";
 
 /// A second entry of the pad doesn't count.
-const TWICE: &str =
-    ",\"resumes\":[[\"0x401040\",\"0x401048\"],[\"0x401040\",\"0x0\"]]}";
+const TWICE: &str = ",\"resumes\":[[\"0x401040\",\"0x401048\"],[\"0x401040\",\"0x0\"]]}";
 
 /// Its address less one is under no call site.
 const NOWHERE: &str = ",\"resumes\":[[\"0x401040\",\"0x401040\"]]}";
 
 const FIRST: &str =
     "frame 0 ra=0x401010 sp=0x70b0 rbx=0x7 rbp=0x70c0 r12=0x0 r13=0x0 r14=0x2e r15=0x0";
+
 const SECOND: &str =
     "frame 1 ra=0x401030 sp=0x70d0 rbx=0x11 rbp=0xc r12=0x0 r13=0x0 r14=0x2e r15=0x0";
+
 const THIRD: &str =
     "frame 2 ra=0x401060 sp=0x70e0 rbx=0x22 rbp=0xc r12=0x0 r13=0x0 r14=0x2e r15=0x0";
+
 const CLEANUP: &str = "cleanup pad=0x401040 sp=0x70d0";
+
 const LANDING: &str =
     "landing ra=0x401070 sp=0x70e0 rbx=0x22 rbp=0xc r12=0x0 r13=0x0 r14=0x2e r15=0x0 rax=0x900000 rdx=0x0";
+
 const INSTALLED: &str = "outcome installed";
 
 static CASES: [Case; 13] = [
@@ -76,14 +80,7 @@ static CASES: [Case; 13] = [
         words: &["deliver"],
         input: &[TABLE, LANGUAGE, STACK, MODULE, START, RESUMES],
         number: 0,
-        lines: &[
-            FIRST,
-            SECOND,
-            THIRD,
-            CLEANUP,
-            LANDING,
-            INSTALLED,
-        ],
+        lines: &[FIRST, SECOND, THIRD, CLEANUP, LANDING, INSTALLED],
     },
     // A walk reads no language tables and no resume table.
     Case {
@@ -164,21 +161,13 @@ static CASES: [Case; 13] = [
         words: &["deliver"],
         input: &[TABLE, LANGUAGE, STACK, MODULE, START, "}"],
         number: 8,
-        lines: &[
-            "refused: no resume 0x401040",
-        ],
+        lines: &["refused: no resume 0x401040"],
     },
     Case {
         words: &["deliver"],
         input: &[TABLE, LANGUAGE, STACK, MODULE, START, NOWHERE],
         number: 0,
-        lines: &[
-            FIRST,
-            SECOND,
-            THIRD,
-            CLEANUP,
-            "outcome fatal phase 2",
-        ],
+        lines: &[FIRST, SECOND, THIRD, CLEANUP, "outcome fatal phase 2"],
     },
     // A call that no site holds ends the program.
     Case {
@@ -231,7 +220,14 @@ static CASES: [Case; 13] = [
     // Descriptions of other code are free.
     Case {
         words: &["deliver"],
-        input: &[FOREIGN_TABLE, LANGUAGE, STACK, MODULE, SECOND_START, RESUMES],
+        input: &[
+            FOREIGN_TABLE,
+            LANGUAGE,
+            STACK,
+            MODULE,
+            SECOND_START,
+            RESUMES,
+        ],
         number: 0,
         lines: &[
             "frame 0 ra=0x401030 sp=0x70d0 rbx=0x11 rbp=0xc r12=0x0 r13=0x0 r14=0x2e r15=0x0",

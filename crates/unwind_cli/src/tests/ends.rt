@@ -5,11 +5,7 @@ use memory_image::{Failed, PlainSink, Source};
 #[test]
 fn failing_ends_are_told(rt: HostRuntime) -> Result<(), Fail> {
     let alloc = rt.alloc();
-    let input = joined(
-        alloc,
-        &[TABLE, STACK, MODULE, START, "\"limit\":2}"],
-        "",
-    )?;
+    let input = joined(alloc, &[TABLE, STACK, MODULE, START, "\"limit\":2}"], "")?;
     let (number, written) = run_over(alloc, &["deliver"], input.as_str(), &[2], &[])?;
     assert_eq!(rt; (number, written.len()), (3, 0));
     let (number, written) = run_over(alloc, &["deliver"], input.as_str(), &[], &[0])?;

@@ -4,8 +4,10 @@ use super::*;
 /// The function's module with other members, and what is to come is the start.
 const HEADER_MODULE: &str =
     "\"}],\"modules\":[{\"kind\":\"elf\",\"start\":\"0x401000\",\"end\":\"0x401010\",\"eh_frame_hdr\":\"0x500000\"}],\"start\":";
+
 const TEXT_MODULE: &str =
     "\"}],\"modules\":[{\"kind\":\"elf\",\"start\":\"0x401000\",\"end\":\"0x401010\",\"eh_frame\":\"0x500000\",\"text_base\":\"0x0\"}],\"start\":";
+
 const OTHER_MODULE: &str =
     "\"}],\"modules\":[{\"kind\":\"macho\",\"base\":\"0x401000\",\"size\":\"0x10\",\"unwind_info\":\"0x0\"}],\"start\":";
 
@@ -98,13 +100,25 @@ static CASES: [Case; 21] = [
     },
     Case {
         words: &["deliver"],
-        input: &[TABLE, STACK, MODULE, "{\"rip\":\"0x401006\"},", "\"limit\":2}"],
+        input: &[
+            TABLE,
+            STACK,
+            MODULE,
+            "{\"rip\":\"0x401006\"},",
+            "\"limit\":2}",
+        ],
         number: 7,
         lines: &["bad snapshot: start"],
     },
     Case {
         words: &["deliver"],
-        input: &[TABLE, STACK, MODULE, START, "\"limit\":2,\"exception\":null}"],
+        input: &[
+            TABLE,
+            STACK,
+            MODULE,
+            START,
+            "\"limit\":2,\"exception\":null}",
+        ],
         number: 7,
         lines: &["bad snapshot: exception"],
     },
@@ -116,7 +130,13 @@ static CASES: [Case; 21] = [
     },
     Case {
         words: &["deliver"],
-        input: &[TABLE, STACK, MODULE, START, "\"limit\":2,\"resumes\":[[\"0x1\",\"0x2\",\"0x3\"]]}"],
+        input: &[
+            TABLE,
+            STACK,
+            MODULE,
+            START,
+            "\"limit\":2,\"resumes\":[[\"0x1\",\"0x2\",\"0x3\"]]}",
+        ],
         number: 7,
         lines: &["bad snapshot: resumes"],
     },
@@ -134,7 +154,13 @@ static CASES: [Case; 21] = [
     },
     Case {
         words: &["deliver"],
-        input: &[TABLE, STACK, MODULE, START, "\"limit\":2,\"interrupted\":1}"],
+        input: &[
+            TABLE,
+            STACK,
+            MODULE,
+            START,
+            "\"limit\":2,\"interrupted\":1}",
+        ],
         number: 7,
         lines: &["bad snapshot: interrupted"],
     },

@@ -15,21 +15,24 @@ const OUTERMOST: &str = "{\"rip\":\"0x0\",\"rsp\":\"0x7000\",\"rbx\":\"0x9\"},";
 /// Two thirds of a frame.
 const SHORT: &str = "050000000000000000000000";
 
-const FIRST: &str =
-    "frame 0 ra=0x401006 sp=0x7000 rbx=0x9 rbp=0x0 r12=0x0 r13=0x0 r14=0x0 r15=0x0";
-const SECOND: &str =
-    "frame 1 ra=0x0 sp=0x7010 rbx=0x5 rbp=0x0 r12=0x0 r13=0x0 r14=0x0 r15=0x0";
+const FIRST: &str = "frame 0 ra=0x401006 sp=0x7000 rbx=0x9 rbp=0x0 r12=0x0 r13=0x0 r14=0x0 r15=0x0";
+
+const SECOND: &str = "frame 1 ra=0x0 sp=0x7010 rbx=0x5 rbp=0x0 r12=0x0 r13=0x0 r14=0x0 r15=0x0";
+
 const DEEP_SECOND: &str =
     "frame 1 ra=0x401006 sp=0x7010 rbx=0x1 rbp=0x0 r12=0x0 r13=0x0 r14=0x0 r15=0x0";
+
 const DEEP_THIRD: &str =
     "frame 2 ra=0x401006 sp=0x7020 rbx=0x2 rbp=0x0 r12=0x0 r13=0x0 r14=0x0 r15=0x0";
-const DEEP_LAST: &str =
-    "frame 3 ra=0x0 sp=0x7030 rbx=0x3 rbp=0x0 r12=0x0 r13=0x0 r14=0x0 r15=0x0";
+
+const DEEP_LAST: &str = "frame 3 ra=0x0 sp=0x7030 rbx=0x3 rbp=0x0 r12=0x0 r13=0x0 r14=0x0 r15=0x0";
+
 const AT_START: &str =
     "frame 0 ra=0x401000 sp=0x7008 rbx=0x9 rbp=0x0 r12=0x0 r13=0x0 r14=0x0 r15=0x0";
 // Stopped before its first instruction, the function has pushed nothing.
 const BEHIND_NOTHING: &str =
     "frame 1 ra=0x0 sp=0x7010 rbx=0x9 rbp=0x0 r12=0x0 r13=0x0 r14=0x0 r15=0x0";
+
 const OUTERMOST_STATE: &str =
     "frame 0 ra=0x0 sp=0x7000 rbx=0x9 rbp=0x0 r12=0x0 r13=0x0 r14=0x0 r15=0x0";
 
@@ -48,7 +51,13 @@ static CASES: [Case; 13] = [
     },
     Case {
         words: &["walk"],
-        input: &[TABLE, STACK, MODULE, BEFORE, "\"limit\":2,\"interrupted\":true}"],
+        input: &[
+            TABLE,
+            STACK,
+            MODULE,
+            BEFORE,
+            "\"limit\":2,\"interrupted\":true}",
+        ],
         number: 0,
         lines: &[AT_START, BEHIND_NOTHING, "end"],
     },
@@ -110,7 +119,13 @@ static CASES: [Case; 13] = [
         words: &["deliver"],
         input: &[TABLE, DEEP, MODULE, START, "\"limit\":4}"],
         number: 0,
-        lines: &[FIRST, DEEP_SECOND, DEEP_THIRD, DEEP_LAST, "outcome end of stack"],
+        lines: &[
+            FIRST,
+            DEEP_SECOND,
+            DEEP_THIRD,
+            DEEP_LAST,
+            "outcome end of stack",
+        ],
     },
 ];
 

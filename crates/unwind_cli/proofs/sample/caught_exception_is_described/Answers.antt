@@ -1,31 +1,15 @@
-use Rattle.std.proofs.Common.{◌≡◌, Some, refl, arith}
+use Rattle.std.proofs.Common.{[], ◌∷◌, refl, arith}
 use Rattle.std.specs.Fmt.{digits}
-use Rattle.unwind_definitions.specs.State.{CalleeSaved, RBX, RBP, R12, R13, R14, R15, column_of, value_of, Shows}
-use Rattle.unwind_laws.specs.Three.{start}
-use Rattle.unwind_arch.specs.Contexts.{columns_of}
+use Rattle.unwind_laws.specs.Three as three
+use Rattle.unwind_laws.proofs.ThreeReads.{caught_read}
 use Rattle.stack_report.specs.Digits.{hexadecimal}
-use Rattle.unwind_cli.specs.Caught.{snapshot}
 use Rattle.stack_report.specs.Report.{state_fields, state_line, pad_line, handler_line}
-use Rattle.unwind_cli.proofs.CaughtReads.{caught_read}
+use Rattle.unwind_cli.specs.Caught as caught
+use Rattle.unwind_cli.proofs.Samples.{described, shows_start}
 use Rattle.unwind_cli.proofs.sample.caught_exception_is_described.Goals as goal
 
-saved : (r : CalleeSaved) → columns_of snapshot.start (column_of r) ≡ Some (value_of r start)
-saved RBX = refl
-saved RBP = refl
-saved R12 = refl
-saved R13 = refl
-saved R14 = refl
-saved R15 = refl
-
-shown : Shows (columns_of snapshot.start) start
-shown = record { ra = refl; sp = refl; saved = saved }
-
 pub returns-clause-described : goal.returns-clause-described
-returns-clause-described c = let w = caught_read in record {
-  tables = (refl, tt);
-  valid = record { are_functions = w.are_functions; modules = w.modules; no_others = w.no_others; shows = shown; chain = w.chain; resumed = w.resumed };
-  shorter = omega arith;
-}
+returns-clause-described c = described caught.snapshot three.functions three.start three.calls _ (refl, tt) caught_read shows_start (omega arith)
 
 pub returns-clause-written : goal.returns-clause-written
 unfolding digits hexadecimal state_fields state_line pad_line handler_line

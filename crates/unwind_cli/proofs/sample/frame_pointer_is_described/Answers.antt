@@ -1,32 +1,16 @@
-use Rattle.std.proofs.Common.{◌≡◌, Some, refl, arith}
+use Rattle.std.proofs.Common.{refl, arith}
 use Rattle.std.specs.Fmt.{digits}
-use Rattle.unwind_definitions.specs.State.{CalleeSaved, RBX, RBP, R12, R13, R14, R15, column_of, value_of, Shows}
 use Rattle.unwind_definitions.specs.Forms.{emitted}
-use Rattle.unwind_laws.specs.Storing.{start}
+use Rattle.unwind_laws.specs.Storing as storing
 use Rattle.unwind_laws.proofs.StoringValid.{pointed_valid, reads_emitted}
-use Rattle.unwind_arch.specs.Contexts.{columns_of}
 use Rattle.stack_report.specs.Digits.{hexadecimal}
-use Rattle.unwind_cli.specs.FramePointer.{snapshot}
 use Rattle.stack_report.specs.Report.{state_fields, state_line}
+use Rattle.unwind_cli.specs.FramePointer.{snapshot}
+use Rattle.unwind_cli.proofs.Samples.{described, shows_stored}
 use Rattle.unwind_cli.proofs.sample.frame_pointer_is_described.Goals as goal
 
-saved : (r : CalleeSaved) → columns_of snapshot.start (column_of r) ≡ Some (value_of r start)
-saved RBX = refl
-saved RBP = refl
-saved R12 = refl
-saved R13 = refl
-saved R14 = refl
-saved R15 = refl
-
-shown : Shows (columns_of snapshot.start) start
-shown = record { ra = refl; sp = refl; saved = saved }
-
 pub returns-clause-described : goal.returns-clause-described
-returns-clause-described c = let w = pointed_valid emitted reads_emitted in record {
-  tables = (refl, tt);
-  valid = record { are_functions = w.are_functions; modules = w.modules; no_others = w.no_others; shows = shown; chain = w.chain; resumed = w.resumed };
-  shorter = omega arith;
-}
+returns-clause-described c = described snapshot storing.functions storing.start storing.calls _ (refl, tt) (pointed_valid emitted reads_emitted) shows_stored (omega arith)
 
 pub returns-clause-written : goal.returns-clause-written
 unfolding digits hexadecimal state_fields state_line
