@@ -5,6 +5,9 @@ ghost use Rattle.std.specs.Prelude.{◌≡◌, ◌↔◌, pos, IsTrue};
 ghost use Rattle.unwinding_core.specs.Actions.{ShareBit, shares};
 
 pub mod context;
+pub mod exception;
+mod passes;
+pub mod stop;
 
 use std::ops::BitOr;
 
