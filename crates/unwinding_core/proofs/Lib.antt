@@ -6,3 +6,5 @@ pub mod Taken
 pub mod Sites
 pub mod Bits
 pub mod First
+pub mod Lines
+pub mod SeenFrames

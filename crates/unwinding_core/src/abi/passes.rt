@@ -244,3 +244,61 @@ fn meet_frame<'a, M: Machine, P: Personality<M>, T: Stop<M>>(
     let caller = frame.unwind(image, &answer.left)?;
     Ok(Turn::Caller(caller, frame.is_signal_trampoline()))
 }
+
+/// What a pass meets at a context: the row is read first, then what names the personality, then
+/// there are the answers, and the caller is made last.
+fn meet<M: Machine, F: FDEFinder, P: Personality<M>, T: Stop<M>, L: Ledger>(
+    image: &MemoryImage<'_>,
+    finder: &F,
+    personality: &P,
+    stop: &mut T,
+    call: Call,
+    context: &M::Context,
+    signal: bool,
+    steps: &mut Steps<L>,
+) -> Result<Turn<M::Context>, StepError>
+    ensures { (seen : Result (Option FrameSeen) StepFault) × SeesFrame (F.finds finder.now) image.now (in_column M.RA.0 (M.Context.columns context.now)) signal seen ×
+        (turn_shown M.Context.columns (record { context = M.Context.columns context.now; signal = signal }) (T.words stop.new) result ≡
+        turn_seen (undoing (machine_of M.SP.0 M.RA.0) image.now) (asks_in call.phase (in_column M.SP.0) (answering (P.answers personality.now) image.now (thrown call)) (stopping T.stops image.now (thrown call)))
+        (T.words stop.old) (record { context = M.Context.columns context.now; signal = signal }) seen) }
+{
+    match frame_at::<M, F, L>(image, finder, context, signal, steps) {
+        Err(fault) => Err(fault),
+        Ok(None) => Ok(Turn::End),
+        Ok(Some(frame)) => meet_frame(image, &frame, personality, stop, call, context, signal),
+    }
+}
+
+/// A pass from a context outwards, over as many contexts as `limit` allows.
+pub(crate) fn pass<M: Machine, F: FDEFinder, P: Personality<M>, T: Stop<M>, L: Ledger>(
+    image: &MemoryImage<'_>,
+    finder: &F,
+    personality: &P,
+    stop: &mut T,
+    call: Call,
+    start: &M::Context,
+    limit: u32,
+    steps: &mut Steps<L>,
+) -> LineEnd<M::Context>
+    ensures { (line : Line Columns StepFault (List ℕ)) ×
+        IsLine (stepping (machine_of M.SP.0 M.RA.0) (F.finds finder.now) image.now) (asks_in call.phase (in_column M.SP.0) (answering (P.answers personality.now) image.now (thrown call)) (stopping T.stops image.now (thrown call)))
+        limit (T.words stop.old) (unmarked (M.Context.columns start.now)) line ×
+        (end_shown M.Context.columns result ≡ line.end) × (T.words stop.new ≡ line.state) }
+{
+    let mut context = *start;
+    let mut signal = false;
+    for _ in 0..limit {
+        match meet(image, finder, personality, stop, call, &context, signal, steps) {
+            Err(fault) => return LineEnd::Failed(fault),
+            Ok(Turn::End) => return LineEnd::RanOut(context, signal),
+            Ok(Turn::Stop(code, left, past)) => {
+                return LineEnd::Decided(context, signal, code, left, past);
+            }
+            Ok(Turn::Caller(next, next_signal)) => {
+                context = next;
+                signal = next_signal;
+            }
+        }
+    }
+    LineEnd::Crowded
+}
