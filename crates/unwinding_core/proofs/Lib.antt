@@ -8,3 +8,4 @@ pub mod Bits
 pub mod First
 pub mod Lines
 pub mod SeenFrames
+pub mod Stateless

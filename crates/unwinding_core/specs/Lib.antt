@@ -13,3 +13,4 @@ pub mod Passes
 pub mod Seen
 pub mod Stopping
 pub mod Turns
+pub mod Runs

@@ -7,7 +7,9 @@ ghost use Rattle.unwinding_core.specs.Actions.{ShareBit, shares};
 pub mod context;
 pub mod exception;
 mod passes;
+mod raise;
 pub mod stop;
+pub mod unwound;
 
 use std::ops::BitOr;
 

@@ -60,7 +60,7 @@ impl<M: Machine> Stop<M> for NoStop {
         exception_class: u64,
         unwind_ctx: &mut UnwindContext<'_, '_, M>,
     ) -> UnwindReasonCode {
-        let _ = (version, actions, exception_class, unwind_ctx);
+        let _ = (version, actions, exception_class, unwind_ctx.signal);
         UnwindReasonCode::NO_REASON
     }
 }
