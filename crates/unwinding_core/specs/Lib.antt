@@ -9,3 +9,8 @@ pub mod Languages
 pub mod Actions
 pub mod Columns
 pub mod Personalities
+pub mod Passes
+pub mod Seen
+pub mod Stopping
+pub mod Turns
+pub mod Runs

@@ -5,6 +5,11 @@ ghost use Rattle.std.specs.Prelude.{◌≡◌, ◌↔◌, pos, IsTrue};
 ghost use Rattle.unwinding_core.specs.Actions.{ShareBit, shares};
 
 pub mod context;
+pub mod exception;
+mod passes;
+mod raise;
+pub mod stop;
+pub mod unwound;
 
 pub use context::{
     _Unwind_GetCFA, _Unwind_GetDataRelBase, _Unwind_GetGR, _Unwind_GetIP, _Unwind_GetIPInfo,

@@ -1,0 +1,6 @@
+use Rattle.std.proofs.Common.{refl}
+use Rattle.unwinding_core.proofs.abi.raise._Unwind_RaiseException.Goals as goal
+
+pub returns-in-Decided-clause-raised : goal.returns-in-Decided-clause-raised
+returns-in-Decided-clause-raised g c =
+    (c.search.ensures.0, c.search.ensures.1, rw (← c.search.ensures.2, c.in-Decided.is, ← c.if-eq.ensures, c.mark-kept.ensures) (refl, rw c.mark-kept.ensures at c.cleanup.ensures))

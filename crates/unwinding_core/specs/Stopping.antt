@@ -1,0 +1,28 @@
+-- What may stop a forced unwinding, and what traces a stack. Itanium C++ ABI, exception handling, section 1.3.2.
+use Rattle.std.specs.Prelude.{ℕ, ℤ, pos, Bool, List, Option}
+use Rattle.std.specs.Option.{option_map}
+use Rattle.memory_image.specs.Image.{Span}
+use Rattle.unwind_definitions.specs.Caller.{Columns}
+use Rattle.unwinding_core.specs.declared.abi.UnwindReasonCode.{UnwindReasonCode}
+use Rattle.unwinding_core.specs.declared.abi.UnwindAction.{UnwindAction}
+use Rattle.unwinding_core.specs.declared.abi.TheConstants.UnwindReasonCode.{NO_REASON}
+use Rattle.unwinding_core.specs.FrameValue.{FrameValue}
+use Rattle.unwinding_core.specs.Passes.{Stops}
+use Rattle.unwinding_core.specs.Seen.{FrameSeen, Thrown}
+
+-- what a stop is called with
+pub record StopAsked : Type 0 where
+  pub version : ℤ
+  pub actions : UnwindAction
+  pub class : ℕ
+
+-- an answer, the registers that are left, and the words that are held then
+abbrev pub StopAnswer : Type 0
+StopAnswer = UnwindReasonCode × Columns × List ℕ
+
+abbrev pub never_stopped : List ℕ → StopAsked → List Span → Option FrameValue → Columns → Bool → StopAnswer
+never_stopped words asked image frame columns signal = (NO_REASON, columns, words)
+
+-- A stop that answers by a function, for an exception and by version 1 of the interface.
+abbrev pub stopping : (List ℕ → StopAsked → List Span → Option FrameValue → Columns → Bool → StopAnswer) → List Span → Thrown → Stops Columns FrameSeen
+stopping stops image thrown = λ words actions f x. stops words (record { version = pos 1; actions = actions; class = thrown.class }) image (option_map (λ (s : FrameSeen). s.value) f) x.context x.signal

@@ -1,0 +1,66 @@
+//! What may stop a forced unwinding. Itanium C++ ABI, exception handling, section 1.3.2.
+
+ghost use Rattle.std.specs.Prelude.{◌≡◌, ℕ, Bool, List, [], Option};
+ghost use Rattle.std.specs.Option.{option_map};
+ghost use Rattle.memory_image.specs.Image.{Span};
+ghost use Rattle.unwind_definitions.specs.Caller.{Columns};
+ghost use Rattle.unwinding_core.specs.FrameValue.{FrameValue};
+ghost use Rattle.unwinding_core.specs.Stopping.{StopAsked, StopAnswer, never_stopped};
+
+use crate::abi::context::UnwindContext;
+use crate::abi::{UnwindAction, UnwindReasonCode};
+use unwind_arch::Machine;
+
+/// What is asked at each frame of a forced unwinding whether that is to stop, and once more at the
+/// end of the stack.
+///
+/// Contracts see words that the value holds. They, the arguments of the call, the memory, the frame,
+/// its registers and whether it stands behind a signal's decide the answer, the registers that are
+/// left, and the words afterwards.
+pub trait Stop<M: Machine> {
+    /// The words that the value holds.
+    ghost words: { Self → List ℕ };
+
+    /// The answer, the registers that are left, and the words afterwards.
+    ghost stops: { List ℕ → StopAsked → List Span → Option FrameValue → Columns → Bool → StopAnswer };
+
+    /// Asks whether a forced unwinding is to stop at a frame: `NO_REASON` lets it go on. `version`
+    /// is that of the interface, 1; `actions` are `FORCE_UNWIND` and `CLEANUP_PHASE`, and
+    /// `END_OF_STACK` too where there is no frame; `exception_class` tells the language of the
+    /// exception.
+    fn stop(
+        &mut self,
+        version: i32,
+        actions: UnwindAction,
+        exception_class: u64,
+        unwind_ctx: &mut UnwindContext<'_, '_, M>,
+    ) -> UnwindReasonCode
+        ensures answer { (result, M.Context.columns unwind_ctx.new.ctx.now, words self.new) ≡
+            stops (words self.old) (record { version = version; actions = actions; class = exception_class })
+            unwind_ctx.old.image.now (option_map (λ f. f.now) unwind_ctx.old.frame) (M.Context.columns unwind_ctx.old.ctx.now) unwind_ctx.old.signal }
+        ensures image { unwind_ctx.new.image ≡ unwind_ctx.old.image }
+        ensures frame { unwind_ctx.new.frame ≡ unwind_ctx.old.frame }
+        ensures reference { unwind_ctx.new.ctx.ghost_name ≡ unwind_ctx.old.ctx.ghost_name }
+        ensures signal { unwind_ctx.new.signal ≡ unwind_ctx.old.signal };
+}
+
+/// What stops in a pass that isn't forced: nothing.
+#[derive(Clone, Copy)]
+pub(crate) struct NoStop;
+
+impl<M: Machine> Stop<M> for NoStop {
+    ghost words = { λ s. [] };
+
+    ghost stops = { never_stopped };
+
+    fn stop(
+        &mut self,
+        version: i32,
+        actions: UnwindAction,
+        exception_class: u64,
+        unwind_ctx: &mut UnwindContext<'_, '_, M>,
+    ) -> UnwindReasonCode {
+        let _ = (version, actions, exception_class, unwind_ctx.signal);
+        UnwindReasonCode::NO_REASON
+    }
+}
