@@ -6,3 +6,6 @@ pub mod Taken
 pub mod Sites
 pub mod Bits
 pub mod First
+pub mod InTurn
+pub mod Lasts
+pub mod Listed
