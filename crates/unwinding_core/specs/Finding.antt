@@ -16,6 +16,14 @@ pub record FoundFde : Type 0 where
   pub bases : Bases
   pub table : Input
 
+-- what a finder knows that pointers may be relative to: the text and the data
+abbrev pub relative_to : Option ℕ → Option ℕ → Bases
+relative_to text base = record no_bases { text = text; data_base = base }
+
+-- the same, and a frame table's address
+abbrev pub at_frame : Bases → ℕ → Bases
+at_frame bases frame = record bases { frame = Some frame }
+
 -- what the pointers of a frame table that is named by its address may be relative to
 abbrev pub table_bases : Option ℕ → ℕ → Bases
 table_bases text frame = record no_bases { text = text; frame = Some frame }
@@ -24,6 +32,14 @@ abbrev pub found_in : Bases → Input → Result Fde Fault → Option FoundFde
 found_in bases table (Ok fde) = Some (record { fde = fde; bases = bases; table = table })
 found_in bases table (Err e) = None
 
--- by a scan of the frame table at an address: its first description that contains pc, unless an entry before it can't be read
+-- by a scan of a frame table: its first description that contains pc, unless an entry before it can't be read
+abbrev pub scanned_in : Bases → Input → ℕ → Option FoundFde
+scanned_in bases table pc = found_in bases table (scan emitted bases table pc)
+
+-- by a scan of the frame table at an address
+abbrev pub scanned_by : Bases → List Span → ℕ → ℕ → Option FoundFde
+scanned_by bases image frame pc = scanned_in (at_frame bases frame) (input_at image frame) pc
+
+-- the same, where the text alone is known
 abbrev pub scanned : Option ℕ → List Span → ℕ → ℕ → Option FoundFde
 scanned text image frame pc = found_in (table_bases text frame) (input_at image frame) (scan emitted (table_bases text frame) (input_at image frame) pc)

@@ -10,6 +10,12 @@ ghost use Rattle.unwinding_core.specs.Finding.{FoundFde};
 ghost use Rattle.unwinding_core.specs.Answered.{answered};
 
 pub mod custom;
+pub mod fixed;
+pub mod global;
+pub mod gnu_eh_frame_hdr;
+pub mod phdr;
+pub mod registry;
+mod tables;
 
 use eh_frame::{Bases, EhFrame, Error, Fde, RowRoom};
 use memory_image::{Ledger, MemoryImage, Steps};

@@ -27,6 +27,11 @@ pub use abi::{
 pub use find_fde::custom::{
     CustomFinder, EhFrameFinder, FrameInfo, FrameInfoKind, SetCustomEhFrameFinderError,
 };
+pub use find_fde::fixed::StaticFinder;
+pub use find_fde::global::GlobalFinder;
+pub use find_fde::gnu_eh_frame_hdr::GnuHdrFinder;
+pub use find_fde::phdr::{Phdr, PhdrFinder, PhdrObject};
+pub use find_fde::registry::{Object, Registry};
 pub use find_fde::{FDEFinder, FDESearchResult};
 pub use frame::{Frame, StepError, caller_by_row};
 pub use language_table::{EhAction, find_eh_action};

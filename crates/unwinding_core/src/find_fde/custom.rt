@@ -1,15 +1,15 @@
 //! A finder that is told where the frame tables lie.
 
-ghost use Rattle.std.specs.Prelude.{◌≡◌, ◌≢◌, ℕ, Option, Some, None, IsOk, IsErr, OnOk, OnErr};
+ghost use Rattle.std.specs.Prelude.{◌≡◌, ◌≢◌, ◌+◌, ℕ, Option, Some, None, IsOk, IsErr, OnOk, OnErr};
 ghost use Rattle.std.specs.Option.{option_map};
 ghost use Rattle.unwinding_core.specs.declared.find_fde.custom.FrameInfo.{FrameInfo};
 ghost use Rattle.unwinding_core.specs.Answered.{answered};
-ghost use Rattle.unwinding_core.specs.Finding.{scanned};
-ghost use Rattle.unwinding_core.specs.Named.{found_by, FindsBy};
-ghost use Rattle.unwinding_core.specs.Covering.{named_contains};
+ghost use Rattle.unwind_definitions.specs.HeaderSearch.{AreWithinDigits};
+ghost use Rattle.unwinding_core.specs.Named.{found_by, pairs_by, FindsBy};
+ghost use Rattle.unwinding_core.specs.HeaderCovering.{named_contains};
 
+use crate::find_fde::tables::{relative_to, scan, search_header};
 use crate::find_fde::{FDEFinder, FDESearchResult};
-use eh_frame::{Bases, EhFrame};
 use memory_image::{Ledger, MemoryImage, Steps};
 use std::marker::Model;
 
@@ -47,7 +47,10 @@ pub trait EhFrameFinder: Drop {
 #[derive(Clone, Copy, Debug, PartialEq, Eq)]
 pub struct SetCustomEhFrameFinderError;
 
-/// A finder by the frame tables that another value names. It finds nothing until that value is set.
+/// A finder by the tables that another value names: by a `.eh_frame_hdr` as [`GnuHdrFinder`] does, and by
+/// a `.eh_frame` by a scan. It finds nothing until that value is set.
+///
+/// [`GnuHdrFinder`]: crate::GnuHdrFinder
 #[derive(Drop)]
 pub struct CustomFinder<E: EhFrameFinder> {
     finder: Option<E>,
@@ -98,46 +101,27 @@ impl<E: EhFrameFinder> FDEFinder for CustomFinder<E> {
         pc: u64,
         steps: &mut Steps<L>,
     ) -> Option<FDESearchResult<'a>> {
-        let _ = steps;
         let info = self.finder.as_ref()?.find(pc)?;
-        find_named(image, pc, info)
+        find_named(image, pc, info, steps)
     }
 
     ghost contains = { λ finder image pc found ticks. named_contains E.names finder image pc found ticks };
 }
 
-/// The description that a scan of the named frame table finds. Header tables aren't read yet.
-fn find_named<'a>(image: &MemoryImage<'a>, pc: u64, info: FrameInfo) -> Option<FDESearchResult<'a>>
-    ensures { option_map answered result ≡ found_by info image.now pc }
-{
-    match info.kind {
-        FrameInfoKind::EhFrame(table) => scan(image, pc, info.text_base, table),
-        FrameInfoKind::EhFrameHdr(_) => None,
-    }
-}
-
-/// The first description of the frame table at an address that contains `pc`. Nothing is found
-/// where an entry before it can't be read.
-fn scan<'a>(
+/// The description that a table of a module finds: a frame table by a scan, a header by its table.
+fn find_named<'a, L: Ledger>(
     image: &MemoryImage<'a>,
     pc: u64,
-    text: Option<u64>,
-    table: u64,
+    info: FrameInfo,
+    steps: &mut Steps<L>,
 ) -> Option<FDESearchResult<'a>>
-    ensures { option_map answered result ≡ scanned text image.now table pc }
+    ensures found { option_map answered result ≡ found_by info image.now pc }
+    ensures ticks { (taken : ℕ) × (steps.new.number ≡ steps.old.number + taken)
+        × AreWithinDigits (pairs_by info image.now) taken }
 {
-    let bases = Bases {
-        text,
-        data_base: None,
-        func: None,
-        hdr: None,
-        frame: Some(table),
-    };
-    let eh_frame = EhFrame::new(image.from(table).unwrap_or(&[]), table);
-    let fde = eh_frame.fde_for_address(&bases, pc).ok()?;
-    Some(FDESearchResult {
-        fde,
-        bases,
-        eh_frame,
-    })
+    let known = relative_to(info.text_base, None);
+    match info.kind {
+        FrameInfoKind::EhFrame(table) => scan(image, pc, &known, table),
+        FrameInfoKind::EhFrameHdr(header) => search_header(image, pc, &known, header, steps),
+    }
 }

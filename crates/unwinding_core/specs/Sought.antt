@@ -1,0 +1,10 @@
+-- Which program header is looked for.
+use Rattle.std.specs.Prelude.{ℕ, Bool}
+use Rattle.unwinding_core.specs.declared.find_fde.phdr.Phdr.{Phdr}
+use Rattle.unwinding_core.specs.declared.find_fde.phdr.Sought.{Sought}
+use Rattle.unwinding_core.specs.declared.find_fde.phdr.Sought.TheVariants.{OfType, Text}
+use Rattle.unwinding_core.specs.ProgramHeaders.{is_of_type, is_text}
+
+abbrev pub is_sought : Sought → Phdr → Bool
+is_sought (OfType kind) h = is_of_type kind h
+is_sought (Text base pc) h = is_text base pc h
