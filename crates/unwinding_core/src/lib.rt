@@ -3,7 +3,7 @@
 //! A finder ([`FDEFinder`]) answers the description of the function at an address. A [`Frame`] is
 //! made of it and of the row at that address, for any machine of `unwind_arch`, and gives the
 //! registers of its caller. Where frame after frame is left, [`FDESearchResult::make_row`] makes their
-//! rows in one place, and [`caller_by_row`] gives the callers.
+//! rows in one place, and [`step_by_row`] puts the caller in place of each.
 #![tactic(auto)]
 
 mod abi;
@@ -19,9 +19,9 @@ pub use abi::context::{
 };
 pub use abi::{UnwindAction, UnwindReasonCode};
 pub use find_fde::custom::{
-    CustomFinder, EhFrameFinder, FrameInfo, FrameInfoKind, SetCustomEhFrameFinderError,
+    CustomFinder, EhFrameFinder, FrameInfo, FrameInfoKind, SetCustomEhFrameFinderError, find_named,
 };
 pub use find_fde::{FDEFinder, FDESearchResult};
-pub use frame::{Frame, StepError, caller_by_row};
+pub use frame::{Frame, StepError, address_asked, step_by_row};
 pub use language_table::{EhAction, find_eh_action};
 pub use personality::{Personality, RustPersonality};

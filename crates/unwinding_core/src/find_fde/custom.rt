@@ -98,18 +98,25 @@ impl<E: EhFrameFinder> FDEFinder for CustomFinder<E> {
         pc: u64,
         steps: &mut Steps<L>,
     ) -> Option<FDESearchResult<'a>> {
-        let _ = steps;
         let info = self.finder.as_ref()?.find(pc)?;
-        find_named(image, pc, info)
+        find_named(image, pc, info, steps)
     }
 
     ghost contains = { λ finder image pc found ticks. named_contains E.names finder image pc found ticks };
 }
 
-/// The description that a scan of the named frame table finds. Header tables aren't read yet.
-fn find_named<'a>(image: &MemoryImage<'a>, pc: u64, info: FrameInfo) -> Option<FDESearchResult<'a>>
-    ensures { option_map answered result ≡ found_by info image.now pc }
+/// The description that a scan of the named frame table finds. Header tables aren't read yet, and a
+/// scan takes no counted steps.
+pub fn find_named<'a, L: Ledger>(
+    image: &MemoryImage<'a>,
+    pc: u64,
+    info: FrameInfo,
+    steps: &mut Steps<L>,
+) -> Option<FDESearchResult<'a>>
+    ensures found { option_map answered result ≡ found_by info image.now pc }
+    ensures unticked { steps.new.number ≡ steps.old.number }
 {
+    let _ = steps;
     match info.kind {
         FrameInfoKind::EhFrame(table) => scan(image, pc, info.text_base, table),
         FrameInfoKind::EhFrameHdr(_) => None,
