@@ -67,14 +67,14 @@ visited_with true room c = record room { visited = room.visited ++ c ∷ [] }
 visited_with false room c = room
 
 -- the contexts are those in a room, where they are visited
-abbrev pub AreVisited : Bool → RoomValue → RoomValue → List Context → Type 0
-AreVisited true old new contexts = new.visited ≡ contexts
-AreVisited false old new contexts = new.visited ≡ old.visited
+abbrev pub AreVisited : Bool → RoomValue → List Context → Type 0
+AreVisited true room contexts = room.visited ≡ contexts
+AreVisited false room contexts = Unit {0}
 
--- an answer, and the rooms before and after it, of who goes outwards
-abbrev pub IsOutward : Bool → Result (Option CodeStop) DeliverError → RoomValue → RoomValue → Result Line DeliverError → Type 0
-IsOutward visited (Ok stop) old new due = (contexts : List Context) × (due ≡ Ok (line_shown contexts stop)) × AreVisited visited old new contexts
-IsOutward visited (Err e) old new due = due ≡ Err e
+-- where it stopped on the way outwards, and the room after it
+abbrev pub IsOutward : Bool → Result (Option CodeStop) DeliverError → RoomValue → Result Line DeliverError → Type 0
+IsOutward visited (Ok stop) room due = (contexts : List Context) × (due ≡ Ok (line_shown contexts stop)) × AreVisited visited room contexts
+IsOutward visited (Err e) room due = due ≡ Err e
 
 -- contexts that were met before a pass's
 abbrev pub with_contexts : List Context → Result Line DeliverError → Result Line DeliverError

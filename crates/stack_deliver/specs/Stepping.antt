@@ -8,7 +8,7 @@ use Rattle.unwind_definitions.specs.LanguageSearch.{address_of_call}
 use Rattle.unwind_definitions.specs.Row.{Run, row_at}
 use Rattle.unwind_definitions.specs.Scan.{scan}
 use Rattle.std.specs.Result.{result_map_both}
-use Rattle.unwind_definitions.specs.Caller.{StepFault, x86_64, caller_of}
+use Rattle.unwind_definitions.specs.Caller.{Columns, StepFault, x86_64, caller_of}
 use Rattle.unwind_definitions.specs.Caller as calls
 use Rattle.unwind_arch.specs.declared.x86_64.Context.{Context}
 use Rattle.unwind_arch.specs.Contexts.{columns_of, context_of}
@@ -35,10 +35,13 @@ pub record FrameAt : Type 0 where
   pub found : FoundFde
   pub run : Run
 
+abbrev pub frame_with : FoundFde → Run → Option FrameAt
+frame_with found run = Some (record { found = found; run = run })
+
 -- by the row at an address of the description that is found for it, if one is
 abbrev pub frame_by : ℕ → Option FoundFde → Result (Option FrameAt) DeliverError
 frame_by a None = Ok None
-frame_by a (Some found) = result_map_both (λ run. Some (record { found = found; run = run })) Table (row_at emitted found.bases found.fde a)
+frame_by a (Some found) = result_map_both (frame_with found) Table (row_at emitted found.bases found.fde a)
 
 -- by the frame tables of the module that holds an address
 abbrev pub frame_in : List Span → ℕ → Option Module → Result (Option FrameAt) DeliverError
@@ -54,11 +57,12 @@ frame_of space c interrupted =
 
 -- ---- its caller
 
+abbrev pub next_with : Bool → Columns → Stepped
+next_with signal columns = record { context = context_of columns; signal = signal }
+
 -- the frame's caller, and whether the frame is a signal's
 abbrev pub caller_by : List Span → Context → FrameAt → Result Stepped DeliverError
-caller_by image c f =
-    result_map_both (λ columns. record { context = context_of columns; signal = f.found.fde.cie.letters.signal }) refusal_of
-    (caller_of x86_64 no_expressions image (columns_of c) f.run)
+caller_by image c f = result_map_both (next_with f.found.fde.cie.letters.signal) refusal_of (caller_of x86_64 no_expressions image (columns_of c) f.run)
 
 abbrev pub caller_at : List Span → Context → Option FrameAt → Result (Option Stepped) DeliverError
 caller_at image c None = Ok None

@@ -6,7 +6,6 @@ ghost use Rattle.unwind_definitions.specs.Function.{Function};
 ghost use Rattle.unwind_definitions.specs.Chain.{Call};
 ghost use Rattle.stack_deliver.specs.Causes.{IsRefused, EndsBy};
 ghost use Rattle.stack_deliver.specs.Delivering.{Delivers, delivery_of};
-ghost use Rattle.stack_deliver.specs.Modules.{AreApart};
 ghost use Rattle.stack_deliver.specs.Walking.{StartsValidChain, ShowsDelivery, IsDelivered, delivered_in};
 
 use crate::delivery::{DeliverError, Delivery, Ending, Outcome, Stepped};
@@ -23,7 +22,7 @@ use unwind_arch::x86_64::Context;
 #[tactic(auto, unfolding(crate::specs::Delivering::delivery_of))]
 fn delivered<L: Ledger>(
     space: &Space<'_>,
-    start: &Context,
+    start: Context,
     exception: u64,
     resumes: &Resumes,
     limit: u32,
@@ -32,15 +31,13 @@ fn delivered<L: Ledger>(
 ) -> Result<Ending, DeliverError>
     requires within { limit ≤ room.old.limit }
     requires empty { (room.old.visited ≡ []) × (room.old.trail ≡ []) }
-    ensures exact { IsDelivered result room.new (delivery_of space.now start.now exception resumes.now limit) }
+    ensures exact { IsDelivered result room.new (delivery_of space.now start exception resumes.now limit) }
     ensures places { room.new.limit ≡ room.old.limit }
-    ensures apart { AreApart 0 space.now.modules }
-    ensures whole { length start.now.registers ≡ 16 }
     ensures unticked { steps.new.number ≡ steps.old.number }
 {
     let mut rows = RowRoom::new();
     let state = Stepped {
-        context: *start,
+        context: start,
         signal: false,
     };
     let phase = Some(Phase::Search);
@@ -52,7 +49,7 @@ fn delivered<L: Ledger>(
     }
     passes(
         space,
-        start,
+        &start,
         exception,
         stop.kept(),
         resumes,
@@ -66,7 +63,7 @@ fn delivered<L: Ledger>(
 /// The same in a room that is emptied first, and after an error again.
 fn emptied<L: Ledger>(
     space: &Space<'_>,
-    start: &Context,
+    start: Context,
     exception: u64,
     resumes: &Resumes,
     limit: u32,
@@ -74,11 +71,10 @@ fn emptied<L: Ledger>(
     steps: &mut Steps<L>,
 ) -> Result<Ending, DeliverError>
     requires { limit ≤ room.old.limit }
-    ensures exact { IsDelivered result room.new (delivery_of space.now start.now exception resumes.now limit) }
+    ensures exact { IsDelivered result room.new (delivery_of space.now start exception resumes.now limit) }
     ensures emptied { OnErr result ((room.new.visited ≡ []) × (room.new.trail ≡ [])) }
     ensures places { room.new.limit ≡ room.old.limit }
-    ensures apart { AreApart 0 space.now.modules }
-    ensures whole { length start.now.registers ≡ 16 }
+    ensures whole { length start.registers ≡ 16 }
     ensures unticked { steps.new.number ≡ steps.old.number }
 {
     room.clear();
@@ -152,7 +148,9 @@ pub fn deliver_into<L: Ledger>(
 {
     // It is for languages that tell their own exceptions from those of others.
     let _ = class;
-    emptied(space, start, exception, resumes, limit, room, steps)
+    // No two of its modules share an address, as a space's type says.
+    let _ = space.image();
+    emptied(space, *start, exception, resumes, limit, room, steps)
 }
 
 /// Delivers an exception to the stack whose innermost frame has the registers `start`.

@@ -1,6 +1,6 @@
 // The passes over a stack: the search for a frame whose language takes the exception, and then the
 // cleanups on the way to it. Itanium C++ ABI, exception handling, level I, section 1.3.
-ghost use Rattle.std.specs.Prelude.{◌≡◌, ◌≤◌, ◌<◌, ◌++◌, ◌∷◌, Err, [], true, length, Some, OnOk, IfOk};
+ghost use Rattle.std.specs.Prelude.{◌≡◌, ◌≤◌, ◌<◌, ◌++◌, ◌∷◌, Err, [], true, false, length, Some, OnOk, IfOk};
 ghost use Rattle.std.specs.Option.{option_map};
 ghost use Rattle.unwinding_core.specs.Answered.{answered};
 ghost use Rattle.unwinding_core.specs.Languages.{action_of};
@@ -118,7 +118,7 @@ fn asked(
 }
 
 /// The action for which a pass stops at a frame. A walk, which has no phase, stops for none.
-fn stop(
+fn stop_action(
     phase: Option<Phase>,
     image: &MemoryImage<'_>,
     state: &Stepped,
@@ -154,7 +154,7 @@ fn meet<'a, L: Ledger>(
         return Ok(Turn::End);
     };
     let image = space.image();
-    if let Some(action) = stop(phase, image, state, &found)? {
+    if let Some(action) = stop_action(phase, image, state, &found)? {
         return Ok(Turn::Stop(action, rows.row().saved_args_size()));
     }
     leave(image, state, &found, rows)?;
@@ -186,8 +186,9 @@ pub(crate) fn outwards<'a, L: Ledger>(
 ) -> Result<Option<Stop>, DeliverError>
     requires within { limit ≤ room.old.limit }
     requires empty { visits phase ≡ true → room.old.visited ≡ [] }
-    ensures exact { IsOutward (visits phase) result room.old room.new (line_for phase space.now limit start.context start.signal) }
+    ensures exact { IsOutward (visits phase) result room.new (line_for phase space.now limit start.context start.signal) }
     ensures kept { (room.new.trail ≡ room.old.trail) × (room.new.limit ≡ room.old.limit) }
+    ensures stays { visits phase ≡ false → room.new ≡ room.old }
     ensures unticked { steps.new.number ≡ steps.old.number }
 {
     let mut state = start;

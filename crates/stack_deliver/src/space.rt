@@ -93,7 +93,7 @@ impl<'a> Space<'a> {
 
     /// The module that contains the address.
     pub(crate) fn module_at(&self, address: u64) -> Option<Module>
-        ensures found { result ≡ module_at self.now.modules address }
+        ensures { result ≡ module_at self.now.modules address }
     {
         match last_below(&self.modules, address) {
             Some(module) => {

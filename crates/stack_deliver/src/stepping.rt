@@ -6,6 +6,10 @@ ghost use Rattle.unwind_definitions.specs.State.{State, Shows};
 ghost use Rattle.unwind_definitions.specs.Function.{Function};
 ghost use Rattle.unwind_definitions.specs.Chain.{Call};
 ghost use Rattle.unwind_definitions.specs.LanguageSearch.{address_of_call};
+ghost use Rattle.unwind_definitions.specs.Row.{Run};
+ghost use Rattle.unwind_definitions.specs.Caller.{x86_64, caller_of};
+ghost use Rattle.frame_rows.specs.Rows.{IsRowOf};
+ghost use Rattle.unwinding_core.specs.Calling.{no_expressions, columns_given};
 ghost use Rattle.unwind_arch.specs.Contexts.{columns_of};
 ghost use Rattle.unwinding_core.specs.Named.{found_by};
 ghost use Rattle.stack_deliver.specs.Modules.{AreApart, contains};
@@ -20,7 +24,9 @@ use crate::space::{Module, Space};
 use eh_frame::RowRoom;
 use memory_image::{Ledger, MemoryImage, Steps};
 use unwind_arch::x86_64::{Arch, Context};
-use unwinding_core::{FDESearchResult, FrameInfo, address_asked, find_named, step_by_row};
+use unwinding_core::{
+    FDESearchResult, FrameInfo, StepError, address_asked, find_named, step_by_row,
+};
 
 impl Stepped {
     /// The address that is asked of the frame: that of its instruction, or of a byte of its call.
@@ -86,6 +92,19 @@ pub(crate) fn frame_at<'a, L: Ledger>(
     }
 }
 
+/// The registers of a frame's caller, by the row in `rows`.
+fn caller(
+    image: &MemoryImage<'_>,
+    context: &Context,
+    rows: &RowRoom<'_>,
+) -> Result<Context, StepError>
+    ensures { (run : Run) → IsRowOf rows.now run → columns_given columns_of result ≡ caller_of x86_64 no_expressions image.now (columns_of context.now) run }
+{
+    let mut caller = *context;
+    step_by_row::<Arch>(image, &mut caller, &rows.row())?;
+    Ok(caller)
+}
+
 /// Puts the caller of the frame at a state in the state's place, by the row in `rows`. After a fault
 /// the state is unspecified.
 pub(crate) fn leave(
@@ -96,8 +115,10 @@ pub(crate) fn leave(
 ) -> Result<(), DeliverError>
     ensures { (f : FrameAt) → IsFrameOf found.now rows.now f → result_map (λ done. state.new) result ≡ caller_by image.now state.old.context f }
 {
-    step_by_row::<Arch>(image, &mut state.context, &rows.row())?;
-    state.signal = found.fde.is_signal_trampoline();
+    *state = Stepped {
+        context: caller(image, &state.context, rows)?,
+        signal: found.fde.is_signal_trampoline(),
+    };
     Ok(())
 }
 

@@ -5,7 +5,6 @@ ghost use Rattle.unwind_definitions.specs.State.{State};
 ghost use Rattle.unwind_definitions.specs.Function.{Function};
 ghost use Rattle.unwind_definitions.specs.Chain.{Call};
 ghost use Rattle.stack_deliver.specs.Delivering.{Delivers, NeedsMore, line_of};
-ghost use Rattle.stack_deliver.specs.Modules.{AreApart};
 ghost use Rattle.stack_deliver.specs.Walking.{IsWalked, StepFails, StartsChain, ShowChain};
 
 use crate::delivery::{DeliverError, Stepped};
@@ -33,7 +32,6 @@ fn walked<L: Ledger>(
     ensures emptied { OnErr result (room.new.visited ≡ []) }
     ensures no_cleanup { room.new.trail ≡ [] }
     ensures places { room.new.limit ≡ room.old.limit }
-    ensures apart { AreApart 0 space.now.modules }
     ensures unticked { steps.new.number ≡ steps.old.number }
 {
     room.clear();
@@ -86,6 +84,8 @@ pub fn walk_into<L: Ledger>(
     // A scan of a frame table isn't counted.
     ensures unticked { steps.new.number ≡ steps.old.number }
 {
+    // No two of its modules share an address, as a space's type says.
+    let _ = space.image();
     walked(space, start, interrupted, limit, room, steps)
 }
 
