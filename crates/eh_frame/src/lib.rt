@@ -29,7 +29,7 @@ pub use encoded_pointers::{
 };
 pub use entries::EhFrame;
 pub use fde::Fde;
-pub use frame_rows::{CfaRule, Register, RegisterMap, RegisterRule, Registers, Row, RowRoom};
+pub use frame_rows::{CfaRule, Register, RegisterMap, RegisterRule, Registers, Row, RowRef, RowRoom};
 pub use header::{EhFrameHdr, HdrTable};
 pub use unwind_definitions::Error;
 

@@ -11,7 +11,7 @@ use Rattle.arrayvec.proofs.ArrayVecLemmas.{items-with_items}
 use Rattle.unwind_definitions.specs.Instructions.{Rule}
 use Rattle.std.proofs.lemmas.List.{length-map, map-set}
 use Rattle.std.proofs.Math.ListN.{get_or-map}
-use Rattle.frame_rows.specs.declared.register.Register.{Register}
+use Rattle.unwind_arch.specs.declared.register.Register.{Register}
 use Rattle.frame_rows.specs.declared.rule.RegisterRule.{RegisterRule}
 use Rattle.frame_rows.specs.declared.rule.RegisterRule.TheVariants as rules
 use Rattle.frame_rows.specs.Rules.{entry_of, rule_meaning, rule_in, find_in, with_rule, AscendsFrom, is_room}

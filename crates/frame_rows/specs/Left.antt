@@ -1,6 +1,6 @@
 -- What an iterator over a row's registers has left.
 use Rattle.std.specs.Prelude.{List, drop}
-use Rattle.frame_rows.specs.declared.register.Register.{Register as Column}
+use Rattle.unwind_arch.specs.declared.register.Register.{Register as Column}
 use Rattle.frame_rows.specs.declared.rule.RegisterRule.{RegisterRule}
 use Rattle.frame_rows.specs.declared.row.Registers.{Registers}
 

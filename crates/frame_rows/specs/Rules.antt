@@ -4,7 +4,7 @@ use Rattle.unwind_definitions.specs.Instructions.{Rule, Undefined, SameValue, Of
 use Rattle.unwind_definitions.specs.Row.{CfaRule, ColumnAndOffset, ByExpression}
 use Rattle.frame_rows.specs.declared.rule.CfaRule.{CfaRule as CodedCfa}
 use Rattle.frame_rows.specs.declared.rule.CfaRule.TheVariants as cfa
-use Rattle.frame_rows.specs.declared.register.Register.{Register}
+use Rattle.unwind_arch.specs.declared.register.Register.{Register}
 use Rattle.frame_rows.specs.declared.rule.RegisterRule.{RegisterRule}
 use Rattle.frame_rows.specs.declared.rule.RegisterRule.TheVariants as rules
 

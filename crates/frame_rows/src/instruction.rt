@@ -8,9 +8,9 @@ ghost use Rattle.encoded_pointers.specs.Readers.{GivesOr};
 ghost use Rattle.encoded_pointers.specs.View.{at};
 ghost use Rattle.frame_rows.specs.Decoded.{meaning, coding_by, plain_operation};
 
-use crate::register::Register;
 use crate::rule::RegisterRule;
 use encoded_pointers::Cursor;
+use unwind_arch::Register;
 use unwind_definitions::Error;
 
 /// What the operands of a program's instructions are multiplied by. DWARF 5 section 6.4.1.

@@ -2,7 +2,8 @@
 //!
 //! [`row_at`] runs the program of a common information entry and that of a description up to an
 //! address, and gives the [`Row`] by which the caller of the function's frame is found there; a
-//! [`RowRoom`] makes one row after another in the same place. [`RegisterMap`] is what a machine's registers are to a row.
+//! [`RowRoom`] makes one row after another in the same place. Either lends it as a [`RowRef`].
+//! [`RegisterMap`] is what a machine's registers are to a row.
 //!
 //! Of the instructions these are read so far: `DW_CFA_advance_loc` and the three with an operand,
 //! `DW_CFA_offset`, `DW_CFA_restore`, `DW_CFA_nop`, `DW_CFA_undefined`, `DW_CFA_remember_state`,
@@ -15,20 +16,19 @@
 mod instruction;
 mod machine;
 mod program;
-mod register;
-mod register_map;
 mod room;
 mod row;
+mod row_ref;
 mod rule;
 mod rules;
 
 pub use instruction::AlignmentFactors;
 pub use program::row_at;
-pub use register::Register;
-pub use register_map::RegisterMap;
 pub use room::RowRoom;
 pub use row::{Registers, Row};
+pub use row_ref::RowRef;
 pub use rule::{CfaRule, RegisterRule};
+pub use unwind_arch::{Register, RegisterMap};
 pub use unwind_definitions::Error;
 
 #[cfg(test)]

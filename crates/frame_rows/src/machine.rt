@@ -7,10 +7,10 @@ ghost use Rattle.unwind_definitions.specs.Row.{ColumnAndOffset, has_column};
 ghost use Rattle.frame_rows.specs.Rules.{cfa_meaning};
 
 use crate::instruction::CallFrameInstruction;
-use crate::register::Register;
 use crate::row::Row;
 use crate::rule::{CfaRule, RegisterRule};
 use crate::rules::RegisterRules;
+use unwind_arch::Register;
 use unwind_definitions::Error;
 
 /// The row that the instructions so far make, which may lack a CFA.

@@ -12,12 +12,13 @@ ghost use Rattle.frame_rows.specs.Rows.{GivesRow, made};
 use crate::instruction::AlignmentFactors;
 use crate::machine::Machine;
 use crate::program::run_programs;
-use crate::register::Register;
 use crate::row::Row;
+use crate::row_ref::RowRef;
 use crate::rule::CfaRule;
 use crate::rules::RegisterRules;
 use encoded_pointers::Cursor;
 use std::marker::Model;
+use unwind_arch::Register;
 use unwind_definitions::Error;
 
 /// Room in which one row after another is made.
@@ -54,10 +55,10 @@ impl<'a> RowRoom<'a> {
     }
 
     /// The row that was made last. Behind a fault it isn't told.
-    pub fn row(&self) -> &Row<'a>
-        ensures { result.now ≡ self.now }
+    pub fn row(&self) -> RowRef<'_, 'a>
+        ensures { result ≡ self.now }
     {
-        &self.row
+        self.row.as_ref()
     }
 
     /// Makes the row at an address of a description whose program begins at `start`, as

@@ -4,10 +4,11 @@ ghost use Rattle.std.specs.Prelude.{◌≡◌, ◌≤◌, length, map};
 ghost use Rattle.std.specs.Option.{option_map};
 ghost use Rattle.frame_rows.specs.Rules.{entry_of, rule_in, rule_meaning, cfa_meaning, AscendsFrom};
 
-use crate::register::Register;
+use crate::row_ref::RowRef;
 use crate::rule::{CfaRule, RegisterRule};
 use crate::rules::RegisterRules;
 use std::marker::Model;
+use unwind_arch::Register;
 
 /// How the caller of a frame is found from the registers at an address: a rule for the canonical
 /// frame address (CFA), and rules for registers. A register without a rule keeps its value.
@@ -89,10 +90,7 @@ impl<'a> Row<'a> {
         ensures ascending { AscendsFrom 0 self.now.rules }
         ensures count { length self.now.rules ≤ 32 }
     {
-        Registers {
-            entries: self.rules.entries(),
-            passed: 0,
-        }
+        Registers::over(self.rules.entries())
     }
 
     /// How many bytes of the stack hold arguments that the callee removes.
@@ -100,6 +98,13 @@ impl<'a> Row<'a> {
         ensures { result ≡ self.now.saved_args_size }
     {
         self.saved_args_size
+    }
+
+    /// The same row, whose rules stand here.
+    pub fn as_ref(&self) -> RowRef<'_, 'a>
+        ensures { result ≡ self.now }
+    {
+        RowRef::new(self.cfa, self.rules.entries(), self.saved_args_size)
     }
 }
 
@@ -109,6 +114,17 @@ pub struct Registers<'r, 'a> {
     entries: &'r [(Register, RegisterRule<'a>)],
     passed: usize,
     ghost within: { passed ≤ length entries.now },
+}
+
+impl<'r, 'a> Registers<'r, 'a> {
+    ghost use Rattle.frame_rows.specs.Left.{left};
+
+    // All of these.
+    pub(crate) fn over(entries: &'r [(Register, RegisterRule<'a>)]) -> Registers<'r, 'a>
+        ensures { left result ≡ entries.now }
+    {
+        Registers { entries, passed: 0 }
+    }
 }
 
 impl<'r, 'a> Iterator for Registers<'r, 'a> {

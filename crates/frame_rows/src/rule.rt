@@ -1,6 +1,6 @@
 //! Rules by which a row finds the caller's registers. DWARF 5 section 6.4.1.
 
-use crate::register::Register;
+use unwind_arch::Register;
 
 /// How the canonical frame address (CFA) is found.
 #[derive(Clone, Copy, Debug, PartialEq, Eq)]

@@ -2,10 +2,10 @@
 
 ghost use Rattle.std.specs.Prelude.{◌≡◌, ◌<◌, ℕ, List, length, IfOk, IfErr};
 
-use crate::register::Register;
 use crate::rule::RegisterRule;
 use arrayvec::ArrayVec;
 use std::marker::Model;
+use unwind_arch::Register;
 use unwind_definitions::Error;
 
 // how many registers can have a rule

@@ -14,11 +14,11 @@ use Rattle.stack_deliver.specs.declared.passes.Phase.{Phase}
 use Rattle.stack_deliver.specs.declared.passes.Phase.TheVariants as phase
 use Rattle.stack_deliver.specs.Modules.{SpaceValue}
 use Rattle.stack_deliver.specs.Resumes.{return_of}
-use Rattle.stack_deliver.specs.Stepping.{step_of, refusal_of, IsStepFault}
-use Rattle.stack_deliver.specs.Passes.{FrameAt, frame_of, caller_by, asked_if_named, asked_of, stops, goes, turn_asked, turn_by, Line, Stop, Turn, Ends, Stops, Goes, turn_of, with_context, line_turn, pass_of, kept_at, pad_of, PassEnd, Finishes, Elsewhere, end_of, cleanup_of, cleanup_at, resume_at, Passed, with_cleanup, resumed, followed, passes_of}
+use Rattle.stack_deliver.specs.Stepping.{step_of, refusal_of, FrameAt, frame_of, caller_by}
+use Rattle.stack_deliver.specs.Passes.{turn_at, asked_if_named, asked_of, stops, Line, Stop, Turn, Ends, Stops, Goes, turn_of, with_context, line_turn, pass_of, kept_at, pad_of, PassEnd, Finishes, Elsewhere, end_of, cleanup_of, cleanup_at, resume_at, Passed, with_cleanup, resumed, followed, passes_of, turn_for}
 use Rattle.stack_deliver.specs.Delivering.{delivered_after, delivered_at, delivered_to, delivered_by, delivery_of}
-use Rattle.stack_deliver.proofs.Framings.{some_next, stepped_by, step_is}
-use Rattle.stack_deliver.proofs.LineAnswers.{OnStepFault, step_faults}
+use Rattle.stack_deliver.proofs.StepParts.{some_next, stepped_by, step_is, goes, turn_asked, turn_by}
+use Rattle.stack_deliver.proofs.LineAnswers.{IsStepFault, OnStepFault, step_faults}
 use Rattle.stack_deliver.specs.Causes.{TakenAt, SomePass, TrailIsFull, HasNoReturn, InPasses}
 
 module _ (space : SpaceValue) (exception kept : ℕ) (resumes : List (ℕ × ℕ)) (limit : ℕ) where
@@ -96,7 +96,7 @@ module _ (space : SpaceValue) (exception kept : ℕ) (resumes : List (ℕ × ℕ
 
 module _ (space : SpaceValue) where
   pub turn_faults : (p : Phase) (c : Context) (interrupted : Bool) → OnStepFault (turn_of p space c interrupted)
-  unfolding turn_of
+  unfolding turn_for
   turn_faults p c interrupted = by_frame (frame_of space c interrupted) refl
     where
       of_step : (e : DeliverError) → step_of space c interrupted ≡ Err e → IsStepFault e
@@ -106,12 +106,12 @@ module _ (space : SpaceValue) where
       by_caller f framed (Ok next) is = tt
       by_caller f framed (Err e) is = of_step e (step_is space c interrupted ∙ ap (stepped_by space.image c) framed ∙ ap some_next is)
 
-      by_test : (f : FrameAt) → frame_of space c interrupted ≡ Ok (Some f) → (asked : Action) (b : Bool) (past : Context) → OnStepFault (cond b (Ok (Stops asked past)) (goes (caller_by space.image c f)))
-      by_test f framed asked true past = tt
-      by_test f framed asked false past = by_caller f framed (caller_by space.image c f) refl
+      by_test : (f : FrameAt) → frame_of space c interrupted ≡ Ok (Some f) → (asked : Action) (b : Bool) → OnStepFault (turn_at space.image c f (cond b (Some asked) None))
+      by_test f framed asked true = tt
+      by_test f framed asked false = by_caller f framed (caller_by space.image c f) refl
 
       by_action : (f : FrameAt) → frame_of space c interrupted ≡ Ok (Some f) → (r : Result Action DeliverError) → OnStepFault r → OnStepFault (turn_asked p space.image c f r)
-      by_action f framed (Ok asked) on = by_test f framed asked (stops p asked) _
+      by_action f framed (Ok asked) on = by_test f framed asked (stops p asked)
       by_action f framed (Err e) on = on
 
       refused : (e : calls.StepFault) → IsStepFault (refusal_of e)

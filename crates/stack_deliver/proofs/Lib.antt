@@ -6,10 +6,8 @@ pub mod ContextLemmas
 pub mod DeliverFaults
 pub mod DeliveryAnswers
 pub mod FirstEntry
-pub mod Framings
 pub mod LineAnswers
 pub mod LineShows
-pub mod Lines
 pub mod MeetAnswers
 pub mod MetFrames
 pub mod OutcomeAnswers
@@ -19,5 +17,6 @@ pub mod PersonalityAsks
 pub mod Results
 pub mod Returns
 pub mod StepAnswers
+pub mod StepParts
 pub mod StepUndone
 pub mod Turns

@@ -9,47 +9,63 @@ use Rattle.unwind_arch.specs.declared.x86_64.Context.{Context}
 use Rattle.stack_deliver.specs.declared.space.Module.{Module}
 use Rattle.stack_deliver.specs.declared.delivery.Stepped.{Stepped}
 use Rattle.stack_deliver.specs.declared.delivery.DeliverError.{DeliverError}
-use Rattle.stack_deliver.specs.declared.delivery.DeliverError.TheVariants.{NoMemory, Unmapped, FrameLimit}
+use Rattle.stack_deliver.specs.declared.delivery.DeliverError.TheVariants.{NoMemory, Unmapped, FrameLimit, Table}
 use Rattle.unwinding_core.specs.Calling.{no_expressions}
 use Rattle.unwinding_core.specs.Finding.{FoundFde}
-use Rattle.unwinding_core.specs.Framed.{address_asked}
+use Rattle.unwind_definitions.specs.LanguageSearch.{address_of_call}
 use Rattle.unwinding_core.specs.Named.{found_by}
 use Rattle.unwind_arch.specs.Contexts.{columns_of}
 use Rattle.stack_deliver.specs.Modules.{SpaceValue, module_at}
-use Rattle.stack_deliver.specs.Stepping.{step_of, in_module, called, by_row, stepped, context_by, IsStepFault}
+use Rattle.std.specs.Result.{result_map_both}
+use Rattle.stack_deliver.specs.Stepping.{FrameAt, frame_with, next_with, frame_by, frame_in, frame_of, refusal_of, step_of}
+use Rattle.stack_deliver.proofs.StepParts.{some_next, stepped_by, step_is}
 use Rattle.stack_deliver.specs.Delivering.{with_first, line_after, line_of, NeedsMore}
 use Rattle.stack_deliver.specs.Walking.{StepFails}
 use Rattle.stack_deliver.proofs.StepAnswers.{step_unmapped}
+
+-- the faults that a step may answer
+abbrev pub IsStepFault : DeliverError → Type 0
+IsStepFault (Table e) = Unit {0}
+IsStepFault (Unmapped a) = Unit {0}
+IsStepFault _ = ⊥
 
 -- a step answers no fault but those of tables and of memory
 abbrev pub OnStepFault : {A : Type 0} → Result A DeliverError → Type 0
 OnStepFault (Ok v) = Unit {0}
 OnStepFault (Err e) = IsStepFault e
 
-faults_context : (signal : Bool) (r : Result calls.Columns calls.StepFault) → OnStepFault (stepped signal (context_by r))
-faults_context signal (Ok columns) = tt
-faults_context signal (Err (calls.Table f)) = tt
-faults_context signal (Err (calls.Unmapped a)) = tt
+faults_by : (a : ℕ) (o : Option FoundFde) → OnStepFault (frame_by a o)
+faults_by a None = tt
+faults_by a (Some found) = go (row_at emitted found.bases found.fde a)
+  where
+    go : (r : Result Run Fault) → OnStepFault (result_map_both (frame_with found) Table r)
+    go (Ok run) = tt
+    go (Err f) = tt
 
-faults_by_row : (image : List Span) (c : Context) (signal : Bool) (r : Result Run Fault) → OnStepFault (by_row image c signal r)
-faults_by_row image c signal (Ok run) = faults_context signal (calls.caller_of calls.x86_64 no_expressions image (columns_of c) run)
-faults_by_row image c signal (Err f) = tt
+faults_in : (image : List Span) (a : ℕ) (o : Option Module) → OnStepFault (frame_in image a o)
+faults_in image a None = tt
+faults_in image a (Some m) = faults_by a (found_by m.frame image a)
 
-faults_called : (image : List Span) (c : Context) (a : ℕ) (o : Option FoundFde) → OnStepFault (called image c a o)
-faults_called image c a None = tt
-faults_called image c a (Some found) = faults_by_row image c found.fde.cie.letters.signal (row_at emitted found.bases found.fde a)
+faults_framed : (space : SpaceValue) (c : Context) (interrupted : Bool) → OnStepFault (frame_of space c interrupted)
+unfolding frame_of
+faults_framed space c interrupted = go (eqb c.ra 0)
+  where
+    go : (t : Bool) → OnStepFault (cond t (Ok None) (frame_in space.image (address_of_call c.ra interrupted) (module_at space.modules (address_of_call c.ra interrupted))))
+    go true = tt
+    go false = faults_in space.image (address_of_call c.ra interrupted) (module_at space.modules (address_of_call c.ra interrupted))
 
-faults_in : (image : List Span) (c : Context) (a : ℕ) (o : Option Module) → OnStepFault (in_module image c a o)
-faults_in image c a None = tt
-faults_in image c a (Some m) = faults_called image c a (found_by m.frame image a)
+faults_called : (image : List Span) (c : Context) (r : Result (Option FrameAt) DeliverError) → OnStepFault r → OnStepFault (stepped_by image c r)
+faults_called image c (Ok None) on = tt
+faults_called image c (Err e) on = on
+faults_called image c (Ok (Some f)) on = go (calls.caller_of calls.x86_64 no_expressions image (columns_of c) f.run)
+  where
+    go : (r : Result calls.Columns calls.StepFault) → OnStepFault (some_next (result_map_both (next_with f.found.fde.cie.letters.signal) refusal_of r))
+    go (Ok columns) = tt
+    go (Err (calls.Table f)) = tt
+    go (Err (calls.Unmapped a)) = tt
 
 pub step_faults : (space : SpaceValue) (c : Context) (interrupted : Bool) → OnStepFault (step_of space c interrupted)
-unfolding step_of
-step_faults space c interrupted = go (eqb c.ra 0)
-  where
-    go : (t : Bool) → OnStepFault (cond t (Ok None) (in_module space.image c (address_asked c.ra interrupted) (module_at space.modules (address_asked c.ra interrupted))))
-    go true = tt
-    go false = faults_in space.image c (address_asked c.ra interrupted) (module_at space.modules (address_asked c.ra interrupted))
+step_faults space c interrupted = rw (step_is space c interrupted) (faults_called space.image c (frame_of space c interrupted) (faults_framed space c interrupted))
 
 first_limit : (c : Context) (r : Result (List Context) DeliverError) → with_first c r ≡ Err FrameLimit → r ≡ Err FrameLimit
 first_limit c (Ok cs) e = absurd cc

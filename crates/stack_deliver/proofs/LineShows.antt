@@ -1,5 +1,5 @@
 -- The line from a context that shows the start of a described chain shows the chain's states.
-use Rattle.std.proofs.Common.{inl, inr, ◌≡◌, ◌≢◌, ℕ, zero, suc, ◌-◌, ◌<◌, Bool, true, false, List, [], ◌∷◌, length, Option, Some, None, Ok, Err, refl, sym, subst, arith, eqb}
+use Rattle.std.proofs.Common.{inl, inr, ◌≡◌, ◌≢◌, ℕ, zero, suc, ◌-◌, ◌<◌, Bool, true, false, List, [], ◌∷◌, length, Option, Some, None, Ok, Err, ◌+◌, ◌%◌, ◌^◌, refl, sym, ap, ◌∙◌, subst, arith, eqb}
 use Rattle.std.specs.Prelude.{◌⊎◌, IsTrue, map}
 use Rattle.std.specs.List.{Contains, AllByRecursion}
 use Rattle.std.proofs.lemmas.Bool.Decides.{nat_tests}
@@ -9,6 +9,7 @@ use Rattle.unwind_definitions.specs.State.{State, IsState, Shows}
 use Rattle.unwind_definitions.specs.Prologue.{SystemV}
 use Rattle.unwind_definitions.specs.Scan.{scan}
 use Rattle.unwind_definitions.specs.LanguageTable.{input_at}
+use Rattle.unwind_definitions.specs.LanguageSearch.{address_of_call}
 use Rattle.unwind_definitions.specs.Function.{Function, IsFunction}
 use Rattle.unwind_definitions.specs.Chain.{Call, IsLink, IsEnd, IsChain, states_of}
 use Rattle.unwind_definitions.specs.Module as described
@@ -24,10 +25,11 @@ use Rattle.stack_deliver.specs.Modules.{SpaceValue, AreApart, contains, module_a
 use Rattle.stack_deliver.specs.Processes.{tables_of, module_of, process_of}
 use Rattle.unwinding_core.specs.Finding.{table_bases}
 use Rattle.unwinding_core.specs.Named.{found_by_kind}
-use Rattle.stack_deliver.specs.Stepping.{step_of, in_module}
+use Rattle.stack_deliver.specs.Stepping.{frame_in, frame_of, step_of}
+use Rattle.stack_deliver.proofs.StepParts.{stepped_by, step_is}
 use Rattle.stack_deliver.specs.Delivering.{line_of}
 use Rattle.stack_deliver.specs.Undone.{IsDescribedCall, HaveFrameTables, Undone, EachShows}
-use Rattle.stack_deliver.proofs.StepUndone.{step_undone}
+use Rattle.stack_deliver.proofs.MetFrames.{step_undone}
 
 -- a module that is found is one of the space's, and contains the address
 module_at-found : (modules : List Module) (m : Module) (a : ℕ) → module_at modules a ≡ Some m → Contains modules m × IsTrue (contains m a)
@@ -66,30 +68,31 @@ module _ (space : SpaceValue) where
       let same : table_bases m.frame.text_base f ≡ described.bases_of (module_of m) f = rw header refl in
       rw (same, none) refl
 
-  ends_in_module : (c : Context) (a : ℕ) (m : Module) → found_by_kind m.frame.text_base m.frame.kind space.image a ≡ None → in_module space.image c a (Some m) ≡ Ok None
-  ends_in_module c a m none = rw none refl
-
   -- an address that nothing covers ends the stack
-  by_module : (c : Context) (a : ℕ) → described.IsUncovered emitted (process_of space) a → (o : Option Module) → module_at space.modules a ≡ o → in_module space.image c a o ≡ Ok None
-  by_module c a free None found = refl
-  by_module c a free (Some m) found =
+  by_module : (a : ℕ) → described.IsUncovered emitted (process_of space) a → (o : Option Module) → module_at space.modules a ≡ o → frame_in space.image a o ≡ Ok None
+  by_module a free None found = refl
+  by_module a free (Some m) found =
       let r = module_at-found space.modules m a found in
-      ends_in_module c a m (in_no_entry a m (free (module_of m) (contains_in_map space.modules m r.0) r.1) m.frame.kind refl)
+      rw (in_no_entry a m (free (module_of m) (contains_in_map space.modules m r.0) r.1) m.frame.kind refl) refl
 
   -- the stack ends where the return address is 0 or no function covers it
-  pub ends : (functions : List Function) (c : Context) (s : State) → Shows (columns_of c) s → IsEnd space.image (described.IsUncovered emitted (process_of space)) functions s → step_of space c false ≡ Ok None
-  unfolding step_of
+  pub ends : (functions : List Function) (c : Context) (s : State) → Shows (columns_of c) s → IsEnd space.image (described.IsUncovered emitted (process_of space)) functions s → frame_of space c false ≡ Ok None
+  unfolding frame_of
   ends functions c s shows end = go end.ends
     where
-      go : (s.ra ≡ 0) ⊎ ((s.ra ≢ 0) × described.IsUncovered emitted (process_of space) (s.ra - 1)) → step_of space c false ≡ Ok None
+      go : (s.ra ≡ 0) ⊎ ((s.ra ≢ 0) × described.IsUncovered emitted (process_of space) (s.ra - 1)) → frame_of space c false ≡ Ok None
       go (inl none) = let e : columns_of c 16 ≡ Some s.ra = shows.ra in let at : c.ra ≡ 0 = cc in rw at refl
       go (inr u) =
           let e : columns_of c 16 ≡ Some s.ra = shows.ra in
           let at : c.ra ≡ s.ra = cc in
           let some : s.ra ≢ 0 = u.0 in
           let nonzero : eqb c.ra 0 ≡ false = grind (arith, nat_tests) in
-          let free : described.IsUncovered emitted (process_of space) (c.ra - 1) = subst (λ (n : ℕ). described.IsUncovered emitted (process_of space) (n - 1)) (sym at) u.1 in
-          rw nonzero (by_module c (c.ra - 1) free (module_at space.modules (c.ra - 1)) refl)
+          let low : s.ra < 2 ^ 64 = end.state.ra in
+          let asked : address_of_call c.ra false ≡ s.ra - 1 = omega arith in
+          rw (nonzero, asked) (by_module (s.ra - 1) u.1 (module_at space.modules (s.ra - 1)) refl)
+
+  step_ends : (functions : List Function) (c : Context) (s : State) → Shows (columns_of c) s → IsEnd space.image (described.IsUncovered emitted (process_of space)) functions s → step_of space c false ≡ Ok None
+  step_ends functions c s shows end = step_is space c false ∙ ap (stepped_by space.image c) (ends functions c s shows end)
 
   state_of : (functions : List Function) (s : State) (calls : List Call) → IsChain space.image (described.IsUncovered emitted (process_of space)) functions s calls → IsState s
   state_of functions s [] chain = chain.state
@@ -100,7 +103,7 @@ module _ (space : SpaceValue) where
       IsChain space.image (described.IsUncovered emitted (process_of space)) functions s calls → AllByRecursion (λ (k : Call). LiesDescribed emitted (process_of space) functions k.callee) calls → Shows (columns_of c) s → length calls < room →
       (cs : List Context) × (line_of space room c false ≡ Ok cs) × EachShows cs (states_of s calls)
   line_shows apart tables functions are s [] c zero chain lie shows less = absurd (omega arith)
-  line_shows apart tables functions are s [] c (suc room) chain lie shows less = (c ∷ [], rw (ends functions c s shows chain) refl, (shows, tt))
+  line_shows apart tables functions are s [] c (suc room) chain lie shows less = (c ∷ [], rw (step_ends functions c s shows chain) refl, (shows, tt))
   line_shows apart tables functions are s (k ∷ calls) c zero chain lie shows less = absurd (omega arith)
   line_shows apart tables functions are s (k ∷ calls) c (suc room) chain lie shows less =
       let link : IsLink space.image functions s k calls = chain.0 in

@@ -11,12 +11,11 @@ use Rattle.stack_deliver.specs.declared.delivery.DeliverError.{DeliverError}
 use Rattle.stack_deliver.specs.declared.delivery.DeliverError.TheVariants.{FrameLimit}
 use Rattle.stack_deliver.specs.declared.passes.Phase.{Phase}
 use Rattle.stack_deliver.specs.Modules.{SpaceValue}
-use Rattle.stack_deliver.specs.Stepping.{step_of}
-use Rattle.stack_deliver.specs.Passes.{FrameAt, frame_of, caller_by, or_terminate, asked_if_named, asked_of, stops, past_arguments, goes, turn_asked, turn_by, Line, Stop, Turn, Ends, Stops, Goes, turn_of, with_context, line_turn, pass_of}
-use Rattle.stack_deliver.specs.Passing.{stop_in}
+use Rattle.stack_deliver.specs.Stepping.{step_of, FrameAt, frame_of, caller_by}
+use Rattle.stack_deliver.specs.Passes.{turn_at, or_terminate, asked_if_named, asked_of, stops, past_arguments, Line, Stop, Turn, Ends, Stops, Goes, turn_of, with_context, line_turn, pass_of, turn_for}
+use Rattle.stack_deliver.proofs.PassLines.{stop_in}
 use Rattle.stack_deliver.specs.Meeting.{Asks, GoesTo, EndsProgram, StackEnds, CantRead, Meets, GoesOnFrom}
-use Rattle.stack_deliver.proofs.Framings.{some_next, stepped_by, step_is}
-use Rattle.stack_deliver.proofs.Turns.{none_framed}
+use Rattle.stack_deliver.proofs.StepParts.{some_next, stepped_by, step_is, none_framed, goes, turn_asked, turn_by}
 
 -- ---- a turn
 
@@ -47,7 +46,7 @@ module _ (p : Phase) (space : SpaceValue) (c : Context) (interrupted : Bool) whe
 
   -- the end of the stack
   pub turn_ends : StackEnds space c interrupted → turn_of p space c interrupted ≡ Ok Ends
-  unfolding turn_of
+  unfolding turn_for
   turn_ends ends = let is : framed ≡ Ok None = none_framed space.image c framed (sym (step_is space c interrupted) ∙ ends) in rw is refl
 
   -- what a turn is, by what it meets
@@ -61,7 +60,7 @@ module _ (p : Phase) (space : SpaceValue) (c : Context) (interrupted : Bool) whe
   by_caller f wanted asks silent is (Ok next) called = record { action = wanted; asks = asks; silent = silent; caller = next_is f next is called }
   by_caller f wanted asks silent is (Err e) called = inr (inr (wanted, asks, silent, next_fails f e is called))
 
-  by_test : (f : FrameAt) (wanted : Action) → Asks space c interrupted wanted → framed ≡ Ok (Some f) → (b : Bool) → stops p wanted ≡ b → IsTurn (cond b (Ok (Stops wanted (past_arguments c (argument_size f.run)))) (goes (caller_by space.image c f)))
+  by_test : (f : FrameAt) (wanted : Action) → Asks space c interrupted wanted → framed ≡ Ok (Some f) → (b : Bool) → stops p wanted ≡ b → IsTurn (turn_at space.image c f (cond b (Some wanted) None))
   by_test f wanted asks is true stopped = (asks, stopped)
   by_test f wanted asks is false silent = by_caller f wanted asks silent is (caller_by space.image c f) refl
 
@@ -80,7 +79,7 @@ module _ (p : Phase) (space : SpaceValue) (c : Context) (interrupted : Bool) whe
   by_frame (Err e) is = inl is
 
   turn_is : IsTurn (turn_of p space c interrupted)
-  unfolding turn_of
+  unfolding turn_for
   turn_is = by_frame framed refl
 
   pub turn_meets : (r : Result Turn DeliverError) → turn_of p space c interrupted ≡ r → IsTurn r
@@ -88,17 +87,17 @@ module _ (p : Phase) (space : SpaceValue) (c : Context) (interrupted : Bool) whe
 
   -- a frame that asks for something for which the pass stops
   pub turn_stops : (wanted : Action) → (asks : Asks space c interrupted wanted) → stops p wanted ≡ true → turn_of p space c interrupted ≡ Ok (Stops wanted (past_arguments c (argument_size asks.frame.run)))
-  unfolding turn_of
+  unfolding turn_for
   turn_stops wanted asks stopped = rw (asks.framed, asks.asked, stopped) refl
 
   -- a frame that asks for nothing of that kind
   pub turn_goes : (next : Stepped) → GoesTo p space c interrupted next → turn_of p space c interrupted ≡ Ok (Goes next)
-  unfolding turn_of
+  unfolding turn_for
   turn_goes next to = rw (to.asks.framed, to.asks.asked, to.silent, is_next to.asks.frame next to.asks.framed to.caller) refl
 
   -- what can't be read
   pub turn_fails : (e : DeliverError) → CantRead p e space c interrupted → turn_of p space c interrupted ≡ Err e
-  unfolding turn_of
+  unfolding turn_for
   turn_fails e (inl row) = rw row refl
   turn_fails e (inr (inl cell)) =
       let f : FrameAt = cell.0 in let fault : calls.StepFault = cell.1 in

@@ -11,7 +11,7 @@ use Rattle.unwind_definitions.specs.Scan.{scan}
 use Rattle.unwind_definitions.specs.LanguageTable.{input_at}
 use Rattle.unwind_definitions.specs.LanguageSearch.{address_of_call}
 use Rattle.unwind_definitions.specs.Caller.{Columns, StepFault, x86_64, caller_of}
-use Rattle.unwind_definitions.specs.State.{State, Shows}
+use Rattle.unwind_definitions.specs.State.{State, Shows, KeepsOthers}
 use Rattle.unwind_definitions.specs.Function.{Function, action_at}
 use Rattle.unwind_definitions.specs.Chain.{Call}
 use Rattle.unwind_definitions.specs.Module as described
@@ -33,12 +33,12 @@ use Rattle.stack_deliver.specs.declared.delivery.Stepped.{Stepped}
 use Rattle.stack_deliver.specs.declared.delivery.DeliverError.{DeliverError}
 use Rattle.stack_deliver.specs.Modules.{SpaceValue, AreApart, module_at}
 use Rattle.stack_deliver.specs.Processes.{tables_of, module_of, process_of}
-use Rattle.stack_deliver.specs.Stepping.{step_of, context_by}
+use Rattle.stack_deliver.specs.Stepping.{step_of, FrameAt, frame_by, frame_of, caller_by}
 use Rattle.stack_deliver.specs.Undone.{IsDescribedCall, HaveFrameTables, Undone}
-use Rattle.stack_deliver.specs.Passes.{FrameAt, frame_by, frame_of, marked, caller_by, asked_if_named, asked_of}
+use Rattle.stack_deliver.specs.Passes.{asked_if_named, asked_of}
 use Rattle.stack_deliver.proofs.ContextLemmas.{IsWhole}
-use Rattle.stack_deliver.proofs.Framings.{some_next, stepped_by, step_is}
-use Rattle.stack_deliver.proofs.StepUndone.{IsOf, contains_map, module_at-contains, step_undone}
+use Rattle.stack_deliver.proofs.StepParts.{some_next, stepped_by, step_is}
+use Rattle.stack_deliver.proofs.StepUndone.{IsOf, contains_map, module_at-contains, context_of-holds}
 
 -- the frame that a context shows of a called function, what its language asks, and its caller
 pub record Met (space : SpaceValue) (c : Context) (s : State) (call : Call) : Type 0 where
@@ -50,26 +50,9 @@ pub record Met (space : SpaceValue) (c : Context) (s : State) (call : Call) : Ty
   pub called : caller_by space.image c frame ≡ Ok next
   pub unmarked : next.signal ≡ false
   pub shows : Shows (columns_of next.context) call.caller
+  pub others : KeepsOthers (columns_of c) (columns_of next.context)
   pub whole : IsWhole next.context
   pub address : s.ra < 2 ^ 64
-
-some_same : (r : Result Stepped DeliverError) (next : Stepped) → some_next r ≡ Ok (Some next) → r ≡ Ok next
-some_same (Ok n) next e = let same : n ≡ next = cc in ap Ok same
-some_same (Err x) next e = absurd cc
-
--- a caller has sixteen registers
-caller_whole : (image : List Span) (c : Context) (f : FrameAt) (next : Stepped) → caller_by image c f ≡ Ok next → IsWhole next.context
-caller_whole image c f next e = go (caller_of x86_64 no_expressions image (columns_of c) f.run) e
-  where
-    go : (r : Result Columns StepFault) → marked f.found.fde.cie.letters.signal (context_by r) ≡ Ok next → IsWhole next.context
-    go (Ok columns) is =
-        let same : record { context = context_of columns; signal = f.found.fde.cie.letters.signal } ≡ next = cc in
-        subst (λ (n : Stepped). IsWhole n.context) same refl
-    go (Err x) is = absurd (none (context_by (Err x)) refl is)
-      where
-        none : (q : Result Context DeliverError) → context_by (Err x) ≡ q → marked f.found.fde.cie.letters.signal q ≡ Ok next → ⊥
-        none (Ok d) same is = absurd cc
-        none (Err y) same is = absurd cc
 
 -- what is asked, where a description asks what its function does
 asked_as : (image : List Span) (c : Context) (found : FoundFde) (f : Function) (a : ℕ) → AsksAs image found.bases f found.fde → address_of_call c.ra false ≡ a → asked_of image c false found ≡ Ok (action_at f a)
@@ -87,6 +70,9 @@ module _ (space : SpaceValue) (c : Context) (functions : List Function) (s : Sta
 
   ra_is : c.ra ≡ s.ra
   ra_is = let e : columns_of c 16 ≡ Some s.ra = shows.ra in cc
+
+  abbrev next : Stepped
+  next = record { context = context_of step.undoes.caller; signal = false }
 
   abbrev frame_at : Module → ℕ → FrameAt
   frame_at m f = record { found = record { fde = step.finds.fde; bases = table_bases m.frame.text_base f; table = input_at space.image f }; run = step.finds.run }
@@ -106,7 +92,6 @@ module _ (space : SpaceValue) (c : Context) (functions : List Function) (s : Sta
   unfolding frame_of
   found_with m f same kind place found =
       let nonzero : eqb c.ra 0 ≡ false = let some : s.ra ≢ 0 = is.called.returns in let at : c.ra ≡ s.ra = ra_is in grind (arith, nat_tests) in
-      let asked : c.ra - 1 ≡ s.ra - 1 = ap (λ (n : ℕ). n - 1) ra_is in
       let header : described.header_of (tables_of m.frame.kind) ≡ None = rw kind refl in
       let bases : described.bases_of step.finds.home step.finds.frame ≡ table_bases m.frame.text_base f =
       subst (λ (h : described.Module). described.bases_of h step.finds.frame ≡ table_bases m.frame.text_base f) same
@@ -116,10 +101,9 @@ module _ (space : SpaceValue) (c : Context) (functions : List Function) (s : Sta
       let row : row_at emitted (table_bases m.frame.text_base f) step.finds.fde (s.ra - 1) ≡ Ok step.finds.run = rw (← bases) step.finds.has_row in
       let tabled : frame_by (s.ra - 1) (found_by_kind m.frame.text_base (EhFrame f) space.image (s.ra - 1)) ≡ Ok (Some (frame_at m f)) = rw (scanned, row) refl in
       let framed : frame_of space c false ≡ Ok (Some (frame_at m f)) =
-      rw (nonzero, asked, found) (subst (λ (k : FrameInfoKind). frame_by (s.ra - 1) (found_by_kind m.frame.text_base k space.image (s.ra - 1)) ≡ Ok (Some (frame_at m f))) (sym kind) tabled) in
-      let undone : Undone (step_of space c false) (columns_of c) call.caller = step_undone space c functions s call apart tables is shows in
-      let called : caller_by space.image c (frame_at m f) ≡ Ok undone.next =
-      some_same (caller_by space.image c (frame_at m f)) undone.next (ap (stepped_by space.image c) (sym framed) ∙ sym (step_is space c false) ∙ undone.answered) in
+      rw (nonzero, asked_at, found) (subst (λ (k : FrameInfoKind). frame_by (s.ra - 1) (found_by_kind m.frame.text_base k space.image (s.ra - 1)) ≡ Ok (Some (frame_at m f))) (sym kind) tabled) in
+      let called : caller_by space.image c (frame_at m f) ≡ Ok next = rw (step.undoes.is_caller, step.finds.no_signal) refl in
+      let kept : columns_of (context_of step.undoes.caller) ≡ step.undoes.caller = λ i k. context_of-holds c step.undoes.caller call.caller step.undoes.shows step.undoes.others k i in
       let asks : AsksAs space.image (table_bases m.frame.text_base f) call.callee step.finds.fde =
       subst (λ (b : Bases). AsksAs space.image b call.callee step.finds.fde) bases (asks_as emitted space.image (described.bases_of step.finds.home step.finds.frame) call.callee step.finds.fde is.is_function step.finds.read step.finds.describes) in
       record {
@@ -127,11 +111,12 @@ module _ (space : SpaceValue) (c : Context) (functions : List Function) (s : Sta
         framed = framed;
         asks = asked_as space.image c (frame_at m f).found call.callee (s.ra - 1) asks asked_at;
         no_arguments = step.finds.no_arguments;
-        next = undone.next;
+        next = next;
         called = called;
-        unmarked = undone.unmarked;
-        shows = undone.shows;
-        whole = caller_whole space.image c (frame_at m f) undone.next called;
+        unmarked = refl;
+        shows = subst (λ (columns : Columns). Shows columns call.caller) (sym kept) step.undoes.shows;
+        others = subst (λ (columns : Columns). KeepsOthers (columns_of c) columns) (sym kept) step.undoes.others;
+        whole = refl;
         address = small;
       }
 
@@ -155,3 +140,13 @@ module _ (space : SpaceValue) (c : Context) (functions : List Function) (s : Sta
       let both = lists.both_true (leb m.start (s.ra - 1)) (ltb (s.ra - 1) m.end) inside in
       let found : module_at space.modules (s.ra - 1) ≡ Some m = module_at-contains 0 space.modules m (s.ra - 1) apart named.among (leb-true m.start (s.ra - 1) both.0) (ltb-true (s.ra - 1) m.end both.1) in
       by_kind m m.frame.kind named.same refl found
+
+  -- The step undoes the call.
+  pub step_undone : Undone (step_of space c false) (columns_of c) call.caller
+  step_undone = record {
+    next = met.next;
+    answered = step_is space c false ∙ ap (stepped_by space.image c) met.framed ∙ ap some_next met.called;
+    unmarked = met.unmarked;
+    shows = met.shows;
+    others = met.others;
+  }

@@ -1,5 +1,5 @@
 -- One turn of a pass, and one pass of several: what they leave.
-use Rattle.std.proofs.Common.{◌≡◌, ℕ, zero, suc, ◌<◌, Bool, List, [], ◌∷◌, ◌++◌, Option, Some, None, Result, Ok, Err, refl, sym, ap, ◌∙◌, append_assoc, append-nil, arith}
+use Rattle.std.proofs.Common.{◌≡◌, ℕ, zero, suc, ◌+◌, ◌<◌, length, length-append, Bool, true, false, List, [], ◌∷◌, ◌++◌, Option, Some, None, Result, Ok, Err, refl, sym, ap, ◌∙◌, append_assoc, append-nil, arith}
 use Rattle.unwind_definitions.specs.Function.{Action}
 use Rattle.unwind_arch.specs.declared.x86_64.Context.{Context}
 use Rattle.stack_deliver.specs.declared.delivery.Stepped.{Stepped}
@@ -7,13 +7,25 @@ use Rattle.stack_deliver.specs.declared.delivery.Trail.{Trail}
 use Rattle.stack_deliver.specs.declared.delivery.Ending.{Ending}
 use Rattle.stack_deliver.specs.declared.delivery.DeliverError.{DeliverError}
 use Rattle.stack_deliver.specs.declared.delivery.DeliverError.TheVariants.{PassLimit}
+use Rattle.unwinding_core.specs.declared.language_table.EhAction.{EhAction}
 use Rattle.stack_deliver.specs.declared.passes.Phase.{Phase}
+use Rattle.stack_deliver.specs.declared.passes.Stop.{Stop as CodeStop}
+use Rattle.stack_deliver.specs.declared.passes.Turn.TheVariants as code
 use Rattle.stack_deliver.specs.Modules.{SpaceValue}
 use Rattle.stack_deliver.specs.Resumes.{return_of}
-use Rattle.stack_deliver.specs.Passes.{Line, Stop, Ends, Stops, Goes, turn_of, line_turn, with_context, pass_of, PassEnd, Finishes, Elsewhere, end_of, end_by, cleanup_of, cleanup_at, resume_at, Passed, with_cleanup, resumed, followed, passes_of}
-use Rattle.stack_deliver.specs.Passing.{with_contexts, stop_in, with_cleanups}
+use Rattle.stack_deliver.specs.Results.{◌>>=◌, result_map}
+use Rattle.stack_deliver.specs.Stepping.{FrameAt, frame_of, caller_by, caller_at, step_of}
+use Rattle.stack_deliver.specs.Delivering.{with_first, line_after, line_of}
+use Rattle.stack_deliver.specs.Walking.{RoomValue, IsWalked}
+use Rattle.stack_deliver.specs.Passes.{Line, Stop, Ends, Goes, turn_in, turn_for, line_turn, with_context, line_for, PassEnd, Finishes, Elsewhere, cleanup_of, cleanup_at, resume_at, Passed, with_cleanup, resumed, followed, passes_of}
+use Rattle.stack_deliver.specs.Passing.{with_contexts, with_cleanups, turn_shown, line_shown, AreVisited, IsOutward, visited_with}
 
--- ---- a turn of a pass that keeps its contexts
+-- where a pass stops, without the contexts
+abbrev pub stop_in : Result Line DeliverError → Result (Option Stop) DeliverError
+stop_in (Ok line) = Ok line.stop
+stop_in (Err e) = Err e
+
+-- ---- a turn on the way outwards
 
 -- a context more in front
 front_first : (front : List Context) (c : Context) (r : Result Line DeliverError) → with_contexts front (with_context c r) ≡ with_contexts (front ++ c ∷ []) r
@@ -23,56 +35,81 @@ front_first front c (Ok line) = ap (λ (contexts : List Context). ok (record lin
     ok x = Ok x
 front_first front c (Err e) = refl
 
+-- no contexts in front
+pub no_contexts : (r : Result Line DeliverError) → with_contexts [] r ≡ r
+no_contexts (Ok line) = refl
+no_contexts (Err e) = refl
+
 abbrev pub stop_at : Context → Bool → Action → Context → Stop
 stop_at c interrupted action past = record { context = c; interrupted = interrupted; action = action; past = past }
 
-module _ (p : Phase) (space : SpaceValue) (room n : ℕ) (c : Context) (interrupted : Bool) (front : List Context) (whole : Result Line DeliverError) (turns : room ≡ suc n)
-    (is : with_contexts front (pass_of p space room c interrupted) ≡ whole) where
-  turned : with_contexts front (line_turn c interrupted (turn_of p space c interrupted) (pass_of p space n)) ≡ whole
+module _ (phase : Option Phase) (space : SpaceValue) (room n : ℕ) (at : Stepped) (front : List Context) (whole : Result Line DeliverError) (turns : room ≡ suc n)
+    (is : with_contexts front (line_for phase space room at.context at.signal) ≡ whole) where
+  turned : with_contexts front (line_turn at.context at.signal (turn_for phase space at.context at.signal) (line_for phase space n)) ≡ whole
   turned = rw turns at is
 
-  pub pass_faults : (e : DeliverError) → turn_of p space c interrupted ≡ Err e → whole ≡ Err e
-  pass_faults e fails = sym (rw fails at turned)
+  pub line_faults : (e : DeliverError) → turn_for phase space at.context at.signal ≡ Err e → whole ≡ Err e
+  line_faults e fails = sym (rw fails at turned)
 
-  pub pass_ends : turn_of p space c interrupted ≡ Ok Ends → whole ≡ Ok (record { contexts = front ++ c ∷ []; stop = None })
-  pass_ends ends = sym (rw ends at turned)
+  pub line_ends : turn_for phase space at.context at.signal ≡ Ok Ends → whole ≡ Ok (line_shown (front ++ at.context ∷ []) None)
+  line_ends ends = sym (rw ends at turned)
 
-  pub pass_stops : (asked : Action) (past : Context) → turn_of p space c interrupted ≡ Ok (Stops asked past) → whole ≡ Ok (record { contexts = front ++ c ∷ []; stop = Some (stop_at c interrupted asked past) })
-  pass_stops asked past stops = sym (rw stops at turned)
+  pub line_stops : (state : Stepped) (action : EhAction) (arguments : ℕ) → state ≡ at → turn_for phase space at.context at.signal ≡ Ok (turn_shown state (code.Stop action arguments)) →
+      whole ≡ Ok (line_shown (front ++ at.context ∷ []) (Some (record { state = state; action = action; arguments = arguments })))
+  line_stops state action arguments same stops = rw same (sym (rw (stops, same) at turned))
 
-  pub pass_goes : (s : Stepped) → turn_of p space c interrupted ≡ Ok (Goes s) → with_contexts (front ++ c ∷ []) (pass_of p space n s.context s.signal) ≡ whole
-  pass_goes s goes = sym (front_first front c (pass_of p space n s.context s.signal)) ∙ rw goes at turned
+  pub line_goes : (next : Stepped) → turn_for phase space at.context at.signal ≡ Ok (Goes next) → with_contexts (front ++ at.context ∷ []) (line_for phase space n next.context next.signal) ≡ whole
+  line_goes next goes = sym (front_first front at.context (line_for phase space n next.context next.signal)) ∙ rw goes at turned
 
--- ---- a turn of a pass that is asked only where it stops
+-- ---- the contexts that are visited
 
-first_stop : (c : Context) (r : Result Line DeliverError) → stop_in (with_context c r) ≡ stop_in r
-first_stop c (Ok line) = refl
-first_stop c (Err e) = refl
+pub start_visited : (b : Bool) (room : RoomValue) → (b ≡ true → room.visited ≡ []) → AreVisited b room []
+start_visited true room empty = empty refl
+start_visited false room empty = tt
 
-module _ (p : Phase) (space : SpaceValue) (room n : ℕ) (c : Context) (interrupted : Bool) (whole : Result (Option Stop) DeliverError) (turns : room ≡ suc n) (is : stop_in (pass_of p space room c interrupted) ≡ whole) where
-  met : stop_in (line_turn c interrupted (turn_of p space c interrupted) (pass_of p space n)) ≡ whole
-  met = rw turns at is
+pub more_visited : (b : Bool) (room : RoomValue) (c : Context) (front : List Context) → AreVisited b room front → AreVisited b (visited_with b room c) (front ++ c ∷ [])
+more_visited true room c front are = ap (λ (contexts : List Context). contexts ++ c ∷ []) are
+more_visited false room c front are = tt
 
-  pub stop_faults : (e : DeliverError) → turn_of p space c interrupted ≡ Err e → whole ≡ Err e
-  stop_faults e fails = sym (rw fails at met)
+pub unvisited : (b : Bool) (room : RoomValue) (c : Context) → b ≡ false → visited_with b room c ≡ room
+unvisited true room c is = absurd cc
+unvisited false room c is = refl
 
-  pub stop_ends : turn_of p space c interrupted ≡ Ok Ends → whole ≡ Ok None
-  stop_ends ends = sym (rw ends at met)
+pub visited_count : (b : Bool) (room : RoomValue) (c : Context) (n : ℕ) → (b ≡ true → length room.visited ≡ n) → b ≡ true → length (visited_with b room c).visited ≡ n + 1
+visited_count true room c n counted is = let before : length room.visited ≡ n = counted refl in rw (length-append room.visited (c ∷ [])) (omega arith)
+visited_count false room c n counted is = absurd cc
 
-  pub stop_stops : (asked : Action) (past : Context) → turn_of p space c interrupted ≡ Ok (Stops asked past) → whole ≡ Ok (Some (stop_at c interrupted asked past))
-  stop_stops asked past stops = sym (rw stops at met)
+pub visited_keeps : (b : Bool) (room : RoomValue) (c : Context) → ((visited_with b room c).trail ≡ room.trail) × ((visited_with b room c).limit ≡ room.limit)
+visited_keeps true room c = (refl, refl)
+visited_keeps false room c = (refl, refl)
 
-  pub stop_goes : (s : Stepped) → turn_of p space c interrupted ≡ Ok (Goes s) → stop_in (pass_of p space n s.context s.signal) ≡ whole
-  stop_goes s goes = sym (first_stop c (pass_of p space n s.context s.signal)) ∙ rw goes at met
+-- ---- a walk
 
--- where a pass stops tells how it ends
-abbrev pub ends_with : ℕ → ℕ → Result (Option Stop) DeliverError → Result PassEnd DeliverError
-ends_with exception kept (Ok stop) = Ok (end_by exception kept stop)
-ends_with exception kept (Err e) = Err e
+contexts_first : (c : Context) (r : Result Line DeliverError) → result_map (λ (line : Line). line.contexts) (with_context c r) ≡ with_first c (result_map (λ (line : Line). line.contexts) r)
+contexts_first c (Ok line) = refl
+contexts_first c (Err e) = refl
 
-pub end_is : (exception kept : ℕ) (r : Result Line DeliverError) → end_of exception kept r ≡ ends_with exception kept (stop_in r)
-end_is exception kept (Ok line) = refl
-end_is exception kept (Err e) = refl
+-- a walk's contexts are the line
+pub walk_line : (space : SpaceValue) (room : ℕ) (c : Context) (interrupted : Bool) → result_map (λ (line : Line). line.contexts) (line_for None space room c interrupted) ≡ line_of space room c interrupted
+unfolding turn_for step_of
+walk_line space zero c interrupted = refl
+walk_line space (suc room) c interrupted = go (frame_of space c interrupted) (λ next. walk_line space room next.context next.signal)
+  where
+    called : ((next : Stepped) → result_map (λ (line : Line). line.contexts) (line_for None space room next.context next.signal) ≡ line_of space room next.context next.signal) → (r : Result Stepped DeliverError) →
+        result_map (λ (line : Line). line.contexts) (line_turn c interrupted (result_map Goes r) (line_for None space room)) ≡ line_after c (result_map Some r) (line_of space room)
+    called outer (Ok next) = contexts_first c (line_for None space room next.context next.signal) ∙ ap (with_first c) (outer next)
+    called outer (Err e) = refl
+
+    go : (r : Result (Option FrameAt) DeliverError) → ((next : Stepped) → result_map (λ (line : Line). line.contexts) (line_for None space room next.context next.signal) ≡ line_of space room next.context next.signal) →
+        result_map (λ (line : Line). line.contexts) (line_turn c interrupted (r >>= turn_in None space.image c interrupted) (line_for None space room)) ≡ line_after c (r >>= caller_at space.image c) (line_of space room)
+    go (Ok None) outer = refl
+    go (Ok (Some f)) outer = called outer (caller_by space.image c f)
+    go (Err e) outer = refl
+
+-- a walk's answer
+pub walked_by : (r : Result (Option CodeStop) DeliverError) (room : RoomValue) (due : Result Line DeliverError) (line : Result (List Context) DeliverError) → IsOutward true r room due → result_map (λ (l : Line). l.contexts) due ≡ line → IsWalked r room line
+walked_by (Ok stop) room due line out is = sym is ∙ ap (result_map (λ (l : Line). l.contexts)) out.1 ∙ ap Ok (sym out.2)
+walked_by (Err e) room due line out is = sym is ∙ ap (result_map (λ (l : Line). l.contexts)) out
 
 -- ---- one pass of several
 

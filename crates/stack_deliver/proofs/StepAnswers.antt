@@ -1,5 +1,6 @@
 -- When a step answers that the stack ends, and when that a slot isn't mapped.
-use Rattle.std.proofs.Common.{inl, inr, ◌≡◌, ◌≢◌, ℕ, zero, suc, ◌+◌, ◌%◌, ◌^◌, Bool, true, false, List, Option, Some, None, Result, Ok, Err, refl, subst, arith, eqb, cond}
+use Rattle.std.proofs.Common.{inl, inr, ◌≡◌, ◌≢◌, ℕ, zero, suc, ◌+◌, ◌%◌, ◌^◌, Bool, true, false, List, Option, Some, None, Result, Ok, Err, refl, sym, ap, subst, ◌∙◌, arith, eqb}
+use Rattle.std.specs.Prelude.{◌⊎◌}
 use Rattle.std.specs.Option.{option_or, option_map_or}
 use Rattle.std.proofs.lemmas.Bool.Decides.{nat_tests, eqb_tells}
 use Rattle.memory_image.specs.Image.{Span, word_at}
@@ -19,27 +20,26 @@ use Rattle.unwinding_core.specs.declared.find_fde.custom.FrameInfoKind.{FrameInf
 use Rattle.unwinding_core.specs.declared.find_fde.custom.FrameInfoKind.TheVariants.{EhFrame, EhFrameHdr}
 use Rattle.unwinding_core.specs.Calling.{no_expressions}
 use Rattle.unwinding_core.specs.Finding.{FoundFde, table_bases, found_in}
-use Rattle.unwinding_core.specs.Framed.{address_asked}
+use Rattle.unwind_definitions.specs.LanguageSearch.{address_of_call}
 use Rattle.unwinding_core.specs.Named.{found_by_kind, found_by}
 use Rattle.stack_deliver.specs.declared.space.Module.{Module}
 use Rattle.stack_deliver.specs.declared.delivery.DeliverError.{DeliverError}
 use Rattle.stack_deliver.specs.declared.delivery.DeliverError.TheVariants.{Table, Unmapped}
 use Rattle.unwind_arch.specs.Contexts.{columns_of}
 use Rattle.stack_deliver.specs.Modules.{SpaceValue, module_at}
-use Rattle.stack_deliver.specs.Stepping.{step_of, in_module, called, by_row, stepped, context_by, FindsNone, IsUncovered, EndsAt, RowFaults, FaultsAt}
+use Rattle.std.specs.Result.{result_map_both}
+use Rattle.stack_deliver.specs.declared.delivery.Stepped.{Stepped}
+use Rattle.stack_deliver.specs.Stepping.{FrameAt, frame_with, next_with, frame_by, frame_in, frame_of, caller_by, refusal_of, step_of, FindsNone, IsUncovered, EndsAt, RowFaults, FaultsAt}
+use Rattle.stack_deliver.proofs.StepParts.{some_next, stepped_by, step_is, none_framed}
 
-none_stepped : (signal : Bool) (r : Result Context DeliverError) → stepped signal r ≡ Ok None → ⊥
-none_stepped signal (Ok d) e = absurd cc
-none_stepped signal (Err x) e = absurd cc
-
-none_by_row : (image : List Span) (c : Context) (signal : Bool) (r : Result Run Fault) → by_row image c signal r ≡ Ok None → ⊥
-none_by_row image c signal (Ok run) e = none_stepped signal (context_by (calls.caller_of calls.x86_64 no_expressions image (columns_of c) run)) e
-none_by_row image c signal (Err x) e = absurd cc
-
--- there is no caller where nothing is found
-none_called : (image : List Span) (c : Context) (a : ℕ) (o : Option FoundFde) → called image c a o ≡ Ok None → o ≡ None
-none_called image c a None e = refl
-none_called image c a (Some found) e = absurd (none_by_row image c found.fde.cie.letters.signal (row_at emitted found.bases found.fde a) e)
+-- there is no frame where nothing is found
+none_found : (a : ℕ) (o : Option FoundFde) → frame_by a o ≡ Ok None → o ≡ None
+none_found a None e = refl
+none_found a (Some found) e = absurd (never (row_at emitted found.bases found.fde a) e)
+  where
+    never : (r : Result Run Fault) → result_map_both (frame_with found) Table r ≡ Ok None → ⊥
+    never (Ok run) h = absurd cc
+    never (Err x) h = absurd cc
 
 -- a scan that leads to nothing has a fault
 none_scanned : (bases : pointers.Bases) (table : Input) (r : Result Fde Fault) → found_in bases table r ≡ None → (x : Fault) × (r ≡ Err x)
@@ -54,31 +54,41 @@ by_kind_none : (image : List Span) (text : Option ℕ) (kind : FrameInfoKind) (a
 by_kind_none image text (EhFrame frame) a free = rw free.1 refl
 by_kind_none image text (EhFrameHdr header) a free = refl
 
-none_in_module : (image : List Span) (c : Context) (a : ℕ) (o : Option Module) → in_module image c a o ≡ Ok None → IsUncovered image o a
-none_in_module image c a None e = tt
-none_in_module image c a (Some m) e = none_by_kind image m.frame.text_base m.frame.kind a (none_called image c a (found_by m.frame image a) e)
+none_in_module : (image : List Span) (a : ℕ) (o : Option Module) → frame_in image a o ≡ Ok None → IsUncovered image o a
+none_in_module image a None e = tt
+none_in_module image a (Some m) e = none_by_kind image m.frame.text_base m.frame.kind a (none_found a (found_by m.frame image a) e)
 
-in_module_none : (image : List Span) (c : Context) (a : ℕ) (o : Option Module) → IsUncovered image o a → in_module image c a o ≡ Ok None
-in_module_none image c a None free = refl
-in_module_none image c a (Some m) free = rw (by_kind_none image m.frame.text_base m.frame.kind a free) refl
+in_module_none : (image : List Span) (a : ℕ) (o : Option Module) → IsUncovered image o a → frame_in image a o ≡ Ok None
+in_module_none image a None free = refl
+in_module_none image a (Some m) free = rw (by_kind_none image m.frame.text_base m.frame.kind a free) refl
 
--- a step answers the end of the stack where it ends, and nowhere else
-pub step_ends : (space : SpaceValue) (c : Context) (interrupted : Bool) → step_of space c interrupted ≡ Ok None → EndsAt space c interrupted
-unfolding step_of
-step_ends space c interrupted e = elim (eqb_tells c.ra 0) as (λ t. EndsAt space c interrupted) [
-  | inl none ↦ inl none.1
-  | inr some ↦
-      let e' : in_module space.image c (address_asked c.ra interrupted) (module_at space.modules (address_asked c.ra interrupted)) ≡ Ok None = rw some.0 at e in
-      inr (some.1, none_in_module space.image c (address_asked c.ra interrupted) (module_at space.modules (address_asked c.ra interrupted)) e')
-]
+module _ (space : SpaceValue) (c : Context) (interrupted : Bool) where
+  abbrev asked : ℕ
+  asked = address_of_call c.ra interrupted
 
-pub ends_step : (space : SpaceValue) (c : Context) (interrupted : Bool) → EndsAt space c interrupted → step_of space c interrupted ≡ Ok None
-unfolding step_of
-ends_step space c interrupted (inl none) = rw none refl
-ends_step space c interrupted (inr u) =
-    let some : c.ra ≢ 0 = u.0 in
-    let nonzero : eqb c.ra 0 ≡ false = grind (arith, nat_tests) in
-    rw nonzero (in_module_none space.image c (address_asked c.ra interrupted) (module_at space.modules (address_asked c.ra interrupted)) u.1)
+  abbrev framed : Result (Option FrameAt) DeliverError
+  framed = frame_of space c interrupted
+
+  -- a step answers the end of the stack where it ends, and nowhere else
+  pub step_ends : step_of space c interrupted ≡ Ok None → EndsAt space c interrupted
+  unfolding frame_of
+  step_ends e =
+      let nothing : framed ≡ Ok None = none_framed space.image c framed (sym (step_is space c interrupted) ∙ e) in
+      elim (eqb_tells c.ra 0) as (λ t. EndsAt space c interrupted) [
+        | inl none ↦ inl none.1
+        | inr some ↦ inr (some.1, none_in_module space.image asked (module_at space.modules asked) (rw some.0 at nothing))
+      ]
+
+  no_frame : EndsAt space c interrupted → framed ≡ Ok None
+  unfolding frame_of
+  no_frame (inl none) = rw none refl
+  no_frame (inr u) =
+      let some : c.ra ≢ 0 = u.0 in
+      let nonzero : eqb c.ra 0 ≡ false = grind (arith, nat_tests) in
+      rw nonzero (in_module_none space.image asked (module_at space.modules asked) u.1)
+
+  pub ends_step : EndsAt space c interrupted → step_of space c interrupted ≡ Ok None
+  ends_step ends = step_is space c interrupted ∙ ap (stepped_by space.image c) (no_frame ends)
 
 -- ---- a slot that isn't mapped
 
@@ -150,77 +160,123 @@ module _ (image : List Span) (columns : calls.Columns) (run : Run) (b : ℕ) whe
       go None e = absurd cc
       go (Some rule) e = unmapped_with (calls.cfa_value no_expressions columns rule) (unmapped_cfa rule) e
 
-by_context : (signal : Bool) (r : Result calls.Columns calls.StepFault) (b : ℕ) → stepped signal (context_by r) ≡ Err (Unmapped b) → r ≡ Err (calls.Unmapped b)
-by_context signal (Ok columns) b e = absurd cc
-by_context signal (Err (calls.Table f)) b e = absurd cc
-by_context signal (Err (calls.Unmapped a)) b e = cc
+-- ---- what a frame and its caller answer
 
-unmapped_by_row : (image : List Span) (c : Context) (signal : Bool) (b : ℕ) (r : Result Run Fault) → by_row image c signal r ≡ Err (Unmapped b) → word_at image b ≡ None
-unmapped_by_row image c signal b (Ok run) e = unmapped_caller image (columns_of c) run b (by_context signal (calls.caller_of calls.x86_64 no_expressions image (columns_of c) run) b e)
-unmapped_by_row image c signal b (Err f) e = absurd cc
-
-unmapped_called : (image : List Span) (c : Context) (a b : ℕ) (o : Option FoundFde) → called image c a o ≡ Err (Unmapped b) → word_at image b ≡ None
-unmapped_called image c a b None e = absurd cc
-unmapped_called image c a b (Some found) e = unmapped_by_row image c found.fde.cie.letters.signal b (row_at emitted found.bases found.fde a) e
-
-unmapped_in : (image : List Span) (c : Context) (a b : ℕ) (o : Option Module) → in_module image c a o ≡ Err (Unmapped b) → word_at image b ≡ None
-unmapped_in image c a b None e = absurd cc
-unmapped_in image c a b (Some m) e = unmapped_called image c a b (found_by m.frame image a) e
-
--- a step that answers an unmapped slot names one
-pub step_unmapped : (space : SpaceValue) (c : Context) (interrupted : Bool) (b : ℕ) → step_of space c interrupted ≡ Err (Unmapped b) → word_at space.image b ≡ None
-unfolding step_of
-step_unmapped space c interrupted b e = go (eqb c.ra 0) e
+-- a frame is refused for its row alone
+by_row : (a : ℕ) (o : Option FoundFde) (e : DeliverError) → frame_by a o ≡ Err e → (found : FoundFde) × (x : Fault) × (o ≡ Some found) × (row_at emitted found.bases found.fde a ≡ Err x) × (e ≡ Table x)
+by_row a None e is = absurd cc
+by_row a (Some found) e is = go (row_at emitted found.bases found.fde a) refl is
   where
-    go : (t : Bool) → cond t (Ok None) (in_module space.image c (address_asked c.ra interrupted) (module_at space.modules (address_asked c.ra interrupted))) ≡ Err (Unmapped b) → word_at space.image b ≡ None
-    go true e = absurd cc
-    go false e = unmapped_in space.image c (address_asked c.ra interrupted) b (module_at space.modules (address_asked c.ra interrupted)) e
+    go : (r : Result Run Fault) → row_at emitted found.bases found.fde a ≡ r → result_map_both (frame_with found) Table r ≡ Err e →
+        (g : FoundFde) × (x : Fault) × (Some found ≡ Some g) × (row_at emitted g.bases g.fde a ≡ Err x) × (e ≡ Table x)
+    go (Ok run) row h = absurd cc
+    go (Err x) row h = (found, x, refl, row, cc)
 
--- ---- a fault of tables
+-- a frame is what is found, with its row
+with_row : (a : ℕ) (o : Option FoundFde) (f : FrameAt) → frame_by a o ≡ Ok (Some f) → (o ≡ Some f.found) × (row_at emitted f.found.bases f.found.fde a ≡ Ok f.run)
+with_row a None f is = absurd cc
+with_row a (Some found) f is = go (row_at emitted found.bases found.fde a) refl is
+  where
+    go : (r : Result Run Fault) → row_at emitted found.bases found.fde a ≡ r → result_map_both (frame_with found) Table r ≡ Ok (Some f) →
+        (Some found ≡ Some f.found) × (row_at emitted f.found.bases f.found.fde a ≡ Ok f.run)
+    go (Ok run) row h =
+        let same : record { found = found; run = run } ≡ f = cc in
+        subst (λ (g : FrameAt). (Some found ≡ Some g.found) × (row_at emitted g.found.bases g.found.fde a ≡ Ok g.run)) same (refl, row)
+    go (Err x) row h = absurd cc
 
-table_stepped : (signal : Bool) (r : Result calls.Columns calls.StepFault) (e : Fault) → stepped signal (context_by r) ≡ Err (Table e) → r ≡ Err (calls.Table e)
-table_stepped signal (Ok columns) e is = absurd cc
-table_stepped signal (Err (calls.Table f)) e is = cc
-table_stepped signal (Err (calls.Unmapped a)) e is = absurd cc
+caller_unmapped : (image : List Span) (c : Context) (f : FrameAt) (b : ℕ) → caller_by image c f ≡ Err (Unmapped b) → calls.caller_of calls.x86_64 no_expressions image (columns_of c) f.run ≡ Err (calls.Unmapped b)
+caller_unmapped image c f b e = go (calls.caller_of calls.x86_64 no_expressions image (columns_of c) f.run) e
+  where
+    go : (r : Result calls.Columns calls.StepFault) → result_map_both (next_with f.found.fde.cie.letters.signal) refusal_of r ≡ Err (Unmapped b) → r ≡ Err (calls.Unmapped b)
+    go (Ok columns) h = absurd cc
+    go (Err (calls.Table x)) h = absurd cc
+    go (Err (calls.Unmapped a)) h = cc
 
-table_by_row : (image : List Span) (c : Context) (signal : Bool) (r : Result Run Fault) (e : Fault) → by_row image c signal r ≡ Err (Table e) → RowFaults image c r e
-table_by_row image c signal (Ok run) e is = table_stepped signal (calls.caller_of calls.x86_64 no_expressions image (columns_of c) run) e is
-table_by_row image c signal (Err f) e is = cc
+caller_faults : (image : List Span) (c : Context) (f : FrameAt) (e : Fault) → caller_by image c f ≡ Err (Table e) → calls.caller_of calls.x86_64 no_expressions image (columns_of c) f.run ≡ Err (calls.Table e)
+caller_faults image c f e is = go (calls.caller_of calls.x86_64 no_expressions image (columns_of c) f.run) is
+  where
+    go : (r : Result calls.Columns calls.StepFault) → result_map_both (next_with f.found.fde.cie.letters.signal) refusal_of r ≡ Err (Table e) → r ≡ Err (calls.Table e)
+    go (Ok columns) h = absurd cc
+    go (Err (calls.Table x)) h = cc
+    go (Err (calls.Unmapped a)) h = absurd cc
 
-by_row_table : (image : List Span) (c : Context) (signal : Bool) (r : Result Run Fault) (e : Fault) → RowFaults image c r e → by_row image c signal r ≡ Err (Table e)
-by_row_table image c signal (Ok run) e fault = rw fault refl
-by_row_table image c signal (Err f) e fault = rw fault refl
+-- a step is refused for the row, or for the caller
+fails_parts : (image : List Span) (c : Context) (r : Result (Option FrameAt) DeliverError) (e : DeliverError) → stepped_by image c r ≡ Err e → (r ≡ Err e) ⊎ ((f : FrameAt) × (r ≡ Ok (Some f)) × (caller_by image c f ≡ Err e))
+fails_parts image c (Ok None) e is = absurd cc
+fails_parts image c (Ok (Some f)) e is = inr (f, refl, go (caller_by image c f) is)
+  where
+    go : (r : Result Stepped DeliverError) → some_next r ≡ Err e → r ≡ Err e
+    go (Ok n) h = absurd cc
+    go (Err x) h = cc
+fails_parts image c (Err x) e is = inl cc
 
-module _ (space : SpaceValue) (c : Context) (interrupted : Bool) (e : Fault) where
-  abbrev asked : ℕ
-  asked = address_asked c.ra interrupted
+module _ (space : SpaceValue) (c : Context) (interrupted : Bool) where
+  abbrev at_call : ℕ
+  at_call = address_of_call c.ra interrupted
 
-  table_found : c.ra ≢ 0 → (m : Module) → module_at space.modules asked ≡ Some m → (o : Option FoundFde) → found_by m.frame space.image asked ≡ o → called space.image c asked o ≡ Err (Table e) → FaultsAt space c interrupted e
-  table_found some m holds None finds is = absurd cc
-  table_found some m holds (Some found) finds is = record {
-    returns = some;
-    holder = m;
-    holds = holds;
-    found = found;
-    finds = finds;
-    fault = table_by_row space.image c found.fde.cie.letters.signal (row_at emitted found.bases found.fde asked) e is;
-  }
+  abbrev here : Result (Option FrameAt) DeliverError
+  here = frame_of space c interrupted
 
-  table_in : c.ra ≢ 0 → (o : Option Module) → module_at space.modules asked ≡ o → in_module space.image c asked o ≡ Err (Table e) → FaultsAt space c interrupted e
-  table_in some None holds is = absurd cc
-  table_in some (Some m) holds is = table_found some m holds (found_by m.frame space.image asked) refl is
+  -- the module that holds the address of a frame, or of a frame's fault
+  pub record Held (r : Result (Option FrameAt) DeliverError) : Type 0 where
+    pub returns : c.ra ≢ 0
+    pub holder : Module
+    pub holds : module_at space.modules at_call ≡ Some holder
+    pub framed : frame_by at_call (found_by holder.frame space.image at_call) ≡ r
+
+  held_in : (r : Result (Option FrameAt) DeliverError) → r ≢ Ok None → here ≡ r → Held r
+  unfolding frame_of
+  held_in r some is = elim (eqb_tells c.ra 0) as (λ t. Held r) [
+    | inl nowhere ↦ let none : Ok None ≡ r = rw nowhere.0 at is in absurd (some (sym none))
+    | inr returns ↦ go returns.1 (module_at space.modules at_call) refl (rw returns.0 at is)
+  ]
+    where
+      go : c.ra ≢ 0 → (o : Option Module) → module_at space.modules at_call ≡ o → frame_in space.image at_call o ≡ r → Held r
+      go returns None holds framed = absurd (some (sym framed))
+      go returns (Some m) holds framed = record { returns = returns; holder = m; holds = holds; framed = framed }
+
+  held_frame : (r : Result (Option FrameAt) DeliverError) → Held r → here ≡ r
+  unfolding frame_of
+  held_frame r held =
+      let some : c.ra ≢ 0 = held.returns in
+      let nonzero : eqb c.ra 0 ≡ false = grind (arith, nat_tests) in
+      rw (nonzero, held.holds) held.framed
+
+  step_parts : (e : DeliverError) → step_of space c interrupted ≡ Err e → (here ≡ Err e) ⊎ ((f : FrameAt) × (here ≡ Ok (Some f)) × (caller_by space.image c f ≡ Err e))
+  step_parts e is = fails_parts space.image c here e (sym (step_is space c interrupted) ∙ is)
+
+  -- a step that answers an unmapped slot names one
+  pub step_unmapped : (b : ℕ) → step_of space c interrupted ≡ Err (Unmapped b) → word_at space.image b ≡ None
+  step_unmapped b e = go (step_parts (Unmapped b) e)
+    where
+      go : (here ≡ Err (Unmapped b)) ⊎ ((f : FrameAt) × (here ≡ Ok (Some f)) × (caller_by space.image c f ≡ Err (Unmapped b))) → word_at space.image b ≡ None
+      go (inl row) =
+          let held = held_in (Err (Unmapped b)) (λ h. absurd cc) row in
+          let fault = by_row at_call (found_by held.holder.frame space.image at_call) (Unmapped b) held.framed in
+          let is : Unmapped b ≡ Table fault.1 = fault.4 in absurd cc
+      go (inr caller) = unmapped_caller space.image (columns_of c) caller.0.run b (caller_unmapped space.image c caller.0 b caller.2)
 
   -- a step answers a fault of tables where there is one, and nowhere else
-  pub step_table : step_of space c interrupted ≡ Err (Table e) → FaultsAt space c interrupted e
-  unfolding step_of
-  step_table is = elim (eqb_tells c.ra 0) as (λ t. FaultsAt space c interrupted e) [
-    | inl none ↦ let no : Ok None ≡ Err (Table e) = rw none.0 at is in absurd cc
-    | inr some ↦ table_in some.1 (module_at space.modules asked) refl (rw some.0 at is)
-  ]
+  pub step_table : (e : Fault) → step_of space c interrupted ≡ Err (Table e) → FaultsAt space c interrupted e
+  step_table e is = go (step_parts (Table e) is)
+    where
+      go : (here ≡ Err (Table e)) ⊎ ((f : FrameAt) × (here ≡ Ok (Some f)) × (caller_by space.image c f ≡ Err (Table e))) → FaultsAt space c interrupted e
+      go (inl row) =
+          let held = held_in (Err (Table e)) (λ h. absurd cc) row in
+          let fault = by_row at_call (found_by held.holder.frame space.image at_call) (Table e) held.framed in
+          let same : fault.1 ≡ e = let f : Table e ≡ Table fault.1 = fault.4 in cc in
+          record { returns = held.returns; holder = held.holder; holds = held.holds; found = fault.0; finds = fault.2; fault = rw fault.3 same }
+      go (inr caller) =
+          let held = held_in (Ok (Some caller.0)) (λ h. absurd cc) caller.1 in
+          let row = with_row at_call (found_by held.holder.frame space.image at_call) caller.0 held.framed in
+          record { returns = held.returns; holder = held.holder; holds = held.holds; found = caller.0.found; finds = row.0; fault = rw row.1 (caller_faults space.image c caller.0 e caller.2) }
 
-  pub table_step : FaultsAt space c interrupted e → step_of space c interrupted ≡ Err (Table e)
-  unfolding step_of
-  table_step faults =
-      let some : c.ra ≢ 0 = faults.returns in
-      let nonzero : eqb c.ra 0 ≡ false = grind (arith, nat_tests) in
-      rw (nonzero, faults.holds, faults.finds) (by_row_table space.image c faults.found.fde.cie.letters.signal (row_at emitted faults.found.bases faults.found.fde asked) e faults.fault)
+  pub table_step : (e : Fault) → FaultsAt space c interrupted e → step_of space c interrupted ≡ Err (Table e)
+  table_step e faults = go (row_at emitted faults.found.bases faults.found.fde at_call) refl faults.fault
+    where
+      by : (r : Result Run Fault) → row_at emitted faults.found.bases faults.found.fde at_call ≡ r → here ≡ result_map_both (frame_with faults.found) Table r
+      by r row = held_frame (result_map_both (frame_with faults.found) Table r) record { returns = faults.returns; holder = faults.holder; holds = faults.holds; framed = rw (faults.finds, row) refl }
+
+      go : (r : Result Run Fault) → row_at emitted faults.found.bases faults.found.fde at_call ≡ r → RowFaults space.image c r e → step_of space c interrupted ≡ Err (Table e)
+      go (Ok run) row fault = step_is space c interrupted ∙ ap (stepped_by space.image c) (by (Ok run) row) ∙ rw fault refl
+      go (Err x) row fault = step_is space c interrupted ∙ ap (stepped_by space.image c) (by (Err x) row) ∙ rw fault refl

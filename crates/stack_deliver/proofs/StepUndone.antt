@@ -1,35 +1,19 @@
--- The step from a frame of a described function undoes its call.
+-- The module of an address, and the columns of a described caller.
 use Rattle.std.proofs.Common.{inl, inr, ◌≡◌, ◌≢◌, ℕ, zero, suc, ◌-◌, ◌<◌, ◌≤◌, Bool, true, false, List, [], ◌∷◌, get_or, Option, Some, None, Ok, refl, sym, ap, subst, ◌∙◌, arith, cond, eqb, ltb, leb}
 use Rattle.std.specs.Prelude.{◌⊎◌, ◌&&◌, IsTrue, IsFalse, map}
 use Rattle.std.specs.Option.{unwrap_or}
 use Rattle.std.specs.List.{Contains}
 use Rattle.std.proofs.lemmas.Bool.Decides.{nat_tests, eqb_tells}
 use Rattle.std.proofs.lemmas.Bool.{ltb-true, leb-true}
-use Rattle.unwind_definitions.specs.Forms.{emitted}
-use Rattle.unwind_definitions.specs.Row.{row_at}
-use Rattle.unwind_definitions.specs.Scan.{scan}
-use Rattle.unwind_definitions.specs.LanguageTable.{input_at}
 use Rattle.unwind_definitions.specs.Caller.{Columns}
 use Rattle.unwind_definitions.specs.State.{RBX, RBP, R12, R13, R14, R15, State, value_of, Shows, is_followed, KeepsOthers}
-use Rattle.unwind_definitions.specs.Function.{Function}
-use Rattle.unwind_definitions.specs.Chain.{Call}
 use Rattle.unwind_definitions.specs.Module as described
-use Rattle.unwind_laws.specs.Walked.{Steps}
-use Rattle.unwind_laws.proofs.Walk.{one_step}
 use Rattle.unwind_laws.proofs.Booleans as lists
 use Rattle.unwind_arch.specs.declared.x86_64.Context.{Context}
 use Rattle.stack_deliver.specs.declared.space.Module.{Module}
-use Rattle.stack_deliver.specs.declared.delivery.Stepped.{Stepped}
-use Rattle.unwinding_core.specs.declared.find_fde.custom.FrameInfoKind.{FrameInfoKind}
-use Rattle.unwinding_core.specs.declared.find_fde.custom.FrameInfoKind.TheVariants.{EhFrame, EhFrameHdr}
 use Rattle.unwind_arch.specs.Contexts.{columns_of, context_of, general_columns}
-use Rattle.stack_deliver.specs.Modules.{SpaceValue, AreApart, module_at}
-use Rattle.stack_deliver.specs.Processes.{tables_of, module_of, process_of}
-use Rattle.unwinding_core.specs.Calling.{no_expressions}
-use Rattle.unwinding_core.specs.Finding.{table_bases}
-use Rattle.unwinding_core.specs.Named.{found_by_kind}
-use Rattle.stack_deliver.specs.Stepping.{step_of, called}
-use Rattle.stack_deliver.specs.Undone.{IsDescribedCall, HaveFrameTables, Undone}
+use Rattle.stack_deliver.specs.Modules.{AreApart, module_at}
+use Rattle.stack_deliver.specs.Processes.{module_of}
 
 -- a module of the process is one of the space
 pub record IsOf (modules : List Module) (home : described.Module) : Type 0 where
@@ -138,61 +122,3 @@ module _ (old : Context) (caller : Columns) (t : State) (shows : Shows caller t)
           let v = value_at k small in
           rw (low, general-at (λ i. unwrap_or (caller i) 0) k small) (some_kept (caller k) v.0 v.1)
       go false high = holds-special k high
-
--- The step undoes the call of a described function, in a process whose modules name their frame tables.
-module _ (space : SpaceValue) (c : Context) (functions : List Function) (s : State) (call : Call) (apart : AreApart 0 space.modules) (tables : HaveFrameTables (process_of space))
-    (is : IsDescribedCall (process_of space) functions s call) (shows : Shows (columns_of c) s) where
-  abbrev step : Steps emitted (process_of space) no_expressions (columns_of c) (s.ra - 1) call
-  step = one_step emitted (process_of space) no_expressions functions (s.ra - 1) s call (columns_of c)
-      record { is_function = is.is_function; listed = is.listed; lies = is.lies; inside = is.called.inside; entered = is.called.entered; caller = is.caller; ends = is.ends } shows
-
-  ra_is : c.ra ≡ s.ra
-  ra_is = let e : columns_of c 16 ≡ Some s.ra = shows.ra in cc
-
-  abbrev next : Stepped
-  next = record { context = context_of step.undoes.caller; signal = false }
-
-  -- with the module and its frame table at hand
-  answer : (m : Module) (f : ℕ) → module_of m ≡ step.finds.home → m.frame.kind ≡ EhFrame f → f ≡ step.finds.frame → module_at space.modules (s.ra - 1) ≡ Some m → step_of space c false ≡ Ok (Some next)
-  unfolding step_of
-  answer m f same kind place found =
-      let nonzero : eqb c.ra 0 ≡ false = let some : s.ra ≢ 0 = is.called.returns in let at : c.ra ≡ s.ra = ra_is in grind (arith, nat_tests) in
-      let asked : c.ra - 1 ≡ s.ra - 1 = ap (λ (n : ℕ). n - 1) ra_is in
-      let header : described.header_of (tables_of m.frame.kind) ≡ None = rw kind refl in
-      let bases : described.bases_of step.finds.home step.finds.frame ≡ table_bases m.frame.text_base f =
-      subst (λ (h : described.Module). described.bases_of h step.finds.frame ≡ table_bases m.frame.text_base f) same
-      (subst (λ (g : ℕ). described.bases_of (module_of m) g ≡ table_bases m.frame.text_base f) place (rw header refl)) in
-      let scanned : scan emitted (table_bases m.frame.text_base f) (input_at space.image f) (s.ra - 1) ≡ Ok step.finds.fde =
-      rw (← bases, place) step.finds.found in
-      let row : row_at emitted (table_bases m.frame.text_base f) step.finds.fde (s.ra - 1) ≡ Ok step.finds.run = rw (← bases) step.finds.has_row in
-      let tabled : called space.image c (s.ra - 1) (found_by_kind m.frame.text_base (EhFrame f) space.image (s.ra - 1)) ≡ Ok (Some next) = rw (scanned, row, step.undoes.is_caller, step.finds.no_signal) refl in
-      rw (nonzero, asked, found) (subst (λ (k : FrameInfoKind). called space.image c (s.ra - 1) (found_by_kind m.frame.text_base k space.image (s.ra - 1)) ≡ Ok (Some next)) (sym kind) tabled)
-
-  -- it names its frame table
-  by_kind : (m : Module) (kind : FrameInfoKind) → module_of m ≡ step.finds.home → m.frame.kind ≡ kind → module_at space.modules (s.ra - 1) ≡ Some m → step_of space c false ≡ Ok (Some next)
-  by_kind m (EhFrame f) same kind found =
-      let address : described.frame_address space.image (tables_of m.frame.kind) ≡ Some step.finds.frame = subst (λ (h : described.Module). described.frame_address space.image h.tables ≡ Some step.finds.frame) (sym same) step.finds.address in
-      let at : described.frame_address space.image (tables_of (EhFrame f)) ≡ Some step.finds.frame = rw kind at address in
-      let place : f ≡ step.finds.frame = cc in
-      answer m f same kind place found
-  by_kind m (EhFrameHdr h) same kind found =
-      let free : described.header_of step.finds.home.tables ≡ None = lists.all_contains (λ (k : described.Module). described.header_of k.tables ≡ None) (map module_of space.modules) step.finds.home tables step.finds.known in
-      let own : described.header_of (tables_of m.frame.kind) ≡ None = subst (λ (k : described.Module). described.header_of k.tables ≡ None) (sym same) free in
-      let other : described.header_of (tables_of (EhFrameHdr h)) ≡ None = rw kind at own in
-      absurd cc
-
-  pub step_undone : Undone (step_of space c false) (columns_of c) call.caller
-  step_undone =
-      let named : IsOf space.modules step.finds.home = contains_map space.modules step.finds.home step.finds.known in
-      let m : Module = named.named in
-      let inside : IsTrue (described.in_module (s.ra - 1) (module_of m)) = subst (λ (h : described.Module). IsTrue (described.in_module (s.ra - 1) h)) (sym named.same) step.finds.inside in
-      let both = lists.both_true (leb m.start (s.ra - 1)) (ltb (s.ra - 1) m.end) inside in
-      let found : module_at space.modules (s.ra - 1) ≡ Some m = module_at-contains 0 space.modules m (s.ra - 1) apart named.among (leb-true m.start (s.ra - 1) both.0) (ltb-true (s.ra - 1) m.end both.1) in
-      let kept : columns_of (context_of step.undoes.caller) ≡ step.undoes.caller = λ i k. context_of-holds c step.undoes.caller call.caller step.undoes.shows step.undoes.others k i in
-      record {
-        next = next;
-        answered = by_kind m m.frame.kind named.same refl found;
-        unmarked = refl;
-        shows = subst (λ (columns : Columns). Shows columns call.caller) (sym kept) step.undoes.shows;
-        others = subst (λ (columns : Columns). KeepsOthers (columns_of c) columns) (sym kept) step.undoes.others;
-      }

@@ -23,9 +23,9 @@ use Rattle.stack_deliver.specs.declared.passes.Phase.{Phase}
 use Rattle.stack_deliver.specs.Modules.{SpaceValue}
 use Rattle.stack_deliver.specs.Processes.{process_of}
 use Rattle.stack_deliver.specs.Undone.{IsDescribedCall}
-use Rattle.stack_deliver.specs.Passes.{FrameAt, frame_of, caller_by, stops, past_arguments, Stops, Goes, turn_of, with_context, pass_of, enters}
+use Rattle.stack_deliver.specs.Stepping.{FrameAt, frame_of, caller_by}
+use Rattle.stack_deliver.specs.Passes.{stops, past_arguments, Stops, Goes, turn_of, with_context, pass_of, enters, turn_for}
 use Rattle.stack_deliver.proofs.ContextLemmas.{IsWhole}
-use Rattle.stack_deliver.proofs.Framings.{some_next, stepped_by, step_is}
 use Rattle.stack_deliver.proofs.LineShows.{ends}
 use Rattle.stack_deliver.proofs.MetFrames.{Met}
 use Rattle.stack_deliver.proofs.PassLines.{stop_at}
@@ -44,11 +44,11 @@ module _ (space : SpaceValue) (c : Context) (s : State) (k : Call) (m : Met spac
       ap (λ (n : ℕ). record c { registers = set c.registers 7 n }) v ∙ ap (λ (registers : List ℕ). record c { registers = registers }) (set-get_or c.registers 7 0)
 
   pub met_stops : (p : Phase) → stops p (action_in s k) ≡ true → turn_of p space c false ≡ Ok (Stops (action_in s k) c)
-  unfolding turn_of
+  unfolding turn_for
   met_stops p asks = rw (m.framed, m.asks, asks, past_same) refl
 
   pub met_goes : (p : Phase) → stops p (action_in s k) ≡ false → turn_of p space c false ≡ Ok (Goes m.next)
-  unfolding turn_of
+  unfolding turn_for
   met_goes p asks = rw (m.framed, m.asks, asks, m.called) refl
 
   -- a pass that stops there
@@ -63,26 +63,13 @@ module _ (space : SpaceValue) (c : Context) (s : State) (k : Call) (m : Met spac
 
 -- ---- the end of the stack
 
-pub none_framed : (image : List Span) (c : Context) (r : Result (Option FrameAt) DeliverError) → stepped_by image c r ≡ Ok None → r ≡ Ok None
-none_framed image c (Ok None) e = refl
-none_framed image c (Ok (Some f)) e = absurd (never (callers f) e)
-  where
-    callers : FrameAt → Result Stepped DeliverError
-    callers g = caller_by image c g
-
-    never : (r : Result Stepped DeliverError) → some_next r ≡ Ok None → ⊥
-    never (Ok n) e = absurd cc
-    never (Err x) e = absurd cc
-none_framed image c (Err x) e = absurd cc
-
 -- a pass ends there
 pub pass_ends_at : (space : SpaceValue) (functions : List Function) (c : Context) (s : State) (p : Phase) (room : ℕ) → 0 < room → Shows (columns_of c) s → IsEnd space.image (IsUncovered emitted (process_of space)) functions s →
     pass_of p space room c false ≡ Ok (record { contexts = c ∷ []; stop = None })
-unfolding turn_of
+unfolding turn_for
 pass_ends_at space functions c s p zero some shows end = absurd (omega arith)
 pass_ends_at space functions c s p (suc n) some shows end =
-    let framed : frame_of space c false ≡ Ok None = none_framed space.image c (frame_of space c false) (sym (step_is space c false) ∙ ends space functions c s shows end) in
-    rw framed refl
+    rw (ends space functions c s shows end) refl
 
 -- ---- calls of a chain
 

@@ -7,6 +7,7 @@ pub mod Passes
 pub mod Passing
 pub mod Personality
 pub mod Processes
+pub mod Results
 pub mod Resumes
 pub mod Shown
 pub mod Stepping

@@ -8,8 +8,8 @@ use Rattle.stack_deliver.specs.declared.delivery.Stepped.{Stepped}
 use Rattle.stack_deliver.specs.declared.delivery.DeliverError.{DeliverError}
 use Rattle.stack_deliver.specs.declared.passes.Phase.{Phase}
 use Rattle.stack_deliver.specs.Modules.{SpaceValue}
-use Rattle.stack_deliver.specs.Stepping.{step_of, refusal_of}
-use Rattle.stack_deliver.specs.Passes.{FrameAt, frame_of, asked_of, stops, kept_at, pad_of}
+use Rattle.stack_deliver.specs.Stepping.{FrameAt, frame_of, step_of, refusal_of}
+use Rattle.stack_deliver.specs.Passes.{asked_of, stops, kept_at, pad_of}
 
 -- ---- at a context
 

@@ -2,64 +2,25 @@
 -- way to it. Itanium C++ ABI, exception handling, level I, section 1.3; level II for what language tables ask.
 use Rattle.std.specs.Prelude.{ℕ, zero, suc, ◌+◌, ◌-◌, ◌%◌, ◌^◌, ◌==◌, Bool, true, false, List, [], ◌∷◌, Option, Some, None, Result, Ok, Err, slice_index, slice_set, if◌then◌else◌}
 use Rattle.memory_image.specs.Image.{Span}
-use Rattle.unwind_definitions.specs.declared.error.Error.{Error as Fault}
-use Rattle.unwind_definitions.specs.Forms.{emitted}
-use Rattle.unwind_definitions.specs.Row.{Run, row_at, argument_size}
-use Rattle.unwind_definitions.specs.Caller.{StepFault, x86_64, caller_of}
+use Rattle.unwind_definitions.specs.Row.{argument_size}
+use Rattle.unwind_definitions.specs.Caller.{StepFault}
 use Rattle.unwind_definitions.specs.Function.{Action, NoAction, Cleanup, Catch, Filter, Terminate}
 use Rattle.unwind_definitions.specs.Delivery.{decides}
 use Rattle.unwind_definitions.specs.LanguageSearch.{personality_address, address_of_call, language_action}
 use Rattle.unwind_arch.specs.declared.x86_64.Context.{Context}
-use Rattle.unwind_arch.specs.Contexts.{columns_of}
-use Rattle.unwinding_core.specs.Calling.{no_expressions}
 use Rattle.unwinding_core.specs.Finding.{FoundFde}
-use Rattle.unwinding_core.specs.Framed.{address_asked}
-use Rattle.unwinding_core.specs.Named.{found_by}
 use Rattle.stack_deliver.specs.declared.delivery.Stepped.{Stepped}
 use Rattle.stack_deliver.specs.declared.delivery.Trail.{Trail}
 use Rattle.stack_deliver.specs.declared.delivery.Ending.{Ending}
 use Rattle.stack_deliver.specs.declared.delivery.Outcome.TheVariants.{Installed, FatalPhase2}
 use Rattle.stack_deliver.specs.declared.delivery.DeliverError.{DeliverError}
-use Rattle.stack_deliver.specs.declared.delivery.DeliverError.TheVariants.{Table, FrameLimit, PassLimit, NoResume}
+use Rattle.stack_deliver.specs.declared.delivery.DeliverError.TheVariants.{FrameLimit, PassLimit, NoResume}
 use Rattle.stack_deliver.specs.declared.passes.Phase.{Phase}
 use Rattle.stack_deliver.specs.declared.passes.Phase.TheVariants as phase
-use Rattle.stack_deliver.specs.declared.space.Module.{Module}
-use Rattle.stack_deliver.specs.Modules.{SpaceValue, module_at}
+use Rattle.stack_deliver.specs.Modules.{SpaceValue}
 use Rattle.stack_deliver.specs.Resumes.{return_of}
-use Rattle.stack_deliver.specs.Stepping.{refusal_of, context_by}
-
--- ---- the frame at a context
-
--- a description, and its row at the address asked
-pub record FrameAt : Type 0 where
-  pub found : FoundFde
-  pub run : Run
-
-abbrev pub frame_with : FoundFde → Result Run Fault → Result (Option FrameAt) DeliverError
-frame_with found (Ok run) = Ok (Some (record { found = found; run = run }))
-frame_with found (Err e) = Err (Table e)
-
-abbrev pub frame_by : ℕ → Option FoundFde → Result (Option FrameAt) DeliverError
-frame_by a None = Ok None
-frame_by a (Some found) = frame_with found (row_at emitted found.bases found.fde a)
-
-abbrev pub frame_in : List Span → ℕ → Option Module → Result (Option FrameAt) DeliverError
-frame_in image a None = Ok None
-frame_in image a (Some m) = frame_by a (found_by m.frame image a)
-
--- The frame that a context shows, None at the end of the stack. It is the one by which a step finds the caller.
-unfoldable pub frame_of : SpaceValue → Context → Bool → Result (Option FrameAt) DeliverError
-frame_of space c interrupted =
-    if c.ra == 0 then Ok None
-    else frame_in space.image (address_asked c.ra interrupted) (module_at space.modules (address_asked c.ra interrupted))
-
-abbrev pub marked : Bool → Result Context DeliverError → Result Stepped DeliverError
-marked signal (Ok c) = Ok (record { context = c; signal = signal })
-marked signal (Err e) = Err e
-
--- the frame's caller, and whether the frame is a signal's
-abbrev pub caller_by : List Span → Context → FrameAt → Result Stepped DeliverError
-caller_by image c f = marked f.found.fde.cie.letters.signal (context_by (caller_of x86_64 no_expressions image (columns_of c) f.run))
+use Rattle.stack_deliver.specs.Results.{◌>>=◌, result_map}
+use Rattle.stack_deliver.specs.Stepping.{FrameAt, frame_of, caller_by, refusal_of}
 
 -- ---- what the language of a frame asks
 
@@ -103,24 +64,33 @@ pub data Turn : Type 0 where
   Stops : Action → Context → Turn
   Goes : Stepped → Turn
 
-abbrev pub goes : Result Stepped DeliverError → Result Turn DeliverError
-goes (Ok next) = Ok (Goes next)
-goes (Err e) = Err e
+-- the action, where the pass stops for it
+abbrev pub stop_by : Phase → Action → Option Action
+stop_by p action = if stops p action then Some action else None
 
-abbrev pub turn_asked : Phase → List Span → Context → FrameAt → Result Action DeliverError → Result Turn DeliverError
-turn_asked p image c f (Ok action) = if stops p action then Ok (Stops action (past_arguments c (argument_size f.run))) else goes (caller_by image c f)
-turn_asked p image c f (Err e) = Err e
+-- For which action a frame stops who goes outwards: a walk, which has no phase, for none, and a pass for what the frame asks.
+abbrev pub stop_of : Option Phase → List Span → Context → Bool → FoundFde → Result (Option Action) DeliverError
+stop_of None image c interrupted found = Ok None
+stop_of (Some p) image c interrupted found = result_map (stop_by p) (asked_of image c interrupted found)
 
-abbrev pub turn_by : Phase → List Span → Context → Bool → Result (Option FrameAt) DeliverError → Result Turn DeliverError
-turn_by p image c interrupted (Ok None) = Ok Ends
-turn_by p image c interrupted (Ok (Some f)) = turn_asked p image c f (asked_of image c interrupted f.found)
-turn_by p image c interrupted (Err e) = Err e
+-- at a frame: it stops there for an action, or its caller is next
+abbrev pub turn_at : List Span → Context → FrameAt → Option Action → Result Turn DeliverError
+turn_at image c f None = result_map Goes (caller_by image c f)
+turn_at image c f (Some action) = Ok (Stops action (past_arguments c (argument_size f.run)))
 
--- A pass at a context. The row is read first, then what names the personality, then the language table, and the caller last.
-unfoldable pub turn_of : Phase → SpaceValue → Context → Bool → Result Turn DeliverError
-turn_of p space c interrupted = turn_by p space.image c interrupted (frame_of space c interrupted)
+abbrev pub turn_in : Option Phase → List Span → Context → Bool → Option FrameAt → Result Turn DeliverError
+turn_in phase image c interrupted None = Ok Ends
+turn_in phase image c interrupted (Some f) = stop_of phase image c interrupted f.found >>= turn_at image c f
 
--- the contexts that a pass meets, and where it stops, None at the end of the stack
+-- A walk or a pass at a context. The row is read first, then what names the personality, then the language table, and the caller
+-- last.
+unfoldable pub turn_for : Option Phase → SpaceValue → Context → Bool → Result Turn DeliverError
+turn_for phase space c interrupted = frame_of space c interrupted >>= turn_in phase space.image c interrupted
+
+abbrev pub turn_of : Phase → SpaceValue → Context → Bool → Result Turn DeliverError
+turn_of p = turn_for (Some p)
+
+-- the contexts that are met on the way outwards, and where it stops, None at the end of the stack
 pub record Line : Type 0 where
   pub contexts : List Context
   pub stop : Option Stop
@@ -135,10 +105,13 @@ line_turn c interrupted (Ok (Stops action past)) outer = Ok (record { contexts =
 line_turn c interrupted (Ok (Goes next)) outer = with_context c (outer next.context next.signal)
 line_turn c interrupted (Err e) outer = Err e
 
--- A pass from a context outwards, where there is room for so many contexts.
+-- From a context outwards, where there is room for so many contexts.
+abbrev pub line_for : Option Phase → SpaceValue → ℕ → Context → Bool → Result Line DeliverError
+line_for phase space zero c interrupted = Err FrameLimit
+line_for phase space (suc room) c interrupted = line_turn c interrupted (turn_for phase space c interrupted) (line_for phase space room)
+
 abbrev pub pass_of : Phase → SpaceValue → ℕ → Context → Bool → Result Line DeliverError
-pass_of p space zero c interrupted = Err FrameLimit
-pass_of p space (suc room) c interrupted = line_turn c interrupted (turn_of p space c interrupted) (pass_of p space room)
+pass_of p = line_for (Some p)
 
 -- the mark by which a pass knows the frame that the search decided for: its stack pointer, less 1 behind a signal's frame
 abbrev pub kept_at : Context → Bool → ℕ

@@ -1,60 +1,85 @@
 -- What the code of a pass answers, in the words of the definitions.
-use Rattle.std.specs.Prelude.{◌≡◌, ◌++◌, List, Option, Some, None, Result, Ok, Err}
+use Rattle.std.specs.Prelude.{◌≡◌, ◌++◌, ◌∷◌, [], Bool, true, false, List, Option, Some, None, Result, Ok, Err}
 use Rattle.std.specs.Option.{option_map}
 use Rattle.frame_rows.specs.Rows.{IsRowOf}
 use Rattle.unwind_arch.specs.declared.x86_64.Context.{Context}
-use Rattle.unwinding_core.specs.FrameValue.{FrameValue}
+use Rattle.frame_rows.specs.RowValue.{RowValue}
+use Rattle.unwinding_core.specs.declared.find_fde.FDESearchResult.{FDESearchResult}
+use Rattle.unwinding_core.specs.Answered.{answered}
 use Rattle.unwinding_core.specs.Languages.{action_of}
 use Rattle.stack_deliver.specs.declared.delivery.DeliverError.{DeliverError}
 use Rattle.stack_deliver.specs.declared.delivery.Ending.{Ending}
 use Rattle.stack_deliver.specs.declared.delivery.Trail.{Trail}
+use Rattle.stack_deliver.specs.declared.delivery.Stepped.{Stepped}
+use Rattle.stack_deliver.specs.declared.passes.Phase.{Phase}
+use Rattle.stack_deliver.specs.declared.passes.Phase.TheVariants as phase
 use Rattle.stack_deliver.specs.declared.passes.Pass.{Pass}
 use Rattle.stack_deliver.specs.declared.passes.Pass.TheVariants as pass
 use Rattle.stack_deliver.specs.declared.passes.Stop.{Stop as CodeStop}
 use Rattle.stack_deliver.specs.declared.passes.Turn.{Turn as CodeTurn}
 use Rattle.stack_deliver.specs.declared.passes.Turn.TheVariants as code
-use Rattle.stack_deliver.specs.Passes.{FrameAt, Line, Passed, PassEnd, Finishes, Elsewhere, Stop, Turn, Ends, Stops, Goes}
+use Rattle.stack_deliver.specs.Stepping.{FrameAt}
+use Rattle.stack_deliver.specs.Passes.{Line, Passed, PassEnd, Finishes, Elsewhere, Stop, Turn, Ends, Stops, Goes, past_arguments}
 use Rattle.stack_deliver.specs.Walking.{RoomValue}
 
--- a frame of the definitions
-abbrev pub IsFrameOf : FrameValue → FrameAt → Type 0
-IsFrameOf frame due = (frame.found ≡ due.found) × IsRowOf frame.row due.run
+-- what was found, and its row, as a frame of the definitions
+abbrev pub IsFrameOf : FDESearchResult → RowValue → FrameAt → Type 0
+IsFrameOf found row due = (answered found ≡ due.found) × IsRowOf row due.run
 
-abbrev pub GivesFrameAt : Result (Option FrameValue) DeliverError → Result (Option FrameAt) DeliverError → Type 0
-GivesFrameAt (Ok None) due = due ≡ Ok None
-GivesFrameAt (Ok (Some frame)) due = (f : FrameAt) × (due ≡ Ok (Some f)) × IsFrameOf frame f
-GivesFrameAt (Err e) due = due ≡ Err e
+-- what is found at a state, and the row that it leaves in its room
+abbrev pub GivesFrameAt : Result (Option FDESearchResult) DeliverError → RowValue → Result (Option FrameAt) DeliverError → Type 0
+GivesFrameAt (Ok None) row due = due ≡ Ok None
+GivesFrameAt (Ok (Some found)) row due = (f : FrameAt) × (due ≡ Ok (Some f)) × IsFrameOf found row f
+GivesFrameAt (Err e) row due = due ≡ Err e
 
-abbrev pub turn_shown : CodeTurn → Turn
-turn_shown code.End = Ends
-turn_shown (code.Stop action past) = Stops (action_of action) past
-turn_shown (code.Caller next) = Goes next
+-- a turn, and the state that it leaves
+abbrev pub turn_shown : Stepped → CodeTurn → Turn
+turn_shown state code.End = Ends
+turn_shown state (code.Stop action arguments) = Stops (action_of action) (past_arguments state.context arguments)
+turn_shown state code.Caller = Goes state
 
-abbrev pub given : {A B E : Type 0} → (A → B) → Result A E → Result B E
-given view (Ok x) = Ok (view x)
-given view (Err e) = Err e
+-- a turn that isn't the caller's leaves the state
+abbrev pub StaysAt : CodeTurn → Stepped → Stepped → Type 0
+StaysAt code.Caller old new = Unit {0}
+StaysAt _ old new = new ≡ old
 
 abbrev pub stop_shown : CodeStop → Stop
-stop_shown s = record { context = s.context; interrupted = s.interrupted; action = action_of s.action; past = s.past }
+stop_shown s = record {
+  context = s.state.context;
+  interrupted = s.state.signal;
+  action = action_of s.action;
+  past = past_arguments s.state.context s.arguments;
+}
 
--- where a pass stopped, and the contexts that it met
+-- where it stopped on the way outwards, and the contexts that were met
 abbrev pub line_shown : List Context → Option CodeStop → Line
 line_shown contexts stop = record { contexts = contexts; stop = option_map stop_shown stop }
 
--- where a pass stops, without the contexts
-abbrev pub stop_in : Result Line DeliverError → Result (Option Stop) DeliverError
-stop_in (Ok line) = Ok line.stop
-stop_in (Err e) = Err e
+-- contexts are visited by a walk and by the search; a cleanup pass meets them again
+abbrev pub visits : Option Phase → Bool
+visits None = true
+visits (Some phase.Search) = true
+visits (Some phase.Cleanup) = false
+
+-- the room after one more context
+abbrev pub visited_with : Bool → RoomValue → Context → RoomValue
+visited_with true room c = record room { visited = room.visited ++ c ∷ [] }
+visited_with false room c = room
+
+-- the contexts are those in a room, where they are visited
+abbrev pub AreVisited : Bool → RoomValue → List Context → Type 0
+AreVisited true room contexts = room.visited ≡ contexts
+AreVisited false room contexts = Unit {0}
+
+-- where it stopped on the way outwards, and the room after it
+abbrev pub IsOutward : Bool → Result (Option CodeStop) DeliverError → RoomValue → Result Line DeliverError → Type 0
+IsOutward visited (Ok stop) room due = (contexts : List Context) × (due ≡ Ok (line_shown contexts stop)) × AreVisited visited room contexts
+IsOutward visited (Err e) room due = due ≡ Err e
 
 -- contexts that were met before a pass's
 abbrev pub with_contexts : List Context → Result Line DeliverError → Result Line DeliverError
 with_contexts front (Ok line) = Ok (record line { contexts = front ++ line.contexts })
 with_contexts front (Err e) = Err e
-
--- a search's answer and the room behind it
-abbrev pub IsSearched : Result (Option CodeStop) DeliverError → RoomValue → Result Line DeliverError → Type 0
-IsSearched (Ok stop) room due = due ≡ Ok (line_shown room.visited stop)
-IsSearched (Err e) room due = due ≡ Err e
 
 abbrev pub end_shown : Pass → PassEnd
 end_shown (pass.Finished ending) = Finishes ending

@@ -4,8 +4,10 @@ use Rattle.memory_image.specs.Image.{Span}
 use Rattle.unwind_definitions.specs.declared.error.Error.{Error as Fault}
 use Rattle.unwind_definitions.specs.Forms.{emitted}
 use Rattle.unwind_definitions.specs.LanguageTable.{input_at}
+use Rattle.unwind_definitions.specs.LanguageSearch.{address_of_call}
 use Rattle.unwind_definitions.specs.Row.{Run, row_at}
 use Rattle.unwind_definitions.specs.Scan.{scan}
+use Rattle.std.specs.Result.{result_map_both}
 use Rattle.unwind_definitions.specs.Caller.{Columns, StepFault, x86_64, caller_of}
 use Rattle.unwind_definitions.specs.Caller as calls
 use Rattle.unwind_arch.specs.declared.x86_64.Context.{Context}
@@ -14,46 +16,61 @@ use Rattle.unwinding_core.specs.declared.find_fde.custom.FrameInfoKind.{FrameInf
 use Rattle.unwinding_core.specs.declared.find_fde.custom.FrameInfoKind.TheVariants.{EhFrame, EhFrameHdr}
 use Rattle.unwinding_core.specs.Calling.{no_expressions}
 use Rattle.unwinding_core.specs.Finding.{FoundFde, table_bases}
-use Rattle.unwinding_core.specs.Framed.{address_asked}
 use Rattle.unwinding_core.specs.Named.{found_by}
 use Rattle.stack_deliver.specs.declared.delivery.Stepped.{Stepped}
 use Rattle.stack_deliver.specs.declared.delivery.DeliverError.{DeliverError}
 use Rattle.stack_deliver.specs.declared.delivery.DeliverError.TheVariants.{Table, Unmapped}
 use Rattle.stack_deliver.specs.declared.space.Module.{Module}
 use Rattle.stack_deliver.specs.Modules.{SpaceValue, module_at}
+use Rattle.stack_deliver.specs.Results.{◌>>=◌, result_map}
 
 abbrev pub refusal_of : StepFault → DeliverError
 refusal_of (calls.Table e) = Table e
 refusal_of (calls.Unmapped a) = Unmapped a
 
--- the caller's context
-abbrev pub context_by : Result Columns StepFault → Result Context DeliverError
-context_by (Ok columns) = Ok (context_of columns)
-context_by (Err e) = Err (refusal_of e)
+-- ---- the frame at a context
 
--- the caller, and whether the frame that was left is a signal's
-abbrev pub stepped : Bool → Result Context DeliverError → Result (Option Stepped) DeliverError
-stepped signal (Ok c) = Ok (Some (record { context = c; signal = signal }))
-stepped signal (Err e) = Err e
+-- a description, and its row at the address asked
+pub record FrameAt : Type 0 where
+  pub found : FoundFde
+  pub run : Run
 
--- by a row
-abbrev pub by_row : List Span → Context → Bool → Result Run Fault → Result (Option Stepped) DeliverError
-by_row image c signal (Ok run) = stepped signal (context_by (caller_of x86_64 no_expressions image (columns_of c) run))
-by_row image c signal (Err e) = Err (Table e)
+abbrev pub frame_with : FoundFde → Run → Option FrameAt
+frame_with found run = Some (record { found = found; run = run })
 
 -- by the row at an address of the description that is found for it, if one is
-abbrev pub called : List Span → Context → ℕ → Option FoundFde → Result (Option Stepped) DeliverError
-called image c a None = Ok None
-called image c a (Some found) = by_row image c found.fde.cie.letters.signal (row_at emitted found.bases found.fde a)
+abbrev pub frame_by : ℕ → Option FoundFde → Result (Option FrameAt) DeliverError
+frame_by a None = Ok None
+frame_by a (Some found) = result_map_both (frame_with found) Table (row_at emitted found.bases found.fde a)
 
 -- by the frame tables of the module that holds an address
-abbrev pub in_module : List Span → Context → ℕ → Option Module → Result (Option Stepped) DeliverError
-in_module image c a None = Ok None
-in_module image c a (Some m) = called image c a (found_by m.frame image a)
+abbrev pub frame_in : List Span → ℕ → Option Module → Result (Option FrameAt) DeliverError
+frame_in image a None = Ok None
+frame_in image a (Some m) = frame_by a (found_by m.frame image a)
+
+-- The frame that a context shows, None at the end of the stack. The mark says whether the context was interrupted where it
+-- stands, as after a signal's frame, and does not stand after a call.
+unfoldable pub frame_of : SpaceValue → Context → Bool → Result (Option FrameAt) DeliverError
+frame_of space c interrupted =
+    if c.ra == 0 then Ok None
+    else frame_in space.image (address_of_call c.ra interrupted) (module_at space.modules (address_of_call c.ra interrupted))
+
+-- ---- its caller
+
+abbrev pub next_with : Bool → Columns → Stepped
+next_with signal columns = record { context = context_of columns; signal = signal }
+
+-- the frame's caller, and whether the frame is a signal's
+abbrev pub caller_by : List Span → Context → FrameAt → Result Stepped DeliverError
+caller_by image c f = result_map_both (next_with f.found.fde.cie.letters.signal) refusal_of (caller_of x86_64 no_expressions image (columns_of c) f.run)
+
+abbrev pub caller_at : List Span → Context → Option FrameAt → Result (Option Stepped) DeliverError
+caller_at image c None = Ok None
+caller_at image c (Some f) = result_map Some (caller_by image c f)
 
 -- The caller of the frame that a context shows, None at the end of the stack.
 unfoldable pub step_of : SpaceValue → Context → Bool → Result (Option Stepped) DeliverError
-step_of space c interrupted = if c.ra == 0 then Ok None else in_module space.image c (address_asked c.ra interrupted) (module_at space.modules (address_asked c.ra interrupted))
+step_of space c interrupted = frame_of space c interrupted >>= caller_at space.image c
 
 -- ---- the same in the words of its answers
 
@@ -69,7 +86,7 @@ IsUncovered image (Some m) a = FindsNone image m.frame.text_base m.frame.kind a
 
 -- the stack ends at a context: its return address is 0, or nothing covers the address asked
 abbrev pub EndsAt : SpaceValue → Context → Bool → Type 0
-EndsAt space c interrupted = (c.ra ≡ 0) ⊎ ((c.ra ≢ 0) × IsUncovered space.image (module_at space.modules (address_asked c.ra interrupted)) (address_asked c.ra interrupted))
+EndsAt space c interrupted = (c.ra ≡ 0) ⊎ ((c.ra ≢ 0) × IsUncovered space.image (module_at space.modules (address_of_call c.ra interrupted)) (address_of_call c.ra interrupted))
 
 -- a row can't be read or run, or its CFA or a rule of it, the first with a fault, asks for a column that the machine doesn't have
 abbrev pub RowFaults : List Span → Context → Result Run Fault → Fault → Type 0
@@ -80,13 +97,7 @@ RowFaults image c (Err f) e = f ≡ e
 pub record FaultsAt (space : SpaceValue) (c : Context) (interrupted : Bool) (e : Fault) : Type 0 where
   pub returns : c.ra ≢ 0
   pub holder : Module
-  pub holds : module_at space.modules (address_asked c.ra interrupted) ≡ Some holder
+  pub holds : module_at space.modules (address_of_call c.ra interrupted) ≡ Some holder
   pub found : FoundFde
-  pub finds : found_by holder.frame space.image (address_asked c.ra interrupted) ≡ Some found
-  pub fault : RowFaults space.image c (row_at emitted found.bases found.fde (address_asked c.ra interrupted)) e
-
--- the faults that a step may answer
-abbrev pub IsStepFault : DeliverError → Type 0
-IsStepFault (Table e) = Unit {0}
-IsStepFault (Unmapped a) = Unit {0}
-IsStepFault _ = ⊥
+  pub finds : found_by holder.frame space.image (address_of_call c.ra interrupted) ≡ Some found
+  pub fault : RowFaults space.image c (row_at emitted found.bases found.fde (address_of_call c.ra interrupted)) e

@@ -8,12 +8,12 @@ ghost use Rattle.stack_deliver.specs.Causes.{IsRefused, EndsBy};
 ghost use Rattle.stack_deliver.specs.Delivering.{Delivers, delivery_of};
 ghost use Rattle.stack_deliver.specs.Walking.{StartsValidChain, ShowsDelivery, IsDelivered, delivered_in};
 
-use crate::delivery::{DeliverError, Delivery, Ending, Outcome};
-use crate::passes::{passes, search};
+use crate::delivery::{DeliverError, Delivery, Ending, Outcome, Stepped};
+use crate::passes::{Phase, outwards, passes};
 use crate::resumes::Resumes;
 use crate::room::Room;
 use crate::space::Space;
-use crate::walking::modules_are_apart;
+use eh_frame::RowRoom;
 use memory_image::{Ledger, NoLedger, Steps};
 use std::alloc::Global;
 use unwind_arch::x86_64::Context;
@@ -22,7 +22,7 @@ use unwind_arch::x86_64::Context;
 #[tactic(auto, unfolding(crate::specs::Delivering::delivery_of))]
 fn delivered<L: Ledger>(
     space: &Space<'_>,
-    start: &Context,
+    start: Context,
     exception: u64,
     resumes: &Resumes,
     limit: u32,
@@ -31,10 +31,17 @@ fn delivered<L: Ledger>(
 ) -> Result<Ending, DeliverError>
     requires within { limit ≤ room.old.limit }
     requires empty { (room.old.visited ≡ []) × (room.old.trail ≡ []) }
-    ensures exact { IsDelivered result room.new (delivery_of space.now start.now exception resumes.now limit) }
+    ensures exact { IsDelivered result room.new (delivery_of space.now start exception resumes.now limit) }
     ensures places { room.new.limit ≡ room.old.limit }
+    ensures unticked { steps.new.number ≡ steps.old.number }
 {
-    let Some(stop) = search(space, start, limit, room, steps)? else {
+    let mut rows = RowRoom::new();
+    let state = Stepped {
+        context: start,
+        signal: false,
+    };
+    let phase = Some(Phase::Search);
+    let Some(stop) = outwards(phase, space, state, limit, room, &mut rows, steps)? else {
         return Ok(without_landing(Outcome::EndOfStack));
     };
     if stop.pad().is_none() {
@@ -42,12 +49,13 @@ fn delivered<L: Ledger>(
     }
     passes(
         space,
-        start,
+        &start,
         exception,
         stop.kept(),
         resumes,
         limit,
         room,
+        &mut rows,
         steps,
     )
 }
@@ -55,7 +63,7 @@ fn delivered<L: Ledger>(
 /// The same in a room that is emptied first, and after an error again.
 fn emptied<L: Ledger>(
     space: &Space<'_>,
-    start: &Context,
+    start: Context,
     exception: u64,
     resumes: &Resumes,
     limit: u32,
@@ -63,9 +71,11 @@ fn emptied<L: Ledger>(
     steps: &mut Steps<L>,
 ) -> Result<Ending, DeliverError>
     requires { limit ≤ room.old.limit }
-    ensures exact { IsDelivered result room.new (delivery_of space.now start.now exception resumes.now limit) }
+    ensures exact { IsDelivered result room.new (delivery_of space.now start exception resumes.now limit) }
     ensures emptied { OnErr result ((room.new.visited ≡ []) × (room.new.trail ≡ [])) }
     ensures places { room.new.limit ≡ room.old.limit }
+    ensures whole { length start.registers ≡ 16 }
+    ensures unticked { steps.new.number ≡ steps.old.number }
 {
     room.clear();
     match delivered(space, start, exception, resumes, limit, room, steps) {
@@ -75,13 +85,6 @@ fn emptied<L: Ledger>(
             Err(error)
         }
     }
-}
-
-/// A context has sixteen general registers, as its type tells.
-fn registers_are_sixteen(context: Context)
-    ensures { length context.registers ≡ 16 }
-{
-    let _ = context;
 }
 
 fn without_landing(outcome: Outcome) -> Ending
@@ -140,12 +143,14 @@ pub fn deliver_into<L: Ledger>(
     // What is delivered to a valid chain is what the definition says of the chain.
     ensures chain { (functions : List Function) (s : State) (calls : List Call) → StartsValidChain space.now start.now resumes.now limit functions s calls →
         IsOkAnd result (λ ending. ShowsDelivery (delivered_in room.new ending) exception s calls) }
+    // A scan of a frame table isn't counted.
+    ensures unticked { steps.new.number ≡ steps.old.number }
 {
     // It is for languages that tell their own exceptions from those of others.
     let _ = class;
-    modules_are_apart(space);
-    registers_are_sixteen(*start);
-    emptied(space, start, exception, resumes, limit, room, steps)
+    // No two of its modules share an address, as a space's type says.
+    let _ = space.image();
+    emptied(space, *start, exception, resumes, limit, room, steps)
 }
 
 /// Delivers an exception to the stack whose innermost frame has the registers `start`.

@@ -1,20 +1,23 @@
 // The passes over a stack: the search for a frame whose language takes the exception, and then the
 // cleanups on the way to it. Itanium C++ ABI, exception handling, level I, section 1.3.
-ghost use Rattle.std.specs.Prelude.{◌≡◌, ◌≤◌, ◌<◌, ◌++◌, ◌∷◌, Err, [], false, length, Some, OnOk};
-ghost use Rattle.unwinding_core.specs.Languages.{action_of};
+ghost use Rattle.std.specs.Prelude.{◌≡◌, ◌≤◌, ◌<◌, ◌++◌, ◌∷◌, Err, [], true, false, length, Some, OnOk, IfOk};
 ghost use Rattle.std.specs.Option.{option_map};
-ghost use Rattle.stack_deliver.specs.Passes.{asked_of, stops, past_arguments, turn_of, pass_of, kept_at, pad_of, enters, end_by, cleanup_of, cleanup_at, resume_at, passes_of};
-ghost use Rattle.stack_deliver.specs.Passing.{turn_shown, stop_shown, given, stop_in, end_shown, IsSearched, IsPassed};
+ghost use Rattle.unwinding_core.specs.Answered.{answered};
+ghost use Rattle.unwinding_core.specs.Languages.{action_of};
+ghost use Rattle.stack_deliver.specs.Passes.{asked_of, stops, stop_of, past_arguments, turn_for, line_for, kept_at, pad_of, enters, end_by, cleanup_of, cleanup_at, resume_at, passes_of};
+ghost use Rattle.stack_deliver.specs.Passing.{turn_shown, stop_shown, end_shown, visits, visited_with, StaysAt, IsOutward, IsPassed};
+ghost use Rattle.stack_deliver.specs.Results.{result_map};
 ghost use Rattle.stack_deliver.specs.Resumes.{return_of};
 
 use crate::delivery::{DeliverError, Ending, Outcome, Stepped, Trail};
 use crate::resumes::Resumes;
 use crate::room::Room;
 use crate::space::Space;
-use crate::stepping::{caller, frame_at};
+use crate::stepping::{frame_at, leave};
+use eh_frame::RowRoom;
 use memory_image::{Ledger, MemoryImage, Steps};
-use unwind_arch::x86_64::{Arch, Context};
-use unwinding_core::{EhAction, Frame, find_eh_action};
+use unwind_arch::x86_64::Context;
+use unwinding_core::{EhAction, FDESearchResult};
 
 /// What a pass over the stack is for.
 #[derive(Clone, Copy)]
@@ -41,12 +44,10 @@ impl Phase {
 /// Where a pass stops.
 #[derive(Clone, Copy)]
 pub(crate) struct Stop {
-    context: Context,
-    // whether it stands before its instruction, behind a signal's frame
-    interrupted: bool,
+    state: Stepped,
     action: EhAction,
-    // the context past the arguments that the frame's callee removes
-    past: Context,
+    // how many bytes of arguments the frame's callee removes
+    arguments: u64,
 }
 
 impl Stop {
@@ -62,10 +63,10 @@ impl Stop {
 
     /// The mark by which a later pass knows the frame.
     pub(crate) fn kept(&self) -> u64
-        ensures { result ≡ kept_at self.now.context self.now.interrupted }
+        ensures { result ≡ kept_at self.now.state.context self.now.state.signal }
     {
-        let stack_pointer = self.context.registers[7];
-        if self.interrupted {
+        let stack_pointer = self.state.context.registers[7];
+        if self.state.signal {
             stack_pointer.wrapping_sub(1)
         } else {
             stack_pointer
@@ -74,9 +75,11 @@ impl Stop {
 
     /// The registers with which a landing pad is entered.
     fn entering(&self, exception: u64, pad: u64) -> Context
-        ensures { result ≡ enters self.now.past exception pad }
+        ensures { result ≡ enters (past_arguments self.now.state.context self.now.arguments) exception pad }
     {
-        let mut context = self.past;
+        let mut context = self.state.context;
+        // Past the arguments that the callee removes.
+        context.registers[7] = context.registers[7].wrapping_add(self.arguments);
         context.registers[0] = exception;
         context.registers[1] = 0;
         context.ra = pad;
@@ -84,130 +87,123 @@ impl Stop {
     }
 }
 
-/// What a pass meets at a context.
+/// What is met at a state.
 #[derive(Clone, Copy)]
 enum Turn {
     /// The end of the stack.
     End,
-    /// Something is asked for which the pass stops: it, and the context past its arguments.
-    Stop(EhAction, Context),
-    /// The caller.
-    Caller(Stepped),
+    /// An action for which the pass stops, and how many bytes of arguments the callee removes.
+    Stop(EhAction, u64),
+    /// The caller, which stands in the state's place.
+    Caller,
 }
 
 /// What the language of a frame asks. A language table that can't be read ends the program, but what
 /// names the personality has to be read.
 fn asked(
     image: &MemoryImage<'_>,
-    frame: &Frame<'_, Arch>,
-    context: &Context,
-    interrupted: bool,
+    state: &Stepped,
+    found: &FDESearchResult<'_>,
 ) -> Result<EhAction, DeliverError>
-    ensures { given action_of result ≡ asked_of image.now context.now interrupted frame.now.found }
+    ensures { result_map action_of result ≡ asked_of image.now state.now.context state.now.signal (answered found.now) }
 {
-    match frame.personality(image)? {
+    match found.personality(image)? {
         None => Ok(EhAction::None),
-        Some(_) => Ok(find_eh_action(image, frame, context, interrupted).unwrap_or(
-            EhAction::Terminate,
-        )),
+        Some(_) => Ok(
+            found
+                .eh_action(image, state.address())
+                .unwrap_or(EhAction::Terminate),
+        ),
     }
 }
 
-/// The context past the arguments that the frame's callee removes.
-fn past_arguments(frame: &Frame<'_, Arch>, context: &Context) -> Context
-    ensures { result ≡ past_arguments context.now frame.now.row.saved_args_size }
+/// The action for which a pass stops at a frame. A walk, which has no phase, stops for none.
+fn stop_action(
+    phase: Option<Phase>,
+    image: &MemoryImage<'_>,
+    state: &Stepped,
+    found: &FDESearchResult<'_>,
+) -> Result<Option<EhAction>, DeliverError>
+    ensures { result_map (option_map action_of) result ≡ stop_of phase image.now state.now.context state.now.signal (answered found.now) }
 {
-    // Of the registers the arguments move the stack pointer alone.
-    let mut adjusted = *context;
-    frame.adjust_stack_for_args(&mut adjusted);
-    let mut past = *context;
-    past.registers[7] = adjusted.registers[7];
-    past
+    let Some(phase) = phase else {
+        return Ok(None);
+    };
+    let action = asked(image, state, found)?;
+    if phase.stops(action) {
+        Ok(Some(action))
+    } else {
+        Ok(None)
+    }
 }
 
-#[tactic(auto, unfolding(crate::specs::Passes::turn_of))]
-fn meet<L: Ledger>(
-    phase: Phase,
-    space: &Space<'_>,
-    context: &Context,
-    interrupted: bool,
+/// What a walk or a pass meets at a state. Where that is the caller, it stands in the state's place.
+#[tactic(auto, unfolding(crate::specs::Passes::turn_for))]
+fn meet<'a, L: Ledger>(
+    phase: Option<Phase>,
+    space: &Space<'a>,
+    state: &mut Stepped,
+    rows: &mut RowRoom<'a>,
     steps: &mut Steps<L>,
 ) -> Result<Turn, DeliverError>
-    ensures { given turn_shown result ≡ turn_of phase space.now context.now interrupted }
+    ensures met { result_map (turn_shown state.new) result ≡ turn_for phase space.now state.old.context state.old.signal }
+    ensures stays { IfOk result (λ turn. StaysAt turn state.old state.new) }
+    ensures unticked { steps.new.number ≡ steps.old.number }
 {
-    let Some(frame) = frame_at(space, context, interrupted, steps)? else {
+    let Some(found) = frame_at(space, state, rows, steps)? else {
         return Ok(Turn::End);
     };
-    let action = asked(space.image(), &frame, context, interrupted)?;
-    if phase.stops(action) {
-        return Ok(Turn::Stop(action, past_arguments(&frame, context)));
+    let image = space.image();
+    if let Some(action) = stop_action(phase, image, state, &found)? {
+        return Ok(Turn::Stop(action, rows.row().saved_args_size()));
     }
-    Ok(Turn::Caller(caller(space.image(), &frame, context)?))
+    leave(image, state, &found, rows)?;
+    Ok(Turn::Caller)
 }
 
-/// The search from a context outwards, which puts each context into the room. It answers where it
-/// stops, `None` at the end of the stack.
-pub(crate) fn search<L: Ledger>(
-    space: &Space<'_>,
-    start: &Context,
+/// Puts a state into the room, but in a cleanup pass: the search put it there.
+fn visit(phase: Option<Phase>, state: &Stepped, room: &mut Room)
+    requires { visits phase ≡ true → length room.old.visited < room.old.limit }
+    ensures { room.new ≡ visited_with (visits phase) room.old state.now.context }
+{
+    match phase {
+        Some(Phase::Cleanup) => {}
+        None | Some(Phase::Search) => room.visit(state.context),
+    }
+}
+
+/// Goes from a state outwards: a walk, which has no phase and puts each state into the room, the
+/// search, which does so too, or a cleanup pass. It answers where it stops, `None` at the end of the
+/// stack.
+pub(crate) fn outwards<'a, L: Ledger>(
+    phase: Option<Phase>,
+    space: &Space<'a>,
+    start: Stepped,
     limit: u32,
     room: &mut Room,
+    rows: &mut RowRoom<'a>,
     steps: &mut Steps<L>,
 ) -> Result<Option<Stop>, DeliverError>
     requires within { limit ≤ room.old.limit }
-    requires empty { room.old.visited ≡ [] }
-    ensures exact { IsSearched result room.new (pass_of Phase.Search space.now limit start.now false) }
+    requires empty { visits phase ≡ true → room.old.visited ≡ [] }
+    ensures exact { IsOutward (visits phase) result room.new (line_for phase space.now limit start.context start.signal) }
     ensures kept { (room.new.trail ≡ room.old.trail) × (room.new.limit ≡ room.old.limit) }
+    ensures stays { visits phase ≡ false → room.new ≡ room.old }
+    ensures unticked { steps.new.number ≡ steps.old.number }
 {
-    let mut context = *start;
-    let mut interrupted = false;
+    let mut state = start;
     for _ in 0..limit {
-        room.visit(context);
-        match meet(Phase::Search, space, &context, interrupted, steps)? {
+        visit(phase, &state, room);
+        match meet(phase, space, &mut state, rows, steps)? {
             Turn::End => return Ok(None),
-            Turn::Stop(action, past) => {
+            Turn::Stop(action, arguments) => {
                 return Ok(Some(Stop {
-                    context,
-                    interrupted,
+                    state,
                     action,
-                    past,
+                    arguments,
                 }));
             }
-            Turn::Caller(next) => {
-                context = next.context;
-                interrupted = next.signal;
-            }
-        }
-    }
-    Err(DeliverError::FrameLimit)
-}
-
-/// Where a cleanup pass from a context outwards stops, `None` at the end of the stack.
-fn cleanup_stop<L: Ledger>(
-    space: &Space<'_>,
-    start: &Context,
-    limit: u32,
-    steps: &mut Steps<L>,
-) -> Result<Option<Stop>, DeliverError>
-    ensures { given (option_map stop_shown) result ≡ stop_in (pass_of Phase.Cleanup space.now limit start.now false) }
-{
-    let mut context = *start;
-    let mut interrupted = false;
-    for _ in 0..limit {
-        match meet(Phase::Cleanup, space, &context, interrupted, steps)? {
-            Turn::End => return Ok(None),
-            Turn::Stop(action, past) => {
-                return Ok(Some(Stop {
-                    context,
-                    interrupted,
-                    action,
-                    past,
-                }));
-            }
-            Turn::Caller(next) => {
-                context = next.context;
-                interrupted = next.signal;
-            }
+            Turn::Caller => {}
         }
     }
     Err(DeliverError::FrameLimit)
@@ -246,17 +242,26 @@ fn ended(stop: &Stop, exception: u64, kept: u64) -> Pass
 }
 
 /// A cleanup pass toward the frame with the kept mark.
-fn cleanup<L: Ledger>(
-    space: &Space<'_>,
+fn cleanup<'a, L: Ledger>(
+    space: &Space<'a>,
     start: &Context,
     exception: u64,
     kept: u64,
     limit: u32,
+    room: &mut Room,
+    rows: &mut RowRoom<'a>,
     steps: &mut Steps<L>,
 ) -> Result<Pass, DeliverError>
-    ensures { given end_shown result ≡ cleanup_of space.now exception kept limit start.now }
+    requires within { limit ≤ room.old.limit }
+    ensures exact { result_map end_shown result ≡ cleanup_of space.now exception kept limit start.now }
+    ensures stays { room.new ≡ room.old }
+    ensures unticked { steps.new.number ≡ steps.old.number }
 {
-    match cleanup_stop(space, start, limit, steps)? {
+    let start = Stepped {
+        context: *start,
+        signal: false,
+    };
+    match outwards(Some(Phase::Cleanup), space, start, limit, room, rows, steps)? {
         None => Ok(Pass::Finished(FATAL)),
         Some(stop) => Ok(ended(&stop, exception, kept)),
     }
@@ -295,24 +300,26 @@ fn resume(
 
 /// The cleanup passes from the start on, each but the first from behind the cleanup before it, until
 /// one enters the handler of the frame with the kept mark or ends the program.
-pub(crate) fn passes<L: Ledger>(
-    space: &Space<'_>,
+pub(crate) fn passes<'a, L: Ledger>(
+    space: &Space<'a>,
     start: &Context,
     exception: u64,
     kept: u64,
     resumes: &Resumes,
     limit: u32,
     room: &mut Room,
+    rows: &mut RowRoom<'a>,
     steps: &mut Steps<L>,
 ) -> Result<Ending, DeliverError>
     requires within { limit ≤ room.old.limit }
     requires empty { room.old.trail ≡ [] }
     ensures exact { IsPassed result room.new (passes_of space.now exception kept resumes.now limit limit start.now) }
     ensures kept { (room.new.visited ≡ room.old.visited) × (room.new.limit ≡ room.old.limit) }
+    ensures unticked { steps.new.number ≡ steps.old.number }
 {
     let mut context = *start;
     loop {
-        match cleanup(space, &context, exception, kept, limit, steps)? {
+        match cleanup(space, &context, exception, kept, limit, room, rows, steps)? {
             Pass::Finished(ending) => return Ok(ending),
             Pass::Elsewhere(pad, entered) => {
                 context = resume(pad, entered, resumes, limit, room)?;

@@ -1,13 +1,13 @@
 // An image of memory, and the modules that lie in it.
-ghost use Rattle.std.specs.Prelude.{◌≡◌, ◌<◌, [], IfSome, IsTrue, MatchOption, IsOkUnless, OnOk, OnErr};
-ghost use Rattle.stack_deliver.specs.Modules.{module_refusal, lowest_shared, module_at, contains, with_module, modules_in, AreApart};
+ghost use Rattle.std.specs.Prelude.{◌≡◌, ◌<◌, [], MatchOption, IsOkUnless, OnOk, OnErr};
+ghost use Rattle.stack_deliver.specs.Modules.{module_refusal, lowest_shared, module_at, with_module, modules_in, AreApart};
 ghost use Rattle.stack_deliver.specs.Nearest.{last_below, first_between};
 
 use memory_image::MemoryImage;
 use std::alloc::Global;
 use std::collections::BTreeMap;
 use std::marker::Model;
-use unwinding_core::{EhFrameFinder, FrameInfo};
+use unwinding_core::FrameInfo;
 
 /// An ELF module: its addresses are those from `start` to before `end`.
 #[derive(Clone, Copy, Debug, PartialEq, Eq)]
@@ -18,21 +18,6 @@ pub struct Module {
     pub end: u64,
     /// Where its frame tables lie.
     pub frame: FrameInfo,
-}
-
-impl EhFrameFinder for Module {
-    ghost use Rattle.stack_deliver.specs.Modules.{frame_for};
-
-    ghost names = { λ m pc info. info ≡ frame_for m pc };
-
-    /// The frame tables of the module, for each of its addresses.
-    fn find(&self, pc: u64) -> Option<FrameInfo> {
-        if self.start <= pc && pc < self.end {
-            Some(self.frame)
-        } else {
-            None
-        }
-    }
 }
 
 /// What a module is beside its start.
@@ -108,9 +93,7 @@ impl<'a> Space<'a> {
 
     /// The module that contains the address.
     pub(crate) fn module_at(&self, address: u64) -> Option<Module>
-        ensures found { result ≡ module_at self.now.modules address }
-        ensures inside { IfSome result (λ m. IsTrue (contains m address)) }
-        ensures apart { AreApart 0 self.now.modules }
+        ensures { result ≡ module_at self.now.modules address }
     {
         match last_below(&self.modules, address) {
             Some(module) => {
@@ -126,7 +109,8 @@ impl<'a> Space<'a> {
 
     /// The memory that the modules lie in.
     pub(crate) fn image(&self) -> &MemoryImage<'a>
-        ensures { result.now ≡ self.now.image }
+        ensures image { result.now ≡ self.now.image }
+        ensures apart { AreApart 0 self.now.modules }
     {
         &self.image
     }

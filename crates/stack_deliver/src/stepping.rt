@@ -1,95 +1,125 @@
-// From a frame to its caller, by the frame table of the module that holds it.
-ghost use Rattle.std.specs.Prelude.{◌≡◌, ◌≢◌, ◌↔◌, ℕ, List, Some, None, Ok, Err, IsTrue, IsFalse};
-ghost use Rattle.std.specs.Option.{option_map};
+// From a frame to its caller, by the frame tables of the module that holds it.
+ghost use Rattle.std.specs.Prelude.{◌≡◌, ◌↔◌, ℕ, List, Some, None, Ok, Err, IsTrue, IsFalse};
 ghost use Rattle.memory_image.specs.Image.{word_at};
 ghost use Rattle.unwind_definitions.specs.declared.error.Error.{Error as Fault};
 ghost use Rattle.unwind_definitions.specs.State.{State, Shows};
 ghost use Rattle.unwind_definitions.specs.Function.{Function};
 ghost use Rattle.unwind_definitions.specs.Chain.{Call};
-ghost use Rattle.unwind_arch.specs.Contexts.{columns_of};
-ghost use Rattle.frame_rows.specs.Rows.{IsRowOf};
+ghost use Rattle.unwind_definitions.specs.LanguageSearch.{address_of_call};
 ghost use Rattle.unwind_definitions.specs.Row.{Run};
-ghost use Rattle.unwinding_core.specs.Answered.{answered};
-ghost use Rattle.unwinding_core.specs.Framed.{address_asked, GivesFrame};
+ghost use Rattle.unwind_definitions.specs.Caller.{x86_64, caller_of};
+ghost use Rattle.frame_rows.specs.Rows.{IsRowOf};
+ghost use Rattle.unwinding_core.specs.Calling.{no_expressions, columns_given};
+ghost use Rattle.unwind_arch.specs.Contexts.{columns_of};
 ghost use Rattle.unwinding_core.specs.Named.{found_by};
 ghost use Rattle.stack_deliver.specs.Modules.{AreApart, contains};
 ghost use Rattle.stack_deliver.specs.Processes.{process_of};
-ghost use Rattle.stack_deliver.specs.Passes.{FrameAt, frame_of, caller_by};
 ghost use Rattle.stack_deliver.specs.Passing.{IsFrameOf, GivesFrameAt};
-ghost use Rattle.stack_deliver.specs.Stepping.{step_of, by_row, called, in_module, EndsAt, FaultsAt};
+ghost use Rattle.stack_deliver.specs.Results.{result_map};
+ghost use Rattle.stack_deliver.specs.Stepping.{FrameAt, frame_by, frame_in, frame_of, caller_by, step_of, EndsAt, FaultsAt};
 ghost use Rattle.stack_deliver.specs.Undone.{HaveFrameTables, IsDescribedCall, Undone};
 
 use crate::delivery::{DeliverError, Stepped};
 use crate::space::{Module, Space};
-use eh_frame::{Row, RowRoom};
+use eh_frame::RowRoom;
 use memory_image::{Ledger, MemoryImage, Steps};
 use unwind_arch::x86_64::{Arch, Context};
-use unwinding_core::{CustomFinder, FDEFinder, FDESearchResult, Frame, StepError, caller_by_row};
+use unwinding_core::{
+    FDESearchResult, FrameInfo, StepError, address_asked, find_named, step_by_row,
+};
 
-/// A finder by the frame tables of a module.
-fn finder_of(holder: Module) -> CustomFinder<Module>
-    ensures { result ≡ Some holder }
-{
-    let mut finder = CustomFinder::new();
-    // It is refused only where one is set already.
-    let _ = finder.set_custom_eh_frame_finder(holder);
-    finder
+impl Stepped {
+    /// The address that is asked of the frame: that of its instruction, or of a byte of its call.
+    pub(crate) fn address(&self) -> u64
+        ensures { result ≡ address_of_call self.now.context.ra self.now.signal }
+    {
+        address_asked(self.context.ra, self.signal)
+    }
 }
 
-/// The frame whose registers are `context`, by the frame tables of the module that it stands in.
-fn framed<'a, L: Ledger>(
+/// The frame at an address of an ELF module, by its frame tables. The row is made in `rows`.
+fn elf_frame<'a, L: Ledger>(
     image: &MemoryImage<'a>,
-    context: &Context,
-    interrupted: bool,
-    holder: Module,
+    address: u64,
+    tables: FrameInfo,
+    rows: &mut RowRoom<'a>,
     steps: &mut Steps<L>,
-) -> Result<Option<Frame<'a, Arch>>, StepError>
-    requires returns { context.now.ra ≢ 0 }
-    requires inside { IsTrue (contains holder (address_asked context.now.ra interrupted)) }
-    ensures frame { GivesFrame (address_asked context.now.ra interrupted) (found_by holder.frame image.now (address_asked context.now.ra interrupted)) result }
+) -> Result<Option<FDESearchResult<'a>>, DeliverError>
+    ensures frame { GivesFrameAt result rows.new (frame_by address (found_by tables image.now address)) }
     ensures unticked { steps.new.number ≡ steps.old.number }
 {
-    Frame::from_context(image, &finder_of(holder), context, interrupted, steps)
+    let Some(found) = find_named(image, address, tables, steps) else {
+        return Ok(None);
+    };
+    match found.make_row(address, rows) {
+        Ok(()) => Ok(Some(found)),
+        Err(fault) => Err(DeliverError::Table(fault)),
+    }
 }
 
-/// The frame whose registers are `context`, `None` at the end of the stack.
-#[tactic(auto, unfolding(crate::specs::Passes::frame_of))]
+/// The frame at an address of a module. Here the kinds of modules part.
+fn frame_in<'a, L: Ledger>(
+    image: &MemoryImage<'a>,
+    address: u64,
+    holder: Module,
+    rows: &mut RowRoom<'a>,
+    steps: &mut Steps<L>,
+) -> Result<Option<FDESearchResult<'a>>, DeliverError>
+    ensures frame { GivesFrameAt result rows.new (frame_in image.now address (Some holder)) }
+    ensures unticked { steps.new.number ≡ steps.old.number }
+{
+    elf_frame(image, address, holder.frame, rows, steps)
+}
+
+/// The frame at a state: what was found for the address asked, `None` at the end of the stack. Its
+/// row is made in `rows`.
+#[tactic(auto, unfolding(crate::specs::Stepping::frame_of))]
 pub(crate) fn frame_at<'a, L: Ledger>(
     space: &Space<'a>,
-    context: &Context,
-    interrupted: bool,
+    state: &Stepped,
+    rows: &mut RowRoom<'a>,
     steps: &mut Steps<L>,
-) -> Result<Option<Frame<'a, Arch>>, DeliverError>
-    ensures frame { GivesFrameAt result (frame_of space.now context.now interrupted) }
-    ensures apart { AreApart 0 space.now.modules }
+) -> Result<Option<FDESearchResult<'a>>, DeliverError>
+    ensures frame { GivesFrameAt result rows.new (frame_of space.now state.now.context state.now.signal) }
     ensures unticked { steps.new.number ≡ steps.old.number }
 {
-    let address = if interrupted {
-        context.ra
-    } else {
-        context.ra.saturating_sub(1)
-    };
+    let address = state.address();
     match space.module_at(address) {
-        Some(holder) if context.ra != 0 => {
-            Ok(framed(space.image(), context, interrupted, holder, steps)?)
+        Some(holder) if state.context.ra != 0 => {
+            frame_in(space.image(), address, holder, rows, steps)
         }
         _ => Ok(None),
     }
 }
 
-/// The caller of a frame.
-pub(crate) fn caller<'a>(
-    image: &MemoryImage<'a>,
-    frame: &Frame<'a, Arch>,
+/// The registers of a frame's caller, by the row in `rows`.
+fn caller(
+    image: &MemoryImage<'_>,
     context: &Context,
-) -> Result<Stepped, DeliverError>
-    ensures { (f : FrameAt) → IsFrameOf frame.now f → result ≡ caller_by image.now context.now f }
+    rows: &RowRoom<'_>,
+) -> Result<Context, StepError>
+    ensures { (run : Run) → IsRowOf rows.now run → columns_given columns_of result ≡ caller_of x86_64 no_expressions image.now (columns_of context.now) run }
 {
-    let caller = frame.unwind(image, context)?;
-    Ok(Stepped {
-        context: caller,
-        signal: frame.is_signal_trampoline(),
-    })
+    let mut caller = *context;
+    step_by_row::<Arch>(image, &mut caller, &rows.row())?;
+    Ok(caller)
+}
+
+/// Puts the caller of the frame at a state in the state's place, by the row in `rows`. After a fault
+/// the state is unspecified.
+pub(crate) fn leave(
+    image: &MemoryImage<'_>,
+    state: &mut Stepped,
+    found: &FDESearchResult<'_>,
+    rows: &RowRoom<'_>,
+) -> Result<(), DeliverError>
+    ensures { (f : FrameAt) → IsFrameOf found.now rows.now f → result_map (λ done. state.new) result ≡ caller_by image.now state.old.context f }
+{
+    *state = Stepped {
+        context: caller(image, &state.context, rows)?,
+        signal: found.fde.is_signal_trampoline(),
+    };
+    Ok(())
 }
 
 fn stepped<L: Ledger>(
@@ -102,99 +132,17 @@ fn stepped<L: Ledger>(
     ensures apart { AreApart 0 space.now.modules }
     ensures unticked { steps.new.number ≡ steps.old.number }
 {
-    match frame_at(space, context, interrupted, steps)? {
-        None => Ok(None),
-        Some(frame) => Ok(Some(caller(space.image(), &frame, context)?)),
-    }
-}
-
-/// The description of the function at an address of a module, by the module's frame tables.
-fn found_in<'a, L: Ledger>(
-    image: &MemoryImage<'a>,
-    address: u64,
-    holder: Module,
-    steps: &mut Steps<L>,
-) -> Option<FDESearchResult<'a>>
-    requires { IsTrue (contains holder address) }
-    ensures found { option_map answered result ≡ found_by holder.frame image.now address }
-    ensures unticked { steps.new.number ≡ steps.old.number }
-{
-    finder_of(holder).find_fde(image, address, steps)
-}
-
-/// The caller of a frame, by its row.
-fn caller_with(
-    image: &MemoryImage<'_>,
-    context: &Context,
-    row: &Row<'_>,
-    signal: bool,
-) -> Result<Option<Stepped>, DeliverError>
-    ensures { (run : Run) → IsRowOf row.now run → result ≡ by_row image.now context.now signal (Ok run) }
-{
-    let context = caller_by_row::<Arch>(image, context, row)?;
-    Ok(Some(Stepped { context, signal }))
-}
-
-/// The caller of a frame, by its description. The row at the address is made in `rows`.
-fn caller_of<'a>(
-    image: &MemoryImage<'a>,
-    context: &Context,
-    address: u64,
-    found: &FDESearchResult<'a>,
-    rows: &mut RowRoom<'a>,
-) -> Result<Option<Stepped>, DeliverError>
-    ensures { result ≡ called image.now context.now address (Some (answered found.now)) }
-{
-    match found.make_row(address, rows) {
-        Err(fault) => Err(DeliverError::Table(fault)),
-        Ok(()) => caller_with(image, context, rows.row(), found.fde.is_signal_trampoline()),
-    }
-}
-
-/// The caller of a frame that stands at an address of a module.
-fn caller_in<'a, L: Ledger>(
-    image: &MemoryImage<'a>,
-    context: &Context,
-    address: u64,
-    holder: Module,
-    rows: &mut RowRoom<'a>,
-    steps: &mut Steps<L>,
-) -> Result<Option<Stepped>, DeliverError>
-    requires { IsTrue (contains holder address) }
-    ensures exact { result ≡ in_module image.now context.now address (Some holder) }
-    ensures unticked { steps.new.number ≡ steps.old.number }
-{
-    match found_in(image, address, holder, steps) {
-        None => Ok(None),
-        Some(found) => caller_of(image, context, address, &found, rows),
-    }
-}
-
-/// The caller of the frame whose registers `context` holds, as `step` gives it. Its row is made in
-/// `rows`, and no frame is made.
-#[tactic(auto, unfolding(crate::specs::Stepping::step_of))]
-pub(crate) fn stepped_in<'a, L: Ledger>(
-    space: &Space<'a>,
-    context: &Context,
-    interrupted: bool,
-    rows: &mut RowRoom<'a>,
-    steps: &mut Steps<L>,
-) -> Result<Option<Stepped>, DeliverError>
-    ensures exact { result ≡ step_of space.now context.now interrupted }
-    ensures apart { AreApart 0 space.now.modules }
-    ensures unticked { steps.new.number ≡ steps.old.number }
-{
-    let address = if interrupted {
-        context.ra
-    } else {
-        context.ra.saturating_sub(1)
+    let image = space.image();
+    let mut rows = RowRoom::new();
+    let mut state = Stepped {
+        context: *context,
+        signal: interrupted,
     };
-    match space.module_at(address) {
-        Some(holder) if context.ra != 0 => {
-            caller_in(space.image(), context, address, holder, rows, steps)
-        }
-        _ => Ok(None),
-    }
+    let Some(found) = frame_at(space, &state, &mut rows, steps)? else {
+        return Ok(None);
+    };
+    leave(image, &mut state, &found, &rows)?;
+    Ok(Some(state))
 }
 
 /// The caller of the frame whose registers `context` holds, `None` at the end of the stack.

@@ -5,50 +5,20 @@ ghost use Rattle.unwind_definitions.specs.State.{State};
 ghost use Rattle.unwind_definitions.specs.Function.{Function};
 ghost use Rattle.unwind_definitions.specs.Chain.{Call};
 ghost use Rattle.stack_deliver.specs.Delivering.{Delivers, NeedsMore, line_of};
-ghost use Rattle.stack_deliver.specs.Modules.{AreApart};
 ghost use Rattle.stack_deliver.specs.Walking.{IsWalked, StepFails, StartsChain, ShowChain};
 
-use crate::delivery::DeliverError;
+use crate::delivery::{DeliverError, Stepped};
+use crate::passes::outwards;
 use crate::room::Room;
 use crate::space::Space;
-use crate::stepping::stepped_in;
 use eh_frame::RowRoom;
 use memory_image::{Ledger, NoLedger, Steps};
 use std::alloc::Global;
 use std::marker::Model;
 use unwind_arch::x86_64::Context;
 
-/// Visits the states from the start outwards, of which there may be at most `limit`.
-fn line<L: Ledger>(
-    space: &Space<'_>,
-    start: &Context,
-    interrupted: bool,
-    limit: u32,
-    room: &mut Room,
-    steps: &mut Steps<L>,
-) -> Result<(), DeliverError>
-    requires within { limit ≤ room.old.limit }
-    requires empty { room.old.visited ≡ [] }
-    ensures exact { IsWalked result room.new (line_of space.now limit start.now interrupted) }
-    ensures kept { (room.new.trail ≡ room.old.trail) × (room.new.limit ≡ room.old.limit) }
-{
-    let mut rows = RowRoom::new();
-    let mut context = *start;
-    let mut interrupted = interrupted;
-    for _ in 0..limit {
-        room.visit(context);
-        match stepped_in(space, &context, interrupted, &mut rows, steps)? {
-            None => return Ok(()),
-            Some(next) => {
-                context = next.context;
-                interrupted = next.signal;
-            }
-        }
-    }
-    Err(DeliverError::FrameLimit)
-}
-
-/// The same in a room that is emptied first, and after an error again.
+/// Visits the states from the start outwards, in a room that is emptied first, and after an error
+/// again.
 fn walked<L: Ledger>(
     space: &Space<'_>,
     start: &Context,
@@ -62,22 +32,20 @@ fn walked<L: Ledger>(
     ensures emptied { OnErr result (room.new.visited ≡ []) }
     ensures no_cleanup { room.new.trail ≡ [] }
     ensures places { room.new.limit ≡ room.old.limit }
+    ensures unticked { steps.new.number ≡ steps.old.number }
 {
     room.clear();
-    match line(space, start, interrupted, limit, room, steps) {
-        Ok(()) => Ok(()),
+    let start = Stepped {
+        context: *start,
+        signal: interrupted,
+    };
+    match outwards(None, space, start, limit, room, &mut RowRoom::new(), steps) {
+        Ok(_) => Ok(()),
         Err(error) => {
             room.clear();
             Err(error)
         }
     }
-}
-
-/// No two modules of a space share an address, as its search for a module tells.
-pub(crate) fn modules_are_apart(space: &Space<'_>)
-    ensures { AreApart 0 space.now.modules }
-{
-    let _ = space.module_at(0);
 }
 
 /// Walks the stack whose innermost frame has the registers `start` into a room.
@@ -113,8 +81,11 @@ pub fn walk_into<L: Ledger>(
     // A described chain that the limit has room for is walked to its end.
     ensures chain { (functions : List Function) (s : State) (calls : List Call) → StartsChain space.now start.now limit functions s calls → IsFalse interrupted →
         IsOk result × ShowChain room.new.visited s calls }
+    // A scan of a frame table isn't counted.
+    ensures unticked { steps.new.number ≡ steps.old.number }
 {
-    modules_are_apart(space);
+    // No two of its modules share an address, as a space's type says.
+    let _ = space.image();
     walked(space, start, interrupted, limit, room, steps)
 }
 

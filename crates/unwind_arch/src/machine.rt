@@ -1,9 +1,10 @@
 //! What unwinding needs to know of a machine.
 
 ghost use Rattle.std.specs.Prelude.{IsSome};
-ghost use Rattle.frame_rows.specs.declared.register.Register.{Register};
+ghost use Rattle.unwind_arch.specs.declared.register.Register.{Register};
 
-use eh_frame::{Register, RegisterMap};
+use crate::register::Register;
+use crate::register_map::RegisterMap;
 
 /// A machine with registers of eight bytes, and the columns that unwinding needs to know of it.
 ///

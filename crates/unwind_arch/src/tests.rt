@@ -3,8 +3,9 @@
 ghost use Rattle.std.specs.Prelude.{◌≡◌, true, is_some};
 
 use crate::Machine;
+use crate::register::Register;
+use crate::register_map::RegisterMap;
 use crate::x86_64::{Arch, Context};
-use eh_frame::{Register, RegisterMap};
 use std::test::Fail;
 
 // What a machine's stack pointer holds, by the machine alone.

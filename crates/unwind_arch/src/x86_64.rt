@@ -5,7 +5,8 @@ ghost use Rattle.std.specs.Prelude.{◌≡◌, ◌≢◌, ℕ, Some, is_some, On
 ghost use Rattle.unwind_arch.specs.Contexts.{columns_of, with_column, written};
 
 use crate::machine::Machine;
-use eh_frame::{Register, RegisterMap};
+use crate::register::Register;
+use crate::register_map::RegisterMap;
 
 /// The most rules that a row of call frame information needs on this machine.
 pub const MAX_REG_RULES: usize = 17;

@@ -1,5 +1,5 @@
 -- A frame: a description that was found for an address, and its row there.
-use Rattle.std.specs.Prelude.{◌≡◌, ◌-◌, ℕ, Bool, Option, Some, None, Result, Ok, Err, if◌then◌else◌}
+use Rattle.std.specs.Prelude.{◌≡◌, ℕ, Option, Some, None, Result, Ok, Err}
 use Rattle.unwind_definitions.specs.declared.error.Error.{Error as Fault}
 use Rattle.unwind_definitions.specs.Forms.{emitted}
 use Rattle.unwind_definitions.specs.Row.{Run, row_at}
@@ -8,10 +8,6 @@ use Rattle.unwinding_core.specs.declared.frame.StepError.{StepError}
 use Rattle.unwinding_core.specs.declared.frame.StepError.TheVariants.{Table}
 use Rattle.unwinding_core.specs.Finding.{FoundFde}
 use Rattle.unwinding_core.specs.FrameValue.{FrameValue}
-
--- the address that a description is sought for: behind a call that of the byte before
-abbrev pub address_asked : ℕ → Bool → ℕ
-address_asked ra signal = if signal then ra else ra - 1
 
 -- a frame of the description with its row at an address, or the row's fault
 abbrev pub GivesRowOf : Result FrameValue Fault → FoundFde → ℕ → Type 0

@@ -4,7 +4,7 @@
 ghost use Rattle.std.specs.Prelude.{◌≡◌, ◌≢◌, ◌+◌, ◌%◌, ◌^◌, ℕ, Option, Some, None, Ok, IfOk, map, IfSome, IsTrue};
 ghost use Rattle.std.specs.Option.{unwrap_or};
 ghost use Rattle.unwind_definitions.specs.Row.{Run, covers_pc};
-ghost use Rattle.unwind_definitions.specs.LanguageSearch.{language_address, personality_address, target};
+ghost use Rattle.unwind_definitions.specs.LanguageSearch.{address_of_call, language_address, personality_address, target};
 ghost use Rattle.unwind_definitions.specs.Caller.{caller_of, rule_value, cfa_value, word_or_fault, held, unruled};
 ghost use Rattle.frame_rows.specs.Rules.{rule_meaning, cfa_meaning, entry_of};
 ghost use Rattle.frame_rows.specs.Left.{left};
@@ -12,12 +12,12 @@ ghost use Rattle.frame_rows.specs.Rows.{IsRowOf};
 ghost use Rattle.encoded_pointers.specs.Pointers.{bases_of, pointer_of};
 ghost use Rattle.unwinding_core.specs.Finding.{FoundFde};
 ghost use Rattle.unwinding_core.specs.Answered.{answered};
-ghost use Rattle.unwinding_core.specs.Framed.{address_asked, GivesFrame, GivesRowOf};
+ghost use Rattle.unwinding_core.specs.Framed.{GivesFrame, GivesRowOf};
 ghost use Rattle.unwinding_core.specs.Calling.{no_expressions, machine_of, value_given, columns_given, written_in, applied, rule_applied};
 
 use crate::find_fde::{FDEFinder, FDESearchResult};
 use eh_frame::{
-    Bases, CfaRule, Error, Pointer, Register, RegisterMap, RegisterRule, Registers, Row,
+    Bases, CfaRule, Error, Pointer, Register, RegisterMap, RegisterRule, Registers, Row, RowRef,
 };
 use memory_image::{Ledger, MemoryImage, Steps};
 use std::fmt;
@@ -88,21 +88,19 @@ impl<'a, M: Machine> Frame<'a, M> {
     ) -> Result<Option<Frame<'a, M>>, StepError>
         ensures ends { M.Context.columns context.now M.RA.0 ≡ Some 0 → (result ≡ Ok None) × (steps.new.number ≡ steps.old.number) }
         ensures frame { (ra : ℕ) → M.Context.columns context.now M.RA.0 ≡ Some ra → ra ≢ 0 →
-            (answer : Option FoundFde) × (ticks : ℕ) × (steps.new.number ≡ steps.old.number + ticks) × F.finds finder.now image.now (address_asked ra signal) answer ticks × GivesFrame (address_asked ra signal) answer result }
+            (answer : Option FoundFde) × (ticks : ℕ) × (steps.new.number ≡ steps.old.number + ticks) × F.finds finder.now image.now (address_of_call ra signal) answer ticks × GivesFrame (address_of_call ra signal) answer result }
         ensures contains { (ra : ℕ) → M.Context.columns context.now M.RA.0 ≡ Some ra →
-            IfOk result (λ frame. IfSome frame (λ f. IsTrue (covers_pc f.found.fde (address_asked ra signal)))) }
+            IfOk result (λ frame. IfSome frame (λ f. IsTrue (covers_pc f.found.fde (address_of_call ra signal)))) }
     {
         let ra = return_address::<M>(context);
         if ra == 0 {
             return Ok(None);
         }
-        // A byte of the call is asked, for what follows a call may be another function.
-        let address = if signal { ra } else { ra - 1 };
-        Frame::found(image, finder, address, steps)
+        Frame::by_finder(image, finder, address_asked(ra, signal), steps)
     }
 
     // The frame of the description that a finder answers for an address.
-    fn found<F: FDEFinder, L: Ledger>(
+    fn by_finder<F: FDEFinder, L: Ledger>(
         image: &MemoryImage<'a>,
         finder: &F,
         address: u64,
@@ -149,7 +147,9 @@ impl<'a, M: Machine> Frame<'a, M> {
         ensures caller { (run : Run) → IsRowOf self.now.row run →
             columns_given M.Context.columns result ≡ caller_of (machine_of M.SP.0 M.RA.0) no_expressions image.now (M.Context.columns context.now) run }
     {
-        caller_by_row::<M>(image, context, &self.row)
+        let mut caller = *context;
+        step_by_row::<M>(image, &mut caller, &self.row.as_ref())?;
+        Ok(caller)
     }
 
     /// Takes the arguments that the frame's callee removes off the stack of `context`: their size
@@ -161,6 +161,13 @@ impl<'a, M: Machine> Frame<'a, M> {
         if let Some(sp) = context.get(M::SP) {
             context.set(M::SP, sp.wrapping_add(self.row.saved_args_size()));
         }
+    }
+
+    // What was found.
+    pub(crate) fn found(&self) -> &FDESearchResult<'a>
+        ensures { answered result.now ≡ self.now.found }
+    {
+        &self.fde_result
     }
 
     /// What the pointers of the description's table may be relative to.
@@ -186,10 +193,7 @@ impl<'a, M: Machine> Frame<'a, M> {
     pub fn personality(&self, image: &MemoryImage<'_>) -> Result<Option<u64>, StepError>
         ensures { value_given result ≡ personality_address image.now self.now.found.fde }
     {
-        match self.fde_result.fde.personality() {
-            None => Ok(None),
-            Some(pointer) => Ok(Some(target(image, pointer)?)),
-        }
+        self.fde_result.personality(image)
     }
 
     /// The address of the function's language table, 0 where it has none.
@@ -200,10 +204,7 @@ impl<'a, M: Machine> Frame<'a, M> {
     pub fn lsda(&self, image: &MemoryImage<'_>) -> Result<u64, StepError>
         ensures { value_given result ≡ language_address image.now self.now.found.fde }
     {
-        match self.fde_result.fde.lsda() {
-            None => Ok(0),
-            Some(pointer) => target(image, pointer),
-        }
+        self.fde_result.lsda(image)
     }
 
     /// Whether the frame is one that a signal's delivery made: its caller stands before the
@@ -227,6 +228,46 @@ impl<'a, M: Machine> fmt::Debug for Frame<'a, M> {
     }
 }
 
+impl<'a> FDESearchResult<'a> {
+    /// The address of the personality: the routine that reads the function's language table. `None`
+    /// where the description names none.
+    ///
+    /// # Errors
+    ///
+    /// `Unmapped` with the address of the cell that holds the address, where it isn't wholly mapped.
+    pub fn personality(&self, image: &MemoryImage<'_>) -> Result<Option<u64>, StepError>
+        ensures { value_given result ≡ personality_address image.now (answered self.now).fde }
+    {
+        match self.fde.personality() {
+            None => Ok(None),
+            Some(pointer) => Ok(Some(target(image, pointer)?)),
+        }
+    }
+
+    /// The address of the function's language table, 0 where it has none.
+    ///
+    /// # Errors
+    ///
+    /// `Unmapped` with the address of the cell that holds the address, where it isn't wholly mapped.
+    pub fn lsda(&self, image: &MemoryImage<'_>) -> Result<u64, StepError>
+        ensures { value_given result ≡ language_address image.now (answered self.now).fde }
+    {
+        match self.fde.lsda() {
+            None => Ok(0),
+            Some(pointer) => target(image, pointer),
+        }
+    }
+}
+
+/// The address that is asked of a frame: its return address where `signal` is true, for then it
+/// stands at that instruction. Else it is the return address less one, as words that wrap: after a
+/// call that is a byte of the call, which may be the last of its function and of its call site.
+pub fn address_asked(ra: u64, signal: bool) -> u64
+    ensures { result ≡ address_of_call ra signal }
+{
+    if signal { ra } else { ra.wrapping_sub(1) }
+}
+
 /// The return address.
 pub(crate) fn return_address<M: Machine>(context: &M::Context) -> u64
     ensures { M.Context.columns context.now M.RA.0 ≡ Some result }
@@ -234,24 +275,23 @@ pub(crate) fn return_address<M: Machine>(context: &M::Context) -> u64
     context.get(M::RA).unwrap_or(0)
 }
 
-/// The registers of the caller of the frame whose registers are `context`, by its row.
-///
-/// It is [`Frame::unwind`] where the row isn't a frame's.
+/// Puts the registers of a frame's caller in place of the frame's own, by the frame's row.
 ///
 /// # Errors
 ///
-/// Those of [`Frame::unwind`].
-pub fn caller_by_row<M: Machine>(
+/// Those of [`Frame::unwind`]. After one the registers are unspecified.
+pub fn step_by_row<M: Machine>(
     image: &MemoryImage<'_>,
-    context: &M::Context,
-    row: &Row<'_>,
-) -> Result<M::Context, StepError>
+    context: &mut M::Context,
+    row: &RowRef<'_, '_>,
+) -> Result<(), StepError>
     ensures caller { (run : Run) → IsRowOf row.now run →
-        columns_given M.Context.columns result ≡ caller_of (machine_of M.SP.0 M.RA.0) no_expressions image.now (M.Context.columns context.now) run }
+        columns_given M.Context.columns (written_in result context.new) ≡ caller_of (machine_of M.SP.0 M.RA.0) no_expressions image.now (M.Context.columns context.old) run }
 {
-    let cfa = cfa::<M>(context, row.cfa())?;
-    let before = begun::<M>(context, cfa);
-    applied::<M>(image, context, cfa, row.registers(), before)
+    let callee = *context;
+    let cfa = cfa::<M>(&callee, row.cfa())?;
+    begin::<M>(context, cfa);
+    apply::<M>(image, &callee, cfa, row.registers(), context)
 }
 
 /// The word at an address, which has to be mapped.
@@ -275,7 +315,7 @@ pub(crate) fn target(image: &MemoryImage<'_>, pointer: Pointer) -> Result<u64, S
 }
 
 /// What a column holds, which the machine has to have.
-fn held<M: Machine>(context: &M::Context, register: Register) -> Result<u64, StepError>
+fn value_of<M: Machine>(context: &M::Context, register: Register) -> Result<u64, StepError>
     ensures { value_given result ≡ held (M.Context.columns context.now register.0) }
 {
     match context.get(register) {
@@ -290,27 +330,25 @@ fn cfa<M: Machine>(context: &M::Context, rule: CfaRule<'_>) -> Result<u64, StepE
 {
     match rule {
         CfaRule::RegisterAndOffset { register, offset } => {
-            let value = held::<M>(context, register)?;
+            let value = value_of::<M>(context, register)?;
             Ok(value.wrapping_add(offset))
         }
         CfaRule::Expression(_) => Err(UNKNOWN),
     }
 }
 
-/// The caller's registers before any rule is applied: the stack pointer is the canonical frame
-/// address, and the return address 0.
-fn begun<M: Machine>(context: &M::Context, cfa: u64) -> M::Context
-    ensures { M.Context.columns result ≡ unruled (machine_of M.SP.0 M.RA.0) (M.Context.columns context.now) cfa }
+/// Makes a frame's registers its caller's before any rule is applied: the stack pointer is the
+/// canonical frame address, and the return address 0.
+fn begin<M: Machine>(context: &mut M::Context, cfa: u64)
+    ensures { M.Context.columns context.new ≡ unruled (machine_of M.SP.0 M.RA.0) (M.Context.columns context.old) cfa }
 {
-    let mut caller = *context;
-    caller.set(M::RA, 0);
-    caller.set(M::SP, cfa);
-    caller
+    context.set(M::RA, 0);
+    context.set(M::SP, cfa);
 }
 
 /// The value that a rule gives a column, from the canonical frame address and the frame's
 /// registers.
-fn ruled<M: Machine>(
+fn rule_value<M: Machine>(
     image: &MemoryImage<'_>,
     context: &M::Context,
     cfa: u64,
@@ -321,16 +359,16 @@ fn ruled<M: Machine>(
 {
     match rule {
         RegisterRule::Undefined => Ok(0),
-        RegisterRule::SameValue => held::<M>(context, register),
+        RegisterRule::SameValue => value_of::<M>(context, register),
         RegisterRule::Offset(offset) => word_at(image, cfa.wrapping_add(offset)),
         RegisterRule::ValOffset(offset) => Ok(cfa.wrapping_add(offset)),
-        RegisterRule::Register(other) => held::<M>(context, other),
+        RegisterRule::Register(other) => value_of::<M>(context, other),
         RegisterRule::Expression(_) | RegisterRule::ValExpression(_) => Err(UNKNOWN),
     }
 }
 
-/// Writes the value that a rule gives a column. Behind a fault the registers aren't told.
-fn rule_applied<M: Machine>(
+/// Writes the value that a rule gives a column. After a fault the registers are unspecified.
+fn apply_rule<M: Machine>(
     image: &MemoryImage<'_>,
     context: &M::Context,
     cfa: u64,
@@ -340,26 +378,26 @@ fn rule_applied<M: Machine>(
 ) -> Result<(), StepError>
     ensures { columns_given M.Context.columns (written_in result caller.new) ≡ rule_applied no_expressions image.now (M.Context.columns context.now) cfa (entry_of (register, rule.entry)) (M.Context.columns caller.old) }
 {
-    let value = ruled::<M>(image, context, cfa, register, rule)?;
+    let value = rule_value::<M>(image, context, cfa, register, rule)?;
     match caller.set(register, value) {
         Some(()) => Ok(()),
         None => Err(UNSUPPORTED),
     }
 }
 
-/// Registers with the values that a row's rules give their columns.
-fn applied<M: Machine>(
+/// Writes the values that a row's rules give their columns. After a fault the registers are
+/// unspecified.
+fn apply<M: Machine>(
     image: &MemoryImage<'_>,
     context: &M::Context,
     cfa: u64,
     rules: Registers<'_, '_>,
-    begun: M::Context,
-) -> Result<M::Context, StepError>
-    ensures { columns_given M.Context.columns result ≡ applied no_expressions image.now (M.Context.columns context.now) cfa (map entry_of (left rules.entry)) (M.Context.columns begun) }
+    caller: &mut M::Context,
+) -> Result<(), StepError>
+    ensures { columns_given M.Context.columns (written_in result caller.new) ≡ applied no_expressions image.now (M.Context.columns context.now) cfa (map entry_of (left rules.entry)) (M.Context.columns caller.old) }
 {
-    let mut caller = begun;
     for (register, rule) in rules {
-        rule_applied::<M>(image, context, cfa, register, rule, &mut caller)?;
+        apply_rule::<M>(image, context, cfa, register, rule, caller)?;
     }
-    Ok(caller)
+    Ok(())
 }

@@ -10,10 +10,12 @@ ghost use Rattle.unwind_definitions.specs.LanguageSearch.{LanguageAsks, address,
 ghost use Rattle.encoded_pointers.specs.Pointers.{bases_of};
 ghost use Rattle.encoded_pointers.specs.Readers.{GivesOr as Reads};
 ghost use Rattle.encoded_pointers.specs.View.{at};
+ghost use Rattle.unwinding_core.specs.Answered.{answered};
 ghost use Rattle.unwinding_core.specs.Calling.{value_given};
 ghost use Rattle.unwinding_core.specs.Languages.{action_of, given, head_of, site_of, passes_types, GivesOr};
 
-use crate::frame::{Frame, StepError, return_address, target};
+use crate::find_fde::FDESearchResult;
+use crate::frame::{Frame, StepError, address_asked, return_address, target};
 use eh_frame::{Bases, Error};
 use encoded_pointers::{Cursor, DwEhPe, parse_encoded_pointer, parse_pointer_encoding};
 use memory_image::MemoryImage;
@@ -86,30 +88,31 @@ pub fn find_eh_action<M: Machine>(
     ensures first { (ra : ℕ) → M.Context.columns context.now M.RA.0 ≡ Some ra →
         IfOk result (λ action. LanguageAsks image.now frame.now.found.bases frame.now.found.fde (address_of_call ra signal) (action_of action)) }
 {
-    asked_action(image, frame, return_address::<M>(context), signal)
+    let address = address_asked(return_address::<M>(context), signal);
+    frame.found().eh_action(image, address)
 }
 
-/// The same, by the return address.
-fn asked_action<M: Machine>(
-    image: &MemoryImage<'_>,
-    frame: &Frame<'_, M>,
-    ra: u64,
-    signal: bool,
-) -> Result<EhAction, StepError>
-    ensures { given action_of result ≡ language_action image.now frame.now.found.bases frame.now.found.fde (address_of_call ra signal) }
-{
-    // A byte of the call is asked, for what follows a call may be another site.
-    let address = if signal { ra } else { ra.wrapping_sub(1) };
-    let table = frame.lsda(image)?;
-    if table == 0 {
-        return Ok(EhAction::None);
+impl FDESearchResult<'_> {
+    /// What the function asks of a frame of it, by its language table, at an address of a call:
+    /// [`find_eh_action`] where the frame isn't made.
+    ///
+    /// # Errors
+    ///
+    /// Those of [`find_eh_action`].
+    pub fn eh_action(&self, image: &MemoryImage<'_>, address: u64) -> Result<EhAction, StepError>
+        ensures { given action_of result ≡ language_action image.now (answered self.now).bases (answered self.now).fde address }
+    {
+        let table = self.lsda(image)?;
+        if table == 0 {
+            return Ok(EhAction::None);
+        }
+        let start = self.fde.initial_address();
+        let bases = Bases {
+            func: Some(start),
+            ..self.bases
+        };
+        action_at(image, &bases, start, table, address)
     }
-    let start = frame.initial_address();
-    let bases = Bases {
-        func: Some(start),
-        ..frame.bases()
-    };
-    action_at(image, &bases, start, table, address)
 }
 
 /// What the language table at `table` of the function at `start` asks at an address.

@@ -3,7 +3,7 @@
 //! A finder ([`FDEFinder`]) answers the description of the function at an address. A [`Frame`] is
 //! made of it and of the row at that address, for any machine of `unwind_arch`, and gives the
 //! registers of its caller. Where frame after frame is left, [`FDESearchResult::make_row`] makes their
-//! rows in one place, and [`caller_by_row`] gives the callers.
+//! rows in one place, and [`step_by_row`] puts the caller in place of each.
 #![tactic(auto)]
 
 pub mod abi;
@@ -25,7 +25,7 @@ pub use abi::{
     _Unwind_SetIP, UnwindAction, UnwindContext, UnwindReasonCode,
 };
 pub use find_fde::custom::{
-    CustomFinder, EhFrameFinder, FrameInfo, FrameInfoKind, SetCustomEhFrameFinderError,
+    CustomFinder, EhFrameFinder, FrameInfo, FrameInfoKind, SetCustomEhFrameFinderError, find_named,
 };
 pub use find_fde::fixed::StaticFinder;
 pub use find_fde::global::GlobalFinder;
@@ -33,6 +33,6 @@ pub use find_fde::gnu_eh_frame_hdr::GnuHdrFinder;
 pub use find_fde::phdr::{Phdr, PhdrFinder, PhdrObject};
 pub use find_fde::registry::{Object, Registry};
 pub use find_fde::{FDEFinder, FDESearchResult};
-pub use frame::{Frame, StepError, caller_by_row};
+pub use frame::{Frame, StepError, address_asked, step_by_row};
 pub use language_table::{EhAction, find_eh_action};
 pub use personality::{Personality, RustPersonality};

@@ -16,8 +16,7 @@ use crate::abi::context::UnwindContext;
 use crate::abi::{UnwindAction, UnwindReasonCode};
 use crate::frame::StepError;
 use crate::language_table::{EhAction, find_eh_action};
-use eh_frame::{Register, RegisterMap};
-use unwind_arch::Machine;
+use unwind_arch::{Machine, Register, RegisterMap};
 
 /// What answers for the personality routines of the functions on a stack.
 ///

@@ -9,9 +9,8 @@ ghost use Rattle.unwinding_core.specs.Calling.{value_given};
 ghost use Rattle.unwinding_core.specs.Columns.{column_at};
 
 use crate::frame::{Frame, StepError};
-use eh_frame::{Register, RegisterMap};
 use memory_image::MemoryImage;
-use unwind_arch::Machine;
+use unwind_arch::{Machine, Register, RegisterMap};
 
 /// A frame as a personality sees it: the memory, what is known of its function, its registers, and
 /// whether it stands at the instruction of its return address, as behind a signal.

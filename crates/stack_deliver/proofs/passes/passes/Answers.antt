@@ -1,4 +1,4 @@
-use Rattle.std.proofs.Common.{◌≡◌, ◌+◌, ◌-◌, ◌++◌, ◌∷◌, [], ℕ, suc, length, sym, subst, arith, length-append}
+use Rattle.std.proofs.Common.{◌≡◌, ◌+◌, ◌-◌, ◌++◌, ◌∷◌, [], ℕ, suc, length, sym, subst, ◌∙◌, arith, length-append}
 use Rattle.std.proofs.lemmas.Result.{err_from_is_err_and}
 use Rattle.stack_deliver.specs.Passes.{passes_of, cleanup_at}
 use Rattle.stack_deliver.specs.Passing.{with_cleanups}
@@ -8,30 +8,31 @@ use Rattle.stack_deliver.proofs.passes.passes.Goals as goal
 pub returns-in_err-ending-clause-exact : goal.returns-in_err-ending-clause-exact
 returns-in_err-ending-clause-exact g c =
     let p = err_from_is_err_and c.from_residual.result c.from_residual.ensures.1 in
-    rw (p.1, p.2) (passes_fault c.args.space.now c.args.exception c.args.kept c.args.resumes.now c.args.limit c.loop-ending.room.trail c.loop-ending.context _ _ c.in_err-ending.field-0.0 c.loop-ending.invariant.passes (sym c.in_err-ending.ensures))
+    rw (p.1, p.2) (passes_fault c.args.space.now c.args.exception c.args.kept c.args.resumes.now c.args.limit c.loop-ending.room.trail c.loop-ending.context _ _ c.in_err-ending.field-0.0 c.loop-ending.invariant.passes (sym c.in_err-ending.ensures.exact))
 
 pub returns-in-Finished-clause-exact : goal.returns-in-Finished-clause-exact
 returns-in-Finished-clause-exact g c =
-    passes_finish c.args.space.now c.args.exception c.args.kept c.args.resumes.now c.args.limit c.loop-ending.room.trail c.loop-ending.context _ _ c.in-Finished.ending c.loop-ending.invariant.passes (sym (rw c.in-Finished.is at c.in_ok-ending.ensures))
+    rw c.in_ok-ending.ensures.stays (passes_finish c.args.space.now c.args.exception c.args.kept c.args.resumes.now c.args.limit c.loop-ending.room.trail c.loop-ending.context _ _ c.in-Finished.ending c.loop-ending.invariant.passes (sym (rw c.in-Finished.is at c.in_ok-ending.ensures.exact)))
 
 pub returns-in_err-context-in-Elsewhere-clause-exact : goal.returns-in_err-context-in-Elsewhere-clause-exact
 returns-in_err-context-in-Elsewhere-clause-exact g c =
     let p = err_from_is_err_and c.from_residual-in_err-context-in-Elsewhere.result c.from_residual-in_err-context-in-Elsewhere.ensures.1 in
     let front = c.loop-ending.room.trail in
     rw (p.1, p.2) (passes_refused c.args.space.now c.args.exception c.args.kept c.args.resumes.now c.args.limit front c.loop-ending.context _ _ c.in-Elsewhere.pad c.in-Elsewhere.entered c.resume.result c.in_err-context-in-Elsewhere.field-0.0 c.loop-ending.invariant.passes
-    (sym (rw c.in-Elsewhere.is at c.in_ok-ending.ensures)) (λ none. c.resume.ensures.full (omega (arith, none)), λ some. c.resume.ensures.resumed (omega (arith, some))) c.in_err-context-in-Elsewhere.was)
+    (sym (rw c.in-Elsewhere.is at c.in_ok-ending.ensures.exact)) (λ none. c.resume.ensures.full (rw c.in_ok-ending.ensures.stays (omega (arith, none))), λ some. c.resume.ensures.resumed (rw c.in_ok-ending.ensures.stays (omega (arith, some)))) c.in_err-context-in-Elsewhere.was)
 
 pub loop-ending-preserved : goal.loop-ending-preserved
 loop-ending-preserved g c =
     let front = c.loop-ending.room.trail in
     let r = passes_go c.args.space.now c.args.exception c.args.kept c.args.resumes.now c.args.limit front c.loop-ending.context _ _ c.in-Elsewhere.pad c.in-Elsewhere.entered c.resume.result c.in_ok-context-in-Elsewhere.context c.loop-ending.invariant.passes
-    (sym (rw c.in-Elsewhere.is at c.in_ok-ending.ensures)) (λ none. c.resume.ensures.full (omega (arith, none)), λ some. c.resume.ensures.resumed (omega (arith, some))) c.in_ok-context-in-Elsewhere.was in
+    (sym (rw c.in-Elsewhere.is at c.in_ok-ending.ensures.exact)) (λ none. c.resume.ensures.full (rw c.in_ok-ending.ensures.stays (omega (arith, none))), λ some. c.resume.ensures.resumed (rw c.in_ok-ending.ensures.stays (omega (arith, some)))) c.in_ok-context-in-Elsewhere.was in
     let places : c.args.limit - length front ≡ suc r.0 = r.1 in
     let longer : length (front ++ cleanup_at c.in-Elsewhere.pad c.in-Elsewhere.entered ∷ []) ≡ length front + 1 = length-append front (cleanup_at c.in-Elsewhere.pad c.in-Elsewhere.entered ∷ []) in
     let left : r.0 ≡ c.args.limit - length (front ++ cleanup_at c.in-Elsewhere.pad c.in-Elsewhere.entered ∷ []) = omega arith in
-    rw c.in_ok-context-in-Elsewhere.ensures.trail record {
+    rw (c.in_ok-context-in-Elsewhere.ensures.trail, c.in_ok-ending.ensures.stays) record {
       passes = subst (λ (n : ℕ). with_cleanups (front ++ cleanup_at c.in-Elsewhere.pad c.in-Elsewhere.entered ∷ []) (passes_of c.args.space.now c.args.exception c.args.kept c.args.resumes.now c.args.limit n c.in_ok-context-in-Elsewhere.context) ≡ passes_of c.args.space.now c.args.exception c.args.kept c.args.resumes.now c.args.limit c.args.limit c.args.start.now) left r.2;
       full = omega arith;
       visited = c.loop-ending.invariant.visited;
       places = c.loop-ending.invariant.places;
+      unticked = c.in_ok-ending.ensures.unticked ∙ c.loop-ending.invariant.unticked;
     }

@@ -9,6 +9,7 @@ invariant-loop-ending g l = record {
   full : length l.room.trail ≤ l.limit;
   visited : l.room.visited ≡ l.fn.room.visited;
   places : l.room.limit ≡ l.fn.room.limit;
+  unticked : l.steps.number ≡ l.fn.steps.number;
 }
 
 abbrev pub decreases-loop-ending : goal.decreases-loop-ending

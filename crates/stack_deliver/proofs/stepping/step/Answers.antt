@@ -4,7 +4,7 @@ use Rattle.stack_deliver.specs.declared.delivery.Stepped.{Stepped}
 use Rattle.unwind_arch.specs.Contexts.{columns_of}
 use Rattle.stack_deliver.specs.Undone.{Undone}
 use Rattle.stack_deliver.specs.Stepping.{step_of}
-use Rattle.stack_deliver.proofs.StepUndone.{step_undone}
+use Rattle.stack_deliver.proofs.MetFrames.{step_undone}
 use Rattle.stack_deliver.proofs.StepAnswers.{step_ends, ends_step, step_unmapped, step_table, table_step}
 use Rattle.stack_deliver.proofs.stepping.step.Goals as goal
 

@@ -1,6 +1,6 @@
 use Rattle.std.specs.Prelude.{IsSome}
 use Rattle.unwinding_core.proofs.Begun.{given, begun-columns}
-use Rattle.unwinding_core.proofs.frame.begun.Goals as goal
+use Rattle.unwinding_core.proofs.frame.begin.Goals as goal
 
 pub returns : goal.returns
 returns g c =

@@ -3,7 +3,7 @@ use Rattle.unwind_definitions.specs.Row.{CfaRule}
 use Rattle.unwind_definitions.specs.Caller.{cfa_value}
 use Rattle.unwinding_core.specs.Calling.{no_expressions, machine_of}
 use Rattle.unwinding_core.proofs.Callers.{row_caller}
-use Rattle.unwinding_core.proofs.frame.caller_by_row.Goals as goal
+use Rattle.unwinding_core.proofs.frame.step_by_row.Goals as goal
 
 pub returns : goal.returns
 returns g c = record {
@@ -13,7 +13,7 @@ returns g c = record {
       let row = c.args.row.now in
       let gives : cfa_value no_expressions (columns old) row.cfa ≡ Ok c.in_ok-cfa.cfa =
       ap (λ (r : CfaRule). cfa_value no_expressions (columns old) r) (sym c.cfa.ensures) ∙ sym c.in_ok-cfa.ensures in
-      c.applied.ensures ∙ rw (c.registers.ensures.rules, c.begun-before.ensures)
+      c.apply.ensures ∙ rw (c.registers.ensures.rules, c.begin.ensures)
       (row_caller (machine_of g.M.Machine.SP.0 g.M.Machine.RA.0) no_expressions c.args.image.now (columns old) c.in_ok-cfa.cfa run row.cfa row.rules
       (g.met.M.Machine.has_sp old) (g.met.M.Machine.has_ra old) is.cfa gives c.registers.ensures.ascending is.rules);
 }

@@ -1,0 +1,83 @@
+//! Rows whose rules stand elsewhere. DWARF 5 section 6.4.1.
+
+ghost use Rattle.std.specs.Prelude.{◌≡◌, ◌≤◌, length, map};
+ghost use Rattle.frame_rows.specs.Rules.{entry_of, cfa_meaning, AscendsFrom};
+
+use crate::row::Registers;
+use crate::rule::{CfaRule, RegisterRule};
+use std::marker::Model;
+use unwind_arch::Register;
+
+/// A row that is lent: its rules stand in a [`Row`](crate::Row) or in a [`RowRoom`](crate::RowRoom).
+///
+/// It is made in a few instructions, where a row of its own has place for 32 rules.
+#[derive(Drop)]
+pub struct RowRef<'r, 'a> {
+    cfa: CfaRule<'a>,
+    rules: &'r [(Register, RegisterRule<'a>)],
+    saved_args_size: u64,
+}
+
+impl<'r, 'a> Model for RowRef<'r, 'a> {
+    ghost use Rattle.std.specs.Prelude.{◌≤◌, length, map};
+    ghost use Rattle.frame_rows.specs.RowValue.{RowValue};
+
+    ghost Value = { RowValue };
+
+    ghost use Rattle.frame_rows.specs.Rules.{entry_of, cfa_meaning, AscendsFrom};
+
+    ghost view = { λ a. record {
+      cfa = cfa_meaning a.cfa;
+      rules = map entry_of a.rules.now;
+      saved_args_size = a.saved_args_size;
+    } };
+
+    ghost invariant = { λ a. AscendsFrom 0 (map entry_of a.rules.now) × (length a.rules.now ≤ 32) };
+}
+
+impl<'r, 'a> RowRef<'r, 'a> {
+    ghost use Rattle.frame_rows.specs.Left.{left};
+
+    pub(crate) fn new(
+        cfa: CfaRule<'a>,
+        rules: &'r [(Register, RegisterRule<'a>)],
+        saved_args_size: u64,
+    ) -> RowRef<'r, 'a>
+        requires ascending { AscendsFrom 0 (map entry_of rules.now) }
+        requires fits { length rules.now ≤ 32 }
+        ensures { result ≡ record {
+          cfa = cfa_meaning cfa.entry;
+          rules = map entry_of rules.now;
+          saved_args_size = saved_args_size;
+        } }
+    {
+        RowRef {
+            cfa,
+            rules,
+            saved_args_size,
+        }
+    }
+
+    /// How the CFA is found.
+    pub fn cfa(&self) -> CfaRule<'a>
+        ensures { cfa_meaning result ≡ self.now.cfa }
+    {
+        self.cfa
+    }
+
+    /// The registers that have a rule, at most 32, with their rules, by ascending number.
+    pub fn registers(&self) -> Registers<'r, 'a>
+        ensures rules { map entry_of (left result) ≡ self.now.rules }
+        ensures ascending { AscendsFrom 0 self.now.rules }
+        ensures count { length self.now.rules ≤ 32 }
+    {
+        Registers::over(self.rules)
+    }
+
+    /// How many bytes of the stack hold arguments that the callee removes.
+    pub fn saved_args_size(&self) -> u64
+        ensures { result ≡ self.now.saved_args_size }
+    {
+        self.saved_args_size
+    }
+}

@@ -1,0 +1,64 @@
+-- A step as the frame and its caller, and a turn by what is asked there.
+use Rattle.std.proofs.Common.{◌≡◌, ℕ, Bool, List, Option, Some, None, Result, Ok, Err, refl}
+use Rattle.memory_image.specs.Image.{Span}
+use Rattle.unwind_definitions.specs.Forms.{emitted}
+use Rattle.unwind_definitions.specs.Row.{Run, row_at}
+use Rattle.unwind_definitions.specs.Caller.{x86_64, caller_of}
+use Rattle.unwind_definitions.specs.Function.{Action}
+use Rattle.unwind_arch.specs.declared.x86_64.Context.{Context}
+use Rattle.unwind_arch.specs.Contexts.{columns_of, context_of}
+use Rattle.unwinding_core.specs.Calling.{no_expressions}
+use Rattle.unwinding_core.specs.Finding.{FoundFde}
+use Rattle.stack_deliver.specs.declared.delivery.Stepped.{Stepped}
+use Rattle.stack_deliver.specs.declared.delivery.DeliverError.{DeliverError}
+use Rattle.stack_deliver.specs.declared.passes.Phase.{Phase}
+use Rattle.stack_deliver.specs.Modules.{SpaceValue}
+use Rattle.stack_deliver.specs.Results.{◌>>=◌, result_map}
+use Rattle.stack_deliver.specs.Stepping.{FrameAt, frame_by, frame_of, caller_by, caller_at, step_of}
+use Rattle.stack_deliver.specs.Passes.{Turn, Goes, stop_by, turn_at, turn_in}
+use Rattle.stack_deliver.proofs.ContextLemmas.{IsWhole, context_of-columns}
+
+abbrev pub some_next : Result Stepped DeliverError → Result (Option Stepped) DeliverError
+some_next = result_map Some
+
+abbrev pub stepped_by : List Span → Context → Result (Option FrameAt) DeliverError → Result (Option Stepped) DeliverError
+stepped_by image c frame = frame >>= caller_at image c
+
+pub step_is : (space : SpaceValue) (c : Context) (interrupted : Bool) → step_of space c interrupted ≡ stepped_by space.image c (frame_of space c interrupted)
+unfolding step_of
+step_is space c interrupted = refl
+
+-- only at no frame there is no caller
+pub none_framed : (image : List Span) (c : Context) (r : Result (Option FrameAt) DeliverError) → stepped_by image c r ≡ Ok None → r ≡ Ok None
+none_framed image c (Ok None) e = refl
+none_framed image c (Ok (Some f)) e = absurd (never (callers f) e)
+  where
+    callers : FrameAt → Result Stepped DeliverError
+    callers g = caller_by image c g
+
+    never : (r : Result Stepped DeliverError) → some_next r ≡ Ok None → ⊥
+    never (Ok n) e = absurd cc
+    never (Err x) e = absurd cc
+none_framed image c (Err x) e = absurd cc
+
+-- what is found, with its row, is the frame
+pub frame_found : (a : ℕ) (o : Option FoundFde) (found : FoundFde) (run : Run) → Some found ≡ o → row_at emitted found.bases found.fde a ≡ Ok run → frame_by a o ≡ Ok (Some (record { found = found; run = run }))
+frame_found a o found run is row = rw (← is, row) refl
+
+-- a caller's columns are those of the context that holds them
+pub caller_left : (image : List Span) (c next : Context) (found : FoundFde) (f : FrameAt) → found ≡ f.found → IsWhole next → Ok (columns_of next) ≡ caller_of x86_64 no_expressions image (columns_of c) f.run →
+    Ok (record { context = next; signal = found.fde.cie.letters.signal }) ≡ caller_by image c f
+caller_left image c next found f same whole is =
+    let kept : context_of (columns_of next) ≡ next = context_of-columns next (columns_of next) whole (λ k. refl) in
+    rw (← is, kept, same) refl
+
+-- ---- a turn
+
+abbrev pub goes : Result Stepped DeliverError → Result Turn DeliverError
+goes = result_map Goes
+
+abbrev pub turn_asked : Phase → List Span → Context → FrameAt → Result Action DeliverError → Result Turn DeliverError
+turn_asked p image c f asked = result_map (stop_by p) asked >>= turn_at image c f
+
+abbrev pub turn_by : Phase → List Span → Context → Bool → Result (Option FrameAt) DeliverError → Result Turn DeliverError
+turn_by p image c interrupted frame = frame >>= turn_in (Some p) image c interrupted

@@ -1,0 +1,64 @@
+use Rattle.std.proofs.Common.{◌≡◌, ◌+◌, ◌-◌, ◌++◌, ◌∷◌, [], length, suc, sym, ap, refl, ◌∙◌, arith}
+use Rattle.std.proofs.lemmas.Result.{err_from_is_err_and}
+use Rattle.stack_deliver.specs.Passes.{line_for}
+use Rattle.stack_deliver.specs.Passing.{visits}
+use Rattle.stack_deliver.proofs.PassLines.{no_contexts, start_visited, more_visited, unvisited, visited_count, visited_keeps, line_faults, line_ends, line_stops, line_goes}
+use Rattle.stack_deliver.proofs.passes.outwards.Goals as goal
+
+pub loop-init : goal.loop-init
+loop-init g c =
+    let same : c.args.limit - 0 ≡ c.args.limit = omega arith in
+    record {
+      line = ([], rw same (no_contexts (line_for c.args.phase c.args.space.now c.args.limit c.args.start.context c.args.start.signal)), start_visited (visits c.args.phase) c.args.room.now c.requires.empty);
+      visited = λ visited. ap length (c.requires.empty visited);
+      stays = λ unvisited. refl;
+      trail = refl;
+      places = refl;
+      unticked = refl;
+    }
+
+pub visit-requires : goal.visit-requires
+visit-requires g c visited = let counted = c.loop.invariant.visited visited in omega arith
+
+pub returns-in_err-meet-clause-exact : goal.returns-in_err-meet-clause-exact
+returns-in_err-meet-clause-exact g c =
+    let p = err_from_is_err_and c.from_residual.result c.from_residual.ensures.1 in
+    let turns : c.args.limit - c.loop.counter ≡ suc (c.args.limit - (c.loop.counter + 1)) = omega arith in
+    let line = c.loop.invariant.line in
+    rw (p.1, p.2) (line_faults c.args.phase c.args.space.now _ _ c.loop.state line.0 _ turns line.1 c.in_err-meet.field-0.0 (sym c.in_err-meet.ensures.met))
+
+pub returns-in-End-clause-exact : goal.returns-in-End-clause-exact
+returns-in-End-clause-exact g c =
+    let turns : c.args.limit - c.loop.counter ≡ suc (c.args.limit - (c.loop.counter + 1)) = omega arith in
+    let line = c.loop.invariant.line in (
+      line.0 ++ c.loop.state.context ∷ [],
+      line_ends c.args.phase c.args.space.now _ _ c.loop.state line.0 _ turns line.1 (sym (rw c.in-End.is at c.in_ok-meet.ensures.met)),
+      rw c.visit.ensures (more_visited (visits c.args.phase) c.loop.room c.loop.state.context line.0 line.2),
+    )
+
+pub returns-in-Stop-clause-exact : goal.returns-in-Stop-clause-exact
+returns-in-Stop-clause-exact g c =
+    let turns : c.args.limit - c.loop.counter ≡ suc (c.args.limit - (c.loop.counter + 1)) = omega arith in
+    let line = c.loop.invariant.line in (
+      line.0 ++ c.loop.state.context ∷ [],
+      line_stops c.args.phase c.args.space.now _ _ c.loop.state line.0 _ turns line.1 c.meet.new.state c.in-Stop.action c.in-Stop.arguments (rw c.in-Stop.is at c.in_ok-meet.ensures.stays) (sym (rw c.in-Stop.is at c.in_ok-meet.ensures.met)),
+      rw c.visit.ensures (more_visited (visits c.args.phase) c.loop.room c.loop.state.context line.0 line.2),
+    )
+
+pub loop-preserved : goal.loop-preserved
+loop-preserved g c =
+    let turns : c.args.limit - c.loop.counter ≡ suc (c.args.limit - (c.loop.counter + 1)) = omega arith in
+    let line = c.loop.invariant.line in
+    let keeps = visited_keeps (visits c.args.phase) c.loop.room c.loop.state.context in
+    record {
+      line = (
+        line.0 ++ c.loop.state.context ∷ [],
+        line_goes c.args.phase c.args.space.now _ _ c.loop.state line.0 _ turns line.1 c.meet.new.state (sym (rw c.in-Caller.is at c.in_ok-meet.ensures.met)),
+        rw c.visit.ensures (more_visited (visits c.args.phase) c.loop.room c.loop.state.context line.0 line.2),
+      );
+      visited = rw c.visit.ensures (visited_count (visits c.args.phase) c.loop.room c.loop.state.context c.loop.counter c.loop.invariant.visited);
+      stays = λ is. rw c.visit.ensures (unvisited (visits c.args.phase) c.loop.room c.loop.state.context is ∙ c.loop.invariant.stays is);
+      trail = rw c.visit.ensures (keeps.0 ∙ c.loop.invariant.trail);
+      places = rw c.visit.ensures (keeps.1 ∙ c.loop.invariant.places);
+      unticked = c.in_ok-meet.ensures.unticked ∙ c.loop.invariant.unticked;
+    }
