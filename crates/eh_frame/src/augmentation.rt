@@ -1,7 +1,8 @@
 //! What an augmentation says, letter by letter. LSB, section on `.eh_frame`.
 
 ghost use Rattle.std.specs.Prelude.{◌≡◌};
-ghost use Rattle.unwind_definitions.specs.Forms.{is_emitted_augmentation};
+ghost use Rattle.std.specs.List.{list_all};
+ghost use Rattle.unwind_definitions.specs.Forms.{is_augmentation, is_letter};
 ghost use Rattle.unwind_definitions.specs.Entries.{augmentation_data, letter, letters_from, no_letters};
 ghost use Rattle.encoded_pointers.specs.Readers.{Answers, GivesOr};
 ghost use Rattle.encoded_pointers.specs.Pointers.{bases_of};
@@ -40,16 +41,27 @@ const NO_LETTERS: Letters = Letters {
     is_signal: false,
 };
 
-/// Whether an augmentation, without its zero byte, is one that is read so far.
-pub(crate) fn is_emitted(augmentation: &[u8]) -> bool
-    ensures { result ≡ is_emitted_augmentation augmentation.now }
+/// Whether an augmentation, without its zero byte, is one that is known: empty, or a `z` and letters
+/// in any order.
+pub(crate) fn is_known(augmentation: &[u8]) -> bool
+    ensures { result ≡ is_augmentation augmentation.now }
 {
-    match augmentation {
-        [z, r] => *z == b'z' && *r == b'R',
-        [z, p, r] => *z == b'z' && *p == b'P' && *r == b'R',
-        [z, p, l, r] => *z == b'z' && *p == b'P' && *l == b'L' && *r == b'R',
-        _ => false,
+    match augmentation.split_first() {
+        None => true,
+        Some((first, letters)) => *first == b'z' && are_letters(letters),
     }
+}
+
+fn are_letters(bytes: &[u8]) -> bool
+    ensures { result ≡ list_all (λ l. is_letter l) bytes.now }
+{
+    bytes.iter().all(|byte| is_letter(*byte))
+}
+
+fn is_letter(byte: u8) -> bool
+    ensures { result ≡ is_letter byte }
+{
+    matches!(byte, b'L' | b'P' | b'R' | b'S')
 }
 
 /// What stands behind the return column: with a z a length, and so many bytes for the other

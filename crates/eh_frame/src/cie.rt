@@ -5,17 +5,17 @@ ghost use Rattle.std.specs.Option.{option_map};
 ghost use Rattle.std.specs.Int.{w64, cast_unsigned};
 ghost use Rattle.unwind_definitions.specs.Forms.{emitted};
 ghost use Rattle.unwind_definitions.specs.Pointers.{Bases as KnownBases};
-ghost use Rattle.unwind_definitions.specs.Entries.{cie_body, address_encoding, coding_of};
+ghost use Rattle.unwind_definitions.specs.Entries.{cie_body, address_encoding, coding_of, return_column, sizes};
 ghost use Rattle.frame_rows.specs.Decoded.{coding_by};
-ghost use Rattle.encoded_pointers.specs.Readers.{Answers};
+ghost use Rattle.encoded_pointers.specs.Readers.{Answers, GivesOr};
 ghost use Rattle.encoded_pointers.specs.View.{at};
 ghost use Rattle.encoded_pointers.specs.Pointers.{bases_of, pointer_of};
 ghost use Rattle.eh_frame.specs.Letters.{byte_of, personality_of};
 ghost use Rattle.eh_frame.specs.Views.{cie_of};
 
-use crate::augmentation::{Letters, is_emitted, read_augmentation_data};
+use crate::augmentation::{Letters, is_known, read_augmentation_data};
 use encoded_pointers::{Bases, Cursor, DwEhPe, Pointer};
-use frame_rows::{AlignmentFactors, Register};
+use frame_rows::{AlignmentFactors, Register, read_register};
 use unwind_definitions::Error;
 
 /// A common information entry (CIE): what the frame description entries that name it share.
@@ -41,16 +41,17 @@ impl<'a> Cie<'a> {
     {
         let mut input = body;
         let version = input.read_u8()?;
-        if version != 1 {
+        if !is_known_version(version) {
             return Err(Error::UnknownVersion);
         }
         let augmentation = input.read_text()?;
-        if !is_emitted(augmentation) {
+        if !is_known(augmentation) {
             return Err(Error::UnknownAugmentation);
         }
+        check_sizes(version, &mut input)?;
         let code_alignment = input.read_uleb128()?;
         let data_alignment = input.read_sleb128_word()?;
-        let return_column = Register(input.read_u8()? as u16);
+        let return_column = read_return_column(version, &mut input)?;
         let letters = read_augmentation_data(augmentation, bases, &mut input)?;
         Ok(Cie {
             offset,
@@ -71,7 +72,7 @@ impl<'a> Cie<'a> {
         self.offset
     }
 
-    /// The version of the entry's format: 1.
+    /// The version of the entry's format: 1, 3 or 4.
     pub fn version(&self) -> u8
         ensures { result ≡ (cie_of self.now).version }
     {
@@ -187,4 +188,33 @@ impl<'a> Cie<'a> {
     {
         self.letters.address.unwrap_or(DwEhPe::ABSPTR)
     }
+}
+
+fn is_known_version(version: u8) -> bool
+    ensures { result ≡ emitted.version version }
+{
+    matches!(version, 1 | 3 | 4)
+}
+
+// Version 4 names the sizes of addresses and of segments, which have to be 8 and 0.
+fn check_sizes(version: u8, input: &mut Cursor) -> Result<(), Error>
+    ensures { GivesOr (λ done. tt) result (sizes version (at input.old)) (at input.new) }
+{
+    if version != 4 {
+        return Ok(());
+    }
+    if input.read_u8()? != 8 || input.read_u8()? != 0 {
+        return Err(Error::UnsupportedAddressSize);
+    }
+    Ok(())
+}
+
+// A byte in version 1, and an unsigned LEB128 number in later ones.
+fn read_return_column(version: u8, input: &mut Cursor) -> Result<Register, Error>
+    ensures { GivesOr (λ r. r.0) result (return_column version (at input.old)) (at input.new) }
+{
+    if version == 1 {
+        return Ok(Register(input.read_u8()? as u16));
+    }
+    read_register(input)
 }

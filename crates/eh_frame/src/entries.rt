@@ -5,7 +5,7 @@ ghost use Rattle.std.specs.Result.{IsErrOf};
 ghost use Rattle.std.specs.Option.{option_map, option_map_or};
 ghost use Rattle.unwind_definitions.specs.Forms.{emitted};
 ghost use Rattle.unwind_definitions.specs.Input.{skip};
-ghost use Rattle.unwind_definitions.specs.Entries.{Fde as Described, body, cie_at, cie_in, entry_in, entry_at};
+ghost use Rattle.unwind_definitions.specs.Entries.{Fde as Described, body, length_behind, cie_at, cie_in, entry_in, entry_at};
 ghost use Rattle.unwind_definitions.specs.Row.{covers_pc};
 ghost use Rattle.unwind_definitions.specs.Scan.{found_or, scan};
 ghost use Rattle.unwind_definitions.specs.HeaderSearch.{fde_at, fde_at_address, fde_in};
@@ -272,5 +272,16 @@ fn read_body<'a>(input: &mut Cursor<'a>) -> Result<Option<Cursor<'a>>, Error>
     if length == 0 {
         return Ok(None);
     }
-    Ok(Some(input.split(length as u64)?))
+    let length = read_long_length(length, input)?;
+    Ok(Some(input.split(length)?))
+}
+
+// The length of an entry: what four bytes spell or, where these are all set, the eight behind them.
+fn read_long_length(short: u32, input: &mut Cursor) -> Result<u64, Error>
+    ensures { GivesOr (λ n. n) result (length_behind emitted (short, at input.old)) (at input.new) }
+{
+    if short == u32::MAX {
+        return input.read_u64();
+    }
+    Ok(short as u64)
 }

@@ -24,7 +24,7 @@ mod rules;
 
 pub use instruction::AlignmentFactors;
 pub use program::row_at;
-pub use register::Register;
+pub use register::{Register, read_register};
 pub use register_map::RegisterMap;
 pub use room::RowRoom;
 pub use row::{Registers, Row};
