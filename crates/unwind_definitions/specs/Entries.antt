@@ -1,6 +1,6 @@
 -- The entries of a frame table: common information entries (CIE), and frame description entries (FDE) that name one.
 -- LSB, section on the .eh_frame section; DWARF 5 section 6.4.1.
-use Rattle.std.specs.Prelude.{◌≡◌, ℕ, ◌+◌, ◌-◌, ◌^◌, Bool, true, false, ◌&&◌, List, [], ◌∷◌, length, Option, Some, None, Result, Ok, Err, nat_lt, nat_le, ◌==◌, if◌then◌else◌}
+use Rattle.std.specs.Prelude.{◌≡◌, ℕ, ◌+◌, ◌-◌, ◌^◌, Bool, true, false, not, ◌&&◌, List, [], ◌∷◌, length, Option, Some, None, Result, Ok, Err, nat_lt, nat_le, ◌==◌, if◌then◌else◌}
 use Rattle.std.specs.Option.{unwrap_or}
 use Rattle.std.specs.Int.{w8, w32, w64}
 use Rattle.unwind_definitions.specs.Faults.{Fault, UnsupportedPointerEncoding, UnsupportedAddressSize, UnknownVersion, UnknownAugmentation, NotCie, AddressOverflow, ◌>>=◌, unless}
@@ -96,6 +96,11 @@ module _ (forms : Forms) where
     Ok (record { offset = offset; version = version.0; code_factor = code.0; data_factor = data_factor.0; return_column = ret.0; augmentation = augmentation.0; letters = found.0; program = found.1 })
 
 -- ---- frame description entries
+
+-- whether a pointer is read by an encoding, if there is one: not by the one that says that there is none
+abbrev pub is_pointing : Option ℕ → Bool
+is_pointing None = false
+is_pointing (Some e) = not (e == 255)
 
 -- with the letter L a pointer, unless its encoding says that there is none
 abbrev pub language_pointer : Bases → ℕ → Option ℕ → Input → Result (Option Pointer) Fault

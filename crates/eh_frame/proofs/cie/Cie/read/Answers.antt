@@ -13,7 +13,7 @@ returns-in_err-letters c =
     let p = err_from_is_err_and c.from_residual-in_err-letters.result c.from_residual-in_err-letters.ensures.1 in
     let step = cie_behind bases c.args.offset _ _ _ _ _ _ _ _ _ _ _ _ (sym c.if-not-is_known_version.ensures) (sym c.if-not-is_known.ensures)
     c.in_ok-version.ensures.reads c.in_ok-augmentation.ensures.reads c.in_ok-check_sizes.ensures c.in_ok-code_alignment.ensures.reads c.in_ok-data_alignment.ensures.reads c.in_ok-return_column.ensures in
-    rw (p.1, p.2) (step ∙ rw c.in_err-letters.ensures refl)
+    rw (p.1, p.2) (step ∙ rw c.in_err-letters.ensures.reads refl)
 
 pub returns : goal.returns
 returns c =
@@ -22,4 +22,4 @@ returns c =
     (letters_of c.in_ok-letters.letters)
     (sym c.if-not-is_known_version.ensures) (sym c.if-not-is_known.ensures)
     c.in_ok-version.ensures.reads c.in_ok-augmentation.ensures.reads c.in_ok-check_sizes.ensures c.in_ok-code_alignment.ensures.reads c.in_ok-data_alignment.ensures.reads c.in_ok-return_column.ensures
-    c.in_ok-letters.ensures
+    c.in_ok-letters.ensures.reads
