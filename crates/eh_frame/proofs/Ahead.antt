@@ -1,7 +1,7 @@
 -- Each entry ends behind its start, and inside its table.
-use Rattle.std.proofs.Common.{◌≡◌, ℕ, ◌+◌, ◌-◌, ◌<◌, ◌≤◌, Bool, true, false, cond, length, take, drop, Option, Some, None, Result, Ok, Err, refl, sym, ap, subst, arith}
+use Rattle.std.proofs.Common.{◌≡◌, ℕ, ◌+◌, ◌-◌, ◌<◌, ◌≤◌, ◌^◌, Bool, true, false, cond, length, take, drop, Option, Some, None, Result, Ok, Err, refl, sym, ap, subst, arith}
 use Rattle.std.specs.Prelude.{nat_lt, ◌==◌, if◌then◌else◌}
-use Rattle.std.specs.Int.{w32, from_le_bytes}
+use Rattle.std.specs.Int.{Width, w32, w64, byte_len, from_le_bytes}
 use Rattle.std.proofs.lemmas.Bool.{ltb-false}
 use Rattle.std.proofs.lemmas.List.{length-drop}
 use Rattle.unwind_definitions.specs.declared.error.Error.{Error as Fault}
@@ -10,7 +10,7 @@ use Rattle.unwind_definitions.specs.Faults.{◌>>=◌}
 use Rattle.unwind_definitions.specs.Input.{Input, skip, split, number}
 use Rattle.unwind_definitions.specs.Forms.{emitted}
 use Rattle.unwind_definitions.specs.Pointers.{Bases}
-use Rattle.unwind_definitions.specs.Entries.{Entry, Found, body, entry_in, found_in, entry_at}
+use Rattle.unwind_definitions.specs.Entries.{Entry, Found, body, length_behind, entry_in, found_in, entry_at}
 
 -- so many bytes are there, and a place stands behind them
 abbrev IsBehind : ℕ → Input → Input → Type 0
@@ -30,12 +30,12 @@ reads a c = Ok (a, c)
 abbrev unread : {A : Type 0} → Fault → Result (A × Input) Fault
 unread e = Err e
 
-number_behind : (c : Input) (n : ℕ) (d : Input) → number w32 c ≡ Ok (n, d) → IsBehind 4 c d
-number_behind c n d e = go (nat_lt (length c.bytes) 4) refl e
+number_behind : (w : Width) (c : Input) (n : ℕ) (d : Input) → number w c ≡ Ok (n, d) → IsBehind (byte_len w) c d
+number_behind w c n d e = go (nat_lt (length c.bytes) (byte_len w)) refl e
   where
-    go : (b : Bool) → nat_lt (length c.bytes) 4 ≡ b → cond b (unread UnexpectedEof) (reads (from_le_bytes w32 (take 4 c.bytes)) (skip 4 c)) ≡ Ok (n, d) → IsBehind 4 c d
+    go : (b : Bool) → nat_lt (length c.bytes) (byte_len w) ≡ b → cond b (unread UnexpectedEof) (reads (from_le_bytes w (take (byte_len w) c.bytes)) (skip (byte_len w) c)) ≡ Ok (n, d) → IsBehind (byte_len w) c d
     go true is e = absurd cc
-    go false is e = (ltb-false (length c.bytes) 4 is, sym (same_rest _ n (skip 4 c) d e))
+    go false is e = (ltb-false (length c.bytes) (byte_len w) is, sym (same_rest _ n (skip (byte_len w) c) d e))
 
 abbrev front : ℕ → Input → Input
 front n c = record { base = c.base; offset = c.offset; bytes = take n c.bytes }
@@ -63,30 +63,50 @@ no_part b c d e = let h : false ≡ true = ap has_part e in absurd cc
 abbrev some_part : Input × Input → Result (Option Input × Input) Fault
 some_part b = Ok (Some b.0, b.1)
 
-ahead_by : (n : ℕ) (c rest d : Input) → IsBehind 4 c rest → IsBehind n rest d → IsAhead c d.offset
-ahead_by n c rest d four more =
-    let cut : length (drop 4 c.bytes) ≡ length c.bytes - 4 = length-drop 4 c.bytes in
-    let at : rest.offset ≡ c.offset + 4 = ap (λ (x : Input). x.offset) four.1 in
-    let left : length rest.bytes ≡ length (drop 4 c.bytes) = ap (λ (x : Input). length x.bytes) four.1 in
-    let end : d.offset ≡ rest.offset + n = ap (λ (x : Input). x.offset) more.1 in
-    let le = four.0 in let fits = more.0 in
+-- a place stands so many bytes further, and its bytes end where they did
+abbrev Passes : ℕ → Input → Input → Type 0
+Passes n c d = (d.offset ≡ c.offset + n) × (d.offset + length d.bytes ≡ c.offset + length c.bytes)
+
+behind_passes : (n : ℕ) (c d : Input) → IsBehind n c d → Passes n c d
+behind_passes n c d behind =
+    let cut : length (drop n c.bytes) ≡ length c.bytes - n = length-drop n c.bytes in
+    let at : d.offset ≡ c.offset + n = ap (λ (x : Input). x.offset) behind.1 in
+    let left : length d.bytes ≡ length (drop n c.bytes) = ap (λ (x : Input). length x.bytes) behind.1 in
+    let fits = behind.0 in
+    (at, omega arith)
+
+length_passes : (n : ℕ × Input) (len : ℕ) (d : Input) → length_behind emitted n ≡ Ok (len, d) → (k : ℕ) × Passes k n.1 d
+length_passes n len d e = go (n.0 == 2 ^ 32 - 1) e
+  where
+    go : (t : Bool) → cond t (number w64 n.1) (Ok n) ≡ Ok (len, d) → (k : ℕ) × Passes k n.1 d
+    go true e = (8, behind_passes 8 n.1 d (number_behind w64 n.1 len d e))
+    go false e = let same : n.1 ≡ d = same_rest n.0 len n.1 d e in let at : d.offset ≡ n.1.offset = ap (λ (x : Input). x.offset) (sym same) in (0, (omega arith, ap (λ (x : Input). x.offset + length x.bytes) (sym same)))
+
+ahead_by : (k n : ℕ) (c rest len d : Input) → Passes 4 c rest → Passes k rest len → Passes n len d → IsAhead c d.offset
+ahead_by k n c rest len d four long more =
+    let a = four.0 in let b = four.1 in let e = long.0 in let f = long.1 in let g = more.0 in let h = more.1 in
     (omega arith, omega arith)
 
 body_ahead : (c b d : Input) → body emitted c ≡ Ok (Some b, d) → IsAhead c d.offset
 body_ahead c b d e = go (length c.bytes == 0) (number w32 c) refl e
   where
-    part : (n : ℕ × Input) (r : Result (Input × Input) Fault) → IsBehind 4 c n.1 → split n.0 n.1 ≡ r → (r >>= some_part) ≡ Ok (Some b, d) → IsAhead c d.offset
-    part n (Err f) four is e = absurd cc
-    part n (Ok x) four is e = subst (λ (y : Input). IsAhead c y.offset) (same_rest _ (Some b) x.1 d e) (ahead_by n.0 c n.1 x.1 four (split_behind n.0 n.1 x.0 x.1 is))
+    part : (k : ℕ) (rest : Input) (len : ℕ × Input) (r : Result (Input × Input) Fault) → Passes 4 c rest → Passes k rest len.1 → split len.0 len.1 ≡ r → (r >>= some_part) ≡ Ok (Some b, d) → IsAhead c d.offset
+    part k rest len (Err f) four long is e = absurd cc
+    part k rest len (Ok x) four long is e =
+        subst (λ (y : Input). IsAhead c y.offset) (same_rest _ (Some b) x.1 d e) (ahead_by k len.0 c rest len.1 x.1 four long (behind_passes len.0 len.1 x.1 (split_behind len.0 len.1 x.0 x.1 is)))
 
-    behind : (n : ℕ × Input) (z : Bool) → IsBehind 4 c n.1 → cond z (Ok (None, n.1)) (split n.0 n.1 >>= some_part) ≡ Ok (Some b, d) → IsAhead c d.offset
+    long : (n : ℕ × Input) (r : Result (ℕ × Input) Fault) → Passes 4 c n.1 → length_behind emitted n ≡ r → (r >>= λ len. split len.0 len.1 >>= some_part) ≡ Ok (Some b, d) → IsAhead c d.offset
+    long n (Err f) four is e = absurd cc
+    long n (Ok len) four is e = let passes = length_passes n len.0 len.1 is in part passes.0 n.1 len (split len.0 len.1) four passes.1 refl e
+
+    behind : (n : ℕ × Input) (z : Bool) → Passes 4 c n.1 → cond z (Ok (None, n.1)) (length_behind emitted n >>= λ len. split len.0 len.1 >>= some_part) ≡ Ok (Some b, d) → IsAhead c d.offset
     behind n true four e = absurd (no_part b n.1 d e)
-    behind n false four e = part n (split n.0 n.1) four refl e
+    behind n false four e = long n (length_behind emitted n) four refl e
 
-    go : (z : Bool) (r : Result (ℕ × Input) Fault) → number w32 c ≡ r → cond z (Ok (None, c)) (r >>= λ n. if n.0 == 0 then Ok (None, n.1) else (split n.0 n.1 >>= some_part)) ≡ Ok (Some b, d) → IsAhead c d.offset
+    go : (z : Bool) (r : Result (ℕ × Input) Fault) → number w32 c ≡ r → cond z (Ok (None, c)) (r >>= λ n. if n.0 == 0 then Ok (None, n.1) else (length_behind emitted n >>= λ len. split len.0 len.1 >>= some_part)) ≡ Ok (Some b, d) → IsAhead c d.offset
     go true r is e = absurd (no_part b c d e)
     go false (Err f) is e = absurd cc
-    go false (Ok n) is e = behind n (n.0 == 0) (number_behind c n.0 n.1 is) e
+    go false (Ok n) is e = behind n (n.0 == 0) (behind_passes 4 c n.1 (number_behind w32 c n.0 n.1 is)) e
 
 next_of : Result (Option Found) Fault → ℕ
 next_of (Ok (Some f)) = f.next

@@ -1,7 +1,8 @@
 -- What the code's letters say, in the words of the definitions.
-use Rattle.std.specs.Prelude.{ℕ, Some, None}
+use Rattle.std.specs.Prelude.{◌≡◌, ℕ, List, is_some}
 use Rattle.std.specs.Option.{option_map}
 use Rattle.unwind_definitions.specs.Entries.{Letters}
+use Rattle.unwind_definitions.specs.Forms.{is_among, language_letter, personality_letter, address_letter, signal_letter}
 use Rattle.unwind_definitions.specs.Pointers.{Pointer}
 use Rattle.encoded_pointers.specs.Pointers.{pointer_of}
 use Rattle.encoded_pointers.specs.declared.encoding.DwEhPe.{DwEhPe}
@@ -21,3 +22,10 @@ letters_of l = record {
   address = option_map byte_of l.address;
   signal = l.is_signal;
 }
+
+-- each of these is said exactly where its letter is there
+pub record Tells (letters : List ℕ) (found : Letters) : Type 0 where
+  pub language : is_some found.language ≡ is_among letters language_letter
+  pub personality : is_some found.personality ≡ is_among letters personality_letter
+  pub address : is_some found.address ≡ is_among letters address_letter
+  pub signal : found.signal ≡ is_among letters signal_letter

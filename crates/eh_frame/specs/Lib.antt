@@ -3,3 +3,4 @@ pub mod Views
 pub mod Search
 pub mod Shared
 pub mod Headers
+pub mod Listing

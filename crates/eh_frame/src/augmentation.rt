@@ -1,12 +1,13 @@
 //! What an augmentation says, letter by letter. LSB, section on `.eh_frame`.
 
-ghost use Rattle.std.specs.Prelude.{◌≡◌};
-ghost use Rattle.unwind_definitions.specs.Forms.{is_emitted_augmentation};
+ghost use Rattle.std.specs.Prelude.{◌≡◌, ℕ, List, [], ◌∷◌, ◌++◌, IfOk};
+ghost use Rattle.std.specs.List.{list_all};
+ghost use Rattle.unwind_definitions.specs.Forms.{is_augmentation, is_letter, letters_in};
 ghost use Rattle.unwind_definitions.specs.Entries.{augmentation_data, letter, letters_from, no_letters};
 ghost use Rattle.encoded_pointers.specs.Readers.{Answers, GivesOr};
 ghost use Rattle.encoded_pointers.specs.Pointers.{bases_of};
 ghost use Rattle.encoded_pointers.specs.View.{at};
-ghost use Rattle.eh_frame.specs.Letters.{letters_of};
+ghost use Rattle.eh_frame.specs.Letters.{Tells, letters_of};
 
 use encoded_pointers::{
     Bases, Cursor, DwEhPe, Pointer, parse_encoded_pointer, parse_pointer_encoding,
@@ -40,16 +41,27 @@ const NO_LETTERS: Letters = Letters {
     is_signal: false,
 };
 
-/// Whether an augmentation, without its zero byte, is one that is read so far.
-pub(crate) fn is_emitted(augmentation: &[u8]) -> bool
-    ensures { result ≡ is_emitted_augmentation augmentation.now }
+/// Whether an augmentation, without its zero byte, is one that is known: empty, or a `z` and letters
+/// in any order.
+pub(crate) fn is_known(augmentation: &[u8]) -> bool
+    ensures { result ≡ is_augmentation augmentation.now }
 {
-    match augmentation {
-        [z, r] => *z == b'z' && *r == b'R',
-        [z, p, r] => *z == b'z' && *p == b'P' && *r == b'R',
-        [z, p, l, r] => *z == b'z' && *p == b'P' && *l == b'L' && *r == b'R',
-        _ => false,
+    match augmentation.split_first() {
+        None => true,
+        Some((first, letters)) => *first == b'z' && are_letters(letters),
     }
+}
+
+fn are_letters(bytes: &[u8]) -> bool
+    ensures { result ≡ list_all (λ l. is_letter l) bytes.now }
+{
+    bytes.iter().all(|byte| is_letter(*byte))
+}
+
+fn is_letter(byte: u8) -> bool
+    ensures { result ≡ is_letter byte }
+{
+    matches!(byte, b'L' | b'P' | b'R' | b'S')
 }
 
 /// What stands behind the return column: with a z a length, and so many bytes for the other
@@ -59,8 +71,9 @@ pub(crate) fn read_augmentation_data(
     bases: &Bases,
     input: &mut Cursor,
 ) -> Result<Letters, Error>
-    ensures { GivesOr letters_of result
+    ensures reads { GivesOr letters_of result
         (augmentation_data (bases_of bases.now) augmentation.now (at input.old)) (at input.new) }
+    ensures told { IfOk result (λ found. Tells (letters_in augmentation.now) (letters_of found)) }
 {
     if augmentation.is_empty() {
         return Ok(NO_LETTERS);
@@ -72,8 +85,9 @@ pub(crate) fn read_augmentation_data(
 
 // What letters say, by the bytes of their block.
 fn read_letters(letters: &[u8], bases: &Bases, block: Cursor) -> Result<Letters, Error>
-    ensures { Answers letters_of result
+    ensures reads { Answers letters_of result
         (letters_from (bases_of bases.now) letters.now no_letters (at block.entry)) }
+    ensures told { IfOk result (λ found. Tells letters.now (letters_of found)) }
 {
     let mut input = block;
     let mut found = NO_LETTERS;
@@ -90,8 +104,10 @@ fn read_letter(
     before: Letters,
     input: &mut Cursor,
 ) -> Result<Letters, Error>
-    ensures { GivesOr letters_of result
+    ensures reads { GivesOr letters_of result
         (letter (bases_of bases.now) byte (letters_of before) (at input.old)) (at input.new) }
+    ensures told { (letters : List ℕ) → Tells letters (letters_of before) →
+        IfOk result (λ found. Tells (letters ++ byte ∷ []) (letters_of found)) }
 {
     match byte {
         b'L' => Ok(Letters {

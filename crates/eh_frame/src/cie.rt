@@ -1,21 +1,15 @@
 //! Common information entries: what the descriptions of several functions share.
 
 ghost use Rattle.std.specs.Prelude.{◌≡◌};
-ghost use Rattle.std.specs.Option.{option_map};
-ghost use Rattle.std.specs.Int.{w64, cast_unsigned};
-ghost use Rattle.unwind_definitions.specs.Forms.{emitted};
-ghost use Rattle.unwind_definitions.specs.Pointers.{Bases as KnownBases};
-ghost use Rattle.unwind_definitions.specs.Entries.{cie_body, address_encoding, coding_of};
-ghost use Rattle.frame_rows.specs.Decoded.{coding_by};
-ghost use Rattle.encoded_pointers.specs.Readers.{Answers};
+ghost use Rattle.unwind_definitions.specs.Forms.{emitted, letters_in};
+ghost use Rattle.unwind_definitions.specs.Entries.{return_column, sizes};
+ghost use Rattle.encoded_pointers.specs.Readers.{GivesOr};
 ghost use Rattle.encoded_pointers.specs.View.{at};
-ghost use Rattle.encoded_pointers.specs.Pointers.{bases_of, pointer_of};
-ghost use Rattle.eh_frame.specs.Letters.{byte_of, personality_of};
-ghost use Rattle.eh_frame.specs.Views.{cie_of};
+ghost use Rattle.eh_frame.specs.Letters.{Tells, letters_of};
 
-use crate::augmentation::{Letters, is_emitted, read_augmentation_data};
+use crate::augmentation::{Letters, is_known, read_augmentation_data};
 use encoded_pointers::{Bases, Cursor, DwEhPe, Pointer};
-use frame_rows::{AlignmentFactors, Register};
+use frame_rows::{AlignmentFactors, Register, read_register};
 use unwind_definitions::Error;
 
 /// A common information entry (CIE): what the frame description entries that name it share.
@@ -32,25 +26,39 @@ pub struct Cie<'a> {
     augmentation: &'a [u8],
     letters: Letters,
     program: Cursor<'a>,
+    ghost told: { Tells (letters_in augmentation.now) (letters_of letters) },
 }
 
 impl<'a> Cie<'a> {
+    ghost use Rattle.std.specs.Prelude.{is_some};
+    ghost use Rattle.std.specs.Option.{option_map};
+    ghost use Rattle.std.specs.Int.{w64, cast_unsigned};
+    ghost use Rattle.unwind_definitions.specs.Forms.{address_letter, has_letter, language_letter, personality_letter, signal_letter};
+    ghost use Rattle.unwind_definitions.specs.Pointers.{Bases as KnownBases};
+    ghost use Rattle.unwind_definitions.specs.Entries.{cie_body, address_encoding, coding_of};
+    ghost use Rattle.frame_rows.specs.Decoded.{coding_by};
+    ghost use Rattle.encoded_pointers.specs.Readers.{Answers};
+    ghost use Rattle.encoded_pointers.specs.Pointers.{bases_of, pointer_of};
+    ghost use Rattle.eh_frame.specs.Letters.{byte_of};
+    ghost use Rattle.eh_frame.specs.Views.{cie_of};
+
     // What stands behind the first four bytes of the entry at `offset`.
     pub(crate) fn read(offset: u64, body: Cursor<'a>, bases: &Bases) -> Result<Cie<'a>, Error>
         ensures { Answers cie_of result (cie_body emitted (bases_of bases.now) offset (at body.entry)) }
     {
         let mut input = body;
         let version = input.read_u8()?;
-        if version != 1 {
+        if !is_known_version(version) {
             return Err(Error::UnknownVersion);
         }
         let augmentation = input.read_text()?;
-        if !is_emitted(augmentation) {
+        if !is_known(augmentation) {
             return Err(Error::UnknownAugmentation);
         }
+        check_sizes(version, &mut input)?;
         let code_alignment = input.read_uleb128()?;
         let data_alignment = input.read_sleb128_word()?;
-        let return_column = Register(input.read_u8()? as u16);
+        let return_column = read_return_column(version, &mut input)?;
         let letters = read_augmentation_data(augmentation, bases, &mut input)?;
         Ok(Cie {
             offset,
@@ -71,7 +79,7 @@ impl<'a> Cie<'a> {
         self.offset
     }
 
-    /// The version of the entry's format: 1.
+    /// The version of the entry's format: 1, 3 or 4.
     pub fn version(&self) -> u8
         ensures { result ≡ (cie_of self.now).version }
     {
@@ -107,9 +115,10 @@ impl<'a> Cie<'a> {
     }
 
     /// Whether the functions of its descriptions are entered by a signal's delivery: the
-    /// augmentation has an `S`. None that is read so far has one.
+    /// augmentation has an `S`.
     pub fn is_signal_trampoline(&self) -> bool
-        ensures { result ≡ (cie_of self.now).letters.signal }
+        ensures signal { result ≡ (cie_of self.now).letters.signal }
+        ensures letter { result ≡ has_letter signal_letter (cie_of self.now).augmentation }
     {
         self.letters.is_signal
     }
@@ -149,7 +158,8 @@ impl<'a> Cie<'a> {
     /// The personality: the routine that reads the language tables of the descriptions. `None`
     /// exactly where the augmentation has no `P`.
     pub fn personality(&self) -> Option<Pointer>
-        ensures { option_map pointer_of result ≡ option_map (λ p. p.1) (cie_of self.now).letters.personality }
+        ensures pointer { option_map pointer_of result ≡ option_map (λ p. p.1) (cie_of self.now).letters.personality }
+        ensures letter { is_some result ≡ has_letter personality_letter (cie_of self.now).augmentation }
     {
         self.letters
             .personality
@@ -158,7 +168,8 @@ impl<'a> Cie<'a> {
 
     /// How the personality is encoded. `None` exactly where the augmentation has no `P`.
     pub fn personality_encoding(&self) -> Option<DwEhPe>
-        ensures { option_map byte_of result ≡ option_map (λ p. p.0) (cie_of self.now).letters.personality }
+        ensures encoding { option_map byte_of result ≡ option_map (λ p. p.0) (cie_of self.now).letters.personality }
+        ensures letter { is_some result ≡ has_letter personality_letter (cie_of self.now).augmentation }
     {
         self.letters
             .personality
@@ -168,7 +179,8 @@ impl<'a> Cie<'a> {
     /// How the descriptions encode the pointers to their language tables. `None` exactly where the
     /// augmentation has no `L`.
     pub fn lsda_encoding(&self) -> Option<DwEhPe>
-        ensures { option_map byte_of result ≡ (cie_of self.now).letters.language }
+        ensures encoding { option_map byte_of result ≡ (cie_of self.now).letters.language }
+        ensures letter { is_some result ≡ has_letter language_letter (cie_of self.now).augmentation }
     {
         self.letters.language
     }
@@ -176,7 +188,8 @@ impl<'a> Cie<'a> {
     /// How the descriptions encode the addresses of their functions. `None` exactly where the
     /// augmentation has no `R`: they are whole words then.
     pub fn address_encoding(&self) -> Option<DwEhPe>
-        ensures { option_map byte_of result ≡ (cie_of self.now).letters.address }
+        ensures encoding { option_map byte_of result ≡ (cie_of self.now).letters.address }
+        ensures letter { is_some result ≡ has_letter address_letter (cie_of self.now).augmentation }
     {
         self.letters.address
     }
@@ -187,4 +200,33 @@ impl<'a> Cie<'a> {
     {
         self.letters.address.unwrap_or(DwEhPe::ABSPTR)
     }
+}
+
+fn is_known_version(version: u8) -> bool
+    ensures { result ≡ emitted.version version }
+{
+    matches!(version, 1 | 3 | 4)
+}
+
+// Version 4 names the sizes of addresses and of segments, which have to be 8 and 0.
+fn check_sizes(version: u8, input: &mut Cursor) -> Result<(), Error>
+    ensures { GivesOr (λ done. tt) result (sizes version (at input.old)) (at input.new) }
+{
+    if version != 4 {
+        return Ok(());
+    }
+    if input.read_u8()? != 8 || input.read_u8()? != 0 {
+        return Err(Error::UnsupportedAddressSize);
+    }
+    Ok(())
+}
+
+// A byte in version 1, and an unsigned LEB128 number in later ones.
+fn read_return_column(version: u8, input: &mut Cursor) -> Result<Register, Error>
+    ensures { GivesOr (λ r. r.0) result (return_column version (at input.old)) (at input.new) }
+{
+    if version == 1 {
+        return Ok(Register(input.read_u8()? as u16));
+    }
+    read_register(input)
 }

@@ -1,11 +1,11 @@
 //! The entries of a frame table, one after another.
 
-ghost use Rattle.std.specs.Prelude.{◌≡◌, ◌≢◌, ◌↔◌, IfErr, IfOk, IfSome, IsTrue, Result, Some};
+ghost use Rattle.std.specs.Prelude.{◌≡◌, ◌≢◌, ◌↔◌, IfErr, IfOk, IfSome, IsTrue, Result, Some, false};
 ghost use Rattle.std.specs.Result.{IsErrOf};
 ghost use Rattle.std.specs.Option.{option_map, option_map_or};
 ghost use Rattle.unwind_definitions.specs.Forms.{emitted};
 ghost use Rattle.unwind_definitions.specs.Input.{skip};
-ghost use Rattle.unwind_definitions.specs.Entries.{Fde as Described, body, cie_at, cie_in, entry_in, entry_at};
+ghost use Rattle.unwind_definitions.specs.Entries.{Fde as Described, body, length_behind, cie_at, cie_in, entry_in, entry_at};
 ghost use Rattle.unwind_definitions.specs.Row.{covers_pc};
 ghost use Rattle.unwind_definitions.specs.Scan.{found_or, scan};
 ghost use Rattle.unwind_definitions.specs.HeaderSearch.{fde_at, fde_at_address, fde_in};
@@ -14,10 +14,12 @@ ghost use Rattle.eh_frame.specs.Shared.{shared, StandsIn};
 ghost use Rattle.eh_frame.specs.Search.{IsFirst, IsUncovered, IsUnreadable};
 ghost use Rattle.encoded_pointers.specs.View.{at};
 ghost use Rattle.encoded_pointers.specs.Pointers.{bases_of};
+ghost use Rattle.eh_frame.specs.Listing.{listing_of};
 ghost use Rattle.eh_frame.specs.Views.{cie_of, fde_of, entry_of, found_of, table_of};
 
 use crate::cie::Cie;
 use crate::fde::Fde;
+use crate::listing::Entries;
 use encoded_pointers::{Bases, Cursor};
 use unwind_definitions::Error;
 
@@ -32,18 +34,18 @@ pub struct EhFrame<'a> {
 
 /// An entry of a frame table.
 #[derive(Clone, Copy)]
-pub(crate) enum Entry<'a> {
-    /// What several descriptions share.
+pub enum Entry<'a> {
+    /// A common information entry: what several descriptions share.
     Cie(Cie<'a>),
-    /// The description of a function.
+    /// A frame description entry: the description of a function.
     Fde(Fde<'a>),
 }
 
-// An entry, and where the next one begins.
+/// An entry, and where the next one begins.
 #[derive(Clone, Copy)]
-struct Found<'a> {
-    entry: Entry<'a>,
-    next: u64,
+pub(crate) struct Found<'a> {
+    pub(crate) entry: Entry<'a>,
+    pub(crate) next: u64,
 }
 
 impl<'a> EhFrame<'a> {
@@ -52,6 +54,14 @@ impl<'a> EhFrame<'a> {
         ensures { table_of result ≡ record { base = address; offset = 0; bytes = bytes.now } }
     {
         EhFrame { bytes, address }
+    }
+
+    /// The entries of the table, from its first byte on. `bases` is what their pointers may be
+    /// relative to.
+    pub fn entries(&self, bases: &Bases) -> Entries<'a>
+        ensures { listing_of result ≡ record { table = table_of self.now; bases = bases_of bases.now; offset = 0; is_over = false } }
+    {
+        Entries::new(*self, *bases)
     }
 
     /// The first frame description entry, in the table's order, that contains the address `pc`.
@@ -129,10 +139,10 @@ impl<'a> EhFrame<'a> {
         Cursor::from_offset(self.bytes, self.address, offset)
     }
 
-    // What stands at an offset, None at the end of the list. A common information entry that is known
-    // isn't read again.
+    /// What stands at an offset, `None` at the end of the list. A common information entry that is
+    /// known isn't read again.
     #[tactic(auto, unfolding(unwind_definitions::specs::Entries::entry_at))]
-    fn entry_at(
+    pub(crate) fn entry_at(
         &self,
         offset: u64,
         known: &Option<Cie<'a>>,
@@ -211,8 +221,8 @@ impl<'a> EhFrame<'a> {
 }
 
 impl<'a> Entry<'a> {
-    // The entry itself, or the one that a description names.
-    fn shared(&self) -> Cie<'a>
+    /// The entry itself, or the one that a description names.
+    pub(crate) fn shared(&self) -> Cie<'a>
         ensures { cie_of result ≡ shared (entry_of self.now) }
     {
         match self {
@@ -272,5 +282,16 @@ fn read_body<'a>(input: &mut Cursor<'a>) -> Result<Option<Cursor<'a>>, Error>
     if length == 0 {
         return Ok(None);
     }
-    Ok(Some(input.split(length as u64)?))
+    let length = read_long_length(length, input)?;
+    Ok(Some(input.split(length)?))
+}
+
+// The length of an entry: what four bytes spell or, where these are all set, the eight behind them.
+fn read_long_length(short: u32, input: &mut Cursor) -> Result<u64, Error>
+    ensures { GivesOr (λ n. n) result (length_behind emitted (short, at input.old)) (at input.new) }
+{
+    if short == u32::MAX {
+        return input.read_u64();
+    }
+    Ok(short as u64)
 }

@@ -1,16 +1,12 @@
 //! Frame description entries: where a function's code lies, and how its frame is undone.
 
-ghost use Rattle.std.specs.Prelude.{◌≡◌};
+ghost use Rattle.std.specs.Prelude.{◌≡◌, IfOk, is_some};
 ghost use Rattle.std.specs.Option.{option_map};
-ghost use Rattle.unwind_definitions.specs.Forms.{emitted};
-ghost use Rattle.unwind_definitions.specs.Entries.{fde_body, fde_data, language_pointer};
-ghost use Rattle.unwind_definitions.specs.Row.{covers_pc, row_at};
+ghost use Rattle.unwind_definitions.specs.Entries.{is_pointing, language_pointer};
 ghost use Rattle.encoded_pointers.specs.Readers.{GivesOr, Answers};
 ghost use Rattle.encoded_pointers.specs.View.{at};
 ghost use Rattle.encoded_pointers.specs.Pointers.{bases_of, pointer_of};
-ghost use Rattle.eh_frame.specs.Letters.{byte_of};
-ghost use Rattle.eh_frame.specs.Views.{cie_of, fde_of};
-ghost use Rattle.frame_rows.specs.Rows.{GivesRow, made};
+ghost use Rattle.eh_frame.specs.Letters.{byte_of, letters_of};
 
 use crate::cie::Cie;
 use crate::entries::EhFrame;
@@ -31,9 +27,17 @@ pub struct Fde<'a> {
     len: u64,
     lsda: Option<Pointer>,
     program: Cursor<'a>,
+    ghost told: { is_some lsda ≡ is_pointing (letters_of cie.letters).language },
 }
 
 impl<'a> Fde<'a> {
+    ghost use Rattle.std.specs.Prelude.{◌&&◌};
+    ghost use Rattle.unwind_definitions.specs.Forms.{emitted, has_letter, language_letter};
+    ghost use Rattle.unwind_definitions.specs.Entries.{fde_body, fde_data};
+    ghost use Rattle.unwind_definitions.specs.Row.{covers_pc, row_at};
+    ghost use Rattle.eh_frame.specs.Views.{cie_of, fde_of};
+    ghost use Rattle.frame_rows.specs.Rows.{GivesRow, made};
+
     // What stands behind the first four bytes of the entry at `offset`, which names `cie`.
     pub(crate) fn read(
         cie: Cie<'a>,
@@ -51,7 +55,7 @@ impl<'a> Fde<'a> {
         if len > u64::MAX - initial_address {
             return Err(Error::AddressOverflow);
         }
-        let lsda = read_augmentation_data(&cie, bases, initial_address, &mut input)?;
+        let lsda = Fde::read_augmentation_data(&cie, bases, initial_address, &mut input)?;
         Ok(Fde {
             offset,
             cie,
@@ -60,6 +64,26 @@ impl<'a> Fde<'a> {
             lsda,
             program: input,
         })
+    }
+
+    // The bytes of an augmentation, where there is one: their number, and so many, with the pointer to
+    // the language table of the function at `start`. Behind a fault the cursor isn't told.
+    fn read_augmentation_data(
+        cie: &Cie,
+        bases: &Bases,
+        start: u64,
+        input: &mut Cursor,
+    ) -> Result<Option<Pointer>, Error>
+        ensures reads { GivesOr (option_map pointer_of) result
+            (fde_data (bases_of bases.now) (cie_of cie.now) start (at input.old)) (at input.new) }
+        ensures told { IfOk result (λ lsda. is_some lsda ≡ is_pointing (letters_of cie.now.letters).language) }
+    {
+        if cie.augmentation().is_empty() {
+            return Ok(None);
+        }
+        let count = input.read_uleb128()?;
+        let block = input.split(count)?;
+        read_language_pointer(cie.lsda_encoding(), bases, start, block)
     }
 
     /// How many bytes of the table stand before the entry.
@@ -101,7 +125,9 @@ impl<'a> Fde<'a> {
     /// The pointer to the function's language table. `None` exactly where the augmentation has no
     /// `L`, or where its encoding says that there is none.
     pub fn lsda(&self) -> Option<Pointer>
-        ensures { option_map pointer_of result ≡ (fde_of self.now).language }
+        ensures pointer { option_map pointer_of result ≡ (fde_of self.now).language }
+        ensures letter { is_some result ≡ (has_letter language_letter (fde_of self.now).cie.augmentation
+            && is_pointing (fde_of self.now).cie.letters.language) }
     {
         self.lsda
     }
@@ -203,25 +229,6 @@ impl<'a> Fde<'a> {
     }
 }
 
-// The bytes of an augmentation, where there is one: their number, and so many, with the pointer to
-// the language table of the function at `start`. Behind a fault the cursor isn't told.
-fn read_augmentation_data(
-    cie: &Cie,
-    bases: &Bases,
-    start: u64,
-    input: &mut Cursor,
-) -> Result<Option<Pointer>, Error>
-    ensures { GivesOr (option_map pointer_of) result
-        (fde_data (bases_of bases.now) (cie_of cie.now) start (at input.old)) (at input.new) }
-{
-    if cie.augmentation().is_empty() {
-        return Ok(None);
-    }
-    let count = input.read_uleb128()?;
-    let block = input.split(count)?;
-    read_language_pointer(cie.lsda_encoding(), bases, start, block)
-}
-
 // The pointer to the language table of the function at `start`, `None` where the augmentation has no
 // `L` or its encoding says that there is none.
 fn read_language_pointer(
@@ -230,8 +237,9 @@ fn read_language_pointer(
     start: u64,
     block: Cursor,
 ) -> Result<Option<Pointer>, Error>
-    ensures { Answers (option_map pointer_of) result
+    ensures reads { Answers (option_map pointer_of) result
         (language_pointer (bases_of bases.now) start (option_map byte_of encoding) (at block.entry)) }
+    ensures told { IfOk result (λ lsda. is_some lsda ≡ is_pointing (option_map byte_of encoding)) }
 {
     match encoding {
         Some(encoding) if !encoding.is_absent() => {

@@ -22,15 +22,17 @@ mod entries;
 mod fde;
 mod header;
 mod header_search;
+mod listing;
 
 pub use cie::Cie;
 pub use encoded_pointers::{
     Bases, Cursor, DwEhPe, Pointer, parse_encoded_pointer, parse_pointer_encoding,
 };
-pub use entries::EhFrame;
+pub use entries::{EhFrame, Entry};
 pub use fde::Fde;
 pub use frame_rows::{CfaRule, Register, RegisterMap, RegisterRule, Registers, Row, RowRef, RowRoom};
 pub use header::{EhFrameHdr, HdrTable};
+pub use listing::Entries;
 pub use unwind_definitions::Error;
 
 #[cfg(test)]

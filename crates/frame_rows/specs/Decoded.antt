@@ -1,7 +1,7 @@
 -- The code's instructions as those of the definitions.
 use Rattle.std.specs.Prelude.{ℕ, if◌then◌else◌}
 use Rattle.unwind_definitions.specs.Input.{Reads}
-use Rattle.unwind_definitions.specs.Forms.{plain}
+use Rattle.unwind_definitions.specs.Forms.{emitted}
 use Rattle.unwind_definitions.specs.Pointers.{Bases}
 use Rattle.unwind_definitions.specs.Instructions.{Instruction, Nop, Remember, Restore, Advance, Write, Reset, Cfa, CfaColumn, CfaOffset, Coding, operation, unknown}
 use Rattle.frame_rows.specs.Rules.{rule_meaning}
@@ -26,4 +26,4 @@ coding_by factors address bases = record { code_factor = factors.code; data_fact
 
 -- the instruction of a first byte below 64, where it is one that is read so far
 unfoldable pub plain_operation : Coding → ℕ → Reads Instruction
-plain_operation coding op = if plain.operation op then operation coding op else unknown
+plain_operation coding op = if emitted.operation op then operation coding op else unknown

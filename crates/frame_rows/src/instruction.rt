@@ -3,11 +3,15 @@
 ghost use Rattle.std.specs.Prelude.{◌≡◌, ℕ, ◌*◌};
 ghost use Rattle.unwind_definitions.specs.Forms.{emitted};
 ghost use Rattle.unwind_definitions.specs.Pointers.{Bases};
-ghost use Rattle.unwind_definitions.specs.Instructions.{column, instruction, Advance};
+ghost use Rattle.unwind_definitions.specs.Instructions.{instruction, Advance};
 ghost use Rattle.encoded_pointers.specs.Readers.{GivesOr};
 ghost use Rattle.encoded_pointers.specs.View.{at};
 ghost use Rattle.frame_rows.specs.Decoded.{meaning, coding_by, plain_operation};
 
+<<<<<<< HEAD
+=======
+use crate::register::{Register, read_register};
+>>>>>>> h/grammar
 use crate::rule::RegisterRule;
 use encoded_pointers::Cursor;
 use unwind_arch::Register;
@@ -41,17 +45,6 @@ pub(crate) enum CallFrameInstruction<'a> {
     },
     DefineCfaRegister(Register),
     DefineCfaOffset(u64),
-}
-
-// A register by an unsigned LEB128 number.
-fn read_register(input: &mut Cursor) -> Result<Register, Error>
-    ensures { GivesOr (λ r. r.0) result (column (at input.old)) (at input.new) }
-{
-    let number = input.read_uleb128()?;
-    if number > 0xffff {
-        return Err(Error::UnsupportedRegister);
-    }
-    Ok(Register(number as u16))
 }
 
 // The instruction of a first byte below 64.

@@ -1,11 +1,11 @@
 -- The entries of a frame table: common information entries (CIE), and frame description entries (FDE) that name one.
 -- LSB, section on the .eh_frame section; DWARF 5 section 6.4.1.
-use Rattle.std.specs.Prelude.{◌≡◌, ℕ, ◌+◌, ◌-◌, ◌^◌, Bool, true, false, ◌&&◌, List, [], ◌∷◌, length, Option, Some, None, Result, Ok, Err, nat_lt, nat_le, ◌==◌, if◌then◌else◌}
+use Rattle.std.specs.Prelude.{◌≡◌, ℕ, ◌+◌, ◌-◌, ◌^◌, Bool, true, false, not, ◌&&◌, List, [], ◌∷◌, length, Option, Some, None, Result, Ok, Err, nat_lt, nat_le, ◌==◌, if◌then◌else◌}
 use Rattle.std.specs.Option.{unwrap_or}
 use Rattle.std.specs.Int.{w8, w32, w64}
 use Rattle.unwind_definitions.specs.Faults.{Fault, UnsupportedPointerEncoding, UnsupportedAddressSize, UnknownVersion, UnknownAugmentation, NotCie, AddressOverflow, ◌>>=◌, unless}
 use Rattle.unwind_definitions.specs.Input.{Input, Reads, skip, split, number, uleb, sleb, text}
-use Rattle.unwind_definitions.specs.Forms.{Forms}
+use Rattle.unwind_definitions.specs.Forms.{Forms, language_letter, personality_letter, address_letter, signal_letter}
 use Rattle.unwind_definitions.specs.Pointers.{Bases, Pointer, encoding, pointer, value, direct, format_of}
 use Rattle.unwind_definitions.specs.Instructions.{Coding, column}
 
@@ -47,10 +47,10 @@ coding_of bases cie = record { code_factor = cie.code_factor; data_factor = cie.
 -- one letter, with what it takes of the augmentation's bytes: L, P, R, S
 abbrev pub letter : Bases → ℕ → Letters → Reads Letters
 letter bases l before =
-    if l == 0x4c then (λ c. encoding c >>= λ e. Ok (record before { language = Some e.0 }, e.1))
-    else (if l == 0x50 then (λ c. encoding c >>= λ e. pointer e.0 bases e.1 >>= λ p. Ok (record before { personality = Some (e.0, p.0) }, p.1))
-    else (if l == 0x52 then (λ c. encoding c >>= λ e. Ok (record before { address = Some e.0 }, e.1))
-    else (if l == 0x53 then (λ c. Ok (record before { signal = true }, c))
+    if l == language_letter then (λ c. encoding c >>= λ e. Ok (record before { language = Some e.0 }, e.1))
+    else (if l == personality_letter then (λ c. encoding c >>= λ e. pointer e.0 bases e.1 >>= λ p. Ok (record before { personality = Some (e.0, p.0) }, p.1))
+    else (if l == address_letter then (λ c. encoding c >>= λ e. Ok (record before { address = Some e.0 }, e.1))
+    else (if l == signal_letter then (λ c. Ok (record before { signal = true }, c))
     else (λ c. Err UnknownAugmentation))))
 
 -- one letter after another; a later one of a kind replaces an earlier one
@@ -96,6 +96,11 @@ module _ (forms : Forms) where
     Ok (record { offset = offset; version = version.0; code_factor = code.0; data_factor = data_factor.0; return_column = ret.0; augmentation = augmentation.0; letters = found.0; program = found.1 })
 
 -- ---- frame description entries
+
+-- whether a pointer is read by an encoding, if there is one: not by the one that says that there is none
+abbrev pub is_pointing : Option ℕ → Bool
+is_pointing None = false
+is_pointing (Some e) = not (e == 255)
 
 -- with the letter L a pointer, unless its encoding says that there is none
 abbrev pub language_pointer : Bases → ℕ → Option ℕ → Input → Result (Option Pointer) Fault

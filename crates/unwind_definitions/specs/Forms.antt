@@ -17,26 +17,36 @@ pub record Forms : Type 0 where
 abbrev pub is_among : List ℕ → ℕ → Bool
 is_among ns n = list_any (λ m. m == n) ns
 
--- L, P, R, S
-abbrev pub is_letter : ℕ → Bool
-is_letter l = is_among (0x4c ∷ 0x50 ∷ 0x52 ∷ 0x53 ∷ []) l
+-- the letters of an augmentation: the encoding of language table pointers, a personality, the encoding of addresses, and a
+-- signal's frame
+abbrev pub language_letter : ℕ
+language_letter = 0x4c
 
--- none, or z and letters behind it
+abbrev pub personality_letter : ℕ
+personality_letter = 0x50
+
+abbrev pub address_letter : ℕ
+address_letter = 0x52
+
+abbrev pub signal_letter : ℕ
+signal_letter = 0x53
+
+abbrev pub is_letter : ℕ → Bool
+is_letter l = is_among (language_letter ∷ personality_letter ∷ address_letter ∷ signal_letter ∷ []) l
+
+-- the letters that stand behind a z
+abbrev pub letters_in : List ℕ → List ℕ
+letters_in [] = []
+letters_in (z ∷ letters) = letters
+
+-- an augmentation has a letter
+abbrev pub has_letter : ℕ → List ℕ → Bool
+has_letter letter text = is_among (letters_in text) letter
+
+-- none, or a z and letters behind it
 abbrev pub is_augmentation : List ℕ → Bool
 is_augmentation [] = true
 is_augmentation (z ∷ letters) = (z == 0x7a) && list_all is_letter letters
-
--- zR
-abbrev pub is_plain_augmentation : List ℕ → Bool
-is_plain_augmentation (z ∷ r ∷ []) = (z == 0x7a) && (r == 0x52)
-is_plain_augmentation _ = false
-
--- zR, zPR, zPLR
-abbrev pub is_emitted_augmentation : List ℕ → Bool
-is_emitted_augmentation (z ∷ p ∷ l ∷ r ∷ []) = (z == 0x7a) && (p == 0x50) && (l == 0x4c) && (r == 0x52)
-is_emitted_augmentation (z ∷ p ∷ r ∷ []) = (z == 0x7a) && (p == 0x50) && (r == 0x52)
-is_emitted_augmentation (z ∷ r ∷ []) = (z == 0x7a) && (r == 0x52)
-is_emitted_augmentation _ = false
 
 -- all forms
 abbrev pub whole : Forms
@@ -48,25 +58,7 @@ whole = record {
   operation = λ op. nat_le op 0x16 || (op == 0x2e);
 }
 
--- The forms that compilers emit for functions without language tables: version 1, lengths of four bytes, augmentation zR, starts of four signed bytes relative to their place, and the
--- instructions nop, the three advances with an operand, undefined, remember and restore of a state, and the
--- definitions of the CFA by a register and an offset.
-abbrev pub plain : Forms
-plain = record {
-  version = is_among (1 ∷ []);
-  long_length = false;
-  augmentation = is_plain_augmentation;
-  address = λ e. e == 0x1b;
-  operation = is_among (0x00 ∷ 0x02 ∷ 0x03 ∷ 0x04 ∷ 0x07 ∷ 0x0a ∷ 0x0b ∷ 0x0c ∷ 0x0d ∷ 0x0e ∷ []);
-}
-
--- The forms that the readers take so far: the same with a personality and a language table, and with pointers of all
--- encodings.
+-- The forms that the readers take so far: all forms of entries, and of the instructions nop, the three advances with an
+-- operand, undefined, remember and restore of a state, and the definitions of the CFA by a register and an offset.
 abbrev pub emitted : Forms
-emitted = record {
-  version = plain.version;
-  long_length = false;
-  augmentation = is_emitted_augmentation;
-  address = λ e. true;
-  operation = plain.operation;
-}
+emitted = record whole { operation = is_among (0x00 ∷ 0x02 ∷ 0x03 ∷ 0x04 ∷ 0x07 ∷ 0x0a ∷ 0x0b ∷ 0x0c ∷ 0x0d ∷ 0x0e ∷ []) }

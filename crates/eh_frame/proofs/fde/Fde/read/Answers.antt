@@ -35,7 +35,7 @@ returns-in_err-lsda c =
     rw (p.1, p.2) (no_data bases (cie_of c.args.cie) c.args.offset (at c.args.body) _ (sym c.start_encoding-encoding.ensures)
     c.in_ok-initial_address.initial_address (at c.parse_direct_pointer.new.input) c.in_ok-initial_address.ensures.reads
     c.in_ok-len.len (at c.read_value.new.input) c.in_ok-len.ensures.reads (omega arith) _
-    c.in_err-lsda.ensures)
+    c.in_err-lsda.ensures.reads)
 
 pub returns : goal.returns
 returns c =
@@ -43,4 +43,4 @@ returns c =
     whole_fde bases (cie_of c.args.cie) c.args.offset (at c.args.body) _ (sym c.start_encoding-encoding.ensures)
     c.in_ok-initial_address.initial_address (at c.parse_direct_pointer.new.input) c.in_ok-initial_address.ensures.reads
     c.in_ok-len.len (at c.read_value.new.input) c.in_ok-len.ensures.reads (omega arith) _ _
-    c.in_ok-lsda.ensures
+    c.in_ok-lsda.ensures.reads

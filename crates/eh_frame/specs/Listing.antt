@@ -1,0 +1,35 @@
+-- What is left of a frame table's entries, which are read one by one.
+use Rattle.std.specs.Prelude.{ℕ, Bool, true, Option, Some, None, Result, Ok, Err, if◌then◌else◌}
+use Rattle.unwind_definitions.specs.declared.error.Error.{Error as Fault}
+use Rattle.unwind_definitions.specs.Forms.{emitted}
+use Rattle.unwind_definitions.specs.Input.{Input}
+use Rattle.unwind_definitions.specs.Pointers.{Bases}
+use Rattle.unwind_definitions.specs.Entries.{Entry, Found, entry_at}
+use Rattle.encoded_pointers.specs.Pointers.{bases_of}
+use Rattle.eh_frame.specs.declared.listing.Entries.{Entries}
+use Rattle.eh_frame.specs.Views.{table_of}
+
+-- where the next entry of a table stands, and whether there is none: the list has ended, or an entry couldn't be read
+pub record Listing : Type 0 where
+  pub table : Input
+  pub bases : Bases
+  pub offset : ℕ
+  pub is_over : Bool
+
+abbrev pub listing_of : Entries → Listing
+listing_of e = record { table = table_of e.table; bases = bases_of e.bases; offset = e.offset; is_over = e.is_over }
+
+-- what stands next
+abbrev pub upcoming : Listing → Result (Option Found) Fault
+upcoming l = if l.is_over then Ok None else entry_at emitted l.bases l.table l.offset
+
+abbrev pub entry_in : Result (Option Found) Fault → Result (Option Entry) Fault
+entry_in (Ok (Some found)) = Ok (Some found.entry)
+entry_in (Ok None) = Ok None
+entry_in (Err e) = Err e
+
+-- what is left after that
+abbrev pub behind : Listing → Result (Option Found) Fault → Listing
+behind l (Ok (Some found)) = record l { offset = found.next }
+behind l (Ok None) = record l { is_over = true }
+behind l (Err e) = record l { is_over = true }
