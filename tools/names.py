@@ -135,8 +135,9 @@ def last_line(report: str) -> str | None:
 
 
 def plain_name(name: str) -> str:
-    """A demangled name without its parameters and its result, as gdb writes a function."""
-    name = re.sub(r"( const| volatile| &&?| \[clone [^]]*\])+$", "", name)
+    """A demangled name without its parameters, its result and Rust's hash, as gdb writes a function."""
+    name = re.sub(r"( const| volatile| &&?| \[clone [^]]*\]|::h[0-9a-f]{16})+$", "", name)
+    name = re.sub(r"\[[0-9a-f]{10,16}\]", "", name)
     if name.endswith(")"):
         start = matching_parenthesis(name)
         if start > 0 and not name.endswith("(anonymous namespace)"):
@@ -160,7 +161,8 @@ def without_result(name: str) -> str:
         return name
     depth, start = 0, 0
     for index, letter in enumerate(name):
-        depth += {"<": 1, "(": 1, "{": 1, ">": -1, ")": -1, "}": -1}.get(letter, 0)
+        if name[index - 1 : index + 1] != "->":
+            depth += {"<": 1, "(": 1, "{": 1, ">": -1, ")": -1, "}": -1}.get(letter, 0)
         if letter == " " and depth == 0:
             start = index + 1
     return name[start:]
@@ -169,9 +171,9 @@ def without_result(name: str) -> str:
 def symbolizer(path: str) -> list[str]:
     """The program that tells places, with its words. Both read addresses and print the same form."""
     if shutil.which("llvm-symbolizer"):
-        return ["llvm-symbolizer", "--output-style=GNU", "--relativenames", "-a", "-f", "-i", "-C", "-e", path]
+        return ["llvm-symbolizer", "--output-style=GNU", "--relativenames", "--no-demangle", "-a", "-f", "-i", "-e", path]
     if shutil.which("addr2line"):
-        return ["addr2line", "-a", "-f", "-i", "-C", "-e", path]
+        return ["addr2line", "-a", "-f", "-i", "-e", path]
     raise Refused("wants llvm-symbolizer or addr2line (Debian: llvm, binutils)")
 
 
@@ -203,15 +205,12 @@ def places_of(output: str) -> dict[int, list[Place]]:
 def known_line(text: str) -> str | None:
     """A file and its line, or nothing where one of them isn't known."""
     text = re.sub(r" \(discriminator \d+\)$", "", text)
-    match = re.fullmatch(r"(.+):([1-9]\d*)(?::\d+)?", text)
-    return f"{match.group(1)}:{match.group(2)}" if match and match.group(1) != "??" else None
+    return text if re.fullmatch(r"(?!\?\?).+:[1-9]\d*", text) else None
 
 
-def demangled(name: str) -> str:
-    """A symbol's name as its language writes it."""
-    if not name.startswith("_") or not shutil.which("c++filt"):
-        return name
-    return plain_name(run_program(["c++filt"], name + "\n").strip() or name)
+def demangled(text: str) -> str:
+    """A text with its symbols as their languages write them. (llvm-symbolizer 14 doesn't know Rust's.)"""
+    return run_program(["c++filt"], text) if shutil.which("c++filt") else text
 
 
 def functions_of(path: str) -> list[Function]:
@@ -237,7 +236,7 @@ def symbols_of(path: str, build_id: str | None, addresses: list[int]) -> Symbols
     if not has_build_id(path, build_id):
         return Symbols()
     text = "".join(f"{address:#x}\n" for address in addresses)
-    found = Symbols(places_of(run_program(symbolizer(path), text)))
+    found = Symbols(places_of(demangled(run_program(symbolizer(path), text))))
     if not all(has_lines(found, address) for address in addresses):
         apart = f"{DEBUG_FOLDER}/{build_id[:2]}/{build_id[2:]}.debug" if build_id else ""
         found.functions = functions_of(apart) or functions_of(path)
@@ -293,7 +292,7 @@ def texts_of(frame: ReportedFrame, modules: list[Module], symbols: dict[str, Sym
         name = function_at(known.functions, address)
         where = "" if module.path == program else f" from {module.path}"
         offset = (frame.counter - module.bias) % WORD
-        texts = [f"{demangled(name)}{where}" if name else f"{os.path.basename(module.path)}+{offset:#x}"]
+        texts = [f"{plain_name(demangled(name).strip())}{where}" if name else f"{os.path.basename(module.path)}+{offset:#x}"]
     return [f"{frame.counter:#x} in {texts[0]}", *texts[1:]]
 
 

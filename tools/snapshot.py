@@ -33,6 +33,7 @@ sys.path.insert(0, os.path.dirname(os.path.abspath(__file__)))
 
 from elf_image import WORD, ElfImage, Range, Refused  # noqa: E402
 from frame_table import Table, personality_cells  # noqa: E402
+from loaded_module import SUPPLIED, Module, module_objects, places_of, taken_line  # noqa: E402
 from snapshot_file import (  # noqa: E402
     MOST_STATES, TABLES, Object, Region, region_object, text_of, without_overlaps, write_folder, write_whole,
 )
@@ -76,20 +77,6 @@ class Source:
     opened: str
     sections: dict[str, int]
     mapping: Mapping | None = None
-
-
-@dataclass(frozen=True)
-class Module:
-    """What a snapshot takes of an ELF file, by its addresses in the process."""
-
-    name: str
-    bias: int
-    build_id: str | None
-    code: list[Range]
-    frame_table: Range
-    header: Range | None
-    language_tables: list[Range]
-    personality_cells: list[Range]
 
 
 @dataclass(frozen=True)
@@ -194,9 +181,18 @@ def why_no_thread() -> str:
         owner = os.stat(f"/proc/{process}").st_uid
     except OSError:
         return f"there is no process {process}"
-    if owner not in (os.geteuid(), 0) or os.geteuid() != 0 and owner == 0:
+    if tracer_of(process) != 0:
+        return f"the process {process} may not be traced: the process {tracer_of(process)} traces it"
+    if owner != os.geteuid():
         return f"the process {process} may not be traced: it is {user_name(owner)}'s"
     return f"the process {process} may not be traced"
+
+
+def tracer_of(process: int) -> int:
+    """The process that traces another one, or 0."""
+    with open(f"/proc/{process}/status", encoding="utf-8", errors="replace") as stream:
+        fields = dict(line.rstrip("\n").split(":\t", 1) for line in stream if ":\t" in line)
+    return int(fields.get("TracerPid", "0"))
 
 
 def user_name(user: int) -> str:
@@ -310,7 +306,6 @@ def stacks_of(frame: gdb.Frame, process: Process, options: argparse.Namespace) -
 
 
 DELETED = " (deleted)"
-SUPPLIED = re.compile(r"^system-supplied DSO at (0x[0-9a-f]+)$")
 
 
 def opened_file(name: str, mappings: list[Mapping]) -> BinaryIO:
@@ -342,12 +337,18 @@ def kept_file(mapping: Mapping) -> str:
 
 
 def unlisted_sources(process: Process) -> Iterator[Source]:
-    """The mapped files with code that gdb doesn't list, since they were deleted."""
+    """The mapped files with code that gdb doesn't list: it leaves out those that were deleted, and
+    without a program's file what the system maps."""
     addresses = [address for sections in process.files.sections.values() for address in sections.values()]
     listed = {mapping.file for mapping in process.mappings if any(map(mapping.place.contains, addresses))}
     for mapping in process.mappings:
-        if "x" in mapping.permissions and mapping.file.startswith("/") and mapping.file not in listed:
-            listed.add(mapping.file)
+        if "x" not in mapping.permissions or mapping.file in listed:
+            continue
+        listed.add(mapping.file)
+        if mapping.file == "[vdso]":
+            name = f"system-supplied DSO at {mapping.place.start:#x}"
+            yield Source(name, name, {}, mapping)
+        elif mapping.file.startswith("/"):
             yield Source(mapping.file.removesuffix(DELETED), kept_file(mapping), {}, mapping)
 
 
@@ -455,18 +456,6 @@ def modules_of(process: Process, options: argparse.Namespace) -> list[Module]:
     return found
 
 
-def taken_line(module: Module, deleted: str) -> str:
-    """What is taken of a module."""
-    code = ", ".join(str(place) for place in module.code)
-    parts = [f"code {code}", f".eh_frame {module.frame_table}"]
-    if module.header:
-        parts.append(f".eh_frame_hdr {module.header}")
-    parts += [f"language tables {place}" for place in module.language_tables]
-    if module.personality_cells:
-        parts.append(f"cells of personalities: {len(module.personality_cells)}")
-    return f"takes {module.name}{deleted}: " + ", ".join(parts)
-
-
 # ---- the snapshot
 
 
@@ -478,28 +467,6 @@ def region_at(place: Range) -> Object:
 def regions_at(places: list[Range]) -> list[Object]:
     """The regions of places that may share addresses."""
     return [region_at(place) for place in without_overlaps(places)]
-
-
-def module_objects(module: Module) -> list[Object]:
-    """The snapshot's modules of a file: one for each executable segment. What a walk doesn't ask for
-    is there to name its frames by: `unwind_cli` passes over it."""
-    if module.header:
-        table = {"eh_frame_hdr": f"{module.header.start:#x}"}
-    else:
-        table = {"eh_frame": f"{module.frame_table.start:#x}"}
-    path = "[vdso]" if SUPPLIED.match(module.name) else module.name
-    names = {"path": path, "bias": f"{module.bias:#x}"}
-    if module.build_id is not None:
-        names["build_id"] = module.build_id
-    return [
-        {"kind": "elf", "start": f"{code.start:#x}", "end": f"{code.end:#x}"} | table | names for code in module.code
-    ]
-
-
-def places_of(module: Module) -> list[Range]:
-    """The memory that a module's tables take."""
-    header = [module.header] if module.header else []
-    return [module.frame_table, *header, *module.language_tables, *module.personality_cells]
 
 
 def thread_object(thread: gdb.InferiorThread) -> Object:
