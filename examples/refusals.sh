@@ -1,7 +1,7 @@
 #!/usr/bin/env bash
 # Tries what tools/snapshot.py must refuse, and prints what it says: one line each, the status, and the
-# files that are left. Every refusal has to have status 1 and leave no file; the two tries at the end,
-# of a program without symbols and of a core with its program, have to succeed.
+# files that are left. Every refusal has to have status 1 and leave no file. What only looks alike has to
+# succeed: a program without symbols, without .eh_frame or without its file, and a core with its program.
 #
 #   refusals.sh        wants out/ built
 set -uo pipefail
@@ -24,8 +24,10 @@ start() {
 
 # Runs gdb with `words` behind `snapshot`, and looks at its status and at the files that it leaves.
 try() {
-    local wanted=$1 what=$2 words=$3 said status left
-    said=$(cd "$scratch/written" && gdb -nx -batch "${@:4}" -x "$script" -ex "snapshot $words" 2>&1 < /dev/null)
+    local wanted=$1 what=$2 words=$3 said status left as=()
+    set -- "${@:4}"
+    [ "${*: -2}" = 'as nobody' ] && as=(setpriv --reuid=65534 --clear-groups) && set -- "${@:1:$#-2}"
+    said=$(cd "$scratch/written" && "${as[@]}" gdb -nx -batch "$@" -x "$script" -ex "snapshot $words" 2>&1 < /dev/null)
     status=$?
     left=$(ls -A "$scratch/written" | tr '\n' ' ')
     rm -rf "$scratch"/written/* "$scratch"/written/.snapshot*
@@ -44,6 +46,9 @@ without_process() {
 
 of_words() {
     refused 'no file named' '--interrupted' -p "$live"
+    refused 'both marks' 'a.json --called --interrupted' -p "$live"
+    refused 'a mark for all threads' 'a --threads --called' -p "$live"
+    refused 'no bytes of the stack' 'a.json --stack-bytes 0' -p "$live"
     refused 'an unknown option' 'a.json --all' -p "$live"
     refused 'limit 0' 'a.json --limit 0' -p "$live"
     refused 'a word past 64 bits' 'a.json --exception 0x10000000000000000' -p "$live"
@@ -52,6 +57,7 @@ of_words() {
     refused 'a folder that is not there' 'none/a.json' -p "$live"
     refused 'a folder' "$scratch" -p "$live"
     refused 'a device' '/dev/full' -p "$live"
+    refused 'a folder that is not empty' "$scratch --threads" -p "$live"
 }
 
 of_files() {
@@ -59,19 +65,31 @@ of_files() {
     objcopy -R .eh_frame -R .eh_frame_hdr "$programs/nested-gcc-O2" "$scratch/tableless"
     cp "$programs/nested-gcc-O2" "$scratch/gone"
     start "$scratch/tableless"
-    refused 'a program without .eh_frame' 'a.json' -p "$started"
+    taken 'a program without .eh_frame' 'a.json' -p "$started"
+    refused 'a module without .eh_frame' 'a.json --module tableless' -p "$started"
     start "$scratch/gone"
     gdb -nx -batch -p "$started" -ex "gcore $scratch/core" > /dev/null 2>&1
     mv "$scratch/gone" "$scratch/kept"
     rm "$scratch/kept"
-    refused "a process whose program's file is gone" 'a.json' -p "$started"
+    taken "a process whose program's file is gone" 'a.json' -p "$started"
     refused "a core without the program's file" 'a.json' -c "$scratch/core"
     refused 'a core with another program' 'a.json' "$programs/frame_pointer-gcc-O0" "$scratch/core"
     head -c 3000 "$scratch/core" > "$scratch/cut"
     refused 'a core that was cut off' 'a.json' "$programs/nested-gcc-O2" "$scratch/cut"
     start "$scratch/stripped"
-    taken 'a stripped program' 'a.json --interrupted' -p "$started"
-    taken 'a core with its program' 'a.json --interrupted' "$programs/nested-gcc-O2" "$scratch/core"
+    taken 'a stripped program' 'a.json' -p "$started"
+    taken 'a core with its program' 'a.json' "$programs/nested-gcc-O2" "$scratch/core"
+}
+
+# Where gdb may not trace the process: it runs as another user, or another gdb traces it.
+of_permission() {
+    if [ "$(id -u)" = 0 ]; then
+        refused "another user's process" 'a.json' -p "$live" as nobody
+    fi
+    gdb -nx -batch -p "$live" -ex 'shell sleep 20' > /dev/null 2>&1 &
+    processes="$processes $!"
+    until grep -q '^TracerPid:.[1-9]' "/proc/$live/status"; do sleep 0.1; done
+    refused 'a process that is traced already' 'a.json' -p "$live"
 }
 
 # A program of 32 bits, without a C library, where the system runs such programs.
@@ -95,4 +113,5 @@ of_words
 of_files
 of_32_bits
 (without_room; exit "$failed") || failed=1
+of_permission
 exit "$failed"

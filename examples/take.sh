@@ -21,9 +21,11 @@ in_gdb() {
     gdb -nx -q -p "$process" -batch -x ../../tools/frames.py -x ../landings.py -x ../../tools/snapshot.py -x ../steps.py "$@"
 }
 
-# Only its owner may read a snapshot that the command writes; these hold nothing of anybody.
+# Only its owner may read a snapshot that the command writes, and it has paths of this machine; these
+# hold nothing of anybody.
 for_all() {
-    chmod a+r "../$1"
+    ../../tools/join.py --bare "$1.taken" > "../$2"
+    rm "$1.taken"
 }
 
 # A process that gdb let go after its catch may have ended by itself.
@@ -39,8 +41,8 @@ of_report() {
 
 take_walk() {
     begin "$1"
-    in_gdb -ex "snapshot ../$2 --interrupted --limit 64 --module $1"
-    for_all "$2"
+    in_gdb -ex "snapshot $1.taken --limit 64 --module $1"
+    for_all "$1" "$2"
     in_gdb -ex 'frames --program' | of_report > "../$3"
     end
 }
@@ -63,8 +65,8 @@ take_delivery() {
     of_report <<< "$told" > "../$3"
     marks=$(grep -E '^--exception' <<< "$told"; sed -n 's/^resume /--resume /p' <<< "$told")
     begin "$1"
-    in_gdb -ex raised -ex "snapshot ../$2 --limit 64 --module $1 ${marks//$'\n'/ }"
-    for_all "$2"
+    in_gdb -ex raised -ex "snapshot $1.taken --limit 64 --module $1 ${marks//$'\n'/ }"
+    for_all "$1" "$2"
     end
 }
 

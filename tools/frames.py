@@ -5,8 +5,9 @@
     frames [--program]
 
 Each line holds what `info registers` shows in that frame. With --program they end with the first
-frame that stands outside of the program's own file. It is there to compare with: it reads nothing
-that tools/snapshot.py or unwind_cli wrote.
+frame that stands outside of the program's own file. Functions that were inlined and those that were
+left by a tail call have no frame in the machine, and are left out. It is there to compare with: it
+reads nothing that tools/snapshot.py or unwind_cli wrote.
 """
 from __future__ import annotations
 
@@ -18,13 +19,18 @@ import gdb
 SHOWN_REGISTERS = "rbx rbp r12 r13 r14 r15".split()
 
 
+# gdb makes these up from debug information: they share another frame's registers, or have none.
+MADE_UP_FRAMES = (gdb.INLINE_FRAME, gdb.TAILCALL_FRAME)
+
+
 def frames_outwards() -> Iterator[gdb.Frame]:
-    """The selected thread's frames, those above main and the entry point too."""
+    """The selected thread's frames in the machine, those above main and the entry point too."""
     gdb.execute("set backtrace past-main on")
     gdb.execute("set backtrace past-entry on")
     frame = gdb.newest_frame()
     while frame is not None:
-        yield frame
+        if frame.type() not in MADE_UP_FRAMES:
+            yield frame
         frame = frame.older()
 
 
@@ -62,9 +68,6 @@ class FramesCommand(gdb.Command):
         if gdb.selected_thread() is None:
             raise gdb.GdbError("frames: no thread is selected")
         for level, frame in enumerate(frames_outwards()):
-            # A function that was inlined has no frame of its own, and shows its caller's registers.
-            if frame.type() == gdb.INLINE_FRAME:
-                raise gdb.GdbError("frames: an inlined function stands between; build without -g")
             print(frame_line(level, frame))
             if words and not is_in_program(frame):
                 break

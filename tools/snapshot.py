@@ -1,85 +1,63 @@
 """A command of gdb that writes a snapshot of a stopped program, for `unwind_cli`.
 
-    gdb -p PID -batch -x tools/snapshot.py -ex "snapshot FILE --interrupted"
-    gdb PROGRAM CORE -batch -x tools/snapshot.py -ex "snapshot FILE --interrupted"
+    gdb -p PID -batch -x tools/snapshot.py -ex "snapshot FILE"
+    gdb PROGRAM CORE -batch -x tools/snapshot.py -ex "snapshot FILE"
+    gdb -p PID -batch -x tools/snapshot.py -ex "snapshot DIR --threads"
 
-    snapshot FILE [--interrupted] [--limit N] [--module NAME]... [--header]
+    snapshot FILE [--called | --interrupted] [--stack-bytes N] [--limit N] [--module NAME]... [--header]
                   [--exception WORD] [--class WORD] [--resume PAD RETURN]...
+    snapshot DIR --threads [--stack-bytes N] [--limit N] [--module NAME]... [--header]
 
 The registers are those of the selected thread's selected frame, which is its innermost one unless
-gdb was told otherwise. docs/FORMATS.md says what a snapshot holds. A snapshot holds the stack, and
-so whatever stands there: arguments, the environment, and what the program keeps in its locals.
+gdb was told otherwise; with --threads, those of each thread's innermost frame. docs/FORMATS.md says
+what a snapshot holds. A snapshot holds the stack, and so whatever stands there: what the program
+keeps in its locals and, where the outermost frame isn't known, its arguments and its environment.
 
-Wants gdb with Python (tried: 13.1) and pyelftools (tried: 0.29, Debian's python3-pyelftools).
+Wants gdb with Python (tried: 13.1), and nothing else.
 """
 from __future__ import annotations
 
 import argparse
-import functools
+import contextlib
 import io
-import json
 import os
+import pwd
 import re
-import tempfile
+import sys
 from dataclasses import dataclass, field
-from typing import Any, BinaryIO, NoReturn
+from typing import BinaryIO, Iterator, NoReturn
 
 import gdb
 
-try:
-    from elftools.common.exceptions import ELFError
-    from elftools.common.utils import struct_parse
-    from elftools.dwarf import callframe
-    from elftools.dwarf.callframe import CIE, CallFrameInfo
-    from elftools.dwarf.structs import DWARFStructs
-    from elftools.elf.elffile import ELFFile
-except ImportError as error:
-    raise gdb.GdbError(f"snapshot: wants pyelftools (Debian: python3-pyelftools): {error}") from None
+sys.path.insert(0, os.path.dirname(os.path.abspath(__file__)))
 
-# Before its version 0.30, pyelftools makes these structures anew for each entry of a table, and then
-# a C library's table takes some fifteen times as long.
-callframe.DWARFStructs = functools.cache(DWARFStructs)
+from elf_image import WORD, ElfImage, Range, Refused  # noqa: E402
+from frame_table import Table, personality_cells  # noqa: E402
+from loaded_module import SUPPLIED, Module, module_objects, places_of, taken_line  # noqa: E402
+from snapshot_file import (  # noqa: E402
+    MOST_STATES, TABLES, Object, Region, region_object, text_of, without_overlaps, write_folder, write_whole,
+)
+from stacks import StackFrame, stack_front, stack_ranges  # noqa: E402
 
 REGISTERS = "rip rsp rax rbx rcx rdx rsi rdi rbp r8 r9 r10 r11 r12 r13 r14 r15".split()
 
-# The psABI lets a function use the 128 bytes below its stack pointer (section 3.2.2), and an
-# epilogue leaves the registers that it has restored there.
-RED_ZONE = 128
+# So many of gdb's frames are asked where a thread's stacks lie. In a deeper stack the outermost frame
+# isn't known then, and it is taken whole.
+MOST_FRAMES = 4096
 
-# What `unwind_cli` takes: so many states, and so many bytes of text.
-MOST_STATES = 1_048_576
-MOST_BYTES = 67_108_864
-
-# Parts of a pointer encoding (LSB, "DWARF Exception Header Encoding").
-INDIRECT = 0x80
-APPLICATION = 0x70
-ABSOLUTE, RELATIVE_TO_PLACE = 0x00, 0x10
-OMITTED = 0xFF
-
-WORD = 2**64
+USAGE = """snapshot FILE [--called | --interrupted] [--stack-bytes N] [--limit N] [--module NAME]... [--header]
+                [--exception WORD] [--class WORD] [--resume PAD RETURN]...
+       snapshot DIR --threads [--stack-bytes N] [--limit N] [--module NAME]... [--header]"""
 
 
-USAGE = """snapshot FILE [--interrupted] [--limit N] [--module NAME]... [--header]
-                [--exception WORD] [--class WORD] [--resume PAD RETURN]..."""
+@dataclass(frozen=True)
+class Mapping:
+    """A mapping: its addresses, its permissions (empty where they aren't known) and its file's part."""
 
-
-class Refused(Exception):
-    """Why there is no snapshot, or why a module isn't in it."""
-
-
-@dataclass(frozen=True, order=True)
-class Range:
-    """The addresses from `start` to before `end`."""
-
-    start: int
-    end: int
-
-    def contains(self, address: int) -> bool:
-        """Whether the address is one of them."""
-        return self.start <= address < self.end
-
-    def __str__(self) -> str:
-        return f"{self.start:#x}-{self.end:#x}"
+    place: Range
+    permissions: str = ""
+    offset: int = 0
+    file: str = ""
 
 
 @dataclass
@@ -91,16 +69,26 @@ class LoadedFiles:
     core_ranges: list[Range] = field(default_factory=list)
 
 
-@dataclass
-class Module:
-    """What a snapshot takes of an ELF file, by its addresses in the process."""
+@dataclass(frozen=True)
+class Source:
+    """A file that is loaded: its name, what is opened, and what tells where it lies."""
 
     name: str
-    code: list[Range]
-    frame_table: Range
-    header: Range | None
-    language_tables: list[Range]
-    personality_cells: list[Range]
+    opened: str
+    sections: dict[str, int]
+    mapping: Mapping | None = None
+
+
+@dataclass(frozen=True)
+class Process:
+    """What all threads share: what is loaded and what is mapped."""
+
+    files: LoadedFiles
+    mappings: list[Mapping]
+
+    def stacks(self) -> list[Range]:
+        """The mappings that may hold a stack: those that aren't known to be unreadable."""
+        return [mapping.place for mapping in self.mappings if mapping.permissions[:1] in ("", "r")]
 
 
 # ---- what gdb says
@@ -108,6 +96,7 @@ class Module:
 
 FILE_LINE = re.compile(r"^\t`(.+)', file type ")
 SECTION_LINE = re.compile(r"^\t(0x[0-9a-f]+) - (0x[0-9a-f]+) is (\S+)(?: in (.+))?$")
+MAPPING_LINE = re.compile(r"^\s*0x([0-9a-f]+)\s+0x([0-9a-f]+)\s+0x[0-9a-f]+\s+0x([0-9a-f]+)(?:\s+([-r][-w][-x][ps]))?\s*(.*)$")
 
 
 def loaded_files() -> LoadedFiles:
@@ -140,19 +129,28 @@ def add_section(found: LoadedFiles, start: str, _end: str, name: str, file: str 
         found.sections.setdefault(holder, {}).setdefault(name, int(start, 16))
 
 
-def process_ranges() -> list[Range]:
-    """The mappings of a live process, by `info proc mappings`."""
-    text = gdb.execute("info proc mappings", to_string=True)
-    found = re.findall(r"^\s*(0x[0-9a-f]+)\s+(0x[0-9a-f]+)\s", text, re.MULTILINE)
-    return [Range(int(start, 16), int(end, 16)) for start, end in found]
-
-
-def mappings(files: LoadedFiles) -> list[Range]:
-    """What is mapped: the parts that a core holds, or the mappings of a live process."""
+def is_core() -> bool:
+    """Whether what is looked at is a core, and no process."""
     connection = gdb.selected_inferior().connection
-    if connection is not None and connection.type == "core":
-        return files.core_ranges
-    return process_ranges()
+    return connection is not None and connection.type == "core"
+
+
+def process_mappings() -> list[Mapping]:
+    """The mappings of a live process, by `info proc mappings`."""
+    found = []
+    for line in gdb.execute("info proc mappings", to_string=True).splitlines():
+        match = MAPPING_LINE.match(line)
+        if match:
+            start, end, offset = (int(digits, 16) for digits in match.groups()[:3])
+            found.append(Mapping(Range(start, end), match.group(4) or "", offset, match.group(5)))
+    return found
+
+
+def stopped_process() -> Process:
+    """What is loaded and mapped: in a core, the parts that it holds."""
+    files = loaded_files()
+    mappings = [Mapping(place) for place in files.core_ranges] if is_core() else process_mappings()
+    return Process(files, mappings)
 
 
 def bytes_at(place: Range, what: str) -> bytes:
@@ -163,10 +161,52 @@ def bytes_at(place: Range, what: str) -> bytes:
         raise Refused(f"{what} ({place}) can't be read from memory")
 
 
+def asked_process() -> int | None:
+    """The process that gdb's own words name (-p PID, --pid=PID)."""
+    with open("/proc/self/cmdline", encoding="utf-8", errors="replace") as stream:
+        words = stream.read().split("\0")
+    for word, following in zip(words, words[1:] + [""]):
+        name, _, value = word.partition("=")
+        if name in ("-p", "-pid", "--pid") and (value or following).isdecimal():
+            return int(value or following)
+    return None
+
+
+def why_no_thread() -> str:
+    """Why there is no thread to take."""
+    process = asked_process()
+    if process is None:
+        return "no thread is selected: attach to a process (-p PID), or give a program and its core"
+    try:
+        owner = os.stat(f"/proc/{process}").st_uid
+    except OSError:
+        return f"there is no process {process}"
+    if tracer_of(process) != 0:
+        return f"the process {process} may not be traced: the process {tracer_of(process)} traces it"
+    if owner != os.geteuid():
+        return f"the process {process} may not be traced: it is {user_name(owner)}'s"
+    return f"the process {process} may not be traced"
+
+
+def tracer_of(process: int) -> int:
+    """The process that traces another one, or 0."""
+    with open(f"/proc/{process}/status", encoding="utf-8", errors="replace") as stream:
+        fields = dict(line.rstrip("\n").split(":\t", 1) for line in stream if ":\t" in line)
+    return int(fields.get("TracerPid", "0"))
+
+
+def user_name(user: int) -> str:
+    """A user's name, or the number where it has none."""
+    try:
+        return pwd.getpwuid(user).pw_name
+    except KeyError:
+        return str(user)
+
+
 def selected_frame() -> gdb.Frame:
     """The selected frame of an x86-64 thread."""
     if gdb.selected_thread() is None:
-        raise Refused("no thread is selected: attach to a process (-p PID), or give a program and its core")
+        raise Refused(why_no_thread())
     frame = gdb.selected_frame()
     machine = frame.architecture().name()
     if not machine.startswith("i386:x86-64"):
@@ -188,146 +228,189 @@ def registers_of(frame: gdb.Frame) -> dict[str, int]:
     return found
 
 
-# ---- ELF files
+def is_interrupted(frame: gdb.Frame) -> bool:
+    """Whether a frame stands before its instruction: it is the innermost one, or it is outside of a
+    signal's. A function that was inlined stands in its caller's frame."""
+    newer = frame.newer()
+    while newer is not None and newer.type() == gdb.INLINE_FRAME:
+        newer = newer.newer()
+    return newer is None or newer.type() == gdb.SIGTRAMP_FRAME
 
 
-def elf_bytes(name: str, ranges: list[Range]) -> BinaryIO:
+# ---- stacks
+
+
+@contextlib.contextmanager
+def frames_above_main() -> Iterator[None]:
+    """Lets gdb go on to the frames above main and the entry point."""
+    names = ("backtrace past-main", "backtrace past-entry")
+    before = {name: gdb.parameter(name) for name in names}
+    try:
+        for name in names:
+            gdb.execute(f"set {name} on")
+        yield
+    finally:
+        for name, value in before.items():
+            gdb.execute(f"set {name} {'on' if value else 'off'}")
+
+
+OUTSIDE_LINE = re.compile(r"Previous frame's sp is (0x[0-9a-f]+)")
+
+
+def pointer_outside(frame: gdb.Frame) -> int | None:
+    """The stack pointer outside of the outermost frame, where the tables say that it has no caller."""
+    if frame.unwind_stop_reason() != gdb.FRAME_UNWIND_OUTERMOST:
+        return None
+    selected = gdb.selected_frame()
+    try:
+        frame.select()
+        match = OUTSIDE_LINE.search(gdb.execute("info frame", to_string=True))
+    finally:
+        selected.select()
+    return int(match.group(1), 16) if match else None
+
+
+def frames_from(frame: gdb.Frame) -> tuple[list[StackFrame], int | None]:
+    """A frame and its callers, and the stack pointer outside of the outermost one, if it is known."""
+    found: list[StackFrame] = []
+    try:
+        while len(found) < MOST_FRAMES:
+            pointer = int(frame.read_register("rsp")) % WORD
+            found.append(StackFrame(pointer, frame.type() == gdb.SIGTRAMP_FRAME))
+            older = frame.older()
+            if older is None:
+                return found, pointer_outside(frame)
+            frame = older
+    except gdb.error as error:
+        print(f"the frames of gdb end: {error}")
+    return found, None
+
+
+def stacks_of(frame: gdb.Frame, process: Process, options: argparse.Namespace) -> list[Range]:
+    """What is taken of the stacks that the frame and its callers stand on. A line tells of each."""
+    pointer = int(frame.read_register("rsp")) % WORD
+    mapped = process.stacks()
+    if options.stack_bytes is not None:
+        found = [stack_front(pointer, options.stack_bytes, mapped)]
+    else:
+        with frames_above_main():
+            frames, end = frames_from(frame)
+        found = stack_ranges(frames or [StackFrame(pointer)], end, mapped)
+    for place in found:
+        above = " (rsp lies below it: the stack has overflowed)" if pointer < found[0].start else ""
+        print(f"takes the stack {place}{above if place == found[0] else ''}")
+    return found
+
+
+# ---- modules
+
+
+DELETED = " (deleted)"
+
+
+def opened_file(name: str, mappings: list[Mapping]) -> BinaryIO:
     """The bytes of an ELF file: those on the disk, or what the system maps into each process."""
-    supplied = re.match(r"^system-supplied DSO at (0x[0-9a-f]+)$", name)
+    supplied = SUPPLIED.match(name)
     if not supplied:
         try:
             return open(name, "rb")
         except OSError as error:
             raise Refused(f"its file can't be read: {error.strerror}")
     address = int(supplied.group(1), 16)
-    for place in ranges:
-        if place.contains(address):
-            return io.BytesIO(bytes_at(Range(address, place.end), "it"))
+    for mapping in mappings:
+        if mapping.place.contains(address):
+            return io.BytesIO(bytes_at(Range(address, mapping.place.end), "it"))
     raise Refused("it isn't in memory")
 
 
-def section_range(elf: ELFFile, bias: int, name: str) -> Range | None:
-    """Where a section lies in the process, if there is one that isn't empty."""
-    section = elf.get_section_by_name(name)
-    if section is None or section["sh_type"] == "SHT_NOBITS" or section["sh_size"] == 0:
-        return None
-    start = (section["sh_addr"] + bias) % WORD
-    return Range(start, start + section["sh_size"])
+def kept_file(mapping: Mapping) -> str:
+    """Where the kernel keeps a mapped file: that of the program is everybody's who may trace it."""
+    folder = f"/proc/{gdb.selected_inferior().pid}"
+    try:
+        if os.readlink(f"{folder}/exe") == mapping.file:
+            return f"{folder}/exe"
+    except OSError:
+        pass
+    if mapping.file.endswith(DELETED):
+        return f"{folder}/map_files/{mapping.place.start:x}-{mapping.place.end:x}"
+    return mapping.file
 
 
-def load_bias(elf: ELFFile, sections: dict[str, int]) -> int:
-    """How far above its own addresses the file is loaded, by a section that gdb places."""
-    for section in elf.iter_sections():
-        if section["sh_addr"] != 0 and section.name in sections:
-            return (sections[section.name] - section["sh_addr"]) % WORD
-    raise Refused("gdb doesn't say where it is loaded")
+def unlisted_sources(process: Process) -> Iterator[Source]:
+    """The mapped files with code that gdb doesn't list: it leaves out those that were deleted, and
+    without a program's file what the system maps."""
+    addresses = [address for sections in process.files.sections.values() for address in sections.values()]
+    listed = {mapping.file for mapping in process.mappings if any(map(mapping.place.contains, addresses))}
+    for mapping in process.mappings:
+        if "x" not in mapping.permissions or mapping.file in listed:
+            continue
+        listed.add(mapping.file)
+        if mapping.file == "[vdso]":
+            name = f"system-supplied DSO at {mapping.place.start:#x}"
+            yield Source(name, name, {}, mapping)
+        elif mapping.file.startswith("/"):
+            yield Source(mapping.file.removesuffix(DELETED), kept_file(mapping), {}, mapping)
 
 
-def check_same(elf: ELFFile, bias: int) -> None:
+def sources_of(process: Process) -> list[Source]:
+    """The files that are loaded. Of a program that gdb doesn't find the name is that of its mapping."""
+    found = [Source(name, name, sections) for name, sections in process.files.sections.items()]
+    unlisted = list(unlisted_sources(process))
+    if process.files.program is None:
+        program = [source.name for source in unlisted if source.opened.endswith("/exe")]
+        if not program:
+            raise Refused("gdb knows no program file, and so no modules: name it before the core, or load it by `file`")
+        process.files.program = program[0]
+    return found + unlisted
+
+
+def check_same(elf: ElfImage, bias: int) -> None:
     """Refuses a file that isn't the one that was loaded: another program, or one built anew.
 
     The identity is compared or, where the linker gave none, the frame table.
     """
     for name in (".note.gnu.build-id", ".eh_frame"):
-        place = section_range(elf, bias, name)
-        if place is None:
+        section, place = elf.section(name), elf.section_range(name, bias)
+        if section is None or place is None:
             continue
         try:
             loaded = bytes_at(place, name)
         except Refused as reason:
             raise Refused(f"its file may not be the one that was loaded: {reason}")
-        if loaded != elf.get_section_by_name(name).data():
+        if loaded != elf.contents(section):
             raise Refused(f"its file isn't the one that was loaded: {name} differs")
         return
 
 
-def code_ranges(elf: ELFFile, bias: int) -> list[Range]:
-    """Its executable segments."""
-    found = []
-    for segment in elf.iter_segments():
-        if segment["p_type"] == "PT_LOAD" and segment["p_flags"] & 1 and segment["p_memsz"] > 0:
-            start = (segment["p_vaddr"] + bias) % WORD
-            found.append(Range(start, start + segment["p_memsz"]))
-    if not found:
-        raise Refused("it has no executable segment")
-    return sorted(found)
+class WithoutTable(Refused):
+    """A file has no frame table, and so nothing that a walk could read."""
 
 
-def language_tables(elf: ELFFile, bias: int) -> list[Range]:
-    """Its language tables: one section, or one for each function."""
-    names = [section.name for section in elf.iter_sections()]
-    tables = [name for name in names if name.split(".")[1:2] == ["gcc_except_table"]]
-    found = [section_range(elf, bias, name) for name in dict.fromkeys(tables)]
-    return [table for table in found if table is not None]
-
-
-def cell_of(entry: CIE, table: CallFrameInfo) -> int | None:
-    """The address of the cell that the entry's personality pointer names, if it is indirect.
-
-    The pointer stands in the augmentation data, behind what the letters before its own have there
-    (LSB, "The Common Information Entry Format").
-    """
-    letters = entry.header.augmentation.decode("latin-1")
-    personality = entry.augmentation_dict.get("personality")
-    if personality is None or personality.encoding == OMITTED or not personality.encoding & INDIRECT:
-        return None
-    struct_parse(entry.structs.EH_CIE_header, table.stream, entry.offset)
-    struct_parse(entry.structs.Dwarf_uleb128(""), table.stream)
-    before = sum(letter in "LR" for letter in letters[: letters.index("P")])
-    place = table.address + table.stream.tell() + before + 1
-    application = personality.encoding & APPLICATION
-    if application == RELATIVE_TO_PLACE:
-        return (place + personality.function) % WORD
-    if application == ABSOLUTE:
-        return personality.function % WORD
-    raise Refused(f"its personality pointer's encoding {personality.encoding:#x} isn't known")
-
-
-def personality_cells(table: Range) -> list[Range]:
-    """The cells that the frame table's indirect personality pointers name."""
-    structs = DWARFStructs(little_endian=True, dwarf_format=32, address_size=8)
-    stream = io.BytesIO(bytes_at(table, "its .eh_frame"))
-    entries = CallFrameInfo(stream, table.end - table.start, table.start, structs, for_eh_frame=True)
-    found = set()
-    for entry in entries.get_entries():
-        cell = cell_of(entry, entries) if isinstance(entry, CIE) else None
-        if cell is not None:
-            found.add(Range(cell, cell + 8))
-    return sorted(found)
-
-
-def cells_or_none(table: Range) -> list[Range]:
-    """The same, and none where the table can't be read: a walk asks for none of them."""
+def cells_of(table: Range) -> list[Range]:
+    """The cells of personalities, and none where the table can't be read."""
     try:
-        return personality_cells(table)
-    except (Refused, ELFError, AssertionError, KeyError, UnicodeError) as error:
-        print(f"  without the cells of personalities: {error or type(error).__name__}")
+        return personality_cells(Table(table.start, bytes_at(table, "its .eh_frame")))
+    except Refused as error:
+        print(f"  without the cells of personalities: {error}")
         return []
 
 
-def module_of(name: str, sections: dict[str, int], ranges: list[Range], header: bool) -> Module:
-    """What a snapshot takes of a file."""
-    with elf_bytes(name, ranges) as stream:
-        try:
-            elf = ELFFile(stream)
-            if elf.get_machine_arch() != "x64":
-                raise Refused(f"it is a file of the machine {elf.get_machine_arch()}")
-            bias = load_bias(elf, sections)
-            check_same(elf, bias)
-            code = code_ranges(elf, bias)
-            frame_table = section_range(elf, bias, ".eh_frame")
-            header_table = section_range(elf, bias, ".eh_frame_hdr") if header else None
-            tables = language_tables(elf, bias)
-        except ELFError as error:
-            raise Refused(f"it is no ELF file: {error}")
-    if frame_table is None:
-        raise Refused("it has no .eh_frame")
-    if header and header_table is None:
-        raise Refused("it has no .eh_frame_hdr")
-    return Module(name, code, frame_table, header_table, tables, cells_or_none(frame_table))
-
-
-# ---- modules
+def module_of(source: Source, process: Process, options: argparse.Namespace) -> Module:
+    """What a snapshot takes of a file. Only deliveries ask for cells of personalities."""
+    with opened_file(source.opened, process.mappings) as stream:
+        elf = ElfImage(stream)
+        mapping = source.mapping
+        by_mapping = mapping and elf.bias_of_mapping(mapping.place.start, mapping.offset)
+        bias = elf.bias_of_sections(source.sections) if by_mapping is None else by_mapping
+        check_same(elf, bias)
+        code = elf.code_ranges(bias)
+        frame_table = elf.section_range(".eh_frame", bias)
+        if frame_table is None:
+            raise WithoutTable("it has no .eh_frame")
+        header = elf.section_range(".eh_frame_hdr", bias) if options.header else None
+        tables, build_id = elf.language_tables(bias), elf.build_id()
+    cells = cells_of(frame_table) if options.exception is not None else []
+    return Module(source.name, bias, build_id, code, frame_table, header, tables, cells)
 
 
 def is_named(file: str, names: list[str]) -> bool:
@@ -335,111 +418,84 @@ def is_named(file: str, names: list[str]) -> bool:
     return not names or file in names or os.path.basename(file) in names
 
 
-def check_names(names: list[str], files: LoadedFiles) -> None:
+def check_names(names: list[str], sources: list[Source]) -> None:
     """Refuses a name that no loaded file has."""
     for name in names:
-        if not any(is_named(file, [name]) for file in files.sections):
-            loaded = ", ".join(os.path.basename(file) for file in files.sections)
+        if not any(is_named(source.name, [name]) for source in sources):
+            loaded = ", ".join(os.path.basename(source.name) for source in sources)
             raise Refused(f"no module is named {name}; loaded are: {loaded}")
 
 
-def modules_of(files: LoadedFiles, ranges: list[Range], names: list[str], header: bool) -> list[Module]:
+def is_needed(source: Source, process: Process, reason: Refused, names: list[str]) -> bool:
+    """Whether there is no snapshot without the file: one that is named, or a program of another build."""
+    is_program = source.name == process.files.program
+    return bool(names) or is_program and not isinstance(reason, WithoutTable)
+
+
+def modules_of(process: Process, options: argparse.Namespace) -> list[Module]:
     """The modules that are asked for. One line tells of each what becomes of it."""
-    check_names(names, files)
+    sources = sources_of(process)
+    check_names(options.module, sources)
     found = []
-    for file, sections in files.sections.items():
-        if not is_named(file, names):
-            print(f"leaves out {file}: it isn't named")
+    for source in sources:
+        deleted = DELETED if source.mapping and source.mapping.file.endswith(DELETED) else ""
+        if not is_named(source.name, options.module):
+            print(f"leaves out {source.name}{deleted}: it isn't named")
             continue
         try:
-            module = module_of(file, sections, ranges, header)
+            module = module_of(source, process, options)
         except Refused as reason:
-            # What was asked for by name, and the program itself, has to be there.
-            if names or file == files.program:
-                raise Refused(f"{file}: {reason}")
-            print(f"leaves out {file}: {reason}")
+            if is_needed(source, process, reason, options.module):
+                raise Refused(f"{source.name}{deleted}: {reason}")
+            print(f"leaves out {source.name}{deleted}: {reason}")
             continue
-        print(taken_line(module))
+        print(taken_line(module, deleted))
         found.append(module)
     if not found:
         raise Refused("there is no module to take")
     return found
 
 
-def taken_line(module: Module) -> str:
-    """What is taken of a module."""
-    code = ", ".join(str(place) for place in module.code)
-    parts = [f"code {code}", f".eh_frame {module.frame_table}"]
-    if module.header:
-        parts.append(f".eh_frame_hdr {module.header}")
-    parts += [f"language tables {place}" for place in module.language_tables]
-    if module.personality_cells:
-        parts.append(f"cells of personalities: {len(module.personality_cells)}")
-    return f"takes {module.name}: " + ", ".join(parts)
-
-
 # ---- the snapshot
 
 
-def stack_range(files: LoadedFiles, ranges: list[Range], pointer: int) -> Range:
-    """The stack: from the red zone below its pointer to the end of the pointer's mapping."""
-    for place in ranges:
-        if place.contains(pointer):
-            return Range(max(place.start, pointer - RED_ZONE), place.end)
-    raise Refused(f"there is no stack: rsp is {pointer:#x}, where nothing is mapped")
-
-
-def without_overlaps(places: list[Range]) -> list[Range]:
-    """The places by address, joined where they share an address. A table ends where its region
-    ends, so those that only touch stay apart."""
-    found: list[Range] = []
-    for place in sorted(places):
-        if found and place.start < found[-1].end:
-            found[-1] = Range(found[-1].start, max(found[-1].end, place.end))
-        else:
-            found.append(place)
-    return found
-
-
-def region_object(place: Range) -> dict[str, str]:
+def region_at(place: Range) -> Object:
     """A region of the snapshot."""
-    return {"address": f"{place.start:#x}", "bytes": bytes_at(place, "memory").hex()}
+    return region_object(Region(place.start, bytes_at(place, "memory")))
 
 
-def module_objects(module: Module) -> list[dict[str, str]]:
-    """The snapshot's modules of a file: one for each executable segment."""
-    if module.header:
-        table = {"eh_frame_hdr": f"{module.header.start:#x}"}
-    else:
-        table = {"eh_frame": f"{module.frame_table.start:#x}"}
-    return [{"kind": "elf", "start": f"{code.start:#x}", "end": f"{code.end:#x}"} | table for code in module.code]
+def regions_at(places: list[Range]) -> list[Object]:
+    """The regions of places that may share addresses."""
+    return [region_at(place) for place in without_overlaps(places)]
 
 
-def places_of(module: Module) -> list[Range]:
-    """The memory that a module's tables take."""
-    header = [module.header] if module.header else []
-    return [module.frame_table, *header, *module.language_tables, *module.personality_cells]
+def thread_object(thread: gdb.InferiorThread) -> Object:
+    """A thread's number in the system, and its name where it is known."""
+    name = {"name": thread.name} if thread.name else {}
+    return {"id": thread.ptid[1] or thread.num} | name
 
 
-def snapshot_object(options: argparse.Namespace) -> dict[str, Any]:
+def start_object(registers: dict[str, int]) -> Object:
+    """The registers of a snapshot."""
+    return {name: f"{value:#x}" for name, value in registers.items()}
+
+
+def snapshot_object(options: argparse.Namespace) -> Object:
     """The snapshot of the selected frame."""
     frame = selected_frame()
+    interrupted = is_interrupted(frame) if options.interrupted is None else options.interrupted
     registers = registers_of(frame)
-    files = loaded_files()
-    if files.program is None:
-        raise Refused("gdb knows no program file, and so no modules: name it before the core, or load it by `file`")
-    ranges = mappings(files)
-    stack = stack_range(files, ranges, registers["rsp"])
-    print(f"takes the stack {stack}")
-    modules = modules_of(files, ranges, options.module, options.header)
-    places = [stack] + [place for module in modules for place in places_of(module)]
-    tell_of_mark(frame, options.interrupted)
-    found: dict[str, Any] = {
-        "regions": [region_object(place) for place in without_overlaps(places)],
+    process = stopped_process()
+    modules = modules_of(process, options)
+    stacks = stacks_of(frame, process, options)
+    places = stacks + [place for module in modules for place in places_of(module)]
+    found: Object = {
+        "regions": regions_at(places),
         "modules": [entry for module in modules for entry in module_objects(module)],
-        "start": {name: f"{value:#x}" for name, value in registers.items()},
+        "start": start_object(registers),
         "limit": options.limit,
-        "interrupted": options.interrupted,
+        "interrupted": interrupted,
+        "thread": thread_object(gdb.selected_thread()),
     }
     for key in ("exception", "class"):
         if getattr(options, key) is not None:
@@ -449,39 +505,61 @@ def snapshot_object(options: argparse.Namespace) -> dict[str, Any]:
     return found
 
 
-def tell_of_mark(frame: gdb.Frame, interrupted: bool) -> None:
-    """Warns where the mark doesn't fit the frame."""
-    newer = frame.newer()
-    calls = newer is not None and newer.type() != gdb.SIGTRAMP_FRAME
-    if calls and interrupted:
-        print("note: the frame stands behind a call, and --interrupted says that it doesn't")
-    if not calls and not interrupted:
-        print("note: without --interrupted the frame is taken to stand behind a call")
+# ---- all threads
 
 
-def replace_file(file: str, text: str) -> None:
-    """Writes the text beside the file, and then renames it, so that no half file is ever there."""
-    part = tempfile.NamedTemporaryFile("w", dir=os.path.dirname(file), prefix=".snapshot-", delete=False)
+def thread_part(thread: gdb.InferiorThread, process: Process, options: argparse.Namespace) -> Object:
+    """The small file of a thread: its registers, stacks, name and number."""
+    thread.switch()
+    frame = gdb.newest_frame()
+    frame.select()
+    registers = registers_of(frame)
+    return {
+        "tables": TABLES,
+        "thread": thread_object(thread),
+        "regions": regions_at(stacks_of(frame, process, options)),
+        "start": start_object(registers),
+        "interrupted": True,
+    }
+
+
+def tables_object(modules: list[Module], options: argparse.Namespace) -> Object:
+    """The file that all threads refer to."""
+    return {
+        "regions": regions_at([place for module in modules for place in places_of(module)]),
+        "modules": [entry for module in modules for entry in module_objects(module)],
+        "limit": options.limit,
+    }
+
+
+def thread_parts(process: Process, options: argparse.Namespace) -> dict[str, Object]:
+    """The small files of all threads, by their names. The selected thread stays the selected one."""
+    selected, frame = gdb.selected_thread(), gdb.selected_frame()
+    found = {}
     try:
-        with part:
-            part.write(text)
-        os.replace(part.name, file)
-    except BaseException:
-        os.unlink(part.name)
-        raise
+        for thread in sorted(gdb.selected_inferior().threads(), key=lambda thread: thread.num):
+            number = thread.ptid[1] or thread.num
+            print(f"thread {number}:")
+            try:
+                found[f"thread-{number}.json"] = thread_part(thread, process, options)
+            except (Refused, gdb.error) as reason:
+                print(f"leaves out the thread {number}: {reason}")
+    finally:
+        selected.switch()
+        frame.select()
+    if not found:
+        raise Refused("there is no thread to take")
+    return found
 
 
-def write_whole(file: str, text: str) -> None:
-    """Writes an ordinary file, or leaves what was there."""
-    file = os.path.realpath(file)
-    if os.path.exists(file) and not os.path.isfile(file):
-        raise Refused(f"{file} can't be written: it is no ordinary file")
-    if len(text) > MOST_BYTES:
-        raise Refused(f"the snapshot would have {len(text)} bytes, and {MOST_BYTES} are taken; name fewer modules")
-    try:
-        replace_file(file, text)
-    except OSError as error:
-        raise Refused(f"{file} can't be written: {error.strerror}")
+def write_threads(options: argparse.Namespace) -> None:
+    """Writes the folder with all threads."""
+    selected_frame()
+    process = stopped_process()
+    modules = modules_of(process, options)
+    parts = {TABLES: tables_object(modules, options)} | thread_parts(process, options)
+    write_folder(options.file, {name: text_of(part) for name, part in parts.items()})
+    print(f"wrote {options.file}: {len(parts) - 1} threads")
 
 
 # ---- the command
@@ -510,12 +588,23 @@ def states(text: str) -> int:
     return int(text)
 
 
+def size(text: str) -> int:
+    """A number of bytes."""
+    if not text.isdecimal() or int(text) < 1:
+        raise argparse.ArgumentTypeError(f"{text} isn't a number of bytes")
+    return int(text)
+
+
 def arguments() -> Arguments:
     """The words of the command."""
     parser = Arguments(prog="snapshot", usage=USAGE, add_help=False, allow_abbrev=False)
     parser.add_argument("file", metavar="FILE")
-    parser.add_argument("--interrupted", action="store_true")
-    parser.add_argument("--limit", type=states, default=65_536, metavar="N")
+    marks = parser.add_mutually_exclusive_group()
+    marks.add_argument("--interrupted", action="store_const", const=True)
+    marks.add_argument("--called", dest="interrupted", action="store_const", const=False)
+    parser.add_argument("--threads", action="store_true")
+    parser.add_argument("--stack-bytes", type=size, metavar="N")
+    parser.add_argument("--limit", type=states, default=MOST_STATES, metavar="N")
     parser.add_argument("--module", action="append", default=[], metavar="NAME")
     parser.add_argument("--header", action="store_true")
     parser.add_argument("--exception", type=word, metavar="WORD")
@@ -524,24 +613,39 @@ def arguments() -> Arguments:
     return parser
 
 
+def check_threads(options: argparse.Namespace) -> None:
+    """Refuses what is said of one frame where all threads are asked for."""
+    for name in ("interrupted", "exception", "class"):
+        if getattr(options, name) is not None or options.resume:
+            raise Refused("--threads takes each thread where it was stopped, and no delivery")
+
+
 def write_snapshot(text: str) -> None:
     """Does what the command's words ask."""
     options = arguments().parse_args(gdb.string_to_argv(text))
-    found = snapshot_object(options)
-    write_whole(options.file, json.dumps(found, indent=1) + "\n")
-    print(f"wrote {options.file}")
+    if options.threads:
+        check_threads(options)
+        write_threads(options)
+    else:
+        write_whole(options.file, text_of(snapshot_object(options)))
+        print(f"wrote {options.file}")
 
 
 class SnapshotCommand(gdb.Command):
-    """Write a snapshot of the selected frame, for unwind_cli.
+    """Write a snapshot of the selected frame, or of all threads, for unwind_cli.
 
-snapshot FILE [--interrupted] [--limit N] [--module NAME]... [--header]
+snapshot FILE [--called | --interrupted] [--stack-bytes N] [--limit N] [--module NAME]... [--header]
               [--exception WORD] [--class WORD] [--resume PAD RETURN]...
+snapshot DIR --threads [--stack-bytes N] [--limit N] [--module NAME]... [--header]
 
---interrupted  the frame stands before its instruction, and not behind a call
---limit N      the most states of a walk (65536)
+--threads      write a folder: tables.json, and thread-ID.json for each thread (tools/join.py)
+--interrupted  the frame stands before its instruction; --called: it stands after a call. Without
+               either it is found: gdb's innermost frame and the one outside of a signal's handler
+               were interrupted
+--stack-bytes N  take so many bytes of the stack alone, from its pointer on
+--limit N      the most states of a walk (1048576)
 --module NAME  take this module, by its path or its file's name; without it all are taken
---header       let modules name .eh_frame_hdr in place of .eh_frame
+--header       let modules that have an .eh_frame_hdr name it in place of .eh_frame
 --exception, --class, --resume   what the snapshot says of a delivery"""
 
     def __init__(self) -> None:

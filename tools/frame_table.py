@@ -1,0 +1,163 @@
+"""Reads of a frame table (`.eh_frame`) what the tools need: which functions are the trampolines of
+signals, which cells hold personalities, and where a header says that the table is.
+
+LSB Core, "Exception Frames"; DWARF 5, section 6.4.1. Entries are hopped over by their lengths, and of
+a table only the CIEs are read.
+"""
+from __future__ import annotations
+
+import struct
+from dataclasses import dataclass
+from typing import Iterator
+
+from elf_image import WORD, Range, Refused
+
+# Parts of a pointer encoding (LSB, "DWARF Exception Header Encoding").
+INDIRECT = 0x80
+APPLICATION = 0x70
+ABSOLUTE, RELATIVE_TO_PLACE, RELATIVE_TO_DATA = 0x00, 0x10, 0x30
+OMITTED = 0xFF
+
+# The formats of numbers of a known size.
+FORMATS = {0x0: "<Q", 0x2: "<H", 0x3: "<I", 0x4: "<Q", 0xA: "<h", 0xB: "<i", 0xC: "<q"}
+
+
+@dataclass(frozen=True)
+class Table:
+    """A frame table's bytes, and the address of the first."""
+
+    address: int
+    content: bytes
+
+
+@dataclass(frozen=True)
+class Entry:
+    """Where an entry lies: its length, its identity and the byte after it. A CIE has the identity 0."""
+
+    offset: int
+    identity_offset: int
+    identity: int
+    end: int
+
+
+@dataclass(frozen=True)
+class CommonEntry:
+    """What is read of a CIE. `personality` is an encoding and the offset of the pointer."""
+
+    is_signal: bool
+    address_encoding: int
+    personality: tuple[int, int] | None
+
+
+def entries(table: Table) -> Iterator[Entry]:
+    """The entries up to the terminator, or up to one that doesn't fit."""
+    content, offset = table.content, 0
+    while offset + 4 <= len(content):
+        (length,) = struct.unpack_from("<I", content, offset)
+        start = offset + 4
+        if length == 0xFFFFFFFF and start + 8 <= len(content):
+            (length,) = struct.unpack_from("<Q", content, start)
+            start += 8
+        end = start + length
+        if length < 4 or end > len(content):
+            return
+        (identity,) = struct.unpack_from("<I", content, start)
+        yield Entry(offset, start, identity, end)
+        offset = end
+
+
+def uleb128(content: bytes, offset: int) -> tuple[int, int]:
+    """A number of variable length, and the offset after it."""
+    number, shift = 0, 0
+    while True:
+        byte = content[offset]
+        number |= (byte & 0x7F) << shift
+        offset, shift = offset + 1, shift + 7
+        if byte < 0x80:
+            return number, offset
+
+
+def encoded_size(encoding: int) -> int:
+    """The size of an encoded pointer."""
+    form = FORMATS.get(encoding & 0x0F)
+    if form is None:
+        raise Refused(f"the pointer encoding {encoding:#x} isn't known")
+    return struct.calcsize(form)
+
+
+def encoded_pointer(table: Table, offset: int, encoding: int, data_base: int = 0) -> int:
+    """The address that an encoded pointer says. Of an indirect one it is that of its cell."""
+    encoded_size(encoding)
+    (value,) = struct.unpack_from(FORMATS[encoding & 0x0F], table.content, offset)
+    bases = {ABSOLUTE: 0, RELATIVE_TO_PLACE: table.address + offset, RELATIVE_TO_DATA: data_base}
+    if encoding & APPLICATION not in bases:
+        raise Refused(f"the pointer encoding {encoding:#x} isn't known")
+    return (bases[encoding & APPLICATION] + value) % WORD
+
+
+def common_entry(table: Table, entry: Entry) -> CommonEntry:
+    """Reads a CIE up to its augmentation data (LSB, "The Common Information Entry Format")."""
+    content, offset = table.content, entry.identity_offset + 4
+    version = content[offset]
+    augmentation_end = content.index(0, offset + 1, entry.end)
+    letters = content[offset + 1 : augmentation_end].decode("latin-1")
+    offset = augmentation_end + (3 if version == 4 else 1)
+    _, offset = uleb128(content, offset)
+    _, offset = uleb128(content, offset)
+    offset = offset + 1 if version == 1 else uleb128(content, offset)[1]
+    address_encoding, personality = ABSOLUTE, None
+    if letters.startswith("z"):
+        _, offset = uleb128(content, offset)
+        for letter in letters[1:]:
+            if letter == "R":
+                address_encoding = content[offset]
+            elif letter == "P" and content[offset] != OMITTED:
+                personality = (content[offset], offset + 1)
+                offset += encoded_size(content[offset])
+            offset += letter in "LPR"
+    return CommonEntry("S" in letters, address_encoding, personality)
+
+
+def common_entries(table: Table) -> dict[int, CommonEntry]:
+    """The CIEs of a table that can be read, by their offsets."""
+    found = {}
+    for entry in entries(table):
+        if entry.identity == 0:
+            try:
+                found[entry.offset] = common_entry(table, entry)
+            except (IndexError, ValueError, Refused):
+                continue
+    return found
+
+
+def personality_cells(table: Table) -> list[Range]:
+    """The cells that the table's indirect personality pointers name."""
+    found = set()
+    for entry in common_entries(table).values():
+        if entry.personality is not None and entry.personality[0] & INDIRECT:
+            encoding, offset = entry.personality
+            cell = encoded_pointer(table, offset, encoding)
+            found.add(Range(cell, cell + 8))
+    return sorted(found)
+
+
+def signal_trampolines(table: Table) -> list[Range]:
+    """The functions that a signal's handler returns to: those of CIEs with the letter S."""
+    of_signals = {offset: entry for offset, entry in common_entries(table).items() if entry.is_signal}
+    found = []
+    for entry in entries(table) if of_signals else []:
+        common = of_signals.get(entry.identity_offset - entry.identity) if entry.identity else None
+        if common is None:
+            continue
+        offset, encoding = entry.identity_offset + 4, common.address_encoding
+        start = encoded_pointer(table, offset, encoding)
+        size = encoded_pointer(table, offset + encoded_size(encoding), encoding & 0x0F)
+        found.append(Range(start, start + size))
+    return found
+
+
+def frame_table_of_header(header: Table) -> int:
+    """The address of the frame table that an `.eh_frame_hdr` belongs to."""
+    if len(header.content) < 12 or header.content[0] != 1:
+        raise Refused("its .eh_frame_hdr isn't of version 1")
+    return encoded_pointer(header, 4, header.content[1], data_base=header.address)

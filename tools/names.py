@@ -1,0 +1,324 @@
+#!/usr/bin/env python3
+"""Prints the report of a walk as a backtrace with names.
+
+    names.py REPORT SNAPSHOT        REPORT may be -, for standard input
+
+SNAPSHOT is what was walked: a snapshot, or a thread's file of `snapshot DIR --threads`. Its modules
+tell the files, whose symbols and debug information give the names: by `llvm-symbolizer` or, where
+there is none, by `addr2line` (Debian: llvm, binutils), with debug information that lies apart in
+/usr/lib/debug. A file whose build id isn't that of the snapshot is not asked.
+
+    #0 0x401137 in inner at nested.c:12     a function with debug information
+    #1 caller at nested.c:20                one that the function above was inlined into
+    #2 0x7f5c01234567 in read from /lib/x86_64-linux-gnu/libc.so.6     a symbol of a library
+    #3 0x7f5c01234567 in libplain.so+0x1567    no symbol
+    #4 <signal handler called>
+"""
+from __future__ import annotations
+
+import bisect
+import os
+import re
+import shutil
+import subprocess
+import sys
+from dataclasses import dataclass, field
+
+from elf_image import WORD, ElfImage, Function, Refused
+from frame_table import Table, frame_table_of_header, signal_trampolines
+from snapshot_file import Object, Region, read_snapshot, regions_of
+
+DEBUG_FOLDER = "/usr/lib/debug/.build-id"
+FRAME_LINE = re.compile(r"^frame (\d+) ra=(0x[0-9a-f]+) ")
+
+
+@dataclass(frozen=True)
+class ReportedFrame:
+    """A frame of a report. `address` lies in the call where the frame stands after one."""
+
+    counter: int
+    address: int
+    is_signal: bool = False
+
+
+@dataclass(frozen=True)
+class Place:
+    """A function and, where debug information tells them, a file and its line."""
+
+    function: str
+    line: str | None = None
+
+
+@dataclass(frozen=True)
+class Module:
+    """A module of a snapshot."""
+
+    path: str
+    bias: int
+    start: int
+    end: int
+    build_id: str | None
+
+
+@dataclass
+class Symbols:
+    """What is known of a module's addresses: places of debug information, and functions by address."""
+
+    places: dict[int, list[Place]] = field(default_factory=dict)
+    functions: list[Function] = field(default_factory=list)
+
+
+# ---- report and snapshot
+
+
+def modules_of(found: Object) -> list[Module]:
+    """The modules of a snapshot that say which file they are of."""
+    return [
+        Module(
+            module["path"], int(module["bias"], 16), int(module["start"], 16), int(module["end"], 16),
+            module.get("build_id"),
+        )
+        for module in found["modules"]
+        if "path" in module and "bias" in module
+    ]
+
+
+def table_from(regions: list[Region], address: int) -> Table | None:
+    """The bytes from an address to the end of its region."""
+    for region in regions:
+        if region.start <= address < region.end:
+            return Table(address, region.content[address - region.start :])
+    return None
+
+
+def trampolines_of(found: Object) -> list[tuple[int, int]]:
+    """The functions that handlers of signals return to, by the snapshot's frame tables."""
+    regions, trampolines = regions_of(found), []
+    for module in found["modules"]:
+        try:
+            address = int(module["eh_frame"], 16) if "eh_frame" in module else None
+            header = None if address is not None else table_from(regions, int(module["eh_frame_hdr"], 16))
+            if header is not None:
+                address = frame_table_of_header(header)
+            table = None if address is None else table_from(regions, address)
+            trampolines += signal_trampolines(table) if table is not None else []
+        except (KeyError, Refused):
+            continue
+    return [(place.start, place.end) for place in trampolines]
+
+
+def reported_frames(report: str, interrupted: bool, trampolines: list[tuple[int, int]]) -> list[ReportedFrame]:
+    """The frames of a report. That after the outermost one, which has no address, is none.
+
+    A frame is interrupted where the snapshot says it of the first one, and outside of a trampoline.
+    """
+    found = []
+    for line in report.splitlines():
+        match = FRAME_LINE.match(line)
+        if match is None or int(match.group(2), 16) == 0:
+            continue
+        counter = int(match.group(2), 16)
+        address = counter if interrupted else counter - 1
+        is_signal = any(start <= address < end for start, end in trampolines)
+        found.append(ReportedFrame(counter, address, is_signal))
+        interrupted = is_signal
+    return found
+
+
+def last_line(report: str) -> str | None:
+    """How a report ends, where it says more than `end`."""
+    lines = report.splitlines()
+    return lines[-1] if lines and not FRAME_LINE.match(lines[-1]) and lines[-1] != "end" else None
+
+
+# ---- names
+
+
+def plain_name(name: str) -> str:
+    """A demangled name without its parameters, its result and Rust's hash, as gdb writes a function."""
+    name = re.sub(r"( const| volatile| &&?| \[clone [^]]*\]|::h[0-9a-f]{16})+$", "", name)
+    name = re.sub(r"\[[0-9a-f]{10,16}\]", "", name)
+    if name.endswith(")"):
+        start = matching_parenthesis(name)
+        if start > 0 and not name.endswith("(anonymous namespace)"):
+            name = name[:start]
+    return without_result(name)
+
+
+def matching_parenthesis(name: str) -> int:
+    """Where the parenthesis begins that the name ends with."""
+    depth = 0
+    for index in range(len(name) - 1, -1, -1):
+        depth += {")": 1, "(": -1}.get(name[index], 0)
+        if depth == 0:
+            return index
+    return 0
+
+
+def without_result(name: str) -> str:
+    """The name behind a template's result, which ends with a space outside of all brackets."""
+    if "operator" in name or " " not in name or name.startswith("<"):
+        return name
+    depth, start = 0, 0
+    for index, letter in enumerate(name):
+        if name[index - 1 : index + 1] != "->":
+            depth += {"<": 1, "(": 1, "{": 1, ">": -1, ")": -1, "}": -1}.get(letter, 0)
+        if letter == " " and depth == 0:
+            start = index + 1
+    return name[start:]
+
+
+def symbolizer(path: str) -> list[str]:
+    """The program that tells places, with its words. Both read addresses and print the same form."""
+    if shutil.which("llvm-symbolizer"):
+        return ["llvm-symbolizer", "--output-style=GNU", "--relativenames", "--no-demangle", "-a", "-f", "-i", "-e", path]
+    if shutil.which("addr2line"):
+        return ["addr2line", "-a", "-f", "-i", "-e", path]
+    raise Refused("wants llvm-symbolizer or addr2line (Debian: llvm, binutils)")
+
+
+def run_program(words: list[str], text: str) -> str:
+    """What a program prints of a text. One that fails prints nothing."""
+    done = subprocess.run(words, input=text, capture_output=True, text=True, errors="replace", check=False)
+    return done.stdout if done.returncode == 0 else ""
+
+
+def places_of(output: str) -> dict[int, list[Place]]:
+    """The places that a symbolizer tells of each address, the innermost function first.
+
+    An address's line is followed by two for each function: its name, and its file and line.
+    """
+    found: dict[int, list[Place]] = {}
+    here: list[Place] = []
+    function = None
+    for line in output.splitlines():
+        if function is None and re.fullmatch(r"0x[0-9a-f]+", line):
+            here = found.setdefault(int(line, 16), [])
+        elif function is None:
+            function = line
+        else:
+            here.append(Place(plain_name(function), known_line(line)))
+            function = None
+    return found
+
+
+def known_line(text: str) -> str | None:
+    """A file and its line, or nothing where one of them isn't known."""
+    text = re.sub(r" \(discriminator \d+\)$", "", text)
+    return text if re.fullmatch(r"(?!\?\?).+:[1-9]\d*", text) else None
+
+
+def demangled(text: str) -> str:
+    """A text with its symbols as their languages write them. (llvm-symbolizer 14 doesn't know Rust's.)"""
+    return run_program(["c++filt"], text) if shutil.which("c++filt") else text
+
+
+def functions_of(path: str) -> list[Function]:
+    """The functions that a file's symbols name."""
+    try:
+        with open(path, "rb") as stream:
+            return ElfImage(stream).functions()
+    except (OSError, Refused, IndexError):
+        return []
+
+
+def has_build_id(path: str, build_id: str | None) -> bool:
+    """Whether a file is there, and is the one that was loaded as far as it can be told."""
+    try:
+        with open(path, "rb") as stream:
+            return ElfImage(stream).build_id() == build_id
+    except (OSError, Refused, IndexError):
+        return False
+
+
+def symbols_of(path: str, build_id: str | None, addresses: list[int]) -> Symbols:
+    """What is known of a file's addresses."""
+    if not has_build_id(path, build_id):
+        return Symbols()
+    text = "".join(f"{address:#x}\n" for address in addresses)
+    found = Symbols(places_of(demangled(run_program(symbolizer(path), text))))
+    if not all(has_lines(found, address) for address in addresses):
+        apart = f"{DEBUG_FOLDER}/{build_id[:2]}/{build_id[2:]}.debug" if build_id else ""
+        found.functions = functions_of(apart) or functions_of(path)
+    return found
+
+
+def has_lines(symbols: Symbols, address: int) -> bool:
+    """Whether debug information tells where an address is."""
+    places = symbols.places.get(address, [])
+    return bool(places) and all(place.line is not None for place in places)
+
+
+def function_at(functions: list[Function], address: int) -> str | None:
+    """The name of the function that holds an address. One of unknown size holds those up to the next."""
+    index = bisect.bisect_right(functions, address, key=lambda function: function.start) - 1
+    for function in reversed(functions[max(index - 8, 0) : index + 1]):
+        if address < function.end or function.start == function.end == functions[index].start:
+            return function.name
+    return None
+
+
+# ---- the backtrace
+
+
+def module_at(modules: list[Module], address: int) -> Module | None:
+    """The module that holds an address."""
+    return next((module for module in modules if module.start <= address < module.end), None)
+
+
+def all_symbols(frames: list[ReportedFrame], modules: list[Module]) -> dict[str, Symbols]:
+    """What is known of all frames, by the paths of files. Each file is asked once."""
+    addresses: dict[Module, set[int]] = {}
+    for frame in frames:
+        module = module_at(modules, frame.address)
+        if module is not None:
+            addresses.setdefault(module, set()).add((frame.address - module.bias) % WORD)
+    return {
+        module.path: symbols_of(module.path, module.build_id, sorted(here)) for module, here in addresses.items()
+    }
+
+
+def texts_of(frame: ReportedFrame, modules: list[Module], symbols: dict[str, Symbols], program: str) -> list[str]:
+    """A frame's lines without their numbers: one for each function, those that were inlined first."""
+    if frame.is_signal:
+        return ["<signal handler called>"]
+    module = module_at(modules, frame.address)
+    if module is None:
+        return [f"{frame.counter:#x} in ??"]
+    known, address = symbols[module.path], (frame.address - module.bias) % WORD
+    if has_lines(known, address):
+        texts = [f"{place.function} at {place.line}" for place in known.places[address]]
+    else:
+        name = function_at(known.functions, address)
+        where = "" if module.path == program else f" from {module.path}"
+        offset = (frame.counter - module.bias) % WORD
+        texts = [f"{plain_name(demangled(name).strip())}{where}" if name else f"{os.path.basename(module.path)}+{offset:#x}"]
+    return [f"{frame.counter:#x} in {texts[0]}", *texts[1:]]
+
+
+def backtrace(report: str, found: Object) -> list[str]:
+    """The lines of the backtrace."""
+    modules = modules_of(found)
+    frames = reported_frames(report, found.get("interrupted", False), trampolines_of(found))
+    symbols = all_symbols(frames, modules)
+    program = modules[0].path if modules else ""
+    texts = [text for frame in frames for text in texts_of(frame, modules, symbols, program)]
+    last = last_line(report)
+    return [f"#{level} {text}" for level, text in enumerate(texts)] + ([last] if last else [])
+
+
+def main() -> None:
+    """Runs the program."""
+    if len(sys.argv) != 3:
+        sys.exit("usage: names.py REPORT SNAPSHOT")
+    try:
+        found = read_snapshot(sys.argv[2])
+        with sys.stdin if sys.argv[1] == "-" else open(sys.argv[1], encoding="ascii") as stream:
+            report = stream.read()
+        print("\n".join(backtrace(report, found)))
+    except (Refused, OSError) as error:
+        sys.exit(f"names.py: {error}")
+
+
+if __name__ == "__main__":
+    main()
