@@ -8,10 +8,7 @@ ghost use Rattle.encoded_pointers.specs.Readers.{GivesOr};
 ghost use Rattle.encoded_pointers.specs.View.{at};
 ghost use Rattle.frame_rows.specs.Decoded.{meaning, coding_by, plain_operation};
 
-<<<<<<< HEAD
-=======
-use crate::register::{Register, read_register};
->>>>>>> h/grammar
+use crate::register::read_register;
 use crate::rule::RegisterRule;
 use encoded_pointers::Cursor;
 use unwind_arch::Register;

@@ -24,11 +24,7 @@ mod rules;
 
 pub use instruction::AlignmentFactors;
 pub use program::row_at;
-<<<<<<< HEAD
-=======
-pub use register::{Register, read_register};
-pub use register_map::RegisterMap;
->>>>>>> h/grammar
+pub use register::read_register;
 pub use room::RowRoom;
 pub use row::{Registers, Row};
 pub use row_ref::RowRef;

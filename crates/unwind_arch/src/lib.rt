@@ -1,29 +1,20 @@
 //! The registers of the machines that are unwound, by the columns of call frame information.
 //!
 //! Each module is a machine: its `Context` holds the registers of a frame, and is a [`RegisterMap`];
-<<<<<<< HEAD
 //! `Arch` names the columns that unwinding needs, and is a [`Machine`] where the registers have 64
 //! bits.
-//!
-//! [`RegisterMap`]: eh_frame::RegisterMap
-=======
-//! `Arch` names the columns that unwinding needs.
->>>>>>> h/oneloop
 #![tactic(auto)]
 
 pub mod aarch64;
 pub mod loongarch64;
 mod machine;
-<<<<<<< HEAD
 mod pinned;
+mod register;
 mod register_files;
+mod register_map;
 pub mod riscv32;
 pub mod riscv64;
 pub mod x86;
-=======
-mod register;
-mod register_map;
->>>>>>> h/oneloop
 pub mod x86_64;
 
 pub use machine::Machine;

@@ -4,7 +4,8 @@
 ghost use Rattle.std.specs.Prelude.{◌≡◌, true, is_some};
 
 use crate::{Machine, aarch64, loongarch64, riscv32, riscv64, x86};
-use eh_frame::{Register, RegisterMap};
+use crate::register::Register;
+use crate::register_map::RegisterMap;
 use std::test::Fail;
 
 // A context of a machine with a value in each of the four columns that unwinding needs.

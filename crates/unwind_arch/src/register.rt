@@ -1,31 +1,7 @@
 //! The columns of a register rule table.
 
-ghost use Rattle.std.specs.Prelude.{◌≡◌};
-ghost use Rattle.unwind_definitions.specs.Instructions.{column};
-ghost use Rattle.encoded_pointers.specs.Readers.{GivesOr};
-ghost use Rattle.encoded_pointers.specs.View.{at};
-
-use encoded_pointers::Cursor;
-use unwind_definitions::Error;
-
 /// A register by the number that call frame bytes give it.
 ///
 /// Which register a number means is said by the machine's ABI: System V x86-64 psABI, figure 3.36.
 #[derive(Clone, Copy, Debug, Default, PartialEq, Eq)]
 pub struct Register(pub u16);
-
-/// Reads a register's number, an unsigned LEB128 number. After an error it isn't promised where the
-/// cursor stands.
-///
-/// # Errors
-///
-/// Those of [`Cursor::read_uleb128`], and `UnsupportedRegister` where the number is above 65535.
-pub fn read_register(input: &mut Cursor) -> Result<Register, Error>
-    ensures { GivesOr (λ r. r.0) result (column (at input.old)) (at input.new) }
-{
-    let number = input.read_uleb128()?;
-    if number > 0xffff {
-        return Err(Error::UnsupportedRegister);
-    }
-    Ok(Register(number as u16))
-}

@@ -5,7 +5,8 @@ ghost use Rattle.std.specs.Prelude.{◌≡◌, ◌≢◌, ◌<◌, ◌↔◌, �
 ghost use Rattle.unwind_arch.specs.Contexts.{written};
 ghost use Rattle.unwind_arch.specs.Files.{columns_of, with_column};
 
-use eh_frame::{Register, RegisterMap};
+use crate::register::Register;
+use crate::register_map::RegisterMap;
 
 /// The registers of a machine with 32 general and 32 floating-point registers at one instruction.
 ///

@@ -5,7 +5,7 @@ ghost use Rattle.std.specs.Prelude.{refl};
 
 use crate::machine::Machine;
 pub use crate::register_files::Context;
-use eh_frame::Register;
+use crate::register::Register;
 
 /// The most rules that a row of call frame information needs on this machine.
 pub const MAX_REG_RULES: usize = 65;

@@ -5,7 +5,8 @@ ghost use Rattle.std.specs.Prelude.{◌≡◌, ◌≢◌, ◌<◌, ◌⊎◌, �
 ghost use Rattle.unwind_arch.specs.Contexts.{written};
 ghost use Rattle.unwind_arch.specs.X86.{columns_of, with_column};
 
-use eh_frame::{Register, RegisterMap};
+use crate::register::Register;
+use crate::register_map::RegisterMap;
 
 /// The most rules that a row of call frame information needs on this machine.
 pub const MAX_REG_RULES: usize = 17;

@@ -108,32 +108,8 @@ impl<E: EhFrameFinder> FDEFinder for CustomFinder<E> {
     ghost contains = { λ finder image pc found ticks. named_contains E.names finder image pc found ticks };
 }
 
-<<<<<<< HEAD
 /// The description that a table of a module finds: a frame table by a scan, a header by its table.
-fn find_named<'a, L: Ledger>(
-=======
-/// The description that a scan of the named frame table finds. Header tables aren't read yet, and a
-/// scan takes no counted steps.
 pub fn find_named<'a, L: Ledger>(
-    image: &MemoryImage<'a>,
-    pc: u64,
-    info: FrameInfo,
-    steps: &mut Steps<L>,
-) -> Option<FDESearchResult<'a>>
-    ensures found { option_map answered result ≡ found_by info image.now pc }
-    ensures unticked { steps.new.number ≡ steps.old.number }
-{
-    let _ = steps;
-    match info.kind {
-        FrameInfoKind::EhFrame(table) => scan(image, pc, info.text_base, table),
-        FrameInfoKind::EhFrameHdr(_) => None,
-    }
-}
-
-/// The first description of the frame table at an address that contains `pc`. Nothing is found
-/// where an entry before it can't be read.
-fn scan<'a>(
->>>>>>> h/oneloop
     image: &MemoryImage<'a>,
     pc: u64,
     info: FrameInfo,
