@@ -16,6 +16,7 @@
 mod instruction;
 mod machine;
 mod program;
+mod register;
 mod room;
 mod row;
 mod row_ref;
