@@ -1,4 +1,5 @@
 // Frames of worked examples: how they are found, and what their callers are.
+use crate::asserting::expect_equal;
 use eh_frame::Bases;
 use memory_image::{MemoryImage, NoLedger, Steps};
 use stack_deliver::{Context, DeliverError, Error, FrameInfo, FrameInfoKind, Space, Stepped, step};
@@ -105,12 +106,13 @@ fn a_frame_pointer_is_undone(rt: HostRuntime) -> Result<(), Fail> {
     caller.registers[3] = 0x11;
     caller.registers[6] = 0xc;
     caller.registers[7] = 0x70d0;
-    assert_eq!(rt;
+    expect_equal(
+        &rt,
         answer,
         Ok(Some(Stepped {
             context: caller,
             signal: false,
-        }))
+        })),
     );
     Ok(())
 }
@@ -126,12 +128,13 @@ fn a_stored_register_is_read_back(rt: HostRuntime) -> Result<(), Fail> {
     let mut caller = context;
     caller.registers[7] = 0x7020;
     caller.registers[12] = 0xc12;
-    assert_eq!(rt;
+    expect_equal(
+        &rt,
         answer,
         Ok(Some(Stepped {
             context: caller,
             signal: false,
-        }))
+        })),
     );
     Ok(())
 }
@@ -144,11 +147,12 @@ fn faults_of_a_step_name_their_cause(rt: HostRuntime) -> Result<(), Fail> {
     let held = [1, 0xc12, 3];
     // The return address's slot, above two words that are there: the lowest column comes first.
     let unmapped = stepped(rt.alloc(), &[COMMON, STORE], 0x7000, &held, &context)?;
-    assert_eq!(rt; unmapped, Err(DeliverError::Unmapped(0x7018)));
+    expect_equal(&rt, unmapped, Err(DeliverError::Unmapped(0x7018)));
     let vector = stepped(rt.alloc(), &[COMMON, VECTOR], 0x6ff8, &[1, 2], &context)?;
-    assert_eq!(rt;
+    expect_equal(
+        &rt,
         vector,
-        Err(DeliverError::Table(Error::UnsupportedRegister))
+        Err(DeliverError::Table(Error::UnsupportedRegister)),
     );
     // A version that isn't known ends the stack, as where no entry contains the address.
     let unread = stepped(
@@ -158,7 +162,7 @@ fn faults_of_a_step_name_their_cause(rt: HostRuntime) -> Result<(), Fail> {
         &held,
         &context,
     )?;
-    assert_eq!(rt; unread, Ok(None));
+    expect_equal(&rt, unread, Ok(None));
     Ok(())
 }
 
@@ -166,35 +170,39 @@ fn faults_of_a_step_name_their_cause(rt: HostRuntime) -> Result<(), Fail> {
 fn a_finder_is_set_once(rt: HostRuntime) -> Result<(), Fail> {
     let frames = table(rt.alloc(), &[COMMON, STORE])?;
     let mut image = MemoryImage::new(rt.alloc());
-    assert_eq!(rt; image.add(0x50_0000, &frames), Ok(()));
+    expect_equal(&rt, image.add(0x50_0000, &frames), Ok(()));
     let mut steps = Steps::new(NoLedger);
     let mut finder = CustomFinder::new();
-    assert_eq!(rt;
+    expect_equal(
+        &rt,
         finder.find_fde(&image, 0x40_1000, &mut steps).is_none(),
-        true
+        true,
     );
     let header = FrameInfo {
         text_base: None,
         kind: FrameInfoKind::EhFrameHdr(0x50_0000),
     };
-    assert_eq!(rt;
+    expect_equal(
+        &rt,
         finder.set_custom_eh_frame_finder(Named(frame_table())),
-        Ok(())
+        Ok(()),
     );
-    assert_eq!(rt;
+    expect_equal(
+        &rt,
         finder.set_custom_eh_frame_finder(Named(header)),
-        Err(SetCustomEhFrameFinderError)
+        Err(SetCustomEhFrameFinderError),
     );
     let Some(found) = finder.find_fde(&image, 0x40_101f, &mut steps) else {
         assert!(rt; false);
         return Ok(());
     };
-    assert_eq!(rt; found.fde.initial_address(), 0x40_1000);
-    assert_eq!(rt; found.bases.frame, Some(0x50_0000));
-    assert_eq!(rt; found.fde.is_signal_trampoline(), false);
-    assert_eq!(rt;
+    expect_equal(&rt, found.fde.initial_address(), 0x40_1000);
+    expect_equal(&rt, found.bases.frame, Some(0x50_0000));
+    expect_equal(&rt, found.fde.is_signal_trampoline(), false);
+    expect_equal(
+        &rt,
         finder.find_fde(&image, 0x40_1020, &mut steps).is_none(),
-        true
+        true,
     );
     Ok(())
 }
@@ -203,11 +211,12 @@ fn a_finder_is_set_once(rt: HostRuntime) -> Result<(), Fail> {
 fn a_frame_tells_what_was_found(rt: HostRuntime) -> Result<(), Fail> {
     let frames = table(rt.alloc(), &[COMMON, STORE])?;
     let mut image = MemoryImage::new(rt.alloc());
-    assert_eq!(rt; image.add(0x50_0000, &frames), Ok(()));
+    expect_equal(&rt, image.add(0x50_0000, &frames), Ok(()));
     let mut finder = CustomFinder::new();
-    assert_eq!(rt;
+    expect_equal(
+        &rt,
         finder.set_custom_eh_frame_finder(Named(frame_table())),
-        Ok(())
+        Ok(()),
     );
     let mut steps = Steps::new(NoLedger);
     let mut context = Context::default();
@@ -219,9 +228,10 @@ fn a_frame_tells_what_was_found(rt: HostRuntime) -> Result<(), Fail> {
         assert!(rt; false);
         return Ok(());
     };
-    assert_eq!(rt; frame.initial_address(), 0x40_1000);
-    assert_eq!(rt; frame.is_signal_trampoline(), false);
-    assert_eq!(rt;
+    expect_equal(&rt, frame.initial_address(), 0x40_1000);
+    expect_equal(&rt, frame.is_signal_trampoline(), false);
+    expect_equal(
+        &rt,
         frame.bases(),
         Bases {
             text: None,
@@ -229,20 +239,21 @@ fn a_frame_tells_what_was_found(rt: HostRuntime) -> Result<(), Fail> {
             func: None,
             hdr: None,
             frame: Some(0x50_0000),
-        }
+        },
     );
-    assert_eq!(rt;
+    expect_equal(
+        &rt,
         frame.unwind(&image, &context),
-        Err(StepError::Unmapped(0x7008))
+        Err(StepError::Unmapped(0x7008)),
     );
     let mut adjusted = context;
     frame.adjust_stack_for_args(&mut adjusted);
-    assert_eq!(rt; adjusted, context);
+    expect_equal(&rt, adjusted, context);
     let at = Frame::<Arch>::from_context(&image, &finder, &context, true, &mut steps);
-    assert_eq!(rt; matches!(at, Ok(None)), true);
+    expect_equal(&rt, matches!(at, Ok(None)), true);
     context.ra = 0;
     let last = Frame::<Arch>::from_context(&image, &finder, &context, true, &mut steps);
-    assert_eq!(rt; matches!(last, Ok(None)), true);
+    expect_equal(&rt, matches!(last, Ok(None)), true);
     Ok(())
 }
 
@@ -250,11 +261,12 @@ fn a_frame_tells_what_was_found(rt: HostRuntime) -> Result<(), Fail> {
 fn frames_are_shown(rt: HostRuntime) -> Result<(), Fail> {
     let frames = table(rt.alloc(), &[COMMON, STORE])?;
     let mut image = MemoryImage::new(rt.alloc());
-    assert_eq!(rt; image.add(0x50_0000, &frames), Ok(()));
+    expect_equal(&rt, image.add(0x50_0000, &frames), Ok(()));
     let mut finder = CustomFinder::new();
-    assert_eq!(rt;
+    expect_equal(
+        &rt,
         finder.set_custom_eh_frame_finder(Named(frame_table())),
-        Ok(())
+        Ok(()),
     );
     let mut steps = Steps::new(NoLedger);
     let mut context = Context::default();
@@ -265,11 +277,12 @@ fn frames_are_shown(rt: HostRuntime) -> Result<(), Fail> {
         return Ok(());
     };
     let text = format!(in rt.alloc(); "{frame:?}")?;
-    assert_eq!(rt;
+    expect_equal(
+        &rt,
         text.as_str(),
-        "Frame { fde_result: FDESearchResult { start: 0x401000, len: 0x20, bases: Bases { text: None, data_base: None, func: None, hdr: None, frame: Some(5242880) } }, cfa: RegisterAndOffset { register: Register(7), offset: 32 } }"
+        "Frame { fde_result: FDESearchResult { start: 0x401000, len: 0x20, bases: Bases { text: None, data_base: None, func: None, hdr: None, frame: Some(5242880) } }, cfa: RegisterAndOffset { register: Register(7), offset: 32 } }",
     );
     let refused = format!(in rt.alloc(); "{:?}", SetCustomEhFrameFinderError)?;
-    assert_eq!(rt; refused.as_str(), "SetCustomEhFrameFinderError");
+    expect_equal(&rt, refused.as_str(), "SetCustomEhFrameFinderError");
     Ok(())
 }

@@ -1,4 +1,5 @@
 // Walks and deliveries into a room that is reserved once.
+use crate::asserting::expect_equal;
 use memory_image::{MemoryImage, NoLedger, Steps};
 use stack_deliver::{
     Context, DeliverError, FrameInfo, FrameInfoKind, Outcome, Resumes, Room, Space, deliver_into,
@@ -56,18 +57,19 @@ fn a_hundred_thousand_calls_are_walked(rt: HostRuntime) -> Result<(), Fail> {
     let space = space_of(alloc, &stack)?;
     let mut room = Room::new(alloc, calls + 1)?;
     let mut steps = Steps::new(NoLedger);
-    assert_eq!(rt;
+    expect_equal(
+        &rt,
         walk_into(&space, &start(), false, calls + 1, &mut room, &mut steps),
-        Ok(())
+        Ok(()),
     );
-    assert_eq!(rt; room.visited_len(), 100_001);
+    expect_equal(&rt, room.visited_len(), 100_001);
     for place in 0..room.visited_len() {
         let state = room.visited(place).unwrap_or(Context::default());
-        assert_eq!(rt; state.registers[7], STACK + 16 * place as u64);
-        assert_eq!(rt; state.registers[3], place as u64);
-        assert_eq!(rt; state.ra, if place == 100_000 { 0 } else { CODE });
+        expect_equal(&rt, state.registers[7], STACK + 16 * place as u64);
+        expect_equal(&rt, state.registers[3], place as u64);
+        expect_equal(&rt, state.ra, if place == 100_000 { 0 } else { CODE });
     }
-    assert_eq!(rt; room.visited(100_001), None);
+    expect_equal(&rt, room.visited(100_001), None);
     Ok(())
 }
 
@@ -79,34 +81,38 @@ fn a_room_is_used_again(rt: HostRuntime) -> Result<(), Fail> {
     let mut room = Room::new(alloc, 8)?;
     let mut steps = Steps::new(NoLedger);
     let resumes = Resumes::new(alloc);
-    assert_eq!(rt;
+    expect_equal(
+        &rt,
         walk_into(&space, &start(), false, 4, &mut room, &mut steps),
-        Ok(())
+        Ok(()),
     );
-    assert_eq!(rt;
+    expect_equal(
+        &rt,
         (room.visited_len(), room.trail_len(), room.limit()),
-        (4, 0, 8)
+        (4, 0, 8),
     );
     // A refusal leaves nothing in it, and its places stay.
     let refused = walk_into(&space, &start(), false, 3, &mut room, &mut steps);
-    assert_eq!(rt; refused, Err(DeliverError::FrameLimit));
-    assert_eq!(rt;
+    expect_equal(&rt, refused, Err(DeliverError::FrameLimit));
+    expect_equal(
+        &rt,
         (room.visited_len(), room.trail_len(), room.limit()),
-        (0, 0, 8)
+        (0, 0, 8),
     );
     let mut below = start();
     below.registers[7] = STACK - 8;
     let refused = walk_into(&space, &below, false, 8, &mut room, &mut steps);
-    assert_eq!(rt; refused, Err(DeliverError::Unmapped(STACK - 8)));
-    assert_eq!(rt; room.visited(0), None);
+    expect_equal(&rt, refused, Err(DeliverError::Unmapped(STACK - 8)));
+    expect_equal(&rt, room.visited(0), None);
     let ending = deliver_into(&space, &start(), 1, 2, &resumes, 8, &mut room, &mut steps)?;
-    assert_eq!(rt; ending.outcome, Outcome::EndOfStack);
-    assert_eq!(rt; ending.landing, None);
-    assert_eq!(rt;
+    expect_equal(&rt, ending.outcome, Outcome::EndOfStack);
+    expect_equal(&rt, ending.landing, None);
+    expect_equal(
+        &rt,
         (room.visited_len(), room.trail_len(), room.limit()),
-        (4, 0, 8)
+        (4, 0, 8),
     );
-    assert_eq!(rt; room.trail(0), None);
+    expect_equal(&rt, room.trail(0), None);
     Ok(())
 }
 
@@ -118,7 +124,7 @@ fn a_room_of_no_places_has_no_room(rt: HostRuntime) -> Result<(), Fail> {
     let mut room = Room::new(alloc, 0)?;
     let mut steps = Steps::new(NoLedger);
     let refused = walk_into(&space, &start(), false, 0, &mut room, &mut steps);
-    assert_eq!(rt; refused, Err(DeliverError::FrameLimit));
-    assert_eq!(rt; room.limit(), 0);
+    expect_equal(&rt, refused, Err(DeliverError::FrameLimit));
+    expect_equal(&rt, room.limit(), 0);
     Ok(())
 }

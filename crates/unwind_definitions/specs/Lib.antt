@@ -1,3 +1,20 @@
+-- The definitions, in an order to read them in.
+--
+-- A machine that calls: what a stopped function's registers are, what a prologue did, which calls lead to the state.
+pub mod State
+pub mod Prologue
+pub mod Entered
+pub mod Function
+pub mod Chain
+-- What tables have to say of it: rows, frame tables, language tables, modules.
+pub mod DescribedRows
+pub mod FrameTable
+pub mod LanguageTable
+pub mod Module
+-- What is delivered, and what the theorems ask of a start.
+pub mod Delivery
+pub mod Valid
+-- The bytes: numbers, pointers, entries, instructions, rows; `Forms` says which of them are read.
 pub mod Faults
 pub mod Input
 pub mod Forms
@@ -5,9 +22,13 @@ pub mod Pointers
 pub mod Instructions
 pub mod Entries
 pub mod Row
+-- Behind these the theorem on chains asks for nothing more. What is said of any bytes beside it: what a scan and a header
+-- answer, the caller by a row, what a language table asks, a state inside a prologue, and how numbers are spelled.
+pub mod Caller
 pub mod Scan
 pub mod Header
 pub mod HeaderSearch
+<<<<<<< HEAD
 pub mod HeaderSearchLaws
 pub mod Caller
 pub mod State
@@ -16,11 +37,8 @@ pub mod Entered
 pub mod Function
 pub mod DescribedRows
 pub mod LanguageTable
+=======
+>>>>>>> h/libraries
 pub mod LanguageSearch
-pub mod FrameTable
-pub mod Module
-pub mod Chain
-pub mod Delivery
-pub mod Valid
 pub mod Stopped
 pub mod Numbers

@@ -16,6 +16,7 @@ pub mod PushingValid
 pub mod ThreeRows
 pub mod ThreeValid
 pub mod ThreeReads
+pub mod EmittedRead
 pub mod ReturningValid
 pub mod StoringValid
 pub mod OneModule

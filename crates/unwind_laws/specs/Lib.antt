@@ -10,6 +10,7 @@ pub mod Storing
 pub mod Apart
 pub mod Running
 pub mod Spelled
+pub mod Emitted
 pub mod Windows
 pub mod ByHeader
 pub mod Searched

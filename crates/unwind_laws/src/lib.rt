@@ -16,7 +16,7 @@ pub use chains::{
     call_is_undone, chain_is_one, chain_is_walked, delivery_is_one, part_of_a_call_is_undone,
     slots_lie_in_the_frame, stack_pointers_rise, valid_chain_is_described,
 };
-pub use forms::emitted_forms_are_read;
+pub use forms::{emitted_entries_are_spelled, emitted_forms_are_read};
 pub use numbers::{
     relative_pointer_is_spelled, signed_number_is_spelled, unsigned_number_is_spelled,
 };
