@@ -91,7 +91,7 @@ pub(crate) fn mark<M: Machine>(context: &M::Context, signal: bool) -> u64
 }
 
 /// The context past the arguments that the frame's callee removes.
-fn past_arguments<M: Machine>(frame: &Frame<'_, M>, context: &M::Context) -> M::Context
+pub(crate) fn past_arguments<M: Machine>(frame: &Frame<'_, M>, context: &M::Context) -> M::Context
     ensures { M.Context.columns result ≡ past_in_column M.SP.0 frame.now.row.saved_args_size (M.Context.columns context.now) }
 {
     let mut past = *context;
