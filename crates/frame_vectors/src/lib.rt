@@ -10,3 +10,5 @@ mod languages;
 mod resumes;
 #[cfg(test)]
 mod rooms;
+#[cfg(test)]
+mod runs;

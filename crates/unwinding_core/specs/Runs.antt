@@ -1,5 +1,5 @@
 -- What the runs of an unwinding answer, in the words of the definitions.
-use Rattle.std.specs.Prelude.{ℕ, List, Option, Some, None}
+use Rattle.std.specs.Prelude.{ℕ, List}
 use Rattle.std.specs.Option.{option_map}
 use Rattle.unwind_definitions.specs.Caller.{Columns, StepFault, Table, Unmapped}
 use Rattle.unwinding_core.specs.declared.abi.exception.UnwindException.{UnwindException}

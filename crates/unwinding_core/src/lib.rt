@@ -13,12 +13,12 @@ mod language_table;
 mod personality;
 mod personality_dummy;
 
+pub use abi::backtrace::{_Unwind_Backtrace, Ended, Trace};
 pub use abi::context::{
     _Unwind_GetCFA, _Unwind_GetDataRelBase, _Unwind_GetGR, _Unwind_GetIP, _Unwind_GetIPInfo,
     _Unwind_GetLanguageSpecificData, _Unwind_GetRegionStart, _Unwind_GetTextRelBase, _Unwind_SetGR,
     _Unwind_SetIP, UnwindContext,
 };
-pub use abi::backtrace::{_Unwind_Backtrace, Ended, Trace};
 pub use abi::enclosing::_Unwind_FindEnclosingFunction;
 pub use abi::exception::{_Unwind_DeleteException, Kept, UnwindException};
 pub use abi::raise::{

@@ -26,7 +26,13 @@ impl<M: Machine> Personality<M> for DummyPersonality {
         exception: u64,
         unwind_ctx: &mut UnwindContext<'_, '_, M>,
     ) -> UnwindReasonCode {
-        let _ = (routine, actions, exception_class, exception, unwind_ctx.signal);
+        let _ = (
+            routine,
+            actions,
+            exception_class,
+            exception,
+            unwind_ctx.signal,
+        );
         if version == 1 {
             UnwindReasonCode::CONTINUE_UNWIND
         } else {

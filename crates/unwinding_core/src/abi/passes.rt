@@ -197,9 +197,20 @@ fn forced_answer<'a, M: Machine, P: Personality<M>, T: Stop<M>>(
     let stopped = stop_answer(image, Some(frame), stop, call, actions, context, signal);
     if stopped.code != UnwindReasonCode::NO_REASON {
         let code = UnwindReasonCode::FATAL_PHASE2_ERROR;
-        return Ok(Answer { code, left: stopped.left });
+        return Ok(Answer {
+            code,
+            left: stopped.left,
+        });
     }
-    personality_answer(image, frame, personality, call, actions, &stopped.left, signal)
+    personality_answer(
+        image,
+        frame,
+        personality,
+        call,
+        actions,
+        &stopped.left,
+        signal,
+    )
 }
 
 /// What is answered at a frame of a pass.
@@ -288,7 +299,16 @@ pub(crate) fn pass<M: Machine, F: FDEFinder, P: Personality<M>, T: Stop<M>, L: L
     let mut context = *start;
     let mut signal = false;
     for _ in 0..limit {
-        match meet(image, finder, personality, stop, call, &context, signal, steps) {
+        match meet(
+            image,
+            finder,
+            personality,
+            stop,
+            call,
+            &context,
+            signal,
+            steps,
+        ) {
             Err(fault) => return LineEnd::Failed(fault),
             Ok(Turn::End) => return LineEnd::RanOut(context, signal),
             Ok(Turn::Stop(code, left, past)) => {

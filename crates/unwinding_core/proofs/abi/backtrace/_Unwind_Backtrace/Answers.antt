@@ -1,4 +1,4 @@
-use Rattle.std.proofs.Common.{◌≡◌, ◌+◌, ◌-◌, ℕ, zero, suc, refl, sym, arith}
+use Rattle.std.proofs.Common.{◌≡◌, ◌+◌, ◌-◌, zero, suc, refl, sym, arith}
 use Rattle.unwinding_core.proofs.Lines.{reaches_start, crowded, ends, goes_on}
 use Rattle.unwinding_core.proofs.abi.backtrace._Unwind_Backtrace.Goals as goal
 

@@ -1,4 +1,4 @@
-use Rattle.std.proofs.Common.{◌≡◌, ◌+◌, ◌-◌, ℕ, zero, suc, sym, arith}
+use Rattle.std.proofs.Common.{◌≡◌, ◌+◌, ◌-◌, zero, suc, sym, arith}
 use Rattle.unwinding_core.proofs.Lines.{reaches_start, crowded, ends, goes_on}
 use Rattle.unwinding_core.proofs.abi.passes.pass.Goals as goal
 
