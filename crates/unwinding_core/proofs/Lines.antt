@@ -1,5 +1,5 @@
 -- A line that is gone along, context by context.
-use Rattle.std.proofs.Common.{◌≡◌, ℕ, zero, suc, List, [], ◌∷◌, Option, Result, refl, sym, subst}
+use Rattle.std.proofs.Common.{◌≡◌, ℕ, zero, suc, [], ◌∷◌, Option, Result, refl, sym, subst}
 use Rattle.unwinding_core.specs.Passes.{Marked, Stepping, Asks, LineEnd, Crowded, Turn, Ends, Goes, Line, IsAfter, IsLine, turn_seen}
 
 module _ {C F E S : Type 0} (step : Stepping C F E) (asks : Asks C F E S) (limit : ℕ) (s0 : S) (x0 : Marked C) where
@@ -31,6 +31,8 @@ module _ {C F E S : Type 0} (step : Stepping C F E) (asks : Asks C F E S) (limit
       let w = at.comes (record { contexts = x ∷ []; end = end; state = t }) (seen, sees, after_ends n s t x end (turn_seen step.undoing asks s x seen) is) in (w.0, w.1, sym w.2, sym w.3)
 
   pub goes_on : (room n : ℕ) (s t : S) (x y : Marked C) (seen : Result (Option F) E) → room ≡ suc n → Reaches room s x → step.Sees x seen → turn_seen step.undoing asks s x seen ≡ Goes t y → Reaches n t y
-  goes_on room n s t x y seen some here sees is = record { comes = λ rest line.
-      let at : Reaches (suc n) s x = subst (λ (k : ℕ). Reaches k s x) some here in
-      at.comes (record rest { contexts = x ∷ rest.contexts }) (seen, sees, after_goes n t x y (turn_seen step.undoing asks s x seen) rest is line) }
+  goes_on room n s t x y seen some here sees is = record {
+    comes = λ rest line.
+        let at : Reaches (suc n) s x = subst (λ (k : ℕ). Reaches k s x) some here in
+        at.comes (record rest { contexts = x ∷ rest.contexts }) (seen, sees, after_goes n t x y (turn_seen step.undoing asks s x seen) rest is line);
+  }

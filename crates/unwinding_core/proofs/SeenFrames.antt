@@ -1,6 +1,6 @@
 -- What is seen at a context is what a frame is made of there.
-use Rattle.std.proofs.Common.{inl, inr, ◌≡◌, ◌≢◌, ◌+◌, ℕ, Bool, true, false, Option, Some, None, Result, Ok, Err, List, refl, sym, ap, subst, arith}
-use Rattle.std.specs.Prelude.{IsSome, MatchBool}
+use Rattle.std.proofs.Common.{inl, inr, ◌≡◌, ◌≢◌, ℕ, Bool, Option, Some, None, Result, Ok, Err, List, refl, sym, ap, subst}
+use Rattle.std.specs.Prelude.{IsSome}
 use Rattle.std.proofs.lemmas.Bool.Decides.{eqb_tells}
 use Rattle.memory_image.specs.Image.{Span}
 use Rattle.unwind_definitions.specs.Caller.{Columns, StepFault}

@@ -26,3 +26,4 @@ pub mod Seen
 pub mod Stopping
 pub mod Turns
 pub mod Runs
+pub mod Dummy

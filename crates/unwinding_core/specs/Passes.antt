@@ -144,7 +144,6 @@ IsSearched step p limit start line = IsLine step (by_personality p (λ x. action
 
 -- ---- a cleanup pass
 
-
 -- the frame with the kept mark is asked for its handler, all others for their cleanups
 abbrev pub cleanup_actions : {C : Type 0} → (C → ℕ) → ℕ → Marked C → UnwindAction
 cleanup_actions stack_pointer kept x = if mark_of stack_pointer x == kept then both actions.CLEANUP_PHASE actions.HANDLER_FRAME else actions.CLEANUP_PHASE

@@ -1,6 +1,6 @@
 -- The step of a frame to its caller, over what a finder may answer, and what the frames of a stack are asked.
 use Rattle.std.specs.Prelude.{◌≡◌, ℕ, ◌+◌, ◌%◌, ◌^◌, ◌==◌, pos, Bool, List, Option, Some, None, Result, Ok, Err, MatchBool}
-use Rattle.std.specs.Option.{unwrap_or, option_map}
+use Rattle.std.specs.Option.{unwrap_or}
 use Rattle.memory_image.specs.Image.{Span}
 use Rattle.unwind_definitions.specs.declared.error.Error.{Error as Fault}
 use Rattle.unwind_definitions.specs.Forms.{emitted}
@@ -8,8 +8,6 @@ use Rattle.unwind_definitions.specs.Row.{Run, row_at, argument_size}
 use Rattle.unwind_definitions.specs.Caller.{Columns, Machine, StepFault, Table, caller_of}
 use Rattle.unwind_definitions.specs.LanguageSearch.{personality_address}
 use Rattle.frame_rows.specs.Rows.{IsRowOf}
-use Rattle.unwinding_core.specs.declared.abi.UnwindReasonCode.{UnwindReasonCode}
-use Rattle.unwinding_core.specs.declared.abi.UnwindAction.{UnwindAction}
 use Rattle.unwinding_core.specs.Calling.{no_expressions}
 use Rattle.unwinding_core.specs.Columns.{with_value}
 use Rattle.unwinding_core.specs.Finding.{FoundFde}

@@ -7,7 +7,7 @@ use Rattle.unwinding_core.specs.declared.abi.UnwindReasonCode.{UnwindReasonCode}
 use Rattle.unwinding_core.specs.declared.abi.UnwindAction.{UnwindAction}
 use Rattle.unwinding_core.specs.declared.abi.TheConstants.UnwindReasonCode.{NO_REASON}
 use Rattle.unwinding_core.specs.FrameValue.{FrameValue}
-use Rattle.unwinding_core.specs.Passes.{Stops}
+use Rattle.unwinding_core.specs.Passes.{Stops, Traces}
 use Rattle.unwinding_core.specs.Seen.{FrameSeen, Thrown}
 
 -- what a stop is called with
@@ -26,3 +26,15 @@ never_stopped words asked image frame columns signal = (NO_REASON, columns, word
 -- A stop that answers by a function, for an exception and by version 1 of the interface.
 abbrev pub stopping : (List ℕ → StopAsked → List Span → Option FrameValue → Columns → Bool → StopAnswer) → List Span → Thrown → Stops Columns FrameSeen
 stopping stops image thrown = λ words actions f x. stops words (record { version = pos 1; actions = actions; class = thrown.class }) image (option_map (λ (s : FrameSeen). s.value) f) x.context x.signal
+
+-- an answer, and the words that are held then
+abbrev pub TraceAnswer : Type 0
+TraceAnswer = UnwindReasonCode × List ℕ
+
+-- A trace that answers by a function.
+abbrev pub tracing : (List ℕ → List Span → Option FrameValue → Columns → Bool → TraceAnswer) → List Span → Traces Columns FrameSeen
+tracing traces image = λ words f x. traces words image (option_map (λ (s : FrameSeen). s.value) f) x.context x.signal
+
+-- where the function of a frame starts
+abbrev pub start_of : FrameSeen → ℕ
+start_of f = f.value.found.fde.start

@@ -1,6 +1,5 @@
 -- What the code of a pass answers, in the words of the definitions.
-use Rattle.std.specs.Prelude.{◌≡◌, ◌==◌, if◌then◌else◌, ℕ, Bool, List, Option, Some, None, Result, Ok, Err}
-use Rattle.memory_image.specs.Image.{Span}
+use Rattle.std.specs.Prelude.{◌≡◌, ◌==◌, if◌then◌else◌, ℕ, List, Option, Some, None, Result, Ok, Err}
 use Rattle.unwind_definitions.specs.Row.{Run}
 use Rattle.unwind_definitions.specs.Caller.{Columns, StepFault}
 use Rattle.frame_rows.specs.Rows.{IsRowOf}
@@ -19,7 +18,6 @@ use Rattle.unwinding_core.specs.declared.abi.TheConstants.UnwindAction as action
 use Rattle.unwinding_core.specs.Calling.{fault_of}
 use Rattle.unwinding_core.specs.FrameValue.{FrameValue}
 use Rattle.unwinding_core.specs.Passes.{Marked, Answering, Stops, Asks, Turn, Ends, Goes, LineEnd, RanOut, Decides, Fails, Crowded, by_personality, by_force, cleanup_actions, forced_actions, both}
-use Rattle.unwinding_core.specs.Passes.{asked}
 use Rattle.unwinding_core.specs.Seen.{FrameSeen, Thrown}
 
 -- a frame, or the stack's end, as it is seen

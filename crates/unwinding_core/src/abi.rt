@@ -4,10 +4,12 @@
 ghost use Rattle.std.specs.Prelude.{◌≡◌, ◌↔◌, pos, IsTrue};
 ghost use Rattle.unwinding_core.specs.Actions.{ShareBit, shares};
 
+pub mod backtrace;
 pub mod context;
+pub mod enclosing;
 pub mod exception;
 mod passes;
-mod raise;
+pub mod raise;
 pub mod stop;
 pub mod unwound;
 

@@ -11,7 +11,9 @@ mod find_fde;
 mod frame;
 mod language_table;
 mod personality;
+mod personality_dummy;
 
+<<<<<<< HEAD
 /// Finders by the frame tables that another value names.
 pub mod custom_eh_frame_finder {
     pub use crate::find_fde::custom::{
@@ -20,10 +22,25 @@ pub mod custom_eh_frame_finder {
 }
 
 pub use abi::{
+=======
+pub use abi::backtrace::{_Unwind_Backtrace, Ended, Trace};
+pub use abi::context::{
+>>>>>>> h/machines
     _Unwind_GetCFA, _Unwind_GetDataRelBase, _Unwind_GetGR, _Unwind_GetIP, _Unwind_GetIPInfo,
     _Unwind_GetLanguageSpecificData, _Unwind_GetRegionStart, _Unwind_GetTextRelBase, _Unwind_SetGR,
     _Unwind_SetIP, UnwindAction, UnwindContext, UnwindReasonCode,
 };
+<<<<<<< HEAD
+=======
+pub use abi::enclosing::_Unwind_FindEnclosingFunction;
+pub use abi::exception::{_Unwind_DeleteException, Kept, UnwindException};
+pub use abi::raise::{
+    _Unwind_ForcedUnwind, _Unwind_RaiseException, _Unwind_Resume, _Unwind_Resume_or_Rethrow,
+};
+pub use abi::stop::Stop;
+pub use abi::unwound::{Cause, Unwound};
+pub use abi::{UnwindAction, UnwindReasonCode};
+>>>>>>> h/machines
 pub use find_fde::custom::{
     CustomFinder, EhFrameFinder, FrameInfo, FrameInfoKind, SetCustomEhFrameFinderError, find_named,
 };
@@ -36,3 +53,4 @@ pub use find_fde::{FDEFinder, FDESearchResult};
 pub use frame::{Frame, StepError, address_asked, step_by_row};
 pub use language_table::{EhAction, find_eh_action};
 pub use personality::{Personality, RustPersonality};
+pub use personality_dummy::DummyPersonality;

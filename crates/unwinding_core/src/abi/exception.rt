@@ -1,7 +1,7 @@
 //! Exceptions as the unwinder sees them. Itanium C++ ABI, exception handling, section 1.2.2.
 
-ghost use Rattle.std.specs.Prelude.{◌≡◌, tt, ForSome, IfSome};
-ghost use Rattle.std.specs.Fn.{FnOnceReturnsAt};
+ghost use Rattle.std.specs.Prelude.{◌≡◌, IfSome};
+ghost use Rattle.std.specs.Option.{ForSome};
 
 use crate::abi::UnwindReasonCode;
 
@@ -36,5 +36,21 @@ impl UnwindException {
             word,
             kept: Kept::Handler(0),
         }
+    }
+}
+
+/// Lets an exception go that another language caught: `cleanup`, where there is one, is called once,
+/// with `FOREIGN_EXCEPTION_CAUGHT`.
+///
+/// Source: Itanium C++ ABI, exception handling, section 1.2.2, `_Unwind_DeleteException`.
+pub fn _Unwind_DeleteException<C: FnOnce(UnwindReasonCode, &UnwindException)>(
+    exception: &UnwindException,
+    cleanup: Option<C>,
+)
+    requires { ForSome cleanup (λ c. C.pre c UnwindReasonCode.FOREIGN_EXCEPTION_CAUGHT exception) }
+    ensures { IfSome cleanup (λ c. C.post c UnwindReasonCode.FOREIGN_EXCEPTION_CAUGHT exception.entry tt) }
+{
+    if let Some(cleanup) = cleanup {
+        cleanup(UnwindReasonCode::FOREIGN_EXCEPTION_CAUGHT, exception);
     }
 }

@@ -91,7 +91,7 @@ pub(crate) fn mark<M: Machine>(context: &M::Context, signal: bool) -> u64
 }
 
 /// The context past the arguments that the frame's callee removes.
-fn past_arguments<M: Machine>(frame: &Frame<'_, M>, context: &M::Context) -> M::Context
+pub(crate) fn past_arguments<M: Machine>(frame: &Frame<'_, M>, context: &M::Context) -> M::Context
     ensures { M.Context.columns result ≡ past_in_column M.SP.0 frame.now.row.saved_args_size (M.Context.columns context.now) }
 {
     let mut past = *context;
@@ -197,9 +197,20 @@ fn forced_answer<'a, M: Machine, P: Personality<M>, T: Stop<M>>(
     let stopped = stop_answer(image, Some(frame), stop, call, actions, context, signal);
     if stopped.code != UnwindReasonCode::NO_REASON {
         let code = UnwindReasonCode::FATAL_PHASE2_ERROR;
-        return Ok(Answer { code, left: stopped.left });
+        return Ok(Answer {
+            code,
+            left: stopped.left,
+        });
     }
-    personality_answer(image, frame, personality, call, actions, &stopped.left, signal)
+    personality_answer(
+        image,
+        frame,
+        personality,
+        call,
+        actions,
+        &stopped.left,
+        signal,
+    )
 }
 
 /// What is answered at a frame of a pass.
@@ -288,7 +299,16 @@ pub(crate) fn pass<M: Machine, F: FDEFinder, P: Personality<M>, T: Stop<M>, L: L
     let mut context = *start;
     let mut signal = false;
     for _ in 0..limit {
-        match meet(image, finder, personality, stop, call, &context, signal, steps) {
+        match meet(
+            image,
+            finder,
+            personality,
+            stop,
+            call,
+            &context,
+            signal,
+            steps,
+        ) {
             Err(fault) => return LineEnd::Failed(fault),
             Ok(Turn::End) => return LineEnd::RanOut(context, signal),
             Ok(Turn::Stop(code, left, past)) => {

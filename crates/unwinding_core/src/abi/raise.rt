@@ -53,8 +53,7 @@ fn cleaned<M: Machine>(end: LineEnd<M::Context>, kept: u64) -> Unwound<M>
 {
     match end {
         LineEnd::Decided(context, signal, answer, _, past)
-            if answer == UnwindReasonCode::INSTALL_CONTEXT =>
-        {
+            if answer == UnwindReasonCode::INSTALL_CONTEXT => {
             Unwound::Install {
                 context: past,
                 handler: mark::<M>(&context, signal) == kept,
@@ -81,7 +80,16 @@ fn search<M: Machine, F: FDEFinder, P: Personality<M>, L: Ledger>(
         (end_shown M.Context.columns result ≡ line.end) }
 {
     let call = call(exception, Phase::Search);
-    pass(image, finder, personality, &mut NoStop, call, start, limit, steps)
+    pass(
+        image,
+        finder,
+        personality,
+        &mut NoStop,
+        call,
+        start,
+        limit,
+        steps,
+    )
 }
 
 /// The cleanup pass from a context toward the frame with a mark.
@@ -98,7 +106,16 @@ fn cleanup<M: Machine, F: FDEFinder, P: Personality<M>, L: Ledger>(
     ensures { IsCleanup (stepping (machine_of M.SP.0 M.RA.0) (F.finds finder.now) image.now) (answering (P.answers personality.now) image.now (thrown_by exception.now)) kept limit (M.Context.columns start.now) (unwound_shown M.Context.columns result) }
 {
     let call = call(exception, Phase::Cleanup(kept));
-    let end = pass(image, finder, personality, &mut NoStop, call, start, limit, steps);
+    let end = pass(
+        image,
+        finder,
+        personality,
+        &mut NoStop,
+        call,
+        start,
+        limit,
+        steps,
+    );
     cleaned(end, kept)
 }
 
@@ -127,13 +144,21 @@ pub fn _Unwind_RaiseException<M: Machine, F: FDEFinder, P: Personality<M>, L: Le
 {
     match search::<M, F, P, L>(image, finder, context, exception, personality, limit, steps) {
         LineEnd::RanOut(..) => code(UnwindReasonCode::END_OF_STACK),
-        LineEnd::Decided(_, signal, answer, left, _)
-            if answer == UnwindReasonCode::HANDLER_FOUND =>
-        {
-            let kept = mark::<M>(&left, signal);
-            exception.kept = Kept::Handler(kept);
-            cleanup(image, finder, context, exception, kept, personality, limit, steps)
-        }
+        LineEnd::Decided(_, signal, answer, left, _) if answer == UnwindReasonCode::HANDLER_FOUND =>
+            {
+                let kept = mark::<M>(&left, signal);
+                exception.kept = Kept::Handler(kept);
+                cleanup(
+                    image,
+                    finder,
+                    context,
+                    exception,
+                    kept,
+                    personality,
+                    limit,
+                    steps,
+                )
+            }
         LineEnd::Decided(..) => code(UnwindReasonCode::FATAL_PHASE1_ERROR),
         LineEnd::Failed(fault) => caused(UnwindReasonCode::FATAL_PHASE1_ERROR, Cause::from(fault)),
         LineEnd::Crowded => caused(UnwindReasonCode::FATAL_PHASE1_ERROR, Cause::FrameLimit),
@@ -180,8 +205,9 @@ fn last_stop<M: Machine, T: Stop<M>>(
     ensures { (unwound_shown M.Context.columns result, T.words stop.new) ≡
         forced_end (stopping T.stops image.now (thrown call)) (T.words stop.old) (RanOut (record { context = M.Context.columns context.now; signal = signal })) }
 {
-    let actions =
-        UnwindAction::FORCE_UNWIND | UnwindAction::CLEANUP_PHASE | UnwindAction::END_OF_STACK;
+    let actions = UnwindAction::FORCE_UNWIND
+        | UnwindAction::CLEANUP_PHASE
+        | UnwindAction::END_OF_STACK;
     let answer = stop_answer(image, None, stop, call, actions, context, signal);
     if answer.code == UnwindReasonCode::NO_REASON {
         code(UnwindReasonCode::END_OF_STACK)
@@ -216,7 +242,16 @@ pub fn _Unwind_ForcedUnwind<M: Machine, F: FDEFinder, P: Personality<M>, T: Stop
     ensures exception { exception.new ≡ record exception.old { kept = Kept.Stop } }
 {
     exception.kept = Kept::Stop;
-    forced(image, finder, context, exception, personality, stop, limit, steps)
+    forced(
+        image,
+        finder,
+        context,
+        exception,
+        personality,
+        stop,
+        limit,
+        steps,
+    )
 }
 
 /// Goes on with an unwinding behind a cleanup, from the registers that the cleanup leaves: toward

@@ -1,4 +1,3 @@
-use Rattle.std.proofs.Common.{sym}
 use Rattle.unwinding_core.proofs.SeenFrames.{frame_seen}
 use Rattle.unwinding_core.proofs.abi.passes.frame_at.Goals as goal
 

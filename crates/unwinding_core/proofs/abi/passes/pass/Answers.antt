@@ -1,5 +1,5 @@
-use Rattle.std.proofs.Common.{◌≡◌, ◌+◌, ◌-◌, ℕ, zero, suc, subst, sym, arith}
-use Rattle.unwinding_core.proofs.Lines.{Reaches, reaches_start, crowded, ends, goes_on}
+use Rattle.std.proofs.Common.{◌≡◌, ◌+◌, ◌-◌, zero, suc, sym, arith}
+use Rattle.unwinding_core.proofs.Lines.{reaches_start, crowded, ends, goes_on}
 use Rattle.unwinding_core.proofs.abi.passes.pass.Goals as goal
 
 pub loop-init : goal.loop-init

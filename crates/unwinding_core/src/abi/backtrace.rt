@@ -1,0 +1,204 @@
+//! To visit the frames of a stack. Itanium C++ ABI, exception handling, `_Unwind_Backtrace` of the
+//! GNU unwinder.
+
+ghost use Rattle.std.specs.Prelude.{◌≡◌, ℕ, Bool, List, Option, Some, None, Ok, Result};
+ghost use Rattle.std.specs.Option.{option_map};
+ghost use Rattle.memory_image.specs.Image.{Span};
+ghost use Rattle.unwind_definitions.specs.Row.{Run};
+ghost use Rattle.unwind_definitions.specs.Caller.{Columns, StepFault};
+ghost use Rattle.frame_rows.specs.Rows.{IsRowOf};
+ghost use Rattle.unwinding_core.specs.FrameValue.{FrameValue};
+ghost use Rattle.unwinding_core.specs.Calling.{machine_of};
+ghost use Rattle.unwinding_core.specs.Passes.{by_trace, run_out, turn_asked, turn_seen, IsTraced};
+ghost use Rattle.unwinding_core.specs.Seen.{FrameSeen, SeesFrame, in_column, undoing, stepping};
+ghost use Rattle.unwinding_core.specs.Stopping.{TraceAnswer, tracing, start_of};
+ghost use Rattle.unwinding_core.specs.Turns.{turn_shown};
+ghost use Rattle.unwinding_core.specs.Runs.{ended_shown};
+
+use crate::abi::UnwindReasonCode;
+use crate::abi::context::UnwindContext;
+use crate::abi::passes::{Turn, frame_at, past_arguments};
+use crate::abi::unwound::Cause;
+use crate::find_fde::FDEFinder;
+use crate::frame::{Frame, StepError};
+use memory_image::{Ledger, MemoryImage, Steps};
+use unwind_arch::Machine;
+
+/// What visits the frames of a stack.
+///
+/// Contracts see words that the value holds. They, the memory, the frame, its registers and whether
+/// it stands behind a signal's decide the answer and the words afterwards.
+pub trait Trace<M: Machine> {
+    /// The words that the value holds.
+    ghost words: { Self → List ℕ };
+
+    /// The answer, and the words afterwards.
+    ghost traces: { List ℕ → List Span → Option FrameValue → Columns → Bool → TraceAnswer };
+
+    /// Visits a frame, or the end of the stack where there is none. `NO_REASON` lets the backtrace go
+    /// on.
+    fn trace(&mut self, unwind_ctx: &UnwindContext<'_, '_, M>) -> UnwindReasonCode
+        ensures { (result, words self.new) ≡
+            traces (words self.old) unwind_ctx.now.image.now (option_map (λ f. f.now) unwind_ctx.now.frame) (M.Context.columns unwind_ctx.now.ctx.now) unwind_ctx.now.signal };
+}
+
+/// How a backtrace ends.
+#[derive(Clone, Copy, PartialEq, Eq)]
+pub struct Ended {
+    /// `END_OF_STACK` where all frames were visited, else `FATAL_PHASE1_ERROR`.
+    pub code: UnwindReasonCode,
+    /// Why, where it is a fault or the limit, and no answer.
+    pub cause: Option<Cause>,
+}
+
+/// What a trace answers at a frame, or at the end of the stack where there is none.
+fn visited<'a, M: Machine, T: Trace<M>>(
+    image: &MemoryImage<'a>,
+    frame: Option<&Frame<'a, M>>,
+    trace: &mut T,
+    context: &M::Context,
+    signal: bool,
+) -> UnwindReasonCode
+    ensures { (result, T.words trace.new) ≡ T.traces (T.words trace.old) image.now (option_map (λ f. f.now) frame.entry) (M.Context.columns context.now) signal }
+{
+    let mut registers = *context;
+    let unwind_ctx = UnwindContext::new(image, frame, &mut registers, signal);
+    trace.trace(&unwind_ctx)
+}
+
+/// Whether a backtrace goes on behind a frame. `hidden` is the start of the frame up to which `trace`
+/// isn't asked, `None` behind it.
+fn goes_on<'a, M: Machine, T: Trace<M>>(
+    image: &MemoryImage<'a>,
+    frame: &Frame<'a, M>,
+    trace: &mut T,
+    hidden: &mut Option<u64>,
+    context: &M::Context,
+    signal: bool,
+) -> UnwindReasonCode
+    ensures { (run : Run) → (record { words = T.words trace.new; hidden = hidden.new }, Ok (result, M.Context.columns context.now)) ≡
+        by_trace {E = StepFault} start_of (tracing T.traces image.now) (record { words = T.words trace.old; hidden = hidden.old }) (record { value = frame.now; run = run }) (record { context = M.Context.columns context.now; signal = signal }) }
+{
+    if let Some(start) = *hidden {
+        if frame.initial_address() == start {
+            *hidden = None;
+        }
+        return UnwindReasonCode::CONTINUE_UNWIND;
+    }
+    let code = visited(image, Some(frame), trace, context, signal);
+    if code == UnwindReasonCode::NO_REASON {
+        UnwindReasonCode::CONTINUE_UNWIND
+    } else {
+        UnwindReasonCode::FATAL_PHASE1_ERROR
+    }
+}
+
+/// What a backtrace meets at a frame.
+fn meet_frame<'a, M: Machine, T: Trace<M>>(
+    image: &MemoryImage<'a>,
+    frame: &Frame<'a, M>,
+    trace: &mut T,
+    hidden: &mut Option<u64>,
+    context: &M::Context,
+    signal: bool,
+) -> Result<Turn<M::Context>, StepError>
+    ensures { (run : Run) → IsRowOf frame.now.row run → turn_shown M.Context.columns (record { context = M.Context.columns context.now; signal = signal }) (record { words = T.words trace.new; hidden = hidden.new }) result ≡
+        turn_asked (undoing (machine_of M.SP.0 M.RA.0) image.now) (record { value = frame.now; run = run }) (record { context = M.Context.columns context.now; signal = signal })
+        (by_trace start_of (tracing T.traces image.now) (record { words = T.words trace.old; hidden = hidden.old }) (record { value = frame.now; run = run }) (record { context = M.Context.columns context.now; signal = signal })) }
+{
+    let code = goes_on(image, frame, trace, hidden, context, signal);
+    if code != UnwindReasonCode::CONTINUE_UNWIND {
+        return Ok(Turn::Stop(code, *context, past_arguments(frame, context)));
+    }
+    let caller = frame.unwind(image, context)?;
+    Ok(Turn::Caller(caller, frame.is_signal_trampoline()))
+}
+
+/// What a backtrace meets at a context: the row is read first, then the trace is asked, and the
+/// caller is made last.
+fn meet<M: Machine, F: FDEFinder, T: Trace<M>, L: Ledger>(
+    image: &MemoryImage<'_>,
+    finder: &F,
+    trace: &mut T,
+    hidden: &mut Option<u64>,
+    context: &M::Context,
+    signal: bool,
+    steps: &mut Steps<L>,
+) -> Result<Turn<M::Context>, StepError>
+    ensures { (seen : Result (Option FrameSeen) StepFault) × SeesFrame (F.finds finder.now) image.now (in_column M.RA.0 (M.Context.columns context.now)) signal seen ×
+        (turn_shown M.Context.columns (record { context = M.Context.columns context.now; signal = signal }) (record { words = T.words trace.new; hidden = hidden.new }) result ≡
+        turn_seen (undoing (machine_of M.SP.0 M.RA.0) image.now) (by_trace start_of (tracing T.traces image.now))
+        (record { words = T.words trace.old; hidden = hidden.old }) (record { context = M.Context.columns context.now; signal = signal }) seen) }
+{
+    match frame_at::<M, F, L>(image, finder, context, signal, steps) {
+        Err(fault) => Err(fault),
+        Ok(None) => Ok(Turn::End),
+        Ok(Some(frame)) => meet_frame(image, &frame, trace, hidden, context, signal),
+    }
+}
+
+/// How a backtrace ends at the end of the stack, where the trace is asked once more unless it is
+/// still hidden.
+fn last_visit<M: Machine, T: Trace<M>>(
+    image: &MemoryImage<'_>,
+    trace: &mut T,
+    hidden: Option<u64>,
+    context: &M::Context,
+    signal: bool,
+) -> Ended
+    ensures { ended_shown result (T.words trace.new) ≡ run_out (tracing T.traces image.now) (T.words trace.old) hidden (record { context = M.Context.columns context.now; signal = signal }) }
+{
+    let mut code = UnwindReasonCode::END_OF_STACK;
+    if hidden.is_none()
+        && visited(image, None, trace, context, signal) != UnwindReasonCode::NO_REASON
+    {
+        code = UnwindReasonCode::FATAL_PHASE1_ERROR;
+    }
+    Ended { code, cause: None }
+}
+
+/// Visits the frames of the stack from `context` outwards, and then its end.
+///
+/// With `hidden` the frames up to and with the one whose function starts there aren't visited. At
+/// each other frame `trace` is asked before the caller is made, and at the end of the stack once more
+/// without a frame, unless it is hidden there still. Then the code is `END_OF_STACK`. An answer of
+/// `trace` other than `NO_REASON` is `FATAL_PHASE1_ERROR`; so is a fault, and more contexts than
+/// `limit`, each with a cause.
+///
+/// Source: the GNU unwinder, `_Unwind_Backtrace`.
+pub fn _Unwind_Backtrace<M: Machine, F: FDEFinder, T: Trace<M>, L: Ledger>(
+    image: &MemoryImage<'_>,
+    finder: &F,
+    context: &M::Context,
+    hidden: Option<u64>,
+    trace: &mut T,
+    limit: u32,
+    steps: &mut Steps<L>,
+) -> Ended
+    ensures { IsTraced (stepping (machine_of M.SP.0 M.RA.0) (F.finds finder.now) image.now) start_of (tracing T.traces image.now) limit (M.Context.columns context.now)
+        hidden (T.words trace.old) (ended_shown result (T.words trace.new)) }
+{
+    let mut here = *context;
+    let mut signal = false;
+    let mut hidden = hidden;
+    for _ in 0..limit {
+        match meet(image, finder, trace, &mut hidden, &here, signal, steps) {
+            Err(fault) => return fatal(Some(Cause::from(fault))),
+            Ok(Turn::End) => return last_visit(image, trace, hidden, &here, signal),
+            Ok(Turn::Stop(..)) => return fatal(None),
+            Ok(Turn::Caller(next, next_signal)) => {
+                here = next;
+                signal = next_signal;
+            }
+        }
+    }
+    fatal(Some(Cause::FrameLimit))
+}
+
+/// A backtrace that ends before the stack does.
+fn fatal(cause: Option<Cause>) -> Ended
+    ensures { result ≡ record { code = UnwindReasonCode.FATAL_PHASE1_ERROR; cause = cause } }
+{
+    let code = UnwindReasonCode::FATAL_PHASE1_ERROR;
+    Ended { code, cause }
+}
