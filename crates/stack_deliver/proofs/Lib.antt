@@ -8,6 +8,7 @@ pub mod DeliveryAnswers
 pub mod FirstEntry
 pub mod Framings
 pub mod LineAnswers
+pub mod HeaderFinds
 pub mod LineShows
 pub mod Lines
 pub mod MeetAnswers

@@ -22,7 +22,7 @@ use Rattle.stack_deliver.specs.declared.delivery.DeliverError.{DeliverError}
 use Rattle.stack_deliver.specs.declared.passes.Phase.{Phase}
 use Rattle.stack_deliver.specs.Modules.{SpaceValue}
 use Rattle.stack_deliver.specs.Processes.{process_of}
-use Rattle.stack_deliver.specs.Undone.{IsDescribedCall}
+use Rattle.stack_deliver.specs.Undone.{IsDescribedCall, HaveFrameTables}
 use Rattle.stack_deliver.specs.Passes.{FrameAt, frame_of, caller_by, stops, past_arguments, Stops, Goes, turn_of, with_context, pass_of, enters}
 use Rattle.stack_deliver.proofs.ContextLemmas.{IsWhole}
 use Rattle.stack_deliver.proofs.Framings.{some_next, stepped_by, step_is}
@@ -76,12 +76,12 @@ none_framed image c (Ok (Some f)) e = absurd (never (callers f) e)
 none_framed image c (Err x) e = absurd cc
 
 -- a pass ends there
-pub pass_ends_at : (space : SpaceValue) (functions : List Function) (c : Context) (s : State) (p : Phase) (room : ℕ) → 0 < room → Shows (columns_of c) s → IsEnd space.image (IsUncovered emitted (process_of space)) functions s →
+pub pass_ends_at : (space : SpaceValue) → HaveFrameTables (process_of space) → (functions : List Function) (c : Context) (s : State) (p : Phase) (room : ℕ) → 0 < room → Shows (columns_of c) s → IsEnd space.image (IsUncovered emitted (process_of space)) functions s →
     pass_of p space room c false ≡ Ok (record { contexts = c ∷ []; stop = None })
 unfolding turn_of
-pass_ends_at space functions c s p zero some shows end = absurd (omega arith)
-pass_ends_at space functions c s p (suc n) some shows end =
-    let framed : frame_of space c false ≡ Ok None = none_framed space.image c (frame_of space c false) (sym (step_is space c false) ∙ ends space functions c s shows end) in
+pass_ends_at space tables functions c s p zero some shows end = absurd (omega arith)
+pass_ends_at space tables functions c s p (suc n) some shows end =
+    let framed : frame_of space c false ≡ Ok None = none_framed space.image c (frame_of space c false) (sym (step_is space c false) ∙ ends space tables functions c s shows end) in
     rw framed refl
 
 -- ---- calls of a chain

@@ -11,12 +11,12 @@ ghost use Rattle.frame_rows.specs.Rows.{IsRowOf};
 ghost use Rattle.unwind_definitions.specs.Row.{Run};
 ghost use Rattle.unwinding_core.specs.Answered.{answered};
 ghost use Rattle.unwinding_core.specs.Framed.{address_asked, GivesFrame};
-ghost use Rattle.unwinding_core.specs.Named.{found_by};
+ghost use Rattle.unwinding_core.specs.Named.{found_by, pairs_by};
 ghost use Rattle.stack_deliver.specs.Modules.{AreApart, contains};
 ghost use Rattle.stack_deliver.specs.Processes.{process_of};
 ghost use Rattle.stack_deliver.specs.Passes.{FrameAt, frame_of, caller_by};
 ghost use Rattle.stack_deliver.specs.Passing.{IsFrameOf, GivesFrameAt};
-ghost use Rattle.stack_deliver.specs.Stepping.{step_of, by_row, called, in_module, EndsAt, FaultsAt};
+ghost use Rattle.stack_deliver.specs.Stepping.{step_of, by_row, called, in_module, pairs_at, EndsAt, FaultsAt, RisesBySearch};
 ghost use Rattle.stack_deliver.specs.Undone.{HaveFrameTables, IsDescribedCall, Undone};
 
 use crate::delivery::{DeliverError, Stepped};
@@ -47,7 +47,7 @@ fn framed<'a, L: Ledger>(
     requires returns { context.now.ra ≢ 0 }
     requires inside { IsTrue (contains holder (address_asked context.now.ra interrupted)) }
     ensures frame { GivesFrame (address_asked context.now.ra interrupted) (found_by holder.frame image.now (address_asked context.now.ra interrupted)) result }
-    ensures unticked { steps.new.number ≡ steps.old.number }
+    ensures ticks { RisesBySearch (pairs_by holder.frame image.now) steps.old.number steps.new.number }
 {
     Frame::from_context(image, &finder_of(holder), context, interrupted, steps)
 }
@@ -62,7 +62,7 @@ pub(crate) fn frame_at<'a, L: Ledger>(
 ) -> Result<Option<Frame<'a, Arch>>, DeliverError>
     ensures frame { GivesFrameAt result (frame_of space.now context.now interrupted) }
     ensures apart { AreApart 0 space.now.modules }
-    ensures unticked { steps.new.number ≡ steps.old.number }
+    ensures ticks { RisesBySearch (pairs_at space.now context.now interrupted) steps.old.number steps.new.number }
 {
     let address = if interrupted {
         context.ra
@@ -100,7 +100,7 @@ fn stepped<L: Ledger>(
 ) -> Result<Option<Stepped>, DeliverError>
     ensures exact { result ≡ step_of space.now context.now interrupted }
     ensures apart { AreApart 0 space.now.modules }
-    ensures unticked { steps.new.number ≡ steps.old.number }
+    ensures ticks { RisesBySearch (pairs_at space.now context.now interrupted) steps.old.number steps.new.number }
 {
     match frame_at(space, context, interrupted, steps)? {
         None => Ok(None),
@@ -117,7 +117,7 @@ fn found_in<'a, L: Ledger>(
 ) -> Option<FDESearchResult<'a>>
     requires { IsTrue (contains holder address) }
     ensures found { option_map answered result ≡ found_by holder.frame image.now address }
-    ensures unticked { steps.new.number ≡ steps.old.number }
+    ensures ticks { RisesBySearch (pairs_by holder.frame image.now) steps.old.number steps.new.number }
 {
     finder_of(holder).find_fde(image, address, steps)
 }
@@ -162,7 +162,7 @@ fn caller_in<'a, L: Ledger>(
 ) -> Result<Option<Stepped>, DeliverError>
     requires { IsTrue (contains holder address) }
     ensures exact { result ≡ in_module image.now context.now address (Some holder) }
-    ensures unticked { steps.new.number ≡ steps.old.number }
+    ensures ticks { RisesBySearch (pairs_by holder.frame image.now) steps.old.number steps.new.number }
 {
     match found_in(image, address, holder, steps) {
         None => Ok(None),
@@ -182,7 +182,7 @@ pub(crate) fn stepped_in<'a, L: Ledger>(
 ) -> Result<Option<Stepped>, DeliverError>
     ensures exact { result ≡ step_of space.now context.now interrupted }
     ensures apart { AreApart 0 space.now.modules }
-    ensures unticked { steps.new.number ≡ steps.old.number }
+    ensures ticks { RisesBySearch (pairs_at space.now context.now interrupted) steps.old.number steps.new.number }
 {
     let address = if interrupted {
         context.ra
@@ -202,8 +202,8 @@ pub(crate) fn stepped_in<'a, L: Ledger>(
 /// The address asked is `ra`, less one unless the frame was `interrupted`: behind a call the
 /// instruction that called is the one before, which may be the last of its function. The stack
 /// ends where `ra` is 0, or where the address is in no module or no description is found for it:
-/// none contains it, or an entry before can't be read. A scan of a frame table takes no counted
-/// steps.
+/// none contains it, or an entry before can't be read. Steps are counted in the search of a
+/// header's table, at most as many as its length has binary digits, and none in a scan.
 ///
 /// # Errors
 ///
@@ -222,8 +222,8 @@ pub fn step<L: Ledger>(
     ensures unmapped { (a : ℕ) → result ≡ Err (DeliverError.Unmapped a) → word_at space.now.image a ≡ None }
     ensures undone { (functions : List Function) (s : State) (call : Call) → HaveFrameTables (process_of space.now) → IsDescribedCall (process_of space.now) functions s call →
         Shows (columns_of context.now) s → IsFalse interrupted → Undone result (columns_of context.now) call.caller }
-    // A scan of a frame table isn't counted.
-    ensures unticked { steps.new.number ≡ steps.old.number }
+    // No step is counted where the module names a frame table.
+    ensures ticks { RisesBySearch (pairs_at space.now context.now interrupted) steps.old.number steps.new.number }
 {
     stepped(space, context, interrupted, steps)
 }
