@@ -7,6 +7,7 @@ pub mod DeliverFaults
 pub mod DeliveryAnswers
 pub mod FirstEntry
 pub mod LineAnswers
+pub mod HeaderFinds
 pub mod LineShows
 pub mod MeetAnswers
 pub mod MetFrames

@@ -56,9 +56,9 @@ contains_in_map (n ∷ ns) m has = go (λ h. contains_in_map ns m h) (lists.here
 
 module _ (space : SpaceValue) where
   -- a module's frame table doesn't contain the address
-  in_no_entry : (a : ℕ) (m : Module) → described.CoversNot emitted space.image (module_of m) a → (kind : FrameInfoKind) → m.frame.kind ≡ kind → found_by_kind m.frame.text_base kind space.image a ≡ None
-  in_no_entry a m u (EhFrameHdr h) named = refl
-  in_no_entry a m u (EhFrame f) named =
+  in_no_entry : (a : ℕ) (m : Module) → described.CoversNot emitted space.image (module_of m) a → described.header_of (tables_of m.frame.kind) ≡ None → (kind : FrameInfoKind) → m.frame.kind ≡ kind → found_by_kind m.frame.text_base kind space.image a ≡ None
+  in_no_entry a m u own (EhFrameHdr h) named = let other : described.header_of (tables_of (EhFrameHdr h)) ≡ None = rw named at own in absurd cc
+  in_no_entry a m u own (EhFrame f) named =
       let address : described.frame_address space.image (described.Frames f) ≡ Some u.frame =
       subst (λ (k : FrameInfoKind). described.frame_address space.image (tables_of k) ≡ Some u.frame) named u.address in
       let place : f ≡ u.frame = cc in
@@ -69,6 +69,7 @@ module _ (space : SpaceValue) where
       rw (same, none) refl
 
   -- an address that nothing covers ends the stack
+<<<<<<< HEAD
   by_module : (a : ℕ) → described.IsUncovered emitted (process_of space) a → (o : Option Module) → module_at space.modules a ≡ o → frame_in space.image a o ≡ Ok None
   by_module a free None found = refl
   by_module a free (Some m) found =
@@ -79,6 +80,20 @@ module _ (space : SpaceValue) where
   pub ends : (functions : List Function) (c : Context) (s : State) → Shows (columns_of c) s → IsEnd space.image (described.IsUncovered emitted (process_of space)) functions s → frame_of space c false ≡ Ok None
   unfolding frame_of
   ends functions c s shows end = go end.ends
+=======
+  by_module : HaveFrameTables (process_of space) → (c : Context) (a : ℕ) → described.IsUncovered emitted (process_of space) a → (o : Option Module) → module_at space.modules a ≡ o → in_module space.image c a o ≡ Ok None
+  by_module tables c a free None found = refl
+  by_module tables c a free (Some m) found =
+      let r = module_at-found space.modules m a found in
+      let known : Contains (map module_of space.modules) (module_of m) = contains_in_map space.modules m r.0 in
+      let own : described.header_of (tables_of m.frame.kind) ≡ None = lists.all_contains (λ (k : described.Module). described.header_of k.tables ≡ None) (map module_of space.modules) (module_of m) tables known in
+      ends_in_module c a m (in_no_entry a m (free (module_of m) known r.1) own m.frame.kind refl)
+
+  -- the stack ends where the return address is 0 or no function covers it
+  pub ends : HaveFrameTables (process_of space) → (functions : List Function) (c : Context) (s : State) → Shows (columns_of c) s → IsEnd space.image (described.IsUncovered emitted (process_of space)) functions s → step_of space c false ≡ Ok None
+  unfolding step_of
+  ends tables functions c s shows end = go end.ends
+>>>>>>> h/finders
     where
       go : (s.ra ≡ 0) ⊎ ((s.ra ≢ 0) × described.IsUncovered emitted (process_of space) (s.ra - 1)) → frame_of space c false ≡ Ok None
       go (inl none) = let e : columns_of c 16 ≡ Some s.ra = shows.ra in let at : c.ra ≡ 0 = cc in rw at refl
@@ -87,12 +102,17 @@ module _ (space : SpaceValue) where
           let at : c.ra ≡ s.ra = cc in
           let some : s.ra ≢ 0 = u.0 in
           let nonzero : eqb c.ra 0 ≡ false = grind (arith, nat_tests) in
+<<<<<<< HEAD
           let low : s.ra < 2 ^ 64 = end.state.ra in
           let asked : address_of_call c.ra false ≡ s.ra - 1 = omega arith in
           rw (nonzero, asked) (by_module (s.ra - 1) u.1 (module_at space.modules (s.ra - 1)) refl)
 
   step_ends : (functions : List Function) (c : Context) (s : State) → Shows (columns_of c) s → IsEnd space.image (described.IsUncovered emitted (process_of space)) functions s → step_of space c false ≡ Ok None
   step_ends functions c s shows end = step_is space c false ∙ ap (stepped_by space.image c) (ends functions c s shows end)
+=======
+          let free : described.IsUncovered emitted (process_of space) (c.ra - 1) = subst (λ (n : ℕ). described.IsUncovered emitted (process_of space) (n - 1)) (sym at) u.1 in
+          rw nonzero (by_module tables c (c.ra - 1) free (module_at space.modules (c.ra - 1)) refl)
+>>>>>>> h/finders
 
   state_of : (functions : List Function) (s : State) (calls : List Call) → IsChain space.image (described.IsUncovered emitted (process_of space)) functions s calls → IsState s
   state_of functions s [] chain = chain.state
@@ -103,7 +123,11 @@ module _ (space : SpaceValue) where
       IsChain space.image (described.IsUncovered emitted (process_of space)) functions s calls → AllByRecursion (λ (k : Call). LiesDescribed emitted (process_of space) functions k.callee) calls → Shows (columns_of c) s → length calls < room →
       (cs : List Context) × (line_of space room c false ≡ Ok cs) × EachShows cs (states_of s calls)
   line_shows apart tables functions are s [] c zero chain lie shows less = absurd (omega arith)
+<<<<<<< HEAD
   line_shows apart tables functions are s [] c (suc room) chain lie shows less = (c ∷ [], rw (step_ends functions c s shows chain) refl, (shows, tt))
+=======
+  line_shows apart tables functions are s [] c (suc room) chain lie shows less = (c ∷ [], rw (ends tables functions c s shows chain) refl, (shows, tt))
+>>>>>>> h/finders
   line_shows apart tables functions are s (k ∷ calls) c zero chain lie shows less = absurd (omega arith)
   line_shows apart tables functions are s (k ∷ calls) c (suc room) chain lie shows less =
       let link : IsLink space.image functions s k calls = chain.0 in

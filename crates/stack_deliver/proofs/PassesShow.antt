@@ -95,7 +95,7 @@ module _ (space : SpaceValue) (apart : AreApart 0 space.modules) (tables : HaveF
   pub search_shows : (s : State) (calls : List Call) (c : Context) (room : ℕ) → Chain s calls → Lie calls → Shows (columns_of c) s → length calls < room → SearchShows (pass_of phase.Search space room c false) s calls
   search_shows s [] c room chain lie shows less = record {
     line = record { contexts = c ∷ []; stop = None };
-    is = pass_ends_at space functions c s phase.Search room (omega arith) shows chain;
+    is = pass_ends_at space tables functions c s phase.Search room (omega arith) shows chain;
     states = (shows, tt);
     stop = tt;
   }

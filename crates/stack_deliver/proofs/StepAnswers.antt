@@ -48,11 +48,11 @@ none_scanned bases table (Err x) e = (x, refl)
 
 none_by_kind : (image : List Span) (text : Option ℕ) (kind : FrameInfoKind) (a : ℕ) → found_by_kind text kind image a ≡ None → FindsNone image text kind a
 none_by_kind image text (EhFrame frame) a e = none_scanned (table_bases text frame) (input_at image frame) (scan emitted (table_bases text frame) (input_at image frame) a) e
-none_by_kind image text (EhFrameHdr header) a e = tt
+none_by_kind image text (EhFrameHdr header) a e = e
 
 by_kind_none : (image : List Span) (text : Option ℕ) (kind : FrameInfoKind) (a : ℕ) → FindsNone image text kind a → found_by_kind text kind image a ≡ None
 by_kind_none image text (EhFrame frame) a free = rw free.1 refl
-by_kind_none image text (EhFrameHdr header) a free = refl
+by_kind_none image text (EhFrameHdr header) a free = free
 
 none_in_module : (image : List Span) (a : ℕ) (o : Option Module) → frame_in image a o ≡ Ok None → IsUncovered image o a
 none_in_module image a None e = tt

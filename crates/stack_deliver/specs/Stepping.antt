@@ -1,5 +1,5 @@
 -- From a frame to its caller, by the frame table of the module that holds it.
-use Rattle.std.specs.Prelude.{◌≡◌, ◌≢◌, ◌⊎◌, ℕ, ◌==◌, Bool, Option, Some, None, Result, Ok, Err, List, if◌then◌else◌}
+use Rattle.std.specs.Prelude.{◌≡◌, ◌+◌, ◌≢◌, ◌⊎◌, ℕ, ◌==◌, Bool, Option, Some, None, Result, Ok, Err, List, if◌then◌else◌}
 use Rattle.memory_image.specs.Image.{Span}
 use Rattle.unwind_definitions.specs.declared.error.Error.{Error as Fault}
 use Rattle.unwind_definitions.specs.Forms.{emitted}
@@ -15,8 +15,16 @@ use Rattle.unwind_arch.specs.Contexts.{columns_of, context_of}
 use Rattle.unwinding_core.specs.declared.find_fde.custom.FrameInfoKind.{FrameInfoKind}
 use Rattle.unwinding_core.specs.declared.find_fde.custom.FrameInfoKind.TheVariants.{EhFrame, EhFrameHdr}
 use Rattle.unwinding_core.specs.Calling.{no_expressions}
+<<<<<<< HEAD
 use Rattle.unwinding_core.specs.Finding.{FoundFde, table_bases}
 use Rattle.unwinding_core.specs.Named.{found_by}
+=======
+use Rattle.unwinding_core.specs.Finding.{FoundFde, relative_to, table_bases}
+use Rattle.unwinding_core.specs.Framed.{address_asked}
+use Rattle.unwind_definitions.specs.HeaderSearch.{AreWithinDigits}
+use Rattle.unwinding_core.specs.HeaderFinding.{found_by_header}
+use Rattle.unwinding_core.specs.Named.{found_by, pairs_by}
+>>>>>>> h/finders
 use Rattle.stack_deliver.specs.declared.delivery.Stepped.{Stepped}
 use Rattle.stack_deliver.specs.declared.delivery.DeliverError.{DeliverError}
 use Rattle.stack_deliver.specs.declared.delivery.DeliverError.TheVariants.{Table, Unmapped}
@@ -72,12 +80,28 @@ caller_at image c (Some f) = result_map Some (caller_by image c f)
 unfoldable pub step_of : SpaceValue → Context → Bool → Result (Option Stepped) DeliverError
 step_of space c interrupted = frame_of space c interrupted >>= caller_at space.image c
 
+-- ---- its counted steps
+
+-- how many pairs of a header's table are searched in a module: none where it names a frame table
+abbrev pub pairs_in_module : List Span → Option Module → ℕ
+pairs_in_module image None = 0
+pairs_in_module image (Some m) = pairs_by m.frame image
+
+-- the same for the frame that a context shows: none at a return address of 0
+abbrev pub pairs_at : SpaceValue → Context → Bool → ℕ
+pairs_at space c interrupted = if c.ra == 0 then 0 else pairs_in_module space.image (module_at space.modules (address_asked c.ra interrupted))
+
+-- a count of steps rises by no more than a search among so many pairs takes: as many as their number has binary digits
+abbrev pub RisesBySearch : ℕ → ℕ → ℕ → Type 0
+RisesBySearch pairs old new = (taken : ℕ) × (new ≡ old + taken) × AreWithinDigits pairs taken
+
 -- ---- the same in the words of its answers
 
 -- A scan of a module's frame table finds no description for an address: none contains it, or an entry before can't be read.
+-- By a module's header none is found.
 abbrev pub FindsNone : List Span → Option ℕ → FrameInfoKind → ℕ → Type 0
 FindsNone image text (EhFrame frame) a = (e : Fault) × (scan emitted (table_bases text frame) (input_at image frame) a ≡ Err e)
-FindsNone image text (EhFrameHdr header) a = Unit {0}
+FindsNone image text (EhFrameHdr header) a = found_by_header (relative_to text None) image header a ≡ None
 
 -- an address is in no module, or in one by whose tables nothing is found for it
 abbrev pub IsUncovered : List Span → Option Module → ℕ → Type 0
