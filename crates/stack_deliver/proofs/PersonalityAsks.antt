@@ -1,5 +1,6 @@
 -- What the personality of Rust answers for a frame is what the passes ask of it.
 use Rattle.std.proofs.Common.{inl, inr, ◌≡◌, ◌≢◌, ℕ, Bool, true, false, cond, eqb, List, set, Some, Result, Ok, Err, refl, sym, ap, subst, ◌∙◌, arith}
+use Rattle.std.specs.Prelude.{pos, IsSome, ◌↔◌}
 use Rattle.std.proofs.lemmas.Bool.Decides.{nat_tests}
 use Rattle.memory_image.specs.Image.{Span}
 use Rattle.unwind_definitions.specs.Caller.{Columns, StepFault}
@@ -9,10 +10,13 @@ use Rattle.unwind_arch.specs.declared.x86_64.Context.{Context}
 use Rattle.unwind_arch.specs.Contexts.{columns_of}
 use Rattle.unwinding_core.specs.Columns.{with_value}
 use Rattle.unwinding_core.specs.FrameValue.{FrameValue}
-use Rattle.unwinding_core.specs.Personalities.{Asked, landed, searched, answered_by}
+use Rattle.unwinding_core.specs.declared.abi.UnwindReasonCode.{UnwindReasonCode}
+use Rattle.unwinding_core.specs.declared.abi.TheConstants.UnwindReasonCode.{CONTINUE_UNWIND, HANDLER_FOUND}
+use Rattle.unwinding_core.specs.Personalities.{Asked, Answer, landed, searched, answered_by}
 use Rattle.stack_deliver.specs.declared.delivery.DeliverError.{DeliverError}
-use Rattle.stack_deliver.specs.Passes.{or_terminate, asked_if_named, enters}
-use Rattle.stack_deliver.specs.Personality.{landing_columns, InSearch, InCleanup, IsAsked, AnswersCleanup, answer_for}
+use Rattle.stack_deliver.specs.declared.passes.Phase.TheVariants as phase
+use Rattle.stack_deliver.specs.Passes.{or_terminate, asked_if_named, enters, stops, pad_of}
+use Rattle.stack_deliver.specs.Personality.{landing_columns, InSearch, InCleanup, IsAsked, AnswersCleanup, answer_for, code_of}
 use Rattle.stack_deliver.proofs.ContextLemmas.{IsWhole, Holds, with_column-holds}
 
 is_same : (m n : ℕ) → eqb m n ≡ true → m ≡ n
@@ -76,3 +80,39 @@ module _ (image : List Span) (c : Context) (interrupted : Bool) (frame : FrameVa
       by_table : (r : Result Action StepFault) → or_terminate r ≡ action → AnswersCleanup action asked.exception c (answered_by landing_columns asked (columns_of c) r)
       by_table (Ok x) e = subst (λ (y : Action). AnswersCleanup y asked.exception c (answered_by landing_columns asked (columns_of c) (Ok x))) e (by_action x)
       by_table (Err fault) e = subst (λ (y : Action). AnswersCleanup y asked.exception c (answered_by landing_columns asked (columns_of c) (Err fault))) e (inr refl)
+
+  -- ---- where a pass stops
+
+  other_code : (a b : ℕ) → a ≢ b → {x y : UnwindReasonCode} → x.0 ≡ pos a → y.0 ≡ pos b → x ≢ y
+  other_code a b apart left right same = let e : pos a ≡ pos b = sym left ∙ ap (λ (code : UnwindReasonCode). code.0) same ∙ right in apart cc
+
+  search_code : (x : Action) → (stops phase.Search x ≡ true) ↔ (searched x ≢ CONTINUE_UNWIND)
+  search_code NoAction = (λ e. cc, λ other. absurd (other refl))
+  search_code (Cleanup pad) = (λ e. cc, λ other. absurd (other refl))
+  search_code (Catch pad) = (λ e. other_code 6 8 (λ h. omega arith) refl refl, λ other. refl)
+  search_code (Filter pad) = (λ e. other_code 6 8 (λ h. omega arith) refl refl, λ other. refl)
+  search_code Terminate = (λ e. other_code 3 8 (λ h. omega arith) refl refl, λ other. refl)
+
+  takes_code : (x : Action) → ((stops phase.Search x ≡ true) × IsSome (pad_of x)) ↔ (searched x ≡ HANDLER_FOUND)
+  takes_code NoAction = (λ e. let bad : false ≡ true = e.0 in absurd cc, λ found. absurd (other_code 8 6 (λ h. omega arith) refl refl found))
+  takes_code (Cleanup pad) = (λ e. let bad : false ≡ true = e.0 in absurd cc, λ found. absurd (other_code 8 6 (λ h. omega arith) refl refl found))
+  takes_code (Catch pad) = (λ e. refl, λ found. (refl, refl))
+  takes_code (Filter pad) = (λ e. refl, λ found. (refl, refl))
+  takes_code Terminate = (λ e. let bad : false ≡ true = e.1 in absurd cc, λ found. absurd (other_code 3 6 (λ h. omega arith) refl refl found))
+
+  pub stops_search : InSearch asked → (stops phase.Search action ≡ true) ↔ (code_of (answer_for asked image frame c interrupted) ≢ CONTINUE_UNWIND)
+  stops_search in_search = rw (answers_search in_search) (search_code action)
+
+  pub takes_search : InSearch asked → ((stops phase.Search action ≡ true) × IsSome (pad_of action)) ↔ (code_of (answer_for asked image frame c interrupted) ≡ HANDLER_FOUND)
+  takes_search in_search = rw (answers_search in_search) (takes_code action)
+
+  cleanup_code : (x : Action) (answer : Answer) → AnswersCleanup x asked.exception c answer → (stops phase.Cleanup x ≡ true) ↔ (code_of answer ≢ CONTINUE_UNWIND)
+  cleanup_code NoAction answer is = (λ e. let bad : false ≡ true = e in absurd cc, λ other. absurd (other (ap code_of is)))
+  cleanup_code (Cleanup pad) answer is = (λ e same. other_code 7 8 (λ h. omega arith) refl refl (sym (ap code_of is) ∙ same), λ other. refl)
+  cleanup_code (Catch pad) answer is = (λ e same. other_code 7 8 (λ h. omega arith) refl refl (sym (ap code_of is) ∙ same), λ other. refl)
+  cleanup_code (Filter pad) answer is = (λ e same. other_code 7 8 (λ h. omega arith) refl refl (sym (ap code_of is) ∙ same), λ other. refl)
+  cleanup_code Terminate answer (inl is) = (λ e same. other_code 2 8 (λ h. omega arith) refl refl (sym (ap code_of is) ∙ same), λ other. refl)
+  cleanup_code Terminate answer (inr is) = (λ e same. other_code 3 8 (λ h. omega arith) refl refl (sym (ap code_of is) ∙ same), λ other. refl)
+
+  pub stops_cleanup : InCleanup asked → IsWhole c → (stops phase.Cleanup action ≡ true) ↔ (code_of (answer_for asked image frame c interrupted) ≢ CONTINUE_UNWIND)
+  stops_cleanup in_cleanup whole = cleanup_code action (answer_for asked image frame c interrupted) (answers_cleanup in_cleanup whole)

@@ -1,7 +1,8 @@
 -- When a step answers that the stack ends, and when that a slot isn't mapped.
-use Rattle.std.proofs.Common.{inl, inr, ◌≡◌, ◌≢◌, ℕ, zero, suc, ◌+◌, ◌%◌, ◌^◌, Bool, true, false, List, Option, Some, None, Result, Ok, Err, refl, sym, ap, subst, ◌∙◌, arith, eqb}
+use Rattle.std.proofs.Common.{inl, inr, ◌≡◌, ◌≢◌, ℕ, zero, suc, ◌+◌, ◌%◌, ◌^◌, ◌<◌, Bool, true, false, List, Option, Some, None, Result, Ok, Err, refl, sym, ap, subst, ◌∙◌, arith, eqb}
 use Rattle.std.specs.Prelude.{◌⊎◌}
 use Rattle.std.specs.Option.{option_or, option_map_or}
+use Rattle.std.proofs.lemmas.Bool.{cases_lt}
 use Rattle.std.proofs.lemmas.Bool.Decides.{nat_tests, eqb_tells}
 use Rattle.memory_image.specs.Image.{Span, word_at}
 use Rattle.unwind_definitions.specs.declared.error.Error.{Error as Fault}
@@ -29,7 +30,8 @@ use Rattle.unwind_arch.specs.Contexts.{columns_of}
 use Rattle.stack_deliver.specs.Modules.{SpaceValue, module_at}
 use Rattle.std.specs.Result.{result_map_both}
 use Rattle.stack_deliver.specs.declared.delivery.Stepped.{Stepped}
-use Rattle.stack_deliver.specs.Stepping.{FrameAt, frame_with, next_with, frame_by, frame_in, frame_of, caller_by, refusal_of, step_of, FindsNone, IsUncovered, EndsAt, RowFaults, FaultsAt}
+use Rattle.stack_deliver.specs.Stepping.{FrameAt, frame_with, next_with, frame_by, frame_in, frame_of, caller_by, refusal_of, step_of, FindsNone, IsUncovered, EndsAt, RowFaults, FaultsAt, ReadsUnmapped, SlotIsUnmapped}
+use Rattle.unwinding_core.proofs.Callers.{HasValue, first_fault_below-lowest}
 use Rattle.stack_deliver.proofs.StepParts.{some_next, stepped_by, step_is, none_framed}
 
 -- there is no frame where nothing is found
@@ -96,17 +98,21 @@ held_mapped : (o : Option ℕ) (a : ℕ) → calls.held o ≡ Err (calls.Unmappe
 held_mapped None a e = absurd cc
 held_mapped (Some v) a e = absurd cc
 
-unmapped_word : (image : List Span) (a b : ℕ) → calls.word_or_fault image a ≡ Err (calls.Unmapped b) → word_at image b ≡ None
+unmapped_word : (image : List Span) (a b : ℕ) → calls.word_or_fault image a ≡ Err (calls.Unmapped b) → (b ≡ a) × (word_at image b ≡ None)
 unmapped_word image a b e = go (word_at image a) refl e
   where
-    go : (o : Option ℕ) → word_at image a ≡ o → option_map_or Ok o (Err (calls.Unmapped a)) ≡ Err (calls.Unmapped b) → word_at image b ≡ None
-    go None none e = let same : a ≡ b = cc in subst (λ (n : ℕ). word_at image n ≡ None) same none
+    go : (o : Option ℕ) → word_at image a ≡ o → option_map_or Ok o (Err (calls.Unmapped a)) ≡ Err (calls.Unmapped b) → (b ≡ a) × (word_at image b ≡ None)
+    go None none e = let same : a ≡ b = cc in (sym same, subst (λ (n : ℕ). word_at image n ≡ None) same none)
     go (Some v) is e = absurd cc
 
-unmapped_rule : (image : List Span) (columns : calls.Columns) (cfa k b : ℕ) (rule : rules.Rule) → calls.rule_value no_expressions image columns cfa k rule ≡ Err (calls.Unmapped b) → word_at image b ≡ None
+-- a rule that reads a slot
+abbrev pub Slot : List Span → ℕ → ℕ → Option rules.Rule → Type 0
+Slot image cfa b rule = (n : ℕ) × (rule ≡ Some (rules.Offset n)) × (b ≡ (cfa + n) % 2 ^ 64) × (word_at image b ≡ None)
+
+unmapped_rule : (image : List Span) (columns : calls.Columns) (cfa k b : ℕ) (rule : rules.Rule) → calls.rule_value no_expressions image columns cfa k rule ≡ Err (calls.Unmapped b) → Slot image cfa b (Some rule)
 unmapped_rule image columns cfa k b rules.Undefined e = absurd cc
 unmapped_rule image columns cfa k b rules.SameValue e = absurd (held_mapped (columns k) b e)
-unmapped_rule image columns cfa k b (rules.Offset n) e = unmapped_word image ((cfa + n) % 2 ^ 64) b e
+unmapped_rule image columns cfa k b (rules.Offset n) e = let word = unmapped_word image ((cfa + n) % 2 ^ 64) b e in (n, refl, word.0, word.1)
 unmapped_rule image columns cfa k b (rules.ValOffset n) e = absurd cc
 unmapped_rule image columns cfa k b (rules.InRegister q) e = absurd (held_mapped (columns q) b e)
 unmapped_rule image columns cfa k b (rules.Expression bytes) e = absurd cc
@@ -117,24 +123,51 @@ unmapped_placed old (Err x) b e = cc
 unmapped_placed None (Ok v) b e = absurd cc
 unmapped_placed (Some w) (Ok v) b e = absurd cc
 
+-- ---- the lowest column without a value
+
+none_below : (n : ℕ) (f : ℕ → Result (Option ℕ) calls.StepFault) → calls.first_fault_below n f ≡ None → (k : ℕ) → k < n → HasValue (f k)
+unfolding calls.first_fault_below
+none_below zero f none k less = absurd (omega arith)
+none_below (suc n) f none k less = go (λ is low. none_below n f is k low) (calls.first_fault_below n f) refl (f n) refl none
+  where
+    go : (calls.first_fault_below n f ≡ None → k < n → HasValue (f k)) → (o : Option calls.StepFault) → calls.first_fault_below n f ≡ o → (r : Result (Option ℕ) calls.StepFault) → f n ≡ r → option_or o (calls.fault_in r) ≡ None → HasValue (f k)
+    go below (Some x) is r at e = absurd cc
+    go below None is (Err x) at e = absurd cc
+    go below None is (Ok v) at e = elim (cases_lt k n) as (λ t. HasValue (f k)) [
+      | inl low ↦ below is low
+      | inr high ↦ let last : n ≡ k = omega arith in subst (λ (m : ℕ). HasValue (f m)) last (v, at)
+    ]
+
+pub record IsLowest (n : ℕ) (f : ℕ → Result (Option ℕ) calls.StepFault) (e : calls.StepFault) : Type 0 where
+  pub column : ℕ
+  pub small : column < n
+  pub fault : f column ≡ Err e
+  pub before : (k : ℕ) → k < column → HasValue (f k)
+
+lowest : (n : ℕ) (f : ℕ → Result (Option ℕ) calls.StepFault) (e : calls.StepFault) → calls.first_fault_below n f ≡ Some e → IsLowest n f e
+unfolding calls.first_fault_below
+lowest zero f e is = absurd cc
+lowest (suc n) f e is = go (λ at. lowest n f e at) (calls.first_fault_below n f) refl (f n) refl is
+  where
+    go : (calls.first_fault_below n f ≡ Some e → IsLowest n f e) → (o : Option calls.StepFault) → calls.first_fault_below n f ≡ o → (r : Result (Option ℕ) calls.StepFault) → f n ≡ r → option_or o (calls.fault_in r) ≡ Some e → IsLowest (suc n) f e
+    go below (Some x) first r at same =
+        let at_e : calls.first_fault_below n f ≡ Some e = first ∙ same in
+        let low = below at_e in
+        let small : low.column < suc n = let less : low.column < n = low.small in omega arith in
+        record { column = low.column; small = small; fault = low.fault; before = low.before }
+    go below None first (Ok v) at same = absurd cc
+    go below None first (Err x) at same = let this : x ≡ e = cc in record { column = n; small = omega arith; fault = at ∙ ap Err this; before = λ k less. none_below n f first k less }
+
 module _ (image : List Span) (columns : calls.Columns) (run : Run) (b : ℕ) where
-  unmapped_column : (cfa k : ℕ) → calls.column_value calls.x86_64 no_expressions image columns cfa run k ≡ Err (calls.Unmapped b) → word_at image b ≡ None
+  abbrev value : ℕ → ℕ → Result (Option ℕ) calls.StepFault
+  value cfa = calls.column_value calls.x86_64 no_expressions image columns cfa run
+
+  unmapped_column : (cfa k : ℕ) → value cfa k ≡ Err (calls.Unmapped b) → Slot image cfa b (rule_of run k)
   unmapped_column cfa k e = go (rule_of run k) e
     where
-      go : (o : Option rules.Rule) → option_map_or (λ rule. calls.placed (columns k) (calls.rule_value no_expressions image columns cfa k rule)) o (Ok (calls.unruled calls.x86_64 columns cfa k)) ≡ Err (calls.Unmapped b) → word_at image b ≡ None
+      go : (o : Option rules.Rule) → option_map_or (λ rule. calls.placed (columns k) (calls.rule_value no_expressions image columns cfa k rule)) o (Ok (calls.unruled calls.x86_64 columns cfa k)) ≡ Err (calls.Unmapped b) → Slot image cfa b o
       go None e = absurd cc
       go (Some rule) e = unmapped_rule image columns cfa k b rule (unmapped_placed (columns k) (calls.rule_value no_expressions image columns cfa k rule) b e)
-
-  unmapped_below : (cfa n : ℕ) → calls.first_fault_below n (calls.column_value calls.x86_64 no_expressions image columns cfa run) ≡ Some (calls.Unmapped b) → word_at image b ≡ None
-  unfolding calls.first_fault_below
-  unmapped_below cfa zero e = absurd cc
-  unmapped_below cfa (suc n) e = go (calls.first_fault_below n (calls.column_value calls.x86_64 no_expressions image columns cfa run)) (λ h. unmapped_below cfa n h) (calls.column_value calls.x86_64 no_expressions image columns cfa run n) refl e
-    where
-      go : (o : Option calls.StepFault) → (o ≡ Some (calls.Unmapped b) → word_at image b ≡ None) → (r : Result (Option ℕ) calls.StepFault) → calls.column_value calls.x86_64 no_expressions image columns cfa run n ≡ r →
-          option_or o (calls.fault_in r) ≡ Some (calls.Unmapped b) → word_at image b ≡ None
-      go (Some f) earlier r is e = earlier e
-      go None earlier (Ok v) is e = absurd cc
-      go None earlier (Err f) is e = let at : calls.column_value calls.x86_64 no_expressions image columns cfa run n ≡ Err (calls.Unmapped b) = cc in unmapped_column cfa n at
 
   unmapped_cfa : (rule : CfaRule) → calls.cfa_value no_expressions columns rule ≡ Err (calls.Unmapped b) → ⊥
   unmapped_cfa (ColumnAndOffset k n) e = go (columns k) e
@@ -144,21 +177,30 @@ module _ (image : List Span) (columns : calls.Columns) (run : Run) (b : ℕ) whe
       go (Some v) e = absurd cc
   unmapped_cfa (ByExpression bytes) e = absurd cc
 
-  unmapped_with : (r : Result ℕ calls.StepFault) → (r ≡ Err (calls.Unmapped b) → ⊥) → calls.caller_with calls.x86_64 no_expressions image columns run r ≡ Err (calls.Unmapped b) → word_at image b ≡ None
-  unmapped_with (Err f) never e = absurd (never cc)
-  unmapped_with (Ok cfa) never e = go (calls.first_fault_below calls.column_limit (calls.column_value calls.x86_64 no_expressions image columns cfa run)) refl e
+  unmapped_with : (rule : CfaRule) → cfa_rule run ≡ Some rule → (r : Result ℕ calls.StepFault) → calls.cfa_value no_expressions columns rule ≡ r → calls.caller_with calls.x86_64 no_expressions image columns run r ≡ Err (calls.Unmapped b) → ReadsUnmapped image columns run b
+  unmapped_with rule ruled (Err f) at e = absurd (unmapped_cfa rule (at ∙ cc))
+  unmapped_with rule ruled (Ok cfa) at e = go (calls.first_fault_below calls.column_limit (value cfa)) refl e
     where
-      go : (o : Option calls.StepFault) → calls.first_fault_below calls.column_limit (calls.column_value calls.x86_64 no_expressions image columns cfa run) ≡ o →
-          calls.unless_fault o (λ k. calls.value_in (calls.column_value calls.x86_64 no_expressions image columns cfa run k)) ≡ Err (calls.Unmapped b) → word_at image b ≡ None
+      go : (o : Option calls.StepFault) → calls.first_fault_below calls.column_limit (value cfa) ≡ o → calls.unless_fault o (λ k. calls.value_in (value cfa k)) ≡ Err (calls.Unmapped b) → ReadsUnmapped image columns run b
       go None is e = absurd cc
-      go (Some f) is e = let at : calls.first_fault_below calls.column_limit (calls.column_value calls.x86_64 no_expressions image columns cfa run) ≡ Some (calls.Unmapped b) = cc in unmapped_below cfa calls.column_limit at
+      go (Some f) is e =
+          let same : f ≡ calls.Unmapped b = cc in
+          let low : IsLowest calls.column_limit (value cfa) (calls.Unmapped b) = lowest calls.column_limit (value cfa) (calls.Unmapped b) (is ∙ ap Some same) in
+          let slot = unmapped_column cfa low.column low.fault in
+          record { rule = rule; ruled = ruled; cfa = cfa; finds_cfa = at; column = low.column; small = low.small; before = low.before; offset = slot.0; saved = slot.1; slot = slot.2; unmapped = slot.3 }
 
-  unmapped_caller : calls.caller_of calls.x86_64 no_expressions image columns run ≡ Err (calls.Unmapped b) → word_at image b ≡ None
-  unmapped_caller e = go (cfa_rule run) e
+  pub unmapped_caller : calls.caller_of calls.x86_64 no_expressions image columns run ≡ Err (calls.Unmapped b) → ReadsUnmapped image columns run b
+  unmapped_caller e = go (cfa_rule run) refl e
     where
-      go : (o : Option CfaRule) → option_map_or (λ rule. calls.caller_with calls.x86_64 no_expressions image columns run (calls.cfa_value no_expressions columns rule)) o (Err (calls.Table NoCfaRegister)) ≡ Err (calls.Unmapped b) → word_at image b ≡ None
-      go None e = absurd cc
-      go (Some rule) e = unmapped_with (calls.cfa_value no_expressions columns rule) (unmapped_cfa rule) e
+      go : (o : Option CfaRule) → cfa_rule run ≡ o → option_map_or (λ rule. calls.caller_with calls.x86_64 no_expressions image columns run (calls.cfa_value no_expressions columns rule)) o (Err (calls.Table NoCfaRegister)) ≡ Err (calls.Unmapped b) → ReadsUnmapped image columns run b
+      go None is e = absurd cc
+      go (Some rule) is e = unmapped_with rule is (calls.cfa_value no_expressions columns rule) refl e
+
+  pub caller_is_unmapped : ReadsUnmapped image columns run b → calls.caller_of calls.x86_64 no_expressions image columns run ≡ Err (calls.Unmapped b)
+  caller_is_unmapped reads =
+      let fault : value reads.cfa reads.column ≡ Err (calls.Unmapped b) = rw (reads.saved, ← reads.slot, reads.unmapped) refl in
+      let first : calls.first_fault_below calls.column_limit (value reads.cfa) ≡ Some (calls.Unmapped b) = first_fault_below-lowest calls.column_limit reads.column (calls.Unmapped b) (value reads.cfa) reads.small fault reads.before in
+      rw (reads.ruled, reads.finds_cfa, first) refl
 
 -- ---- what a frame and its caller answer
 
@@ -245,16 +287,28 @@ module _ (space : SpaceValue) (c : Context) (interrupted : Bool) where
   step_parts : (e : DeliverError) → step_of space c interrupted ≡ Err e → (here ≡ Err e) ⊎ ((f : FrameAt) × (here ≡ Ok (Some f)) × (caller_by space.image c f ≡ Err e))
   step_parts e is = fails_parts space.image c here e (sym (step_is space c interrupted) ∙ is)
 
-  -- a step that answers an unmapped slot names one
-  pub step_unmapped : (b : ℕ) → step_of space c interrupted ≡ Err (Unmapped b) → word_at space.image b ≡ None
-  step_unmapped b e = go (step_parts (Unmapped b) e)
+  -- a step answers an unmapped slot where its row reads it, and nowhere else
+  pub step_slot : (b : ℕ) → step_of space c interrupted ≡ Err (Unmapped b) → SlotIsUnmapped space c interrupted b
+  step_slot b e = go (step_parts (Unmapped b) e)
     where
-      go : (here ≡ Err (Unmapped b)) ⊎ ((f : FrameAt) × (here ≡ Ok (Some f)) × (caller_by space.image c f ≡ Err (Unmapped b))) → word_at space.image b ≡ None
+      go : (here ≡ Err (Unmapped b)) ⊎ ((f : FrameAt) × (here ≡ Ok (Some f)) × (caller_by space.image c f ≡ Err (Unmapped b))) → SlotIsUnmapped space c interrupted b
       go (inl row) =
           let held = held_in (Err (Unmapped b)) (λ h. absurd cc) row in
           let fault = by_row at_call (found_by held.holder.frame space.image at_call) (Unmapped b) held.framed in
           let is : Unmapped b ≡ Table fault.1 = fault.4 in absurd cc
-      go (inr caller) = unmapped_caller space.image (columns_of c) caller.0.run b (caller_unmapped space.image c caller.0 b caller.2)
+      go (inr caller) =
+          let held = held_in (Ok (Some caller.0)) (λ h. absurd cc) caller.1 in
+          let row = with_row at_call (found_by held.holder.frame space.image at_call) caller.0 held.framed in
+          let reads = unmapped_caller space.image (columns_of c) caller.0.run b (caller_unmapped space.image c caller.0 b caller.2) in
+          record { returns = held.returns; holder = held.holder; holds = held.holds; found = caller.0.found; finds = row.0; run = caller.0.run; row = row.1; reads = reads }
+
+  pub slot_step : (b : ℕ) → SlotIsUnmapped space c interrupted b → step_of space c interrupted ≡ Err (Unmapped b)
+  slot_step b at =
+      let framed : here ≡ Ok (frame_with at.found at.run) = held_frame (Ok (frame_with at.found at.run)) record { returns = at.returns; holder = at.holder; holds = at.holds; framed = rw (at.finds, at.row) refl } in
+      step_is space c interrupted ∙ ap (stepped_by space.image c) framed ∙ rw (caller_is_unmapped space.image (columns_of c) at.run b at.reads) refl
+
+  pub step_unmapped : (b : ℕ) → step_of space c interrupted ≡ Err (Unmapped b) → word_at space.image b ≡ None
+  step_unmapped b e = (step_slot b e).reads.unmapped
 
   -- a step answers a fault of tables where there is one, and nowhere else
   pub step_table : (e : Fault) → step_of space c interrupted ≡ Err (Table e) → FaultsAt space c interrupted e

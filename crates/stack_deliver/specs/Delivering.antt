@@ -65,11 +65,6 @@ delivered_by (Err e) passes = Err e
 unfoldable pub delivery_of : SpaceValue → Context → ℕ → List (ℕ × ℕ) → ℕ → Result Delivered DeliverError
 delivery_of space c exception resumes limit = delivered_by (pass_of phase.Search space limit c false) (λ kept. passes_of space exception kept resumes limit limit c)
 
--- a line behind contexts that were visited before it
-abbrev pub with_front : List Context → Result (List Context) DeliverError → Result (List Context) DeliverError
-with_front front (Ok cs) = Ok (front ++ cs)
-with_front front (Err e) = Err e
-
 -- ---- the same in the words of its answers
 
 -- More states are needed than there is room for: each of so many has a caller.

@@ -8,6 +8,7 @@ use Rattle.unwind_definitions.specs.Function.{Action, NoAction, Cleanup, Catch, 
 use Rattle.unwind_definitions.specs.Delivery.{decides}
 use Rattle.unwind_definitions.specs.LanguageSearch.{personality_address, address_of_call, language_action}
 use Rattle.unwind_arch.specs.declared.x86_64.Context.{Context}
+use Rattle.unwind_arch.specs.Columns.{rax, rdx, rsp}
 use Rattle.unwinding_core.specs.Finding.{FoundFde}
 use Rattle.stack_deliver.specs.declared.delivery.Stepped.{Stepped}
 use Rattle.stack_deliver.specs.declared.delivery.Trail.{Trail}
@@ -48,7 +49,7 @@ stops phase.Cleanup _ = true
 
 -- a context whose stack pointer is past the arguments that the callee removes
 abbrev pub past_arguments : Context → ℕ → Context
-past_arguments c size = record c { registers = slice_set c.registers 7 ((slice_index c.registers 7 + size) % 2 ^ 64) }
+past_arguments c size = record c { registers = slice_set c.registers rsp ((slice_index c.registers rsp + size) % 2 ^ 64) }
 
 -- where a pass stops: the context, whether it stands behind a signal's frame, what is asked there, and the context past its
 -- arguments, with which a landing pad is entered
@@ -115,7 +116,7 @@ pass_of p = line_for (Some p)
 
 -- the mark by which a pass knows the frame that the search decided for: its stack pointer, less 1 behind a signal's frame
 abbrev pub kept_at : Context → Bool → ℕ
-kept_at c interrupted = if interrupted then (slice_index c.registers 7 + (2 ^ 64 - 1)) % 2 ^ 64 else slice_index c.registers 7
+kept_at c interrupted = if interrupted then (slice_index c.registers rsp + (2 ^ 64 - 1)) % 2 ^ 64 else slice_index c.registers rsp
 
 -- ---- the passes of a delivery
 
@@ -134,7 +135,7 @@ pad_of _ = None
 
 -- a context that enters a landing pad: RAX holds the exception, and RDX 0
 abbrev pub enters : Context → ℕ → ℕ → Context
-enters c exception pad = record c { registers = slice_set (slice_set c.registers 0 exception) 1 0; ra = pad }
+enters c exception pad = record c { registers = slice_set (slice_set c.registers rax exception) rdx 0; ra = pad }
 
 -- how a cleanup pass ends: the delivery ends with it, or a landing pad is entered elsewhere than at the kept frame
 pub data PassEnd : Type 0 where
@@ -161,7 +162,7 @@ cleanup_of space exception kept limit c = end_of exception kept (pass_of phase.C
 
 -- the cleanup at a pad that is entered
 abbrev pub cleanup_at : ℕ → Context → Trail
-cleanup_at pad c = record { pad = pad; sp = slice_index c.registers 7 }
+cleanup_at pad c = record { pad = pad; sp = slice_index c.registers rsp }
 
 -- the context at which the next pass starts: it returns from the cleanup to the address that the resume table has for its pad
 abbrev pub resume_at : ℕ → Context → Option ℕ → Result Context DeliverError

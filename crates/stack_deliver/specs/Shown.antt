@@ -3,6 +3,7 @@ use Rattle.std.specs.Prelude.{ℕ, map, slice_index, option_map}
 use Rattle.unwind_definitions.specs.State.{State}
 use Rattle.unwind_definitions.specs.Delivery as described
 use Rattle.unwind_arch.specs.declared.x86_64.Context.{Context}
+use Rattle.unwind_arch.specs.Columns as column
 use Rattle.stack_deliver.specs.declared.delivery.Trail.{Trail}
 use Rattle.stack_deliver.specs.declared.delivery.Outcome.{Outcome}
 use Rattle.stack_deliver.specs.declared.delivery.Outcome.TheVariants.{Installed, EndOfStack, FatalPhase1, FatalPhase2}
@@ -12,9 +13,9 @@ use Rattle.stack_deliver.specs.Delivering.{Delivered}
 abbrev pub state_of : Context → State
 state_of c = record {
   ra = c.ra;
-  sp = slice_index c.registers 7;
-  rbx = slice_index c.registers 3;
-  rbp = slice_index c.registers 6;
+  sp = slice_index c.registers column.rsp;
+  rbx = slice_index c.registers column.rbx;
+  rbp = slice_index c.registers column.rbp;
   r12 = slice_index c.registers 12;
   r13 = slice_index c.registers 13;
   r14 = slice_index c.registers 14;
@@ -23,7 +24,7 @@ state_of c = record {
 
 -- where a handler is entered: the state, RAX and RDX
 abbrev pub landing_of : Context → described.Landing
-landing_of c = record { state = state_of c; rax = slice_index c.registers 0; rdx = slice_index c.registers 1 }
+landing_of c = record { state = state_of c; rax = slice_index c.registers column.rax; rdx = slice_index c.registers column.rdx }
 
 abbrev pub outcome_of : Outcome → described.Outcome
 outcome_of Installed = described.Installed

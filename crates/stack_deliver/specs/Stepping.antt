@@ -1,14 +1,20 @@
 -- From a frame to its caller, by the frame table of the module that holds it.
+<<<<<<< HEAD
 use Rattle.std.specs.Prelude.{◌≡◌, ◌+◌, ◌≢◌, ◌⊎◌, ℕ, ◌==◌, Bool, Option, Some, None, Result, Ok, Err, List, if◌then◌else◌}
 use Rattle.memory_image.specs.Image.{Span}
+=======
+use Rattle.std.specs.Prelude.{◌≡◌, ◌≢◌, ◌⊎◌, ℕ, ◌+◌, ◌%◌, ◌^◌, ◌<◌, ◌==◌, Bool, Option, Some, None, Result, Ok, Err, List, if◌then◌else◌}
+use Rattle.memory_image.specs.Image.{Span, word_at}
+>>>>>>> h/oneloop
 use Rattle.unwind_definitions.specs.declared.error.Error.{Error as Fault}
 use Rattle.unwind_definitions.specs.Forms.{emitted}
 use Rattle.unwind_definitions.specs.LanguageTable.{input_at}
 use Rattle.unwind_definitions.specs.LanguageSearch.{address_of_call}
-use Rattle.unwind_definitions.specs.Row.{Run, row_at}
+use Rattle.unwind_definitions.specs.Row.{Run, CfaRule, cfa_rule, rule_of, row_at}
+use Rattle.unwind_definitions.specs.Instructions.{Offset}
 use Rattle.unwind_definitions.specs.Scan.{scan}
 use Rattle.std.specs.Result.{result_map_both}
-use Rattle.unwind_definitions.specs.Caller.{Columns, StepFault, x86_64, caller_of}
+use Rattle.unwind_definitions.specs.Caller.{Columns, StepFault, x86_64, cfa_value, column_limit, column_value, caller_of}
 use Rattle.unwind_definitions.specs.Caller as calls
 use Rattle.unwind_arch.specs.declared.x86_64.Context.{Context}
 use Rattle.unwind_arch.specs.Contexts.{columns_of, context_of}
@@ -125,3 +131,28 @@ pub record FaultsAt (space : SpaceValue) (c : Context) (interrupted : Bool) (e :
   pub found : FoundFde
   pub finds : found_by holder.frame space.image (address_of_call c.ra interrupted) ≡ Some found
   pub fault : RowFaults space.image c (row_at emitted found.bases found.fde (address_of_call c.ra interrupted)) e
+
+-- A row reads the word at an address for the lowest column that has no value, and the word isn't wholly mapped.
+pub record ReadsUnmapped (image : List Span) (columns : Columns) (run : Run) (a : ℕ) : Type 0 where
+  pub rule : CfaRule
+  pub ruled : cfa_rule run ≡ Some rule
+  pub cfa : ℕ
+  pub finds_cfa : cfa_value no_expressions columns rule ≡ Ok cfa
+  pub column : ℕ
+  pub small : column < column_limit
+  pub before : (k : ℕ) → k < column → (v : Option ℕ) × (column_value x86_64 no_expressions image columns cfa run k ≡ Ok v)
+  pub offset : ℕ
+  pub saved : rule_of run column ≡ Some (Offset offset)
+  pub slot : a ≡ (cfa + offset) % 2 ^ 64
+  pub unmapped : word_at image a ≡ None
+
+-- a description is found for the address asked, and its row there reads a word that isn't wholly mapped
+pub record SlotIsUnmapped (space : SpaceValue) (c : Context) (interrupted : Bool) (a : ℕ) : Type 0 where
+  pub returns : c.ra ≢ 0
+  pub holder : Module
+  pub holds : module_at space.modules (address_of_call c.ra interrupted) ≡ Some holder
+  pub found : FoundFde
+  pub finds : found_by holder.frame space.image (address_of_call c.ra interrupted) ≡ Some found
+  pub run : Run
+  pub row : row_at emitted found.bases found.fde (address_of_call c.ra interrupted) ≡ Ok run
+  pub reads : ReadsUnmapped space.image (columns_of c) run a

@@ -39,30 +39,36 @@ pub struct Ending {
     pub landing: Option<Context>,
 }
 
-/// A caller's registers.
+/// A state of the stack with its mark, as a step leaves it: a caller's registers.
 #[derive(Clone, Copy, Debug, PartialEq, Eq)]
 pub struct Stepped {
     /// The registers of the caller.
     pub context: Context,
     /// Whether the frame that was left is a signal frame, so that the caller stands before the
-    /// instruction at its return address and not behind a call.
+    /// instruction at its return address and not after a call.
     pub signal: bool,
 }
 
-/// Why nothing was delivered.
-#[derive(Clone, Copy, Debug, PartialEq, Eq)]
+/// Why a step, a walk or a delivery is refused.
+#[derive(Clone, Copy, Debug, PartialEq, Eq, thiserror::Error)]
 pub enum DeliverError {
     /// Memory ran out.
+    #[error("out of memory")]
     NoMemory,
     /// A word of memory that is read at this address isn't wholly mapped.
+    #[error("the word of memory at {0:#x} isn't mapped")]
     Unmapped(u64),
     /// A pass needs more states than the limit.
+    #[error("a walk or a pass needs more states than the limit")]
     FrameLimit,
     /// More cleanups ran than the limit.
+    #[error("more cleanups ran than the limit")]
     PassLimit,
     /// The cleanup at this landing pad has no return address.
+    #[error("the cleanup at the landing pad {0:#x} has no return address")]
     NoResume(u64),
     /// The call frame bytes of a visited address can't be read or run.
+    #[error("call frame information: {0}")]
     Table(Error),
 }
 

@@ -16,7 +16,7 @@ use crate::space::Space;
 use crate::stepping::{frame_at, leave};
 use eh_frame::RowRoom;
 use memory_image::{Ledger, MemoryImage, Steps};
-use unwind_arch::x86_64::Context;
+use unwind_arch::x86_64::{Context, RAX, RDX, RSP};
 use unwinding_core::{EhAction, FDESearchResult};
 
 /// What a pass over the stack is for.
@@ -65,7 +65,7 @@ impl Stop {
     pub(crate) fn kept(&self) -> u64
         ensures { result ≡ kept_at self.now.state.context self.now.state.signal }
     {
-        let stack_pointer = self.state.context.registers[7];
+        let stack_pointer = self.state.context.registers[RSP];
         if self.state.signal {
             stack_pointer.wrapping_sub(1)
         } else {
@@ -79,9 +79,9 @@ impl Stop {
     {
         let mut context = self.state.context;
         // Past the arguments that the callee removes.
-        context.registers[7] = context.registers[7].wrapping_add(self.arguments);
-        context.registers[0] = exception;
-        context.registers[1] = 0;
+        context.registers[RSP] = context.registers[RSP].wrapping_add(self.arguments);
+        context.registers[RAX] = exception;
+        context.registers[RDX] = 0;
         context.ra = pad;
         context
     }
@@ -286,7 +286,7 @@ fn resume(
     }
     room.run_cleanup(Trail {
         pad,
-        sp: entered.registers[7],
+        sp: entered.registers[RSP],
     });
     match resumes.find(pad) {
         None => Err(DeliverError::NoResume(pad)),

@@ -28,13 +28,16 @@ struct Extent {
 }
 
 /// Why a module isn't taken.
-#[derive(Clone, Copy, Debug, PartialEq, Eq)]
+#[derive(Clone, Copy, Debug, PartialEq, Eq, thiserror::Error)]
 pub enum SpaceError {
     /// Its range is empty or reversed.
+    #[error("the module's range is empty or reversed")]
     Wraps,
     /// It shares an address with earlier modules, the lowest of which starts here.
+    #[error("the module shares an address with the one that starts at {0:#x}")]
     Overlap(u64),
     /// Memory ran out.
+    #[error("out of memory")]
     NoMemory,
 }
 

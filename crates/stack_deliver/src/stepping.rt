@@ -23,10 +23,14 @@ ghost use Rattle.stack_deliver.specs.Processes.{process_of};
 ghost use Rattle.stack_deliver.specs.Passing.{IsFrameOf, GivesFrameAt};
 <<<<<<< HEAD
 ghost use Rattle.stack_deliver.specs.Results.{result_map};
+<<<<<<< HEAD
 ghost use Rattle.stack_deliver.specs.Stepping.{FrameAt, frame_by, frame_in, frame_of, caller_by, step_of, EndsAt, FaultsAt};
 =======
 ghost use Rattle.stack_deliver.specs.Stepping.{step_of, by_row, called, in_module, pairs_at, EndsAt, FaultsAt, RisesBySearch};
 >>>>>>> h/finders
+=======
+ghost use Rattle.stack_deliver.specs.Stepping.{FrameAt, frame_by, frame_in, frame_of, caller_by, step_of, EndsAt, FaultsAt, SlotIsUnmapped};
+>>>>>>> h/oneloop
 ghost use Rattle.stack_deliver.specs.Undone.{HaveFrameTables, IsDescribedCall, Undone};
 
 use crate::delivery::{DeliverError, Stepped};
@@ -282,6 +286,7 @@ pub fn step<L: Ledger>(
     ensures ends { (result ≡ Ok None) ↔ EndsAt space.now context.now interrupted }
     ensures table { (e : Fault) → (result ≡ Err (DeliverError.Table e)) ↔ FaultsAt space.now context.now interrupted e }
     ensures unmapped { (a : ℕ) → result ≡ Err (DeliverError.Unmapped a) → word_at space.now.image a ≡ None }
+    ensures slot { (a : ℕ) → (result ≡ Err (DeliverError.Unmapped a)) ↔ SlotIsUnmapped space.now context.now interrupted a }
     ensures undone { (functions : List Function) (s : State) (call : Call) → HaveFrameTables (process_of space.now) → IsDescribedCall (process_of space.now) functions s call →
         Shows (columns_of context.now) s → IsFalse interrupted → Undone result (columns_of context.now) call.caller }
     // No step is counted where the module names a frame table.

@@ -141,6 +141,8 @@ pub fn walk(
     ensures frame_limit { result ≡ Err DeliverError.FrameLimit → NeedsMore space.now limit start.now interrupted }
     ensures needs_more { NeedsMore space.now limit start.now interrupted → (result ≡ Err DeliverError.NoMemory) ⊎ (result ≡ Err DeliverError.FrameLimit) }
     ensures step_fault { (error : DeliverError) → error ≢ DeliverError.FrameLimit → error ≢ DeliverError.NoMemory → result ≡ Err error → StepFails space.now limit start.now interrupted error }
+    ensures step_fails { (error : DeliverError) → error ≢ DeliverError.FrameLimit → StepFails space.now limit start.now interrupted error →
+        (result ≡ Err DeliverError.NoMemory) ⊎ (result ≡ Err error) }
     ensures unmapped { (a : ℕ) → result ≡ Err (DeliverError.Unmapped a) → word_at space.now.image a ≡ None }
     // A described chain that the limit has room for is walked to its end.
     ensures chain { (functions : List Function) (s : State) (calls : List Call) → StartsChain space.now start.now limit functions s calls → IsFalse interrupted →

@@ -3,23 +3,24 @@ use Rattle.std.specs.Prelude.{ℕ, ◌==◌, List, [], ◌∷◌, Option, Some, 
 use Rattle.std.specs.Option.{unwrap_or}
 use Rattle.unwind_definitions.specs.Caller.{Columns}
 use Rattle.unwind_arch.specs.declared.x86_64.Context.{Context}
+use Rattle.unwind_arch.specs.Columns.{ra, mxcsr, fcw}
 
 -- what a context holds in a column
 abbrev pub columns_of : Context → Columns
 columns_of c k =
     if nat_lt k 16 then Some (slice_index c.registers k)
-    else (if k == 16 then Some c.ra
-    else (if k == 64 then Some c.mcxsr
-    else (if k == 65 then Some c.fcw
+    else (if k == ra then Some c.ra
+    else (if k == mxcsr then Some c.mcxsr
+    else (if k == fcw then Some c.fcw
     else None)))
 
 -- the context with another value in a column, which it has to have
 abbrev pub with_column : Context → ℕ → ℕ → Option Context
 with_column c k v =
     if nat_lt k 16 then Some (record c { registers = slice_set c.registers k v })
-    else (if k == 16 then Some (record c { ra = v })
-    else (if k == 64 then Some (record c { mcxsr = v })
-    else (if k == 65 then Some (record c { fcw = v })
+    else (if k == ra then Some (record c { ra = v })
+    else (if k == mxcsr then Some (record c { mcxsr = v })
+    else (if k == fcw then Some (record c { fcw = v })
     else None)))
 
 abbrev pub general_columns : List ℕ
@@ -29,9 +30,9 @@ general_columns = 0 ∷ 1 ∷ 2 ∷ 3 ∷ 4 ∷ 5 ∷ 6 ∷ 7 ∷ 8 ∷ 9 ∷ 10
 abbrev pub context_of : Columns → Context
 context_of columns = record {
   registers = map (λ k. unwrap_or (columns k) 0) general_columns;
-  ra = unwrap_or (columns 16) 0;
-  mcxsr = unwrap_or (columns 64) 0;
-  fcw = unwrap_or (columns 65) 0;
+  ra = unwrap_or (columns ra) 0;
+  mcxsr = unwrap_or (columns mxcsr) 0;
+  fcw = unwrap_or (columns fcw) 0;
 }
 
 -- a context that was written, if it was

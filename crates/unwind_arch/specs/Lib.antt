@@ -1,3 +1,4 @@
+pub mod Columns
 pub mod Contexts
 pub mod X86
 pub mod Aarch64

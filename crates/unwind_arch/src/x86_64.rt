@@ -11,13 +11,30 @@ use crate::register_map::RegisterMap;
 /// The most rules that a row of call frame information needs on this machine.
 pub const MAX_REG_RULES: usize = 17;
 
+/// The place of RAX among the general registers, which is its column; so of the others.
+pub const RAX: usize = 0;
+/// The place of RDX.
+pub const RDX: usize = 1;
+/// The place of RCX.
+pub const RCX: usize = 2;
+/// The place of RBX.
+pub const RBX: usize = 3;
+/// The place of RSI.
+pub const RSI: usize = 4;
+/// The place of RDI.
+pub const RDI: usize = 5;
+/// The place of RBP.
+pub const RBP: usize = 6;
+/// The place of RSP.
+pub const RSP: usize = 7;
+
 /// The registers of an x86-64 machine at one instruction.
 ///
 /// The columns are those of the psABI's table of DWARF register numbers: RAX, RDX, RCX, RBX, RSI,
 /// RDI, RBP and RSP are 0 to 7, and R8 to R15 are 8 to 15. Each register is a word of 64 bits.
 #[derive(Clone, Copy, Debug, Default, PartialEq, Eq)]
 pub struct Context {
-    /// The sixteen general registers by their columns.
+    /// The sixteen general registers by their columns: [`RAX`] to [`RSP`], and then R8 to R15.
     pub registers: [u64; 16],
     /// Column 16: the return address, or the instruction pointer.
     pub ra: u64,

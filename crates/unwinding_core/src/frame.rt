@@ -25,11 +25,13 @@ use std::marker::{Model, PhantomData};
 use unwind_arch::Machine;
 
 /// Why a frame can't be made or undone.
-#[derive(Clone, Copy, Debug, PartialEq, Eq)]
+#[derive(Clone, Copy, Debug, PartialEq, Eq, thiserror::Error)]
 pub enum StepError {
     /// The row can't be read or run, or a register isn't the machine's.
+    #[error("call frame information: {0}")]
     Table(Error),
     /// A word of memory that is read at this address isn't wholly mapped.
+    #[error("the word of memory at {0:#x} isn't mapped")]
     Unmapped(u64),
 }
 

@@ -44,7 +44,8 @@ pub trait EhFrameFinder: Drop {
 }
 
 /// A finder is set already.
-#[derive(Clone, Copy, Debug, PartialEq, Eq)]
+#[derive(Clone, Copy, Debug, PartialEq, Eq, thiserror::Error)]
+#[error("a finder is set already")]
 pub struct SetCustomEhFrameFinderError;
 
 /// A finder by the tables that another value names: by a `.eh_frame_hdr` as [`GnuHdrFinder`] does, and by
