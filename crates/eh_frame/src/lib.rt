@@ -1,14 +1,15 @@
 //! Call frame information of ELF modules, read in place from the bytes of `.eh_frame`.
 //!
-//! [`EhFrame::fde_for_address`] finds the description of the function at an address. A table is
-//! read from left to right, and the first fault is told.
+//! [`EhFrame::fde_for_address`] finds the description of the function at an address, and
+//! [`EhFrame::entries`] goes through all entries. A table is read from left to right, and the first
+//! fault is reported.
 //!
 //! [`Fde::unwind_info_for_address`] runs its program, and gives the [`Row`] by which the caller of
 //! the function's frame is found. [`Fde::make_row`] makes one row after another in a [`RowRoom`].
 //!
-//! The forms that are read so far: lengths of four bytes, and common information entries of version
-//! 1 with the augmentations `zR`, `zPR` and `zPLR`. Pointers may have any encoding. Of the
-//! instructions `DW_CFA_advance_loc` and the three with an operand, `DW_CFA_offset`,
+//! Entries are read in all forms: lengths of four and of eight bytes, common information entries of
+//! the versions 1, 3 and 4, no augmentation or a `z` and the letters `L`, `P`, `R` and `S` in any
+//! order, and pointers of any encoding. Of the instructions these are read so far: `DW_CFA_advance_loc` and the three with an operand, `DW_CFA_offset`,
 //! `DW_CFA_restore`, `DW_CFA_nop`, `DW_CFA_undefined`, `DW_CFA_remember_state`,
 //! `DW_CFA_restore_state`, `DW_CFA_def_cfa`, `DW_CFA_def_cfa_register` and
 //! `DW_CFA_def_cfa_offset`; any other is unknown.
@@ -35,6 +36,8 @@ pub use header::{EhFrameHdr, HdrTable};
 pub use listing::Entries;
 pub use unwind_definitions::Error;
 
+#[cfg(test)]
+mod entry_tests;
 #[cfg(test)]
 mod header_tests;
 #[cfg(test)]

@@ -58,13 +58,13 @@ fn the_row_of_a_description(rt: HostRuntime) -> Result<(), Fail> {
     Ok(())
 }
 
-// Behind the description stands an entry of version 3.
+// Behind the description stands an entry of version 2.
 #[test]
 fn an_unreadable_entry_ends_the_search(rt: HostRuntime) -> Result<(), Fail> {
     let table = EhFrame::new(
         b"\x14\x00\x00\x00\x00\x00\x00\x00\x01\x7a\x52\x00\x01\x78\x10\x01\x1b\x0c\x07\x08\x90\x01\x00\x00\
     \x14\x00\x00\x00\x1c\x00\x00\x00\xe0\x0f\xf0\xff\x10\x00\x00\x00\x00\x41\x0e\x10\x83\x02\x00\x00\
-    \x05\x00\x00\x00\x00\x00\x00\x00\x03",
+    \x05\x00\x00\x00\x00\x00\x00\x00\x02",
         0x500000,
     );
     let bases = Bases::default();
@@ -85,16 +85,6 @@ fn the_first_fault_is_told(rt: HostRuntime) -> Result<(), Fail> {
     assert_eq!(rt;
         error_of(b"\x05\x00\x00\x00\x00\x00\x00\x00"),
         Some(Error::UnexpectedEof)
-    );
-    // 0xffffffff is a length of four bytes
-    assert_eq!(rt;
-        error_of(b"\xff\xff\xff\xff\x04\x00\x00\x00\x00\x00\x00\x00\x00\x00\x00\x00"),
-        Some(Error::UnexpectedEof)
-    );
-    // version 3
-    assert_eq!(rt;
-        error_of(b"\x05\x00\x00\x00\x00\x00\x00\x00\x03"),
-        Some(Error::UnknownVersion)
     );
     // augmentation zPR, nothing behind it
     assert_eq!(rt;

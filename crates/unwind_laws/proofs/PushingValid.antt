@@ -3,7 +3,7 @@ use Rattle.std.proofs.Common.{◌≡◌, ℕ, ◌-◌, ◌^◌, ◌<◌, ◌≤�
 use Rattle.std.specs.Prelude.{IsTrue, ◌≢◌}
 use Rattle.std.proofs.lemmas.Bool.{leb-true, ltb-true}
 use Rattle.memory_image.specs.Image.{Span, word_at}
-use Rattle.unwind_definitions.specs.Forms.{Forms, whole, plain, emitted}
+use Rattle.unwind_definitions.specs.Forms.{Forms, whole, emitted}
 use Rattle.unwind_definitions.specs.Instructions.{program, instruction_of}
 use Rattle.unwind_definitions.specs.Entries.{coding_of, AreEntries, entry_at}
 use Rattle.unwind_definitions.specs.Row.{row_at, rule_of}
@@ -35,10 +35,6 @@ pub record Reads (forms : Forms) : Type 0 where
 pub reads_whole : Reads whole
 unfolding entry_at row_at instruction_of
 reads_whole = record { listed = (24, refl, (48, refl, refl)); at_start = refl; at_body = refl; steady = refl }
-
-pub reads_plain : Reads plain
-unfolding entry_at row_at instruction_of
-reads_plain = record { listed = (24, refl, (48, refl, refl)); at_start = refl; at_body = refl; steady = refl }
 
 pub reads_emitted : Reads emitted
 unfolding entry_at row_at instruction_of

@@ -4,7 +4,7 @@ use Rattle.std.specs.Prelude.{IsTrue, IsFalse, ◌≢◌}
 use Rattle.std.specs.List.{Contains, AllPairs, AllByRecursion, list_any}
 use Rattle.std.proofs.lemmas.Bool.{leb-true, ltb-true, cases_lt}
 use Rattle.memory_image.specs.Image.{word_at}
-use Rattle.unwind_definitions.specs.Forms.{Forms, whole, plain, emitted as emitted_forms}
+use Rattle.unwind_definitions.specs.Forms.{Forms, whole, emitted as emitted_forms}
 use Rattle.unwind_definitions.specs.Instructions.{program, instruction_of}
 use Rattle.unwind_definitions.specs.Entries.{Fde, coding_of, AreEntries, entry_at}
 use Rattle.unwind_definitions.specs.Row.{row_at, rule_of}
@@ -47,24 +47,6 @@ pub record Reads (forms : Forms) : Type 0 where
 pub reads_whole : Reads whole
 unfolding entry_at row_at instruction_of
 reads_whole = record {
-  listed = (24, refl, (68, refl, (88, refl, (108, refl, refl))));
-  at_start = refl;
-  at_one = refl;
-  at_two = refl;
-  at_first = refl;
-  at_second = refl;
-  at_outermost = refl;
-  stay_start = refl;
-  stay_one = refl;
-  stay_two = refl;
-  stay_first = refl;
-  stay_second = refl;
-  stay_outermost = refl;
-}
-
-pub reads_plain : Reads plain
-unfolding entry_at row_at instruction_of
-reads_plain = record {
   listed = (24, refl, (68, refl, (88, refl, (108, refl, refl))));
   at_start = refl;
   at_one = refl;

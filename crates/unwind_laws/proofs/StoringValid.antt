@@ -4,7 +4,7 @@ use Rattle.std.specs.Prelude.{IsTrue, IsFalse, ◌≢◌}
 use Rattle.std.specs.List.{Contains, AllByRecursion, list_any}
 use Rattle.std.proofs.lemmas.Bool.{leb-true, ltb-true, cases_lt}
 use Rattle.memory_image.specs.Image.{word_at}
-use Rattle.unwind_definitions.specs.Forms.{Forms, whole, plain, emitted as emitted_forms}
+use Rattle.unwind_definitions.specs.Forms.{Forms, whole, emitted as emitted_forms}
 use Rattle.unwind_definitions.specs.Instructions.{program, instruction_of}
 use Rattle.unwind_definitions.specs.Entries.{Fde, coding_of, AreEntries, entry_at}
 use Rattle.unwind_definitions.specs.Row.{row_at, rule_of}
@@ -48,26 +48,6 @@ pub record Reads (forms : Forms) : Type 0 where
 pub reads_whole : Reads whole
 unfolding entry_at row_at instruction_of
 reads_whole = record {
-  listed = (24, refl, (48, refl, (80, refl, refl)));
-  at_storing = refl;
-  at_allocated = refl;
-  at_stored = refl;
-  at_framed = refl;
-  at_pushed = refl;
-  at_set = refl;
-  at_body = refl;
-  stay_storing = refl;
-  stay_allocated = refl;
-  stay_stored = refl;
-  stay_framed = refl;
-  stay_pushed = refl;
-  stay_set = refl;
-  stay_body = refl;
-}
-
-pub reads_plain : Reads plain
-unfolding entry_at row_at instruction_of
-reads_plain = record {
   listed = (24, refl, (48, refl, (80, refl, refl)));
   at_storing = refl;
   at_allocated = refl;

@@ -1,7 +1,12 @@
 //! Processes that are valid, byte for byte, and what is delivered there.
 
+<<<<<<< HEAD
 ghost use Rattle.std.specs.Prelude.{◌≡◌, ◌≢◌, ◌-◌, ◌<◌, ℕ, List, [], ◌∷◌, Some, Ok, Err, false};
 ghost use Rattle.unwind_definitions.specs.Forms.{emitted, plain, whole};
+=======
+ghost use Rattle.std.specs.Prelude.{◌≡◌, ◌-◌, ◌<◌, ℕ, List, [], ◌∷◌, Some, Ok, Err, false};
+ghost use Rattle.unwind_definitions.specs.Forms.{emitted, whole};
+>>>>>>> h/grammar
 ghost use Rattle.unwind_definitions.specs.Prologue.{Windows, steps_of};
 ghost use Rattle.unwind_definitions.specs.Entered.{IsEntered, stack_after};
 ghost use Rattle.unwind_definitions.specs.declared.error.Error.TheVariants.{UnexpectedEof};
@@ -25,7 +30,6 @@ ghost use Rattle.unwind_laws.specs.Windows as windows;
 pub fn one_call_is_valid()
     ensures process { IsProcess pushing.process }
     ensures whole { IsValid whole pushing.process (columns_of pushing.start) [] (pushing.function ∷ []) pushing.start pushing.calls }
-    ensures plain { IsValid plain pushing.process (columns_of pushing.start) [] (pushing.function ∷ []) pushing.start pushing.calls }
     ensures emitted { IsValid emitted pushing.process (columns_of pushing.start) [] (pushing.function ∷ []) pushing.start pushing.calls }
     ensures delivery { delivery_of 0 pushing.start pushing.calls ≡ pushing.delivery }
 {}
@@ -39,7 +43,6 @@ pub fn other_slot_is_no_entering()
 pub fn three_calls_are_valid()
     ensures process { IsProcess pushing.process_of_three }
     ensures whole { IsValid whole pushing.process_of_three (columns_of pushing.start) [] (pushing.function ∷ []) pushing.start pushing.calls_of_three }
-    ensures plain { IsValid plain pushing.process_of_three (columns_of pushing.start) [] (pushing.function ∷ []) pushing.start pushing.calls_of_three }
     ensures emitted { IsValid emitted pushing.process_of_three (columns_of pushing.start) [] (pushing.function ∷ []) pushing.start pushing.calls_of_three }
     ensures delivery { delivery_of 0 pushing.start pushing.calls_of_three ≡ pushing.delivery_of_three }
 {}
@@ -49,7 +52,6 @@ pub fn three_calls_are_valid()
 pub fn calls_of_an_outermost_function_are_valid()
     ensures process { IsProcess returning.process }
     ensures whole { IsValid whole returning.process (columns_of returning.start) [] returning.functions returning.start returning.calls }
-    ensures plain { IsValid plain returning.process (columns_of returning.start) [] returning.functions returning.start returning.calls }
     ensures emitted { IsValid emitted returning.process (columns_of returning.start) [] returning.functions returning.start returning.calls }
     ensures delivery { delivery_of 0 returning.start returning.calls ≡ returning.delivery }
 {}
@@ -64,7 +66,6 @@ pub fn state_stands_inside_a_prologue()
 pub fn calls_through_a_frame_pointer_are_valid()
     ensures process { IsProcess storing.process }
     ensures whole { IsValid whole storing.process (columns_of storing.start) [] storing.functions storing.start storing.calls }
-    ensures plain { IsValid plain storing.process (columns_of storing.start) [] storing.functions storing.start storing.calls }
     ensures emitted { IsValid emitted storing.process (columns_of storing.start) [] storing.functions storing.start storing.calls }
     ensures lower { storing.caller.sp < stack_after (storing.last.sp - 8) (steps_of storing.framed.prologue) }
     ensures delivery { delivery_of 0 storing.start storing.calls ≡ storing.delivery }

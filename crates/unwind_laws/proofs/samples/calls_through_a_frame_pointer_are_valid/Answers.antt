@@ -1,4 +1,4 @@
-use Rattle.unwind_laws.proofs.StoringValid.{pointed_process, pointed_valid, reads_whole, reads_plain, reads_emitted}
+use Rattle.unwind_laws.proofs.StoringValid.{pointed_process, pointed_valid, reads_whole, reads_emitted}
 use Rattle.unwind_laws.proofs.samples.calls_through_a_frame_pointer_are_valid.Goals as goal
 
 pub returns-clause-process : goal.returns-clause-process
@@ -6,9 +6,6 @@ returns-clause-process c = pointed_process
 
 pub returns-clause-whole : goal.returns-clause-whole
 returns-clause-whole c = pointed_valid _ reads_whole
-
-pub returns-clause-plain : goal.returns-clause-plain
-returns-clause-plain c = pointed_valid _ reads_plain
 
 pub returns-clause-emitted : goal.returns-clause-emitted
 returns-clause-emitted c = pointed_valid _ reads_emitted

@@ -1,0 +1,91 @@
+//! Entries and rows as text.
+
+use eh_frame::{CfaRule, Cie, Error, Fde, Pointer, Register, RegisterRule, Row};
+use std::alloc::AllocError;
+
+/// Puts what a common information entry says.
+pub fn put_cie(line: &mut String, cie: &Cie) -> Result<(), AllocError> {
+    let (offset, version) = (cie.offset(), cie.version());
+    let (code, data) = (cie.code_alignment(), cie.data_alignment());
+    let Register(column) = cie.return_column();
+    write!(line, "{offset:#x} cie version={version} code={code} data={data} return=r{column} \"")?;
+    for letter in cie.augmentation() {
+        line.push(char::from(*letter))?;
+    }
+    line.push('"')?;
+    if let Some(personality) = cie.personality() {
+        put_pointer(line, " personality", personality)?;
+    }
+    Ok(())
+}
+
+/// Puts what a description says of its function.
+pub fn put_fde(line: &mut String, fde: &Fde) -> Result<(), AllocError> {
+    let (offset, cie) = (fde.offset(), fde.cie().offset());
+    let (start, len) = (fde.initial_address(), fde.len());
+    write!(line, "{offset:#x} fde cie={cie:#x} start={start:#x} len={len:#x}")?;
+    match fde.lsda() {
+        Some(lsda) => put_pointer(line, " lsda", lsda),
+        None => Ok(()),
+    }
+}
+
+fn put_pointer(line: &mut String, label: &str, pointer: Pointer) -> Result<(), AllocError> {
+    match pointer {
+        Pointer::Direct(address) => write!(line, "{label}={address:#x}")?,
+        Pointer::Indirect(address) => write!(line, "{label}=[{address:#x}]")?,
+    }
+    Ok(())
+}
+
+/// Puts where the list of entries ends.
+pub fn put_end(line: &mut String, offset: u64) -> Result<(), AllocError> {
+    write!(line, "{offset:#x} end")?;
+    Ok(())
+}
+
+/// Puts why something can't be read.
+pub fn put_fault(line: &mut String, error: Error) -> Result<(), AllocError> {
+    write!(line, " {error:?}")?;
+    Ok(())
+}
+
+/// Puts the rule of the CFA, those of registers, and the size of the arguments where it isn't 0.
+pub fn put_row(line: &mut String, row: &Row) -> Result<(), AllocError> {
+    match row.cfa() {
+        CfaRule::RegisterAndOffset { register, offset } => {
+            let (register, offset) = (register.0, offset.cast_signed());
+            write!(line, " cfa=r{register}{offset:+}")?;
+        }
+        CfaRule::Expression(_) => line.push_str(" cfa=exp")?,
+    }
+    for (register, rule) in row.registers() {
+        let register = register.0;
+        write!(line, " r{register}=")?;
+        put_rule(line, rule)?;
+    }
+    let arguments = row.saved_args_size();
+    if arguments != 0 {
+        write!(line, " arguments={arguments:#x}")?;
+    }
+    Ok(())
+}
+
+fn put_rule(line: &mut String, rule: RegisterRule) -> Result<(), AllocError> {
+    match rule {
+        RegisterRule::Undefined => line.push('u')?,
+        RegisterRule::SameValue => line.push('s')?,
+        RegisterRule::Offset(offset) => {
+            let offset = offset.cast_signed();
+            write!(line, "c{offset:+}")?;
+        }
+        RegisterRule::ValOffset(offset) => {
+            let offset = offset.cast_signed();
+            write!(line, "v{offset:+}")?;
+        }
+        RegisterRule::Register(Register(register)) => write!(line, "r{register}")?,
+        RegisterRule::Expression(_) => line.push_str("exp")?,
+        RegisterRule::ValExpression(_) => line.push_str("vexp")?,
+    }
+    Ok(())
+}
