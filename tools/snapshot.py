@@ -41,9 +41,9 @@ from stacks import StackFrame, stack_front, stack_ranges  # noqa: E402
 
 REGISTERS = "rip rsp rax rbx rcx rdx rsi rdi rbp r8 r9 r10 r11 r12 r13 r14 r15".split()
 
-# So many of gdb's frames are asked where a thread's stacks lie. In a deeper stack the outermost frame
-# isn't known then, and it is taken whole.
-MOST_FRAMES = 4096
+# So many of gdb's frames are asked where a thread's stacks lie: gdb looks each up among all inner ones,
+# and the process waits. In a deeper stack the outermost frame isn't known, and it is taken whole.
+MOST_FRAMES = 2048
 
 USAGE = """snapshot FILE [--called | --interrupted] [--stack-bytes N] [--limit N] [--module NAME]... [--header]
                 [--exception WORD] [--class WORD] [--resume PAD RETURN]...
