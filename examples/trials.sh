@@ -112,9 +112,26 @@ of_marks() {
     echo "a front of 64 bytes: $("$UNWIND_CLI" walk < "$scratch/a.json" | tail -1)"
 }
 
+# A handler's frame is the innermost one, or after it the trampoline's call; the frame that the signal
+# interrupted stands before its instruction, and its callers after their calls.
+of_marks_at_a_signal() {
+    start "$out/other_stack"
+    local level marks= asked=()
+    for level in 0 1 2 3 4 5 6; do
+        asked+=(-ex "frame $level" -ex "snapshot $scratch/$level.json")
+    done
+    gdb -nx -batch -p "$started" -x "$tools/snapshot.py" "${asked[@]}" > /dev/null 2>&1
+    for level in 0 1 2 3 4 5 6; do
+        marks+=$(grep -q '"interrupted": true' "$scratch/$level.json" && echo 'i ' || echo 'c ')
+    done
+    echo "marks at a signal, from frame 0: $marks"
+    [ "$marks" = 'i i c i c c c ' ]
+}
+
 of_overflow
 of_other_stack
 of_threads
 of_files
 of_rust
 of_marks
+of_marks_at_a_signal

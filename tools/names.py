@@ -173,7 +173,8 @@ def without_result(name: str) -> str:
 def symbolizer(path: str) -> list[str]:
     """The program that tells places, with its words. Both read addresses and print the same form."""
     if shutil.which("llvm-symbolizer"):
-        return ["llvm-symbolizer", "--output-style=GNU", "--relativenames", "--no-demangle", "-a", "-f", "-i", "-e", path]
+        style = ["--output-style=GNU", "--relativenames", "--no-demangle"]
+        return ["llvm-symbolizer", *style, "-a", "-f", "-i", "-e", path]
     if shutil.which("addr2line"):
         return ["addr2line", "-a", "-f", "-i", "-e", path]
     raise Refused("wants llvm-symbolizer or addr2line (Debian: llvm, binutils)")
@@ -294,11 +295,15 @@ def texts_of(frame: ReportedFrame, modules: list[Module], symbols: dict[str, Sym
     if has_lines(known, address):
         texts = [f"{place.function} at {place.line}" for place in known.places[address]]
     else:
-        name = function_at(known.functions, address)
-        where = "" if module.path == program else f" from {module.path}"
-        offset = (frame.counter - module.bias) % WORD
-        texts = [f"{plain_name(demangled(name).strip())}{where}" if name else f"{os.path.basename(module.path)}+{offset:#x}"]
+        texts = [text_without_line(frame, module, function_at(known.functions, address), program)]
     return [f"{frame.counter:#x} in {texts[0]}", *texts[1:]]
+
+
+def text_without_line(frame: ReportedFrame, module: Module, name: str | None, program: str) -> str:
+    """A symbol and its library or, where there is no symbol, the module and the offset in it."""
+    if name is None:
+        return f"{os.path.basename(module.path)}+{(frame.counter - module.bias) % WORD:#x}"
+    return plain_name(demangled(name).strip()) + ("" if module.path == program else f" from {module.path}")
 
 
 def backtrace(report: str, found: Object, files: list[str]) -> list[str]:
