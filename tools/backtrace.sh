@@ -15,7 +15,8 @@ usage() {
     exit 2
 }
 
-# Leaves gdb's words for the process or the core in `asked`, and the option for all threads in `threads`.
+# Leaves gdb's words for the process or the core in `asked`, the program's file in `file`, and the option
+# for all threads in `threads`.
 read_words() {
     threads=
     if [ "${*: -1}" = --threads ]; then
@@ -24,8 +25,8 @@ read_words() {
     fi
     case $#:${1:-} in
         1:*[!0-9]* | 1:) usage ;;
-        1:*) asked=(-p "$1") ;;
-        2:*) asked=("$1" "$2") ;;
+        1:*) asked=(-p "$1") file=/proc/$1/exe ;;
+        2:*) asked=("$1" "$2") file=$1 ;;
         *) usage ;;
     esac
 }
@@ -44,15 +45,15 @@ print_one() {
     "$tools/join.py" "$1" > "$scratch/joined" || return 1
     "$unwind_cli" walk < "$scratch/joined" > "$scratch/report"
     local status=$?
-    "$tools/names.py" "$scratch/report" "$scratch/joined" || return 1
+    "$tools/names.py" "$scratch/report" "$scratch/joined" "$file" || return 1
     return $status
 }
 
 print_threads() {
-    local file failed=0
-    for file in $(ls -v "$scratch"/taken/thread-*.json); do
-        echo "Thread $(sed -nE 's/^  "(id|name)": "?([^",]*)"?,?$/\2/p' "$file" | paste -sd ' '):"
-        print_one "$file" || failed=$?
+    local part failed=0
+    for part in $(ls -v "$scratch"/taken/thread-*.json); do
+        echo "Thread $(sed -nE 's/^  "(id|name)": "?([^",]*)"?,?$/\2/p' "$part" | paste -sd ' '):"
+        print_one "$part" || failed=$?
         echo
     done
     return $failed

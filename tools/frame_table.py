@@ -88,7 +88,7 @@ def encoded_size(encoding: int) -> int:
 def encoded_pointer(table: Table, offset: int, encoding: int, data_base: int = 0) -> int:
     """The address that an encoded pointer says. Of an indirect one it is that of its cell."""
     encoded_size(encoding)
-    (value,) = struct.unpack_from(FORMATS[encoding & 0x0F], table.content, offset)
+    value: int = struct.unpack_from(FORMATS[encoding & 0x0F], table.content, offset)[0]
     bases = {ABSOLUTE: 0, RELATIVE_TO_PLACE: table.address + offset, RELATIVE_TO_DATA: data_base}
     if encoding & APPLICATION not in bases:
         raise Refused(f"the pointer encoding {encoding:#x} isn't known")

@@ -13,6 +13,7 @@ from __future__ import annotations
 
 import argparse
 import os
+import signal
 import sys
 
 from elf_image import Refused
@@ -53,6 +54,7 @@ def main() -> None:
     parser.add_argument("files", nargs="+", metavar="FILE")
     parser.add_argument("--samples", action="store_true", help="all threads, for the command fold")
     parser.add_argument("--bare", action="store_true", help="without names of modules and threads")
+    signal.signal(signal.SIGPIPE, signal.SIG_DFL)
     try:
         sys.stdout.write(text_of(joined(parser.parse_args())))
     except (Refused, KeyError) as error:

@@ -1,12 +1,13 @@
 #!/usr/bin/env python3
 """Prints the report of a walk as a backtrace with names.
 
-    names.py REPORT SNAPSHOT        REPORT may be -, for standard input
+    names.py REPORT SNAPSHOT [FILE]...        REPORT may be -, for standard input
 
 SNAPSHOT is what was walked: a snapshot, or a thread's file of `snapshot DIR --threads`. Its modules
 tell the files, whose symbols and debug information give the names: by `llvm-symbolizer` or, where
 there is none, by `addr2line` (Debian: llvm, binutils), with debug information that lies apart in
-/usr/lib/debug. A file whose build id isn't that of the snapshot is not asked.
+/usr/lib/debug. A file whose build id isn't that of the snapshot is not asked; a FILE that has it is,
+where the module's own is gone (/proc/PID/exe, while the process lives).
 
     #0 0x401137 in inner at nested.c:12     a function with debug information
     #1 caller at nested.c:20                one that the function above was inlined into
@@ -20,6 +21,7 @@ import bisect
 import os
 import re
 import shutil
+import signal
 import subprocess
 import sys
 from dataclasses import dataclass, field
@@ -171,7 +173,8 @@ def without_result(name: str) -> str:
 def symbolizer(path: str) -> list[str]:
     """The program that tells places, with its words. Both read addresses and print the same form."""
     if shutil.which("llvm-symbolizer"):
-        return ["llvm-symbolizer", "--output-style=GNU", "--relativenames", "--no-demangle", "-a", "-f", "-i", "-e", path]
+        style = ["--output-style=GNU", "--relativenames", "--no-demangle"]
+        return ["llvm-symbolizer", *style, "-a", "-f", "-i", "-e", path]
     if shutil.which("addr2line"):
         return ["addr2line", "-a", "-f", "-i", "-e", path]
     raise Refused("wants llvm-symbolizer or addr2line (Debian: llvm, binutils)")
@@ -231,9 +234,10 @@ def has_build_id(path: str, build_id: str | None) -> bool:
         return False
 
 
-def symbols_of(path: str, build_id: str | None, addresses: list[int]) -> Symbols:
-    """What is known of a file's addresses."""
-    if not has_build_id(path, build_id):
+def symbols_of(files: list[str], build_id: str | None, addresses: list[int]) -> Symbols:
+    """What the first of the files that is the module's tells of addresses."""
+    path = next((file for file in files if has_build_id(file, build_id)), None)
+    if path is None:
         return Symbols()
     text = "".join(f"{address:#x}\n" for address in addresses)
     found = Symbols(places_of(demangled(run_program(symbolizer(path), text))))
@@ -266,15 +270,17 @@ def module_at(modules: list[Module], address: int) -> Module | None:
     return next((module for module in modules if module.start <= address < module.end), None)
 
 
-def all_symbols(frames: list[ReportedFrame], modules: list[Module]) -> dict[str, Symbols]:
-    """What is known of all frames, by the paths of files. Each file is asked once."""
+def all_symbols(frames: list[ReportedFrame], modules: list[Module], files: list[str]) -> dict[str, Symbols]:
+    """What is known of all frames, by the paths of modules. Each is asked once. Of a module
+    without a build id no other file is known to be the same."""
     addresses: dict[Module, set[int]] = {}
     for frame in frames:
         module = module_at(modules, frame.address)
         if module is not None:
             addresses.setdefault(module, set()).add((frame.address - module.bias) % WORD)
     return {
-        module.path: symbols_of(module.path, module.build_id, sorted(here)) for module, here in addresses.items()
+        module.path: symbols_of([module.path, *(files if module.build_id else [])], module.build_id, sorted(here))
+        for module, here in addresses.items()
     }
 
 
@@ -289,18 +295,22 @@ def texts_of(frame: ReportedFrame, modules: list[Module], symbols: dict[str, Sym
     if has_lines(known, address):
         texts = [f"{place.function} at {place.line}" for place in known.places[address]]
     else:
-        name = function_at(known.functions, address)
-        where = "" if module.path == program else f" from {module.path}"
-        offset = (frame.counter - module.bias) % WORD
-        texts = [f"{plain_name(demangled(name).strip())}{where}" if name else f"{os.path.basename(module.path)}+{offset:#x}"]
+        texts = [text_without_line(frame, module, function_at(known.functions, address), program)]
     return [f"{frame.counter:#x} in {texts[0]}", *texts[1:]]
 
 
-def backtrace(report: str, found: Object) -> list[str]:
+def text_without_line(frame: ReportedFrame, module: Module, name: str | None, program: str) -> str:
+    """A symbol and its library or, where there is no symbol, the module and the offset in it."""
+    if name is None:
+        return f"{os.path.basename(module.path)}+{(frame.counter - module.bias) % WORD:#x}"
+    return plain_name(demangled(name).strip()) + ("" if module.path == program else f" from {module.path}")
+
+
+def backtrace(report: str, found: Object, files: list[str]) -> list[str]:
     """The lines of the backtrace."""
     modules = modules_of(found)
     frames = reported_frames(report, found.get("interrupted", False), trampolines_of(found))
-    symbols = all_symbols(frames, modules)
+    symbols = all_symbols(frames, modules, files)
     program = modules[0].path if modules else ""
     texts = [text for frame in frames for text in texts_of(frame, modules, symbols, program)]
     last = last_line(report)
@@ -309,13 +319,14 @@ def backtrace(report: str, found: Object) -> list[str]:
 
 def main() -> None:
     """Runs the program."""
-    if len(sys.argv) != 3:
-        sys.exit("usage: names.py REPORT SNAPSHOT")
+    if len(sys.argv) < 3:
+        sys.exit("usage: names.py REPORT SNAPSHOT [FILE]...")
+    signal.signal(signal.SIGPIPE, signal.SIG_DFL)
     try:
         found = read_snapshot(sys.argv[2])
         with sys.stdin if sys.argv[1] == "-" else open(sys.argv[1], encoding="ascii") as stream:
             report = stream.read()
-        print("\n".join(backtrace(report, found)))
+        print("\n".join(backtrace(report, found, sys.argv[3:])))
     except (Refused, OSError) as error:
         sys.exit(f"names.py: {error}")
 

@@ -41,9 +41,9 @@ from stacks import StackFrame, stack_front, stack_ranges  # noqa: E402
 
 REGISTERS = "rip rsp rax rbx rcx rdx rsi rdi rbp r8 r9 r10 r11 r12 r13 r14 r15".split()
 
-# So many of gdb's frames are asked where a thread's stacks lie. In a deeper stack the outermost frame
-# isn't known then, and it is taken whole.
-MOST_FRAMES = 4096
+# So many of gdb's frames are asked where a thread's stacks lie: gdb looks each up among all inner ones,
+# and the process waits. In a deeper stack the outermost frame isn't known, and it is taken whole.
+MOST_FRAMES = 2048
 
 USAGE = """snapshot FILE [--called | --interrupted] [--stack-bytes N] [--limit N] [--module NAME]... [--header]
                 [--exception WORD] [--class WORD] [--resume PAD RETURN]...
@@ -96,7 +96,9 @@ class Process:
 
 FILE_LINE = re.compile(r"^\t`(.+)', file type ")
 SECTION_LINE = re.compile(r"^\t(0x[0-9a-f]+) - (0x[0-9a-f]+) is (\S+)(?: in (.+))?$")
-MAPPING_LINE = re.compile(r"^\s*0x([0-9a-f]+)\s+0x([0-9a-f]+)\s+0x[0-9a-f]+\s+0x([0-9a-f]+)(?:\s+([-r][-w][-x][ps]))?\s*(.*)$")
+MAPPING_LINE = re.compile(
+    r"^\s*0x([0-9a-f]+)\s+0x([0-9a-f]+)\s+0x[0-9a-f]+\s+0x([0-9a-f]+)(?:\s+([-r][-w][-x][ps]))?\s*(.*)$"
+)
 
 
 def loaded_files() -> LoadedFiles:
@@ -395,13 +397,18 @@ def cells_of(table: Range) -> list[Range]:
         return []
 
 
+def bias_of(elf: ElfImage, source: Source) -> int:
+    """How far above its own addresses a file is loaded."""
+    if source.mapping is None:
+        return elf.bias_of_sections(source.sections)
+    return elf.bias_of_mapping(source.mapping.place.start, source.mapping.offset)
+
+
 def module_of(source: Source, process: Process, options: argparse.Namespace) -> Module:
     """What a snapshot takes of a file. Only deliveries ask for cells of personalities."""
     with opened_file(source.opened, process.mappings) as stream:
         elf = ElfImage(stream)
-        mapping = source.mapping
-        by_mapping = mapping and elf.bias_of_mapping(mapping.place.start, mapping.offset)
-        bias = elf.bias_of_sections(source.sections) if by_mapping is None else by_mapping
+        bias = bias_of(elf, source)
         check_same(elf, bias)
         code = elf.code_ranges(bias)
         frame_table = elf.section_range(".eh_frame", bias)

@@ -5,6 +5,7 @@ and modules that all threads have, and for each thread a small file that refers 
 """
 from __future__ import annotations
 
+import functools
 import json
 import os
 import shutil
@@ -145,7 +146,7 @@ def place_whole(target: str, make: Callable[[str], None]) -> None:
         shutil.rmtree(folder, ignore_errors=True)
 
 
-def write_private(file: str, text: str) -> None:
+def write_private(text: str, file: str) -> None:
     """Writes a new file that only its owner may read."""
     with open(os.open(file, os.O_WRONLY | os.O_CREAT | os.O_EXCL, 0o600), "w", encoding="ascii") as stream:
         stream.write(text)
@@ -157,9 +158,16 @@ def write_whole(file: str, text: str) -> None:
     if os.path.exists(file) and not os.path.isfile(file):
         raise Refused(f"{file} can't be written: it is no ordinary file")
     try:
-        place_whole(file, lambda part: write_private(part, text))
+        place_whole(file, functools.partial(write_private, text))
     except OSError as error:
         raise Refused(f"{file} can't be written: {error.strerror}")
+
+
+def make_folder(texts: dict[str, str], folder: str) -> None:
+    """Makes a new folder with files that only its owner may read."""
+    os.mkdir(folder, 0o700)
+    for name, text in texts.items():
+        write_private(text, os.path.join(folder, name))
 
 
 def write_folder(folder: str, texts: dict[str, str]) -> None:
@@ -167,13 +175,7 @@ def write_folder(folder: str, texts: dict[str, str]) -> None:
     folder = os.path.realpath(folder)
     if os.path.exists(folder) and (not os.path.isdir(folder) or os.listdir(folder)):
         raise Refused(f"{folder} can't be written: it is no empty folder")
-
-    def make(part: str) -> None:
-        os.mkdir(part, 0o700)
-        for name, text in texts.items():
-            write_private(os.path.join(part, name), text)
-
     try:
-        place_whole(folder, make)
+        place_whole(folder, functools.partial(make_folder, texts))
     except OSError as error:
         raise Refused(f"{folder} can't be written: {error.strerror}")

@@ -27,7 +27,8 @@ class Names(unittest.TestCase):
                 self.assertEqual(plain_name(name), expected)
 
     def test_known_lines(self) -> None:
-        cases = {"nested.c:12": "nested.c:12", "a.c:3 (discriminator 2)": "a.c:3", "??:0": None, "??:?": None, "a.c:0": None, "a.c:?": None}
+        cases = {"nested.c:12": "nested.c:12", "a.c:3 (discriminator 2)": "a.c:3",
+                 "??:0": None, "??:?": None, "a.c:0": None, "a.c:?": None}
         for text, expected in cases.items():
             with self.subTest(text):
                 self.assertEqual(known_line(text), expected)
@@ -46,7 +47,9 @@ class Names(unittest.TestCase):
 
 
 class Reports(unittest.TestCase):
-    REPORT = "frame 0 ra=0x100 sp=0x1\nframe 1 ra=0x205 sp=0x2\nframe 2 ra=0x300 sp=0x3\nframe 3 ra=0x0 sp=0x4\nend\n"
+    REPORT = "".join(f"frame {level} ra={address} sp=0x1\n" for level, address in enumerate(
+        ["0x100", "0x205", "0x300", "0x0"]
+    )) + "end\n"
 
     def test_frames_after_calls_and_signals(self) -> None:
         frames = reported_frames(self.REPORT, True, [(0x204, 0x20A)])

@@ -1,20 +1,21 @@
 """Tests of snapshot_file.py and join.py: joining, reading and writing."""
 import json
 import os
+import shutil
 import tempfile
 import unittest
 
 from elf_image import Range, Refused
 from join import samples_of, without_names
 from snapshot_file import (
-    Region, joined_regions, read_snapshot, regions_of, without_overlaps, write_folder, write_whole,
+    Object, Region, joined_regions, read_snapshot, regions_of, without_overlaps, write_folder, write_whole,
 )
 
 MODULE = {"kind": "elf", "start": "0x1000", "end": "0x2000", "eh_frame": "0x3000", "path": "/bin/a", "bias": "0x0"}
 TABLES = {"regions": [{"address": "0x3000", "bytes": "00112233"}], "modules": [MODULE], "limit": 5000}
 
 
-def thread(number: int, address: str, content: str) -> dict:
+def thread(number: int, address: str, content: str) -> Object:
     """A thread's file."""
     return {
         "tables": "tables.json", "thread": {"id": number, "name": f"worker {number}"},
@@ -36,7 +37,7 @@ class Regions(unittest.TestCase):
 class Threads(unittest.TestCase):
     def setUp(self) -> None:
         self.folder = tempfile.mkdtemp()
-        self.addCleanup(lambda: [os.remove(os.path.join(self.folder, f)) for f in os.listdir(self.folder)])
+        self.addCleanup(shutil.rmtree, self.folder)
         parts = {"tables.json": TABLES, "thread-7.json": thread(7, "0x8000", "aabb"),
                  "thread-8.json": thread(8, "0x8001", "bbcc")}
         for name, part in parts.items():
