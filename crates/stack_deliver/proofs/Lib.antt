@@ -1,5 +1,6 @@
 pub mod Apart
 pub mod Chains
+pub mod Counted
 pub mod CauseAnswers
 pub mod ChainDelivered
 pub mod ContextLemmas

@@ -69,31 +69,18 @@ module _ (space : SpaceValue) where
       rw (same, none) refl
 
   -- an address that nothing covers ends the stack
-<<<<<<< HEAD
-  by_module : (a : ℕ) → described.IsUncovered emitted (process_of space) a → (o : Option Module) → module_at space.modules a ≡ o → frame_in space.image a o ≡ Ok None
-  by_module a free None found = refl
-  by_module a free (Some m) found =
-      let r = module_at-found space.modules m a found in
-      rw (in_no_entry a m (free (module_of m) (contains_in_map space.modules m r.0) r.1) m.frame.kind refl) refl
-
-  -- the stack ends where the return address is 0 or no function covers it
-  pub ends : (functions : List Function) (c : Context) (s : State) → Shows (columns_of c) s → IsEnd space.image (described.IsUncovered emitted (process_of space)) functions s → frame_of space c false ≡ Ok None
-  unfolding frame_of
-  ends functions c s shows end = go end.ends
-=======
-  by_module : HaveFrameTables (process_of space) → (c : Context) (a : ℕ) → described.IsUncovered emitted (process_of space) a → (o : Option Module) → module_at space.modules a ≡ o → in_module space.image c a o ≡ Ok None
-  by_module tables c a free None found = refl
-  by_module tables c a free (Some m) found =
+  by_module : HaveFrameTables (process_of space) → (a : ℕ) → described.IsUncovered emitted (process_of space) a → (o : Option Module) → module_at space.modules a ≡ o → frame_in space.image a o ≡ Ok None
+  by_module tables a free None found = refl
+  by_module tables a free (Some m) found =
       let r = module_at-found space.modules m a found in
       let known : Contains (map module_of space.modules) (module_of m) = contains_in_map space.modules m r.0 in
       let own : described.header_of (tables_of m.frame.kind) ≡ None = lists.all_contains (λ (k : described.Module). described.header_of k.tables ≡ None) (map module_of space.modules) (module_of m) tables known in
-      ends_in_module c a m (in_no_entry a m (free (module_of m) known r.1) own m.frame.kind refl)
+      rw (in_no_entry a m (free (module_of m) known r.1) own m.frame.kind refl) refl
 
   -- the stack ends where the return address is 0 or no function covers it
-  pub ends : HaveFrameTables (process_of space) → (functions : List Function) (c : Context) (s : State) → Shows (columns_of c) s → IsEnd space.image (described.IsUncovered emitted (process_of space)) functions s → step_of space c false ≡ Ok None
-  unfolding step_of
+  pub ends : HaveFrameTables (process_of space) → (functions : List Function) (c : Context) (s : State) → Shows (columns_of c) s → IsEnd space.image (described.IsUncovered emitted (process_of space)) functions s → frame_of space c false ≡ Ok None
+  unfolding frame_of
   ends tables functions c s shows end = go end.ends
->>>>>>> h/finders
     where
       go : (s.ra ≡ 0) ⊎ ((s.ra ≢ 0) × described.IsUncovered emitted (process_of space) (s.ra - 1)) → frame_of space c false ≡ Ok None
       go (inl none) = let e : columns_of c 16 ≡ Some s.ra = shows.ra in let at : c.ra ≡ 0 = cc in rw at refl
@@ -102,17 +89,12 @@ module _ (space : SpaceValue) where
           let at : c.ra ≡ s.ra = cc in
           let some : s.ra ≢ 0 = u.0 in
           let nonzero : eqb c.ra 0 ≡ false = grind (arith, nat_tests) in
-<<<<<<< HEAD
           let low : s.ra < 2 ^ 64 = end.state.ra in
           let asked : address_of_call c.ra false ≡ s.ra - 1 = omega arith in
-          rw (nonzero, asked) (by_module (s.ra - 1) u.1 (module_at space.modules (s.ra - 1)) refl)
+          rw (nonzero, asked) (by_module tables (s.ra - 1) u.1 (module_at space.modules (s.ra - 1)) refl)
 
-  step_ends : (functions : List Function) (c : Context) (s : State) → Shows (columns_of c) s → IsEnd space.image (described.IsUncovered emitted (process_of space)) functions s → step_of space c false ≡ Ok None
-  step_ends functions c s shows end = step_is space c false ∙ ap (stepped_by space.image c) (ends functions c s shows end)
-=======
-          let free : described.IsUncovered emitted (process_of space) (c.ra - 1) = subst (λ (n : ℕ). described.IsUncovered emitted (process_of space) (n - 1)) (sym at) u.1 in
-          rw nonzero (by_module tables c (c.ra - 1) free (module_at space.modules (c.ra - 1)) refl)
->>>>>>> h/finders
+  step_ends : HaveFrameTables (process_of space) → (functions : List Function) (c : Context) (s : State) → Shows (columns_of c) s → IsEnd space.image (described.IsUncovered emitted (process_of space)) functions s → step_of space c false ≡ Ok None
+  step_ends tables functions c s shows end = step_is space c false ∙ ap (stepped_by space.image c) (ends tables functions c s shows end)
 
   state_of : (functions : List Function) (s : State) (calls : List Call) → IsChain space.image (described.IsUncovered emitted (process_of space)) functions s calls → IsState s
   state_of functions s [] chain = chain.state
@@ -123,11 +105,7 @@ module _ (space : SpaceValue) where
       IsChain space.image (described.IsUncovered emitted (process_of space)) functions s calls → AllByRecursion (λ (k : Call). LiesDescribed emitted (process_of space) functions k.callee) calls → Shows (columns_of c) s → length calls < room →
       (cs : List Context) × (line_of space room c false ≡ Ok cs) × EachShows cs (states_of s calls)
   line_shows apart tables functions are s [] c zero chain lie shows less = absurd (omega arith)
-<<<<<<< HEAD
-  line_shows apart tables functions are s [] c (suc room) chain lie shows less = (c ∷ [], rw (step_ends functions c s shows chain) refl, (shows, tt))
-=======
-  line_shows apart tables functions are s [] c (suc room) chain lie shows less = (c ∷ [], rw (ends tables functions c s shows chain) refl, (shows, tt))
->>>>>>> h/finders
+  line_shows apart tables functions are s [] c (suc room) chain lie shows less = (c ∷ [], rw (step_ends tables functions c s shows chain) refl, (shows, tt))
   line_shows apart tables functions are s (k ∷ calls) c zero chain lie shows less = absurd (omega arith)
   line_shows apart tables functions are s (k ∷ calls) c (suc room) chain lie shows less =
       let link : IsLink space.image functions s k calls = chain.0 in

@@ -22,14 +22,9 @@ use Rattle.stack_deliver.specs.declared.delivery.DeliverError.{DeliverError}
 use Rattle.stack_deliver.specs.declared.passes.Phase.{Phase}
 use Rattle.stack_deliver.specs.Modules.{SpaceValue}
 use Rattle.stack_deliver.specs.Processes.{process_of}
-<<<<<<< HEAD
-use Rattle.stack_deliver.specs.Undone.{IsDescribedCall}
+use Rattle.stack_deliver.specs.Undone.{IsDescribedCall, HaveFrameTables}
 use Rattle.stack_deliver.specs.Stepping.{FrameAt, frame_of, caller_by}
 use Rattle.stack_deliver.specs.Passes.{stops, past_arguments, Stops, Goes, turn_of, with_context, pass_of, enters, turn_for}
-=======
-use Rattle.stack_deliver.specs.Undone.{IsDescribedCall, HaveFrameTables}
-use Rattle.stack_deliver.specs.Passes.{FrameAt, frame_of, caller_by, stops, past_arguments, Stops, Goes, turn_of, with_context, pass_of, enters}
->>>>>>> h/finders
 use Rattle.stack_deliver.proofs.ContextLemmas.{IsWhole}
 use Rattle.stack_deliver.proofs.LineShows.{ends}
 use Rattle.stack_deliver.proofs.MetFrames.{Met}
@@ -71,18 +66,10 @@ module _ (space : SpaceValue) (c : Context) (s : State) (k : Call) (m : Met spac
 -- a pass ends there
 pub pass_ends_at : (space : SpaceValue) → HaveFrameTables (process_of space) → (functions : List Function) (c : Context) (s : State) (p : Phase) (room : ℕ) → 0 < room → Shows (columns_of c) s → IsEnd space.image (IsUncovered emitted (process_of space)) functions s →
     pass_of p space room c false ≡ Ok (record { contexts = c ∷ []; stop = None })
-<<<<<<< HEAD
 unfolding turn_for
-pass_ends_at space functions c s p zero some shows end = absurd (omega arith)
-pass_ends_at space functions c s p (suc n) some shows end =
-    rw (ends space functions c s shows end) refl
-=======
-unfolding turn_of
 pass_ends_at space tables functions c s p zero some shows end = absurd (omega arith)
 pass_ends_at space tables functions c s p (suc n) some shows end =
-    let framed : frame_of space c false ≡ Ok None = none_framed space.image c (frame_of space c false) (sym (step_is space c false) ∙ ends space tables functions c s shows end) in
-    rw framed refl
->>>>>>> h/finders
+    rw (ends space tables functions c s shows end) refl
 
 -- ---- calls of a chain
 

@@ -1,11 +1,6 @@
 -- From a frame to its caller, by the frame table of the module that holds it.
-<<<<<<< HEAD
-use Rattle.std.specs.Prelude.{◌≡◌, ◌+◌, ◌≢◌, ◌⊎◌, ℕ, ◌==◌, Bool, Option, Some, None, Result, Ok, Err, List, if◌then◌else◌}
-use Rattle.memory_image.specs.Image.{Span}
-=======
-use Rattle.std.specs.Prelude.{◌≡◌, ◌≢◌, ◌⊎◌, ℕ, ◌+◌, ◌%◌, ◌^◌, ◌<◌, ◌==◌, Bool, Option, Some, None, Result, Ok, Err, List, if◌then◌else◌}
+use Rattle.std.specs.Prelude.{◌≡◌, ◌≢◌, ◌⊎◌, ℕ, ◌+◌, ◌*◌, ◌%◌, ◌^◌, ◌<◌, ◌≤◌, ◌==◌, Bool, Option, Some, None, Result, Ok, Err, List, if◌then◌else◌}
 use Rattle.memory_image.specs.Image.{Span, word_at}
->>>>>>> h/oneloop
 use Rattle.unwind_definitions.specs.declared.error.Error.{Error as Fault}
 use Rattle.unwind_definitions.specs.Forms.{emitted}
 use Rattle.unwind_definitions.specs.LanguageTable.{input_at}
@@ -21,16 +16,11 @@ use Rattle.unwind_arch.specs.Contexts.{columns_of, context_of}
 use Rattle.unwinding_core.specs.declared.find_fde.custom.FrameInfoKind.{FrameInfoKind}
 use Rattle.unwinding_core.specs.declared.find_fde.custom.FrameInfoKind.TheVariants.{EhFrame, EhFrameHdr}
 use Rattle.unwinding_core.specs.Calling.{no_expressions}
-<<<<<<< HEAD
-use Rattle.unwinding_core.specs.Finding.{FoundFde, table_bases}
-use Rattle.unwinding_core.specs.Named.{found_by}
-=======
-use Rattle.unwinding_core.specs.Finding.{FoundFde, relative_to, table_bases}
-use Rattle.unwinding_core.specs.Framed.{address_asked}
+use Rattle.std.specs.List.{AllByRecursion}
 use Rattle.unwind_definitions.specs.HeaderSearch.{AreWithinDigits}
+use Rattle.unwinding_core.specs.Finding.{FoundFde, relative_to, table_bases}
 use Rattle.unwinding_core.specs.HeaderFinding.{found_by_header}
 use Rattle.unwinding_core.specs.Named.{found_by, pairs_by}
->>>>>>> h/finders
 use Rattle.stack_deliver.specs.declared.delivery.Stepped.{Stepped}
 use Rattle.stack_deliver.specs.declared.delivery.DeliverError.{DeliverError}
 use Rattle.stack_deliver.specs.declared.delivery.DeliverError.TheVariants.{Table, Unmapped}
@@ -95,11 +85,21 @@ pairs_in_module image (Some m) = pairs_by m.frame image
 
 -- the same for the frame that a context shows: none at a return address of 0
 abbrev pub pairs_at : SpaceValue → Context → Bool → ℕ
-pairs_at space c interrupted = if c.ra == 0 then 0 else pairs_in_module space.image (module_at space.modules (address_asked c.ra interrupted))
+pairs_at space c interrupted =
+    if c.ra == 0 then 0
+    else pairs_in_module space.image (module_at space.modules (address_of_call c.ra interrupted))
 
--- a count of steps rises by no more than a search among so many pairs takes: as many as their number has binary digits
+-- A count of steps rises by no more than a search among so many pairs takes: as many as their number has binary digits.
 abbrev pub RisesBySearch : ℕ → ℕ → ℕ → Type 0
 RisesBySearch pairs old new = (taken : ℕ) × (new ≡ old + taken) × AreWithinDigits pairs taken
+
+-- the number of pairs of each module's header can be written with so many binary digits: with none where each names a frame table
+abbrev pub CountsWithin : SpaceValue → ℕ → Type 0
+CountsWithin space digits = AllByRecursion (λ (m : Module). pairs_by m.frame space.image < 2 ^ digits) space.modules
+
+-- A count of steps rises by no more than so many searches take, whichever modules of a space they are in.
+abbrev pub RisesWithin : SpaceValue → ℕ → ℕ → ℕ → Type 0
+RisesWithin space searches old new = (digits : ℕ) → CountsWithin space digits → new ≤ old + searches * digits
 
 -- ---- the same in the words of its answers
 

@@ -1,11 +1,12 @@
 // The delivery of an exception: the states from the start outwards.
-ghost use Rattle.std.specs.Prelude.{◌≡◌, ◌≢◌, ◌⊎◌, ◌↔◌, ◌≤◌, ℕ, List, [], None, Err, length, IsOkAnd, OnErr};
+ghost use Rattle.std.specs.Prelude.{◌≡◌, ◌≢◌, ◌+◌, ◌*◌, ◌⊎◌, ◌↔◌, ◌≤◌, ℕ, List, [], None, Err, length, IsOkAnd, OnErr};
 ghost use Rattle.memory_image.specs.Image.{word_at};
 ghost use Rattle.unwind_definitions.specs.State.{State};
 ghost use Rattle.unwind_definitions.specs.Function.{Function};
 ghost use Rattle.unwind_definitions.specs.Chain.{Call};
 ghost use Rattle.stack_deliver.specs.Causes.{IsRefused, EndsBy};
 ghost use Rattle.stack_deliver.specs.Delivering.{Delivers, delivery_of};
+ghost use Rattle.stack_deliver.specs.Stepping.{RisesWithin};
 ghost use Rattle.stack_deliver.specs.Walking.{StartsValidChain, ShowsDelivery, IsDelivered, delivered_in};
 
 use crate::delivery::{DeliverError, Delivery, Ending, Outcome, Stepped};
@@ -33,7 +34,7 @@ fn delivered<L: Ledger>(
     requires empty { (room.old.visited ≡ []) × (room.old.trail ≡ []) }
     ensures exact { IsDelivered result room.new (delivery_of space.now start exception resumes.now limit) }
     ensures places { room.new.limit ≡ room.old.limit }
-    ensures unticked { steps.new.number ≡ steps.old.number }
+    ensures ticks { RisesWithin space.now ((limit + 2) * limit) steps.old.number steps.new.number }
 {
     let mut rows = RowRoom::new();
     let state = Stepped {
@@ -75,7 +76,7 @@ fn emptied<L: Ledger>(
     ensures emptied { OnErr result ((room.new.visited ≡ []) × (room.new.trail ≡ [])) }
     ensures places { room.new.limit ≡ room.old.limit }
     ensures whole { length start.registers ≡ 16 }
-    ensures unticked { steps.new.number ≡ steps.old.number }
+    ensures ticks { RisesWithin space.now ((limit + 2) * limit) steps.old.number steps.new.number }
 {
     room.clear();
     match delivered(space, start, exception, resumes, limit, room, steps) {
@@ -143,8 +144,8 @@ pub fn deliver_into<L: Ledger>(
     // What is delivered to a valid chain is what the definition says of the chain.
     ensures chain { (functions : List Function) (s : State) (calls : List Call) → StartsValidChain space.now start.now resumes.now limit functions s calls →
         IsOkAnd result (λ ending. ShowsDelivery (delivered_in room.new ending) exception s calls) }
-    // A scan of a frame table isn't counted.
-    ensures unticked { steps.new.number ≡ steps.old.number }
+    // The search and at most one pass more than the limit, each through as many states as the limit allows.
+    ensures ticks { RisesWithin space.now ((limit + 2) * limit) steps.old.number steps.new.number }
 {
     // It is for languages that tell their own exceptions from those of others.
     let _ = class;

@@ -1,6 +1,6 @@
 // The passes over a stack: the search for a frame whose language takes the exception, and then the
 // cleanups on the way to it. Itanium C++ ABI, exception handling, level I, section 1.3.
-ghost use Rattle.std.specs.Prelude.{◌≡◌, ◌≤◌, ◌<◌, ◌++◌, ◌∷◌, Err, [], true, false, length, Some, OnOk, IfOk};
+ghost use Rattle.std.specs.Prelude.{◌≡◌, ◌≤◌, ◌<◌, ◌+◌, ◌*◌, ◌++◌, ◌∷◌, Err, [], true, false, length, Some, OnOk, IfOk};
 ghost use Rattle.std.specs.Option.{option_map};
 ghost use Rattle.unwinding_core.specs.Answered.{answered};
 ghost use Rattle.unwinding_core.specs.Languages.{action_of};
@@ -8,6 +8,7 @@ ghost use Rattle.stack_deliver.specs.Passes.{asked_of, stops, stop_of, past_argu
 ghost use Rattle.stack_deliver.specs.Passing.{turn_shown, stop_shown, end_shown, visits, visited_with, StaysAt, IsOutward, IsPassed};
 ghost use Rattle.stack_deliver.specs.Results.{result_map};
 ghost use Rattle.stack_deliver.specs.Resumes.{return_of};
+ghost use Rattle.stack_deliver.specs.Stepping.{pairs_at, RisesBySearch, RisesWithin};
 
 use crate::delivery::{DeliverError, Ending, Outcome, Stepped, Trail};
 use crate::resumes::Resumes;
@@ -148,7 +149,7 @@ fn meet<'a, L: Ledger>(
 ) -> Result<Turn, DeliverError>
     ensures met { result_map (turn_shown state.new) result ≡ turn_for phase space.now state.old.context state.old.signal }
     ensures stays { IfOk result (λ turn. StaysAt turn state.old state.new) }
-    ensures unticked { steps.new.number ≡ steps.old.number }
+    ensures ticks { RisesBySearch (pairs_at space.now state.old.context state.old.signal) steps.old.number steps.new.number }
 {
     let Some(found) = frame_at(space, state, rows, steps)? else {
         return Ok(Turn::End);
@@ -189,7 +190,7 @@ pub(crate) fn outwards<'a, L: Ledger>(
     ensures exact { IsOutward (visits phase) result room.new (line_for phase space.now limit start.context start.signal) }
     ensures kept { (room.new.trail ≡ room.old.trail) × (room.new.limit ≡ room.old.limit) }
     ensures stays { visits phase ≡ false → room.new ≡ room.old }
-    ensures unticked { steps.new.number ≡ steps.old.number }
+    ensures ticks { RisesWithin space.now limit steps.old.number steps.new.number }
 {
     let mut state = start;
     for _ in 0..limit {
@@ -255,7 +256,7 @@ fn cleanup<'a, L: Ledger>(
     requires within { limit ≤ room.old.limit }
     ensures exact { result_map end_shown result ≡ cleanup_of space.now exception kept limit start.now }
     ensures stays { room.new ≡ room.old }
-    ensures unticked { steps.new.number ≡ steps.old.number }
+    ensures ticks { RisesWithin space.now limit steps.old.number steps.new.number }
 {
     let start = Stepped {
         context: *start,
@@ -315,7 +316,7 @@ pub(crate) fn passes<'a, L: Ledger>(
     requires empty { room.old.trail ≡ [] }
     ensures exact { IsPassed result room.new (passes_of space.now exception kept resumes.now limit limit start.now) }
     ensures kept { (room.new.visited ≡ room.old.visited) × (room.new.limit ≡ room.old.limit) }
-    ensures unticked { steps.new.number ≡ steps.old.number }
+    ensures ticks { RisesWithin space.now ((limit + 1) * limit) steps.old.number steps.new.number }
 {
     let mut context = *start;
     loop {

@@ -7,30 +7,16 @@ ghost use Rattle.unwind_definitions.specs.Function.{Function};
 ghost use Rattle.unwind_definitions.specs.Chain.{Call};
 ghost use Rattle.unwind_definitions.specs.LanguageSearch.{address_of_call};
 ghost use Rattle.unwind_definitions.specs.Row.{Run};
-<<<<<<< HEAD
 ghost use Rattle.unwind_definitions.specs.Caller.{x86_64, caller_of};
 ghost use Rattle.frame_rows.specs.Rows.{IsRowOf};
 ghost use Rattle.unwinding_core.specs.Calling.{no_expressions, columns_given};
 ghost use Rattle.unwind_arch.specs.Contexts.{columns_of};
-ghost use Rattle.unwinding_core.specs.Named.{found_by};
-=======
-ghost use Rattle.unwinding_core.specs.Answered.{answered};
-ghost use Rattle.unwinding_core.specs.Framed.{address_asked, GivesFrame};
 ghost use Rattle.unwinding_core.specs.Named.{found_by, pairs_by};
->>>>>>> h/finders
 ghost use Rattle.stack_deliver.specs.Modules.{AreApart, contains};
 ghost use Rattle.stack_deliver.specs.Processes.{process_of};
 ghost use Rattle.stack_deliver.specs.Passing.{IsFrameOf, GivesFrameAt};
-<<<<<<< HEAD
 ghost use Rattle.stack_deliver.specs.Results.{result_map};
-<<<<<<< HEAD
-ghost use Rattle.stack_deliver.specs.Stepping.{FrameAt, frame_by, frame_in, frame_of, caller_by, step_of, EndsAt, FaultsAt};
-=======
-ghost use Rattle.stack_deliver.specs.Stepping.{step_of, by_row, called, in_module, pairs_at, EndsAt, FaultsAt, RisesBySearch};
->>>>>>> h/finders
-=======
-ghost use Rattle.stack_deliver.specs.Stepping.{FrameAt, frame_by, frame_in, frame_of, caller_by, step_of, EndsAt, FaultsAt, SlotIsUnmapped};
->>>>>>> h/oneloop
+ghost use Rattle.stack_deliver.specs.Stepping.{FrameAt, frame_by, frame_in, frame_of, caller_by, step_of, pairs_at, EndsAt, FaultsAt, RisesBySearch, SlotIsUnmapped};
 ghost use Rattle.stack_deliver.specs.Undone.{HaveFrameTables, IsDescribedCall, Undone};
 
 use crate::delivery::{DeliverError, Stepped};
@@ -58,17 +44,9 @@ fn elf_frame<'a, L: Ledger>(
     tables: FrameInfo,
     rows: &mut RowRoom<'a>,
     steps: &mut Steps<L>,
-<<<<<<< HEAD
 ) -> Result<Option<FDESearchResult<'a>>, DeliverError>
     ensures frame { GivesFrameAt result rows.new (frame_by address (found_by tables image.now address)) }
-    ensures unticked { steps.new.number ≡ steps.old.number }
-=======
-) -> Result<Option<Frame<'a, Arch>>, StepError>
-    requires returns { context.now.ra ≢ 0 }
-    requires inside { IsTrue (contains holder (address_asked context.now.ra interrupted)) }
-    ensures frame { GivesFrame (address_asked context.now.ra interrupted) (found_by holder.frame image.now (address_asked context.now.ra interrupted)) result }
-    ensures ticks { RisesBySearch (pairs_by holder.frame image.now) steps.old.number steps.new.number }
->>>>>>> h/finders
+    ensures ticks { RisesBySearch (pairs_by tables image.now) steps.old.number steps.new.number }
 {
     let Some(found) = find_named(image, address, tables, steps) else {
         return Ok(None);
@@ -88,7 +66,7 @@ fn frame_in<'a, L: Ledger>(
     steps: &mut Steps<L>,
 ) -> Result<Option<FDESearchResult<'a>>, DeliverError>
     ensures frame { GivesFrameAt result rows.new (frame_in image.now address (Some holder)) }
-    ensures unticked { steps.new.number ≡ steps.old.number }
+    ensures ticks { RisesBySearch (pairs_by holder.frame image.now) steps.old.number steps.new.number }
 {
     elf_frame(image, address, holder.frame, rows, steps)
 }
@@ -101,16 +79,9 @@ pub(crate) fn frame_at<'a, L: Ledger>(
     state: &Stepped,
     rows: &mut RowRoom<'a>,
     steps: &mut Steps<L>,
-<<<<<<< HEAD
 ) -> Result<Option<FDESearchResult<'a>>, DeliverError>
     ensures frame { GivesFrameAt result rows.new (frame_of space.now state.now.context state.now.signal) }
-    ensures unticked { steps.new.number ≡ steps.old.number }
-=======
-) -> Result<Option<Frame<'a, Arch>>, DeliverError>
-    ensures frame { GivesFrameAt result (frame_of space.now context.now interrupted) }
-    ensures apart { AreApart 0 space.now.modules }
-    ensures ticks { RisesBySearch (pairs_at space.now context.now interrupted) steps.old.number steps.new.number }
->>>>>>> h/finders
+    ensures ticks { RisesBySearch (pairs_at space.now state.now.context state.now.signal) steps.old.number steps.new.number }
 {
     let address = state.address();
     match space.module_at(address) {
@@ -161,100 +132,11 @@ fn stepped<L: Ledger>(
     ensures apart { AreApart 0 space.now.modules }
     ensures ticks { RisesBySearch (pairs_at space.now context.now interrupted) steps.old.number steps.new.number }
 {
-<<<<<<< HEAD
     let image = space.image();
     let mut rows = RowRoom::new();
     let mut state = Stepped {
         context: *context,
         signal: interrupted,
-=======
-    match frame_at(space, context, interrupted, steps)? {
-        None => Ok(None),
-        Some(frame) => Ok(Some(caller(space.image(), &frame, context)?)),
-    }
-}
-
-/// The description of the function at an address of a module, by the module's frame tables.
-fn found_in<'a, L: Ledger>(
-    image: &MemoryImage<'a>,
-    address: u64,
-    holder: Module,
-    steps: &mut Steps<L>,
-) -> Option<FDESearchResult<'a>>
-    requires { IsTrue (contains holder address) }
-    ensures found { option_map answered result ≡ found_by holder.frame image.now address }
-    ensures ticks { RisesBySearch (pairs_by holder.frame image.now) steps.old.number steps.new.number }
-{
-    finder_of(holder).find_fde(image, address, steps)
-}
-
-/// The caller of a frame, by its row.
-fn caller_with(
-    image: &MemoryImage<'_>,
-    context: &Context,
-    row: &Row<'_>,
-    signal: bool,
-) -> Result<Option<Stepped>, DeliverError>
-    ensures { (run : Run) → IsRowOf row.now run → result ≡ by_row image.now context.now signal (Ok run) }
-{
-    let context = caller_by_row::<Arch>(image, context, row)?;
-    Ok(Some(Stepped { context, signal }))
-}
-
-/// The caller of a frame, by its description. The row at the address is made in `rows`.
-fn caller_of<'a>(
-    image: &MemoryImage<'a>,
-    context: &Context,
-    address: u64,
-    found: &FDESearchResult<'a>,
-    rows: &mut RowRoom<'a>,
-) -> Result<Option<Stepped>, DeliverError>
-    ensures { result ≡ called image.now context.now address (Some (answered found.now)) }
-{
-    match found.make_row(address, rows) {
-        Err(fault) => Err(DeliverError::Table(fault)),
-        Ok(()) => caller_with(image, context, rows.row(), found.fde.is_signal_trampoline()),
-    }
-}
-
-/// The caller of a frame that stands at an address of a module.
-fn caller_in<'a, L: Ledger>(
-    image: &MemoryImage<'a>,
-    context: &Context,
-    address: u64,
-    holder: Module,
-    rows: &mut RowRoom<'a>,
-    steps: &mut Steps<L>,
-) -> Result<Option<Stepped>, DeliverError>
-    requires { IsTrue (contains holder address) }
-    ensures exact { result ≡ in_module image.now context.now address (Some holder) }
-    ensures ticks { RisesBySearch (pairs_by holder.frame image.now) steps.old.number steps.new.number }
-{
-    match found_in(image, address, holder, steps) {
-        None => Ok(None),
-        Some(found) => caller_of(image, context, address, &found, rows),
-    }
-}
-
-/// The caller of the frame whose registers `context` holds, as `step` gives it. Its row is made in
-/// `rows`, and no frame is made.
-#[tactic(auto, unfolding(crate::specs::Stepping::step_of))]
-pub(crate) fn stepped_in<'a, L: Ledger>(
-    space: &Space<'a>,
-    context: &Context,
-    interrupted: bool,
-    rows: &mut RowRoom<'a>,
-    steps: &mut Steps<L>,
-) -> Result<Option<Stepped>, DeliverError>
-    ensures exact { result ≡ step_of space.now context.now interrupted }
-    ensures apart { AreApart 0 space.now.modules }
-    ensures ticks { RisesBySearch (pairs_at space.now context.now interrupted) steps.old.number steps.new.number }
-{
-    let address = if interrupted {
-        context.ra
-    } else {
-        context.ra.saturating_sub(1)
->>>>>>> h/finders
     };
     let Some(found) = frame_at(space, &state, &mut rows, steps)? else {
         return Ok(None);

@@ -5,6 +5,7 @@ ghost use Rattle.unwind_definitions.specs.State.{State};
 ghost use Rattle.unwind_definitions.specs.Function.{Function};
 ghost use Rattle.unwind_definitions.specs.Chain.{Call};
 ghost use Rattle.stack_deliver.specs.Delivering.{Delivers, NeedsMore, line_of};
+ghost use Rattle.stack_deliver.specs.Stepping.{RisesWithin};
 ghost use Rattle.stack_deliver.specs.Walking.{IsWalked, StepFails, StartsChain, ShowChain};
 
 use crate::delivery::{DeliverError, Stepped};
@@ -32,7 +33,7 @@ fn walked<L: Ledger>(
     ensures emptied { OnErr result (room.new.visited ≡ []) }
     ensures no_cleanup { room.new.trail ≡ [] }
     ensures places { room.new.limit ≡ room.old.limit }
-    ensures unticked { steps.new.number ≡ steps.old.number }
+    ensures ticks { RisesWithin space.now limit steps.old.number steps.new.number }
 {
     room.clear();
     let start = Stepped {
@@ -81,8 +82,8 @@ pub fn walk_into<L: Ledger>(
     // A described chain that the limit has room for is walked to its end.
     ensures chain { (functions : List Function) (s : State) (calls : List Call) → StartsChain space.now start.now limit functions s calls → IsFalse interrupted →
         IsOk result × ShowChain room.new.visited s calls }
-    // A scan of a frame table isn't counted.
-    ensures unticked { steps.new.number ≡ steps.old.number }
+    // As many searches as the limit allows states; none is counted where each module names a frame table.
+    ensures ticks { RisesWithin space.now limit steps.old.number steps.new.number }
 {
     // No two of its modules share an address, as a space's type says.
     let _ = space.image();

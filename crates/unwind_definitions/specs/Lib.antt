@@ -28,17 +28,7 @@ pub mod Caller
 pub mod Scan
 pub mod Header
 pub mod HeaderSearch
-<<<<<<< HEAD
 pub mod HeaderSearchLaws
-pub mod Caller
-pub mod State
-pub mod Prologue
-pub mod Entered
-pub mod Function
-pub mod DescribedRows
-pub mod LanguageTable
-=======
->>>>>>> h/libraries
 pub mod LanguageSearch
 pub mod Stopped
 pub mod Numbers

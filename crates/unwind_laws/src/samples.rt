@@ -1,12 +1,7 @@
 //! Processes that are valid, byte for byte, and what is delivered there.
 
-<<<<<<< HEAD
 ghost use Rattle.std.specs.Prelude.{◌≡◌, ◌≢◌, ◌-◌, ◌<◌, ℕ, List, [], ◌∷◌, Some, Ok, Err, false};
-ghost use Rattle.unwind_definitions.specs.Forms.{emitted, plain, whole};
-=======
-ghost use Rattle.std.specs.Prelude.{◌≡◌, ◌-◌, ◌<◌, ℕ, List, [], ◌∷◌, Some, Ok, Err, false};
 ghost use Rattle.unwind_definitions.specs.Forms.{emitted, whole};
->>>>>>> h/grammar
 ghost use Rattle.unwind_definitions.specs.Prologue.{Windows, steps_of};
 ghost use Rattle.unwind_definitions.specs.Entered.{IsEntered, stack_after};
 ghost use Rattle.unwind_definitions.specs.declared.error.Error.TheVariants.{UnexpectedEof};

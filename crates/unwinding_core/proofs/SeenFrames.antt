@@ -8,7 +8,8 @@ use Rattle.unwinding_core.specs.declared.frame.StepError.{StepError}
 use Rattle.unwinding_core.specs.Calling.{fault_of}
 use Rattle.unwinding_core.specs.Finding.{FoundFde}
 use Rattle.unwinding_core.specs.FrameValue.{FrameValue}
-use Rattle.unwinding_core.specs.Framed.{address_asked, GivesFrame}
+use Rattle.unwind_definitions.specs.LanguageSearch.{address_of_call}
+use Rattle.unwinding_core.specs.Framed.{GivesFrame}
 use Rattle.unwinding_core.specs.Seen.{FrameSeen, Finds, Shows, SeesFrame, in_column}
 use Rattle.unwinding_core.specs.Turns.{IsSeen}
 
@@ -26,7 +27,7 @@ module _ (finds : Finds) (image : List Span) (columns : Columns) (k : ℕ) (sign
   at_end ra zero ended = (Ok None, rw zero refl, subst (λ (r : Result (Option FrameValue) StepError). IsSeen r (Ok None)) (sym ended) refl)
 
   pub frame_seen : IsSome (columns k) → (columns k ≡ Some 0 → result ≡ Ok None) →
-      ((ra : ℕ) → columns k ≡ Some ra → ra ≢ 0 → (answer : Option FoundFde) × (ticks : ℕ) × finds image (address_asked ra signal) answer ticks × GivesFrame (address_asked ra signal) answer result) →
+      ((ra : ℕ) → columns k ≡ Some ra → ra ≢ 0 → (answer : Option FoundFde) × (ticks : ℕ) × finds image (address_of_call ra signal) answer ticks × GivesFrame (address_of_call ra signal) answer result) →
       Seen (in_column k columns)
   frame_seen some ended framed = go (columns k) refl some
     where
@@ -35,7 +36,7 @@ module _ (finds : Finds) (image : List Span) (columns : Columns) (k : ℕ) (sign
         | inl e ↦ let zero : ra ≡ 0 = e.1 in at_end ra zero (ended (rw zero at is))
         | inr other ↦
             let f = framed ra is other.1 in
-            let s = shown (address_asked ra signal) f.0 result f.3 in
+            let s = shown (address_of_call ra signal) f.0 result f.3 in
             (s.0, rw other.0 (f.0, f.1, f.2, s.1), s.2)
       ]
 

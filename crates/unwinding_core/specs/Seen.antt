@@ -12,7 +12,7 @@ use Rattle.unwinding_core.specs.Calling.{no_expressions}
 use Rattle.unwinding_core.specs.Columns.{with_value}
 use Rattle.unwinding_core.specs.Finding.{FoundFde}
 use Rattle.unwinding_core.specs.FrameValue.{FrameValue}
-use Rattle.unwinding_core.specs.Framed.{address_asked}
+use Rattle.unwind_definitions.specs.LanguageSearch.{address_of_call}
 use Rattle.unwinding_core.specs.Personalities.{Asked, Answer}
 use Rattle.unwinding_core.specs.Passes.{Marked, Undoing, Stepping, Answering}
 
@@ -37,7 +37,7 @@ Finds = List Span → ℕ → Option FoundFde → ℕ → Type 0
 abbrev pub SeesFrame : Finds → List Span → ℕ → Bool → Result (Option FrameSeen) StepFault → Type 0
 SeesFrame finds image ra signal seen =
     MatchBool (ra == 0) (seen ≡ Ok None)
-    ((answer : Option FoundFde) × (ticks : ℕ) × finds image (address_asked ra signal) answer ticks × Shows (address_asked ra signal) answer seen)
+    ((answer : Option FoundFde) × (ticks : ℕ) × finds image (address_of_call ra signal) answer ticks × Shows (address_of_call ra signal) answer seen)
 
 -- what a column holds that the machine has
 abbrev pub in_column : ℕ → Columns → ℕ

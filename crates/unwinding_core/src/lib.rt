@@ -13,7 +13,6 @@ mod language_table;
 mod personality;
 mod personality_dummy;
 
-<<<<<<< HEAD
 /// Finders by the frame tables that another value names.
 pub mod custom_eh_frame_finder {
     pub use crate::find_fde::custom::{
@@ -21,17 +20,12 @@ pub mod custom_eh_frame_finder {
     };
 }
 
-pub use abi::{
-=======
 pub use abi::backtrace::{_Unwind_Backtrace, Ended, Trace};
 pub use abi::context::{
->>>>>>> h/machines
     _Unwind_GetCFA, _Unwind_GetDataRelBase, _Unwind_GetGR, _Unwind_GetIP, _Unwind_GetIPInfo,
     _Unwind_GetLanguageSpecificData, _Unwind_GetRegionStart, _Unwind_GetTextRelBase, _Unwind_SetGR,
-    _Unwind_SetIP, UnwindAction, UnwindContext, UnwindReasonCode,
+    _Unwind_SetIP, UnwindContext,
 };
-<<<<<<< HEAD
-=======
 pub use abi::enclosing::_Unwind_FindEnclosingFunction;
 pub use abi::exception::{_Unwind_DeleteException, Kept, UnwindException};
 pub use abi::raise::{
@@ -40,7 +34,6 @@ pub use abi::raise::{
 pub use abi::stop::Stop;
 pub use abi::unwound::{Cause, Unwound};
 pub use abi::{UnwindAction, UnwindReasonCode};
->>>>>>> h/machines
 pub use find_fde::custom::{
     CustomFinder, EhFrameFinder, FrameInfo, FrameInfoKind, SetCustomEhFrameFinderError, find_named,
 };

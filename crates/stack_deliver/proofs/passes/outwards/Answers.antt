@@ -3,6 +3,7 @@ use Rattle.std.proofs.lemmas.Result.{err_from_is_err_and}
 use Rattle.stack_deliver.specs.Passes.{line_for}
 use Rattle.stack_deliver.specs.Passing.{visits}
 use Rattle.stack_deliver.proofs.PassLines.{no_contexts, start_visited, more_visited, unvisited, visited_count, visited_keeps, line_faults, line_ends, line_stops, line_goes}
+use Rattle.stack_deliver.proofs.Counted.{rises_none, rises_by_one, rises_up_to}
 use Rattle.stack_deliver.proofs.passes.outwards.Goals as goal
 
 pub loop-init : goal.loop-init
@@ -14,7 +15,7 @@ loop-init g c =
       stays = λ unvisited. refl;
       trail = refl;
       places = refl;
-      unticked = refl;
+      ticks = rises_none c.args.space.now c.args.steps.number;
     }
 
 pub visit-requires : goal.visit-requires
@@ -60,5 +61,17 @@ loop-preserved g c =
       stays = λ is. rw c.visit.ensures (unvisited (visits c.args.phase) c.loop.room c.loop.state.context is ∙ c.loop.invariant.stays is);
       trail = rw c.visit.ensures (keeps.0 ∙ c.loop.invariant.trail);
       places = rw c.visit.ensures (keeps.1 ∙ c.loop.invariant.places);
-      unticked = c.in_ok-meet.ensures.unticked ∙ c.loop.invariant.unticked;
+      ticks = rises_by_one c.args.space.now c.loop.state.context c.loop.state.signal c.loop.counter _ _ _ c.loop.invariant.ticks c.in_ok-meet.ensures.ticks;
     }
+
+pub returns-in_err-meet-clause-ticks : goal.returns-in_err-meet-clause-ticks
+returns-in_err-meet-clause-ticks g c = rises_up_to c.args.space.now (c.loop.counter + 1) c.args.limit _ _ (omega arith)
+    (rises_by_one c.args.space.now c.loop.state.context c.loop.state.signal c.loop.counter _ _ _ c.loop.invariant.ticks c.in_err-meet.ensures.ticks)
+
+pub returns-in-End-clause-ticks : goal.returns-in-End-clause-ticks
+returns-in-End-clause-ticks g c = rises_up_to c.args.space.now (c.loop.counter + 1) c.args.limit _ _ (omega arith)
+    (rises_by_one c.args.space.now c.loop.state.context c.loop.state.signal c.loop.counter _ _ _ c.loop.invariant.ticks c.in_ok-meet.ensures.ticks)
+
+pub returns-in-Stop-clause-ticks : goal.returns-in-Stop-clause-ticks
+returns-in-Stop-clause-ticks g c = rises_up_to c.args.space.now (c.loop.counter + 1) c.args.limit _ _ (omega arith)
+    (rises_by_one c.args.space.now c.loop.state.context c.loop.state.signal c.loop.counter _ _ _ c.loop.invariant.ticks c.in_ok-meet.ensures.ticks)

@@ -1,6 +1,7 @@
 use Rattle.std.proofs.Common.{◌≡◌, ◌-◌, List, true, false, length}
 use Rattle.unwind_arch.specs.declared.x86_64.Context.{Context}
 use Rattle.stack_deliver.specs.Passes.{line_for}
+use Rattle.stack_deliver.specs.Stepping.{RisesWithin}
 use Rattle.stack_deliver.specs.Passing.{with_contexts, visits, AreVisited}
 use Rattle.stack_deliver.proofs.passes.outwards.Given as goal
 
@@ -12,5 +13,5 @@ invariant-loop g l = record {
   stays : visits l.phase ≡ false → l.room ≡ l.fn.room;
   trail : l.room.trail ≡ l.fn.room.trail;
   places : l.room.limit ≡ l.fn.room.limit;
-  unticked : l.steps.number ≡ l.fn.steps.number;
+  ticks : RisesWithin l.space l.counter l.fn.steps.number l.steps.number;
 }

@@ -3,6 +3,7 @@ use Rattle.std.proofs.lemmas.Result.{err_from_is_err_and}
 use Rattle.stack_deliver.specs.Passes.{passes_of, cleanup_at}
 use Rattle.stack_deliver.specs.Passing.{with_cleanups}
 use Rattle.stack_deliver.proofs.PassLines.{passes_fault, passes_finish, passes_refused, passes_go}
+use Rattle.stack_deliver.proofs.Counted.{one_pass_more, last_pass}
 use Rattle.stack_deliver.proofs.passes.passes.Goals as goal
 
 pub returns-in_err-ending-clause-exact : goal.returns-in_err-ending-clause-exact
@@ -34,5 +35,17 @@ loop-ending-preserved g c =
       full = omega arith;
       visited = c.loop-ending.invariant.visited;
       places = c.loop-ending.invariant.places;
-      unticked = c.in_ok-ending.ensures.unticked ∙ c.loop-ending.invariant.unticked;
+      ticks = rw longer (one_pass_more c.args.space.now (length front) c.args.limit _ _ _ c.loop-ending.invariant.ticks c.in_ok-ending.ensures.ticks);
     }
+
+pub returns-in_err-ending-clause-ticks : goal.returns-in_err-ending-clause-ticks
+returns-in_err-ending-clause-ticks g c =
+    last_pass c.args.space.now (length c.loop-ending.room.trail) c.args.limit _ _ _ c.loop-ending.invariant.full c.loop-ending.invariant.ticks c.in_err-ending.ensures.ticks
+
+pub returns-in-Finished-clause-ticks : goal.returns-in-Finished-clause-ticks
+returns-in-Finished-clause-ticks g c =
+    last_pass c.args.space.now (length c.loop-ending.room.trail) c.args.limit _ _ _ c.loop-ending.invariant.full c.loop-ending.invariant.ticks c.in_ok-ending.ensures.ticks
+
+pub returns-in_err-context-in-Elsewhere-clause-ticks : goal.returns-in_err-context-in-Elsewhere-clause-ticks
+returns-in_err-context-in-Elsewhere-clause-ticks g c =
+    last_pass c.args.space.now (length c.loop-ending.room.trail) c.args.limit _ _ _ c.loop-ending.invariant.full c.loop-ending.invariant.ticks c.in_ok-ending.ensures.ticks

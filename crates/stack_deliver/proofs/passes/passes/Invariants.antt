@@ -1,5 +1,6 @@
-use Rattle.std.proofs.Common.{◌≡◌, ◌-◌, ◌≤◌, length}
+use Rattle.std.proofs.Common.{◌≡◌, ◌-◌, ◌*◌, ◌≤◌, length}
 use Rattle.stack_deliver.specs.Passes.{passes_of}
+use Rattle.stack_deliver.specs.Stepping.{RisesWithin}
 use Rattle.stack_deliver.specs.Passing.{with_cleanups}
 use Rattle.stack_deliver.proofs.passes.passes.Given as goal
 
@@ -9,7 +10,7 @@ invariant-loop-ending g l = record {
   full : length l.room.trail ≤ l.limit;
   visited : l.room.visited ≡ l.fn.room.visited;
   places : l.room.limit ≡ l.fn.room.limit;
-  unticked : l.steps.number ≡ l.fn.steps.number;
+  ticks : RisesWithin l.space (length l.room.trail * l.limit) l.fn.steps.number l.steps.number;
 }
 
 abbrev pub decreases-loop-ending : goal.decreases-loop-ending
