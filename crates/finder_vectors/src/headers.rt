@@ -1,5 +1,5 @@
 // Headers of frame tables, by themselves and under a walk.
-use memory_image::{Counted, MemoryImage, NoLedger, Steps};
+use memory_image::{Counted, MemoryImage, Steps};
 use stack_deliver::{Context, FrameInfo, FrameInfoKind, Space, walk};
 use std::alloc::Global;
 use std::test::Fail;
@@ -98,9 +98,9 @@ fn walked(
     start.registers[6] = 0xc;
     start.registers[14] = 0x2e;
     let visited = walk(alloc, &space, &start, false, 8)?;
-    let mut same = visited.visited_len() == expected.len();
+    let mut same = visited.len() == expected.len();
     for (place, (ra, sp, rbx)) in expected.iter().enumerate() {
-        let state = visited.visited(place).unwrap_or(Context::default());
+        let state = visited.get(place).unwrap_or(Context::default());
         same = same && state.ra == *ra && state.registers[7] == *sp && state.registers[3] == *rbx;
     }
     Ok(same)
@@ -116,6 +116,5 @@ fn a_header_leads_behind_what_a_scan_cannot_read(rt: HostRuntime) -> Result<(), 
     ];
     assert!(rt; walked(rt.alloc(), FrameInfoKind::EhFrameHdr(0x50_4000), &frames)?);
     assert!(rt; walked(rt.alloc(), FrameInfoKind::EhFrame(0x50_0000), &frames[..1])?);
-    let _ = NoLedger;
     Ok(())
 }

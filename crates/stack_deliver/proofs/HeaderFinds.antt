@@ -13,9 +13,11 @@ use Rattle.unwind_definitions.specs.Function.{Function}
 use Rattle.unwind_definitions.specs.Header.{FrameHeader, PairTable, table_in}
 use Rattle.unwind_definitions.specs.HeaderSearch.{table_answer}
 use Rattle.unwind_definitions.specs.HeaderSearchLaws.{table_answer-is}
-use Rattle.unwind_definitions.specs.Module.{Tables, Header, Module, bases_of, HeaderLists, IsHeaderTable, DescribesModule}
+use Rattle.unwind_definitions.specs.Module.{Tables, Header, Module, bases_of, HeaderLists, IsHeaderTable, CoversNot, DescribesModule}
 use Rattle.unwind_laws.specs.Listing.{listing}
-use Rattle.unwind_laws.proofs.HeaderListed.{header_read, search_answers}
+use Rattle.unwind_laws.specs.Found.{nothing_found}
+use Rattle.unwind_laws.proofs.Found.{not_found}
+use Rattle.unwind_laws.proofs.HeaderListed.{header_read, search_answers, uncovered_fails}
 use Rattle.unwinding_core.specs.Finding.{FoundFde, at_frame, relative_to, scanned_in}
 use Rattle.unwinding_core.specs.HeaderFinding.{Led, at_header, by_led, by_table, found_by_header, led, led_by, listed, or_scanned}
 
@@ -56,3 +58,35 @@ module _ (image : List Span) (m : Module) (functions : List Function) (d : Descr
       ap (by_led known image pc) led_is
       ∙ ap (λ (b : Bases). by_table b (input_at image d.frame) pc (table_in head)) bases_are
       ∙ by_its_table (table_in head) refl
+
+-- ---- an address that no description contains
+none_found : (bases : Bases) (frames : Input) (pc : ℕ) → scan emitted bases frames pc ≡ nothing_found → scanned_in bases frames pc ≡ None
+none_found bases frames pc e = rw e refl
+
+-- Where a module's header lists the descriptions of its frame table, none of which contains an address, nothing is found by it.
+module _ (image : List Span) (m : Module) (a : ℕ) (u : CoversNot emitted image m a) (h : ℕ) (named : m.tables ≡ Header h) (lists : IsHeaderTable image h u.frame (fdes_of u.entries)) (laid : IsLaidOut 0 image) where
+  abbrev known_there : Bases
+  known_there = at_header (relative_to m.text None) h
+
+  abbrev head_there : FrameHeader
+  head_there = listing h known_there u.frame (fdes_of u.entries) lists.listed
+
+  bases_there : at_frame known_there u.frame ≡ bases_of m u.frame
+  bases_there = rw named refl
+
+  led_there : led (relative_to m.text None) image h ≡ Some (record { header = head_there; frame = u.frame })
+  led_there = ap (led_by image) (header_read image h u.frame (fdes_of u.entries) known_there lists)
+
+  none_in_table : (o : Option PairTable) → table_in head_there ≡ o → by_table (bases_of m u.frame) (input_at image u.frame) a o ≡ None
+  none_in_table None e = none_found (bases_of m u.frame) (input_at image u.frame) a (not_found emitted image m a u)
+  none_in_table (Some t) e =
+      let fails = uncovered_fails emitted image m a u h known_there lists laid t e in
+      ap (λ (r : Result Fde Fault). or_scanned (bases_of m u.frame) (input_at image u.frame) a (result_ok r)) fails.1
+      ∙ none_found (bases_of m u.frame) (input_at image u.frame) a (not_found emitted image m a u)
+
+  pub header_finds_none : found_by_header (relative_to m.text None) image h a ≡ None
+  unfolding found_by_header
+  header_finds_none =
+      ap (by_led known_there image a) led_there
+      ∙ ap (λ (b : Bases). by_table b (input_at image u.frame) a (table_in head_there)) bases_there
+      ∙ none_in_table (table_in head_there) refl

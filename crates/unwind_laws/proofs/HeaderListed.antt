@@ -5,27 +5,32 @@ use Rattle.std.specs.Int.{w32}
 use Rattle.std.proofs.lemmas.Bool.{le-ltb, le-leb, lt-leb, eqb-false}
 use Rattle.std.proofs.lemmas.Bool.Decides.{leb_tells}
 use Rattle.std.proofs.lemmas.List.{take-append-drop, drop-drop, length-drop, length-map}
-use Rattle.std.proofs.lemmas.List.Sorted.{length_permutation}
+use Rattle.std.specs.List.{Contains}
+use Rattle.std.proofs.lemmas.List.Sorted.{Contains-permutation, IsPermutation-sym, length_permutation}
 use Rattle.memory_image.specs.Image.{Span, table_at, IsLaidOut}
 use Rattle.memory_image.specs.ImageLaws.{table_past, table_at-add}
 use Rattle.unwind_definitions.specs.declared.error.Error.{Error as Fault}
+use Rattle.unwind_definitions.specs.declared.error.Error.TheVariants.{NoUnwindInfoForAddress}
 use Rattle.unwind_definitions.specs.Faults.{◌>>=◌}
 use Rattle.unwind_definitions.specs.Forms.{Forms}
 use Rattle.unwind_definitions.specs.Input.{Input, address_of, number, signed, skip}
 use Rattle.unwind_definitions.specs.Pointers.{Bases, Pointer, Direct, pointer, direct}
 use Rattle.unwind_definitions.specs.Entries.{Fde, AFde, Found, entry_at}
+use Rattle.unwind_definitions.specs.Row.{covers_pc}
 use Rattle.unwind_definitions.specs.Scan.{fdes_of, scan}
 use Rattle.unwind_definitions.specs.Function.{Function}
 use Rattle.unwind_definitions.specs.LanguageTable.{input_at}
-use Rattle.unwind_definitions.specs.Module.{Module, bases_of, no_bases, header_bases, header_form, ArePairs, pair_of, StartsAscend, IsHeaderTable, DescribesModule}
+use Rattle.unwind_definitions.specs.Module.{Module, bases_of, no_bases, header_bases, header_form, ArePairs, pair_of, StartsAscend, IsHeaderTable, CoversNot, DescribesModule}
 use Rattle.unwind_definitions.specs.Header.{FrameHeader, PairTable, bases_in, header, pair_from, pair_at, pair_count, table_by, table_in}
-use Rattle.unwind_definitions.specs.HeaderSearch.{StartsBehind, Finds, IsTableAnswer, containing, found_by, fde_at_address}
+use Rattle.unwind_definitions.specs.HeaderSearch.{StartsBehind, Finds, IsTableAnswer, boundary_in, containing, found_by, fde_at_address, table_answer}
+use Rattle.unwind_definitions.specs.HeaderSearchLaws.{boundary_in-finds}
 use Rattle.unwind_laws.specs.Found.{nothing_found}
 use Rattle.unwind_laws.specs.ByHeader.{boundary, AnswersBy}
 use Rattle.unwind_laws.specs.Listing.{listing}
 use Rattle.unwind_laws.proofs.Signal.{ok_same}
 use Rattle.unwind_laws.proofs.Leb.{one_byte}
-use Rattle.unwind_laws.proofs.ByHeader.{header_answers}
+use Rattle.unwind_laws.proofs.Booleans.{later, first, all_contains}
+use Rattle.unwind_laws.proofs.ByHeader.{header_answers, mapped_from, placed}
 
 abbrev input : ℕ → ℕ → List ℕ → Input
 input base offset bytes = record { base = base; offset = offset; bytes = bytes }
@@ -159,7 +164,7 @@ stands_inside forms bases table o found e = go (length (drop o table.bytes) == 0
         omega arith
 
 -- a description that stands at its offset is found at its address
-found_there : (forms : Forms) (image : List Span) (bases : Bases) (frame next : ℕ) (fde : Fde) → IsLaidOut 0 image → entry_at forms bases (input_at image frame) fde.offset ≡ Ok (Some (record { entry = AFde fde; next = next })) →
+pub found_there : (forms : Forms) (image : List Span) (bases : Bases) (frame next : ℕ) (fde : Fde) → IsLaidOut 0 image → entry_at forms bases (input_at image frame) fde.offset ≡ Ok (Some (record { entry = AFde fde; next = next })) →
     fde_at_address forms bases (input_at image frame) ((frame + fde.offset) % 2 ^ 64) ≡ Ok fde
 found_there forms image bases frame next fde laid e =
     let lt : fde.offset < length (table_at image frame) = stands_inside forms bases (input_at image frame) fde.offset _ e in
@@ -234,3 +239,52 @@ module _ (forms : Forms) (image : List Span) (m : Module) (functions : List Func
       let same : listing h bases d.frame (fdes_of d.entries) table.listed ≡ found = ok_same _ _ read in
       let is : listed ≡ t = table_is t (ap table_in same ∙ has) in
       by.is ∙ answers_at by.place (subst (λ (x : PairTable). Finds x pc by.place) (sym is) by.finds) laid
+
+-- ---- an address that no description contains
+contains_at : {A : Type 0} (xs : List A) (i : ℕ) (x : A) → slice_get xs i ≡ Some x → Contains xs x
+contains_at [] i x e = absurd cc
+contains_at (y ∷ ys) zero x e = let same : y ≡ x = cc in subst (Contains (y ∷ ys)) same (first y ys)
+contains_at (y ∷ ys) (suc i) x e = later y ys x (contains_at ys i x e)
+
+module _ (forms : Forms) (image : List Span) (m : Module) (a : ℕ) (u : CoversNot forms image m a) (h : ℕ) (bases : Bases) (table : IsHeaderTable image h u.frame (fdes_of u.entries)) (laid : IsLaidOut 0 image) where
+  abbrev lists : PairTable
+  lists = table_by (listing h bases u.frame (fdes_of u.entries) table.listed) 4
+
+  abbrev due : Result (Option (ℕ × ℕ)) Fault → Result Fde Fault
+  due place = found_by forms (bases_of m u.frame) (input_at image u.frame) a place
+
+  -- what a pair names doesn't contain the address
+  misses : (i : ℕ) (q : ℕ × ℕ) → slice_get table.pairs i ≡ Some q → due (Ok (Some q)) ≡ nothing_found
+  misses i q at =
+      let listed = Contains-permutation table.pairs (map (pair_of u.frame) (fdes_of u.entries)) q (IsPermutation-sym (map (pair_of u.frame) (fdes_of u.entries)) table.pairs table.each) (contains_at table.pairs i q at) in
+      let named = mapped_from (pair_of u.frame) (fdes_of u.entries) q listed in
+      let stands = placed forms (bases_of m u.frame) (input_at image u.frame) 0 u.entries named.0 u.reads named.1 in
+      let out : covers_pc named.0 a ≡ false = all_contains (λ (g : Fde). covers_pc g a ≡ false) (fdes_of u.entries) named.0 u.uncovered named.1 in
+      let there : fde_at_address forms (bases_of m u.frame) (input_at image u.frame) q.1 ≡ Ok named.0 =
+      ap (λ (x : ℕ × ℕ). fde_at_address forms (bases_of m u.frame) (input_at image u.frame) x.1) named.2 ∙ found_there forms image (bases_of m u.frame) u.frame stands.next named.0 laid stands.is in
+      rw there (rw out refl)
+
+  many : length (fdes_of u.entries) ≡ length table.pairs
+  many = sym (length-map (fdes_of u.entries) (pair_of u.frame)) ∙ sym (length_permutation (map (pair_of u.frame) (fdes_of u.entries)) table.pairs table.each)
+
+  fails_at : (place : Result (Option (ℕ × ℕ)) Fault) → Finds lists a place → (e : Fault) × (due place ≡ Err e)
+  fails_at (Err e) finds = (e, refl)
+  fails_at (Ok None) finds = (NoUnwindInfoForAddress, refl)
+  fails_at (Ok (Some p)) finds =
+      let count = many in
+      let lt = finds.within in
+      let q = within table.pairs finds.index (omega arith) in
+      let read : ◌≡◌ {A = Result (ℕ × ℕ) Fault} (Ok q.0) (Ok p) = sym (nth_pair h bases table.listed table.pairs table.reads finds.index q.0 q.1) ∙ finds.reads in
+      let same : q.0 ≡ p = ok_same q.0 p read in
+      (NoUnwindInfoForAddress, misses finds.index p (q.1 ∙ ap (λ (x : ℕ × ℕ). Some x) same))
+
+  lists_are : (t : PairTable) → table_in (listing h bases u.frame (fdes_of u.entries) table.listed) ≡ Some t → lists ≡ t
+  lists_are t e = go (length (fdes_of u.entries) == 0) refl
+    where
+      go : (b : Bool) → (length (fdes_of u.entries) == 0) ≡ b → lists ≡ t
+      go true is = let h = rw is at e in absurd cc
+      go false is = let h = rw is at e in cc
+
+  -- a search of the header's table is an error
+  pub uncovered_fails : (t : PairTable) → table_in (listing h bases u.frame (fdes_of u.entries) table.listed) ≡ Some t → (e : Fault) × (table_answer forms (bases_of m u.frame) (input_at image u.frame) t a ≡ Err e)
+  uncovered_fails t has = fails_at (boundary_in t a) (subst (λ (x : PairTable). Finds x a (boundary_in t a)) (sym (lists_are t has)) (boundary_in-finds t a))

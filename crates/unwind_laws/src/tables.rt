@@ -15,7 +15,9 @@ ghost use Rattle.unwind_definitions.specs.LanguageSearch.{search};
 ghost use Rattle.unwind_definitions.specs.Module.{Module, IsHeaderTable, DescribesModule, CoversNot, bases_of};
 ghost use Rattle.unwind_definitions.specs.declared.error.Error.{Error};
 ghost use Rattle.unwind_definitions.specs.Header.{FrameHeader, PairTable, header, table_in};
-ghost use Rattle.unwind_definitions.specs.HeaderSearch.{IsTableAnswer};
+ghost use Rattle.memory_image.specs.Halving.{boundary_of};
+ghost use Rattle.unwind_definitions.specs.HeaderSearch.{Finds, IsTableAnswer, boundary_in, pair_of_place, table_answer};
+ghost use Rattle.unwind_definitions.specs.HeaderSearchLaws.{AreStarts};
 ghost use Rattle.unwind_laws.specs.ByHeader.{BoundaryAnswers};
 ghost use Rattle.unwind_laws.specs.Listing.{listing};
 ghost use Rattle.unwind_laws.specs.Searched.{searched};
@@ -60,12 +62,22 @@ pub fn header_table_answers_as_a_scan()
 
 /// The header of a described module reads, whatever its pointers may be relative to: it leads to the
 /// frame table, and says how many descriptions that has. Where its table may answer so for an
-/// address, a scan answers the same.
+/// address, a scan answers the same; so what its table answers is what a scan does.
 pub fn header_search_answers_as_a_scan()
     ensures reads { (image : List Span) (h frame : ℕ) (fdes : List Fde) (bases : Bases) (table : IsHeaderTable image h frame fdes) → header bases (input_at image h) ≡ Ok (listing h bases frame fdes table.listed) }
     ensures answers { (forms : Forms) (image : List Span) (m : Module) (functions : List Function) (d : DescribesModule forms image m functions) (h : ℕ) (bases : Bases) (table : IsHeaderTable image h d.frame (fdes_of d.entries)) (pc : ℕ) (found : FrameHeader) (t : PairTable) (answer : Result Fde Error) →
         IsLaidOut 0 image → header bases (input_at image h) ≡ Ok found → table_in found ≡ Some t → IsTableAnswer forms (bases_of m d.frame) (input_at image d.frame) t pc answer →
         answer ≡ scan forms (bases_of m d.frame) (input_at image d.frame) pc }
+    ensures exact { (forms : Forms) (image : List Span) (m : Module) (functions : List Function) (d : DescribesModule forms image m functions) (h : ℕ) (bases : Bases) (table : IsHeaderTable image h d.frame (fdes_of d.entries)) (pc : ℕ) (found : FrameHeader) (t : PairTable) →
+        IsLaidOut 0 image → header bases (input_at image h) ≡ Ok found → table_in found ≡ Some t →
+        table_answer forms (bases_of m d.frame) (input_at image d.frame) t pc ≡ scan forms (bases_of m d.frame) (input_at image d.frame) pc }
+{}
+
+/// The search of a header's table by halving finds what it may find, on every table. Where all pairs
+/// can be read it is the search by halving of the list of their starts.
+pub fn header_search_halves()
+    ensures finds { (t : PairTable) (pc : ℕ) → Finds t pc (boundary_in t pc) }
+    ensures halves { (t : PairTable) (pc : ℕ) (keys : List ℕ) → AreStarts t keys → boundary_in t pc ≡ pair_of_place t (boundary_of keys pc) }
 {}
 
 /// A search through a function's call sites in order, which ends at one that holds the address or

@@ -1,3 +1,7 @@
+use Rattle.unwind_definitions.specs.LanguageTable.{input_at}
+use Rattle.unwind_definitions.specs.HeaderSearch.{table_answer}
+use Rattle.unwind_definitions.specs.HeaderSearchLaws.{table_answer-is}
+use Rattle.unwind_definitions.specs.Module.{bases_of}
 use Rattle.unwind_laws.proofs.HeaderListed.{header_read, search_answers}
 use Rattle.unwind_laws.proofs.tables.header_search_answers_as_a_scan.Goals as goal
 
@@ -6,3 +10,7 @@ returns-clause-reads c image h frame fdes bases table = header_read image h fram
 
 pub returns-clause-answers : goal.returns-clause-answers
 returns-clause-answers c forms image m functions d h bases table pc found t answer laid reads has by = search_answers forms image m functions d h bases table pc found t answer laid reads has by
+
+pub returns-clause-exact : goal.returns-clause-exact
+returns-clause-exact c forms image m functions d h bases table pc found t laid reads has =
+    search_answers forms image m functions d h bases table pc found t (table_answer forms (bases_of m d.frame) (input_at image d.frame) t pc) laid reads has (table_answer-is t pc forms (bases_of m d.frame) (input_at image d.frame))
