@@ -10,7 +10,7 @@
 pub mod aarch64;
 pub mod loongarch64;
 mod machine;
-mod pinned;
+mod numbers;
 mod register_files;
 pub mod riscv32;
 pub mod riscv64;
@@ -18,6 +18,7 @@ pub mod x86;
 pub mod x86_64;
 
 pub use machine::Machine;
+pub use numbers::numbers_are_those_of_the_abis;
 
 #[cfg(test)]
 mod machine_tests;

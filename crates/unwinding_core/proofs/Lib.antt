@@ -9,3 +9,4 @@ pub mod First
 pub mod Lines
 pub mod SeenFrames
 pub mod Stateless
+pub mod Untaken

@@ -15,3 +15,4 @@ pub mod Stopping
 pub mod Turns
 pub mod Runs
 pub mod Dummy
+pub mod OneLine
