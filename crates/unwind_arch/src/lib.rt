@@ -8,7 +8,7 @@
 pub mod aarch64;
 pub mod loongarch64;
 mod machine;
-mod pinned;
+mod numbers;
 mod register;
 mod register_files;
 mod register_map;
@@ -18,6 +18,7 @@ pub mod x86;
 pub mod x86_64;
 
 pub use machine::Machine;
+pub use numbers::numbers_are_those_of_the_abis;
 pub use register::Register;
 pub use register_map::RegisterMap;
 

@@ -12,3 +12,4 @@ pub mod Stateless
 pub mod InTurn
 pub mod Lasts
 pub mod Listed
+pub mod Untaken

@@ -27,3 +27,4 @@ pub mod Stopping
 pub mod Turns
 pub mod Runs
 pub mod Dummy
+pub mod OneLine

@@ -1,7 +1,8 @@
 -- What the runs of an unwinding answer, in the words of the definitions.
-use Rattle.std.specs.Prelude.{ℕ, List}
+use Rattle.std.specs.Prelude.{◌⊎◌, ◌≡◌, ℕ, List}
 use Rattle.std.specs.Option.{option_map}
 use Rattle.unwind_definitions.specs.Caller.{Columns, StepFault, Table, Unmapped}
+use Rattle.unwinding_core.specs.declared.abi.TheConstants.UnwindReasonCode.{END_OF_STACK, FATAL_PHASE1_ERROR}
 use Rattle.unwinding_core.specs.declared.abi.exception.UnwindException.{UnwindException}
 use Rattle.unwinding_core.specs.declared.abi.unwound.Cause.{Cause as CodeCause}
 use Rattle.unwinding_core.specs.declared.abi.unwound.Cause.TheVariants as code
@@ -27,3 +28,8 @@ unwound_shown columns (run.Code reason cause) = Gives reason (option_map cause_s
 -- how a backtrace ends, and the words that the trace holds then
 abbrev pub ended_shown : Ended → List ℕ → Traced StepFault
 ended_shown e words = (e.code, option_map cause_shown e.cause, words)
+
+-- no handler was found: the stack ended, or the search couldn't go on
+abbrev pub IsUntaken : {C E : Type 0} → Outcome C E → Type 0
+IsUntaken (Installs c handler) = ⊥
+IsUntaken (Gives reason cause) = (reason ≡ END_OF_STACK) ⊎ (reason ≡ FATAL_PHASE1_ERROR)

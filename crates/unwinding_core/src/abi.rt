@@ -8,6 +8,7 @@ pub mod backtrace;
 pub mod context;
 pub mod enclosing;
 pub mod exception;
+pub mod laws;
 mod passes;
 pub mod raise;
 pub mod stop;

@@ -28,6 +28,7 @@ pub use abi::context::{
 };
 pub use abi::enclosing::_Unwind_FindEnclosingFunction;
 pub use abi::exception::{_Unwind_DeleteException, Kept, UnwindException};
+pub use abi::laws::lines_are_one;
 pub use abi::raise::{
     _Unwind_ForcedUnwind, _Unwind_RaiseException, _Unwind_Resume, _Unwind_Resume_or_Rethrow,
 };

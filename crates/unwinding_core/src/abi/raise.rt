@@ -6,7 +6,7 @@ ghost use Rattle.std.specs.Prelude.{◌≡◌, Some, None};
 ghost use Rattle.unwind_definitions.specs.Caller.{Columns, StepFault};
 ghost use Rattle.unwinding_core.specs.Calling.{machine_of};
 ghost use Rattle.unwinding_core.specs.Passes.{Line, IsSearched, IsCleanup, IsRaised, IsForced, IsResumed, IsRethrown, cleanup_end, forced_end, RanOut, Gives};
-ghost use Rattle.unwinding_core.specs.Runs.{thrown_by, cause_shown, unwound_shown};
+ghost use Rattle.unwinding_core.specs.Runs.{thrown_by, cause_shown, unwound_shown, IsUntaken};
 ghost use Rattle.unwinding_core.specs.Seen.{in_column, stepping, answering};
 ghost use Rattle.unwinding_core.specs.Stopping.{stopping};
 ghost use Rattle.unwinding_core.specs.Turns.{thrown, end_shown};
@@ -141,6 +141,7 @@ pub fn _Unwind_RaiseException<M: Machine, F: FDEFinder, P: Personality<M>, L: Le
     ensures raised { IsRaised (stepping (machine_of M.SP.0 M.RA.0) (F.finds finder.now) image.now) (answering (P.answers personality.now) image.now (thrown_by exception.old)) limit (M.Context.columns context.now)
         exception.old.kept (unwound_shown M.Context.columns result) exception.new.kept }
     ensures same { thrown_by exception.new ≡ thrown_by exception.old }
+    ensures untaken { IsUntaken (unwound_shown M.Context.columns result) → exception.new ≡ exception.old }
 {
     match search::<M, F, P, L>(image, finder, context, exception, personality, limit, steps) {
         LineEnd::RanOut(..) => code(UnwindReasonCode::END_OF_STACK),
