@@ -27,10 +27,10 @@ take() {
     local live="$folder/$1-live" core="$folder/$1-core"
     mkdir -p "$folder"
     begin "$1"
-    gdb -p "$process" -batch -x tools/snapshot.py -ex "snapshot $live.json"
+    gdb -p "$process" -batch -ix tools/snapshot.py -ex "snapshot $live.json"
     backtrace "$live" -p "$process"
     gdb -p "$process" -batch -ex "gcore $core" > "$core.log"
-    gdb "examples/out/$1" "$core" -batch -x tools/snapshot.py -ex "snapshot $core.json"
+    gdb "examples/out/$1" "$core" -batch -ix tools/snapshot.py -ex "snapshot $core.json"
     backtrace "$core" "examples/out/$1" "$core"
 }
 

@@ -27,7 +27,7 @@ try() {
     local wanted=$1 what=$2 words=$3 said status left as=()
     set -- "${@:4}"
     [ "${*: -2}" = 'as nobody' ] && as=(setpriv --reuid=65534 --clear-groups) && set -- "${@:1:$#-2}"
-    said=$(cd "$scratch/written" && "${as[@]}" gdb -nx -batch "$@" -x "$script" -ex "snapshot $words" 2>&1 < /dev/null)
+    said=$(cd "$scratch/written" && "${as[@]}" gdb -nx -batch "$@" -ix "$script" -ex "snapshot $words" 2>&1 < /dev/null)
     status=$?
     left=$(ls -A "$scratch/written" | tr '\n' ' ')
     rm -rf "$scratch"/written/* "$scratch"/written/.snapshot*

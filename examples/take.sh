@@ -18,7 +18,7 @@ begin() {
 }
 
 in_gdb() {
-    gdb -nx -q -p "$process" -batch -x ../../tools/frames.py -x ../landings.py -x ../../tools/snapshot.py -x ../steps.py "$@"
+    gdb -nx -q -p "$process" -batch -x ../../tools/frames.py -x ../landings.py -ix ../../tools/snapshot.py -x ../steps.py "$@"
 }
 
 # Only its owner may read a snapshot that the command writes, and it has paths of this machine; these

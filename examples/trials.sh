@@ -26,7 +26,7 @@ start() {
 
 # Takes a snapshot and gdb's frames; the options of `snapshot` come first.
 take() {
-    gdb -nx "${@:2}" -batch -x "$tools/snapshot.py" -ex "snapshot $scratch/a.json $1" > "$scratch/log" 2>&1 \
+    gdb -nx "${@:2}" -batch -ix "$tools/snapshot.py" -ex "snapshot $scratch/a.json $1" > "$scratch/log" 2>&1 \
         || { grep '^snapshot:' "$scratch/log"; return 1; }
     gdb -nx "${@:2}" -batch -x "$tools/frames.py" -ex frames 2> /dev/null | grep -E '^(frame|end)' > "$scratch/frames"
 }
@@ -45,7 +45,7 @@ of_overflow() {
     (cd "$scratch" && "$out/overflow") 2> /dev/null || true
     local core
     core=$(ls "$scratch"/core*)
-    gdb -nx "$out/overflow" "$core" -batch -x "$tools/snapshot.py" -ex "snapshot $scratch/a.json" > /dev/null 2>&1
+    gdb -nx "$out/overflow" "$core" -batch -ix "$tools/snapshot.py" -ex "snapshot $scratch/a.json" > /dev/null 2>&1
     gdb -nx "$out/overflow" "$core" -batch -ex 'set backtrace past-main on' -ex bt 2> /dev/null \
         | tac | sed '/^#0 /q' | tac | sed -nE 's/^#[0-9]+ +0x0*([0-9a-f]+) in .*/0x\1/p' > "$scratch/frames"
     "$UNWIND_CLI" walk < "$scratch/a.json" | grep -v ' ra=0x0 ' | sed -nE 's/^frame [0-9]+ ra=(\S+) .*/\1/p' \
@@ -65,7 +65,7 @@ of_other_stack() {
 
 of_threads() {
     start "$out/ten_threads"
-    gdb -nx -batch -p "$started" -x "$tools/snapshot.py" -ex "snapshot $scratch/threads --threads" > /dev/null 2>&1
+    gdb -nx -batch -p "$started" -ix "$tools/snapshot.py" -ex "snapshot $scratch/threads --threads" > /dev/null 2>&1
     local thread number
     for thread in /proc/"$started"/task/*; do
         number=$(basename "$thread")
@@ -103,7 +103,7 @@ of_marks() {
     start "$out/nested-gcc-O2"
     local level
     for level in 0 1 2; do
-        gdb -nx -batch -p "$started" -x "$tools/snapshot.py" -ex "frame $level" -ex "snapshot $scratch/a.json" > /dev/null 2>&1
+        gdb -nx -batch -p "$started" -ix "$tools/snapshot.py" -ex "frame $level" -ex "snapshot $scratch/a.json" > /dev/null 2>&1
         gdb -nx -batch -p "$started" -x "$tools/frames.py" -ex frames 2> /dev/null | grep '^frame' \
             | tail -n +$((level + 1)) | awk '{ $2 = NR - 1; print }' > "$scratch/frames"
         compare "from the frame $level" "$scratch/a.json"
@@ -120,7 +120,7 @@ of_marks_at_a_signal() {
     for level in 0 1 2 3 4 5 6; do
         asked+=(-ex "frame $level" -ex "snapshot $scratch/$level.json")
     done
-    gdb -nx -batch -p "$started" -x "$tools/snapshot.py" "${asked[@]}" > /dev/null 2>&1
+    gdb -nx -batch -p "$started" -ix "$tools/snapshot.py" "${asked[@]}" > /dev/null 2>&1
     for level in 0 1 2 3 4 5 6; do
         marks+=$(grep -q '"interrupted": true' "$scratch/$level.json" && echo 'i ' || echo 'c ')
     done

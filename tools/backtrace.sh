@@ -33,7 +33,7 @@ read_words() {
 
 # The snapshot, or the last line of what gdb says where there is none.
 take() {
-    if ! gdb -nx "${asked[@]}" -batch -x "$tools/snapshot.py" -ex "snapshot $scratch/taken $threads" \
+    if ! gdb -nx "${asked[@]}" -batch -ix "$tools/snapshot.py" -ex "snapshot $scratch/taken $threads" \
         < /dev/null > "$scratch/log" 2>&1; then
         grep '^snapshot: ' "$scratch/log" >&2 || tail -1 "$scratch/log" >&2
         exit 1

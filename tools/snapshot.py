@@ -1,8 +1,10 @@
 """A command of gdb that writes a snapshot of a stopped program, for `unwind_cli`.
 
-    gdb -p PID -batch -x tools/snapshot.py -ex "snapshot FILE"
-    gdb PROGRAM CORE -batch -x tools/snapshot.py -ex "snapshot FILE"
-    gdb -p PID -batch -x tools/snapshot.py -ex "snapshot DIR --threads"
+    gdb -p PID -batch -ix tools/snapshot.py -ex "snapshot FILE"
+    gdb PROGRAM CORE -batch -ix tools/snapshot.py -ex "snapshot FILE"
+    gdb -p PID -batch -ix tools/snapshot.py -ex "snapshot DIR --threads"
+
+(-ix reads the script before gdb stops the process; -x does as well, and the process waits meanwhile.)
 
     snapshot FILE [--called | --interrupted] [--stack-bytes N] [--limit N] [--module NAME]... [--header]
                   [--exception WORD] [--class WORD] [--resume PAD RETURN]...
@@ -18,6 +20,7 @@ Wants gdb with Python (tried: 13.1), and nothing else.
 from __future__ import annotations
 
 import argparse
+import bisect
 import contextlib
 import io
 import os
@@ -338,11 +341,17 @@ def kept_file(mapping: Mapping) -> str:
     return mapping.file
 
 
+def has_address(place: Range, addresses: list[int]) -> bool:
+    """Whether one of the addresses, which ascend, is in a place."""
+    index = bisect.bisect_left(addresses, place.start)
+    return index < len(addresses) and addresses[index] < place.end
+
+
 def unlisted_sources(process: Process) -> Iterator[Source]:
     """The mapped files with code that gdb doesn't list: it leaves out those that were deleted, and
     without a program's file what the system maps."""
-    addresses = [address for sections in process.files.sections.values() for address in sections.values()]
-    listed = {mapping.file for mapping in process.mappings if any(map(mapping.place.contains, addresses))}
+    addresses = sorted(address for sections in process.files.sections.values() for address in sections.values())
+    listed = {mapping.file for mapping in process.mappings if has_address(mapping.place, addresses)}
     for mapping in process.mappings:
         if "x" not in mapping.permissions or mapping.file in listed:
             continue

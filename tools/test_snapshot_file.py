@@ -8,7 +8,7 @@ import unittest
 from elf_image import Range, Refused
 from join import samples_of, without_names
 from snapshot_file import (
-    Object, Region, joined_regions, read_snapshot, regions_of, without_overlaps, write_folder, write_whole,
+    Object, Region, joined_regions, read_snapshot, regions_of, text_of, without_overlaps, write_folder, write_whole,
 )
 
 MODULE = {"kind": "elf", "start": "0x1000", "end": "0x2000", "eh_frame": "0x3000", "path": "/bin/a", "bias": "0x0"}
@@ -32,6 +32,13 @@ class Regions(unittest.TestCase):
     def test_regions_are_joined_where_they_share_an_address(self) -> None:
         regions = [Region(4, b"efgh"), Region(0, b"abcde"), Region(5, b"f"), Region(8, b"ij")]
         self.assertEqual(joined_regions(regions), [Region(0, b"abcdefgh"), Region(8, b"ij")])
+
+
+class Texts(unittest.TestCase):
+    def test_a_text_is_as_json_writes_it(self) -> None:
+        found = thread(7, "0x8000", "aabb") | {"name": '"regions": []'}
+        for part in (TABLES, found, found | {"regions": []}, found | {"regions": found["regions"] * 3}):
+            self.assertEqual(text_of(part), json.dumps(part, indent=1) + "\n")
 
 
 class Threads(unittest.TestCase):
