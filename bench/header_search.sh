@@ -82,7 +82,7 @@ fn address_of(pass: u32, count: u32) -> u64 {
     start_of(number).wrapping_add(pass % 16) as u64
 }
 
-fn search(table: &HdrTable, frames: &EhFrame, count: u32, passes: u32) -> u64 {
+fn search<'a>(table: &HdrTable<'a>, frames: &EhFrame<'a>, count: u32, passes: u32) -> u64 {
     let bases = Bases::default();
     let mut steps = Steps::new(NoLedger);
     let mut found = 0u64;

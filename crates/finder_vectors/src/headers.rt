@@ -11,8 +11,7 @@ pub const FRAMES: &str =
     "1400000000000000017a5200017810011b0c070890010000180000001c000000e00ff0ff2000000000410e108602430d064583031c00000000000000017a504c5200017810079bb92f00001b1b0c0708900100001800000024000000c40ff0ff30000000049b1f0000410e10830200002000000040000000d80ff0ff30000000048b1f0000420e10410e18440e2083038e0200000000";
 
 // Its header at 0x504000.
-pub const HEADER: &str =
-    "011b033bfcbfffff0300000000d0efff18c0ffff20d0efff54c0ffff50d0efff70c0ffff";
+pub const HEADER: &str = "011b033bfcbfffff0300000000d0efff18c0ffff20d0efff54c0ffff50d0efff70c0ffff";
 
 // The words from 0x70b0 on: stack of a call of the third function by nobody, of the second by the
 // third, and of the first by the second.
@@ -70,11 +69,7 @@ fn three_functions_are_found_by_a_header(rt: HostRuntime) -> Result<(), Fail> {
 
 // The return addresses and stack pointers of a walk from the second function, with its frame table
 // damaged.
-fn walked(
-    alloc: Global,
-    kind: FrameInfoKind,
-    expected: &[(u64, u64, u64)],
-) -> Result<bool, Fail> {
+fn walked(alloc: Global, kind: FrameInfoKind, expected: &[(u64, u64, u64)]) -> Result<bool, Fail> {
     let mut frames = hex::decode(alloc, FRAMES)?;
     if frames.len() > 8 {
         frames[8] = 2;

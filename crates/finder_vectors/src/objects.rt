@@ -39,7 +39,9 @@ fn asked<'a>(
 }
 
 const LOADED: u32 = 1;
+
 const DYNAMIC: u32 = 2;
+
 const HEADER_OF_FRAMES: u32 = 0x6474_e550;
 
 // The tags 5, 3 and 3 with values, and what stands behind the end.

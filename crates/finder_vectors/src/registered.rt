@@ -1,8 +1,8 @@
 // Registered frame tables, and finders that are asked in turn.
 use crate::headers::{FRAMES, HEADER};
 use memory_image::{MemoryImage, NoLedger, Steps};
-use std::test::Fail;
 use stack_deliver::Module;
+use std::test::Fail;
 use unwinding_core::{
     CustomFinder, FDEFinder, GlobalFinder, GnuHdrFinder, Object, PhdrFinder, Registry, StaticFinder,
 };
@@ -16,7 +16,12 @@ const LIST: &str = "00005000000000000000000000000000";
 
 fn start<F: FDEFinder>(finder: &F, image: &MemoryImage, pc: u64) -> Option<u64> {
     let mut steps = Steps::new(NoLedger);
-    Some(finder.find_fde(image, pc, &mut steps)?.fde.initial_address())
+    Some(
+        finder
+            .find_fde(image, pc, &mut steps)?
+            .fde
+            .initial_address(),
+    )
 }
 
 fn object(begin: u64, multiple: bool) -> Object {

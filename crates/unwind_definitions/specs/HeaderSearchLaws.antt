@@ -1,6 +1,6 @@
 -- Laws of the search of a header's table by halving: what it answers is a boundary, and where all pairs can be read it is
 -- the search by halving of their starts.
-use Rattle.std.proofs.Common.{◌≡◌, ℕ, zero, suc, ◌+◌, ◌-◌, ◌/◌, ◌<◌, ◌≤◌, Bool, true, false, ltb, leb, List, length, Option, Some, None, Result, Ok, Err, refl, sym, ap, subst, ◌∙◌, arith}
+use Rattle.std.proofs.Common.{◌≡◌, ℕ, zero, suc, ◌+◌, ◌-◌, ◌/◌, ◌<◌, ◌≤◌, Bool, true, false, ltb, leb, List, length, Option, Some, Result, Ok, Err, refl, sym, ap, subst, ◌∙◌, arith}
 use Rattle.std.specs.Prelude.{slice_index}
 use Rattle.std.proofs.lemmas.Bool.{ltb-true, ltb-false, leb-true, leb-false, lt-ltb, le-ltb, le-leb, lt-leb}
 use Rattle.memory_image.specs.Halving.{halved, place_before, is_at_or_before, boundary_of}
@@ -9,7 +9,7 @@ use Rattle.unwind_definitions.specs.Forms.{Forms}
 use Rattle.unwind_definitions.specs.Input.{Input}
 use Rattle.unwind_definitions.specs.Pointers.{Bases}
 use Rattle.unwind_definitions.specs.Header.{PairTable, pair_at}
-use Rattle.unwind_definitions.specs.HeaderSearch.{StartsBehind, IsBoundary, Finds, halved_or, starts_by, pair_of_place, boundary_in, found_by, table_answer, IsTableAnswer}
+use Rattle.unwind_definitions.specs.HeaderSearch.{StartsBehind, Finds, halved_or, starts_by, pair_of_place, boundary_in, table_answer, IsTableAnswer}
 
 -- ---- turns
 

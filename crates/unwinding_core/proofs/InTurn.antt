@@ -27,9 +27,13 @@ module _ {A : Type 0} (finds : A → Answering) (xs : List A) where
   pub passed : (i before now next t : ℕ) (x : A) → Asked i before now → i < length xs → x ≡ get_or xs i x → finds x None t → next ≡ now + t → Asked (i + 1) before next
   passed i before now next t x a lt is f step =
       let c = a.counted in
-      record { taken = a.taken + t; counted = omega arith; goes_on = λ answer rest more. (
-          let sum : a.taken + (t + rest) ≡ a.taken + t + rest = omega arith in
-          subst (λ (k : ℕ). FindsAmong finds xs answer k) sum (joined i before now next t rest x None answer a lt is f more)) }
+      record {
+        taken = a.taken + t;
+        counted = omega arith;
+        goes_on = λ answer rest more. (
+            let sum : a.taken + (t + rest) ≡ a.taken + t + rest = omega arith in
+            subst (λ (k : ℕ). FindsAmong finds xs answer k) sum (joined i before now next t rest x None answer a lt is f more));
+      }
 
   pub found : (i before now next t : ℕ) (x : A) (k : FoundFde) → Asked i before now → i < length xs → x ≡ get_or xs i x → finds x (Some k) t → next ≡ now + t → (ticks : ℕ) × (next ≡ before + ticks) × FindsAmong finds xs (Some k) ticks
   found i before now next t x k a lt is f step =
