@@ -12,7 +12,7 @@ use unwinding_core::{
     _Unwind_Backtrace, _Unwind_DeleteException, _Unwind_FindEnclosingFunction,
     _Unwind_ForcedUnwind, _Unwind_GetIP, _Unwind_RaiseException, _Unwind_Resume,
     _Unwind_Resume_or_Rethrow, Cause, CustomFinder, DummyPersonality, EhFrameFinder, FrameInfo,
-    FrameInfoKind, Kept, Personality, RustPersonality, Stop, Trace, UnwindAction, UnwindContext,
+    FrameInfoKind, Kept, RustPersonality, Stop, Trace, UnwindAction, UnwindContext,
     UnwindException, UnwindReasonCode, Unwound,
 };
 
@@ -170,8 +170,14 @@ fn forced_unwinding_asks_the_stop(rt: HostRuntime) -> Result<(), Fail> {
     let fatal = UnwindReasonCode::FATAL_PHASE2_ERROR.0;
     assert_eq!(rt; forced(alloc, REFUSED, 4)?, (Some(fatal), (1, 10, 10)));
     assert_eq!(rt; forced(alloc, NONE, 1)?, (None, (1, 10, 10)));
-    assert_eq!(rt; UnwindAction(10).contains(UnwindAction::CLEANUP_PHASE), true);
-    assert_eq!(rt; UnwindAction::empty().contains(UnwindAction::empty()), false);
+    assert_eq!(rt;
+        UnwindAction(10).contains(UnwindAction::CLEANUP_PHASE),
+        true
+    );
+    assert_eq!(rt;
+        UnwindAction::empty().contains(UnwindAction::empty()),
+        false
+    );
     Ok(())
 }
 
@@ -207,18 +213,29 @@ fn backtraces_visit_frames(rt: HostRuntime) -> Result<(), Fail> {
     let fatal = UnwindReasonCode::FATAL_PHASE1_ERROR.0;
     let ip = 0x40_1006;
     assert_eq!(rt; traced(alloc, NONE, None, 4)?, (end, None, (2, ip, 0)));
-    assert_eq!(rt; traced(alloc, NONE, Some(0x40_1000), 4)?, (end, None, (1, 0, 0)));
+    assert_eq!(rt;
+        traced(alloc, NONE, Some(0x40_1000), 4)?,
+        (end, None, (1, 0, 0))
+    );
     assert_eq!(rt; traced(alloc, NONE, Some(1), 4)?, (end, None, (0, 0, 0)));
     let crowded = Some(Cause::FrameLimit);
     assert_eq!(rt; traced(alloc, NONE, None, 0)?, (fatal, crowded, (0, 0, 0)));
-    assert_eq!(rt; traced(alloc, NONE, None, 1)?, (fatal, crowded, (1, ip, ip)));
-    assert_eq!(rt; traced(alloc, REFUSED, None, 4)?, (fatal, None, (1, ip, ip)));
+    assert_eq!(rt;
+        traced(alloc, NONE, None, 1)?,
+        (fatal, crowded, (1, ip, ip))
+    );
+    assert_eq!(rt;
+        traced(alloc, REFUSED, None, 4)?,
+        (fatal, None, (1, ip, ip))
+    );
     Ok(())
 }
 
-// The landing pad, the stack pointer, RBX and RAX of a run that installs registers, and whether they
-// are the handler's.
-fn landing(end: Unwound<Arch>) -> Option<(u64, u64, u64, u64, bool)> {
+// The landing pad, the stack pointer, RBX and RAX of registers that are installed, and whether they are
+// the handler's.
+type Landing = (u64, u64, u64, u64, bool);
+
+fn landing(end: Unwound<Arch>) -> Option<Landing> {
     match end {
         Unwound::Install { context, handler } => {
             let [rax, _, _, rbx, _, _, _, rsp, ..] = context.registers;
@@ -228,17 +245,21 @@ fn landing(end: Unwound<Arch>) -> Option<(u64, u64, u64, u64, bool)> {
     }
 }
 
-// Three frames, of which the second has a cleanup and the third a handler.
-#[test]
-fn a_raise_goes_to_its_handler(rt: HostRuntime) -> Result<(), Fail> {
-    let alloc = rt.alloc();
+// A stack of three frames, of which the second has a cleanup and the third a handler.
+const STACK: &str =
+    "0000000000000000 1100000000000000 0c00000000000000 3010400000000000 2200000000000000 6010400000000000 0000000000000000 0b00000000000000 0e00000000000000 0000000000000000";
+
+// How a raise from the innermost of three frames lands, how it lands once the cleanup resumes at an
+// address, and what the exception keeps in between. With `stop` the resume is by force.
+fn raised(
+    alloc: Global,
+    kept: Kept,
+    resume: u64,
+) -> Result<(Option<Landing>, Kept, Option<Landing>), Fail> {
     let frames = bytes_of(alloc, FRAMES)?;
     let languages = bytes_of(alloc, LANGUAGES)?;
     let cell = bytes_of(alloc, CELL)?;
-    let stack = bytes_of(
-        alloc,
-        "0000000000000000 1100000000000000 0c00000000000000 3010400000000000 2200000000000000 6010400000000000 0000000000000000 0b00000000000000 0e00000000000000 0000000000000000",
-    )?;
+    let stack = bytes_of(alloc, STACK)?;
     let mut image = MemoryImage::new(alloc);
     let _ = image.add(0x50_0000, &frames);
     let _ = image.add(0x50_2000, &languages);
@@ -250,16 +271,101 @@ fn a_raise_goes_to_its_handler(rt: HostRuntime) -> Result<(), Fail> {
     context.registers[3] = 0x7;
     context.registers[6] = 0x70c0;
     let mut exception = UnwindException::new(0x22, 0x90_0000);
-    let cleanup = _Unwind_RaiseException(
+    let personality = RustPersonality;
+    let cleanup = _Unwind_RaiseException::<Arch, CustomFinder<Text>, RustPersonality, NoLedger>(
         &image,
         &finder,
         &context,
         &mut exception,
-        &RustPersonality,
+        &personality,
         8,
         &mut steps,
     );
-    assert_eq!(rt; exception.kept == Kept::Handler(0x70e0), true);
-    assert_eq!(rt; landing(cleanup), Some((0x40_1040, 0x70d0, 0x11, 0x90_0000, false)));
+    let found = exception.kept;
+    let first = landing(cleanup);
+    context = start(resume, 0x70d0);
+    context.registers[3] = 0x11;
+    context.registers[6] = 0xc;
+    exception.kept = if kept == Kept::Stop { kept } else { found };
+    let mut stop = NONE;
+    let handler = _Unwind_Resume::<Arch, CustomFinder<Text>, RustPersonality, Visits, NoLedger>(
+        &image,
+        &finder,
+        &context,
+        &mut exception,
+        &personality,
+        &mut stop,
+        8,
+        &mut steps,
+    );
+    Ok((first, found, landing(handler)))
+}
+
+#[test]
+fn a_raise_goes_to_its_handler(rt: HostRuntime) -> Result<(), Fail> {
+    let alloc = rt.alloc();
+    let cleanup = Some((0x40_1040, 0x70d0, 0x11, 0x90_0000, false));
+    let (first, found, second) = raised(alloc, Kept::Handler(0), 0x40_1048)?;
+    assert_eq!(rt; first, cleanup);
+    assert_eq!(rt; found == Kept::Handler(0x70e0), true);
+    assert_eq!(rt; second, Some((0x40_1070, 0x70e0, 0x22, 0x90_0000, true)));
+    // by force the handler's landing pad is entered too, but not as the handler's
+    let (_, _, by_force) = raised(alloc, Kept::Stop, 0x40_1048)?;
+    assert_eq!(rt; by_force, Some((0x40_1070, 0x70e0, 0x22, 0x90_0000, false)));
+    // behind an address that no call site holds
+    let (_, _, none) = raised(alloc, Kept::Handler(0), 0x40_1040)?;
+    assert_eq!(rt; none, None);
+    Ok(())
+}
+
+#[test]
+fn a_raise_without_handler_keeps_the_exception(rt: HostRuntime) -> Result<(), Fail> {
+    let alloc = rt.alloc();
+    let frames = bytes_of(alloc, PUSHES)?;
+    let stack = bytes_of(alloc, "05000000000000000000000000000000")?;
+    let mut image = MemoryImage::new(alloc);
+    assert_eq!(rt; image.add(0x50_0000, &frames), Ok(()));
+    assert_eq!(rt; image.add(0x7000, &stack), Ok(()));
+    let finder = finder(0x40_1010);
+    let mut steps = Steps::new(NoLedger);
+    let mut exception = UnwindException::new(0x22, 0x90_0000);
+    let mut stop = NONE;
+    let end = _Unwind_Resume_or_Rethrow::<
+        Arch,
+        CustomFinder<Text>,
+        RustPersonality,
+        Visits,
+        NoLedger,
+    >(
+        &image,
+        &finder,
+        &start(0x40_1006, 0x7000),
+        &mut exception,
+        &RustPersonality,
+        &mut stop,
+        4,
+        &mut steps,
+    );
+    match end {
+        Unwound::Code { code, cause } => {
+            assert_eq!(rt; code.0, UnwindReasonCode::END_OF_STACK.0);
+            assert_eq!(rt; cause, None);
+        }
+        Unwound::Install { .. } => assert!(rt; false),
+    }
+    assert_eq!(rt; exception == UnwindException::new(0x22, 0x90_0000), true);
+    assert_eq!(rt; stop.seen(), (0, 0, 0));
+    let enclosing = _Unwind_FindEnclosingFunction(&image, &finder, 0x40_1010, &mut steps);
+    assert_eq!(rt; enclosing, 0x40_1000);
+    assert_eq!(rt;
+        _Unwind_FindEnclosingFunction(&image, &finder, 0, &mut steps),
+        0
+    );
+    let mut reason = 0;
+    _Unwind_DeleteException(
+        &exception,
+        Some(|code: UnwindReasonCode, _gone: &UnwindException| reason = code.0),
+    );
+    assert_eq!(rt; reason, 1);
     Ok(())
 }

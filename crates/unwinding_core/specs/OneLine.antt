@@ -1,6 +1,6 @@
 -- Lines where one thing is seen at each context: there is one line from each.
-use Rattle.std.proofs.Common.{◌≡◌, ℕ, zero, suc, List, [], ◌∷◌, Option, Result, refl, sym, ap, subst, ◌∙◌}
-use Rattle.unwinding_core.specs.Passes.{Marked, Undoing, Stepping, Asks, LineEnd, Crowded, Turn, Ends, Goes, Line, IsAfter, IsLine, turn_seen}
+use Rattle.std.proofs.Common.{◌≡◌, ℕ, zero, suc, [], ◌∷◌, Option, Result, refl, ap, subst, ◌∙◌}
+use Rattle.unwinding_core.specs.Passes.{Marked, Undoing, Stepping, Asks, Crowded, Turn, Ends, Goes, Line, IsAfter, IsLine, turn_seen}
 
 -- the step by what is seen at each context
 abbrev pub by_one : {C F E : Type 0} → (Marked C → Result (Option F) E) → Undoing C F E → Stepping C F E

@@ -6,6 +6,7 @@ use Rattle.unwinding_core.specs.Passes.{Line, IsLine}
 use Rattle.unwinding_core.proofs.abi.laws.lines_are_one.Goals as goal
 
 pub returns : goal.returns
-returns c sees undoing asks limit words start line =
-    (line_is sees undoing asks limit words start line,
-    λ same. subst (λ (l : Line Columns StepFault (List ℕ)). IsLine (by_one sees undoing) asks limit words start l) (sym same) (is_line sees undoing asks limit words start))
+returns c sees undoing asks limit words start line = (
+  line_is sees undoing asks limit words start line,
+  λ same. subst (λ (l : Line Columns StepFault (List ℕ)). IsLine (by_one sees undoing) asks limit words start l) (sym same) (is_line sees undoing asks limit words start),
+)
