@@ -1,6 +1,6 @@
 -- What fixes a machine to an unwinder, by number.
 use Rattle.std.specs.Prelude.{◌≡◌, ℕ}
-use Rattle.frame_rows.specs.declared.register.Register.{Register}
+use Rattle.unwind_arch.specs.declared.register.Register.{Register}
 
 -- The columns of the stack pointer and of the return address, those of the exception and the selector as a landing pad finds them,
 -- the words of an exception that the unwinder keeps, and the most rules of a row.
