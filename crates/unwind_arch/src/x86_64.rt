@@ -99,6 +99,7 @@ impl Arch {
 
 // As in the `unwinding` crate's table of machines.
 const _: () = prove!(MAX_REG_RULES == 17);
+
 const _: () = prove!(Arch::UNWIND_PRIVATE_DATA_SIZE == 6);
 
 impl Machine for Arch {

@@ -19,7 +19,6 @@ pub use context::{
     _Unwind_GetLanguageSpecificData, _Unwind_GetRegionStart, _Unwind_GetTextRelBase, _Unwind_SetGR,
     _Unwind_SetIP, UnwindContext,
 };
-
 use std::ops::BitOr;
 
 /// How an unwinding came out, or a step of it.
@@ -51,13 +50,21 @@ impl UnwindReasonCode {
 
 // The numbers of the interface.
 const _: () = prove!(UnwindReasonCode::NO_REASON.0 == 0);
+
 const _: () = prove!(UnwindReasonCode::FOREIGN_EXCEPTION_CAUGHT.0 == 1);
+
 const _: () = prove!(UnwindReasonCode::FATAL_PHASE2_ERROR.0 == 2);
+
 const _: () = prove!(UnwindReasonCode::FATAL_PHASE1_ERROR.0 == 3);
+
 const _: () = prove!(UnwindReasonCode::NORMAL_STOP.0 == 4);
+
 const _: () = prove!(UnwindReasonCode::END_OF_STACK.0 == 5);
+
 const _: () = prove!(UnwindReasonCode::HANDLER_FOUND.0 == 6);
+
 const _: () = prove!(UnwindReasonCode::INSTALL_CONTEXT.0 == 7);
+
 const _: () = prove!(UnwindReasonCode::CONTINUE_UNWIND.0 == 8);
 
 /// What a personality is called for, as a set of bits.
@@ -96,9 +103,13 @@ impl UnwindAction {
 
 // The bits of the interface.
 const _: () = prove!(UnwindAction::SEARCH_PHASE.0 == 1);
+
 const _: () = prove!(UnwindAction::CLEANUP_PHASE.0 == 2);
+
 const _: () = prove!(UnwindAction::HANDLER_FRAME.0 == 4);
+
 const _: () = prove!(UnwindAction::FORCE_UNWIND.0 == 8);
+
 const _: () = prove!(UnwindAction::END_OF_STACK.0 == 16);
 
 impl BitOr for UnwindAction {
