@@ -9,3 +9,4 @@ pub mod Languages
 pub mod Actions
 pub mod Columns
 pub mod Personalities
+pub mod Sample
