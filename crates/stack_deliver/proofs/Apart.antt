@@ -8,7 +8,7 @@ use Rattle.memory_image.specs.Image.{lower}
 use Rattle.stack_deliver.specs.declared.space.Module.{Module}
 use Rattle.stack_deliver.specs.declared.space.Extent.{Extent}
 use Rattle.stack_deliver.specs.Modules.{contains, module_at, AreApart, shares, lowest_shared, with_module, module_of, modules_in}
-use Rattle.stack_deliver.specs.Nearest.{last_below, first_between}
+use Rattle.stack_deliver.specs.Modules.{last_below, first_between}
 
 -- ---- an address
 

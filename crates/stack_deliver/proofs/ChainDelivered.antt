@@ -18,7 +18,7 @@ use Rattle.stack_deliver.specs.declared.passes.Phase.TheVariants as phase
 use Rattle.stack_deliver.specs.Modules.{SpaceValue, AreApart}
 use Rattle.stack_deliver.specs.Processes.{process_of}
 use Rattle.stack_deliver.specs.Shown.{state_of, outcome_of}
-use Rattle.stack_deliver.specs.Undone.{EachShows}
+use Rattle.stack_deliver.specs.Walking.{EachShows}
 use Rattle.stack_deliver.specs.Passes.{Stop, Passed, pass_of, kept_at, pad_of, passes_of}
 use Rattle.stack_deliver.specs.Delivering.{Delivered, delivered_after, undelivered, delivered_at, delivered_to, delivery_of}
 use Rattle.stack_deliver.specs.Walking.{StartsValidChain, ShowsDelivery}

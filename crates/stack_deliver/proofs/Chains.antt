@@ -13,7 +13,7 @@ use Rattle.stack_deliver.specs.Modules.{SpaceValue, AreApart}
 use Rattle.stack_deliver.specs.Processes.{process_of}
 use Rattle.stack_deliver.specs.Delivering.{line_of}
 use Rattle.stack_deliver.specs.Shown.{state_of}
-use Rattle.stack_deliver.specs.Undone.{EachShows}
+use Rattle.stack_deliver.specs.Walking.{EachShows}
 use Rattle.stack_deliver.specs.Walking.{StartsChain, ShowChain}
 use Rattle.stack_deliver.proofs.LineShows.{line_shows}
 

@@ -14,7 +14,7 @@ use Rattle.stack_deliver.proofs.LineAnswers.{IsStepFault}
 use Rattle.stack_deliver.specs.Passes.{Line, Stop, pass_of, kept_at, pad_of, cleanup_of, Passed, passes_of}
 use Rattle.stack_deliver.proofs.PassLines.{stop_in}
 use Rattle.stack_deliver.specs.Delivering.{Delivered, delivered_after, undelivered, delivered_at, delivered_to, delivered_by, delivery_of}
-use Rattle.stack_deliver.specs.Meeting.{CantRead, Meets, GoesOnFrom}
+use Rattle.stack_deliver.specs.Causes.{CantRead, Meets, GoesOnFrom}
 use Rattle.stack_deliver.specs.Causes.{TakenAt, SomePass, NeedMore, MeetFault, IsRefused, EndsBy}
 use Rattle.stack_deliver.proofs.MeetAnswers.{turn_fails, more_pass, meets_never}
 use Rattle.stack_deliver.proofs.CauseAnswers.{RefusesNow, refused_in, some_refused, some_pass, turn_faults, refused_either, search_refuses, refuses, limit_met, met_limit, unresumed, no_return}

@@ -1,5 +1,5 @@
 -- The line from a context that shows the start of a described chain shows the chain's states.
-use Rattle.std.proofs.Common.{inl, inr, ◌≡◌, ◌≢◌, ℕ, zero, suc, ◌-◌, ◌<◌, Bool, true, false, List, [], ◌∷◌, length, Option, Some, None, Ok, Err, ◌+◌, ◌%◌, ◌^◌, refl, sym, ap, ◌∙◌, subst, arith, eqb}
+use Rattle.std.proofs.Common.{inl, inr, ◌≡◌, ◌≢◌, ℕ, zero, suc, ◌-◌, ◌<◌, Bool, true, false, List, [], ◌∷◌, length, Option, Some, None, Ok, Err, ◌^◌, refl, sym, ap, ◌∙◌, subst, arith, eqb}
 use Rattle.std.specs.Prelude.{◌⊎◌, IsTrue, map}
 use Rattle.std.specs.List.{Contains, AllByRecursion}
 use Rattle.std.proofs.lemmas.Bool.Decides.{nat_tests}
@@ -28,7 +28,7 @@ use Rattle.unwinding_core.specs.Named.{found_by_kind}
 use Rattle.stack_deliver.specs.Stepping.{frame_in, frame_of, step_of}
 use Rattle.stack_deliver.proofs.StepParts.{stepped_by, step_is}
 use Rattle.stack_deliver.specs.Delivering.{line_of}
-use Rattle.stack_deliver.specs.Undone.{IsDescribedCall, HaveFrameTables, Undone, EachShows}
+use Rattle.stack_deliver.specs.Walking.{IsDescribedCall, HaveFrameTables, Undone, EachShows}
 use Rattle.stack_deliver.proofs.MetFrames.{step_undone}
 
 -- a module that is found is one of the space's, and contains the address

@@ -14,7 +14,7 @@ use Rattle.stack_deliver.specs.Modules.{SpaceValue}
 use Rattle.stack_deliver.specs.Stepping.{step_of, FrameAt, frame_of, caller_by}
 use Rattle.stack_deliver.specs.Passes.{turn_at, or_terminate, asked_if_named, asked_of, stops, past_arguments, Line, Stop, Turn, Ends, Stops, Goes, turn_of, with_context, line_turn, pass_of, turn_for}
 use Rattle.stack_deliver.proofs.PassLines.{stop_in}
-use Rattle.stack_deliver.specs.Meeting.{Asks, GoesTo, EndsProgram, StackEnds, CantRead, Meets, GoesOnFrom}
+use Rattle.stack_deliver.specs.Causes.{Asks, GoesTo, EndsProgram, StackEnds, CantRead, Meets, GoesOnFrom}
 use Rattle.stack_deliver.proofs.StepParts.{some_next, stepped_by, step_is, none_framed, goes, turn_asked, turn_by}
 
 -- ---- a turn

@@ -1,5 +1,5 @@
 -- The frame at a context that shows a state of a described chain.
-use Rattle.std.proofs.Common.{◌≡◌, ◌≢◌, ℕ, ◌-◌, ◌^◌, ◌<◌, false, List, Option, Some, None, Result, Ok, Err, refl, sym, ap, subst, ◌∙◌, arith, eqb, ltb, leb}
+use Rattle.std.proofs.Common.{◌≡◌, ◌≢◌, ℕ, ◌-◌, ◌^◌, ◌<◌, false, List, Option, Some, None, Ok, refl, sym, ap, subst, ◌∙◌, arith, eqb, ltb, leb}
 use Rattle.std.specs.Prelude.{IsTrue, map}
 use Rattle.std.proofs.lemmas.Bool.Decides.{nat_tests}
 use Rattle.std.proofs.lemmas.Bool.{ltb-true, leb-true}
@@ -10,7 +10,7 @@ use Rattle.unwind_definitions.specs.Row.{row_at, argument_size}
 use Rattle.unwind_definitions.specs.Scan.{scan}
 use Rattle.unwind_definitions.specs.LanguageTable.{input_at}
 use Rattle.unwind_definitions.specs.LanguageSearch.{address_of_call}
-use Rattle.unwind_definitions.specs.Caller.{Columns, StepFault, x86_64, caller_of}
+use Rattle.unwind_definitions.specs.Caller.{Columns}
 use Rattle.unwind_definitions.specs.State.{State, Shows, KeepsOthers}
 use Rattle.unwind_definitions.specs.Function.{Function, action_at}
 use Rattle.unwind_definitions.specs.Chain.{Call}
@@ -30,11 +30,10 @@ use Rattle.unwinding_core.specs.Finding.{FoundFde, table_bases}
 use Rattle.unwinding_core.specs.Named.{found_by_kind}
 use Rattle.stack_deliver.specs.declared.space.Module.{Module}
 use Rattle.stack_deliver.specs.declared.delivery.Stepped.{Stepped}
-use Rattle.stack_deliver.specs.declared.delivery.DeliverError.{DeliverError}
 use Rattle.stack_deliver.specs.Modules.{SpaceValue, AreApart, module_at}
 use Rattle.stack_deliver.specs.Processes.{tables_of, module_of, process_of}
 use Rattle.stack_deliver.specs.Stepping.{step_of, FrameAt, frame_by, frame_of, caller_by}
-use Rattle.stack_deliver.specs.Undone.{IsDescribedCall, HaveFrameTables, Undone}
+use Rattle.stack_deliver.specs.Walking.{IsDescribedCall, HaveFrameTables, Undone}
 use Rattle.stack_deliver.specs.Passes.{asked_if_named, asked_of}
 use Rattle.stack_deliver.proofs.ContextLemmas.{IsWhole}
 use Rattle.stack_deliver.proofs.StepParts.{some_next, stepped_by, step_is}

@@ -16,7 +16,7 @@ use Rattle.stack_deliver.specs.Modules.{SpaceValue}
 use Rattle.stack_deliver.specs.Resumes.{return_of}
 use Rattle.stack_deliver.specs.Passes.{stops, Line, Stop, Ends, Stops, turn_of, pass_of, kept_at, pad_of, fatal, landed, enters, PassEnd, Finishes, Elsewhere, end_at, end_by, end_of, cleanup_of, cleanup_at, resume_at, Passed, with_cleanup, resumed, followed, passes_of}
 use Rattle.stack_deliver.proofs.PassLines.{stop_in}
-use Rattle.stack_deliver.specs.Meeting.{Asks, EndsProgram, StackEnds, CantRead, Meets, GoesOnFrom, TakesAt, Fails}
+use Rattle.stack_deliver.specs.Causes.{Asks, EndsProgram, StackEnds, CantRead, Meets, GoesOnFrom, TakesAt, Fails}
 use Rattle.stack_deliver.specs.Causes.{SomePass}
 use Rattle.stack_deliver.proofs.MeetAnswers.{Last, turn_meets, turn_ends, turn_fails, ends_asks, asks_ends, pass_last, last_pass, meets_too, meets_either, StopsFor, meets_stop}
 

@@ -17,7 +17,7 @@ use Rattle.stack_deliver.specs.Results.{◌>>=◌, result_map}
 use Rattle.stack_deliver.specs.Stepping.{FrameAt, frame_of, caller_by, caller_at, step_of}
 use Rattle.stack_deliver.specs.Delivering.{with_first, line_after, line_of}
 use Rattle.stack_deliver.specs.Walking.{RoomValue, IsWalked}
-use Rattle.stack_deliver.specs.Passes.{Line, Stop, Ends, Goes, turn_in, turn_for, line_turn, with_context, line_for, PassEnd, Finishes, Elsewhere, cleanup_of, cleanup_at, resume_at, Passed, with_cleanup, resumed, followed, passes_of}
+use Rattle.stack_deliver.specs.Passes.{Line, Stop, Ends, Goes, turn_in, turn_for, line_turn, with_context, line_for, Finishes, Elsewhere, cleanup_of, cleanup_at, resume_at, Passed, with_cleanup, resumed, followed, passes_of}
 use Rattle.stack_deliver.specs.Passing.{with_contexts, with_cleanups, turn_shown, line_shown, AreVisited, IsOutward, visited_with}
 
 -- where a pass stops, without the contexts

@@ -25,7 +25,7 @@ use Rattle.stack_deliver.specs.Modules.{SpaceValue, AreApart}
 use Rattle.stack_deliver.specs.Processes.{process_of}
 use Rattle.stack_deliver.specs.Resumes.{return_of}
 use Rattle.stack_deliver.specs.Shown.{state_of, landing_of, pair_of}
-use Rattle.stack_deliver.specs.Undone.{IsDescribedCall, HaveFrameTables, EachShows}
+use Rattle.stack_deliver.specs.Walking.{IsDescribedCall, HaveFrameTables, EachShows}
 use Rattle.stack_deliver.specs.Passes.{Line, Stop, stops, with_context, pass_of, kept_at, pad_of, enters, landed, PassEnd, Finishes, Elsewhere, end_at, end_of, cleanup_at, resume_at, Passed, with_cleanup, resumed, followed, passes_of}
 use Rattle.stack_deliver.proofs.ContextLemmas.{IsWhole}
 use Rattle.stack_deliver.proofs.Chains.{shown_state}

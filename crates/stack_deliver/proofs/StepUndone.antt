@@ -1,10 +1,10 @@
 -- The module of an address, and the columns of a described caller.
-use Rattle.std.proofs.Common.{inl, inr, ◌≡◌, ◌≢◌, ℕ, zero, suc, ◌-◌, ◌<◌, ◌≤◌, Bool, true, false, List, [], ◌∷◌, get_or, Option, Some, None, Ok, refl, sym, ap, subst, ◌∙◌, arith, cond, eqb, ltb, leb}
-use Rattle.std.specs.Prelude.{◌⊎◌, ◌&&◌, IsTrue, IsFalse, map}
+use Rattle.std.proofs.Common.{inl, inr, ◌≡◌, ℕ, zero, suc, ◌<◌, ◌≤◌, Bool, true, false, List, [], ◌∷◌, get_or, Option, Some, None, refl, sym, subst, ◌∙◌, arith, cond, ltb, leb}
+use Rattle.std.specs.Prelude.{◌⊎◌, ◌&&◌, IsFalse, map}
 use Rattle.std.specs.Option.{unwrap_or}
 use Rattle.std.specs.List.{Contains}
 use Rattle.std.proofs.lemmas.Bool.Decides.{nat_tests, eqb_tells}
-use Rattle.std.proofs.lemmas.Bool.{ltb-true, leb-true}
+use Rattle.std.proofs.lemmas.Bool.{ltb-true}
 use Rattle.unwind_definitions.specs.Caller.{Columns}
 use Rattle.unwind_definitions.specs.State.{RBX, RBP, R12, R13, R14, R15, State, value_of, Shows, is_followed, KeepsOthers}
 use Rattle.unwind_definitions.specs.Module as described

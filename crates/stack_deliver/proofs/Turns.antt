@@ -1,10 +1,9 @@
 -- The turn of a pass at a state of a described chain.
-use Rattle.std.proofs.Common.{◌≡◌, ◌≢◌, ℕ, zero, suc, ◌+◌, ◌-◌, ◌%◌, ◌^◌, ◌<◌, true, false, List, [], ◌∷◌, length, get_or, set, Option, Some, None, Result, Ok, Err, refl, sym, ap, ◌∙◌, arith}
+use Rattle.std.proofs.Common.{◌≡◌, ◌≢◌, ℕ, zero, suc, ◌+◌, ◌-◌, ◌%◌, ◌^◌, ◌<◌, true, false, List, [], ◌∷◌, length, get_or, set, Option, Some, None, Ok, refl, ap, ◌∙◌, arith}
 use Rattle.std.specs.Prelude.{IsTrue}
 use Rattle.std.specs.List.{AllByRecursion}
 use Rattle.std.proofs.lemmas.List.{set-get_or, get_or-set_same, get_or-set_other}
 use Rattle.std.proofs.Math.ListN.{length-set}
-use Rattle.memory_image.specs.Image.{Span}
 use Rattle.unwind_definitions.specs.Forms.{emitted}
 use Rattle.unwind_definitions.specs.Row.{argument_size}
 use Rattle.unwind_definitions.specs.State.{CalleeSaved, RBX, RBP, R12, R13, R14, R15, State, IsState, value_of, column_of, Shows}
@@ -17,13 +16,11 @@ use Rattle.unwind_definitions.specs.Valid.{LiesDescribed}
 use Rattle.unwind_laws.proofs.Booleans as lists
 use Rattle.unwind_arch.specs.declared.x86_64.Context.{Context}
 use Rattle.unwind_arch.specs.Contexts.{columns_of}
-use Rattle.stack_deliver.specs.declared.delivery.Stepped.{Stepped}
-use Rattle.stack_deliver.specs.declared.delivery.DeliverError.{DeliverError}
 use Rattle.stack_deliver.specs.declared.passes.Phase.{Phase}
 use Rattle.stack_deliver.specs.Modules.{SpaceValue}
 use Rattle.stack_deliver.specs.Processes.{process_of}
-use Rattle.stack_deliver.specs.Undone.{IsDescribedCall, HaveFrameTables}
 use Rattle.stack_deliver.specs.Stepping.{FrameAt, frame_of, caller_by}
+use Rattle.stack_deliver.specs.Walking.{IsDescribedCall, HaveFrameTables}
 use Rattle.stack_deliver.specs.Passes.{stops, past_arguments, Stops, Goes, turn_of, with_context, pass_of, enters, turn_for}
 use Rattle.stack_deliver.proofs.ContextLemmas.{IsWhole}
 use Rattle.stack_deliver.proofs.LineShows.{ends}

@@ -1,8 +1,6 @@
 pub mod Causes
 pub mod Delivering
-pub mod Meeting
 pub mod Modules
-pub mod Nearest
 pub mod Passes
 pub mod Passing
 pub mod Personality
@@ -11,5 +9,4 @@ pub mod Results
 pub mod Resumes
 pub mod Shown
 pub mod Stepping
-pub mod Undone
 pub mod Walking

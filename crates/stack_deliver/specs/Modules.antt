@@ -2,7 +2,6 @@
 use Rattle.std.specs.Prelude.{ℕ, ◌<◌, ◌≤◌, Bool, ◌&&◌, List, [], ◌∷◌, Option, Some, None, nat_le, nat_lt, map, if◌then◌else◌}
 use Rattle.std.specs.Option.{option_map}
 use Rattle.memory_image.specs.Image.{Span, lower}
-use Rattle.unwinding_core.specs.declared.find_fde.custom.FrameInfo.{FrameInfo}
 use Rattle.stack_deliver.specs.declared.space.SpaceError.{SpaceError}
 use Rattle.stack_deliver.specs.declared.space.SpaceError.TheVariants.{Wraps, Overlap}
 use Rattle.stack_deliver.specs.declared.space.Module.{Module}
@@ -16,10 +15,6 @@ pub record SpaceValue : Type 0 where
 -- the address lies in the module
 abbrev pub contains : Module → ℕ → Bool
 contains m a = nat_le m.start a && nat_lt a m.end
-
--- the frame tables of a module, for an address of its own
-abbrev pub frame_for : Module → ℕ → Option FrameInfo
-frame_for m a = if contains m a then Some m.frame else None
 
 -- the module that contains the address
 abbrev pub module_at : List Module → ℕ → Option Module
@@ -56,3 +51,19 @@ module_of e = record { start = e.0; end = e.1.end; frame = e.1.frame }
 -- the modules that a map from starts holds
 abbrev pub modules_in : List (ℕ × Extent) → List Module
 modules_in es = map module_of es
+
+-- ---- the modules beside an address
+
+abbrev pub or_else : Option Module → Option Module → Option Module
+or_else None m = m
+or_else (Some n) m = Some n
+
+-- the last module that starts at or below the address
+abbrev pub last_below : List Module → ℕ → Option Module
+last_below [] a = None
+last_below (m ∷ ms) a = or_else (last_below ms a) (if nat_le m.start a then Some m else None)
+
+-- the start of the first module that starts from start to before end
+abbrev pub first_between : List Module → ℕ → ℕ → Option ℕ
+first_between [] start end = None
+first_between (m ∷ ms) start end = if nat_le start m.start && nat_lt m.start end then Some m.start else first_between ms start end

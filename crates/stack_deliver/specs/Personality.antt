@@ -1,17 +1,12 @@
 -- What the passes ask of a frame, as the personality of Rust answers it. Itanium C++ ABI, exception handling, section 2.5.
-use Rattle.std.specs.Prelude.{◌≡◌, ◌⊎◌, ◌-◌, ◌^◌, ℕ, pos, Bool, true, false, List, [], ◌∷◌, replicate, Some, None, Ok}
+use Rattle.std.specs.Prelude.{◌≡◌, ◌⊎◌, ℕ, pos, Bool, true, false, List, Some, Ok}
 use Rattle.memory_image.specs.Image.{Span}
-use Rattle.unwind_definitions.specs.Entries.{Cie, Fde}
-use Rattle.unwind_definitions.specs.Input.{Input}
-use Rattle.unwind_definitions.specs.Module.{no_bases}
-use Rattle.unwind_definitions.specs.Pointers.{Direct}
-use Rattle.unwind_definitions.specs.Row.{ColumnAndOffset}
 use Rattle.unwind_definitions.specs.Function.{Action, NoAction, Cleanup, Catch, Filter, Terminate}
 use Rattle.unwind_definitions.specs.LanguageSearch.{personality_address}
 use Rattle.unwind_arch.specs.declared.x86_64.Context.{Context}
 use Rattle.unwind_arch.specs.Contexts.{columns_of}
 use Rattle.unwinding_core.specs.declared.abi.TheConstants.UnwindReasonCode.{INSTALL_CONTEXT, CONTINUE_UNWIND, FATAL_PHASE1_ERROR, FATAL_PHASE2_ERROR}
-use Rattle.unwinding_core.specs.declared.abi.TheConstants.UnwindAction.{SEARCH_PHASE, CLEANUP_PHASE, FORCE_UNWIND}
+use Rattle.unwinding_core.specs.declared.abi.TheConstants.UnwindAction.{SEARCH_PHASE, FORCE_UNWIND}
 use Rattle.unwinding_core.specs.declared.abi.UnwindReasonCode.{UnwindReasonCode}
 use Rattle.unwinding_core.specs.Actions.{shares}
 use Rattle.unwinding_core.specs.FrameValue.{FrameValue}
@@ -58,44 +53,3 @@ answer_for asked image frame c interrupted = rust_answers landing_columns asked 
 
 abbrev pub code_of : Answer → UnwindReasonCode
 code_of answer = answer.0
-
--- ---- a sample
-
--- A language table at 0x2000: no base of landing pads and no types; one call site of 16 bytes with a pad at 32 and the first
--- action, which is a handler.
-abbrev pub sample_image : List Span
-sample_image = record { start = 0x2000; bytes = 0xff ∷ 0xff ∷ 1 ∷ 4 ∷ 0 ∷ 16 ∷ 32 ∷ 1 ∷ 1 ∷ 0 ∷ [] } ∷ []
-
--- a frame after a call in the first 16 bytes of the function at 0x1000
-abbrev pub sample_context : Context
-sample_context = record { registers = replicate 16 0; ra = 0x1005; mcxsr = 0; fcw = 0 }
-
-abbrev pub nothing : Input
-nothing = record { base = 0; offset = 0; bytes = [] }
-
-abbrev pub sample_cie : Cie
-sample_cie = record {
-  offset = 0;
-  version = 1;
-  code_factor = 1;
-  data_factor = 2 ^ 64 - 8;
-  return_column = 16;
-  augmentation = [];
-  program = nothing;
-  letters = record { language = Some 0; personality = Some (0, Direct 0x3000); address = None; signal = false };
-}
-
-abbrev pub sample_fde : Fde
-sample_fde = record { offset = 0; cie = sample_cie; start = 0x1000; size = 256; language = Some (Direct 0x2000); program = nothing }
-
-abbrev pub sample_frame : FrameValue
-sample_frame = record {
-  found = record { fde = sample_fde; bases = no_bases; table = nothing };
-  row = record { cfa = ColumnAndOffset 7 8; rules = []; saved_args_size = 0 };
-}
-
-abbrev pub sample_search : Asked
-sample_search = record { routine = 0x3000; version = pos 1; actions = SEARCH_PHASE; class = 0; exception = 0 }
-
-abbrev pub sample_cleanup : Asked
-sample_cleanup = record { routine = 0x3000; version = pos 1; actions = CLEANUP_PHASE; class = 0; exception = 0 }

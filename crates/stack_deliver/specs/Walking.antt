@@ -1,11 +1,10 @@
 -- What a walk and a delivery leave in a room, and why they are refused.
-use Rattle.std.specs.Prelude.{◌≡◌, ◌⊎◌, ℕ, zero, suc, ◌<◌, Bool, List, length, Result, Ok, Err, Some}
+use Rattle.std.specs.Prelude.{◌≡◌, ◌⊎◌, ℕ, zero, suc, ◌<◌, Bool, List, length, Result, Ok, Err, Some, false, [], ◌∷◌, None, Option, IsTrue}
 use Rattle.unwind_definitions.specs.Forms.{emitted}
-use Rattle.unwind_definitions.specs.State.{State, Shows}
-use Rattle.unwind_definitions.specs.Function.{Function}
-use Rattle.unwind_definitions.specs.Chain.{Call, states_of, StacksRise}
-use Rattle.unwind_definitions.specs.Delivery as described
-use Rattle.unwind_definitions.specs.Valid.{IsDescribedChain, IsValid}
+use Rattle.unwind_definitions.specs.State.{State, Shows, IsState, KeepsOthers}
+use Rattle.unwind_definitions.specs.Function.{Function, IsFunction}
+use Rattle.unwind_definitions.specs.Chain.{Call, states_of, StacksRise, IsCalled}
+use Rattle.unwind_definitions.specs.Valid.{IsDescribedChain, IsValid, LiesDescribed}
 use Rattle.unwind_arch.specs.declared.x86_64.Context.{Context}
 use Rattle.unwind_arch.specs.Contexts.{columns_of}
 use Rattle.stack_deliver.specs.declared.delivery.Trail.{Trail}
@@ -17,7 +16,44 @@ use Rattle.stack_deliver.specs.Processes.{process_of}
 use Rattle.stack_deliver.specs.Stepping.{step_of}
 use Rattle.stack_deliver.specs.Delivering.{Delivered}
 use Rattle.stack_deliver.specs.Shown.{delivery_shown}
-use Rattle.stack_deliver.specs.Undone.{HaveFrameTables, EachShows}
+use Rattle.std.specs.List.{Contains, AllByRecursion}
+use Rattle.unwind_definitions.specs.Caller.{Columns}
+use Rattle.unwind_definitions.specs.Prologue.{SystemV}
+use Rattle.unwind_definitions.specs.Module.{Module, Process, header_of}
+use Rattle.unwind_definitions.specs.Delivery as described
+
+-- ---- what it is for a step to undo a call
+
+-- each module names its frame table itself, and no header table
+abbrev pub HaveFrameTables : Process → Type 0
+HaveFrameTables p = AllByRecursion (λ (m : Module). header_of m.tables ≡ None) p.modules
+
+-- A state is stopped in the body of a listed function, which was called from its caller's state and which a module describes.
+-- The caller of an outermost function has the return address 0.
+pub record IsDescribedCall (p : Process) (functions : List Function) (s : State) (c : Call) : Type 0 where
+  pub is_function : IsFunction SystemV c.callee
+  pub listed : Contains functions c.callee
+  pub lies : LiesDescribed emitted p functions c.callee
+  pub called : IsCalled p.image s c
+  pub caller : IsState c.caller
+  pub ends : IsTrue c.callee.outermost → c.caller.ra ≡ 0
+
+-- A step answers a context that shows a state, which isn't a signal's, and changes no column that a state doesn't have.
+pub record Undone (result : Result (Option Stepped) DeliverError) (columns : Columns) (t : State) : Type 0 where
+  pub next : Stepped
+  pub answered : result ≡ Ok (Some next)
+  pub unmarked : next.signal ≡ false
+  pub shows : Shows (columns_of next.context) t
+  pub others : KeepsOthers columns (columns_of next.context)
+
+-- contexts show states, one by one
+abbrev pub EachShows : List Context → List State → Type 0
+EachShows [] [] = Unit {0}
+EachShows (c ∷ cs) (s ∷ ss) = Shows (columns_of c) s × EachShows cs ss
+EachShows [] (s ∷ ss) = ⊥
+EachShows (c ∷ cs) [] = ⊥
+
+-- ---- rooms and answers
 
 -- the states and the cleanups that stand in a room, and of how many of each it has the places
 pub record RoomValue : Type 0 where

@@ -5,9 +5,10 @@ ghost use Rattle.unwind_definitions.specs.Function.{Action, Catch};
 ghost use Rattle.unwind_arch.specs.declared.x86_64.Context.{Context};
 ghost use Rattle.unwind_arch.specs.Contexts.{columns_of};
 ghost use Rattle.unwinding_core.specs.FrameValue.{FrameValue};
+ghost use Rattle.unwinding_core.specs.Sample as sample;
 ghost use Rattle.unwinding_core.specs.Personalities.{Asked, searched};
 ghost use Rattle.stack_deliver.specs.Passes.{stops, pad_of};
-ghost use Rattle.stack_deliver.specs.Personality.{InSearch, InCleanup, IsAsked, AnswersCleanup, answer_for, code_of, sample_image, sample_context, sample_frame, sample_search, sample_cleanup};
+ghost use Rattle.stack_deliver.specs.Personality.{InSearch, InCleanup, IsAsked, AnswersCleanup, answer_for, code_of};
 ghost use Rattle.unwinding_core.specs.declared.abi.TheConstants.UnwindReasonCode.{CONTINUE_UNWIND, HANDLER_FOUND};
 
 use crate::passes::Phase;
@@ -37,7 +38,7 @@ pub fn passes_ask_the_personality()
 /// The premise of `passes_ask_the_personality` can be met: a frame whose function has a handler at
 /// 0x1020 for its calls from 0x1000 on, in the search phase. The function does nothing.
 pub fn a_handler_is_asked_for()
-    ensures asked { IsAsked sample_image sample_context false sample_frame (Catch 0x1020) }
-    ensures search { InSearch sample_search }
-    ensures cleanup { InCleanup sample_cleanup }
+    ensures asked { IsAsked sample.image sample.context false sample.frame (Catch 0x1020) }
+    ensures search { InSearch sample.search_asked }
+    ensures cleanup { InCleanup sample.cleanup_asked }
 {}

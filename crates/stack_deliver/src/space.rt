@@ -1,7 +1,7 @@
 // An image of memory, and the modules that lie in it.
 ghost use Rattle.std.specs.Prelude.{◌≡◌, ◌<◌, [], MatchOption, IsOkUnless, OnOk, OnErr};
 ghost use Rattle.stack_deliver.specs.Modules.{module_refusal, lowest_shared, module_at, with_module, modules_in, AreApart};
-ghost use Rattle.stack_deliver.specs.Nearest.{last_below, first_between};
+ghost use Rattle.stack_deliver.specs.Modules.{last_below, first_between};
 
 use memory_image::MemoryImage;
 use std::alloc::Global;

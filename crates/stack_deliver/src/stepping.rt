@@ -17,7 +17,7 @@ ghost use Rattle.stack_deliver.specs.Processes.{process_of};
 ghost use Rattle.stack_deliver.specs.Passing.{IsFrameOf, GivesFrameAt};
 ghost use Rattle.stack_deliver.specs.Results.{result_map};
 ghost use Rattle.stack_deliver.specs.Stepping.{FrameAt, frame_by, frame_in, frame_of, caller_by, step_of, pairs_at, EndsAt, FaultsAt, RisesBySearch, SlotIsUnmapped};
-ghost use Rattle.stack_deliver.specs.Undone.{HaveFrameTables, IsDescribedCall, Undone};
+ghost use Rattle.stack_deliver.specs.Walking.{HaveFrameTables, IsDescribedCall, Undone};
 
 use crate::delivery::{DeliverError, Stepped};
 use crate::space::{Module, Space};

@@ -16,7 +16,7 @@ use Rattle.unwind_laws.proofs.RowFacts.{by_register}
 use Rattle.unwind_laws.proofs.Walk.{valid_described}
 use Rattle.unwind_arch.specs.Contexts.{columns_of}
 use Rattle.stack_deliver.specs.Processes.{process_of}
-use Rattle.stack_deliver.specs.Undone.{HaveFrameTables, IsDescribedCall}
+use Rattle.stack_deliver.specs.Walking.{HaveFrameTables, IsDescribedCall}
 use Rattle.stack_snapshot.specs.Content.{Content, space_of}
 use Rattle.unwind_cli.specs.Caught as caught
 use Rattle.unwind_cli.specs.FramePointer as frame_pointer

@@ -8,7 +8,7 @@ ghost use Rattle.unwind_laws.specs.Storing as storing;
 ghost use Rattle.unwind_laws.specs.Three as three;
 ghost use Rattle.unwind_arch.specs.Contexts.{columns_of};
 ghost use Rattle.stack_deliver.specs.Processes.{process_of};
-ghost use Rattle.stack_deliver.specs.Undone.{HaveFrameTables, IsDescribedCall};
+ghost use Rattle.stack_deliver.specs.Walking.{HaveFrameTables, IsDescribedCall};
 ghost use Rattle.stack_snapshot.specs.Content.{space_of};
 ghost use Rattle.unwind_cli.specs.declared.words.Command.TheVariants as command;
 ghost use Rattle.unwind_cli.specs.Due.{Asks};

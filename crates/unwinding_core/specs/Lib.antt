@@ -28,3 +28,4 @@ pub mod Turns
 pub mod Runs
 pub mod Dummy
 pub mod OneLine
+pub mod Sample

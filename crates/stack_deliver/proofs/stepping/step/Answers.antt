@@ -2,7 +2,7 @@ use Rattle.std.proofs.Common.{◌≡◌, false, sym, subst, ◌∙◌, Result, O
 use Rattle.stack_deliver.specs.declared.delivery.DeliverError.{DeliverError}
 use Rattle.stack_deliver.specs.declared.delivery.Stepped.{Stepped}
 use Rattle.unwind_arch.specs.Contexts.{columns_of}
-use Rattle.stack_deliver.specs.Undone.{Undone}
+use Rattle.stack_deliver.specs.Walking.{Undone}
 use Rattle.stack_deliver.specs.Stepping.{step_of}
 use Rattle.stack_deliver.proofs.MetFrames.{step_undone}
 use Rattle.stack_deliver.proofs.StepAnswers.{step_ends, ends_step, step_unmapped, step_slot, slot_step, step_table, table_step}

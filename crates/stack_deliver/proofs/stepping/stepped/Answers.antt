@@ -1,4 +1,4 @@
-use Rattle.std.proofs.Common.{◌≡◌, Ok, sym, ap, ◌∙◌}
+use Rattle.std.proofs.Common.{sym, ap, ◌∙◌}
 use Rattle.std.proofs.lemmas.Result.{err_from_is_err_and}
 use Rattle.stack_deliver.proofs.StepParts.{stepped_by, some_next, step_is}
 use Rattle.stack_deliver.proofs.stepping.stepped.Goals as goal
