@@ -1,8 +1,8 @@
 -- How far a count of steps rises in searches of headers' tables.
-use Rattle.std.proofs.Common.{◌≡◌, ℕ, ◌+◌, ◌*◌, ◌^◌, ◌<◌, ◌≤◌, Bool, true, false, List, [], ◌∷◌, Option, Some, None, refl, arith, eqb}
+use Rattle.std.proofs.Common.{◌≡◌, ℕ, suc, ◌+◌, ◌*◌, ◌^◌, ◌<◌, ◌≤◌, Bool, true, false, List, [], ◌∷◌, Option, Some, None, refl, arith, eqb}
 use Rattle.std.specs.List.{AllByRecursion}
 use Rattle.std.proofs.Math.Nat.{add-mul}
-use Rattle.std.proofs.lemmas.Nat.{mul-le}
+use Rattle.std.proofs.lemmas.Nat.{mul-le, pow_pos}
 use Rattle.memory_image.specs.Image.{Span}
 use Rattle.unwind_definitions.specs.LanguageSearch.{address_of_call}
 use Rattle.unwinding_core.specs.Named.{pairs_by}
@@ -11,12 +11,9 @@ use Rattle.stack_deliver.specs.declared.space.Module.{Module}
 use Rattle.stack_deliver.specs.Modules.{SpaceValue, contains, module_at}
 use Rattle.stack_deliver.specs.Stepping.{pairs_in_module, pairs_at, CountsWithin, RisesBySearch, RisesWithin}
 
-some_power : (digits : ℕ) → 0 < 2 ^ digits
-some_power digits = grind arith
-
 -- a module that is found has no more pairs than each of the modules may
 pairs_found : (image : List Span) (digits a : ℕ) (ms : List Module) → AllByRecursion (λ (m : Module). pairs_by m.frame image < 2 ^ digits) ms → pairs_in_module image (module_at ms a) < 2 ^ digits
-pairs_found image digits a [] each = some_power digits
+pairs_found image digits a [] each = pow_pos digits
 pairs_found image digits a (m ∷ ms) each = go (contains m a) refl (pairs_found image digits a ms each.1)
   where
     go : (b : Bool) → contains m a ≡ b → pairs_in_module image (module_at ms a) < 2 ^ digits → pairs_in_module image (module_at (m ∷ ms) a) < 2 ^ digits
@@ -27,7 +24,7 @@ pairs_within : (space : SpaceValue) (c : Context) (interrupted : Bool) (digits :
 pairs_within space c interrupted digits each = go (eqb c.ra 0) refl
   where
     go : (b : Bool) → eqb c.ra 0 ≡ b → pairs_at space c interrupted < 2 ^ digits
-    go true none = rw none (some_power digits)
+    go true none = rw none (pow_pos digits)
     go false some = rw some (pairs_found space.image digits (address_of_call c.ra interrupted) space.modules each)
 
 -- nothing is searched
@@ -72,11 +69,13 @@ last_pass space passes limit start middle new few before pass =
 -- the search, and the passes after it
 pub after_search : (space : SpaceValue) (limit start middle new : ℕ) → RisesWithin space limit start middle → RisesWithin space ((limit + 1) * limit) middle new → RisesWithin space ((limit + 2) * limit) start new
 after_search space limit start middle new search passes =
-    let sum : (limit + 2) * limit ≡ (limit + 1) * limit + 1 * limit = add-mul (limit + 1) 1 limit in
+    let sum : (limit + 2) * limit ≡ limit * limit + 2 * limit = add-mul limit 2 limit in
+    let less : (limit + 1) * limit ≡ limit * limit + 1 * limit = add-mul limit 1 limit in
     rises_up_to space (limit + (limit + 1) * limit) ((limit + 2) * limit) start new (omega arith) (rises_then space limit ((limit + 1) * limit) start middle new search passes)
 
 -- the search alone
 pub search_alone : (space : SpaceValue) (limit start new : ℕ) → RisesWithin space limit start new → RisesWithin space ((limit + 2) * limit) start new
 search_alone space limit start new search =
-    let sum : (limit + 2) * limit ≡ (limit + 1) * limit + 1 * limit = add-mul (limit + 1) 1 limit in
+    let sum : (limit + 2) * limit ≡ limit * limit + 2 * limit = add-mul limit 2 limit in
+    let less : (limit + 1) * limit ≡ limit * limit + 1 * limit = add-mul limit 1 limit in
     rises_up_to space limit ((limit + 2) * limit) start new (omega arith) search

@@ -15,7 +15,7 @@ loop-init g c =
       stays = λ unvisited. refl;
       trail = refl;
       places = refl;
-      ticks = rises_none c.args.space.now c.args.steps.number;
+      ticks = rises_none c.args.space.now c.args.steps.now.number;
     }
 
 pub visit-requires : goal.visit-requires
