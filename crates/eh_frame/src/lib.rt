@@ -31,7 +31,9 @@ pub use encoded_pointers::{
 };
 pub use entries::{EhFrame, Entry};
 pub use fde::Fde;
-pub use frame_rows::{CfaRule, Register, RegisterMap, RegisterRule, Registers, Row, RowRef, RowRoom};
+pub use frame_rows::{
+    CfaRule, Register, RegisterMap, RegisterRule, Registers, Row, RowRef, RowRoom,
+};
 pub use header::{EhFrameHdr, HdrTable};
 pub use listing::Entries;
 pub use unwind_definitions::Error;

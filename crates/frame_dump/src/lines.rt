@@ -8,7 +8,10 @@ pub fn put_cie(line: &mut String, cie: &Cie) -> Result<(), AllocError> {
     let (offset, version) = (cie.offset(), cie.version());
     let (code, data) = (cie.code_alignment(), cie.data_alignment());
     let Register(column) = cie.return_column();
-    write!(line, "{offset:#x} cie version={version} code={code} data={data} return=r{column} \"")?;
+    write!(
+        line,
+        "{offset:#x} cie version={version} code={code} data={data} return=r{column} \""
+    )?;
     for letter in cie.augmentation() {
         line.push(char::from(*letter))?;
     }
@@ -23,7 +26,10 @@ pub fn put_cie(line: &mut String, cie: &Cie) -> Result<(), AllocError> {
 pub fn put_fde(line: &mut String, fde: &Fde) -> Result<(), AllocError> {
     let (offset, cie) = (fde.offset(), fde.cie().offset());
     let (start, len) = (fde.initial_address(), fde.len());
-    write!(line, "{offset:#x} fde cie={cie:#x} start={start:#x} len={len:#x}")?;
+    write!(
+        line,
+        "{offset:#x} fde cie={cie:#x} start={start:#x} len={len:#x}"
+    )?;
     match fde.lsda() {
         Some(lsda) => put_pointer(line, " lsda", lsda),
         None => Ok(()),

@@ -9,8 +9,7 @@ use crate::lines::{put_cie, put_end, put_fault, put_fde, put_row};
 use anyhow::{Result, bail};
 use eh_frame::{Bases, EhFrame, Entry, Fde, RowRoom};
 use std::alloc::Global;
-use std::env;
-use std::fs;
+use std::{env, fs};
 
 /// Prints a line for each row of a description that differs from the row at the address before.
 fn print_rows(rt: &HostRuntime, table: &EhFrame, fde: &Fde, bases: &Bases) -> Result<()> {

@@ -3,9 +3,9 @@
 //! the general registers 0 to 31 and the floating-point registers 32 to 63.
 ghost use Rattle.std.specs.Prelude.{◌≡◌, true, is_some};
 
-use crate::{Machine, aarch64, loongarch64, riscv32, riscv64, x86};
 use crate::register::Register;
 use crate::register_map::RegisterMap;
+use crate::{Machine, aarch64, loongarch64, riscv32, riscv64, x86};
 use std::test::Fail;
 
 // A context of a machine with a value in each of the four columns that unwinding needs.

@@ -4,8 +4,8 @@
 ghost use Rattle.std.specs.Prelude.{refl};
 
 use crate::machine::Machine;
-pub use crate::register_files::Context;
 use crate::register::Register;
+pub use crate::register_files::Context;
 
 /// The most rules that a row of call frame information needs on this machine.
 pub const MAX_REG_RULES: usize = 65;
