@@ -10,5 +10,3 @@ mod languages;
 mod resumes;
 #[cfg(test)]
 mod rooms;
-#[cfg(test)]
-mod runs;
