@@ -12,5 +12,3 @@ mod languages;
 mod resumes;
 #[cfg(test)]
 mod rooms;
-#[cfg(test)]
-mod runs;
