@@ -1,6 +1,6 @@
 //! Entries and rows as text.
 
-use eh_frame::{CfaRule, Cie, Error, Fde, Pointer, Register, RegisterRule, Row};
+use eh_frame::{CfaRule, Cie, Error, Fde, Pointer, Register, RegisterRule, RowRef};
 use std::alloc::AllocError;
 
 /// Puts what a common information entry says.
@@ -57,7 +57,7 @@ pub fn put_fault(line: &mut String, error: Error) -> Result<(), AllocError> {
 }
 
 /// Puts the rule of the CFA, those of registers, and the size of the arguments where it isn't 0.
-pub fn put_row(line: &mut String, row: &Row) -> Result<(), AllocError> {
+pub fn put_row(line: &mut String, row: &RowRef) -> Result<(), AllocError> {
     match row.cfa() {
         CfaRule::RegisterAndOffset { register, offset } => {
             let (register, offset) = (register.0, offset.cast_signed());

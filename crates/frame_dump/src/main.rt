@@ -19,7 +19,7 @@ fn print_rows(rt: &HostRuntime, table: &EhFrame, fde: &Fde, bases: &Bases) -> Re
         let address = fde.initial_address().wrapping_add(distance);
         let mut line = String::new(rt.alloc());
         match fde.make_row(table, bases, address, &mut rows) {
-            Ok(()) => put_row(&mut line, rows.row())?,
+            Ok(()) => put_row(&mut line, &rows.row())?,
             Err(error) => put_fault(&mut line, error)?,
         }
         if line != before {
