@@ -7,7 +7,8 @@ use Rattle.memory_image.specs.Image.{Span}
 use Rattle.unwind_arch.specs.declared.x86_64.Context.{Context}
 use Rattle.stack_deliver.specs.declared.space.Module.{Module}
 use Rattle.unwinding_core.specs.declared.find_fde.custom.FrameInfo.{FrameInfo}
-use Rattle.unwinding_core.specs.declared.find_fde.custom.FrameInfoKind.TheVariants.{EhFrame}
+use Rattle.unwinding_core.specs.declared.find_fde.custom.FrameInfoKind.{FrameInfoKind}
+use Rattle.unwinding_core.specs.declared.find_fde.custom.FrameInfoKind.TheVariants.{EhFrame, EhFrameHdr}
 use Rattle.stack_deliver.specs.Resumes.{resume_table}
 use Rattle.stack_snapshot.specs.declared.errors.Field.{Field}
 use Rattle.stack_snapshot.specs.declared.errors.Field.TheVariants as fields
@@ -55,15 +56,29 @@ regions_of d = option_and_then if_taken (option_and_then region_list (option_and
 
 -- ---- modules
 
--- the frame table of a module; a header table and a base of the text are refused so far
-abbrev pub frame_info_with : ℕ → FrameInfo
-frame_info_with table = record { text_base = None; kind = EhFrame table }
+-- the base of pointers that are relative to the text, where it is given
+abbrev pub text_base_in : Option Data → Option (Option ℕ)
+text_base_in None = Some None
+text_base_in (Some d) = option_map Some (as_word d)
 
--- exactly the frame table
+abbrev pub text_base_of : Data → Option (Option ℕ)
+text_base_of d = text_base_in (get (codes "text_base") d)
+
+-- the address of a header or of a frame table, of which exactly one is named
+abbrev pub frame_kind_in : Option Data → Option Data → Option FrameInfoKind
+frame_kind_in (Some header) None = option_map EhFrameHdr (as_word header)
+frame_kind_in None (Some frame) = option_map EhFrame (as_word frame)
+frame_kind_in (Some header) (Some frame) = None
+frame_kind_in None None = None
+
+abbrev pub frame_kind_of : Data → Option FrameInfoKind
+frame_kind_of d = frame_kind_in (get (codes "eh_frame_hdr") d) (get (codes "eh_frame") d)
+
+-- the frame tables of a module
 abbrev pub frame_info_of : Data → Option FrameInfo
-frame_info_of d = if is_some (get (codes "eh_frame_hdr") d) || is_some (get (codes "text_base") d) then None else option_map frame_info_with (word_at (codes "eh_frame") d)
+frame_info_of d = option_and_then (λ text. option_map (λ kind. record { text_base = text; kind = kind }) (frame_kind_of d)) (text_base_of d)
 
--- the addresses from start to before end, and the frame table
+-- the addresses from start to before end, and the frame tables
 abbrev pub elf_of : Data → Option Module
 elf_of d = option_and_then (λ start. option_and_then (λ end. option_map (λ frame. record { start = start; end = end; frame = frame }) (frame_info_of d)) (word_at (codes "end") d)) (word_at (codes "start") d)
 

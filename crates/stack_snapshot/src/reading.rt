@@ -2,7 +2,7 @@
 ghost use Rattle.std.specs.Prelude.{◌≡◌, ◌<◌, [], true, length, IfOk, Err, ◌⊎◌, is_some, option_map};
 ghost use Rattle.serde_json.specs.Find.{get};
 ghost use Rattle.serde_json.specs.View.{view, items_view};
-ghost use Rattle.stack_snapshot.specs.Snapshot.{needs, region_of, region_list, regions_of, frame_info_of, elf_of, module_of, module_list, modules_of, registers_in, register_names, start_of, resume_in, resume_of, resume_list, resumes_of, limit_of, interrupted_of, whole_numbers, snapshot_of};
+ghost use Rattle.stack_snapshot.specs.Snapshot.{needs, region_of, region_list, regions_of, text_base_of, frame_kind_of, frame_info_of, elf_of, module_of, module_list, modules_of, registers_in, register_names, start_of, resume_in, resume_of, resume_list, resumes_of, limit_of, interrupted_of, whole_numbers, snapshot_of};
 ghost use Rattle.stack_deliver.specs.Resumes.{resume_table};
 ghost use Rattle.stack_snapshot.specs.Fields.{bytes_at};
 ghost use Rattle.stack_snapshot.specs.Answers.{Gives, content_of};
@@ -71,21 +71,37 @@ fn regions_of(alloc: Global, value: &Value) -> Result<Vec<Region>, SnapshotError
     Ok(regions)
 }
 
-/// The frame table of a module. A header table and a base of the text are refused so far.
+/// The base of pointers that are relative to the text, where it is given.
+fn text_base_of(value: &Value) -> Option<Option<u64>>
+    ensures { result ≡ text_base_of (view value.now) }
+{
+    match value.get("text_base") {
+        None => Some(None),
+        Some(base) => Some(Some(as_word(base)?)),
+    }
+}
+
+/// The address of a header or of a frame table, of which exactly one is named.
+fn frame_kind_of(value: &Value) -> Option<FrameInfoKind>
+    ensures { result ≡ frame_kind_of (view value.now) }
+{
+    match (value.get("eh_frame_hdr"), value.get("eh_frame")) {
+        (Some(header), None) => Some(FrameInfoKind::EhFrameHdr(as_word(header)?)),
+        (None, Some(frame)) => Some(FrameInfoKind::EhFrame(as_word(frame)?)),
+        _ => None,
+    }
+}
+
+/// The frame tables of a module.
 fn frame_info_of(value: &Value) -> Option<FrameInfo>
     ensures { result ≡ frame_info_of (view value.now) }
 {
-    if value.get("eh_frame_hdr").is_some() || value.get("text_base").is_some() {
-        return None;
-    }
-    let table = word_at(value, "eh_frame")?;
-    Some(FrameInfo {
-        text_base: None,
-        kind: FrameInfoKind::EhFrame(table),
-    })
+    let text_base = text_base_of(value)?;
+    let kind = frame_kind_of(value)?;
+    Some(FrameInfo { text_base, kind })
 }
 
-/// The addresses of an ELF module and its frame table.
+/// The addresses of an ELF module and its frame tables.
 fn elf_of(value: &Value) -> Option<Module>
     ensures { result ≡ elf_of (view value.now) }
 {

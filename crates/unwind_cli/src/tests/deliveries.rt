@@ -13,6 +13,14 @@ const TABLE: &str =
 const FOREIGN_TABLE: &str =
     "{\"regions\":[{\"address\":\"0x500000\",\"bytes\":\"1400000000000000017a5200017810011b0c070890010000180000001c000000e00ff0ff20000000000f037710060000000000001c00000000000000017a504c5200017810079bb92f00001b1b0c0708900100001800000024000000c40ff0ff30000000049b1f0000410e10830200002000000040000000d80ff0ff30000000048b1f0000420e10410e18440e2083038e02000000000000";
 
+/// The same where the first common information entry has a version that nobody knows.
+const DAMAGED_TABLE: &str =
+    "{\"regions\":[{\"address\":\"0x500000\",\"bytes\":\"1400000000000000027a5200017810011b0c070890010000180000001c000000e00ff0ff2000000000410e108602430d064583031c00000000000000017a504c5200017810079bb92f00001b1b0c0708900100001800000024000000c40ff0ff30000000049b1f0000410e10830200002000000040000000d80ff0ff30000000048b1f0000420e10410e18440e2083038e02000000000000";
+
+/// The header of the frame table.
+const HEADER: &str =
+    "\"},{\"address\":\"0x504000\",\"bytes\":\"011b033bfcbfffff0300000000d0efff18c0ffff20d0efff54c0ffff50d0efff70c0ffff";
+
 /// The two language tables, the cell that holds the personality's address, and what is to come is the
 /// rest of a stack's address and its bytes.
 const LANGUAGE: &str =
@@ -21,6 +29,10 @@ const LANGUAGE: &str =
 /// The module, and what is to come is the start.
 const MODULE: &str =
     "\"}],\"modules\":[{\"kind\":\"elf\",\"start\":\"0x401000\",\"end\":\"0x401080\",\"eh_frame\":\"0x500000\"}],\"exception\":\"0x900000\",\"limit\":8,\"start\":";
+
+/// The module by its header.
+const HEADER_MODULE: &str =
+    "\"}],\"modules\":[{\"kind\":\"elf\",\"start\":\"0x401000\",\"end\":\"0x401080\",\"eh_frame_hdr\":\"0x504000\"}],\"exception\":\"0x900000\",\"limit\":8,\"start\":";
 
 const STACK: &str =
     "b0\",\"bytes\":\"000000000000000011000000000000000c0000000000000030104000000000002200000000000000601040000000000000000000000000000b000000000000000e000000000000000000000000000000";
@@ -75,7 +87,7 @@ const LANDING: &str =
 
 const INSTALLED: &str = "outcome installed";
 
-static CASES: [Case; 13] = [
+static CASES: [Case; 16] = [
     Case {
         words: &["deliver"],
         input: &[TABLE, LANGUAGE, STACK, MODULE, START, RESUMES],
@@ -235,6 +247,57 @@ static CASES: [Case; 13] = [
             CLEANUP,
             LANDING,
             INSTALLED,
+        ],
+    },
+    // By its header, which lists the descriptions, the module is searched with the same answers.
+    Case {
+        words: &["deliver"],
+        input: &[
+            TABLE,
+            HEADER,
+            LANGUAGE,
+            STACK,
+            HEADER_MODULE,
+            START,
+            RESUMES,
+        ],
+        number: 0,
+        lines: &[FIRST, SECOND, THIRD, CLEANUP, LANDING, INSTALLED],
+    },
+    // An entry that can't be read is no obstacle to a search by the header, and ends a scan.
+    Case {
+        words: &["walk"],
+        input: &[
+            DAMAGED_TABLE,
+            HEADER,
+            LANGUAGE,
+            STACK,
+            HEADER_MODULE,
+            SECOND_START,
+            RESUMES,
+        ],
+        number: 0,
+        lines: &[
+            "frame 0 ra=0x401030 sp=0x70d0 rbx=0x11 rbp=0xc r12=0x0 r13=0x0 r14=0x2e r15=0x0",
+            "frame 1 ra=0x401060 sp=0x70e0 rbx=0x22 rbp=0xc r12=0x0 r13=0x0 r14=0x2e r15=0x0",
+            "frame 2 ra=0x0 sp=0x7100 rbx=0xb rbp=0xc r12=0x0 r13=0x0 r14=0xe r15=0x0",
+            "end",
+        ],
+    },
+    Case {
+        words: &["walk"],
+        input: &[
+            DAMAGED_TABLE,
+            LANGUAGE,
+            STACK,
+            MODULE,
+            SECOND_START,
+            RESUMES,
+        ],
+        number: 0,
+        lines: &[
+            "frame 0 ra=0x401030 sp=0x70d0 rbx=0x11 rbp=0xc r12=0x0 r13=0x0 r14=0x2e r15=0x0",
+            "end",
         ],
     },
 ];
