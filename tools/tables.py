@@ -65,6 +65,15 @@ def cfa_of(text):
     return column_of(found[1]) + found[2] if found else text
 
 
+def with_initial_rows(entries):
+    """The entries, where a description without rows of its own has those of its common entry."""
+    initial = {entry.head[1]: entry.rows for entry in entries if entry.head[0] == "cie"}
+    for entry in entries:
+        if entry.head[0] == "fde" and not entry.rows and initial[entry.head[2]]:
+            entry.put_row(entry.head[3], initial[entry.head[2]][-1][1])
+    return entries
+
+
 def readelf_entries(file):
     """What readelf prints of a file's .eh_frame."""
     text = subprocess.run(
@@ -88,7 +97,7 @@ def readelf_entries(file):
             address, cfa, *rules = line.split()
             said = {column_of(c): rule_of(r) for c, r in zip(columns, rules) if r != "u"}
             entries[-1].put_row(int(address, 16), (cfa_of(cfa), said))
-    return entries
+    return with_initial_rows(entries)
 
 
 def section_of(file):

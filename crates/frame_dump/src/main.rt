@@ -12,7 +12,12 @@ use std::alloc::Global;
 use std::{env, fs};
 
 /// Prints a line for each row of a description that differs from the row at the address before.
-fn print_rows(rt: &HostRuntime, table: &EhFrame, fde: &Fde, bases: &Bases) -> Result<()> {
+fn print_rows<'a>(
+    rt: &HostRuntime,
+    table: &EhFrame<'a>,
+    fde: &Fde<'a>,
+    bases: &Bases,
+) -> Result<()> {
     let mut rows = RowRoom::new();
     let mut before = String::new(rt.alloc());
     for distance in 0..fde.len() {
