@@ -1,10 +1,10 @@
 // Registered frame tables, and finders that are asked in turn.
 use crate::headers::{FRAMES, HEADER};
 use memory_image::{MemoryImage, NoLedger, Steps};
-use stack_deliver::Module;
 use std::test::Fail;
 use unwinding_core::{
-    CustomFinder, FDEFinder, GlobalFinder, GnuHdrFinder, Object, PhdrFinder, Registry, StaticFinder,
+    CustomFinder, EhFrameFinder, FDEFinder, FrameInfo, GlobalFinder, GnuHdrFinder, Object,
+    PhdrFinder, Registry, StaticFinder,
 };
 
 // The description of one function, 0x401000 to 0x401010, in a frame table at 0x500000.
@@ -13,6 +13,21 @@ const ONE: &str =
 
 // The list of the one table's address, with its end.
 const LIST: &str = "00005000000000000000000000000000";
+
+// What would name the same tables for each address.
+#[derive(Drop)]
+struct Named(FrameInfo);
+
+impl EhFrameFinder for Named {
+    ghost use Rattle.std.specs.Prelude.{◌≡◌, Some};
+
+    ghost names = { λ n pc info. info ≡ Some n.0 };
+
+    fn find(&self, pc: u64) -> Option<FrameInfo> {
+        let _ = pc;
+        Some(self.0)
+    }
+}
 
 fn start<F: FDEFinder>(finder: &F, image: &MemoryImage, pc: u64) -> Option<u64> {
     let mut steps = Steps::new(NoLedger);
@@ -84,7 +99,7 @@ fn finders_are_asked_in_turn(rt: HostRuntime) -> Result<(), Fail> {
     // the same bytes 0x100000 higher describe the code there
     registry.register_frame(0x60_0000)?;
     let mut finder = GlobalFinder {
-        custom: Some(CustomFinder::<Module>::new()),
+        custom: Some(CustomFinder::<Named>::new()),
         registry: Some(registry),
         gnu: None,
         phdr: Some(PhdrFinder::new(rt.alloc())),
