@@ -17,14 +17,14 @@ use unwinding_core::{
 // The descriptions of three functions, one behind the other: 0x401000 to 0x401020 without a language
 // table, and 0x401020 to 0x401050 and 0x401050 to 0x401080 with the language tables at 0x502000 and
 // 0x50200c. The cell of their personality is at 0x503000.
-const FRAMES: &str =
+pub(crate) const FRAMES: &str =
     "1400000000000000017a5200017810011b0c070890010000180000001c000000e00ff0ff2000000000410e108602430d064583031c00000000000000017a504c5200017810079bb92f00001b1b0c0708900100001800000024000000c40ff0ff30000000049b1f0000410e10830200002000000040000000d80ff0ff30000000048b1f0000420e10410e18440e2083038e0200000000";
 
 // The language tables of the second and the third function.
-const LANGUAGES: &str = "ffff01080810200020100000ff9b0c010408102001010000000000";
+pub(crate) const LANGUAGES: &str = "ffff01080810200020100000ff9b0c010408102001010000000000";
 
 // The cell: the personality is at 0x404000.
-const CELL: &str = "0040400000000000";
+pub(crate) const CELL: &str = "0040400000000000";
 
 // A language table of `g++ -O2`: one call in a `try` that catches an `int` and all else.
 const CAUGHT: &str = "ff9b15010405052103020001 7d00000000000000";
@@ -36,7 +36,7 @@ const HANDLERS: &str = "ff9b2101100b0554001005 4f0021053500 4a05000002 00017d000
 const NOEXCEPT: &str = "ffff0100";
 
 // Bytes in hexadecimal digits, which spaces may part.
-fn bytes_of(alloc: Global, digits: &str) -> Result<Vec<u8>, Fail> {
+pub(crate) fn bytes_of(alloc: Global, digits: &str) -> Result<Vec<u8>, Fail> {
     let mut bytes = Vec::new(alloc);
     for part in digits.split(' ') {
         bytes.extend_from_slice(&hex::decode(alloc, part)?)?;

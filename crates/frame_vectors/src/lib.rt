@@ -12,3 +12,5 @@ mod languages;
 mod resumes;
 #[cfg(test)]
 mod rooms;
+#[cfg(test)]
+mod runs;

@@ -1,0 +1,28 @@
+-- What the stops and traces of these tests answer, by the words that they hold.
+use Rattle.std.specs.Prelude.{ℕ, ◌+◌, ◌%◌, ◌^◌, ◌==◌, Bool, List, [], ◌∷◌, Option, if◌then◌else◌}
+use Rattle.std.specs.Int.{w32, cast_unsigned}
+use Rattle.std.specs.Option.{option_map_or, unwrap_or}
+use Rattle.memory_image.specs.Image.{Span}
+use Rattle.unwind_definitions.specs.Caller.{Columns}
+use Rattle.unwinding_core.specs.declared.abi.UnwindReasonCode.{UnwindReasonCode}
+use Rattle.unwinding_core.specs.declared.abi.TheConstants.UnwindReasonCode.{NO_REASON, NORMAL_STOP}
+use Rattle.unwinding_core.specs.FrameValue.{FrameValue}
+use Rattle.unwinding_core.specs.Stopping.{StopAsked, StopAnswer, TraceAnswer}
+
+-- whether it refuses, the calls so far, and what the first and the last of them were for
+abbrev pub visit : Bool → ℕ → ℕ → ℕ → List ℕ
+visit refuses calls first last = (if refuses then 1 else 0) ∷ calls ∷ first ∷ last ∷ []
+
+abbrev pub answer_of : ℕ → UnwindReasonCode
+answer_of refuses = if refuses == 0 then NO_REASON else NORMAL_STOP
+
+-- one more call
+abbrev pub visited : List ℕ → ℕ → UnwindReasonCode × List ℕ
+visited (refuses ∷ calls ∷ first ∷ last ∷ []) now = (answer_of refuses, refuses ∷ ((calls + 1) % 2 ^ 64) ∷ (if calls == 0 then now else first) ∷ now ∷ [])
+visited words now = (NO_REASON, words)
+
+abbrev pub by_actions : List ℕ → StopAsked → List Span → Option FrameValue → Columns → Bool → StopAnswer
+by_actions words asked image frame columns signal = let v = visited words (cast_unsigned w32 asked.actions.0) in (v.0, columns, v.1)
+
+abbrev pub by_address : List ℕ → List Span → Option FrameValue → Columns → Bool → TraceAnswer
+by_address words image frame columns signal = visited words (unwrap_or (columns 16) 0)
