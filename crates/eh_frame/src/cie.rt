@@ -9,7 +9,7 @@ ghost use Rattle.eh_frame.specs.Letters.{Tells, letters_of};
 
 use crate::augmentation::{Letters, is_known, read_augmentation_data};
 use encoded_pointers::{Bases, Cursor, DwEhPe, Pointer};
-use frame_rows::{AlignmentFactors, Register, read_register};
+use frame_rows::{Coding, Register, read_register};
 use unwind_definitions::Error;
 
 /// A common information entry (CIE): what the frame description entries that name it share.
@@ -34,9 +34,8 @@ impl<'a> Cie<'a> {
     ghost use Rattle.std.specs.Option.{option_map};
     ghost use Rattle.std.specs.Int.{w64, cast_unsigned};
     ghost use Rattle.unwind_definitions.specs.Forms.{address_letter, has_letter, language_letter, personality_letter, signal_letter};
-    ghost use Rattle.unwind_definitions.specs.Pointers.{Bases as KnownBases};
     ghost use Rattle.unwind_definitions.specs.Entries.{cie_body, address_encoding, coding_of};
-    ghost use Rattle.frame_rows.specs.Decoded.{coding_by};
+    ghost use Rattle.frame_rows.specs.Decoded.{coding_in};
     ghost use Rattle.encoded_pointers.specs.Readers.{Answers};
     ghost use Rattle.encoded_pointers.specs.Pointers.{bases_of, pointer_of};
     ghost use Rattle.eh_frame.specs.Letters.{byte_of};
@@ -145,13 +144,15 @@ impl<'a> Cie<'a> {
         self.augmentation
     }
 
-    // What the operands in the programs of the entry and of its descriptions are multiplied by.
-    pub(crate) fn factors(&self) -> AlignmentFactors
-        ensures { (bases : KnownBases) → coding_by result (address_encoding (cie_of self.now)) bases ≡ coding_of bases (cie_of self.now) }
+    // How the operands in the programs of the entry and of its descriptions are read.
+    pub(crate) fn coding<'b>(&self, bases: &'b Bases) -> Coding<'b>
+        ensures { coding_in result ≡ coding_of (bases_of bases.now) (cie_of self.now) }
     {
-        AlignmentFactors {
-            code: self.code_alignment,
+        Coding {
+            code_factor: self.code_alignment,
             data_factor: self.data_alignment,
+            address: self.start_encoding(),
+            bases,
         }
     }
 

@@ -175,7 +175,8 @@ impl<'a> Fde<'a> {
     /// in the order of reading and running:
     ///
     /// - an instruction that isn't known or that can't be read;
-    /// - `AddressOverflow` where the location passes 2^64 - 1;
+    /// - `AddressOverflow` where the location passes 2^64 - 1, and `LocationGoesBack` where it is set
+    ///   to a lower one;
     /// - `TooManyRegisterRules` where a 33rd register gets a rule;
     /// - `NoCfaRegister` where a register or an offset is put in a CFA that has none, or where the
     ///   row has no CFA;
@@ -195,7 +196,7 @@ impl<'a> Fde<'a> {
         frame_rows::row_at(
             self.cie.instructions(),
             self.instructions(),
-            self.cie.factors(),
+            self.cie.coding(bases),
             self.initial_address,
             pc,
         )
@@ -222,7 +223,7 @@ impl<'a> Fde<'a> {
         rows.make(
             self.cie.instructions(),
             self.instructions(),
-            self.cie.factors(),
+            self.cie.coding(bases),
             self.initial_address,
             pc,
         )

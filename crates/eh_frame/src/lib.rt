@@ -9,10 +9,8 @@
 //!
 //! Entries are read in all forms: lengths of four and of eight bytes, common information entries of
 //! the versions 1, 3 and 4, no augmentation or a `z` and the letters `L`, `P`, `R` and `S` in any
-//! order, and pointers of any encoding. Of the instructions these are read so far: `DW_CFA_advance_loc` and the three with an operand, `DW_CFA_offset`,
-//! `DW_CFA_restore`, `DW_CFA_nop`, `DW_CFA_undefined`, `DW_CFA_remember_state`,
-//! `DW_CFA_restore_state`, `DW_CFA_def_cfa`, `DW_CFA_def_cfa_register` and
-//! `DW_CFA_def_cfa_offset`; any other is unknown.
+//! order, and pointers of any encoding. Programs may have
+//! every instruction of DWARF 5, and `DW_CFA_GNU_args_size`.
 //!
 //! Source: LSB, section on `.eh_frame`; DWARF 5 section 6.4.
 #![tactic(auto)]

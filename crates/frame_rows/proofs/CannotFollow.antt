@@ -1,10 +1,10 @@
 -- When an instruction can't follow those that ran.
 use Rattle.std.proofs.Common.{◌≡◌, ℕ, ◌+◌, ◌^◌, ◌<◌, ◌≤◌, Bool, true, false, not, Option, Some, None, Result, Ok, Err, sym, ap, ◌∙◌, arith}
 use Rattle.std.specs.Prelude.{is_some, OnOk, OnErr, IfErr}
-use Rattle.std.proofs.lemmas.Bool.{lt-leb, le-leb}
+use Rattle.std.proofs.lemmas.Bool.{lt-leb, le-leb, le-ltb, lt-ltb}
 use Rattle.unwind_definitions.specs.declared.error.Error.{Error as Fault}
 use Rattle.unwind_definitions.specs.declared.error.Error.TheVariants as faults
-use Rattle.unwind_definitions.specs.Instructions.{Rule, Instruction, Remember, Restore, Advance, Reset, CfaColumn, CfaOffset}
+use Rattle.unwind_definitions.specs.Instructions.{Rule, Instruction, Remember, Restore, Advance, SetLocation, Reset, CfaColumn, CfaOffset}
 use Rattle.unwind_definitions.specs.Row.{Run, ColumnAndOffset, cfa_rule, location, initial_rule, is_crowded, fault_of, fault_where, has_column}
 use Rattle.frame_rows.specs.Rules.{AscendsFrom, is_room}
 use Rattle.frame_rows.specs.Running.{push, Represents, Follows}
@@ -17,6 +17,12 @@ module _ (start : ℕ) (m : Machine) (run : Run) (rep : Represents start m run) 
 
   pub overflows : (n : ℕ) → 2 ^ 64 ≤ m.location + n → fault_of start run (Advance n) ≡ Some faults.AddressOverflow
   overflows n le = let h = rep.here in ap (λ b. fault_where b faults.AddressOverflow) (le-leb (2 ^ 64) (location start run.own + n) (omega (arith, h)))
+
+  pub goes_on : (a : ℕ) → m.location ≤ a → fault_of start run (SetLocation a) ≡ None
+  goes_on a le = let h = rep.here in ap (λ b. fault_where b faults.LocationGoesBack) (le-ltb a (location start run.own) (omega (arith, h)))
+
+  pub goes_back : (a : ℕ) → a < m.location → fault_of start run (SetLocation a) ≡ Some faults.LocationGoesBack
+  goes_back a lt = let h = rep.here in ap (λ b. fault_where b faults.LocationGoesBack) (lt-ltb a (location start run.own) (omega (arith, h)))
 
   pub remember_fault : (b : Bool) → is_some m.remembered ≡ b → fault_of start run Remember ≡ fault_where b faults.StackFull
   remember_fault b is = ap (λ b. fault_where b faults.StackFull) (sym rep.opened ∙ is)

@@ -78,6 +78,9 @@ words_push run i plain = ap cfa_of (all_push run i plain)
 pub cfa_whole : (run : Run) (c n : ℕ) → cfa_rule (push run (Cfa c n)) ≡ Some (ColumnAndOffset c n)
 cfa_whole run c n = words_push run (Cfa c n) (record { alone = λ is. refl; still = refl })
 
+pub cfa_by_expression : (run : Run) (b : List ℕ) → cfa_rule (push run (CfaExpression b)) ≡ Some (ByExpression b)
+cfa_by_expression run b = words_push run (CfaExpression b) (record { alone = λ is. refl; still = refl })
+
 partial_offset : (w : Option CfaRule) (col off : Option ℕ) (c m n : ℕ) → cfa_from w col off ≡ Some (ColumnAndOffset c m) → cfa_from w col (Some n) ≡ Some (ColumnAndOffset c n)
 partial_offset None col off c m n e = absurd cc
 partial_offset (Some (ByExpression b)) col off c m n e = absurd cc
@@ -104,6 +107,10 @@ cfa_same run i plain a b d = words_push run i plain ∙ rw (a, b, d) refl
 pub arguments_same : (run : Run) (i : Instruction) → IsPlain i → arguments i ≡ None → argument_size (push run i) ≡ argument_size run
 arguments_same run i plain none = ap (λ (is : List Instruction). unwrap_or (last_word arguments is) 0) (all_push run i plain)
     ∙ rw (last_word-push arguments (all_of run) i, none) refl
+
+pub arguments_new : (run : Run) (n : ℕ) → argument_size (push run (Arguments n)) ≡ n
+arguments_new run n = ap (λ (is : List Instruction). unwrap_or (last_word arguments is) 0) (all_push run (Arguments n) (record { alone = λ is. refl; still = refl }))
+    ∙ rw (last_word-push arguments (all_of run) (Arguments n)) refl
 
 -- where one instruction leads
 abbrev pub lead : ℕ → Instruction → ℕ

@@ -3,13 +3,13 @@ use Rattle.std.proofs.Common.{◌≡◌, ℕ, ◌+◌, Bool, true, false, cond, 
 use Rattle.std.specs.Prelude.{is_some, ◌==◌}
 use Rattle.std.specs.Option.{option_map, unwrap_or}
 use Rattle.std.proofs.lemmas.Bool.{eqb-true}
-use Rattle.unwind_definitions.specs.Instructions.{Rule, Instruction, Nop, Remember, Restore, Advance, Write, Reset}
+use Rattle.unwind_definitions.specs.Instructions.{Rule, Instruction, Nop, Remember, Restore, Advance, SetLocation, Write, Reset, Arguments}
 use Rattle.unwind_definitions.specs.Row.{Run, rule_of, cfa_rule, cfa_of, arguments, cut, says_of, initial_rule, last_word, is_open}
 use Rattle.frame_rows.specs.Rules.{rule_in, cfa_meaning, with_rule}
 use Rattle.frame_rows.specs.Running.{push, IsStateOf, IsClosed, IsRemembered, Represents}
 use Rattle.frame_rows.specs.declared.machine.RowState.{RowState}
 use Rattle.frame_rows.specs.declared.machine.Machine.{Machine}
-use Rattle.frame_rows.proofs.Pushed.{IsPlain, rule_push, cfa_same, arguments_same, lead, location-push, open-push, closed_plain, open_plain, open_remember, cut_remember, cut_restore, closed_restore}
+use Rattle.frame_rows.proofs.Pushed.{IsPlain, rule_push, cfa_same, arguments_same, arguments_new, lead, location-push, open-push, closed_plain, open_plain, open_remember, cut_remember, cut_restore, closed_restore}
 
 -- what is remembered stays
 kept_memory : (run : Run) (i : Instruction) → IsPlain i → (r : Option RowState) → IsRemembered r run → IsRemembered r (push run i)
@@ -47,6 +47,26 @@ module _ (start : ℕ) (m : Machine) (run : Run) (rep : Represents start m run) 
   pub step_advance : (n : ℕ) (t : Machine) → t.location ≡ m.location + n → t.state ≡ m.state → t.remembered ≡ m.remembered → t.initial ≡ m.initial → Represents start t (push run (Advance n))
   step_advance n t here state memory initial =
       step_plain t (Advance n) (record { alone = λ is. refl; still = refl }) here memory initial (subst (λ s. IsStateOf s (push run (Advance n))) (sym state) (state_advance n))
+
+  pub state_set : (a : ℕ) → IsStateOf m.state (push run (SetLocation a))
+  state_set a = record {
+    cfa = rep.state.cfa ∙ sym (cfa_same run (SetLocation a) (record { alone = λ is. refl; still = refl }) refl refl refl);
+    rules = λ c. rep.state.rules c ∙ sym (rule_push run (SetLocation a) c (record { alone = λ is. refl; still = refl }));
+    arguments = rep.state.arguments ∙ sym (arguments_same run (SetLocation a) (record { alone = λ is. refl; still = refl }) refl);
+  }
+
+  pub step_set : (a : ℕ) (t : Machine) → t.location ≡ a → t.state ≡ m.state → t.remembered ≡ m.remembered → t.initial ≡ m.initial → Represents start t (push run (SetLocation a))
+  step_set a t here state memory initial =
+      step_plain t (SetLocation a) (record { alone = λ is. refl; still = refl }) here memory initial (subst (λ s. IsStateOf s (push run (SetLocation a))) (sym state) (state_set a))
+
+  -- a new size of the arguments
+  pub step_arguments : (n : ℕ) (t : Machine) → t.state.cfa ≡ m.state.cfa → t.state.rules ≡ m.state.rules → t.state.saved_args_size ≡ n → t.location ≡ m.location → t.remembered ≡ m.remembered → t.initial ≡ m.initial → Represents start t (push run (Arguments n))
+  step_arguments n t cfa rules args here memory initial =
+      step_plain t (Arguments n) (record { alone = λ is. refl; still = refl }) here memory initial (record {
+        cfa = ap (option_map cfa_meaning) cfa ∙ rep.state.cfa ∙ sym (cfa_same run (Arguments n) (record { alone = λ is. refl; still = refl }) refl refl refl);
+        rules = λ c. ap (λ es. rule_in es c) rules ∙ rep.state.rules c ∙ sym (rule_push run (Arguments n) c (record { alone = λ is. refl; still = refl }));
+        arguments = args ∙ sym (arguments_new run n);
+      })
 
   -- a new definition of the CFA
   pub step_cfa : (t : Machine) (i : Instruction) (plain : IsPlain i) → ((c : ℕ) → says_of (initial_rule run c) c i ≡ None) → arguments i ≡ None → lead m.location i ≡ m.location →

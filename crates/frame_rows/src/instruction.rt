@@ -1,32 +1,26 @@
 //! The instructions of frame programs. DWARF 5 sections 6.4.2 and 7.24.
 
-ghost use Rattle.std.specs.Prelude.{◌≡◌, ℕ, ◌*◌};
+ghost use Rattle.std.specs.Prelude.{◌≡◌, ◌*◌};
 ghost use Rattle.unwind_definitions.specs.Forms.{emitted};
-ghost use Rattle.unwind_definitions.specs.Pointers.{Bases};
-ghost use Rattle.unwind_definitions.specs.Instructions.{instruction, Advance};
+ghost use Rattle.unwind_definitions.specs.Instructions.{instruction, Advance, Write};
 ghost use Rattle.encoded_pointers.specs.Readers.{GivesOr};
 ghost use Rattle.encoded_pointers.specs.View.{at};
-ghost use Rattle.frame_rows.specs.Decoded.{meaning, coding_by, plain_operation};
+ghost use Rattle.frame_rows.specs.Decoded.{meaning, coding_in, unsigned_offset, signed_offset, block, operation_read, cfa_read, offset_read, rule_read, state_read};
+ghost use Rattle.frame_rows.specs.Rules.{rule_meaning};
 
+use crate::coding::Coding;
+use crate::constants::*;
 use crate::register::read_register;
 use crate::rule::RegisterRule;
-use encoded_pointers::Cursor;
+use encoded_pointers::{Cursor, parse_direct_pointer};
 use unwind_arch::Register;
 use unwind_definitions::Error;
-
-/// What the operands of a program's instructions are multiplied by. DWARF 5 section 6.4.1.
-#[derive(Clone, Copy, Debug, PartialEq, Eq)]
-pub struct AlignmentFactors {
-    /// The code alignment factor, in bytes: that of advances.
-    pub code: u64,
-    /// The data alignment factor, in bytes: that of offsets. A word: one below 0 counts from 2^64.
-    pub data_factor: u64,
-}
 
 /// An instruction of a frame program.
 #[derive(Clone, Copy)]
 pub(crate) enum CallFrameInstruction<'a> {
     Nop,
+    SetLocation(u64),
     /// Raises the location by a number that may pass 2^64.
     AdvanceLocation(u128),
     SetRule {
@@ -42,76 +36,207 @@ pub(crate) enum CallFrameInstruction<'a> {
     },
     DefineCfaRegister(Register),
     DefineCfaOffset(u64),
+    DefineCfaExpression(&'a [u8]),
+    SetArgumentSize(u64),
 }
 
-// The instruction of a first byte below 64.
-#[tactic(auto, unfolding(crate::specs::Decoded::plain_operation))]
+fn advance<'a>(coding: Coding, delta: u32) -> CallFrameInstruction<'a>
+    ensures { meaning result ≡ Advance (delta * coding.entry.code_factor) }
+{
+    CallFrameInstruction::AdvanceLocation(delta as u128 * coding.code_factor as u128)
+}
+
+fn set_rule<'a>(register: Register, rule: RegisterRule<'a>) -> CallFrameInstruction<'a>
+    ensures { meaning result ≡ Write register.0 (rule_meaning rule.entry) }
+{
+    CallFrameInstruction::SetRule { register, rule }
+}
+
+// An offset that is spelled in data units, unsigned.
+fn read_offset(input: &mut Cursor, coding: Coding) -> Result<u64, Error>
+    ensures { GivesOr (λ n. n) result (unsigned_offset (coding_in coding.entry) (at input.old)) (at input.new) }
+{
+    let units = input.read_uleb128()?;
+    Ok(units.wrapping_mul(coding.data_factor))
+}
+
+// The same, signed.
+fn read_signed_offset(input: &mut Cursor, coding: Coding) -> Result<u64, Error>
+    ensures { GivesOr (λ n. n) result (signed_offset (coding_in coding.entry) (at input.old)) (at input.new) }
+{
+    let units = input.read_sleb128_word()?;
+    Ok(units.wrapping_mul(coding.data_factor))
+}
+
+// The bytes of an expression, behind their number.
+fn read_expression<'a>(input: &mut Cursor<'a>) -> Result<&'a [u8], Error>
+    ensures { GivesOr (λ bytes. bytes.now) result (block (at input.old)) (at input.new) }
+{
+    let length = input.read_uleb128()?;
+    let block = input.split(length)?;
+    Ok(block.bytes())
+}
+
+// The next instruction, whose first byte was read and is below 64. What begins a row is looked for
+// first. DWARF 5 section 6.4.2.1.
+#[tactic(auto, unfolding(crate::specs::Decoded::operation_read))]
 fn read_operation<'a>(
     input: &mut Cursor<'a>,
-    factors: AlignmentFactors,
+    coding: Coding,
     operation: u8,
 ) -> Result<CallFrameInstruction<'a>, Error>
-    ensures { (address : ℕ) (bases : Bases) →
-        GivesOr meaning result (plain_operation (coding_by factors address bases) operation (at input.old)) (at input.new) }
+    ensures { GivesOr meaning result (operation_read (coding_in coding.entry) operation (at input.old)) (at input.new) }
 {
     match operation {
-        0x00 => Ok(CallFrameInstruction::Nop),
-        0x02 => Ok(advance(factors, input.read_u8()? as u32)),
-        0x03 => Ok(advance(factors, input.read_u16()? as u32)),
-        0x04 => Ok(advance(factors, input.read_u32()?)),
-        0x07 => {
-            let register = read_register(input)?;
-            Ok(CallFrameInstruction::SetRule {
-                register,
-                rule: RegisterRule::Undefined,
-            })
+        DW_CFA_SET_LOC => {
+            let address = parse_direct_pointer(coding.address, coding.bases, input)?;
+            Ok(CallFrameInstruction::SetLocation(address))
         }
-        0x0a => Ok(CallFrameInstruction::RememberState),
-        0x0b => Ok(CallFrameInstruction::RestoreState),
-        0x0c => {
+        DW_CFA_ADVANCE_LOC1 => Ok(advance(coding, input.read_u8()? as u32)),
+        DW_CFA_ADVANCE_LOC2 => Ok(advance(coding, input.read_u16()? as u32)),
+        DW_CFA_ADVANCE_LOC4 => Ok(advance(coding, input.read_u32()?)),
+        _ => read_cfa_definition(input, coding, operation),
+    }
+}
+
+// The same, where it begins no row. DWARF 5 section 6.4.2.2.
+#[tactic(auto, unfolding(crate::specs::Decoded::cfa_read))]
+fn read_cfa_definition<'a>(
+    input: &mut Cursor<'a>,
+    coding: Coding,
+    operation: u8,
+) -> Result<CallFrameInstruction<'a>, Error>
+    ensures { GivesOr meaning result (cfa_read (coding_in coding.entry) operation (at input.old)) (at input.new) }
+{
+    Ok(match operation {
+        DW_CFA_DEF_CFA => {
             let register = read_register(input)?;
             let offset = input.read_uleb128()?;
-            Ok(CallFrameInstruction::DefineCfa { register, offset })
+            CallFrameInstruction::DefineCfa { register, offset }
         }
-        0x0d => {
+        DW_CFA_DEF_CFA_SF => {
             let register = read_register(input)?;
-            Ok(CallFrameInstruction::DefineCfaRegister(register))
+            let offset = read_signed_offset(input, coding)?;
+            CallFrameInstruction::DefineCfa { register, offset }
         }
-        0x0e => {
-            let offset = input.read_uleb128()?;
-            Ok(CallFrameInstruction::DefineCfaOffset(offset))
+        DW_CFA_DEF_CFA_REGISTER => CallFrameInstruction::DefineCfaRegister(read_register(input)?),
+        DW_CFA_DEF_CFA_OFFSET => CallFrameInstruction::DefineCfaOffset(input.read_uleb128()?),
+        DW_CFA_DEF_CFA_OFFSET_SF => {
+            CallFrameInstruction::DefineCfaOffset(read_signed_offset(input, coding)?)
+        }
+        DW_CFA_DEF_CFA_EXPRESSION => {
+            CallFrameInstruction::DefineCfaExpression(read_expression(input)?)
+        }
+        _ => return read_offset_rule(input, coding, operation),
+    })
+}
+
+// The same, where it doesn't define the CFA either: rules by an offset. DWARF 5 section 6.4.2.3.
+#[tactic(auto, unfolding(crate::specs::Decoded::offset_read))]
+fn read_offset_rule<'a>(
+    input: &mut Cursor<'a>,
+    coding: Coding,
+    operation: u8,
+) -> Result<CallFrameInstruction<'a>, Error>
+    ensures { GivesOr meaning result (offset_read (coding_in coding.entry) operation (at input.old)) (at input.new) }
+{
+    match operation {
+        DW_CFA_OFFSET_EXTENDED => {
+            let register = read_register(input)?;
+            let offset = read_offset(input, coding)?;
+            Ok(set_rule(register, RegisterRule::Offset(offset)))
+        }
+        DW_CFA_OFFSET_EXTENDED_SF => {
+            let register = read_register(input)?;
+            let offset = read_signed_offset(input, coding)?;
+            Ok(set_rule(register, RegisterRule::Offset(offset)))
+        }
+        DW_CFA_VAL_OFFSET => {
+            let register = read_register(input)?;
+            let offset = read_offset(input, coding)?;
+            Ok(set_rule(register, RegisterRule::ValOffset(offset)))
+        }
+        DW_CFA_VAL_OFFSET_SF => {
+            let register = read_register(input)?;
+            let offset = read_signed_offset(input, coding)?;
+            Ok(set_rule(register, RegisterRule::ValOffset(offset)))
+        }
+        _ => read_register_rule(input, operation),
+    }
+}
+
+// The same, where it gives no rule by an offset: other rules. DWARF 5 section 6.4.2.3.
+#[tactic(auto, unfolding(crate::specs::Decoded::rule_read))]
+fn read_register_rule<'a>(
+    input: &mut Cursor<'a>,
+    operation: u8,
+) -> Result<CallFrameInstruction<'a>, Error>
+    ensures { GivesOr meaning result (rule_read operation (at input.old)) (at input.new) }
+{
+    match operation {
+        DW_CFA_UNDEFINED => Ok(set_rule(read_register(input)?, RegisterRule::Undefined)),
+        DW_CFA_SAME_VALUE => Ok(set_rule(read_register(input)?, RegisterRule::SameValue)),
+        DW_CFA_REGISTER => {
+            let register = read_register(input)?;
+            let source = read_register(input)?;
+            Ok(set_rule(register, RegisterRule::Register(source)))
+        }
+        DW_CFA_EXPRESSION => {
+            let register = read_register(input)?;
+            let expression = read_expression(input)?;
+            Ok(set_rule(register, RegisterRule::Expression(expression)))
+        }
+        DW_CFA_VAL_EXPRESSION => {
+            let register = read_register(input)?;
+            let expression = read_expression(input)?;
+            Ok(set_rule(register, RegisterRule::ValExpression(expression)))
+        }
+        DW_CFA_RESTORE_EXTENDED => {
+            let register = read_register(input)?;
+            Ok(CallFrameInstruction::RestoreInitialRule(register))
+        }
+        _ => read_row_state(input, operation),
+    }
+}
+
+// The same, where it gives no register a rule. DWARF 5 sections 6.4.2.4 and 6.4.2.5.
+#[tactic(auto, unfolding(crate::specs::Decoded::state_read))]
+fn read_row_state<'a>(
+    input: &mut Cursor<'a>,
+    operation: u8,
+) -> Result<CallFrameInstruction<'a>, Error>
+    ensures { GivesOr meaning result (state_read operation (at input.old)) (at input.new) }
+{
+    match operation {
+        DW_CFA_REMEMBER_STATE => Ok(CallFrameInstruction::RememberState),
+        DW_CFA_RESTORE_STATE => Ok(CallFrameInstruction::RestoreState),
+        DW_CFA_NOP => Ok(CallFrameInstruction::Nop),
+        DW_CFA_GNU_ARGS_SIZE => {
+            let size = input.read_uleb128()?;
+            Ok(CallFrameInstruction::SetArgumentSize(size))
         }
         _ => Err(Error::UnknownInstruction),
     }
 }
 
-fn advance<'a>(factors: AlignmentFactors, delta: u32) -> CallFrameInstruction<'a>
-    ensures { meaning result ≡ Advance (delta * factors.code) }
-{
-    CallFrameInstruction::AdvanceLocation(delta as u128 * factors.code as u128)
-}
-
 /// The next instruction.
-#[tactic(auto, unfolding(crate::specs::Decoded::plain_operation, unwind_definitions::specs::Instructions::instruction_of))]
+#[tactic(auto, unfolding(crate::specs::Decoded::operation_read, crate::specs::Decoded::cfa_read, crate::specs::Decoded::offset_read, crate::specs::Decoded::rule_read, crate::specs::Decoded::state_read, unwind_definitions::specs::Instructions::instruction_of))]
 pub(crate) fn read_instruction<'a>(
     input: &mut Cursor<'a>,
-    factors: AlignmentFactors,
+    coding: Coding,
 ) -> Result<CallFrameInstruction<'a>, Error>
-    ensures { (address : ℕ) (bases : Bases) →
-        GivesOr meaning result (instruction emitted (coding_by factors address bases) (at input.old)) (at input.new) }
+    ensures { GivesOr meaning result (instruction emitted (coding_in coding.entry) (at input.old)) (at input.new) }
 {
     let byte = input.read_u8()?;
     let low = byte % 64;
     match byte / 64 {
-        1 => Ok(advance(factors, low as u32)),
-        2 => {
-            let offset = input.read_uleb128()?;
-            Ok(CallFrameInstruction::SetRule {
-                register: Register(low as u16),
-                rule: RegisterRule::Offset(offset.wrapping_mul(factors.data_factor)),
-            })
+        DW_CFA_ADVANCE_LOC => Ok(advance(coding, low as u32)),
+        DW_CFA_OFFSET => {
+            let register = Register(low as u16);
+            let rule = RegisterRule::Offset(read_offset(input, coding)?);
+            Ok(CallFrameInstruction::SetRule { register, rule })
         }
-        3 => Ok(CallFrameInstruction::RestoreInitialRule(Register(low as u16))),
-        _ => read_operation(input, factors, low),
+        DW_CFA_RESTORE => Ok(CallFrameInstruction::RestoreInitialRule(Register(low as u16))),
+        _ => read_operation(input, coding, low),
     }
 }

@@ -5,14 +5,14 @@
 //! [`RowRoom`] makes one row after another in the same place. Either lends it as a [`RowRef`].
 //! [`RegisterMap`] is what a machine's registers are to a row.
 //!
-//! Of the instructions these are read so far: `DW_CFA_advance_loc` and the three with an operand,
-//! `DW_CFA_offset`, `DW_CFA_restore`, `DW_CFA_nop`, `DW_CFA_undefined`, `DW_CFA_remember_state`,
-//! `DW_CFA_restore_state`, `DW_CFA_def_cfa`, `DW_CFA_def_cfa_register` and
-//! `DW_CFA_def_cfa_offset`; any other is unknown.
+//! All instructions of DWARF 5 are read, and the GNU extension `DW_CFA_GNU_args_size`; any other is
+//! unknown. [`constants`] names them.
 //!
 //! Source: DWARF 5 section 6.4.
 #![tactic(auto)]
 
+mod coding;
+pub mod constants;
 mod instruction;
 mod machine;
 mod program;
@@ -23,7 +23,7 @@ mod row_ref;
 mod rule;
 mod rules;
 
-pub use instruction::AlignmentFactors;
+pub use coding::Coding;
 pub use program::row_at;
 pub use register::read_register;
 pub use room::RowRoom;

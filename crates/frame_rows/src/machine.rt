@@ -46,7 +46,7 @@ pub(crate) struct Machine<'a> {
 
 impl<'a> Machine<'a> {
     ghost use Rattle.std.specs.Prelude.{[], List};
-    ghost use Rattle.unwind_definitions.specs.Instructions.{Instruction, Advance, Write, Reset, Remember, Restore, CfaColumn, CfaOffset};
+    ghost use Rattle.unwind_definitions.specs.Instructions.{Instruction, Advance, SetLocation, Write, Reset, Remember, Restore, CfaColumn, CfaOffset};
     ghost use Rattle.unwind_definitions.specs.Row.{Run, from_common};
     ghost use Rattle.frame_rows.specs.Rules.{rule_meaning, rule_in};
     ghost use Rattle.frame_rows.specs.Decoded.{meaning};
@@ -116,6 +116,9 @@ impl<'a> Machine<'a> {
             (Some(pc), CallFrameInstruction::AdvanceLocation(delta)) => {
                 delta <= (u64::MAX - location) as u128 && (pc as u128) < location as u128 + delta
             }
+            (Some(pc), CallFrameInstruction::SetLocation(address)) => {
+                pc < address && location <= address
+            }
             _ => false,
         }
     }
@@ -129,6 +132,18 @@ impl<'a> Machine<'a> {
             return Err(Error::AddressOverflow);
         }
         self.location += delta as u64;
+        Ok(())
+    }
+
+    // Sets the location.
+    fn set_location(&mut self, address: u64) -> Result<(), Error>
+        ensures { (start : ℕ) (run : Run) → Represents start self.old run →
+            Follows start run (SetLocation address) result self.new }
+    {
+        if address < self.location {
+            return Err(Error::LocationGoesBack);
+        }
+        self.location = address;
         Ok(())
     }
 
@@ -213,6 +228,7 @@ impl<'a> Machine<'a> {
     {
         match instruction {
             CallFrameInstruction::Nop => Ok(()),
+            CallFrameInstruction::SetLocation(address) => self.set_location(address),
             CallFrameInstruction::AdvanceLocation(delta) => self.advance(delta),
             CallFrameInstruction::SetRule { register, rule } => self.set_rule(register, rule),
             CallFrameInstruction::RestoreInitialRule(register) => {
@@ -226,6 +242,14 @@ impl<'a> Machine<'a> {
             }
             CallFrameInstruction::DefineCfaRegister(register) => self.set_cfa_register(register),
             CallFrameInstruction::DefineCfaOffset(offset) => self.set_cfa_offset(offset),
+            CallFrameInstruction::DefineCfaExpression(expression) => {
+                self.state.cfa = Some(CfaRule::Expression(expression));
+                Ok(())
+            }
+            CallFrameInstruction::SetArgumentSize(size) => {
+                self.state.saved_args_size = size;
+                Ok(())
+            }
         }
     }
 

@@ -1,15 +1,14 @@
 //! Room for one row after another. DWARF 5 sections 6.4.1 and 6.4.3.
 
-ghost use Rattle.std.specs.Prelude.{◌≡◌, ℕ, []};
+ghost use Rattle.std.specs.Prelude.{◌≡◌, []};
 ghost use Rattle.unwind_definitions.specs.Forms.{emitted};
-ghost use Rattle.unwind_definitions.specs.Pointers.{Bases};
 ghost use Rattle.unwind_definitions.specs.Instructions.{program};
 ghost use Rattle.unwind_definitions.specs.Row.{row, ColumnAndOffset};
 ghost use Rattle.encoded_pointers.specs.View.{at};
-ghost use Rattle.frame_rows.specs.Decoded.{coding_by};
+ghost use Rattle.frame_rows.specs.Decoded.{coding_in};
 ghost use Rattle.frame_rows.specs.Rows.{GivesRow, made};
 
-use crate::instruction::AlignmentFactors;
+use crate::coding::Coding;
 use crate::machine::Machine;
 use crate::program::run_programs;
 use crate::row::Row;
@@ -67,14 +66,14 @@ impl<'a> RowRoom<'a> {
         &mut self,
         common: Cursor<'a>,
         own: Cursor<'a>,
-        factors: AlignmentFactors,
+        coding: Coding,
         start: u64,
         pc: u64,
     ) -> Result<(), Error>
-        ensures { (address : ℕ) (bases : Bases) → let coding = coding_by factors address bases in
+        ensures { let coding = coding_in coding.entry in
             GivesRow (made result self.new) (row start pc (program emitted coding (at common.entry)) (program emitted coding (at own.entry))) }
     {
-        run_programs(&mut self.machine, common, own, factors, start, pc)?;
+        run_programs(&mut self.machine, common, own, coding, start, pc)?;
         self.machine.put_row(&mut self.row)
     }
 }

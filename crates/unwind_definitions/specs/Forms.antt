@@ -1,5 +1,5 @@
 -- The forms of call frame bytes that a reader takes. What it doesn't take is a fault.
-use Rattle.std.specs.Prelude.{ℕ, Bool, true, false, ◌&&◌, ◌||◌, ◌==◌, List, [], ◌∷◌, nat_le}
+use Rattle.std.specs.Prelude.{ℕ, Bool, true, false, ◌&&◌, ◌==◌, List, [], ◌∷◌}
 use Rattle.std.specs.List.{list_any, list_all}
 
 pub record Forms : Type 0 where
@@ -11,7 +11,7 @@ pub record Forms : Type 0 where
   pub augmentation : List ℕ → Bool
   -- encodings of the start of a function
   pub address : ℕ → Bool
-  -- instructions whose first byte is below 64
+  -- known instructions whose first byte is below 64
   pub operation : ℕ → Bool
 
 abbrev pub is_among : List ℕ → ℕ → Bool
@@ -55,10 +55,9 @@ whole = record {
   long_length = true;
   augmentation = is_augmentation;
   address = λ e. true;
-  operation = λ op. nat_le op 0x16 || (op == 0x2e);
+  operation = λ op. true;
 }
 
--- The forms that the readers take so far: all forms of entries, and of the instructions nop, the three advances with an
--- operand, undefined, remember and restore of a state, and the definitions of the CFA by a register and an offset.
+-- the forms that the readers take
 abbrev pub emitted : Forms
-emitted = record whole { operation = is_among (0x00 ∷ 0x02 ∷ 0x03 ∷ 0x04 ∷ 0x07 ∷ 0x0a ∷ 0x0b ∷ 0x0c ∷ 0x0d ∷ 0x0e ∷ []) }
+emitted = whole

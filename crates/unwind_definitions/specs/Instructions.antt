@@ -5,6 +5,7 @@ use Rattle.unwind_definitions.specs.Faults.{Fault, UnknownInstruction, Unsupport
 use Rattle.unwind_definitions.specs.Input.{Input, Reads, split, number, uleb, sleb}
 use Rattle.unwind_definitions.specs.Forms.{Forms}
 use Rattle.unwind_definitions.specs.Pointers.{Bases, direct}
+use Rattle.unwind_definitions.specs.CallFrameOpcodes.{DW_CFA_nop, DW_CFA_set_loc, DW_CFA_advance_loc1, DW_CFA_advance_loc2, DW_CFA_advance_loc4, DW_CFA_offset_extended, DW_CFA_restore_extended, DW_CFA_undefined, DW_CFA_same_value, DW_CFA_register, DW_CFA_remember_state, DW_CFA_restore_state, DW_CFA_def_cfa, DW_CFA_def_cfa_register, DW_CFA_def_cfa_offset, DW_CFA_def_cfa_expression, DW_CFA_expression, DW_CFA_offset_extended_sf, DW_CFA_def_cfa_sf, DW_CFA_def_cfa_offset_sf, DW_CFA_val_offset, DW_CFA_val_offset_sf, DW_CFA_val_expression, DW_CFA_GNU_args_size}
 
 -- how a column's value in the caller is found; offsets are words
 pub data Rule : Type 0 where
@@ -131,34 +132,54 @@ sizes_arguments c = do
 abbrev pub unknown : Reads Instruction
 unknown c = Err UnknownInstruction
 
--- the instruction of a first byte below 64
+-- The instruction of a first byte below 64, by the groups of DWARF 5 section 6.4.2: what begins a row, what defines the
+-- CFA, what gives a register its rule by an offset or otherwise, and what remembers, restores, passes the size of arguments or does nothing.
+abbrev pub row_creation : Coding → ℕ → Reads Instruction → Reads Instruction
+row_creation coding op other =
+    if op == DW_CFA_set_loc then sets_location coding
+    else (if op == DW_CFA_advance_loc1 then advance coding w8
+    else (if op == DW_CFA_advance_loc2 then advance coding w16
+    else (if op == DW_CFA_advance_loc4 then advance coding w32
+    else other)))
+
+abbrev pub cfa_definition : Coding → ℕ → Reads Instruction → Reads Instruction
+cfa_definition coding op other =
+    if op == DW_CFA_def_cfa then defines_cfa
+    else (if op == DW_CFA_def_cfa_sf then defines_cfa_signed coding
+    else (if op == DW_CFA_def_cfa_register then defines_cfa_column
+    else (if op == DW_CFA_def_cfa_offset then defines_cfa_offset
+    else (if op == DW_CFA_def_cfa_offset_sf then defines_cfa_offset_signed coding
+    else (if op == DW_CFA_def_cfa_expression then defines_cfa_block
+    else other)))))
+
+abbrev pub offset_rule : Coding → ℕ → Reads Instruction → Reads Instruction
+offset_rule coding op other =
+    if op == DW_CFA_offset_extended then writes_offset coding Offset
+    else (if op == DW_CFA_offset_extended_sf then writes_signed coding Offset
+    else (if op == DW_CFA_val_offset then writes_offset coding ValOffset
+    else (if op == DW_CFA_val_offset_sf then writes_signed coding ValOffset
+    else other)))
+
+abbrev pub register_rule : ℕ → Reads Instruction → Reads Instruction
+register_rule op other =
+    if op == DW_CFA_undefined then writes Undefined
+    else (if op == DW_CFA_same_value then writes SameValue
+    else (if op == DW_CFA_register then writes_register
+    else (if op == DW_CFA_expression then writes_block Expression
+    else (if op == DW_CFA_val_expression then writes_block ValExpression
+    else (if op == DW_CFA_restore_extended then resets
+    else other)))))
+
+abbrev pub row_state : ℕ → Reads Instruction → Reads Instruction
+row_state op other =
+    if op == DW_CFA_remember_state then gives Remember
+    else (if op == DW_CFA_restore_state then gives Restore
+    else (if op == DW_CFA_nop then gives Nop
+    else (if op == DW_CFA_GNU_args_size then sizes_arguments
+    else other)))
+
 abbrev pub operation : Coding → ℕ → Reads Instruction
-operation coding op =
-    if op == 0x00 then gives Nop
-    else (if op == 0x01 then sets_location coding
-    else (if op == 0x02 then advance coding w8
-    else (if op == 0x03 then advance coding w16
-    else (if op == 0x04 then advance coding w32
-    else (if op == 0x05 then writes_offset coding Offset
-    else (if op == 0x06 then resets
-    else (if op == 0x07 then writes Undefined
-    else (if op == 0x08 then writes SameValue
-    else (if op == 0x09 then writes_register
-    else (if op == 0x0a then gives Remember
-    else (if op == 0x0b then gives Restore
-    else (if op == 0x0c then defines_cfa
-    else (if op == 0x0d then defines_cfa_column
-    else (if op == 0x0e then defines_cfa_offset
-    else (if op == 0x0f then defines_cfa_block
-    else (if op == 0x10 then writes_block Expression
-    else (if op == 0x11 then writes_signed coding Offset
-    else (if op == 0x12 then defines_cfa_signed coding
-    else (if op == 0x13 then defines_cfa_offset_signed coding
-    else (if op == 0x14 then writes_offset coding ValOffset
-    else (if op == 0x15 then writes_signed coding ValOffset
-    else (if op == 0x16 then writes_block ValExpression
-    else (if op == 0x2e then sizes_arguments
-    else unknown)))))))))))))))))))))))
+operation coding op = row_creation coding op (cfa_definition coding op (offset_rule coding op (register_rule op (row_state op unknown))))
 
 -- a register's offset from the CFA, in data units
 abbrev pub saves : Coding → ℕ → Reads Instruction

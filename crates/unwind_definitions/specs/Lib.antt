@@ -19,6 +19,7 @@ pub mod Faults
 pub mod Input
 pub mod Forms
 pub mod Pointers
+pub mod CallFrameOpcodes
 pub mod Instructions
 pub mod Entries
 pub mod Row

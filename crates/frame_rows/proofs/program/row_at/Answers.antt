@@ -2,11 +2,11 @@ use Rattle.std.proofs.lemmas.Result.{err_from_is_err_and}
 use Rattle.frame_rows.proofs.program.row_at.Goals as goal
 
 pub returns-in_err-run_programs : goal.returns-in_err-run_programs
-returns-in_err-run_programs c address bases =
+returns-in_err-run_programs c =
     let p = err_from_is_err_and c.from_residual.result c.from_residual.ensures.1 in
-    rw (p.1, p.2) (c.in_err-run_programs.ensures address bases)
+    rw (p.1, p.2) c.in_err-run_programs.ensures
 
 pub returns : goal.returns
-returns c address bases =
-    let ran = c.in_ok-run_programs.ensures address bases in
+returns c =
+    let ran = c.in_ok-run_programs.ensures in
     ran.2 c.into_row.result (c.into_row.ensures c.args.start ran.0 ran.1)

@@ -1,11 +1,11 @@
 use Rattle.std.proofs.Common.{◌≡◌, true, sym, ◌∙◌}
 use Rattle.unwind_definitions.specs.Pointers.{Bases}
-use Rattle.unwind_definitions.specs.Entries.{Fde, address_encoding}
+use Rattle.unwind_definitions.specs.Entries.{Fde}
 use Rattle.unwind_definitions.specs.Row.{covers_pc}
 use Rattle.encoded_pointers.specs.View.{at}
 use Rattle.encoded_pointers.specs.Pointers.{bases_of}
 use Rattle.eh_frame.specs.Views.{fde_of}
-use Rattle.frame_rows.specs.Decoded.{coding_by}
+use Rattle.frame_rows.specs.Decoded.{coding_in}
 use Rattle.eh_frame.proofs.Described.{of_description}
 use Rattle.eh_frame.proofs.fde.Fde.unwind_info_for_address.Goals as goal
 
@@ -14,5 +14,5 @@ returns c =
     let bases : Bases = bases_of c.args.bases.now in
     let fde : Fde = fde_of c.args.self.now in
     let covers : covers_pc fde c.args.pc ≡ true = sym c.contains.ensures ∙ c.if-not-contains.false in
-    of_description bases fde c.args.pc c.row_at.result (coding_by c.factors.result (address_encoding fde.cie) bases) (at c.instructions.result) (at c.instructions-2.result)
-    covers (c.factors.ensures bases) c.instructions.ensures c.instructions-2.ensures (c.row_at.ensures (address_encoding fde.cie) bases)
+    of_description bases fde c.args.pc c.row_at.result (coding_in c.coding.result) (at c.instructions.result) (at c.instructions-2.result)
+    covers c.coding.ensures c.instructions.ensures c.instructions-2.ensures c.row_at.ensures

@@ -1,0 +1,7 @@
+use Rattle.std.proofs.Common.{refl, arith}
+use Rattle.frame_rows.proofs.Steps.{step_set}
+use Rattle.frame_rows.proofs.CannotFollow.{goes_on, goes_back}
+use Rattle.frame_rows.proofs.machine.Machine.set_location.Goals as goal
+
+pub returns : goal.returns
+returns c start run rep = (goes_on start c.args.self.now run rep c.args.address (omega arith), step_set start c.args.self.now run rep c.args.address _ refl refl refl refl)
