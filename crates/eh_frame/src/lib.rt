@@ -29,6 +29,7 @@ pub use encoded_pointers::{
 };
 pub use entries::{EhFrame, Entry};
 pub use fde::Fde;
+pub use frame_expressions::{EvalError, evaluate};
 pub use frame_rows::{
     CfaRule, Register, RegisterMap, RegisterRule, Registers, Row, RowRef, RowRoom,
 };

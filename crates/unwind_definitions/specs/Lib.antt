@@ -26,6 +26,9 @@ pub mod Row
 -- Behind these the theorem on chains asks for nothing more. What is said of any bytes beside it: what a scan and a header
 -- answer, the caller by a row, what a language table asks, a state inside a prologue, and how numbers are spelled.
 pub mod Caller
+pub mod ExpressionOpcodes
+pub mod Operations
+pub mod Expressions
 pub mod Scan
 pub mod Header
 pub mod HeaderSearch

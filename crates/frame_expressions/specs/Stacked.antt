@@ -1,0 +1,7 @@
+-- The words of a stack by the places that hold them.
+use Rattle.std.specs.Prelude.{ℕ, zero, suc, List, [], ◌∷◌, slice_index}
+
+-- the first n words, the last of them first
+abbrev pub stacked : List ℕ → ℕ → List ℕ
+stacked words zero = []
+stacked words (suc n) = slice_index words n ∷ stacked words n
