@@ -132,13 +132,14 @@ module _ (forms : Forms) where
     pub inside : AllByRecursion (λ (f : Function). (m.start ≤ f.start) × (f.end ≤ m.end)) functions
     pub header : HeaderLists image m.tables frame (fdes_of entries)
 
-  -- an ELF module's frame table reads, and none of its descriptions contains an address
+  -- An ELF module's frame table reads, none of its descriptions contains an address, and its header table lists them all.
   pub record CoversNot (image : List Span) (m : Module) (a : ℕ) : Type 0 where
     pub frame : ℕ
     pub address : frame_address image m.tables ≡ Some frame
     pub entries : List Entry
     pub reads : AreEntries forms (bases_of m frame) (input_at image frame) 0 entries
     pub uncovered : AllByRecursion (λ (fde : Fde). covers_pc fde a ≡ false) (fdes_of entries)
+    pub header : HeaderLists image m.tables frame (fdes_of entries)
 
   -- an address is in no module, or in one none of whose descriptions contains it
   abbrev pub IsUncovered : Process → ℕ → Type 0
