@@ -156,9 +156,9 @@ module _ (bases : Bases) where
 
   other_fde_body : (cie : Cie) (offset : ℕ) (c : Input) → Other (fde_body bases cie offset c)
   other_fde_body cie offset c =
-      other_then _ _ (other_unless (forms.address (address_encoding cie)) UnsupportedPointerEncoding (λ h. cc)) (λ u. other_then _ _ (other_direct (address_encoding cie) bases c) (λ start.
+      other_then _ _ (other_direct (address_encoding cie) bases c) (λ start.
       other_then _ _ (other_value (format_of (address_encoding cie)) start.1) (λ len. other_then _ _ (other_unless (nat_le (start.0 + len.0) (2 ^ 64 - 1)) AddressOverflow (λ h. cc)) (λ v.
-      other_then _ _ (other_fde_data bases cie start.0 len.1) (λ found. other_ok (record { offset = offset; cie = cie; start = start.0; size = len.0; language = found.0; program = found.1 }))))))
+      other_then _ _ (other_fde_data bases cie start.0 len.1) (λ found. other_ok (record { offset = offset; cie = cie; start = start.0; size = len.0; language = found.0; program = found.1 })))))
 
   other_length : (n : ℕ × Input) → Other (length_behind n)
   other_length n = other_if _ _ _ (other_number w64 n.1) (other_ok _)

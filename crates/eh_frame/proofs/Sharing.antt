@@ -49,11 +49,10 @@ module _ (bases : Bases) (offset : ℕ) where
   -- a description that is read names the entry by which it is read
   body_cie : (cie : Cie) (c : Input) → IfOk (fde_body bases cie offset c) (λ fde. fde.cie ≡ cie)
   body_cie cie c =
-      through (λ fde. fde.cie ≡ cie) (unless (emitted.address (address_encoding cie)) UnsupportedPointerEncoding) _ (λ form.
       through (λ fde. fde.cie ≡ cie) (direct (address_encoding cie) bases c) _ (λ start.
       through (λ fde. fde.cie ≡ cie) (value (format_of (address_encoding cie)) start.1) _ (λ len.
       through (λ fde. fde.cie ≡ cie) (unless (nat_le (start.0 + len.0) (2 ^ 64 - 1)) AddressOverflow) _ (λ fits.
-      through (λ fde. fde.cie ≡ cie) (fde_data bases cie start.0 len.1) (λ found. Ok (record { offset = offset; cie = cie; start = start.0; size = len.0; language = found.0; program = found.1 })) (λ found. refl)))))
+      through (λ fde. fde.cie ≡ cie) (fde_data bases cie start.0 len.1) (λ found. Ok (record { offset = offset; cie = cie; start = start.0; size = len.0; language = found.0; program = found.1 })) (λ found. refl))))
 
 -- an entry that is found at an offset stands at its own
 at_own : (bases : Bases) (table : Input) (offset : ℕ) (cie : Cie) → cie_at bases table offset ≡ Ok cie → StandsIn bases table cie

@@ -1,9 +1,9 @@
 -- The entries of a frame table: common information entries (CIE), and frame description entries (FDE) that name one.
 -- LSB, section on the .eh_frame section; DWARF 5 section 6.4.1.
-use Rattle.std.specs.Prelude.{◌≡◌, ℕ, ◌+◌, ◌-◌, ◌^◌, Bool, true, false, not, ◌&&◌, List, [], ◌∷◌, length, Option, Some, None, Result, Ok, Err, nat_lt, nat_le, ◌==◌, if◌then◌else◌}
+use Rattle.std.specs.Prelude.{◌≡◌, ℕ, ◌+◌, ◌-◌, ◌^◌, Bool, true, false, not, List, [], ◌∷◌, length, Option, Some, None, Result, Ok, Err, nat_lt, nat_le, ◌==◌, if◌then◌else◌}
 use Rattle.std.specs.Option.{unwrap_or}
 use Rattle.std.specs.Int.{w8, w32, w64}
-use Rattle.unwind_definitions.specs.Faults.{Fault, UnsupportedPointerEncoding, UnsupportedAddressSize, UnknownVersion, UnknownAugmentation, NotCie, AddressOverflow, ◌>>=◌, unless}
+use Rattle.unwind_definitions.specs.Faults.{Fault, UnsupportedAddressSize, UnknownVersion, UnknownAugmentation, NotCie, AddressOverflow, ◌>>=◌, unless}
 use Rattle.unwind_definitions.specs.Input.{Input, Reads, skip, split, number, uleb, sleb, text}
 use Rattle.unwind_definitions.specs.Augmentation.{is_version, is_augmentation, language_letter, personality_letter, address_letter, signal_letter}
 use Rattle.unwind_definitions.specs.Pointers.{Bases, Pointer, encoding, pointer, value, direct, format_of}
@@ -117,7 +117,6 @@ fde_data bases cie start c = if length cie.augmentation == 0 then Ok (None, c) e
 -- what stands behind the first four bytes: a start, a length in the same format, and the program
 abbrev pub fde_body : Bases → Cie → ℕ → Input → Result Fde Fault
 fde_body bases cie offset c = do
-  _ ← unless (forms.address (address_encoding cie)) UnsupportedPointerEncoding
   start ← direct (address_encoding cie) bases c
   len ← value (format_of (address_encoding cie)) start.1
   _ ← unless (nat_le (start.0 + len.0) (2 ^ 64 - 1)) AddressOverflow
@@ -137,7 +136,7 @@ pub record Found : Type 0 where
 
 -- a length that four bytes spell, or where they are all set the eight behind them
 abbrev pub length_behind : ℕ × Input → Result (ℕ × Input) Fault
-length_behind n = if forms.long_length && (n.0 == 2 ^ 32 - 1) then number w64 n.1 else Ok n
+length_behind n = if n.0 == 2 ^ 32 - 1 then number w64 n.1 else Ok n
 
 -- The body of an entry, None at the end of the list: at the end of the table, or at a length of 0.
 abbrev pub body : Reads (Option Input)

@@ -192,7 +192,7 @@ instruction_of coding high low =
     if high == 1 then gives (Advance (low * coding.code_factor))
     else (if high == 2 then saves coding low
     else (if high == 3 then gives (Reset low)
-    else (if forms.operation low then operation coding low else unknown)))
+    else operation coding low))
 
 abbrev pub instruction : Coding → Reads Instruction
 instruction coding c = do

@@ -9,7 +9,7 @@ use Rattle.unwind_definitions.specs.Pointers.{Bases, Pointer, Direct, Indirect, 
 use Rattle.unwind_definitions.specs.Entries.{Fde}
 use Rattle.unwind_definitions.specs.Function.{Action, NoAction, Cleanup, Terminate}
 use Rattle.unwind_definitions.specs.LanguageTable.{input_at, numbered_action, types}
-use Rattle.unwind_definitions.specs.Caller.{StepFault, Table, Unmapped, word_or_fault}
+use Rattle.unwind_definitions.specs.Caller.{StepFault, Table, word_or_fault}
 
 -- ---- readings that also follow pointers into the memory
 

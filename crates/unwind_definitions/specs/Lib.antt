@@ -14,10 +14,11 @@ pub mod Module
 -- What is delivered, and what the theorems ask of a start.
 pub mod Delivery
 pub mod Valid
--- The bytes: numbers, pointers, entries, instructions, rows; `Forms` says which of them are read.
+-- The bytes: numbers, pointers, entries, instructions, rows.
 pub mod Faults
 pub mod Input
-pub mod Forms
+pub mod Membership
+pub mod Augmentation
 pub mod Pointers
 pub mod CallFrameOpcodes
 pub mod Instructions

@@ -6,7 +6,7 @@ use Rattle.std.proofs.lemmas.Bool.{eqb-true, leb-true}
 use Rattle.std.proofs.lemmas.Bool.Decides.{nat_tests}
 use Rattle.memory_image.specs.Image.{Span, word_at}
 use Rattle.unwind_definitions.specs.declared.error.Error.{Error as Fault}
-use Rattle.unwind_definitions.specs.declared.error.Error.TheVariants.{UnknownVersion, UnknownAugmentation, UnsupportedPointerEncoding, AddressOverflow}
+use Rattle.unwind_definitions.specs.declared.error.Error.TheVariants.{UnknownVersion, UnknownAugmentation, AddressOverflow}
 use Rattle.unwind_definitions.specs.Faults.{◌>>=◌, unless}
 use Rattle.unwind_definitions.specs.Augmentation.{is_version, is_augmentation}
 use Rattle.unwind_definitions.specs.Input.{Input, number, split, text, uleb, sleb}
@@ -57,8 +57,7 @@ module _ (bases : Bases) (fde : Fde) (read : FdeRead bases fde) where
   -- its end is an address
   pub ends_below : fde.start + fde.size < 2 ^ 64
   ends_below =
-      let z = bound (unless (forms.address (address_encoding fde.cie)) UnsupportedPointerEncoding) _ fde read.is in
-      let a = bound (direct (address_encoding fde.cie) bases read.from) _ fde z.2 in
+      let a = bound (direct (address_encoding fde.cie) bases read.from) _ fde read.is in
       let b = bound (value (format_of (address_encoding fde.cie)) a.0.1) _ fde a.2 in
       let d = bound (unless (nat_le (a.0.0 + b.0.0) (2 ^ 64 - 1)) AddressOverflow) _ fde b.2 in
       let f = bound (fde_data bases fde.cie a.0.0 b.0.1) _ fde d.2 in
@@ -69,8 +68,7 @@ module _ (bases : Bases) (fde : Fde) (read : FdeRead bases fde) where
 
   pub without_language : fde.cie.letters.language ≡ None → fde.language ≡ None
   without_language none =
-      let z = bound (unless (forms.address (address_encoding fde.cie)) UnsupportedPointerEncoding) _ fde read.is in
-      let a = bound (direct (address_encoding fde.cie) bases read.from) _ fde z.2 in
+      let a = bound (direct (address_encoding fde.cie) bases read.from) _ fde read.is in
       let b = bound (value (format_of (address_encoding fde.cie)) a.0.1) _ fde a.2 in
       let d = bound (unless (nat_le (a.0.0 + b.0.0) (2 ^ 64 - 1)) AddressOverflow) _ fde b.2 in
       let f = bound (fde_data bases fde.cie a.0.0 b.0.1) _ fde d.2 in

@@ -8,7 +8,7 @@ use Rattle.std.proofs.lemmas.Bool.{leb-true, leb-false}
 use Rattle.std.proofs.lemmas.List.Sorted.{Contains-permutation, IsPermutation-sym}
 use Rattle.memory_image.specs.Image.{Span}
 use Rattle.unwind_definitions.specs.declared.error.Error.{Error as Fault}
-use Rattle.unwind_definitions.specs.declared.error.Error.TheVariants.{NoUnwindInfoForAddress, UnsupportedPointerEncoding, AddressOverflow, NotCie}
+use Rattle.unwind_definitions.specs.declared.error.Error.TheVariants.{NoUnwindInfoForAddress, AddressOverflow, NotCie}
 use Rattle.unwind_definitions.specs.Faults.{◌>>=◌, unless}
 use Rattle.unwind_definitions.specs.Input.{Input, skip, number}
 use Rattle.unwind_definitions.specs.Pointers.{Bases, direct, value, format_of}
@@ -28,8 +28,7 @@ use Rattle.unwind_laws.proofs.Found.{covered, found_first, none_first}
 -- ---- a description stands at its own offset
 of_body : (bases : Bases) (cie : Cie) (o : ℕ) (c : Input) (fde : Fde) → fde_body bases cie o c ≡ Ok fde → fde.offset ≡ o
 of_body bases cie o c fde e =
-    let z = bound (unless (forms.address (address_encoding cie)) UnsupportedPointerEncoding) _ fde e in
-    let a = bound (direct (address_encoding cie) bases c) _ fde z.2 in
+    let a = bound (direct (address_encoding cie) bases c) _ fde e in
     let b = bound (value (format_of (address_encoding cie)) a.0.1) _ fde a.2 in
     let d = bound (unless (nat_le (a.0.0 + b.0.0) (2 ^ 64 - 1)) AddressOverflow) _ fde b.2 in
     let f = bound (fde_data bases cie a.0.0 b.0.1) _ fde d.2 in

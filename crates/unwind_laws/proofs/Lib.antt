@@ -15,8 +15,8 @@ pub mod Steady
 pub mod PushingValid
 pub mod ThreeRows
 pub mod ThreeValid
-pub mod ThreeReads
-pub mod EmittedRead
+pub mod ThreeStacks
+pub mod EntriesRead
 pub mod ReturningValid
 pub mod StoringValid
 pub mod OneModule

@@ -24,20 +24,16 @@ use Rattle.unwind_laws.proofs.Steady.{is_steady, same_row_at}
 pub columns_show : (s : State) → Shows (columns_of s) s
 columns_show s = record { ra = refl; sp = refl; saved = λ r. by_register (λ r. columns_of s (column_of r) ≡ Some (value_of r s)) refl refl refl refl refl refl r }
 
--- what the readers of some forms give for this sample
-pub record Reads : Type 0 where
+-- what the readers give for this sample
+record Reads : Type 0 where
   pub listed : AreEntries bases table 0 entries
   pub at_start : row_at bases fde 0x401000 ≡ Ok start_run
   pub at_body : row_at bases fde 0x401001 ≡ Ok body_run
   pub steady : is_steady 0x401000 0x401001 0x401010 (program (coding_of bases fde.cie) fde.program).instructions ≡ true
 
-pub reads_whole : Reads
+reads : Reads
 unfolding entry_at row_at instruction_of
-reads_whole = record { listed = (24, refl, (48, refl, refl)); at_start = refl; at_body = refl; steady = refl }
-
-pub reads_emitted : Reads
-unfolding entry_at row_at instruction_of
-reads_emitted = record { listed = (24, refl, (48, refl, refl)); at_start = refl; at_body = refl; steady = refl }
+reads = record { listed = (24, refl, (48, refl, refl)); at_start = refl; at_body = refl; steady = refl }
 
 body_row : IsBodyRow (steps_of function.prologue) body_run
 body_row = record {
@@ -71,63 +67,62 @@ is_function = record {
   outermost = λ e. absurd cc;
 }
 
-module _ (reads : Reads) where
-  rows : DescribesRows bases function fde
-  rows = record {
-    bodies = λ inner pc h. let lies = in_body_is pc h in
-        let same = same_row_at bases fde 0x401001 0x401010 pc lies.0 lies.1 (lit≤ tt) (lit≤ tt) reads.steady in
-        (body_run, same ∙ reads.at_body, body_row);
-    prologue = λ inner pc from below. let is : 0x401000 ≡ pc = omega arith in
-        subst (λ (a : ℕ). HasRow bases fde a (IsPrologueRow (ended_by (a - 0x401000) function.prologue))) is (start_run, reads.at_start, start_row);
-    outermost = λ outer pc h. absurd cc;
-  }
+rows : DescribesRows bases function fde
+rows = record {
+  bodies = λ inner pc h. let lies = in_body_is pc h in
+      let same = same_row_at bases fde 0x401001 0x401010 pc lies.0 lies.1 (lit≤ tt) (lit≤ tt) reads.steady in
+      (body_run, same ∙ reads.at_body, body_row);
+  prologue = λ inner pc from below. let is : 0x401000 ≡ pc = omega arith in
+      subst (λ (a : ℕ). HasRow bases fde a (IsPrologueRow (ended_by (a - 0x401000) function.prologue))) is (start_run, reads.at_start, start_row);
+  outermost = λ outer pc h. absurd cc;
+}
 
-  describes : (memory : List Span) → DescribesFunction memory bases function fde
-  describes memory = record {
-    code = record {
-      cie = record { version = refl; code_factor = refl; data_factor = refl; return_column = refl; augmentation = inl refl; address = refl; language = inl refl; personality = tt; program = (2, refl) };
-      earlier = lit< tt;
-      start = refl;
-      end = refl;
-      rows = rows;
-    };
-    language = refl;
-  }
+describes : (memory : List Span) → DescribesFunction memory bases function fde
+describes memory = record {
+  code = record {
+    cie = record { version = refl; code_factor = refl; data_factor = refl; return_column = refl; augmentation = inl refl; address = refl; language = inl refl; personality = tt; program = (2, refl) };
+    earlier = lit< tt;
+    start = refl;
+    end = refl;
+    rows = rows;
+  };
+  language = refl;
+}
 
-  frames_described : (memory : List Span) → DescribesFrames memory bases table entries (function ∷ [])
-  frames_described memory = record {
-    reads = reads.listed;
-    lengths = ((20, _, refl, lit< tt), ((20, _, refl, lit< tt), tt));
-    each = (record { fde = fde; one = refl; describes = describes memory }, tt);
-    foreign = λ other has none. elim (here_or_later fde [] other has) [
-      | inl same ↦ let h = rw (← same) at none in absurd cc
-      | inr later ↦ absurd (none_in_nil other later)
-    ];
-  }
+frames_described : (memory : List Span) → DescribesFrames memory bases table entries (function ∷ [])
+frames_described memory = record {
+  reads = reads.listed;
+  lengths = ((20, _, refl, lit< tt), ((20, _, refl, lit< tt), tt));
+  each = (record { fde = fde; one = refl; describes = describes memory }, tt);
+  foreign = λ other has none. elim (here_or_later fde [] other has) [
+    | inl same ↦ let h = rw (← same) at none in absurd cc
+    | inr later ↦ absurd (none_in_nil other later)
+  ];
+}
 
-  module_described : DescribesModule image module_of_it (function ∷ [])
-  module_described = record {
-    frame = 0x500000;
-    address = refl;
-    entries = entries;
-    frames = frames_described image;
-    nonempty = (lit< tt, tt);
-    apart = pairs_one DescriptionsApart fde;
-    inside = ((lit≤ tt, lit≤ tt), tt);
-    header = tt;
-  }
+module_described : DescribesModule image module_of_it (function ∷ [])
+module_described = record {
+  frame = 0x500000;
+  address = refl;
+  entries = entries;
+  frames = frames_described image;
+  nonempty = (lit< tt, tt);
+  apart = pairs_one DescriptionsApart fde;
+  inside = ((lit≤ tt, lit≤ tt), tt);
+  header = tt;
+}
 
-  module_of_three_described : DescribesModule image_of_three module_of_it (function ∷ [])
-  module_of_three_described = record {
-    frame = 0x500000;
-    address = refl;
-    entries = entries;
-    frames = frames_described image_of_three;
-    nonempty = (lit< tt, tt);
-    apart = pairs_one DescriptionsApart fde;
-    inside = ((lit≤ tt, lit≤ tt), tt);
-    header = tt;
-  }
+module_of_three_described : DescribesModule image_of_three module_of_it (function ∷ [])
+module_of_three_described = record {
+  frame = 0x500000;
+  address = refl;
+  entries = entries;
+  frames = frames_described image_of_three;
+  nonempty = (lit< tt, tt);
+  apart = pairs_one DescriptionsApart fde;
+  inside = ((lit≤ tt, lit≤ tt), tt);
+  header = tt;
+}
 
 words : (ra sp rbx : ℕ) → ra < 2 ^ 64 → sp < 2 ^ 64 → rbx < 2 ^ 64 → IsState (state ra sp rbx)
 words ra sp rbx a b c = state_fits (state ra sp rbx) a b c (lit< tt) (lit< tt) (lit< tt) (lit< tt) (lit< tt)
@@ -171,34 +166,33 @@ link : (memory : List Span) (sp rbx : ℕ) (t : State) (outer : List Call) → s
     IsLink memory (function ∷ []) (state 0x401006 sp rbx) (record { callee = function; caller = t }) outer
 link memory sp rbx t outer a b entered = record { state = words 0x401006 sp rbx (lit< tt) a b; listed = (0, lit< tt, refl); called = called memory sp rbx t entered; last = λ outer. absurd cc }
 
-module _ (reads : Reads) where
-  -- one call
-  pub one_valid : IsValid process (columns_of start) [] (function ∷ []) start calls
-  one_valid = record {
-    are_functions = (is_function, tt);
-    modules = (module_described reads, tt);
-    no_others = (refl, tt);
-    shows = columns_show start;
-    chain = (link image 0x7000 9 caller [] (lit< tt) (lit< tt) entered_one, record { state = words 0 0x7010 5 (lit< tt) (lit< tt) (lit< tt); ends = inl refl });
-    resumed = λ f found accepted. absurd cc;
-  }
+-- one call
+pub one_valid : IsValid process (columns_of start) [] (function ∷ []) start calls
+one_valid = record {
+  are_functions = (is_function, tt);
+  modules = (module_described, tt);
+  no_others = (refl, tt);
+  shows = columns_show start;
+  chain = (link image 0x7000 9 caller [] (lit< tt) (lit< tt) entered_one, record { state = words 0 0x7010 5 (lit< tt) (lit< tt) (lit< tt); ends = inl refl });
+  resumed = λ f found accepted. absurd cc;
+}
 
-  -- three calls
-  pub three_valid : IsValid process_of_three (columns_of start) [] (function ∷ []) start calls_of_three
-  three_valid = record {
-    are_functions = (is_function, tt);
-    modules = (module_of_three_described reads, tt);
-    no_others = (refl, tt);
-    shows = columns_show start;
-    chain = (
-      link image_of_three 0x7000 9 (state 0x401006 0x7010 1) _ (lit< tt) (lit< tt) entered_three_0,
-      (
-        link image_of_three 0x7010 1 (state 0x401006 0x7020 2) _ (lit< tt) (lit< tt) entered_three_1,
-        (link image_of_three 0x7020 2 (state 0 0x7030 3) [] (lit< tt) (lit< tt) entered_three_2, record { state = words 0 0x7030 3 (lit< tt) (lit< tt) (lit< tt); ends = inl refl }),
-      ),
-    );
-    resumed = λ f found accepted. absurd cc;
-  }
+-- three calls
+pub three_valid : IsValid process_of_three (columns_of start) [] (function ∷ []) start calls_of_three
+three_valid = record {
+  are_functions = (is_function, tt);
+  modules = (module_of_three_described, tt);
+  no_others = (refl, tt);
+  shows = columns_show start;
+  chain = (
+    link image_of_three 0x7000 9 (state 0x401006 0x7010 1) _ (lit< tt) (lit< tt) entered_three_0,
+    (
+      link image_of_three 0x7010 1 (state 0x401006 0x7020 2) _ (lit< tt) (lit< tt) entered_three_1,
+      (link image_of_three 0x7020 2 (state 0 0x7030 3) [] (lit< tt) (lit< tt) entered_three_2, record { state = words 0 0x7030 3 (lit< tt) (lit< tt) (lit< tt); ends = inl refl }),
+    ),
+  );
+  resumed = λ f found accepted. absurd cc;
+}
 
 -- regions and modules share no address
 pub one_process : IsProcess process

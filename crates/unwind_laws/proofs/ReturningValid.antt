@@ -27,8 +27,8 @@ use Rattle.unwind_laws.proofs.PushingValid.{columns_show}
 abbrev Stays : Fde → ℕ → ℕ → Type 0
 Stays fde low high = is_steady fde.start low high (program (coding_of bases fde.cie) fde.program).instructions ≡ true
 
--- what the readers of some forms give for this sample
-pub record Reads : Type 0 where
+-- what the readers give for this sample
+record Reads : Type 0 where
   pub listed : AreEntries bases table 0 entries
   pub at_start : row_at bases callee_fde 0x402000 ≡ Ok (run_of [])
   pub at_one : row_at bases callee_fde 0x402002 ≡ Ok (run_of pushed_one)
@@ -43,27 +43,9 @@ pub record Reads : Type 0 where
   pub stay_second : Stays callee_fde 0x402028 0x402040
   pub stay_outermost : Stays outermost_fde 0x402040 0x402050
 
-pub reads_whole : Reads
+reads : Reads
 unfolding entry_at row_at instruction_of
-reads_whole = record {
-  listed = (24, refl, (68, refl, (88, refl, (108, refl, refl))));
-  at_start = refl;
-  at_one = refl;
-  at_two = refl;
-  at_first = refl;
-  at_second = refl;
-  at_outermost = refl;
-  stay_start = refl;
-  stay_one = refl;
-  stay_two = refl;
-  stay_first = refl;
-  stay_second = refl;
-  stay_outermost = refl;
-}
-
-pub reads_emitted : Reads
-unfolding entry_at row_at instruction_of
-reads_emitted = record {
+reads = record {
   listed = (24, refl, (68, refl, (88, refl, (108, refl, refl))));
   at_start = refl;
   at_one = refl;
@@ -137,95 +119,94 @@ outermost_row = record {
 in_first : (low high pc : ℕ) → (leb low pc && ltb pc high) ≡ true → (low ≤ pc) × (pc < high)
 in_first low high pc h = let both = both_true (leb low pc) (ltb pc high) h in (leb-true low pc both.0, ltb-true pc high both.1)
 
-module _ (reads : Reads) where
-  callee_bodies : (pc : ℕ) → IsTrue (in_body callee pc) → HasRow bases callee_fde pc (IsBodyRow (steps_of callee.prologue))
-  callee_bodies pc h = elim (either_true (leb 0x402007 pc && ltb pc 0x402020) _ h) [
-    | inl first ↦ let lies = in_first 0x402007 0x402020 pc first in
-        let same = same_row_at bases callee_fde 0x402007 0x402020 pc lies.0 lies.1 (lit≤ tt) (lit≤ tt) reads.stay_first in
-        (run_of in_first_body, same ∙ reads.at_first, first_row)
-    | inr rest ↦ let lies = in_first 0x402028 0x402040 pc (either_false _ rest) in
-        let same = same_row_at bases callee_fde 0x402028 0x402040 pc lies.0 lies.1 (lit≤ tt) (lit≤ tt) reads.stay_second in
-        (run_of in_second_body, same ∙ reads.at_second, second_row)
+callee_bodies : (pc : ℕ) → IsTrue (in_body callee pc) → HasRow bases callee_fde pc (IsBodyRow (steps_of callee.prologue))
+callee_bodies pc h = elim (either_true (leb 0x402007 pc && ltb pc 0x402020) _ h) [
+  | inl first ↦ let lies = in_first 0x402007 0x402020 pc first in
+      let same = same_row_at bases callee_fde 0x402007 0x402020 pc lies.0 lies.1 (lit≤ tt) (lit≤ tt) reads.stay_first in
+      (run_of in_first_body, same ∙ reads.at_first, first_row)
+  | inr rest ↦ let lies = in_first 0x402028 0x402040 pc (either_false _ rest) in
+      let same = same_row_at bases callee_fde 0x402028 0x402040 pc lies.0 lies.1 (lit≤ tt) (lit≤ tt) reads.stay_second in
+      (run_of in_second_body, same ∙ reads.at_second, second_row)
+]
+
+at_start : (pc : ℕ) → 0x402000 ≤ pc → pc < 0x402002 → HasRow bases callee_fde pc (IsPrologueRow (ended_by (pc - 0x402000) callee.prologue))
+at_start pc from below =
+    let same = same_row_at bases callee_fde 0x402000 0x402002 pc from below (lit≤ tt) (lit≤ tt) reads.stay_start in
+    let steps : ended_by (pc - 0x402000) callee.prologue ≡ ended_by 0 callee.prologue = same_ended callee.prologue 0 2 (pc - 0x402000) (omega arith) (omega arith) refl in
+    (run_of [], same ∙ reads.at_start, rw steps start_row)
+
+at_one : (pc : ℕ) → 0x402002 ≤ pc → pc < 0x402003 → HasRow bases callee_fde pc (IsPrologueRow (ended_by (pc - 0x402000) callee.prologue))
+at_one pc from below =
+    let same = same_row_at bases callee_fde 0x402002 0x402003 pc from below (lit≤ tt) (lit≤ tt) reads.stay_one in
+    let steps : ended_by (pc - 0x402000) callee.prologue ≡ ended_by 2 callee.prologue = same_ended callee.prologue 2 3 (pc - 0x402000) (omega arith) (omega arith) refl in
+    (run_of pushed_one, same ∙ reads.at_one, rw steps one_row)
+
+at_two : (pc : ℕ) → 0x402003 ≤ pc → pc < 0x402007 → HasRow bases callee_fde pc (IsPrologueRow (ended_by (pc - 0x402000) callee.prologue))
+at_two pc from below =
+    let same = same_row_at bases callee_fde 0x402003 0x402007 pc from below (lit≤ tt) (lit≤ tt) reads.stay_two in
+    let steps : ended_by (pc - 0x402000) callee.prologue ≡ ended_by 3 callee.prologue = same_ended callee.prologue 3 7 (pc - 0x402000) (omega arith) (omega arith) refl in
+    (run_of pushed_two, same ∙ reads.at_two, rw steps two_row)
+
+pub callee_rows : DescribesRows bases callee callee_fde
+callee_rows = record {
+  bodies = λ inner pc h. callee_bodies pc h;
+  prologue = λ inner pc from below. elim (cases_lt pc 0x402002) [ inl lt ↦ at_start pc from lt | inr ge ↦ elim (cases_lt pc 0x402003) [ inl lt ↦ at_one pc ge lt | inr ge ↦ at_two pc ge below ] ];
+  outermost = λ outer pc h. absurd cc;
+}
+
+outermost_rows : DescribesRows bases outermost outermost_fde
+outermost_rows = record {
+  bodies = λ inner pc h. absurd cc;
+  prologue = λ inner pc from below. absurd cc;
+  outermost = λ outer pc h. let lies = in_first 0x402040 0x402050 pc (either_false _ h) in
+      let same = same_row_at bases outermost_fde 0x402040 0x402050 pc lies.0 lies.1 (lit≤ tt) (lit≤ tt) reads.stay_outermost in
+      (run_of in_outermost, same ∙ reads.at_outermost, outermost_row);
+}
+
+emitted : IsEmittedCie image cie
+emitted = record { version = refl; code_factor = refl; data_factor = refl; return_column = refl; augmentation = inl refl; address = refl; language = inl refl; personality = tt; program = (2, refl) }
+
+each_fde : (P : Fde → Type 0) → P callee_fde → P outermost_fde → P foreign_fde → (f : Fde) → Contains (callee_fde ∷ outermost_fde ∷ foreign_fde ∷ []) f → P f
+each_fde P a b c f h = elim (here_or_later callee_fde (outermost_fde ∷ foreign_fde ∷ []) f h) [
+  | inl e ↦ subst P e a
+  | inr h2 ↦ elim (here_or_later outermost_fde (foreign_fde ∷ []) f h2) [
+    | inl e ↦ subst P e b
+    | inr h3 ↦ elim (here_or_later foreign_fde [] f h3) [ inl e ↦ subst P e c | inr none ↦ absurd (none_in_nil f none) ]
   ]
+]
 
-  at_start : (pc : ℕ) → 0x402000 ≤ pc → pc < 0x402002 → HasRow bases callee_fde pc (IsPrologueRow (ended_by (pc - 0x402000) callee.prologue))
-  at_start pc from below =
-      let same = same_row_at bases callee_fde 0x402000 0x402002 pc from below (lit≤ tt) (lit≤ tt) reads.stay_start in
-      let steps : ended_by (pc - 0x402000) callee.prologue ≡ ended_by 0 callee.prologue = same_ended callee.prologue 0 2 (pc - 0x402000) (omega arith) (omega arith) refl in
-      (run_of [], same ∙ reads.at_start, rw steps start_row)
+frames_described : DescribesFrames image bases table entries functions
+frames_described = record {
+  reads = reads.listed;
+  lengths = ((20, _, refl, lit< tt), ((40, _, refl, lit< tt), ((16, _, refl, lit< tt), ((16, _, refl, lit< tt), tt))));
+  each = (
+    record { fde = callee_fde; one = refl; describes = record { code = record { cie = emitted; earlier = lit< tt; start = refl; end = refl; rows = callee_rows }; language = refl } },
+    (record { fde = outermost_fde; one = refl; describes = record { code = record { cie = emitted; earlier = lit< tt; start = refl; end = refl; rows = outermost_rows }; language = refl } }, tt),
+  );
+  foreign = each_fde (λ fde. IsFalse (list_any (λ f. has_range_of f fde) functions) → AllByRecursion (MeetsNot fde) functions) (λ none. absurd cc) (λ none. absurd cc) (λ none. (inr (lit≤ tt), (inr (lit≤ tt), tt)));
+}
 
-  at_one : (pc : ℕ) → 0x402002 ≤ pc → pc < 0x402003 → HasRow bases callee_fde pc (IsPrologueRow (ended_by (pc - 0x402000) callee.prologue))
-  at_one pc from below =
-      let same = same_row_at bases callee_fde 0x402002 0x402003 pc from below (lit≤ tt) (lit≤ tt) reads.stay_one in
-      let steps : ended_by (pc - 0x402000) callee.prologue ≡ ended_by 2 callee.prologue = same_ended callee.prologue 2 3 (pc - 0x402000) (omega arith) (omega arith) refl in
-      (run_of pushed_one, same ∙ reads.at_one, rw steps one_row)
+pairs_three : AllPairs DescriptionsApart (callee_fde ∷ outermost_fde ∷ foreign_fde ∷ [])
+pairs_three i zero d lt below = absurd (omega arith)
+pairs_three zero (suc zero) d lt below = inl (lit≤ tt)
+pairs_three zero (suc (suc zero)) d lt below = inl (lit≤ tt)
+pairs_three (suc zero) (suc zero) d lt below = absurd (omega arith)
+pairs_three (suc zero) (suc (suc zero)) d lt below = inl (lit≤ tt)
+pairs_three (suc (suc i)) (suc zero) d lt below = absurd (omega arith)
+pairs_three (suc (suc i)) (suc (suc zero)) d lt below = absurd (omega arith)
+pairs_three i (suc (suc (suc j))) d lt below = absurd (omega arith)
 
-  at_two : (pc : ℕ) → 0x402003 ≤ pc → pc < 0x402007 → HasRow bases callee_fde pc (IsPrologueRow (ended_by (pc - 0x402000) callee.prologue))
-  at_two pc from below =
-      let same = same_row_at bases callee_fde 0x402003 0x402007 pc from below (lit≤ tt) (lit≤ tt) reads.stay_two in
-      let steps : ended_by (pc - 0x402000) callee.prologue ≡ ended_by 3 callee.prologue = same_ended callee.prologue 3 7 (pc - 0x402000) (omega arith) (omega arith) refl in
-      (run_of pushed_two, same ∙ reads.at_two, rw steps two_row)
-
-  pub callee_rows : DescribesRows bases callee callee_fde
-  callee_rows = record {
-    bodies = λ inner pc h. callee_bodies pc h;
-    prologue = λ inner pc from below. elim (cases_lt pc 0x402002) [ inl lt ↦ at_start pc from lt | inr ge ↦ elim (cases_lt pc 0x402003) [ inl lt ↦ at_one pc ge lt | inr ge ↦ at_two pc ge below ] ];
-    outermost = λ outer pc h. absurd cc;
-  }
-
-  outermost_rows : DescribesRows bases outermost outermost_fde
-  outermost_rows = record {
-    bodies = λ inner pc h. absurd cc;
-    prologue = λ inner pc from below. absurd cc;
-    outermost = λ outer pc h. let lies = in_first 0x402040 0x402050 pc (either_false _ h) in
-        let same = same_row_at bases outermost_fde 0x402040 0x402050 pc lies.0 lies.1 (lit≤ tt) (lit≤ tt) reads.stay_outermost in
-        (run_of in_outermost, same ∙ reads.at_outermost, outermost_row);
-  }
-
-  emitted : IsEmittedCie image cie
-  emitted = record { version = refl; code_factor = refl; data_factor = refl; return_column = refl; augmentation = inl refl; address = refl; language = inl refl; personality = tt; program = (2, refl) }
-
-  each_fde : (P : Fde → Type 0) → P callee_fde → P outermost_fde → P foreign_fde → (f : Fde) → Contains (callee_fde ∷ outermost_fde ∷ foreign_fde ∷ []) f → P f
-  each_fde P a b c f h = elim (here_or_later callee_fde (outermost_fde ∷ foreign_fde ∷ []) f h) [
-    | inl e ↦ subst P e a
-    | inr h2 ↦ elim (here_or_later outermost_fde (foreign_fde ∷ []) f h2) [
-      | inl e ↦ subst P e b
-      | inr h3 ↦ elim (here_or_later foreign_fde [] f h3) [ inl e ↦ subst P e c | inr none ↦ absurd (none_in_nil f none) ]
-    ]
-  ]
-
-  frames_described : DescribesFrames image bases table entries functions
-  frames_described = record {
-    reads = reads.listed;
-    lengths = ((20, _, refl, lit< tt), ((40, _, refl, lit< tt), ((16, _, refl, lit< tt), ((16, _, refl, lit< tt), tt))));
-    each = (
-      record { fde = callee_fde; one = refl; describes = record { code = record { cie = emitted; earlier = lit< tt; start = refl; end = refl; rows = callee_rows }; language = refl } },
-      (record { fde = outermost_fde; one = refl; describes = record { code = record { cie = emitted; earlier = lit< tt; start = refl; end = refl; rows = outermost_rows }; language = refl } }, tt),
-    );
-    foreign = each_fde (λ fde. IsFalse (list_any (λ f. has_range_of f fde) functions) → AllByRecursion (MeetsNot fde) functions) (λ none. absurd cc) (λ none. absurd cc) (λ none. (inr (lit≤ tt), (inr (lit≤ tt), tt)));
-  }
-
-  pairs_three : AllPairs DescriptionsApart (callee_fde ∷ outermost_fde ∷ foreign_fde ∷ [])
-  pairs_three i zero d lt below = absurd (omega arith)
-  pairs_three zero (suc zero) d lt below = inl (lit≤ tt)
-  pairs_three zero (suc (suc zero)) d lt below = inl (lit≤ tt)
-  pairs_three (suc zero) (suc zero) d lt below = absurd (omega arith)
-  pairs_three (suc zero) (suc (suc zero)) d lt below = inl (lit≤ tt)
-  pairs_three (suc (suc i)) (suc zero) d lt below = absurd (omega arith)
-  pairs_three (suc (suc i)) (suc (suc zero)) d lt below = absurd (omega arith)
-  pairs_three i (suc (suc (suc j))) d lt below = absurd (omega arith)
-
-  module_described : DescribesModule image module_of_them functions
-  module_described = record {
-    frame = 0x500000;
-    address = refl;
-    entries = entries;
-    frames = frames_described;
-    nonempty = (lit< tt, (lit< tt, (lit< tt, tt)));
-    apart = pairs_three;
-    inside = ((lit≤ tt, lit≤ tt), ((lit≤ tt, lit≤ tt), tt));
-    header = tt;
-  }
+module_described : DescribesModule image module_of_them functions
+module_described = record {
+  frame = 0x500000;
+  address = refl;
+  entries = entries;
+  frames = frames_described;
+  nonempty = (lit< tt, (lit< tt, (lit< tt, tt)));
+  apart = pairs_three;
+  inside = ((lit≤ tt, lit≤ tt), ((lit≤ tt, lit≤ tt), tt));
+  header = tt;
+}
 
 -- ---- the functions and the calls
 none_pairs : {A : Type 0} (R : A → A → Type 0) → AllPairs R []
@@ -265,10 +246,10 @@ outermost_entered = record { room = lit≤ tt; returns = λ h. absurd cc; leaves
 words : (ra sp rbx r14 : ℕ) → ra < 2 ^ 64 → sp < 2 ^ 64 → rbx < 2 ^ 64 → r14 < 2 ^ 64 → IsState (state ra sp rbx r14)
 words ra sp rbx r14 a b c d = state_fits (state ra sp rbx r14) a b c (lit< tt) (lit< tt) (lit< tt) d (lit< tt)
 
-pub late_valid : Reads → IsValid process (columns_of start) [] functions start calls
-late_valid reads = record {
+pub late_valid : IsValid process (columns_of start) [] functions start calls
+late_valid = record {
   are_functions = (callee_function, (outermost_function, tt));
-  modules = (module_described reads, tt);
+  modules = (module_described, tt);
   no_others = (refl, (refl, tt));
   shows = columns_show start;
   chain = (

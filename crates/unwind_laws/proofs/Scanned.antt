@@ -95,12 +95,8 @@ no_part : (b c d : Input) → ◌≡◌ {A = Result (Option Input × Input) Faul
 unfolding has_part
 no_part b c d e = let h : false ≡ true = ap has_part e in absurd cc
 
-abbrev both : Bool → Bool → Bool
-both true b = b
-both false b = false
-
 length_moves : (n len : ℕ × Input) → length_behind n ≡ Ok len → Moves 0 n.1 len.1
-length_moves n len e = go (forms.long_length) (n.0 == 2 ^ 32 - 1) e
+length_moves n len e = go (n.0 == 2 ^ 32 - 1) e
   where
     same : (x y : ℕ × Input) → ◌≡◌ {A = Result (ℕ × Input) Fault} (Ok x) (Ok y) → x.1 ≡ y.1
     same x y e = same_rest x.0 y.0 x.1 y.1 e
@@ -108,10 +104,9 @@ length_moves n len e = go (forms.long_length) (n.0 == 2 ^ 32 - 1) e
     plain : ◌≡◌ {A = Result (ℕ × Input) Fault} (Ok n) (Ok len) → Moves 0 n.1 len.1
     plain e = subst (Moves 0 n.1) (same n len e) (record { ahead = omega arith; inside = refl })
 
-    go : (a b : Bool) → cond (both a b) (number w64 n.1) (Ok n) ≡ Ok len → Moves 0 n.1 len.1
-    go true true e = wide_moves n.1 len.0 len.1 e
-    go true false e = plain e
-    go false b e = plain e
+    go : (b : Bool) → cond b (number w64 n.1) (Ok n) ≡ Ok len → Moves 0 n.1 len.1
+    go true e = wide_moves n.1 len.0 len.1 e
+    go false e = plain e
 
 abbrev some_part : Input × Input → Result (Option Input × Input) Fault
 some_part b = Ok (Some b.0, b.1)

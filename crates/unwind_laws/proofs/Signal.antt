@@ -5,7 +5,7 @@ use Rattle.std.specs.List.{Contains}
 use Rattle.std.specs.Int.{w8, w32}
 use Rattle.memory_image.specs.Image.{Span}
 use Rattle.unwind_definitions.specs.declared.error.Error.{Error as Fault}
-use Rattle.unwind_definitions.specs.declared.error.Error.TheVariants.{NotCie, UnknownVersion, UnknownAugmentation, UnsupportedPointerEncoding, AddressOverflow}
+use Rattle.unwind_definitions.specs.declared.error.Error.TheVariants.{NotCie, UnknownVersion, UnknownAugmentation, AddressOverflow}
 use Rattle.unwind_definitions.specs.Faults.{◌>>=◌, unless}
 use Rattle.unwind_definitions.specs.Augmentation.{is_version, is_augmentation}
 use Rattle.unwind_definitions.specs.Input.{Input, skip, number, uleb, sleb, split, text}
@@ -82,8 +82,7 @@ of_cie bases o c cie image e emitted =
 -- a description's common description is one that reads
 of_fde : (bases : Bases) (cie : Cie) (o : ℕ) (c : Input) (fde : Fde) → fde_body bases cie o c ≡ Ok fde → fde.cie ≡ cie
 of_fde bases cie o c fde e =
-    let z = bound (unless (forms.address (address_encoding cie)) UnsupportedPointerEncoding) _ fde e in
-    let a = bound (direct (address_encoding cie) bases c) _ fde z.2 in
+    let a = bound (direct (address_encoding cie) bases c) _ fde e in
     let b = bound (value (format_of (address_encoding cie)) a.0.1) _ fde a.2 in
     let d = bound (unless (nat_le (a.0.0 + b.0.0) (2 ^ 64 - 1)) AddressOverflow) _ fde b.2 in
     let f = bound (fde_data bases cie a.0.0 b.0.1) _ fde d.2 in

@@ -26,8 +26,8 @@ use Rattle.unwind_laws.proofs.PushingValid.{columns_show}
 abbrev Stays : Fde → ℕ → ℕ → Type 0
 Stays fde low high = is_steady fde.start low high (program (coding_of bases fde.cie) fde.program).instructions ≡ true
 
--- what the readers of some forms give for this sample
-pub record Reads : Type 0 where
+-- what the readers give for this sample
+record Reads : Type 0 where
   pub listed : AreEntries bases table 0 entries
   pub at_storing : row_at bases storing_fde 0x401000 ≡ Ok (run_of [])
   pub at_allocated : row_at bases storing_fde 0x401004 ≡ Ok (run_of allocated)
@@ -44,29 +44,9 @@ pub record Reads : Type 0 where
   pub stay_set : Stays framed_fde 0x401024 0x401029
   pub stay_body : Stays framed_fde 0x401029 0x401040
 
-pub reads_whole : Reads
+reads : Reads
 unfolding entry_at row_at instruction_of
-reads_whole = record {
-  listed = (24, refl, (48, refl, (80, refl, refl)));
-  at_storing = refl;
-  at_allocated = refl;
-  at_stored = refl;
-  at_framed = refl;
-  at_pushed = refl;
-  at_set = refl;
-  at_body = refl;
-  stay_storing = refl;
-  stay_allocated = refl;
-  stay_stored = refl;
-  stay_framed = refl;
-  stay_pushed = refl;
-  stay_set = refl;
-  stay_body = refl;
-}
-
-pub reads_emitted : Reads
-unfolding entry_at row_at instruction_of
-reads_emitted = record {
+reads = record {
   listed = (24, refl, (48, refl, (80, refl, refl)));
   at_storing = refl;
   at_allocated = refl;
@@ -169,95 +149,94 @@ in_framed_body pc h =
     let both = both_true (leb 0x401029 pc) (ltb pc 0x401040) (either_false _ h) in
     (leb-true 0x401029 pc both.0, ltb-true pc 0x401040 both.1)
 
-module _ (reads : Reads) where
-  at_storing : (pc : ℕ) → 0x401000 ≤ pc → pc < 0x401004 → HasRow bases storing_fde pc (IsPrologueRow (ended_by (pc - 0x401000) storing.prologue))
-  at_storing pc from below =
-      let same = same_row_at bases storing_fde 0x401000 0x401004 pc from below (lit≤ tt) (lit≤ tt) reads.stay_storing in
-      let steps : ended_by (pc - 0x401000) storing.prologue ≡ ended_by 0 storing.prologue = same_ended storing.prologue 0 4 (pc - 0x401000) (omega arith) (omega arith) refl in
-      (run_of [], same ∙ reads.at_storing, rw steps storing_row)
+at_storing : (pc : ℕ) → 0x401000 ≤ pc → pc < 0x401004 → HasRow bases storing_fde pc (IsPrologueRow (ended_by (pc - 0x401000) storing.prologue))
+at_storing pc from below =
+    let same = same_row_at bases storing_fde 0x401000 0x401004 pc from below (lit≤ tt) (lit≤ tt) reads.stay_storing in
+    let steps : ended_by (pc - 0x401000) storing.prologue ≡ ended_by 0 storing.prologue = same_ended storing.prologue 0 4 (pc - 0x401000) (omega arith) (omega arith) refl in
+    (run_of [], same ∙ reads.at_storing, rw steps storing_row)
 
-  at_allocated : (pc : ℕ) → 0x401004 ≤ pc → pc < 0x401009 → HasRow bases storing_fde pc (IsPrologueRow (ended_by (pc - 0x401000) storing.prologue))
-  at_allocated pc from below =
-      let same = same_row_at bases storing_fde 0x401004 0x401009 pc from below (lit≤ tt) (lit≤ tt) reads.stay_allocated in
-      let steps : ended_by (pc - 0x401000) storing.prologue ≡ ended_by 4 storing.prologue = same_ended storing.prologue 4 9 (pc - 0x401000) (omega arith) (omega arith) refl in
-      (run_of allocated, same ∙ reads.at_allocated, rw steps allocated_row)
+at_allocated : (pc : ℕ) → 0x401004 ≤ pc → pc < 0x401009 → HasRow bases storing_fde pc (IsPrologueRow (ended_by (pc - 0x401000) storing.prologue))
+at_allocated pc from below =
+    let same = same_row_at bases storing_fde 0x401004 0x401009 pc from below (lit≤ tt) (lit≤ tt) reads.stay_allocated in
+    let steps : ended_by (pc - 0x401000) storing.prologue ≡ ended_by 4 storing.prologue = same_ended storing.prologue 4 9 (pc - 0x401000) (omega arith) (omega arith) refl in
+    (run_of allocated, same ∙ reads.at_allocated, rw steps allocated_row)
 
-  storing_rows : DescribesRows bases storing storing_fde
-  storing_rows = record {
-    bodies = λ inner pc h. let lies = in_storing_body pc h in
-        let same = same_row_at bases storing_fde 0x401009 0x401020 pc lies.0 lies.1 (lit≤ tt) (lit≤ tt) reads.stay_stored in
-        (run_of in_storing, same ∙ reads.at_stored, stored_row);
-    prologue = λ inner pc from below. elim (cases_lt pc 0x401004) [ inl lt ↦ at_storing pc from lt | inr ge ↦ at_allocated pc ge below ];
-    outermost = λ outer pc h. absurd cc;
-  }
+storing_rows : DescribesRows bases storing storing_fde
+storing_rows = record {
+  bodies = λ inner pc h. let lies = in_storing_body pc h in
+      let same = same_row_at bases storing_fde 0x401009 0x401020 pc lies.0 lies.1 (lit≤ tt) (lit≤ tt) reads.stay_stored in
+      (run_of in_storing, same ∙ reads.at_stored, stored_row);
+  prologue = λ inner pc from below. elim (cases_lt pc 0x401004) [ inl lt ↦ at_storing pc from lt | inr ge ↦ at_allocated pc ge below ];
+  outermost = λ outer pc h. absurd cc;
+}
 
-  at_framed : (pc : ℕ) → 0x401020 ≤ pc → pc < 0x401021 → HasRow bases framed_fde pc (IsPrologueRow (ended_by (pc - 0x401020) framed.prologue))
-  at_framed pc from below =
-      let same = same_row_at bases framed_fde 0x401020 0x401021 pc from below (lit≤ tt) (lit≤ tt) reads.stay_framed in
-      let steps : ended_by (pc - 0x401020) framed.prologue ≡ ended_by 0 framed.prologue = same_ended framed.prologue 0 1 (pc - 0x401020) (omega arith) (omega arith) refl in
-      (run_of [], same ∙ reads.at_framed, rw steps framed_row)
+at_framed : (pc : ℕ) → 0x401020 ≤ pc → pc < 0x401021 → HasRow bases framed_fde pc (IsPrologueRow (ended_by (pc - 0x401020) framed.prologue))
+at_framed pc from below =
+    let same = same_row_at bases framed_fde 0x401020 0x401021 pc from below (lit≤ tt) (lit≤ tt) reads.stay_framed in
+    let steps : ended_by (pc - 0x401020) framed.prologue ≡ ended_by 0 framed.prologue = same_ended framed.prologue 0 1 (pc - 0x401020) (omega arith) (omega arith) refl in
+    (run_of [], same ∙ reads.at_framed, rw steps framed_row)
 
-  at_pushed : (pc : ℕ) → 0x401021 ≤ pc → pc < 0x401024 → HasRow bases framed_fde pc (IsPrologueRow (ended_by (pc - 0x401020) framed.prologue))
-  at_pushed pc from below =
-      let same = same_row_at bases framed_fde 0x401021 0x401024 pc from below (lit≤ tt) (lit≤ tt) reads.stay_pushed in
-      let steps : ended_by (pc - 0x401020) framed.prologue ≡ ended_by 1 framed.prologue = same_ended framed.prologue 1 4 (pc - 0x401020) (omega arith) (omega arith) refl in
-      (run_of pushed, same ∙ reads.at_pushed, rw steps pushed_row)
+at_pushed : (pc : ℕ) → 0x401021 ≤ pc → pc < 0x401024 → HasRow bases framed_fde pc (IsPrologueRow (ended_by (pc - 0x401020) framed.prologue))
+at_pushed pc from below =
+    let same = same_row_at bases framed_fde 0x401021 0x401024 pc from below (lit≤ tt) (lit≤ tt) reads.stay_pushed in
+    let steps : ended_by (pc - 0x401020) framed.prologue ≡ ended_by 1 framed.prologue = same_ended framed.prologue 1 4 (pc - 0x401020) (omega arith) (omega arith) refl in
+    (run_of pushed, same ∙ reads.at_pushed, rw steps pushed_row)
 
-  at_set : (pc : ℕ) → 0x401024 ≤ pc → pc < 0x401025 → HasRow bases framed_fde pc (IsPrologueRow (ended_by (pc - 0x401020) framed.prologue))
-  at_set pc from below =
-      let same = same_row_at bases framed_fde 0x401024 0x401029 pc from (omega arith) (lit≤ tt) (lit≤ tt) reads.stay_set in
-      let steps : ended_by (pc - 0x401020) framed.prologue ≡ ended_by 4 framed.prologue = same_ended framed.prologue 4 5 (pc - 0x401020) (omega arith) (omega arith) refl in
-      (run_of set, same ∙ reads.at_set, rw steps set_row)
+at_set : (pc : ℕ) → 0x401024 ≤ pc → pc < 0x401025 → HasRow bases framed_fde pc (IsPrologueRow (ended_by (pc - 0x401020) framed.prologue))
+at_set pc from below =
+    let same = same_row_at bases framed_fde 0x401024 0x401029 pc from (omega arith) (lit≤ tt) (lit≤ tt) reads.stay_set in
+    let steps : ended_by (pc - 0x401020) framed.prologue ≡ ended_by 4 framed.prologue = same_ended framed.prologue 4 5 (pc - 0x401020) (omega arith) (omega arith) refl in
+    (run_of set, same ∙ reads.at_set, rw steps set_row)
 
-  at_late : (pc : ℕ) → 0x401025 ≤ pc → pc < 0x401029 → HasRow bases framed_fde pc (IsPrologueRow (ended_by (pc - 0x401020) framed.prologue))
-  at_late pc from below =
-      let same = same_row_at bases framed_fde 0x401024 0x401029 pc (omega arith) below (lit≤ tt) (lit≤ tt) reads.stay_set in
-      let steps : ended_by (pc - 0x401020) framed.prologue ≡ ended_by 5 framed.prologue = same_ended framed.prologue 5 9 (pc - 0x401020) (omega arith) (omega arith) refl in
-      (run_of set, same ∙ reads.at_set, rw steps late_row)
+at_late : (pc : ℕ) → 0x401025 ≤ pc → pc < 0x401029 → HasRow bases framed_fde pc (IsPrologueRow (ended_by (pc - 0x401020) framed.prologue))
+at_late pc from below =
+    let same = same_row_at bases framed_fde 0x401024 0x401029 pc (omega arith) below (lit≤ tt) (lit≤ tt) reads.stay_set in
+    let steps : ended_by (pc - 0x401020) framed.prologue ≡ ended_by 5 framed.prologue = same_ended framed.prologue 5 9 (pc - 0x401020) (omega arith) (omega arith) refl in
+    (run_of set, same ∙ reads.at_set, rw steps late_row)
 
-  framed_rows : DescribesRows bases framed framed_fde
-  framed_rows = record {
-    bodies = λ inner pc h. let lies = in_framed_body pc h in
-        let same = same_row_at bases framed_fde 0x401029 0x401040 pc lies.0 lies.1 (lit≤ tt) (lit≤ tt) reads.stay_body in
-        (run_of in_framed, same ∙ reads.at_body, body_row);
-    prologue = λ inner pc from below. elim (cases_lt pc 0x401021) [
-      | inl lt ↦ at_framed pc from lt
-      | inr ge ↦ elim (cases_lt pc 0x401024) [ inl lt ↦ at_pushed pc ge lt | inr ge ↦ elim (cases_lt pc 0x401025) [ inl lt ↦ at_set pc ge lt | inr ge ↦ at_late pc ge below ] ]
-    ];
-    outermost = λ outer pc h. absurd cc;
-  }
+framed_rows : DescribesRows bases framed framed_fde
+framed_rows = record {
+  bodies = λ inner pc h. let lies = in_framed_body pc h in
+      let same = same_row_at bases framed_fde 0x401029 0x401040 pc lies.0 lies.1 (lit≤ tt) (lit≤ tt) reads.stay_body in
+      (run_of in_framed, same ∙ reads.at_body, body_row);
+  prologue = λ inner pc from below. elim (cases_lt pc 0x401021) [
+    | inl lt ↦ at_framed pc from lt
+    | inr ge ↦ elim (cases_lt pc 0x401024) [ inl lt ↦ at_pushed pc ge lt | inr ge ↦ elim (cases_lt pc 0x401025) [ inl lt ↦ at_set pc ge lt | inr ge ↦ at_late pc ge below ] ]
+  ];
+  outermost = λ outer pc h. absurd cc;
+}
 
-  emitted_cie : IsEmittedCie image cie
-  emitted_cie = record { version = refl; code_factor = refl; data_factor = refl; return_column = refl; augmentation = inl refl; address = refl; language = inl refl; personality = tt; program = (2, refl) }
+emitted_cie : IsEmittedCie image cie
+emitted_cie = record { version = refl; code_factor = refl; data_factor = refl; return_column = refl; augmentation = inl refl; address = refl; language = inl refl; personality = tt; program = (2, refl) }
 
-  each_fde : (P : Fde → Type 0) → P storing_fde → P framed_fde → (f : Fde) → Contains (storing_fde ∷ framed_fde ∷ []) f → P f
-  each_fde P a b f h = elim (here_or_later storing_fde (framed_fde ∷ []) f h) [
-    | inl e ↦ subst P e a
-    | inr h2 ↦ elim (here_or_later framed_fde [] f h2) [ inl e ↦ subst P e b | inr none ↦ absurd (none_in_nil f none) ]
-  ]
+each_fde : (P : Fde → Type 0) → P storing_fde → P framed_fde → (f : Fde) → Contains (storing_fde ∷ framed_fde ∷ []) f → P f
+each_fde P a b f h = elim (here_or_later storing_fde (framed_fde ∷ []) f h) [
+  | inl e ↦ subst P e a
+  | inr h2 ↦ elim (here_or_later framed_fde [] f h2) [ inl e ↦ subst P e b | inr none ↦ absurd (none_in_nil f none) ]
+]
 
-  frames_described : DescribesFrames image bases table entries functions
-  frames_described = record {
-    reads = reads.listed;
-    lengths = ((20, _, refl, lit< tt), ((20, _, refl, lit< tt), ((28, _, refl, lit< tt), tt)));
-    each = (
-      record { fde = storing_fde; one = refl; describes = record { code = record { cie = emitted_cie; earlier = lit< tt; start = refl; end = refl; rows = storing_rows }; language = refl } },
-      (record { fde = framed_fde; one = refl; describes = record { code = record { cie = emitted_cie; earlier = lit< tt; start = refl; end = refl; rows = framed_rows }; language = refl } }, tt),
-    );
-    foreign = each_fde (λ fde. IsFalse (list_any (λ f. has_range_of f fde) functions) → AllByRecursion (MeetsNot fde) functions) (λ none. absurd cc) (λ none. absurd cc);
-  }
+frames_described : DescribesFrames image bases table entries functions
+frames_described = record {
+  reads = reads.listed;
+  lengths = ((20, _, refl, lit< tt), ((20, _, refl, lit< tt), ((28, _, refl, lit< tt), tt)));
+  each = (
+    record { fde = storing_fde; one = refl; describes = record { code = record { cie = emitted_cie; earlier = lit< tt; start = refl; end = refl; rows = storing_rows }; language = refl } },
+    (record { fde = framed_fde; one = refl; describes = record { code = record { cie = emitted_cie; earlier = lit< tt; start = refl; end = refl; rows = framed_rows }; language = refl } }, tt),
+  );
+  foreign = each_fde (λ fde. IsFalse (list_any (λ f. has_range_of f fde) functions) → AllByRecursion (MeetsNot fde) functions) (λ none. absurd cc) (λ none. absurd cc);
+}
 
-  module_described : DescribesModule image module_of_them functions
-  module_described = record {
-    frame = 0x500000;
-    address = refl;
-    entries = entries;
-    frames = frames_described;
-    nonempty = (lit< tt, (lit< tt, tt));
-    apart = pairs_two DescriptionsApart storing_fde framed_fde (inl (lit≤ tt));
-    inside = ((lit≤ tt, lit≤ tt), ((lit≤ tt, lit≤ tt), tt));
-    header = tt;
-  }
+module_described : DescribesModule image module_of_them functions
+module_described = record {
+  frame = 0x500000;
+  address = refl;
+  entries = entries;
+  frames = frames_described;
+  nonempty = (lit< tt, (lit< tt, tt));
+  apart = pairs_two DescriptionsApart storing_fde framed_fde (inl (lit≤ tt));
+  inside = ((lit≤ tt, lit≤ tt), ((lit≤ tt, lit≤ tt), tt));
+  header = tt;
+}
 
 -- ---- the functions and the calls
 storing_function : IsFunction SystemV storing
@@ -301,10 +280,10 @@ framed_entered = record {
 words : (ra sp rbx rbp r12 : ℕ) → ra < 2 ^ 64 → sp < 2 ^ 64 → rbx < 2 ^ 64 → rbp < 2 ^ 64 → r12 < 2 ^ 64 → IsState (state ra sp rbx rbp r12)
 words ra sp rbx rbp r12 a b c d e = state_fits (state ra sp rbx rbp r12) a b c d e (lit< tt) (lit< tt) (lit< tt)
 
-pub pointed_valid : Reads → IsValid process (columns_of start) [] functions start calls
-pointed_valid reads = record {
+pub pointed_valid : IsValid process (columns_of start) [] functions start calls
+pointed_valid = record {
   are_functions = (storing_function, (framed_function, tt));
-  modules = (module_described reads, tt);
+  modules = (module_described, tt);
   no_others = (refl, (refl, tt));
   shows = columns_show start;
   chain = (

@@ -2,11 +2,11 @@
 //! in a contract here is proved.
 //!
 //! `numbers` says which bytes a number is read from, `rows` how a row is read and what it undoes, `tables` what is found in a described module,
-//! `chains` what a described chain determines, `forms` which forms of call frame bytes the readers take at least, and `samples` shows processes that are valid.
+//! `chains` what a described chain determines, `entries` which entries are read, and `samples` shows processes that are valid.
 #![tactic(auto)]
 
 mod chains;
-mod forms;
+mod entries;
 mod numbers;
 mod rows;
 mod samples;
@@ -16,7 +16,7 @@ pub use chains::{
     call_is_undone, chain_is_one, chain_is_walked, delivery_is_one, part_of_a_call_is_undone,
     slots_lie_in_the_frame, stack_pointers_rise, valid_chain_is_described,
 };
-pub use forms::{emitted_entries_are_spelled, emitted_forms_are_read};
+pub use entries::{emitted_augmentations_are_known, entries_are_spelled};
 pub use numbers::{
     relative_pointer_is_spelled, signed_number_is_spelled, unsigned_number_is_spelled,
 };

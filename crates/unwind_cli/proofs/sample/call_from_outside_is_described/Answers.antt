@@ -1,7 +1,7 @@
 use Rattle.std.proofs.Common.{[], ◌∷◌, refl, arith}
 use Rattle.std.specs.Fmt.{digits}
 use Rattle.unwind_laws.specs.Three as three
-use Rattle.unwind_laws.proofs.ThreeReads.{first_read}
+use Rattle.unwind_laws.proofs.ThreeStacks.{first_valid}
 use Rattle.stack_report.specs.Digits.{hexadecimal}
 use Rattle.stack_report.specs.Report.{state_fields, state_line, pad_line, handler_line}
 use Rattle.unwind_cli.specs.Caught as caught
@@ -9,7 +9,7 @@ use Rattle.unwind_cli.proofs.Samples.{described, shows_start}
 use Rattle.unwind_cli.proofs.sample.call_from_outside_is_described.Goals as goal
 
 pub returns-clause-described : goal.returns-clause-described
-returns-clause-described c = described caught.first (three.fa ∷ []) three.start (three.first_call ∷ []) _ (refl, tt) first_read shows_start (omega arith)
+returns-clause-described c = described caught.first (three.fa ∷ []) three.start (three.first_call ∷ []) _ (refl, tt) first_valid shows_start (omega arith)
 
 pub returns-clause-written : goal.returns-clause-written
 unfolding digits hexadecimal state_fields state_line pad_line handler_line

@@ -1,7 +1,7 @@
 use Rattle.std.proofs.Common.{[], ◌∷◌, refl, arith}
 use Rattle.std.specs.Fmt.{digits}
 use Rattle.unwind_laws.specs.Three as three
-use Rattle.unwind_laws.proofs.ThreeReads.{deep_read}
+use Rattle.unwind_laws.proofs.ThreeStacks.{deep_valid}
 use Rattle.stack_report.specs.Digits.{hexadecimal}
 use Rattle.stack_report.specs.Report.{state_fields, state_line, pad_line, handler_line}
 use Rattle.unwind_cli.specs.Caught as caught
@@ -9,7 +9,7 @@ use Rattle.unwind_cli.proofs.Samples.{described, shows_deep}
 use Rattle.unwind_cli.proofs.sample.three_cleanups_are_described.Goals as goal
 
 pub returns-clause-described : goal.returns-clause-described
-returns-clause-described c = described caught.deep three.functions three.deep_start three.deep_calls _ (refl, tt) deep_read shows_deep (omega arith)
+returns-clause-described c = described caught.deep three.functions three.deep_start three.deep_calls _ (refl, tt) deep_valid shows_deep (omega arith)
 
 pub returns-clause-written : goal.returns-clause-written
 unfolding digits hexadecimal state_fields state_line pad_line handler_line

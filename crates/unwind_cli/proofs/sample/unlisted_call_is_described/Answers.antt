@@ -1,7 +1,7 @@
 use Rattle.std.proofs.Common.{[], ◌∷◌, refl, arith}
 use Rattle.std.specs.Fmt.{digits}
 use Rattle.unwind_laws.specs.Three as three
-use Rattle.unwind_laws.proofs.ThreeReads.{unlisted_read}
+use Rattle.unwind_laws.proofs.ThreeValid.{unlisted_valid}
 use Rattle.stack_report.specs.Digits.{hexadecimal}
 use Rattle.stack_report.specs.Report.{state_fields, state_line, pad_line, handler_line}
 use Rattle.unwind_cli.specs.Caught as caught
@@ -9,7 +9,7 @@ use Rattle.unwind_cli.proofs.Samples.{described, shows_start}
 use Rattle.unwind_cli.proofs.sample.unlisted_call_is_described.Goals as goal
 
 pub returns-clause-described : goal.returns-clause-described
-returns-clause-described c = described caught.unlisted three.functions three.start three.unlisted_calls _ (refl, tt) unlisted_read shows_start (omega arith)
+returns-clause-described c = described caught.unlisted three.functions three.start three.unlisted_calls _ (refl, tt) unlisted_valid shows_start (omega arith)
 
 pub returns-clause-written : goal.returns-clause-written
 unfolding digits hexadecimal state_fields state_line pad_line handler_line

@@ -2,11 +2,11 @@ use Rattle.std.proofs.Common.{lit<, lit≤}
 use Rattle.unwind_definitions.specs.Module.{AreApart}
 use Rattle.unwind_laws.specs.Three.{module_of_first}
 use Rattle.unwind_laws.proofs.Booleans.{pairs_one}
-use Rattle.unwind_laws.proofs.ThreeReads.{first_read}
+use Rattle.unwind_laws.proofs.ThreeStacks.{first_valid}
 use Rattle.unwind_laws.proofs.samples.call_from_outside_is_valid.Goals as goal
 
 pub returns-clause-process : goal.returns-clause-process
 returns-clause-process c = record { regions = (lit≤ tt, lit< tt, lit≤ tt, (lit≤ tt, lit< tt, lit≤ tt, (lit≤ tt, lit< tt, lit≤ tt, (lit≤ tt, lit< tt, lit≤ tt, tt)))); ranges = ((lit< tt, lit< tt), tt); apart = pairs_one AreApart module_of_first }
 
-pub returns-clause-emitted : goal.returns-clause-emitted
-returns-clause-emitted c = first_read
+pub returns-clause-valid : goal.returns-clause-valid
+returns-clause-valid c = first_valid

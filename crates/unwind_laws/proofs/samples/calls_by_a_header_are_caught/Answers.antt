@@ -4,5 +4,5 @@ use Rattle.unwind_laws.proofs.samples.calls_by_a_header_are_caught.Goals as goal
 pub returns-clause-process : goal.returns-clause-process
 returns-clause-process c = three_header_process
 
-pub returns-clause-whole : goal.returns-clause-whole
-returns-clause-whole c = header_valid
+pub returns-clause-valid : goal.returns-clause-valid
+returns-clause-valid c = header_valid

@@ -1,54 +1,28 @@
--- Three functions with language tables: the forms that are read give the same for their tables as all forms do. So calls of
--- them are valid by these forms too, in one module and in two, over several stacks.
-use Rattle.std.proofs.Common.{◌≡◌, ℕ, ◌-◌, ◌^◌, ◌<◌, List, [], ◌∷◌, None, false, refl, sym, subst, ◌∙◌, inl, inr, lit<, lit≤}
+-- Three functions with language tables: calls of them are valid in two modules too, from outside of all modules, and over
+-- a deeper stack.
+use Rattle.std.proofs.Common.{◌≡◌, ℕ, ◌-◌, ◌^◌, ◌<◌, List, [], ◌∷◌, None, false, refl, sym, subst, inl, inr, lit<, lit≤}
 use Rattle.std.specs.Prelude.{IsFalse, IsTrue}
 use Rattle.std.specs.List.{Contains, AllByRecursion, list_any}
 use Rattle.memory_image.specs.Image.{Span, word_at}
 use Rattle.unwind_definitions.specs.Input.{Input}
 use Rattle.unwind_definitions.specs.Pointers.{Bases}
-use Rattle.unwind_definitions.specs.Instructions.{instruction_of}
 use Rattle.unwind_definitions.specs.Entries.{Fde, AreEntries, entry_at}
-use Rattle.unwind_definitions.specs.Row.{row_at}
 use Rattle.unwind_definitions.specs.State.{State, value_of}
 use Rattle.unwind_definitions.specs.Prologue.{steps_of, distance}
 use Rattle.unwind_definitions.specs.Entered.{IsEntered}
 use Rattle.unwind_definitions.specs.Function.{Function}
 use Rattle.unwind_definitions.specs.LanguageTable.{input_at, IsLanguageTable}
-use Rattle.unwind_definitions.specs.DescribedRows.{DescribesRows}
 use Rattle.unwind_definitions.specs.FrameTable.{IsEmittedCie, HasDescription, DescribesFrames, HasShortLength, MeetsNot, has_range_of}
 use Rattle.unwind_definitions.specs.Module.{Module, bases_of, in_module, DescribesModule, IsUncovered}
 use Rattle.unwind_definitions.specs.Chain.{Call, IsLink, IsChain}
 use Rattle.unwind_definitions.specs.Valid.{IsValid}
 use Rattle.unwind_laws.specs.Columns.{columns_of}
-use Rattle.unwind_laws.specs.Three.{image, table, cie_language, fde_a, fde_b, fde_c, fa, fb, fc, functions, entries, module_of_them, process, start, second, third, last, calls, resumes, unlisted_process, unlisted_calls, module_of_first, module_of_others, process_of_two, process_of_first, first_call, deep_image, deep_process, deep_start, deep_second, deep_calls}
+use Rattle.unwind_laws.specs.Three.{image, table, cie_language, fde_a, fde_b, fde_c, fa, fb, fc, functions, entries, module_of_them, start, second, third, last, calls, resumes, module_of_first, module_of_others, process_of_two, process_of_first, first_call, deep_image, deep_process, deep_start, deep_second, deep_calls}
 use Rattle.unwind_laws.proofs.Booleans.{here_or_later, none_in_nil}
 use Rattle.unwind_laws.proofs.RowFacts.{by_register}
 use Rattle.unwind_laws.proofs.PushingValid.{columns_show}
 use Rattle.unwind_laws.proofs.ThreeRows.{rows_a, rows_b, rows_c}
-use Rattle.unwind_laws.proofs.ThreeValid.{sites_b, sites_c, function_a, function_b, function_c, emitted_plain, emitted_language, language_b, language_c, pairs_three, each_fde, words, entered_a, listed_word, listed_chain, unlisted_chain}
-
--- a description has the same rows by both
-abbrev HasSameRows : Bases → Fde → Type 0
-HasSameRows bases fde = (pc : ℕ) → row_at bases fde pc ≡ row_at bases fde pc
-
-rows_read : (bases : Bases) (f : Function) (fde : Fde) → HasSameRows bases fde → DescribesRows bases f fde → DescribesRows bases f fde
-rows_read bases f fde same rows = record {
-  bodies = λ inner pc h. let r = rows.bodies inner pc h in (r.0, same pc ∙ r.1, r.2);
-  prologue = λ inner pc from below. let r = rows.prologue inner pc from below in (r.0, same pc ∙ r.1, r.2);
-  outermost = λ outer pc h. let r = rows.outermost outer pc h in (r.0, same pc ∙ r.1, r.2);
-}
-
-rows_a_read : (bases : Bases) → HasSameRows bases fde_a
-unfolding row_at instruction_of
-rows_a_read bases pc = refl
-
-rows_b_read : (bases : Bases) → HasSameRows bases fde_b
-unfolding row_at instruction_of
-rows_b_read bases pc = refl
-
-rows_c_read : (bases : Bases) → HasSameRows bases fde_c
-unfolding row_at instruction_of
-rows_c_read bases pc = refl
+use Rattle.unwind_laws.proofs.ThreeValid.{sites_b, sites_c, function_a, function_b, function_c, emitted_plain, emitted_language, language_b, language_c, pairs_three, each_fde, words, entered_a, listed_word, listed_chain}
 
 abbrev bases : Bases
 bases = bases_of module_of_them 0x500000
@@ -92,13 +66,13 @@ MeetsNone fs fde = IsFalse (list_any (λ f. has_range_of f fde) fs) → AllByRec
 
 module _ (memory : List Span) (holds : HoldsTables memory) where
   has_a : HasDescription memory bases fdes fa
-  has_a = record { fde = fde_a; one = refl; describes = record { code = record { cie = emitted_plain memory; earlier = lit< tt; start = refl; end = refl; rows = rows_read bases fa fde_a (rows_a_read bases) (rows_a bases) }; language = refl } }
+  has_a = record { fde = fde_a; one = refl; describes = record { code = record { cie = emitted_plain memory; earlier = lit< tt; start = refl; end = refl; rows = rows_a bases }; language = refl } }
 
   has_b : HasDescription memory bases fdes fb
-  has_b = record { fde = fde_b; one = refl; describes = record { code = record { cie = holds.cie; earlier = lit< tt; start = refl; end = refl; rows = rows_read bases fb fde_b (rows_b_read bases) (rows_b bases) }; language = (sites_b, refl, holds.second) } }
+  has_b = record { fde = fde_b; one = refl; describes = record { code = record { cie = holds.cie; earlier = lit< tt; start = refl; end = refl; rows = rows_b bases }; language = (sites_b, refl, holds.second) } }
 
   has_c : HasDescription memory bases fdes fc
-  has_c = record { fde = fde_c; one = refl; describes = record { code = record { cie = holds.cie; earlier = lit< tt; start = refl; end = refl; rows = rows_read bases fc fde_c (rows_c_read bases) (rows_c bases) }; language = (sites_c, refl, holds.third) } }
+  has_c = record { fde = fde_c; one = refl; describes = record { code = record { cie = holds.cie; earlier = lit< tt; start = refl; end = refl; rows = rows_c bases }; language = (sites_c, refl, holds.third) } }
 
   frames_of : (fs : List Function) → AllByRecursion (HasDescription memory bases fdes) fs → AreForeign fs → DescribesFrames memory bases (input_at memory 0x500000) entries fs
   frames_of fs each foreign = let P : Input → Type 0 = λ t. DescribesFrames memory bases t entries fs in
@@ -142,31 +116,9 @@ module _ (memory : List Span) (holds : HoldsTables memory) where
 
 -- ---- calls over the first stack
 
--- an exception in these calls is caught
-pub caught_read : IsValid process (columns_of start) resumes functions start calls
-caught_read = record {
-  are_functions = (function_a, (function_b, (function_c, tt)));
-  modules = (all_described (image 0x60 []) (holds_image 0x60), tt);
-  no_others = (refl, (refl, (refl, tt)));
-  shows = columns_show start;
-  chain = listed_chain [] (IsUncovered process);
-  resumed = λ f found accepted. (tt, ((λ e. absurd cc, refl, refl), tt));
-}
-
--- in these it ends the program
-pub unlisted_read : IsValid unlisted_process (columns_of start) resumes functions start unlisted_calls
-unlisted_read = record {
-  are_functions = (function_a, (function_b, (function_c, tt)));
-  modules = (all_described (image 0x70 []) (holds_image 0x70), tt);
-  no_others = (refl, (refl, (refl, tt)));
-  shows = columns_show start;
-  chain = unlisted_chain [] (IsUncovered unlisted_process);
-  resumed = λ f found accepted. (tt, ((λ e. absurd cc, refl, refl), tt));
-}
-
 -- the functions lie in two modules
-pub two_read : IsValid process_of_two (columns_of start) resumes functions start calls
-two_read = record {
+pub two_valid : IsValid process_of_two (columns_of start) resumes functions start calls
+two_valid = record {
   are_functions = (function_a, (function_b, (function_c, tt)));
   modules = (first_described (image 0x60 []) (holds_image 0x60), (others_described (image 0x60 []) (holds_image 0x60), tt));
   no_others = (refl, (refl, (refl, tt)));
@@ -182,8 +134,8 @@ outside m has inside = elim (here_or_later module_of_first [] m has) [
   | inr none ↦ absurd (none_in_nil m none)
 ]
 
-pub first_read : IsValid process_of_first (columns_of start) [] (fa ∷ []) start (first_call ∷ [])
-first_read = record {
+pub first_valid : IsValid process_of_first (columns_of start) [] (fa ∷ []) start (first_call ∷ [])
+first_valid = record {
   are_functions = (function_a, tt);
   modules = (first_described (image 0x60 []) (holds_image 0x60), tt);
   no_others = (refl, tt);
@@ -269,8 +221,8 @@ deep_chain = (
 )
 
 -- the cleanup of the second function runs three times
-pub deep_read : IsValid deep_process (columns_of deep_start) resumes functions deep_start deep_calls
-deep_read = record {
+pub deep_valid : IsValid deep_process (columns_of deep_start) resumes functions deep_start deep_calls
+deep_valid = record {
   are_functions = (function_a, (function_b, (function_c, tt)));
   modules = (all_described deep_image holds_deep, tt);
   no_others = (refl, (refl, (refl, tt)));
