@@ -1,5 +1,5 @@
 -- What a header is where its parts read, one behind the other, and the fault of the first that doesn't.
-use Rattle.std.proofs.Common.{◌≡◌, ℕ, List, Result, Ok, Err, refl, sym, ap, ◌∙◌}
+use Rattle.std.proofs.Common.{◌≡◌, ℕ, List, Result, Ok, Err, sym, ap, ◌∙◌}
 use Rattle.std.specs.Prelude.{◌==◌}
 use Rattle.std.specs.Int.{w8}
 use Rattle.unwind_definitions.specs.declared.error.Error.{Error as Fault}

@@ -2,13 +2,13 @@
 use Rattle.std.proofs.Common.{◌≡◌, ℕ, Bool, true, false, cond, Option, Some, None, Result, Ok, Err, refl, sym, ap, subst, ◌∙◌, inl, inr}
 use Rattle.std.specs.Prelude.{◌≢◌, ◌⊎◌, IfOk, IfErr}
 use Rattle.unwind_definitions.specs.declared.error.Error.{Error as Fault}
-use Rattle.unwind_definitions.specs.declared.error.Error.TheVariants.{UnexpectedEof, NoUnwindInfoForAddress}
+use Rattle.unwind_definitions.specs.declared.error.Error.TheVariants.{NoUnwindInfoForAddress}
 use Rattle.unwind_definitions.specs.Faults.{◌>>=◌}
 use Rattle.unwind_definitions.specs.Input.{Input}
 use Rattle.unwind_definitions.specs.Pointers.{Bases}
 use Rattle.unwind_definitions.specs.Entries.{Fde}
 use Rattle.unwind_definitions.specs.Row.{covers_pc}
-use Rattle.unwind_definitions.specs.Header.{PairTable, pair_at}
+use Rattle.unwind_definitions.specs.Header.{PairTable}
 use Rattle.unwind_definitions.specs.HeaderSearch.{IsBoundary, StartsAbove, IsUnreadablePair, Finds, fde_at_address, containing, found_by, table_answer, IsTableAnswer, IsNamed, IsNamedElsewhere, IsUnreadableNamed}
 use Rattle.unwind_definitions.specs.HeaderSearchLaws.{table_answer-is}
 use Rattle.encoded_pointers.specs.Readers.{Answers}

@@ -3,12 +3,12 @@ use Rattle.std.proofs.Common.{◌≡◌, ℕ, ◌+◌, ◌-◌, ◌^◌, Bool, t
 use Rattle.std.specs.Prelude.{IfOk, nat_lt, nat_le, ◌==◌}
 use Rattle.std.specs.Int.{w8, w32}
 use Rattle.unwind_definitions.specs.declared.error.Error.{Error as Fault}
-use Rattle.unwind_definitions.specs.declared.error.Error.TheVariants.{NotCie, UnknownVersion, UnknownAugmentation, UnsupportedPointerEncoding, AddressOverflow}
+use Rattle.unwind_definitions.specs.declared.error.Error.TheVariants.{NotCie, UnknownVersion, UnknownAugmentation, AddressOverflow}
 use Rattle.unwind_definitions.specs.Faults.{◌>>=◌, unless}
 use Rattle.unwind_definitions.specs.Input.{Input, skip, number, uleb, sleb, text}
 use Rattle.unwind_definitions.specs.Augmentation.{is_version, is_augmentation}
 use Rattle.unwind_definitions.specs.Pointers.{Bases, direct, value, format_of}
-use Rattle.unwind_definitions.specs.Entries.{Cie, Fde, Entry, ACie, AFde, Found, address_encoding, sizes, return_column, augmentation_data, fde_data, body, cie_body, cie_in, cie_at, fde_body, entry_in, found_in, entry_at}
+use Rattle.unwind_definitions.specs.Entries.{Cie, Entry, ACie, AFde, Found, address_encoding, sizes, return_column, augmentation_data, fde_data, body, cie_body, cie_in, cie_at, fde_body, entry_in, found_in, entry_at}
 use Rattle.eh_frame.specs.Shared.{shared, StandsIn}
 
 -- what goes on to a value has one before it

@@ -1,5 +1,5 @@
 use Rattle.encoded_pointers.specs.Pointers.{bases_of}
-use Rattle.std.proofs.Common.{◌≡◌, suc, ◌-◌, length, None, arith, refl, sym, subst, ◌∙◌}
+use Rattle.std.proofs.Common.{◌≡◌, suc, ◌-◌, length, arith, refl, sym, subst, ◌∙◌}
 use Rattle.std.proofs.lemmas.Result.{err_from_is_err_and}
 use Rattle.unwind_definitions.specs.Pointers.{Bases}
 use Rattle.unwind_definitions.specs.Scan.{scan}

@@ -1,6 +1,6 @@
 use Rattle.unwind_definitions.specs.Pointers.{Bases}
 use Rattle.encoded_pointers.specs.Pointers.{bases_of}
-use Rattle.std.proofs.Common.{sym, ◌∙◌, arith}
+use Rattle.std.proofs.Common.{sym, arith}
 use Rattle.std.proofs.lemmas.Result.{err_from_is_err_and}
 use Rattle.eh_frame.proofs.FdeParts.{no_start, no_len, overflows, no_data, whole_fde}
 use Rattle.encoded_pointers.specs.View.{at}

@@ -1,6 +1,6 @@
 use Rattle.std.proofs.Common.{refl, arith}
 use Rattle.frame_rows.proofs.Steps.{step_set}
-use Rattle.frame_rows.proofs.CannotFollow.{goes_on, goes_back}
+use Rattle.frame_rows.proofs.CannotFollow.{goes_on}
 use Rattle.frame_rows.proofs.machine.Machine.set_location.Goals as goal
 
 pub returns : goal.returns
