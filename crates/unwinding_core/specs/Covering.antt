@@ -1,5 +1,5 @@
 -- A description that a search finds contains the address.
-use Rattle.std.proofs.Common.{◌≡◌, ℕ, zero, suc, Bool, true, false, Option, Some, None, Result, Ok, Err, refl, sym, subst, cond}
+use Rattle.std.proofs.Common.{◌≡◌, ℕ, zero, suc, Bool, true, false, Option, Some, None, Result, Ok, Err, refl, subst, cond}
 use Rattle.std.specs.Prelude.{IsTrue, length}
 use Rattle.unwind_definitions.specs.declared.error.Error.{Error as Fault}
 use Rattle.unwind_definitions.specs.Faults.{◌>>=◌}

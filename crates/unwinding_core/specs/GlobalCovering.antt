@@ -1,12 +1,9 @@
 -- A description that any of a program's finders finds contains the address.
-use Rattle.std.proofs.Common.{ℕ, List, Option, Some}
-use Rattle.std.specs.Prelude.{IsTrue}
+use Rattle.std.proofs.Common.{ℕ, List, Option}
 use Rattle.memory_image.specs.Image.{Span}
-use Rattle.unwind_definitions.specs.Row.{covers_pc}
 use Rattle.unwinding_core.specs.declared.find_fde.custom.FrameInfo.{FrameInfo}
 use Rattle.unwinding_core.specs.declared.find_fde.phdr.PhdrObject.{PhdrObject}
 use Rattle.unwinding_core.specs.declared.find_fde.registry.Object.{Object}
-use Rattle.unwinding_core.specs.Finding.{FoundFde}
 use Rattle.unwinding_core.specs.HeaderCovering.{named_contains, placed_contains, placed_header_contains}
 use Rattle.unwinding_core.specs.InTurn.{OrElse, FindsAmong}
 use Rattle.unwinding_core.specs.Named.{FindsBy}

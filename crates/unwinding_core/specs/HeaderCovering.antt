@@ -16,7 +16,7 @@ use Rattle.unwind_definitions.specs.HeaderSearch.{boundary_in, containing, fde_a
 use Rattle.unwinding_core.specs.declared.find_fde.custom.FrameInfo.{FrameInfo}
 use Rattle.unwinding_core.specs.declared.find_fde.custom.FrameInfoKind.{FrameInfoKind}
 use Rattle.unwinding_core.specs.declared.find_fde.custom.FrameInfoKind.TheVariants.{EhFrame, EhFrameHdr}
-use Rattle.unwinding_core.specs.Finding.{FoundFde, at_frame, relative_to, scanned, scanned_by, scanned_in, table_bases}
+use Rattle.unwinding_core.specs.Finding.{FoundFde, at_frame, relative_to, scanned, table_bases}
 use Rattle.unwinding_core.specs.HeaderFinding.{Led, at_header, by_led, by_table, found_by_header, led, or_scanned}
 use Rattle.unwinding_core.specs.Named.{found_by_kind, found_named, FindsBy}
 use Rattle.unwinding_core.specs.Placed.{Placed, in_text, FindsPlaced, FindsByPlacedHeader}

@@ -9,7 +9,7 @@ use Rattle.unwind_definitions.specs.Pointers.{Bases, Pointer, Direct, Indirect}
 use Rattle.unwind_definitions.specs.Entries.{Fde}
 use Rattle.unwind_definitions.specs.Header.{FrameHeader, PairTable, header, table_in}
 use Rattle.unwind_definitions.specs.HeaderSearch.{table_answer}
-use Rattle.unwinding_core.specs.Finding.{FoundFde, at_frame, found_in, scanned_in}
+use Rattle.unwinding_core.specs.Finding.{FoundFde, at_frame, scanned_in}
 
 -- what a header's pointers may be relative to: what is known, and the header
 abbrev pub at_header : Bases → ℕ → Bases

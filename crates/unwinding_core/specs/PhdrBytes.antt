@@ -1,5 +1,5 @@
 -- The laws of program headers and of dynamic entries: equal ones have equal bytes.
-use Rattle.std.proofs.Common.{◌≡◌, ℕ, ◌+◌, ◌≤◌, List, length, drop, ap, sym, subst, ◌∙◌, lit≤}
+use Rattle.std.proofs.Common.{◌≡◌, ℕ, ◌≤◌, List, length, drop, ap, sym, subst, ◌∙◌, lit≤}
 use Rattle.memory_image.specs.Words.{AreBytes, same_from_u32_at, same_from_u64_at, same_end}
 use Rattle.unwinding_core.specs.declared.find_fde.phdr.Phdr.{Phdr}
 use Rattle.unwinding_core.specs.declared.find_fde.phdr.DynamicEntry.{DynamicEntry}

@@ -1,9 +1,8 @@
 -- A description that a registry finds contains the address.
-use Rattle.std.proofs.Common.{◌≡◌, ℕ, ◌+◌, ◌*◌, Bool, true, false, List, length, Option, Some, None, sym}
+use Rattle.std.proofs.Common.{ℕ, Bool, true, false, List, Some, sym}
 use Rattle.std.specs.Prelude.{IsTrue}
 use Rattle.memory_image.specs.Image.{Span}
 use Rattle.unwind_definitions.specs.LanguageTable.{input_at}
-use Rattle.unwind_definitions.specs.Pointers.{Bases}
 use Rattle.unwind_definitions.specs.Row.{covers_pc}
 use Rattle.unwinding_core.specs.declared.find_fde.registry.Object.{Object}
 use Rattle.unwinding_core.specs.Finding.{FoundFde, at_frame}

@@ -1,5 +1,5 @@
 -- Which program header is looked for.
-use Rattle.std.specs.Prelude.{ℕ, Bool}
+use Rattle.std.specs.Prelude.{Bool}
 use Rattle.unwinding_core.specs.declared.find_fde.phdr.Phdr.{Phdr}
 use Rattle.unwinding_core.specs.declared.find_fde.phdr.Sought.{Sought}
 use Rattle.unwinding_core.specs.declared.find_fde.phdr.Sought.TheVariants.{OfType, Text}

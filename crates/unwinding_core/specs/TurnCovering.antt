@@ -1,5 +1,5 @@
 -- A description that one of several finders finds contains the address.
-use Rattle.std.proofs.Common.{◌≡◌, ℕ, List, [], ◌∷◌, Option, Some, None, refl, sym, subst}
+use Rattle.std.proofs.Common.{◌≡◌, ℕ, List, [], ◌∷◌, Option, Some, None, sym, subst}
 use Rattle.std.specs.Prelude.{IsTrue}
 use Rattle.memory_image.specs.Image.{Span}
 use Rattle.unwind_definitions.specs.Row.{covers_pc}

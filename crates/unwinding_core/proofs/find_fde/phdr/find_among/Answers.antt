@@ -1,4 +1,3 @@
-use Rattle.std.proofs.Common.{arith}
 use Rattle.unwinding_core.specs.Answered.{answered}
 use Rattle.unwinding_core.specs.ProgramHeaders.{FindsInObject}
 use Rattle.unwinding_core.proofs.InTurn.{passed, found, ended}

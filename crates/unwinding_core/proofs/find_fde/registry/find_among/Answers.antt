@@ -1,4 +1,4 @@
-use Rattle.std.proofs.Common.{◌≡◌, ℕ, ◌<◌, length, arith, refl, sym, subst, Some}
+use Rattle.std.proofs.Common.{◌≡◌, ℕ, ◌<◌, length, arith, refl, subst, Some}
 use Rattle.unwinding_core.specs.Answered.{answered}
 use Rattle.unwinding_core.specs.InTurn.{FindsAmong}
 use Rattle.unwinding_core.specs.Registered.{FindsRegistered}

@@ -1,7 +1,7 @@
 use Rattle.std.proofs.Common.{ℕ, ◌+◌, ◌^◌, ◌<◌, ◌≤◌, sym, subst, arith}
 use Rattle.encoded_pointers.specs.Pointers.{bases_of}
 use Rattle.unwinding_core.specs.Answered.{answered}
-use Rattle.unwinding_core.proofs.Listed.{IsPast, begun, passed, found, ends_behind, ends_at_zero, ends_unmapped}
+use Rattle.unwinding_core.proofs.Listed.{IsPast, begun, passed, found, ends_behind}
 use Rattle.unwinding_core.proofs.find_fde.registry.find_listed.Goals as goal
 
 pub loop-table-init : goal.loop-table-init
