@@ -33,7 +33,7 @@ use Rattle.unwind_arch.specs.Contexts.{columns_of}
 use Rattle.stack_deliver.specs.Modules.{SpaceValue, module_at}
 use Rattle.std.specs.Result.{result_map_both}
 use Rattle.stack_deliver.specs.declared.delivery.Stepped.{Stepped}
-use Rattle.stack_deliver.specs.Stepping.{FrameAt, frame_with, next_with, frame_by, frame_in, frame_of, caller_by, refusal_of, step_of, FindsNone, IsUncovered, EndsAt, RowFaults, FaultsAt, ExpressionReadsUnmapped, CfaReadsUnmapped, RuleReadsUnmapped, ColumnReadsUnmapped, ReadsUnmapped, ReadIsUnmapped}
+use Rattle.stack_deliver.specs.Stepping.{FrameAt, frame_with, next_with, frame_by, frame_in, frame_of, caller_by, refusal_of, step_of, FindsNone, IsUncovered, EndsAt, RowFaults, FaultsAt, ExpressionReadsUnmapped, CfaReadsUnmapped, RuleReadsUnmapped, ColumnReadsUnmapped, ReadsUnmapped, ReadIsUnmapped, GivesCaller}
 use Rattle.unwinding_core.proofs.Callers.{HasValue, first_fault_below-lowest}
 use Rattle.stack_deliver.proofs.StepParts.{some_next, stepped_by, step_is, none_framed}
 
@@ -326,6 +326,29 @@ fails_parts image c (Ok (Some f)) e is = inr (f, refl, go (caller_by image c f) 
     go (Err x) h = cc
 fails_parts image c (Err x) e is = inl cc
 
+-- a step goes on to the caller of a frame
+goes_parts : (image : List Span) (c : Context) (r : Result (Option FrameAt) DeliverError) (next : Stepped) → stepped_by image c r ≡ Ok (Some next) → (f : FrameAt) × (r ≡ Ok (Some f)) × (caller_by image c f ≡ Ok next)
+goes_parts image c (Ok None) next is = absurd cc
+goes_parts image c (Ok (Some f)) next is = (f, refl, go (caller_by image c f) is)
+  where
+    go : (r : Result Stepped DeliverError) → some_next r ≡ Ok (Some next) → r ≡ Ok next
+    go (Ok n) h = cc
+    go (Err x) h = absurd cc
+goes_parts image c (Err x) next is = absurd cc
+
+-- the columns of that caller
+pub record Goes (image : List Span) (c : Context) (f : FrameAt) (next : Stepped) : Type 0 where
+  pub columns : calls.Columns
+  pub caller : calls.caller_of calls.x86_64 (evaluation image) image (columns_of c) f.run ≡ Ok columns
+  pub is : next ≡ next_with f.found.fde.cie.letters.signal columns
+
+caller_goes : (image : List Span) (c : Context) (f : FrameAt) (next : Stepped) → caller_by image c f ≡ Ok next → Goes image c f next
+caller_goes image c f next e = go (calls.caller_of calls.x86_64 (evaluation image) image (columns_of c) f.run) refl e
+  where
+    go : (r : Result calls.Columns calls.StepFault) → calls.caller_of calls.x86_64 (evaluation image) image (columns_of c) f.run ≡ r → result_map_both (next_with f.found.fde.cie.letters.signal) refusal_of r ≡ Ok next → Goes image c f next
+    go (Ok columns) caller h = record { columns = columns; caller = caller; is = cc }
+    go (Err x) caller h = absurd cc
+
 module _ (space : SpaceValue) (c : Context) (interrupted : Bool) where
   abbrev at_call : ℕ
   at_call = address_of_call c.ra interrupted
@@ -408,3 +431,28 @@ module _ (space : SpaceValue) (c : Context) (interrupted : Bool) where
       go : (r : Result Run Fault) → row_at emitted faults.found.bases faults.found.fde at_call ≡ r → RowFaults space.image c r e → step_of space c interrupted ≡ Err (Table e)
       go (Ok run) row fault = step_is space c interrupted ∙ ap (stepped_by space.image c) (by (Ok run) row) ∙ rw fault refl
       go (Err x) row fault = step_is space c interrupted ∙ ap (stepped_by space.image c) (by (Err x) row) ∙ rw fault refl
+
+  -- a step answers the caller that a row gives, and nothing else
+  pub step_caller : (next : Stepped) → step_of space c interrupted ≡ Ok (Some next) → GivesCaller space c interrupted next
+  step_caller next is =
+      let at = goes_parts space.image c here next (sym (step_is space c interrupted) ∙ is) in
+      let held = held_in (Ok (Some at.0)) (λ h. absurd cc) at.1 in
+      let row = with_row at_call (found_by held.holder.frame space.image at_call) at.0 held.framed in
+      let goes = caller_goes space.image c at.0 next at.2 in
+      record {
+        returns = held.returns;
+        holder = held.holder;
+        holds = held.holds;
+        found = at.0.found;
+        finds = row.0;
+        run = at.0.run;
+        row = row.1;
+        columns = goes.columns;
+        caller = goes.caller;
+        is = goes.is;
+      }
+
+  pub caller_step : (next : Stepped) → GivesCaller space c interrupted next → step_of space c interrupted ≡ Ok (Some next)
+  caller_step next at =
+      let framed : here ≡ Ok (frame_with at.found at.run) = held_frame (Ok (frame_with at.found at.run)) record { returns = at.returns; holder = at.holder; holds = at.holds; framed = rw (at.finds, at.row) refl } in
+      step_is space c interrupted ∙ ap (stepped_by space.image c) framed ∙ rw (at.caller, at.is) refl

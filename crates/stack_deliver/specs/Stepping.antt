@@ -183,3 +183,17 @@ pub record ReadIsUnmapped (space : SpaceValue) (c : Context) (interrupted : Bool
   pub run : Run
   pub row : row_at emitted found.bases found.fde (address_of_call c.ra interrupted) ≡ Ok run
   pub reads : ReadsUnmapped space.image (columns_of c) run a
+
+-- A description is found for the address asked, and its row there gives the caller, which was interrupted where it stands exactly
+-- where the description is of a signal's frame.
+pub record GivesCaller (space : SpaceValue) (c : Context) (interrupted : Bool) (next : Stepped) : Type 0 where
+  pub returns : c.ra ≢ 0
+  pub holder : Module
+  pub holds : module_at space.modules (address_of_call c.ra interrupted) ≡ Some holder
+  pub found : FoundFde
+  pub finds : found_by holder.frame space.image (address_of_call c.ra interrupted) ≡ Some found
+  pub run : Run
+  pub row : row_at emitted found.bases found.fde (address_of_call c.ra interrupted) ≡ Ok run
+  pub columns : Columns
+  pub caller : caller_of x86_64 (evaluation space.image) space.image (columns_of c) run ≡ Ok columns
+  pub is : next ≡ next_with found.fde.cie.letters.signal columns

@@ -17,7 +17,7 @@ ghost use Rattle.stack_deliver.specs.Modules.{AreApart, contains};
 ghost use Rattle.stack_deliver.specs.Processes.{process_of};
 ghost use Rattle.stack_deliver.specs.Passing.{IsFrameOf, GivesFrameAt};
 ghost use Rattle.stack_deliver.specs.Results.{result_map};
-ghost use Rattle.stack_deliver.specs.Stepping.{FrameAt, frame_by, frame_in, frame_of, caller_by, step_of, pairs_at, EndsAt, FaultsAt, RisesBySearch, ReadIsUnmapped};
+ghost use Rattle.stack_deliver.specs.Stepping.{FrameAt, frame_by, frame_in, frame_of, caller_by, step_of, pairs_at, GivesCaller, EndsAt, FaultsAt, RisesBySearch, ReadIsUnmapped};
 ghost use Rattle.stack_deliver.specs.Walking.{HaveFrameTables, IsDescribedCall, Undone};
 
 use crate::delivery::{DeliverError, Stepped};
@@ -167,6 +167,7 @@ pub fn step<L: Ledger>(
     steps: &mut Steps<L>,
 ) -> Result<Option<Stepped>, DeliverError>
     ensures exact { result ≡ step_of space.now context.now interrupted }
+    ensures caller { (next : Stepped) → (result ≡ Ok (Some next)) ↔ GivesCaller space.now context.now interrupted next }
     ensures ends { (result ≡ Ok None) ↔ EndsAt space.now context.now interrupted }
     ensures table { (e : Fault) → (result ≡ Err (DeliverError.Table e)) ↔ FaultsAt space.now context.now interrupted e }
     ensures unmapped { (a : ℕ) → result ≡ Err (DeliverError.Unmapped a) → word_at space.now.image a ≡ None }
