@@ -9,7 +9,7 @@ use Rattle.stack_deliver.specs.declared.space.Module.{Module}
 use Rattle.stack_deliver.specs.declared.delivery.Stepped.{Stepped}
 use Rattle.stack_deliver.specs.declared.delivery.DeliverError.{DeliverError}
 use Rattle.stack_deliver.specs.declared.delivery.DeliverError.TheVariants.{NoMemory, Unmapped, FrameLimit, Table}
-use Rattle.unwinding_core.specs.Calling.{no_expressions}
+use Rattle.unwind_definitions.specs.Expressions.{evaluation}
 use Rattle.unwinding_core.specs.Finding.{FoundFde}
 use Rattle.unwind_definitions.specs.LanguageSearch.{address_of_call}
 use Rattle.unwinding_core.specs.Named.{found_by}
@@ -56,7 +56,7 @@ faults_framed space c interrupted = go (eqb c.ra 0)
 faults_called : (image : List Span) (c : Context) (r : Result (Option FrameAt) DeliverError) → OnStepFault r → OnStepFault (stepped_by image c r)
 faults_called image c (Ok None) on = tt
 faults_called image c (Err e) on = on
-faults_called image c (Ok (Some f)) on = go (calls.caller_of calls.x86_64 no_expressions image (columns_of c) f.run)
+faults_called image c (Ok (Some f)) on = go (calls.caller_of calls.x86_64 (evaluation image) image (columns_of c) f.run)
   where
     go : (r : Result calls.Columns calls.StepFault) → OnStepFault (some_next (result_map_both (next_with f.found.fde.cie.letters.signal) refusal_of r))
     go (Ok columns) = tt

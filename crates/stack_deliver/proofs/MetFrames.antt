@@ -24,7 +24,7 @@ use Rattle.unwind_arch.specs.declared.x86_64.Context.{Context}
 use Rattle.unwind_arch.specs.Contexts.{columns_of, context_of}
 use Rattle.unwinding_core.specs.declared.find_fde.custom.FrameInfoKind.{FrameInfoKind}
 use Rattle.unwinding_core.specs.declared.find_fde.custom.FrameInfoKind.TheVariants.{EhFrame, EhFrameHdr}
-use Rattle.unwinding_core.specs.Calling.{no_expressions}
+use Rattle.unwind_definitions.specs.Expressions.{evaluation}
 use Rattle.unwinding_core.specs.Finding.{FoundFde, table_bases}
 use Rattle.unwinding_core.specs.Named.{found_by_kind}
 use Rattle.stack_deliver.specs.declared.space.Module.{Module}
@@ -62,8 +62,8 @@ asked_as image c found f a asks at = ap (asked_if_named image c false found) ask
 
 module _ (space : SpaceValue) (c : Context) (functions : List Function) (s : State) (call : Call) (apart : AreApart 0 space.modules) (tables : HaveFrameTables (process_of space))
     (is : IsDescribedCall (process_of space) functions s call) (shows : Shows (columns_of c) s) where
-  abbrev step : Steps (process_of space) no_expressions (columns_of c) (s.ra - 1) call
-  step = one_step (process_of space) no_expressions functions (s.ra - 1) s call (columns_of c)
+  abbrev step : Steps (process_of space) (evaluation space.image) (columns_of c) (s.ra - 1) call
+  step = one_step (process_of space) (evaluation space.image) functions (s.ra - 1) s call (columns_of c)
       record { is_function = is.is_function; listed = is.listed; lies = is.lies; inside = is.called.inside; entered = is.called.entered; caller = is.caller; ends = is.ends } shows
 
   ra_is : c.ra ≡ s.ra

@@ -1,5 +1,5 @@
--- When a step answers that the stack ends, and when that a slot isn't mapped.
-use Rattle.std.proofs.Common.{inl, inr, ◌≡◌, ◌≢◌, ℕ, zero, suc, ◌+◌, ◌%◌, ◌^◌, ◌<◌, Bool, false, List, Option, Some, None, Result, Ok, Err, refl, sym, ap, subst, ◌∙◌, arith, eqb}
+-- When a step answers that the stack ends, and when that what it reads isn't mapped.
+use Rattle.std.proofs.Common.{inl, inr, ◌≡◌, ◌≢◌, ℕ, zero, suc, ◌+◌, ◌%◌, ◌^◌, ◌<◌, Bool, false, List, [], ◌∷◌, Option, Some, None, Result, Ok, Err, refl, sym, ap, subst, ◌∙◌, arith, eqb}
 use Rattle.std.specs.Prelude.{◌⊎◌}
 use Rattle.std.specs.Option.{option_or, option_map_or}
 use Rattle.std.proofs.lemmas.Bool.{cases_lt}
@@ -18,7 +18,10 @@ use Rattle.unwind_definitions.specs.Caller as calls
 use Rattle.unwind_arch.specs.declared.x86_64.Context.{Context}
 use Rattle.unwinding_core.specs.declared.find_fde.custom.FrameInfoKind.{FrameInfoKind}
 use Rattle.unwinding_core.specs.declared.find_fde.custom.FrameInfoKind.TheVariants.{EhFrame, EhFrameHdr}
-use Rattle.unwinding_core.specs.Calling.{no_expressions}
+use Rattle.unwind_definitions.specs.Expressions.{begun, operation_limit, evaluation}
+use Rattle.unwind_definitions.specs.Expressions as expressions
+use Rattle.frame_expressions.specs.Runs.{answer_is}
+use Rattle.frame_expressions.specs.Unmapped.{unmapped_evaluation}
 use Rattle.unwinding_core.specs.Finding.{FoundFde, table_bases, found_in}
 use Rattle.unwind_definitions.specs.LanguageSearch.{address_of_call}
 use Rattle.unwinding_core.specs.Named.{found_by_kind, found_by}
@@ -29,7 +32,7 @@ use Rattle.unwind_arch.specs.Contexts.{columns_of}
 use Rattle.stack_deliver.specs.Modules.{SpaceValue, module_at}
 use Rattle.std.specs.Result.{result_map_both}
 use Rattle.stack_deliver.specs.declared.delivery.Stepped.{Stepped}
-use Rattle.stack_deliver.specs.Stepping.{FrameAt, frame_with, next_with, frame_by, frame_in, frame_of, caller_by, refusal_of, step_of, FindsNone, IsUncovered, EndsAt, RowFaults, FaultsAt, ReadsUnmapped, SlotIsUnmapped}
+use Rattle.stack_deliver.specs.Stepping.{FrameAt, frame_with, next_with, frame_by, frame_in, frame_of, caller_by, refusal_of, step_of, FindsNone, IsUncovered, EndsAt, RowFaults, FaultsAt, ExpressionReadsUnmapped, CfaReadsUnmapped, RuleReadsUnmapped, ColumnReadsUnmapped, ReadsUnmapped, ReadIsUnmapped, GivesCaller}
 use Rattle.unwinding_core.proofs.Callers.{HasValue, first_fault_below-lowest}
 use Rattle.stack_deliver.proofs.StepParts.{some_next, stepped_by, step_is, none_framed}
 
@@ -104,18 +107,63 @@ unmapped_word image a b e = go (word_at image a) refl e
     go None none e = let same : a ≡ b = cc in (sym same, subst (λ (n : ℕ). word_at image n ≡ None) same none)
     go (Some v) is e = absurd cc
 
--- a rule that reads a slot
-abbrev pub Slot : List Span → ℕ → ℕ → Option rules.Rule → Type 0
-Slot image cfa b rule = (n : ℕ) × (rule ≡ Some (rules.Offset n)) × (b ≡ (cfa + n) % 2 ^ 64) × (word_at image b ≡ None)
+-- ---- an expression that reads what isn't mapped
 
-unmapped_rule : (image : List Span) (columns : calls.Columns) (cfa k b : ℕ) (rule : rules.Rule) → calls.rule_value no_expressions image columns cfa k rule ≡ Err (calls.Unmapped b) → Slot image cfa b (Some rule)
+expression_reads : (image : List Span) (columns : calls.Columns) (expression stack : List ℕ) (b : ℕ) → evaluation image expression stack columns ≡ Err (calls.Unmapped b) → ExpressionReadsUnmapped image columns expression stack b
+unfolding evaluation
+expression_reads image columns expression stack b = (answer_is image columns expression (operation_limit expression) (begun stack) (Err (calls.Unmapped b))).0
+
+reads_expression : (image : List Span) (columns : calls.Columns) (expression stack : List ℕ) (b : ℕ) → ExpressionReadsUnmapped image columns expression stack b → evaluation image expression stack columns ≡ Err (calls.Unmapped b)
+unfolding evaluation
+reads_expression image columns expression stack b = (answer_is image columns expression (operation_limit expression) (begun stack) (Err (calls.Unmapped b))).1
+
+gives_address : (image : List Span) (columns : calls.Columns) (expression stack : List ℕ) (a : ℕ) → evaluation image expression stack columns ≡ Ok a → expressions.HasValue image columns expression (operation_limit expression) (begun stack) a
+unfolding evaluation
+gives_address image columns expression stack a = (answer_is image columns expression (operation_limit expression) (begun stack) (Ok a)).0
+
+address_given : (image : List Span) (columns : calls.Columns) (expression stack : List ℕ) (a : ℕ) → expressions.HasValue image columns expression (operation_limit expression) (begun stack) a → evaluation image expression stack columns ≡ Ok a
+unfolding evaluation
+address_given image columns expression stack a = (answer_is image columns expression (operation_limit expression) (begun stack) (Ok a)).1
+
+reads_word : (image : List Span) (columns : calls.Columns) (expression stack : List ℕ) (b : ℕ) → ExpressionReadsUnmapped image columns expression stack b → word_at image b ≡ None
+reads_word image columns expression stack b reads = unmapped_evaluation image expression stack columns b (reads_expression image columns expression stack b reads)
+
+-- ---- a rule
+
+unmapped_rule : (image : List Span) (columns : calls.Columns) (cfa k b : ℕ) (rule : rules.Rule) → calls.rule_value (evaluation image) image columns cfa k rule ≡ Err (calls.Unmapped b) → RuleReadsUnmapped image columns cfa rule b
 unmapped_rule image columns cfa k b rules.Undefined e = absurd cc
 unmapped_rule image columns cfa k b rules.SameValue e = absurd (held_mapped (columns k) b e)
-unmapped_rule image columns cfa k b (rules.Offset n) e = let word = unmapped_word image ((cfa + n) % 2 ^ 64) b e in (n, refl, word.0, word.1)
+unmapped_rule image columns cfa k b (rules.Offset n) e = unmapped_word image ((cfa + n) % 2 ^ 64) b e
 unmapped_rule image columns cfa k b (rules.ValOffset n) e = absurd cc
 unmapped_rule image columns cfa k b (rules.InRegister q) e = absurd (held_mapped (columns q) b e)
-unmapped_rule image columns cfa k b (rules.Expression bytes) e = absurd cc
-unmapped_rule image columns cfa k b (rules.ValExpression bytes) e = absurd cc
+unmapped_rule image columns cfa k b (rules.Expression bytes) e = go (evaluation image bytes (cfa ∷ []) columns) refl e
+  where
+    go : (r : Result ℕ calls.StepFault) → evaluation image bytes (cfa ∷ []) columns ≡ r → calls.then_word image r ≡ Err (calls.Unmapped b) → RuleReadsUnmapped image columns cfa (rules.Expression bytes) b
+    go (Ok a) is e =
+        let word = unmapped_word image a b e in
+        inr (gives_address image columns bytes (cfa ∷ []) b (is ∙ ap Ok (sym word.0)), word.1)
+    go (Err f) is e = let same : evaluation image bytes (cfa ∷ []) columns ≡ Err (calls.Unmapped b) = cc in inl (expression_reads image columns bytes (cfa ∷ []) b same)
+unmapped_rule image columns cfa k b (rules.ValExpression bytes) e = expression_reads image columns bytes (cfa ∷ []) b e
+
+rule_unmapped : (image : List Span) (columns : calls.Columns) (cfa k b : ℕ) (rule : rules.Rule) → RuleReadsUnmapped image columns cfa rule b → calls.rule_value (evaluation image) image columns cfa k rule ≡ Err (calls.Unmapped b)
+rule_unmapped image columns cfa k b rules.Undefined reads = absurd reads
+rule_unmapped image columns cfa k b rules.SameValue reads = absurd reads
+rule_unmapped image columns cfa k b (rules.Offset n) reads = rw (← reads.0, reads.1) refl
+rule_unmapped image columns cfa k b (rules.ValOffset n) reads = absurd reads
+rule_unmapped image columns cfa k b (rules.InRegister q) reads = absurd reads
+rule_unmapped image columns cfa k b (rules.Expression bytes) (inl reads) = rw (reads_expression image columns bytes (cfa ∷ []) b reads) refl
+rule_unmapped image columns cfa k b (rules.Expression bytes) (inr gives) = rw (address_given image columns bytes (cfa ∷ []) b gives.0, gives.1) refl
+rule_unmapped image columns cfa k b (rules.ValExpression bytes) reads = reads_expression image columns bytes (cfa ∷ []) b reads
+
+rule_word : (image : List Span) (columns : calls.Columns) (cfa b : ℕ) (rule : rules.Rule) → RuleReadsUnmapped image columns cfa rule b → word_at image b ≡ None
+rule_word image columns cfa b rules.Undefined reads = absurd reads
+rule_word image columns cfa b rules.SameValue reads = absurd reads
+rule_word image columns cfa b (rules.Offset n) reads = reads.1
+rule_word image columns cfa b (rules.ValOffset n) reads = absurd reads
+rule_word image columns cfa b (rules.InRegister q) reads = absurd reads
+rule_word image columns cfa b (rules.Expression bytes) (inl reads) = reads_word image columns bytes (cfa ∷ []) b reads
+rule_word image columns cfa b (rules.Expression bytes) (inr gives) = gives.1
+rule_word image columns cfa b (rules.ValExpression bytes) reads = reads_word image columns bytes (cfa ∷ []) b reads
 
 unmapped_placed : (old : Option ℕ) (r : Result ℕ calls.StepFault) (b : ℕ) → calls.placed old r ≡ Err (calls.Unmapped b) → r ≡ Err (calls.Unmapped b)
 unmapped_placed old (Err x) b e = cc
@@ -159,25 +207,36 @@ lowest (suc n) f e is = go (λ at. lowest n f e at) (calls.first_fault_below n f
 
 module _ (image : List Span) (columns : calls.Columns) (run : Run) (b : ℕ) where
   abbrev value : ℕ → ℕ → Result (Option ℕ) calls.StepFault
-  value cfa = calls.column_value calls.x86_64 no_expressions image columns cfa run
+  value cfa = calls.column_value calls.x86_64 (evaluation image) image columns cfa run
 
-  unmapped_column : (cfa k : ℕ) → value cfa k ≡ Err (calls.Unmapped b) → Slot image cfa b (rule_of run k)
+  abbrev Ruled : ℕ → Option rules.Rule → Type 0
+  Ruled cfa o = (rule : rules.Rule) × (o ≡ Some rule) × RuleReadsUnmapped image columns cfa rule b
+
+  unmapped_column : (cfa k : ℕ) → value cfa k ≡ Err (calls.Unmapped b) → Ruled cfa (rule_of run k)
   unmapped_column cfa k e = go (rule_of run k) e
     where
-      go : (o : Option rules.Rule) → option_map_or (λ rule. calls.placed (columns k) (calls.rule_value no_expressions image columns cfa k rule)) o (Ok (calls.unruled calls.x86_64 columns cfa k)) ≡ Err (calls.Unmapped b) → Slot image cfa b o
+      go : (o : Option rules.Rule) → option_map_or (λ rule. calls.placed (columns k) (calls.rule_value (evaluation image) image columns cfa k rule)) o (Ok (calls.unruled calls.x86_64 columns cfa k)) ≡ Err (calls.Unmapped b) → Ruled cfa o
       go None e = absurd cc
-      go (Some rule) e = unmapped_rule image columns cfa k b rule (unmapped_placed (columns k) (calls.rule_value no_expressions image columns cfa k rule) b e)
+      go (Some rule) e = (rule, refl, unmapped_rule image columns cfa k b rule (unmapped_placed (columns k) (calls.rule_value (evaluation image) image columns cfa k rule) b e))
 
-  unmapped_cfa : (rule : CfaRule) → calls.cfa_value no_expressions columns rule ≡ Err (calls.Unmapped b) → ⊥
-  unmapped_cfa (ColumnAndOffset k n) e = go (columns k) e
+  unmapped_cfa : (rule : CfaRule) → calls.cfa_value (evaluation image) columns rule ≡ Err (calls.Unmapped b) → CfaReadsUnmapped image columns rule b
+  unmapped_cfa (ColumnAndOffset k n) e = absurd (go (columns k) e)
     where
       go : (o : Option ℕ) → calls.offset_from n (calls.held o) ≡ Err (calls.Unmapped b) → ⊥
       go None e = absurd cc
       go (Some v) e = absurd cc
-  unmapped_cfa (ByExpression bytes) e = absurd cc
+  unmapped_cfa (ByExpression bytes) e = expression_reads image columns bytes [] b e
 
-  unmapped_with : (rule : CfaRule) → cfa_rule run ≡ Some rule → (r : Result ℕ calls.StepFault) → calls.cfa_value no_expressions columns rule ≡ r → calls.caller_with calls.x86_64 no_expressions image columns run r ≡ Err (calls.Unmapped b) → ReadsUnmapped image columns run b
-  unmapped_with rule ruled (Err f) at e = absurd (unmapped_cfa rule (at ∙ cc))
+  cfa_unmapped : (rule : CfaRule) → CfaReadsUnmapped image columns rule b → calls.cfa_value (evaluation image) columns rule ≡ Err (calls.Unmapped b)
+  cfa_unmapped (ColumnAndOffset k n) reads = absurd reads
+  cfa_unmapped (ByExpression bytes) reads = reads_expression image columns bytes [] b reads
+
+  cfa_word : (rule : CfaRule) → CfaReadsUnmapped image columns rule b → word_at image b ≡ None
+  cfa_word (ColumnAndOffset k n) reads = absurd reads
+  cfa_word (ByExpression bytes) reads = reads_word image columns bytes [] b reads
+
+  unmapped_with : (rule : CfaRule) → cfa_rule run ≡ Some rule → (r : Result ℕ calls.StepFault) → calls.cfa_value (evaluation image) columns rule ≡ r → calls.caller_with calls.x86_64 (evaluation image) image columns run r ≡ Err (calls.Unmapped b) → ReadsUnmapped image columns run b
+  unmapped_with rule ruled (Err f) at e = record { rule = rule; ruled = ruled; reads = inl (unmapped_cfa rule (at ∙ cc)) }
   unmapped_with rule ruled (Ok cfa) at e = go (calls.first_fault_below calls.column_limit (value cfa)) refl e
     where
       go : (o : Option calls.StepFault) → calls.first_fault_below calls.column_limit (value cfa) ≡ o → calls.unless_fault o (λ k. calls.value_in (value cfa k)) ≡ Err (calls.Unmapped b) → ReadsUnmapped image columns run b
@@ -185,21 +244,36 @@ module _ (image : List Span) (columns : calls.Columns) (run : Run) (b : ℕ) whe
       go (Some f) is e =
           let same : f ≡ calls.Unmapped b = cc in
           let low : IsLowest calls.column_limit (value cfa) (calls.Unmapped b) = lowest calls.column_limit (value cfa) (calls.Unmapped b) (is ∙ ap Some same) in
-          let slot = unmapped_column cfa low.column low.fault in
-          record { rule = rule; ruled = ruled; cfa = cfa; finds_cfa = at; column = low.column; small = low.small; before = low.before; offset = slot.0; saved = slot.1; slot = slot.2; unmapped = slot.3 }
+          let at_column = unmapped_column cfa low.column low.fault in
+          record {
+            rule = rule;
+            ruled = ruled;
+            reads = inr (record { cfa = cfa; finds_cfa = at; column = low.column; small = low.small; before = low.before; rule = at_column.0; ruled = at_column.1; reads = at_column.2 });
+          }
 
-  pub unmapped_caller : calls.caller_of calls.x86_64 no_expressions image columns run ≡ Err (calls.Unmapped b) → ReadsUnmapped image columns run b
+  pub unmapped_caller : calls.caller_of calls.x86_64 (evaluation image) image columns run ≡ Err (calls.Unmapped b) → ReadsUnmapped image columns run b
   unmapped_caller e = go (cfa_rule run) refl e
     where
-      go : (o : Option CfaRule) → cfa_rule run ≡ o → option_map_or (λ rule. calls.caller_with calls.x86_64 no_expressions image columns run (calls.cfa_value no_expressions columns rule)) o (Err (calls.Table NoCfaRegister)) ≡ Err (calls.Unmapped b) → ReadsUnmapped image columns run b
+      go : (o : Option CfaRule) → cfa_rule run ≡ o → option_map_or (λ rule. calls.caller_with calls.x86_64 (evaluation image) image columns run (calls.cfa_value (evaluation image) columns rule)) o (Err (calls.Table NoCfaRegister)) ≡ Err (calls.Unmapped b) → ReadsUnmapped image columns run b
       go None is e = absurd cc
-      go (Some rule) is e = unmapped_with rule is (calls.cfa_value no_expressions columns rule) refl e
+      go (Some rule) is e = unmapped_with rule is (calls.cfa_value (evaluation image) columns rule) refl e
 
-  pub caller_is_unmapped : ReadsUnmapped image columns run b → calls.caller_of calls.x86_64 no_expressions image columns run ≡ Err (calls.Unmapped b)
-  caller_is_unmapped reads =
-      let fault : value reads.cfa reads.column ≡ Err (calls.Unmapped b) = rw (reads.saved, ← reads.slot, reads.unmapped) refl in
-      let first : calls.first_fault_below calls.column_limit (value reads.cfa) ≡ Some (calls.Unmapped b) = first_fault_below-lowest calls.column_limit reads.column (calls.Unmapped b) (value reads.cfa) reads.small fault reads.before in
-      rw (reads.ruled, reads.finds_cfa, first) refl
+  pub caller_is_unmapped : ReadsUnmapped image columns run b → calls.caller_of calls.x86_64 (evaluation image) image columns run ≡ Err (calls.Unmapped b)
+  caller_is_unmapped reads = go reads.reads
+    where
+      go : CfaReadsUnmapped image columns reads.rule b ⊎ ColumnReadsUnmapped image columns run reads.rule b → calls.caller_of calls.x86_64 (evaluation image) image columns run ≡ Err (calls.Unmapped b)
+      go (inl cfa) = rw (reads.ruled, cfa_unmapped reads.rule cfa) refl
+      go (inr at) =
+          let fault : value at.cfa at.column ≡ Err (calls.Unmapped b) = rw (at.ruled, rule_unmapped image columns at.cfa at.column b at.rule at.reads) refl in
+          let first : calls.first_fault_below calls.column_limit (value at.cfa) ≡ Some (calls.Unmapped b) = first_fault_below-lowest calls.column_limit at.column (calls.Unmapped b) (value at.cfa) at.small fault at.before in
+          rw (reads.ruled, at.finds_cfa, first) refl
+
+  pub reads_no_word : ReadsUnmapped image columns run b → word_at image b ≡ None
+  reads_no_word reads = go reads.reads
+    where
+      go : CfaReadsUnmapped image columns reads.rule b ⊎ ColumnReadsUnmapped image columns run reads.rule b → word_at image b ≡ None
+      go (inl cfa) = cfa_word reads.rule cfa
+      go (inr at) = rule_word image columns at.cfa b at.rule at.reads
 
 -- ---- what a frame and its caller answer
 
@@ -225,16 +299,16 @@ with_row a (Some found) f is = go (row_at found.bases found.fde a) refl is
         subst (λ (g : FrameAt). (Some found ≡ Some g.found) × (row_at g.found.bases g.found.fde a ≡ Ok g.run)) same (refl, row)
     go (Err x) row h = absurd cc
 
-caller_unmapped : (image : List Span) (c : Context) (f : FrameAt) (b : ℕ) → caller_by image c f ≡ Err (Unmapped b) → calls.caller_of calls.x86_64 no_expressions image (columns_of c) f.run ≡ Err (calls.Unmapped b)
-caller_unmapped image c f b e = go (calls.caller_of calls.x86_64 no_expressions image (columns_of c) f.run) e
+caller_unmapped : (image : List Span) (c : Context) (f : FrameAt) (b : ℕ) → caller_by image c f ≡ Err (Unmapped b) → calls.caller_of calls.x86_64 (evaluation image) image (columns_of c) f.run ≡ Err (calls.Unmapped b)
+caller_unmapped image c f b e = go (calls.caller_of calls.x86_64 (evaluation image) image (columns_of c) f.run) e
   where
     go : (r : Result calls.Columns calls.StepFault) → result_map_both (next_with f.found.fde.cie.letters.signal) refusal_of r ≡ Err (Unmapped b) → r ≡ Err (calls.Unmapped b)
     go (Ok columns) h = absurd cc
     go (Err (calls.Table x)) h = absurd cc
     go (Err (calls.Unmapped a)) h = cc
 
-caller_faults : (image : List Span) (c : Context) (f : FrameAt) (e : Fault) → caller_by image c f ≡ Err (Table e) → calls.caller_of calls.x86_64 no_expressions image (columns_of c) f.run ≡ Err (calls.Table e)
-caller_faults image c f e is = go (calls.caller_of calls.x86_64 no_expressions image (columns_of c) f.run) is
+caller_faults : (image : List Span) (c : Context) (f : FrameAt) (e : Fault) → caller_by image c f ≡ Err (Table e) → calls.caller_of calls.x86_64 (evaluation image) image (columns_of c) f.run ≡ Err (calls.Table e)
+caller_faults image c f e is = go (calls.caller_of calls.x86_64 (evaluation image) image (columns_of c) f.run) is
   where
     go : (r : Result calls.Columns calls.StepFault) → result_map_both (next_with f.found.fde.cie.letters.signal) refusal_of r ≡ Err (Table e) → r ≡ Err (calls.Table e)
     go (Ok columns) h = absurd cc
@@ -250,6 +324,29 @@ fails_parts image c (Ok (Some f)) e is = inr (f, refl, go (caller_by image c f) 
     go (Ok n) h = absurd cc
     go (Err x) h = cc
 fails_parts image c (Err x) e is = inl cc
+
+-- a step goes on to the caller of a frame
+goes_parts : (image : List Span) (c : Context) (r : Result (Option FrameAt) DeliverError) (next : Stepped) → stepped_by image c r ≡ Ok (Some next) → (f : FrameAt) × (r ≡ Ok (Some f)) × (caller_by image c f ≡ Ok next)
+goes_parts image c (Ok None) next is = absurd cc
+goes_parts image c (Ok (Some f)) next is = (f, refl, go (caller_by image c f) is)
+  where
+    go : (r : Result Stepped DeliverError) → some_next r ≡ Ok (Some next) → r ≡ Ok next
+    go (Ok n) h = cc
+    go (Err x) h = absurd cc
+goes_parts image c (Err x) next is = absurd cc
+
+-- the columns of that caller
+pub record Goes (image : List Span) (c : Context) (f : FrameAt) (next : Stepped) : Type 0 where
+  pub columns : calls.Columns
+  pub caller : calls.caller_of calls.x86_64 (evaluation image) image (columns_of c) f.run ≡ Ok columns
+  pub is : next ≡ next_with f.found.fde.cie.letters.signal columns
+
+caller_goes : (image : List Span) (c : Context) (f : FrameAt) (next : Stepped) → caller_by image c f ≡ Ok next → Goes image c f next
+caller_goes image c f next e = go (calls.caller_of calls.x86_64 (evaluation image) image (columns_of c) f.run) refl e
+  where
+    go : (r : Result calls.Columns calls.StepFault) → calls.caller_of calls.x86_64 (evaluation image) image (columns_of c) f.run ≡ r → result_map_both (next_with f.found.fde.cie.letters.signal) refusal_of r ≡ Ok next → Goes image c f next
+    go (Ok columns) caller h = record { columns = columns; caller = caller; is = cc }
+    go (Err x) caller h = absurd cc
 
 module _ (space : SpaceValue) (c : Context) (interrupted : Bool) where
   abbrev at_call : ℕ
@@ -286,11 +383,11 @@ module _ (space : SpaceValue) (c : Context) (interrupted : Bool) where
   step_parts : (e : DeliverError) → step_of space c interrupted ≡ Err e → (here ≡ Err e) ⊎ ((f : FrameAt) × (here ≡ Ok (Some f)) × (caller_by space.image c f ≡ Err e))
   step_parts e is = fails_parts space.image c here e (sym (step_is space c interrupted) ∙ is)
 
-  -- a step answers an unmapped slot where its row reads it, and nowhere else
-  pub step_slot : (b : ℕ) → step_of space c interrupted ≡ Err (Unmapped b) → SlotIsUnmapped space c interrupted b
-  step_slot b e = go (step_parts (Unmapped b) e)
+  -- a step answers an address that isn't mapped where its row reads there, and nowhere else
+  pub step_read : (b : ℕ) → step_of space c interrupted ≡ Err (Unmapped b) → ReadIsUnmapped space c interrupted b
+  step_read b e = go (step_parts (Unmapped b) e)
     where
-      go : (here ≡ Err (Unmapped b)) ⊎ ((f : FrameAt) × (here ≡ Ok (Some f)) × (caller_by space.image c f ≡ Err (Unmapped b))) → SlotIsUnmapped space c interrupted b
+      go : (here ≡ Err (Unmapped b)) ⊎ ((f : FrameAt) × (here ≡ Ok (Some f)) × (caller_by space.image c f ≡ Err (Unmapped b))) → ReadIsUnmapped space c interrupted b
       go (inl row) =
           let held = held_in (Err (Unmapped b)) (λ h. absurd cc) row in
           let fault = by_row at_call (found_by held.holder.frame space.image at_call) (Unmapped b) held.framed in
@@ -301,13 +398,13 @@ module _ (space : SpaceValue) (c : Context) (interrupted : Bool) where
           let reads = unmapped_caller space.image (columns_of c) caller.0.run b (caller_unmapped space.image c caller.0 b caller.2) in
           record { returns = held.returns; holder = held.holder; holds = held.holds; found = caller.0.found; finds = row.0; run = caller.0.run; row = row.1; reads = reads }
 
-  pub slot_step : (b : ℕ) → SlotIsUnmapped space c interrupted b → step_of space c interrupted ≡ Err (Unmapped b)
-  slot_step b at =
+  pub read_step : (b : ℕ) → ReadIsUnmapped space c interrupted b → step_of space c interrupted ≡ Err (Unmapped b)
+  read_step b at =
       let framed : here ≡ Ok (frame_with at.found at.run) = held_frame (Ok (frame_with at.found at.run)) record { returns = at.returns; holder = at.holder; holds = at.holds; framed = rw (at.finds, at.row) refl } in
       step_is space c interrupted ∙ ap (stepped_by space.image c) framed ∙ rw (caller_is_unmapped space.image (columns_of c) at.run b at.reads) refl
 
   pub step_unmapped : (b : ℕ) → step_of space c interrupted ≡ Err (Unmapped b) → word_at space.image b ≡ None
-  step_unmapped b e = (step_slot b e).reads.unmapped
+  step_unmapped b e = let at = step_read b e in reads_no_word space.image (columns_of c) at.run b at.reads
 
   -- a step answers a fault of tables where there is one, and nowhere else
   pub step_table : (e : Fault) → step_of space c interrupted ≡ Err (Table e) → FaultsAt space c interrupted e
@@ -333,3 +430,28 @@ module _ (space : SpaceValue) (c : Context) (interrupted : Bool) where
       go : (r : Result Run Fault) → row_at faults.found.bases faults.found.fde at_call ≡ r → RowFaults space.image c r e → step_of space c interrupted ≡ Err (Table e)
       go (Ok run) row fault = step_is space c interrupted ∙ ap (stepped_by space.image c) (by (Ok run) row) ∙ rw fault refl
       go (Err x) row fault = step_is space c interrupted ∙ ap (stepped_by space.image c) (by (Err x) row) ∙ rw fault refl
+
+  -- a step answers the caller that a row gives, and nothing else
+  pub step_caller : (next : Stepped) → step_of space c interrupted ≡ Ok (Some next) → GivesCaller space c interrupted next
+  step_caller next is =
+      let at = goes_parts space.image c here next (sym (step_is space c interrupted) ∙ is) in
+      let held = held_in (Ok (Some at.0)) (λ h. absurd cc) at.1 in
+      let row = with_row at_call (found_by held.holder.frame space.image at_call) at.0 held.framed in
+      let goes = caller_goes space.image c at.0 next at.2 in
+      record {
+        returns = held.returns;
+        holder = held.holder;
+        holds = held.holds;
+        found = at.0.found;
+        finds = row.0;
+        run = at.0.run;
+        row = row.1;
+        columns = goes.columns;
+        caller = goes.caller;
+        is = goes.is;
+      }
+
+  pub caller_step : (next : Stepped) → GivesCaller space c interrupted next → step_of space c interrupted ≡ Ok (Some next)
+  caller_step next at =
+      let framed : here ≡ Ok (frame_with at.found at.run) = held_frame (Ok (frame_with at.found at.run)) record { returns = at.returns; holder = at.holder; holds = at.holds; framed = rw (at.finds, at.row) refl } in
+      step_is space c interrupted ∙ ap (stepped_by space.image c) framed ∙ rw (at.caller, at.is) refl

@@ -6,7 +6,7 @@ use Rattle.unwind_definitions.specs.Caller.{x86_64, caller_of}
 use Rattle.unwind_definitions.specs.Function.{Action}
 use Rattle.unwind_arch.specs.declared.x86_64.Context.{Context}
 use Rattle.unwind_arch.specs.Contexts.{columns_of, context_of}
-use Rattle.unwinding_core.specs.Calling.{no_expressions}
+use Rattle.unwind_definitions.specs.Expressions.{evaluation}
 use Rattle.unwinding_core.specs.Finding.{FoundFde}
 use Rattle.stack_deliver.specs.declared.delivery.Stepped.{Stepped}
 use Rattle.stack_deliver.specs.declared.delivery.DeliverError.{DeliverError}
@@ -45,7 +45,7 @@ pub frame_found : (a : ℕ) (o : Option FoundFde) (found : FoundFde) (run : Run)
 frame_found a o found run is row = rw (← is, row) refl
 
 -- a caller's columns are those of the context that holds them
-pub caller_left : (image : List Span) (c next : Context) (found : FoundFde) (f : FrameAt) → found ≡ f.found → IsWhole next → Ok (columns_of next) ≡ caller_of x86_64 no_expressions image (columns_of c) f.run →
+pub caller_left : (image : List Span) (c next : Context) (found : FoundFde) (f : FrameAt) → found ≡ f.found → IsWhole next → Ok (columns_of next) ≡ caller_of x86_64 (evaluation image) image (columns_of c) f.run →
     Ok (record { context = next; signal = found.fde.cie.letters.signal }) ≡ caller_by image c f
 caller_left image c next found f same whole is =
     let kept : context_of (columns_of next) ≡ next = context_of-columns next (columns_of next) whole (λ k. refl) in

@@ -1,11 +1,11 @@
 -- From a frame to its caller, by the frame table of the module that holds it.
-use Rattle.std.specs.Prelude.{◌≡◌, ◌≢◌, ◌⊎◌, ℕ, ◌+◌, ◌*◌, ◌%◌, ◌^◌, ◌<◌, ◌≤◌, ◌==◌, Bool, Option, Some, None, Result, Ok, Err, List, if◌then◌else◌}
+use Rattle.std.specs.Prelude.{◌≡◌, ◌≢◌, ◌⊎◌, ℕ, ◌+◌, ◌*◌, ◌%◌, ◌^◌, ◌<◌, ◌≤◌, ◌==◌, Bool, Option, Some, None, Result, Ok, Err, List, [], ◌∷◌, if◌then◌else◌}
 use Rattle.memory_image.specs.Image.{Span, word_at}
 use Rattle.unwind_definitions.specs.declared.error.Error.{Error as Fault}
 use Rattle.unwind_definitions.specs.LanguageTable.{input_at}
 use Rattle.unwind_definitions.specs.LanguageSearch.{address_of_call}
-use Rattle.unwind_definitions.specs.Row.{Run, CfaRule, cfa_rule, rule_of, row_at}
-use Rattle.unwind_definitions.specs.Instructions.{Offset}
+use Rattle.unwind_definitions.specs.Row.{Run, CfaRule, ColumnAndOffset, ByExpression, cfa_rule, rule_of, row_at}
+use Rattle.unwind_definitions.specs.Instructions.{Rule, Offset, Expression, ValExpression}
 use Rattle.unwind_definitions.specs.Scan.{scan}
 use Rattle.std.specs.Result.{result_map_both}
 use Rattle.unwind_definitions.specs.Caller.{Columns, StepFault, x86_64, cfa_value, column_limit, column_value, caller_of}
@@ -14,7 +14,7 @@ use Rattle.unwind_arch.specs.declared.x86_64.Context.{Context}
 use Rattle.unwind_arch.specs.Contexts.{columns_of, context_of}
 use Rattle.unwinding_core.specs.declared.find_fde.custom.FrameInfoKind.{FrameInfoKind}
 use Rattle.unwinding_core.specs.declared.find_fde.custom.FrameInfoKind.TheVariants.{EhFrame, EhFrameHdr}
-use Rattle.unwinding_core.specs.Calling.{no_expressions}
+use Rattle.unwind_definitions.specs.Expressions.{HasValue, HasFault, begun, operation_limit, evaluation}
 use Rattle.std.specs.List.{AllByRecursion}
 use Rattle.unwind_definitions.specs.HeaderSearch.{AreWithinDigits}
 use Rattle.unwinding_core.specs.Finding.{FoundFde, relative_to, table_bases}
@@ -65,7 +65,7 @@ next_with signal columns = record { context = context_of columns; signal = signa
 
 -- the frame's caller, and whether the frame is a signal's
 abbrev pub caller_by : List Span → Context → FrameAt → Result Stepped DeliverError
-caller_by image c f = result_map_both (next_with f.found.fde.cie.letters.signal) refusal_of (caller_of x86_64 no_expressions image (columns_of c) f.run)
+caller_by image c f = result_map_both (next_with f.found.fde.cie.letters.signal) refusal_of (caller_of x86_64 (evaluation image) image (columns_of c) f.run)
 
 abbrev pub caller_at : List Span → Context → Option FrameAt → Result (Option Stepped) DeliverError
 caller_at image c None = Ok None
@@ -119,7 +119,7 @@ EndsAt space c interrupted = (c.ra ≡ 0) ⊎ ((c.ra ≢ 0) × IsUncovered space
 
 -- a row can't be read or run, or its CFA or a rule of it, the first with a fault, asks for a column that the machine doesn't have
 abbrev pub RowFaults : List Span → Context → Result Run Fault → Fault → Type 0
-RowFaults image c (Ok run) e = caller_of x86_64 no_expressions image (columns_of c) run ≡ Err (calls.Table e)
+RowFaults image c (Ok run) e = caller_of x86_64 (evaluation image) image (columns_of c) run ≡ Err (calls.Table e)
 RowFaults image c (Err f) e = f ≡ e
 
 -- a description is found for the address asked, whose row there faults
@@ -131,22 +131,49 @@ pub record FaultsAt (space : SpaceValue) (c : Context) (interrupted : Bool) (e :
   pub finds : found_by holder.frame space.image (address_of_call c.ra interrupted) ≡ Some found
   pub fault : RowFaults space.image c (row_at found.bases found.fde (address_of_call c.ra interrupted)) e
 
--- A row reads the word at an address for the lowest column that has no value, and the word isn't wholly mapped.
+-- An expression reads a number at an address that isn't wholly mapped, and nothing before it has a fault.
+abbrev pub ExpressionReadsUnmapped : List Span → Columns → List ℕ → List ℕ → ℕ → Type 0
+ExpressionReadsUnmapped image columns expression stack a =
+    HasFault image columns expression (operation_limit expression) (begun stack) (calls.Unmapped a)
+
+-- the CFA is that of an expression, which begins with an empty stack
+abbrev pub CfaReadsUnmapped : List Span → Columns → CfaRule → ℕ → Type 0
+CfaReadsUnmapped image columns (ColumnAndOffset k n) a = ⊥
+CfaReadsUnmapped image columns (ByExpression expression) a =
+    ExpressionReadsUnmapped image columns expression [] a
+
+-- A rule reads a word that isn't wholly mapped: that of its slot, or that at the address which an expression gives; or the
+-- expression itself, which begins with the CFA, reads such a number.
+abbrev pub RuleReadsUnmapped : List Span → Columns → ℕ → Rule → ℕ → Type 0
+RuleReadsUnmapped image columns cfa (Offset n) a =
+    (a ≡ (cfa + n) % 2 ^ 64) × (word_at image a ≡ None)
+RuleReadsUnmapped image columns cfa (Expression expression) a =
+    ExpressionReadsUnmapped image columns expression (cfa ∷ []) a
+    ⊎ (HasValue image columns expression (operation_limit expression) (begun (cfa ∷ [])) a × (word_at image a ≡ None))
+RuleReadsUnmapped image columns cfa (ValExpression expression) a =
+    ExpressionReadsUnmapped image columns expression (cfa ∷ []) a
+RuleReadsUnmapped image columns cfa _ a = ⊥
+
+-- the CFA has a value, and the rule of the lowest column that has none reads such a word
+pub record ColumnReadsUnmapped (image : List Span) (columns : Columns) (run : Run) (frame_address : CfaRule) (a : ℕ) : Type 0 where
+  pub cfa : ℕ
+  pub finds_cfa : cfa_value (evaluation image) columns frame_address ≡ Ok cfa
+  pub column : ℕ
+  pub small : column < column_limit
+  pub before : (k : ℕ) → k < column → (v : Option ℕ) × (column_value x86_64 (evaluation image) image columns cfa run k ≡ Ok v)
+  pub rule : Rule
+  pub ruled : rule_of run column ≡ Some rule
+  pub reads : RuleReadsUnmapped image columns cfa rule a
+
+-- A row reads at an address for its CFA or, where that has a value, for the lowest column that has none, and what it reads there
+-- isn't wholly mapped.
 pub record ReadsUnmapped (image : List Span) (columns : Columns) (run : Run) (a : ℕ) : Type 0 where
   pub rule : CfaRule
   pub ruled : cfa_rule run ≡ Some rule
-  pub cfa : ℕ
-  pub finds_cfa : cfa_value no_expressions columns rule ≡ Ok cfa
-  pub column : ℕ
-  pub small : column < column_limit
-  pub before : (k : ℕ) → k < column → (v : Option ℕ) × (column_value x86_64 no_expressions image columns cfa run k ≡ Ok v)
-  pub offset : ℕ
-  pub saved : rule_of run column ≡ Some (Offset offset)
-  pub slot : a ≡ (cfa + offset) % 2 ^ 64
-  pub unmapped : word_at image a ≡ None
+  pub reads : CfaReadsUnmapped image columns rule a ⊎ ColumnReadsUnmapped image columns run rule a
 
--- a description is found for the address asked, and its row there reads a word that isn't wholly mapped
-pub record SlotIsUnmapped (space : SpaceValue) (c : Context) (interrupted : Bool) (a : ℕ) : Type 0 where
+-- a description is found for the address asked, and its row there reads what isn't wholly mapped
+pub record ReadIsUnmapped (space : SpaceValue) (c : Context) (interrupted : Bool) (a : ℕ) : Type 0 where
   pub returns : c.ra ≢ 0
   pub holder : Module
   pub holds : module_at space.modules (address_of_call c.ra interrupted) ≡ Some holder
@@ -155,3 +182,17 @@ pub record SlotIsUnmapped (space : SpaceValue) (c : Context) (interrupted : Bool
   pub run : Run
   pub row : row_at found.bases found.fde (address_of_call c.ra interrupted) ≡ Ok run
   pub reads : ReadsUnmapped space.image (columns_of c) run a
+
+-- A description is found for the address asked, and its row there gives the caller, which was interrupted where it stands exactly
+-- where the description is of a signal's frame.
+pub record GivesCaller (space : SpaceValue) (c : Context) (interrupted : Bool) (next : Stepped) : Type 0 where
+  pub returns : c.ra ≢ 0
+  pub holder : Module
+  pub holds : module_at space.modules (address_of_call c.ra interrupted) ≡ Some holder
+  pub found : FoundFde
+  pub finds : found_by holder.frame space.image (address_of_call c.ra interrupted) ≡ Some found
+  pub run : Run
+  pub row : row_at found.bases found.fde (address_of_call c.ra interrupted) ≡ Ok run
+  pub columns : Columns
+  pub caller : caller_of x86_64 (evaluation space.image) space.image (columns_of c) run ≡ Ok columns
+  pub is : next ≡ next_with found.fde.cie.letters.signal columns

@@ -9,14 +9,15 @@ ghost use Rattle.unwind_definitions.specs.LanguageSearch.{address_of_call};
 ghost use Rattle.unwind_definitions.specs.Row.{Run};
 ghost use Rattle.unwind_definitions.specs.Caller.{x86_64, caller_of};
 ghost use Rattle.frame_rows.specs.Rows.{IsRowOf};
-ghost use Rattle.unwinding_core.specs.Calling.{no_expressions, columns_given};
+ghost use Rattle.unwind_definitions.specs.Expressions.{evaluation};
+ghost use Rattle.unwinding_core.specs.Calling.{columns_given};
 ghost use Rattle.unwind_arch.specs.Contexts.{columns_of};
 ghost use Rattle.unwinding_core.specs.Named.{found_by, pairs_by};
 ghost use Rattle.stack_deliver.specs.Modules.{AreApart, contains};
 ghost use Rattle.stack_deliver.specs.Processes.{process_of};
 ghost use Rattle.stack_deliver.specs.Passing.{IsFrameOf, GivesFrameAt};
 ghost use Rattle.stack_deliver.specs.Results.{result_map};
-ghost use Rattle.stack_deliver.specs.Stepping.{FrameAt, frame_by, frame_in, frame_of, caller_by, step_of, pairs_at, EndsAt, FaultsAt, RisesBySearch, SlotIsUnmapped};
+ghost use Rattle.stack_deliver.specs.Stepping.{FrameAt, frame_by, frame_in, frame_of, caller_by, step_of, pairs_at, GivesCaller, EndsAt, FaultsAt, RisesBySearch, ReadIsUnmapped};
 ghost use Rattle.stack_deliver.specs.Walking.{HaveFrameTables, IsDescribedCall, Undone};
 
 use crate::delivery::{DeliverError, Stepped};
@@ -98,7 +99,7 @@ fn caller(
     context: &Context,
     rows: &RowRoom<'_>,
 ) -> Result<Context, StepError>
-    ensures { (run : Run) → IsRowOf rows.now run → columns_given columns_of result ≡ caller_of x86_64 no_expressions image.now (columns_of context.now) run }
+    ensures { (run : Run) → IsRowOf rows.now run → columns_given columns_of result ≡ caller_of x86_64 (evaluation image.now) image.now (columns_of context.now) run }
 {
     let mut caller = *context;
     step_by_row::<Arch>(image, &mut caller, &rows.row())?;
@@ -155,9 +156,10 @@ fn stepped<L: Ledger>(
 ///
 /// # Errors
 ///
-/// `Table` where the row of the description can't be read or run, or a register isn't the
-/// machine's; `Unmapped` with the address of a stack slot that isn't wholly mapped. The first
-/// fault counts: those of the row, and then that of the lowest register.
+/// `Table` where the row of the description can't be read or run, an expression has no value, or a
+/// register isn't the machine's; `Unmapped` with the address of a stack slot, or of a number that an
+/// expression reads, that isn't wholly mapped. The first fault counts: those of the row, then that
+/// of the canonical frame address, and then that of the lowest register.
 pub fn step<L: Ledger>(
     space: &Space<'_>,
     context: &Context,
@@ -165,10 +167,11 @@ pub fn step<L: Ledger>(
     steps: &mut Steps<L>,
 ) -> Result<Option<Stepped>, DeliverError>
     ensures exact { result ≡ step_of space.now context.now interrupted }
+    ensures caller { (next : Stepped) → (result ≡ Ok (Some next)) ↔ GivesCaller space.now context.now interrupted next }
     ensures ends { (result ≡ Ok None) ↔ EndsAt space.now context.now interrupted }
     ensures table { (e : Fault) → (result ≡ Err (DeliverError.Table e)) ↔ FaultsAt space.now context.now interrupted e }
     ensures unmapped { (a : ℕ) → result ≡ Err (DeliverError.Unmapped a) → word_at space.now.image a ≡ None }
-    ensures slot { (a : ℕ) → (result ≡ Err (DeliverError.Unmapped a)) ↔ SlotIsUnmapped space.now context.now interrupted a }
+    ensures reads { (a : ℕ) → (result ≡ Err (DeliverError.Unmapped a)) ↔ ReadIsUnmapped space.now context.now interrupted a }
     ensures undone { (functions : List Function) (s : State) (call : Call) → HaveFrameTables (process_of space.now) → IsDescribedCall (process_of space.now) functions s call →
         Shows (columns_of context.now) s → IsFalse interrupted → Undone result (columns_of context.now) call.caller }
     // No step is counted where the module names a frame table.

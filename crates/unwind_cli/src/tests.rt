@@ -9,6 +9,7 @@ use std::test::Fail;
 mod deliveries;
 mod ends;
 mod refusals;
+mod rules;
 mod walks;
 
 /// A run: its words, the pieces of its input, and the number and the lines that are due.

@@ -1,15 +1,17 @@
 -- A caller's registers, column by column, as the code finds them: the rules of a row applied one after another.
 use Rattle.std.specs.Prelude.{ℕ, ◌==◌, List, [], ◌∷◌, Option, Some, None, Result, Ok, Err, if◌then◌else◌}
 use Rattle.memory_image.specs.Image.{Span}
-use Rattle.unwind_definitions.specs.declared.error.Error.TheVariants.{UnsupportedRegister, UnknownInstruction}
+use Rattle.unwind_definitions.specs.declared.error.Error.TheVariants.{UnsupportedRegister}
 use Rattle.unwind_definitions.specs.Instructions.{Rule}
 use Rattle.unwind_definitions.specs.Caller.{Columns, Machine, Evaluates, StepFault, Table, Unmapped, rule_value}
 use Rattle.unwinding_core.specs.declared.frame.StepError.{StepError}
 use Rattle.unwinding_core.specs.declared.frame.StepError.TheVariants as code
+use Rattle.frame_expressions.specs.declared.error.EvalError.{EvalError}
+use Rattle.frame_expressions.specs.declared.error.EvalError.TheVariants as expressions
 
--- expressions aren't evaluated yet
-abbrev pub no_expressions : Evaluates
-no_expressions = λ bytes stack columns. Err (Table UnknownInstruction)
+abbrev pub step_error : EvalError → StepError
+step_error (expressions.Table e) = code.Table e
+step_error (expressions.Unmapped a) = code.Unmapped a
 
 -- the columns of a machine's stack pointer and return address
 abbrev pub machine_of : ℕ → ℕ → Machine

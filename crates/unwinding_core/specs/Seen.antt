@@ -7,7 +7,7 @@ use Rattle.unwind_definitions.specs.Row.{Run, row_at, argument_size}
 use Rattle.unwind_definitions.specs.Caller.{Columns, Machine, StepFault, Table, caller_of}
 use Rattle.unwind_definitions.specs.LanguageSearch.{personality_address}
 use Rattle.frame_rows.specs.Rows.{IsRowOf}
-use Rattle.unwinding_core.specs.Calling.{no_expressions}
+use Rattle.unwind_definitions.specs.Expressions.{evaluation}
 use Rattle.unwinding_core.specs.Columns.{with_value}
 use Rattle.unwinding_core.specs.Finding.{FoundFde}
 use Rattle.unwinding_core.specs.FrameValue.{FrameValue}
@@ -53,7 +53,7 @@ marked signal (Err e) = Err e
 -- how a frame of a machine is undone, over its columns
 abbrev pub undoing : Machine → List Span → Undoing Columns FrameSeen StepFault
 undoing machine image = record {
-  caller = λ f c. marked f.value.found.fde.cie.letters.signal (caller_of machine no_expressions image c f.run);
+  caller = λ f c. marked f.value.found.fde.cie.letters.signal (caller_of machine (evaluation image) image c f.run);
   stack_pointer = in_column machine.stack_pointer;
   past_arguments = λ f c. past_in_column machine.stack_pointer (argument_size f.run) c;
 }

@@ -13,11 +13,13 @@ ghost use Rattle.encoded_pointers.specs.Pointers.{bases_of, pointer_of};
 ghost use Rattle.unwinding_core.specs.Finding.{FoundFde};
 ghost use Rattle.unwinding_core.specs.Answered.{answered};
 ghost use Rattle.unwinding_core.specs.Framed.{GivesFrame, GivesRowOf};
-ghost use Rattle.unwinding_core.specs.Calling.{no_expressions, machine_of, value_given, columns_given, written_in, applied, rule_applied};
+ghost use Rattle.unwind_definitions.specs.Expressions.{evaluation};
+ghost use Rattle.unwinding_core.specs.Calling.{machine_of, value_given, columns_given, written_in, applied, rule_applied};
 
 use crate::find_fde::{FDEFinder, FDESearchResult};
 use eh_frame::{
-    Bases, CfaRule, Error, Pointer, Register, RegisterMap, RegisterRule, Registers, Row, RowRef,
+    Bases, CfaRule, Error, EvalError, Pointer, Register, RegisterMap, RegisterRule, Registers, Row,
+    RowRef, evaluate,
 };
 use memory_image::{Ledger, MemoryImage, Steps};
 use std::fmt;
@@ -45,9 +47,20 @@ impl From<Error> for StepError {
     }
 }
 
-const UNSUPPORTED: StepError = StepError::Table(Error::UnsupportedRegister);
+impl From<EvalError> for StepError {
+    ghost use Rattle.unwinding_core.specs.Calling.{step_error};
 
-const UNKNOWN: StepError = StepError::Table(Error::UnknownInstruction);
+    ghost from_gives = { λ e r. r ≡ step_error e };
+
+    fn from(e: EvalError) -> StepError {
+        match e {
+            EvalError::Table(e) => StepError::Table(e),
+            EvalError::Unmapped(address) => StepError::Unmapped(address),
+        }
+    }
+}
+
+const UNSUPPORTED: StepError = StepError::Table(Error::UnsupportedRegister);
 
 /// A frame of a machine's stack: the description of the function that it runs, and the row at its
 /// address.
@@ -139,15 +152,15 @@ impl<'a, M: Machine> Frame<'a, M> {
     /// # Errors
     ///
     /// The first fault: that of the canonical frame address, or else of the lowest column. `Table`
-    /// where a column isn't the machine's or an expression would have to be evaluated, `Unmapped`
-    /// with the address of a slot that isn't wholly mapped.
+    /// where a column isn't the machine's or an expression has no value, `Unmapped` with the address
+    /// of a slot, or of a number that an expression reads, that isn't wholly mapped.
     pub fn unwind(
         &self,
         image: &MemoryImage<'a>,
         context: &M::Context,
     ) -> Result<M::Context, StepError>
         ensures caller { (run : Run) → IsRowOf self.now.row run →
-            columns_given M.Context.columns result ≡ caller_of (machine_of M.SP.0 M.RA.0) no_expressions image.now (M.Context.columns context.now) run }
+            columns_given M.Context.columns result ≡ caller_of (machine_of M.SP.0 M.RA.0) (evaluation image.now) image.now (M.Context.columns context.now) run }
     {
         let mut caller = *context;
         step_by_row::<M>(image, &mut caller, &self.row.as_ref())?;
@@ -288,10 +301,10 @@ pub fn step_by_row<M: Machine>(
     row: &RowRef<'_, '_>,
 ) -> Result<(), StepError>
     ensures caller { (run : Run) → IsRowOf row.now run →
-        columns_given M.Context.columns (written_in result context.new) ≡ caller_of (machine_of M.SP.0 M.RA.0) no_expressions image.now (M.Context.columns context.old) run }
+        columns_given M.Context.columns (written_in result context.new) ≡ caller_of (machine_of M.SP.0 M.RA.0) (evaluation image.now) image.now (M.Context.columns context.old) run }
 {
     let callee = *context;
-    let cfa = cfa::<M>(&callee, row.cfa())?;
+    let cfa = cfa::<M>(image, &callee, row.cfa())?;
     begin::<M>(context, cfa);
     apply::<M>(image, &callee, cfa, row.registers(), context)
 }
@@ -326,16 +339,20 @@ fn value_of<M: Machine>(context: &M::Context, register: Register) -> Result<u64,
     }
 }
 
-/// The canonical frame address.
-fn cfa<M: Machine>(context: &M::Context, rule: CfaRule<'_>) -> Result<u64, StepError>
-    ensures { value_given result ≡ cfa_value no_expressions (M.Context.columns context.now) (cfa_meaning rule.entry) }
+/// The canonical frame address. An expression begins with an empty stack.
+fn cfa<M: Machine>(
+    image: &MemoryImage<'_>,
+    context: &M::Context,
+    rule: CfaRule<'_>,
+) -> Result<u64, StepError>
+    ensures { value_given result ≡ cfa_value (evaluation image.now) (M.Context.columns context.now) (cfa_meaning rule.entry) }
 {
     match rule {
         CfaRule::RegisterAndOffset { register, offset } => {
             let value = value_of::<M>(context, register)?;
             Ok(value.wrapping_add(offset))
         }
-        CfaRule::Expression(_) => Err(UNKNOWN),
+        CfaRule::Expression(expression) => Ok(evaluate(expression, None, context, image)?),
     }
 }
 
@@ -349,7 +366,7 @@ fn begin<M: Machine>(context: &mut M::Context, cfa: u64)
 }
 
 /// The value that a rule gives a column, from the canonical frame address and the frame's
-/// registers.
+/// registers. An expression begins with the canonical frame address on its stack.
 fn rule_value<M: Machine>(
     image: &MemoryImage<'_>,
     context: &M::Context,
@@ -357,7 +374,7 @@ fn rule_value<M: Machine>(
     register: Register,
     rule: RegisterRule<'_>,
 ) -> Result<u64, StepError>
-    ensures { value_given result ≡ rule_value no_expressions image.now (M.Context.columns context.now) cfa register.0 (rule_meaning rule.entry) }
+    ensures { value_given result ≡ rule_value (evaluation image.now) image.now (M.Context.columns context.now) cfa register.0 (rule_meaning rule.entry) }
 {
     match rule {
         RegisterRule::Undefined => Ok(0),
@@ -365,7 +382,13 @@ fn rule_value<M: Machine>(
         RegisterRule::Offset(offset) => word_at(image, cfa.wrapping_add(offset)),
         RegisterRule::ValOffset(offset) => Ok(cfa.wrapping_add(offset)),
         RegisterRule::Register(other) => value_of::<M>(context, other),
-        RegisterRule::Expression(_) | RegisterRule::ValExpression(_) => Err(UNKNOWN),
+        RegisterRule::Expression(expression) => {
+            let address = evaluate(expression, Some(cfa), context, image)?;
+            word_at(image, address)
+        }
+        RegisterRule::ValExpression(expression) => {
+            Ok(evaluate(expression, Some(cfa), context, image)?)
+        }
     }
 }
 
@@ -378,7 +401,7 @@ fn apply_rule<M: Machine>(
     rule: RegisterRule<'_>,
     caller: &mut M::Context,
 ) -> Result<(), StepError>
-    ensures { columns_given M.Context.columns (written_in result caller.new) ≡ rule_applied no_expressions image.now (M.Context.columns context.now) cfa (entry_of (register, rule.entry)) (M.Context.columns caller.old) }
+    ensures { columns_given M.Context.columns (written_in result caller.new) ≡ rule_applied (evaluation image.now) image.now (M.Context.columns context.now) cfa (entry_of (register, rule.entry)) (M.Context.columns caller.old) }
 {
     let value = rule_value::<M>(image, context, cfa, register, rule)?;
     match caller.set(register, value) {
@@ -396,7 +419,7 @@ fn apply<M: Machine>(
     rules: Registers<'_, '_>,
     caller: &mut M::Context,
 ) -> Result<(), StepError>
-    ensures { columns_given M.Context.columns (written_in result caller.new) ≡ applied no_expressions image.now (M.Context.columns context.now) cfa (map entry_of (left rules.entry)) (M.Context.columns caller.old) }
+    ensures { columns_given M.Context.columns (written_in result caller.new) ≡ applied (evaluation image.now) image.now (M.Context.columns context.now) cfa (map entry_of (left rules.entry)) (M.Context.columns caller.old) }
 {
     for (register, rule) in rules {
         apply_rule::<M>(image, context, cfa, register, rule, caller)?;

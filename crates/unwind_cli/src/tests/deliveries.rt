@@ -17,6 +17,14 @@ const FOREIGN_TABLE: &str =
 const DAMAGED_TABLE: &str =
     "{\"regions\":[{\"address\":\"0x500000\",\"bytes\":\"1400000000000000027a5200017810011b0c070890010000180000001c000000e00ff0ff2000000000410e108602430d064583031c00000000000000017a504c5200017810079bb92f00001b1b0c0708900100001800000024000000c40ff0ff30000000049b1f0000410e10830200002000000040000000d80ff0ff30000000048b1f0000420e10410e18440e2083038e02000000000000";
 
+/// The same where the callee of the handler's function removes 8 bytes of arguments.
+const HANDLER_ARGUMENTS_TABLE: &str =
+    "{\"regions\":[{\"address\":\"0x500000\",\"bytes\":\"1400000000000000017a5200017810011b0c070890010000180000001c000000e00ff0ff2000000000410e108602430d064583031c00000000000000017a504c5200017810079bb92f00001b1b0c0708900100001800000024000000c40ff0ff30000000049b1f0000410e10830200002000000040000000d80ff0ff30000000048b1f0000420e10410e18440e2083038e022e0800000000";
+
+/// The same of the cleanup's function, whose callee removes 32 bytes.
+const CLEANUP_ARGUMENTS_TABLE: &str =
+    "{\"regions\":[{\"address\":\"0x500000\",\"bytes\":\"1400000000000000017a5200017810011b0c070890010000180000001c000000e00ff0ff2000000000410e108602430d064583031c00000000000000017a504c5200017810079bb92f00001b1b0c0708900100001800000024000000c40ff0ff30000000049b1f0000410e1083022e202000000040000000d80ff0ff30000000048b1f0000420e10410e18440e2083038e02000000000000";
+
 /// The header of the frame table.
 const HEADER: &str =
     "\"},{\"address\":\"0x504000\",\"bytes\":\"011b033bfcbfffff0300000000d0efff18c0ffff20d0efff54c0ffff50d0efff70c0ffff";
@@ -87,7 +95,7 @@ const LANDING: &str =
 
 const INSTALLED: &str = "outcome installed";
 
-static CASES: [Case; 16] = [
+static CASES: [Case; 20] = [
     Case {
         words: &["deliver"],
         input: &[TABLE, LANGUAGE, STACK, MODULE, START, RESUMES],
@@ -247,6 +255,74 @@ static CASES: [Case; 16] = [
             CLEANUP,
             LANDING,
             INSTALLED,
+        ],
+    },
+    // The frame's address is in the word 16 above the stack pointer, and its return address 8 below.
+    Case {
+        words: &["walk"],
+        input: &[FOREIGN_TABLE, LANGUAGE, STACK, MODULE, START, RESUMES],
+        number: 8,
+        lines: &["refused: unmapped 0x4"],
+    },
+    // A landing pad is entered past the arguments, and its frame is known without them.
+    Case {
+        words: &["deliver"],
+        input: &[
+            HANDLER_ARGUMENTS_TABLE,
+            LANGUAGE,
+            STACK,
+            MODULE,
+            START,
+            RESUMES,
+        ],
+        number: 0,
+        lines: &[
+            FIRST,
+            SECOND,
+            THIRD,
+            CLEANUP,
+            "landing ra=0x401070 sp=0x70e8 rbx=0x22 rbp=0xc r12=0x0 r13=0x0 r14=0x2e r15=0x0 rax=0x900000 rdx=0x0",
+            INSTALLED,
+        ],
+    },
+    // So is a cleanup's, from which the next pass goes: here to the end of the stack.
+    Case {
+        words: &["deliver"],
+        input: &[
+            CLEANUP_ARGUMENTS_TABLE,
+            LANGUAGE,
+            STACK,
+            MODULE,
+            START,
+            RESUMES,
+        ],
+        number: 0,
+        lines: &[
+            FIRST,
+            SECOND,
+            THIRD,
+            "cleanup pad=0x401040 sp=0x70f0",
+            "outcome fatal phase 2",
+        ],
+    },
+    // A walk takes no arguments off.
+    Case {
+        words: &["walk"],
+        input: &[
+            CLEANUP_ARGUMENTS_TABLE,
+            LANGUAGE,
+            STACK,
+            MODULE,
+            START,
+            RESUMES,
+        ],
+        number: 0,
+        lines: &[
+            FIRST,
+            SECOND,
+            THIRD,
+            "frame 3 ra=0x0 sp=0x7100 rbx=0xb rbp=0xc r12=0x0 r13=0x0 r14=0xe r15=0x0",
+            "end",
         ],
     },
     // By its header, which lists the descriptions, the module is searched with the same answers.

@@ -5,7 +5,7 @@ use Rattle.unwind_arch.specs.Contexts.{columns_of}
 use Rattle.stack_deliver.specs.Walking.{Undone}
 use Rattle.stack_deliver.specs.Stepping.{step_of}
 use Rattle.stack_deliver.proofs.MetFrames.{step_undone}
-use Rattle.stack_deliver.proofs.StepAnswers.{step_ends, ends_step, step_unmapped, step_slot, slot_step, step_table, table_step}
+use Rattle.stack_deliver.proofs.StepAnswers.{step_ends, ends_step, step_unmapped, step_read, read_step, step_table, table_step, step_caller, caller_step}
 use Rattle.stack_deliver.proofs.stepping.step.Goals as goal
 
 pub returns-clause-undone : goal.returns-clause-undone
@@ -22,5 +22,8 @@ returns-clause-unmapped g c a e = step_unmapped c.args.space.now c.args.context.
 pub returns-clause-table : goal.returns-clause-table
 returns-clause-table g c e = (λ is. step_table c.args.space.now c.args.context.now c.args.interrupted e (sym c.stepped.ensures.exact ∙ is), λ faults. c.stepped.ensures.exact ∙ table_step c.args.space.now c.args.context.now c.args.interrupted e faults)
 
-pub returns-clause-slot : goal.returns-clause-slot
-returns-clause-slot g c a = (λ is. step_slot c.args.space.now c.args.context.now c.args.interrupted a (sym c.stepped.ensures.exact ∙ is), λ at. c.stepped.ensures.exact ∙ slot_step c.args.space.now c.args.context.now c.args.interrupted a at)
+pub returns-clause-reads : goal.returns-clause-reads
+returns-clause-reads g c a = (λ is. step_read c.args.space.now c.args.context.now c.args.interrupted a (sym c.stepped.ensures.exact ∙ is), λ at. c.stepped.ensures.exact ∙ read_step c.args.space.now c.args.context.now c.args.interrupted a at)
+
+pub returns-clause-caller : goal.returns-clause-caller
+returns-clause-caller g c next = (λ is. step_caller c.args.space.now c.args.context.now c.args.interrupted next (sym c.stepped.ensures.exact ∙ is), λ at. c.stepped.ensures.exact ∙ caller_step c.args.space.now c.args.context.now c.args.interrupted next at)
