@@ -4,7 +4,6 @@ use Rattle.std.specs.Prelude.{IsTrue}
 use Rattle.std.proofs.lemmas.Bool.Decides.{nat_tests}
 use Rattle.std.proofs.lemmas.Bool.{ltb-true, leb-true}
 use Rattle.memory_image.specs.Image.{Span, IsLaidOut}
-use Rattle.unwind_definitions.specs.Forms.{emitted}
 use Rattle.unwind_definitions.specs.Pointers.{Bases}
 use Rattle.unwind_definitions.specs.Row.{row_at, argument_size}
 use Rattle.unwind_definitions.specs.LanguageTable.{input_at}
@@ -63,8 +62,8 @@ asked_as image c found f a asks at = ap (asked_if_named image c false found) ask
 
 module _ (space : SpaceValue) (c : Context) (functions : List Function) (s : State) (call : Call) (apart : AreApart 0 space.modules) (laid : IsLaidOut 0 space.image)
     (is : IsDescribedCall (process_of space) functions s call) (shows : Shows (columns_of c) s) where
-  abbrev step : Steps emitted (process_of space) no_expressions (columns_of c) (s.ra - 1) call
-  step = one_step emitted (process_of space) no_expressions functions (s.ra - 1) s call (columns_of c)
+  abbrev step : Steps (process_of space) no_expressions (columns_of c) (s.ra - 1) call
+  step = one_step (process_of space) no_expressions functions (s.ra - 1) s call (columns_of c)
       record { is_function = is.is_function; listed = is.listed; lies = is.lies; inside = is.called.inside; entered = is.called.entered; caller = is.caller; ends = is.ends } shows
 
   ra_is : c.ra ≡ s.ra
@@ -86,7 +85,7 @@ module _ (space : SpaceValue) (c : Context) (functions : List Function) (s : Sta
   small : s.ra < 2 ^ 64
   small =
       let lies = body_inside call.callee (s.ra - 1) is.is_function is.called.inside in
-      let below = ends_below emitted (described.bases_of step.finds.home step.finds.frame) step.finds.fde step.finds.read in
+      let below = ends_below (described.bases_of step.finds.home step.finds.frame) step.finds.fde step.finds.read in
       let end = step.finds.describes.code.end in
       omega (arith, lies.1)
 
@@ -98,11 +97,11 @@ module _ (space : SpaceValue) (c : Context) (functions : List Function) (s : Sta
   unfolding frame_of
   found_with m finds found =
       let nonzero : eqb c.ra 0 ≡ false = let some : s.ra ≢ 0 = is.called.returns in let at : c.ra ≡ s.ra = ra_is in grind (arith, nat_tests) in
-      let row : row_at emitted bases step.finds.fde (s.ra - 1) ≡ Ok step.finds.run = step.finds.has_row in
+      let row : row_at bases step.finds.fde (s.ra - 1) ≡ Ok step.finds.run = step.finds.has_row in
       let framed : frame_of space c false ≡ Ok (Some frame_at) = rw (nonzero, asked_at, found, finds, row) refl in
       let called : caller_by space.image c frame_at ≡ Ok next = rw (step.undoes.is_caller, step.finds.no_signal) refl in
       let kept : columns_of (context_of step.undoes.caller) ≡ step.undoes.caller = λ i k. context_of-holds c step.undoes.caller call.caller step.undoes.shows step.undoes.others k i in
-      let asks : AsksAs space.image bases call.callee step.finds.fde = asks_as emitted space.image bases call.callee step.finds.fde is.is_function step.finds.read step.finds.describes in
+      let asks : AsksAs space.image bases call.callee step.finds.fde = asks_as space.image bases call.callee step.finds.fde is.is_function step.finds.read step.finds.describes in
       record {
         frame = frame_at;
         framed = framed;
