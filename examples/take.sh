@@ -5,6 +5,9 @@
 #   take.sh steps NAME COUNT                 before each of so many instructions, into out/NAME.steps
 #   take.sh delivery NAME SNAPSHOT REPORT    where it throws: gdb's frames, the landing pads, the handler
 #
+# Of the same process a second snapshot is taken by headers in place of frame tables: for NAME.json it is
+# NAME-by-header.json.
+#
 # The program runs without an environment and without a random layout, so that addresses and bytes
 # are the same each time, and nothing of the machine is in its stack.
 set -euo pipefail
@@ -25,7 +28,13 @@ in_gdb() {
 # hold nothing of anybody.
 for_all() {
     ../../tools/join.py --bare "$1.taken" > "../$2"
-    rm "$1.taken"
+    ../../tools/join.py --bare "$1-by-header.taken" > "../${2%.json}-by-header.json"
+    rm "$1.taken" "$1-by-header.taken"
+}
+
+# By its frame table, and by its header.
+both_snapshots() {
+    in_gdb "${@:3}" -ex "snapshot $1.taken --limit 64 --module $1 $2" -ex "snapshot $1-by-header.taken --limit 64 --module $1 --header $2"
 }
 
 # A process that gdb let go after its catch may have ended by itself.
@@ -41,7 +50,7 @@ of_report() {
 
 take_walk() {
     begin "$1"
-    in_gdb -ex "snapshot $1.taken --limit 64 --module $1"
+    both_snapshots "$1" ""
     for_all "$1" "$2"
     in_gdb -ex 'frames --program' | of_report > "../$3"
     end
@@ -65,7 +74,7 @@ take_delivery() {
     of_report <<< "$told" > "../$3"
     marks=$(grep -E '^--exception' <<< "$told"; sed -n 's/^resume /--resume /p' <<< "$told")
     begin "$1"
-    in_gdb -ex raised -ex "snapshot $1.taken --limit 64 --module $1 ${marks//$'\n'/ }"
+    both_snapshots "$1" "${marks//$'\n'/ }" -ex raised
     for_all "$1" "$2"
     end
 }

@@ -9,25 +9,28 @@ use stack_snapshot::{Snapshot, read_snapshot};
 use std::alloc::Global;
 use std::{fs, str};
 
-/// Snapshots to be walked. The compilers' names are in those of the files, and how far they optimise.
+/// Programs to be walked. In their names are those of the compilers, and how far they optimise.
 const WALKS: [&str; 8] = [
-    "nested-gcc-O0.json",
-    "nested-gcc-O2.json",
-    "nested-clang-O0.json",
-    "nested-clang-O2.json",
-    "frame_pointer-gcc-O0.json",
-    "frame_pointer-gcc-O2.json",
-    "frame_pointer-clang-O0.json",
-    "frame_pointer-clang-O2.json",
+    "nested-gcc-O0",
+    "nested-gcc-O2",
+    "nested-clang-O0",
+    "nested-clang-O2",
+    "frame_pointer-gcc-O0",
+    "frame_pointer-gcc-O2",
+    "frame_pointer-clang-O0",
+    "frame_pointer-clang-O2",
 ];
 
-/// Snapshots of a throw, to be delivered.
+/// Programs that throw, to be delivered to.
 const DELIVERIES: [&str; 4] = [
-    "cleanups-gcc-O0.json",
-    "cleanups-gcc-O2.json",
-    "cleanups-clang-O0.json",
-    "cleanups-clang-O2.json",
+    "cleanups-gcc-O0",
+    "cleanups-gcc-O2",
+    "cleanups-clang-O0",
+    "cleanups-clang-O2",
 ];
+
+/// The ends of the names of a program's two snapshots: by its module's frame table, and by its header.
+const FORMS: [&str; 2] = [".json", "-by-header.json"];
 
 /// What the reader of the expected lines has to know of the deliveries.
 const OF_DELIVERIES: &str =
@@ -83,15 +86,33 @@ fn print_report(rt: &HostRuntime, name: &str, report: &Report) -> Result<()> {
     Ok(())
 }
 
+/// The walks of a program's snapshots.
+fn print_walks(rt: &HostRuntime, program: &str) -> Result<()> {
+    for form in FORMS {
+        let name = format!(in rt.alloc(); "{program}{form}")?;
+        let report = walk_report(rt.alloc(), &snapshot_in(rt, &name)?)?;
+        print_report(rt, &name, &report)?;
+    }
+    Ok(())
+}
+
+/// The deliveries of a program's snapshots.
+fn print_deliveries(rt: &HostRuntime, program: &str) -> Result<()> {
+    for form in FORMS {
+        let name = format!(in rt.alloc(); "{program}{form}")?;
+        let report = delivery_report(rt.alloc(), &snapshot_in(rt, &name)?)?;
+        print_report(rt, &name, &report)?;
+    }
+    Ok(())
+}
+
 fn main(rt: HostRuntime) -> Result<()> {
-    for name in WALKS {
-        let report = walk_report(rt.alloc(), &snapshot_in(&rt, name)?)?;
-        print_report(&rt, name, &report)?;
+    for program in WALKS {
+        print_walks(&rt, program)?;
     }
     println!(rt; "{OF_DELIVERIES}")?;
-    for name in DELIVERIES {
-        let report = delivery_report(rt.alloc(), &snapshot_in(&rt, name)?)?;
-        print_report(&rt, name, &report)?;
+    for program in DELIVERIES {
+        print_deliveries(&rt, program)?;
     }
     Ok(())
 }

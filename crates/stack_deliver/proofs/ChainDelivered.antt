@@ -3,6 +3,7 @@ use Rattle.std.proofs.Common.{◌≡◌, ℕ, Bool, true, false, List, [], ◌�
 use Rattle.std.specs.Prelude.{IsTrue, map}
 use Rattle.std.specs.List.{find}
 use Rattle.std.specs.Option.{option_map_or}
+use Rattle.memory_image.specs.Image.{IsLaidOut}
 use Rattle.unwind_definitions.specs.State.{State}
 use Rattle.unwind_definitions.specs.Function.{Function, Action, NoAction, Cleanup, Catch, Filter, Terminate}
 use Rattle.unwind_definitions.specs.Chain.{Call, states_of}
@@ -50,7 +51,7 @@ pub record DeliversChain (exception : ℕ) (s : State) (calls : List Call) (r : 
   pub is : r ≡ Ok delivered
   pub shows : ShowsDelivery delivered exception s calls
 
-module _ (space : SpaceValue) (c : Context) (exception : ℕ) (resumes : List (ℕ × ℕ)) (limit : ℕ) (functions : List Function) (s : State) (calls : List Call) (apart : AreApart 0 space.modules) (whole : IsWhole c)
+module _ (space : SpaceValue) (c : Context) (exception : ℕ) (resumes : List (ℕ × ℕ)) (limit : ℕ) (functions : List Function) (s : State) (calls : List Call) (apart : AreApart 0 space.modules) (laid : IsLaidOut 0 space.image) (whole : IsWhole c)
     (is : StartsValidChain space c resumes limit functions s calls) where
   chain : IsDescribedChain (process_of space) functions s calls
   chain = valid_described (process_of space) (columns_of c) resumes functions s calls is.valid
@@ -96,19 +97,19 @@ module _ (space : SpaceValue) (c : Context) (exception : ℕ) (resumes : List (�
 
     accepted : (x : Action) (pad : ℕ) → described.action_of_frame f ≡ x → IsTrue (described.accepts x) → pad_of x ≡ Some pad →
         described.decided_by exception (described.inner_frames s calls) f.state x ≡ described.installed exception (described.inner_frames s calls) f.state pad →
-        lands_in space apart is.tables functions is.valid.are_functions exception (kept_at stop.context stop.interrupted) resumes limit f.state x ≡ Some (described.landing_at exception f.state pad) →
+        lands_in space apart laid functions is.valid.are_functions exception (kept_at stop.context stop.interrupted) resumes limit f.state x ≡ Some (described.landing_at exception f.state pad) →
         DeliversChain exception s calls (delivered_to contexts (Some stop) passes)
     accepted x pad acts accepts named due lands =
         let kept : ℕ = kept_at stop.context stop.interrupted in
         let accepting : IsTrue (described.accepts (described.action_of_frame f)) = subst (λ (y : Action). IsTrue (described.accepts y)) (sym acts) accepts in
         let within = is.shorter in
-        let shown = passes_show space apart is.tables functions is.valid.are_functions exception kept resumes limit s calls c limit limit f is.valid.chain chain.described is.valid.shows whole within within (omega arith) decided accepting kept_is
+        let shown = passes_show space apart laid functions is.valid.are_functions exception kept resumes limit s calls c limit limit f is.valid.chain chain.described is.valid.shows whole within within (omega arith) decided accepting kept_is
         (is.valid.resumed f decided accepting) in
-        let run : passes kept ≡ Ok shown.passed = by_pass space apart is.tables functions is.valid.are_functions exception kept resumes limit limit c ∙ shown.is in
+        let run : passes kept ≡ Ok shown.passed = by_pass space apart laid functions is.valid.are_functions exception kept resumes limit limit c ∙ shown.is in
         record {
           delivered = record { visited = contexts; trail = shown.passed.trail; outcome = shown.passed.ending.outcome; landing = shown.passed.ending.landing };
           is = ap (λ (o : Option ℕ). delivered_at contexts o (passes kept)) (pad_is x acts ∙ named) ∙ ap (delivered_after contexts) run;
-          shows = same_made _ _ _ _ _ _ _ _ visited shown.trail (shown.landing ∙ ap (lands_in space apart is.tables functions is.valid.are_functions exception kept resumes limit f.state) acts ∙ lands) (ap outcome_of shown.outcome) ∙ sym (due_is x acts ∙ due);
+          shows = same_made _ _ _ _ _ _ _ _ visited shown.trail (shown.landing ∙ ap (lands_in space apart laid functions is.valid.are_functions exception kept resumes limit f.state) acts ∙ lands) (ap outcome_of shown.outcome) ∙ sym (due_is x acts ∙ due);
         }
 
     -- the frame that decides
@@ -131,5 +132,5 @@ module _ (space : SpaceValue) (c : Context) (exception : ℕ) (resumes : List (�
   pub chain_delivered : DeliversChain exception s calls (delivery_of space c exception resumes limit)
   unfolding delivery_of
   chain_delivered =
-      let search : SearchShows (pass_of phase.Search space limit c false) s calls = search_shows space apart is.tables functions is.valid.are_functions s calls c limit is.valid.chain chain.described is.valid.shows is.shorter in
+      let search : SearchShows (pass_of phase.Search space limit c false) s calls = search_shows space apart laid functions is.valid.are_functions s calls c limit is.valid.chain chain.described is.valid.shows is.shorter in
       rw search.is (by_stop search.line.contexts (described.deciding_frame s calls) search.line.stop refl search.stop search.states)

@@ -3,10 +3,11 @@ use Rattle.std.proofs.Common.{inl, inr, ◌≡◌, ◌≢◌, ℕ, zero, suc, �
 use Rattle.std.specs.Prelude.{◌⊎◌, IsTrue, map}
 use Rattle.std.specs.List.{Contains, AllByRecursion}
 use Rattle.std.proofs.lemmas.Bool.Decides.{nat_tests}
+use Rattle.memory_image.specs.Image.{IsLaidOut}
 use Rattle.unwind_definitions.specs.declared.error.Error.TheVariants.{NoUnwindInfoForAddress}
 use Rattle.unwind_definitions.specs.State.{State, IsState, Shows}
 use Rattle.unwind_definitions.specs.Prologue.{SystemV}
-use Rattle.unwind_definitions.specs.Scan.{scan}
+use Rattle.unwind_definitions.specs.Scan.{fdes_of, scan}
 use Rattle.unwind_definitions.specs.LanguageTable.{input_at}
 use Rattle.unwind_definitions.specs.LanguageSearch.{address_of_call}
 use Rattle.unwind_definitions.specs.Function.{Function, IsFunction}
@@ -27,7 +28,8 @@ use Rattle.unwinding_core.specs.Named.{found_by_kind}
 use Rattle.stack_deliver.specs.Stepping.{frame_in, frame_of, step_of}
 use Rattle.stack_deliver.proofs.StepParts.{stepped_by, step_is}
 use Rattle.stack_deliver.specs.Delivering.{line_of}
-use Rattle.stack_deliver.specs.Walking.{IsDescribedCall, HaveFrameTables, Undone, EachShows}
+use Rattle.stack_deliver.specs.Walking.{IsDescribedCall, Undone, EachShows}
+use Rattle.stack_deliver.proofs.HeaderFinds.{header_finds_none}
 use Rattle.stack_deliver.proofs.MetFrames.{step_undone}
 
 -- a module that is found is one of the space's, and contains the address
@@ -54,10 +56,13 @@ contains_in_map (n ∷ ns) m has = go (λ h. contains_in_map ns m h) (lists.here
     go later (inr h) = lists.later (module_of n) (map module_of ns) (module_of m) (later h)
 
 module _ (space : SpaceValue) where
-  -- a module's frame table doesn't contain the address
-  in_no_entry : (a : ℕ) (m : Module) → described.CoversNot space.image (module_of m) a → described.header_of (tables_of m.frame.kind) ≡ None → (kind : FrameInfoKind) → m.frame.kind ≡ kind → found_by_kind m.frame.text_base kind space.image a ≡ None
-  in_no_entry a m u own (EhFrameHdr h) named = let other : described.header_of (tables_of (EhFrameHdr h)) ≡ None = rw named at own in absurd cc
-  in_no_entry a m u own (EhFrame f) named =
+  -- nothing is found for the address by a module's frame table, which doesn't contain it, or by the header that lists it
+  in_no_entry : IsLaidOut 0 space.image → (a : ℕ) (m : Module) → described.CoversNot space.image (module_of m) a → (kind : FrameInfoKind) → m.frame.kind ≡ kind → found_by_kind m.frame.text_base kind space.image a ≡ None
+  in_no_entry laid a m u (EhFrameHdr h) named =
+      let tables : tables_of m.frame.kind ≡ described.Header h = ap tables_of named in
+      let lists : described.IsHeaderTable space.image h u.frame (fdes_of u.entries) = subst (λ (t : described.Tables). described.HeaderLists space.image t u.frame (fdes_of u.entries)) tables u.header in
+      header_finds_none space.image (module_of m) a u h tables lists laid
+  in_no_entry laid a m u (EhFrame f) named =
       let address : described.frame_address space.image (described.Frames f) ≡ Some u.frame =
       subst (λ (k : FrameInfoKind). described.frame_address space.image (tables_of k) ≡ Some u.frame) named u.address in
       let place : f ≡ u.frame = cc in
@@ -68,18 +73,17 @@ module _ (space : SpaceValue) where
       rw (same, none) refl
 
   -- an address that nothing covers ends the stack
-  by_module : HaveFrameTables (process_of space) → (a : ℕ) → described.IsUncovered (process_of space) a → (o : Option Module) → module_at space.modules a ≡ o → frame_in space.image a o ≡ Ok None
-  by_module tables a free None found = refl
-  by_module tables a free (Some m) found =
+  by_module : IsLaidOut 0 space.image → (a : ℕ) → described.IsUncovered (process_of space) a → (o : Option Module) → module_at space.modules a ≡ o → frame_in space.image a o ≡ Ok None
+  by_module laid a free None found = refl
+  by_module laid a free (Some m) found =
       let r = module_at-found space.modules m a found in
       let known : Contains (map module_of space.modules) (module_of m) = contains_in_map space.modules m r.0 in
-      let own : described.header_of (tables_of m.frame.kind) ≡ None = lists.all_contains (λ (k : described.Module). described.header_of k.tables ≡ None) (map module_of space.modules) (module_of m) tables known in
-      rw (in_no_entry a m (free (module_of m) known r.1) own m.frame.kind refl) refl
+      rw (in_no_entry laid a m (free (module_of m) known r.1) m.frame.kind refl) refl
 
   -- the stack ends where the return address is 0 or no function covers it
-  pub ends : HaveFrameTables (process_of space) → (functions : List Function) (c : Context) (s : State) → Shows (columns_of c) s → IsEnd space.image (described.IsUncovered (process_of space)) functions s → frame_of space c false ≡ Ok None
+  pub ends : IsLaidOut 0 space.image → (functions : List Function) (c : Context) (s : State) → Shows (columns_of c) s → IsEnd space.image (described.IsUncovered (process_of space)) functions s → frame_of space c false ≡ Ok None
   unfolding frame_of
-  ends tables functions c s shows end = go end.ends
+  ends laid functions c s shows end = go end.ends
     where
       go : (s.ra ≡ 0) ⊎ ((s.ra ≢ 0) × described.IsUncovered (process_of space) (s.ra - 1)) → frame_of space c false ≡ Ok None
       go (inl none) = let e : columns_of c 16 ≡ Some s.ra = shows.ra in let at : c.ra ≡ 0 = cc in rw at refl
@@ -90,23 +94,23 @@ module _ (space : SpaceValue) where
           let nonzero : eqb c.ra 0 ≡ false = grind (arith, nat_tests) in
           let low : s.ra < 2 ^ 64 = end.state.ra in
           let asked : address_of_call c.ra false ≡ s.ra - 1 = omega arith in
-          rw (nonzero, asked) (by_module tables (s.ra - 1) u.1 (module_at space.modules (s.ra - 1)) refl)
+          rw (nonzero, asked) (by_module laid (s.ra - 1) u.1 (module_at space.modules (s.ra - 1)) refl)
 
-  step_ends : HaveFrameTables (process_of space) → (functions : List Function) (c : Context) (s : State) → Shows (columns_of c) s → IsEnd space.image (described.IsUncovered (process_of space)) functions s → step_of space c false ≡ Ok None
-  step_ends tables functions c s shows end = step_is space c false ∙ ap (stepped_by space.image c) (ends tables functions c s shows end)
+  step_ends : IsLaidOut 0 space.image → (functions : List Function) (c : Context) (s : State) → Shows (columns_of c) s → IsEnd space.image (described.IsUncovered (process_of space)) functions s → step_of space c false ≡ Ok None
+  step_ends laid functions c s shows end = step_is space c false ∙ ap (stepped_by space.image c) (ends laid functions c s shows end)
 
   state_of : (functions : List Function) (s : State) (calls : List Call) → IsChain space.image (described.IsUncovered (process_of space)) functions s calls → IsState s
   state_of functions s [] chain = chain.state
   state_of functions s (k ∷ calls) chain = chain.0.state
 
   -- The line from a context that shows the start of a chain, where there is room for it.
-  pub line_shows : AreApart 0 space.modules → HaveFrameTables (process_of space) → (functions : List Function) → AllByRecursion (IsFunction SystemV) functions → (s : State) (calls : List Call) (c : Context) (room : ℕ) →
+  pub line_shows : AreApart 0 space.modules → IsLaidOut 0 space.image → (functions : List Function) → AllByRecursion (IsFunction SystemV) functions → (s : State) (calls : List Call) (c : Context) (room : ℕ) →
       IsChain space.image (described.IsUncovered (process_of space)) functions s calls → AllByRecursion (λ (k : Call). LiesDescribed (process_of space) functions k.callee) calls → Shows (columns_of c) s → length calls < room →
       (cs : List Context) × (line_of space room c false ≡ Ok cs) × EachShows cs (states_of s calls)
-  line_shows apart tables functions are s [] c zero chain lie shows less = absurd (omega arith)
-  line_shows apart tables functions are s [] c (suc room) chain lie shows less = (c ∷ [], rw (step_ends tables functions c s shows chain) refl, (shows, tt))
-  line_shows apart tables functions are s (k ∷ calls) c zero chain lie shows less = absurd (omega arith)
-  line_shows apart tables functions are s (k ∷ calls) c (suc room) chain lie shows less =
+  line_shows apart laid functions are s [] c zero chain lie shows less = absurd (omega arith)
+  line_shows apart laid functions are s [] c (suc room) chain lie shows less = (c ∷ [], rw (step_ends laid functions c s shows chain) refl, (shows, tt))
+  line_shows apart laid functions are s (k ∷ calls) c zero chain lie shows less = absurd (omega arith)
+  line_shows apart laid functions are s (k ∷ calls) c (suc room) chain lie shows less =
       let link : IsLink space.image functions s k calls = chain.0 in
       let is : IsDescribedCall (process_of space) functions s k = record {
         is_function = lists.all_contains (IsFunction SystemV) functions k.callee are link.listed;
@@ -116,7 +120,7 @@ module _ (space : SpaceValue) where
         caller = state_of functions k.caller calls chain.1;
         ends = λ outer. (link.last outer).1;
       } in
-      let step : Undone (step_of space c false) (columns_of c) k.caller = step_undone space c functions s k apart tables is shows in
+      let step : Undone (step_of space c false) (columns_of c) k.caller = step_undone space c functions s k apart laid is shows in
       let fewer : length calls < room = omega arith in
-      let rest = line_shows apart tables functions are k.caller calls step.next.context room chain.1 lie.1 step.shows fewer in
+      let rest = line_shows apart laid functions are k.caller calls step.next.context room chain.1 lie.1 step.shows fewer in
       (c ∷ rest.0, rw (step.answered, step.unmarked, rest.1) refl, (shows, rest.2))

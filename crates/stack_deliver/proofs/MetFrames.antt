@@ -1,12 +1,11 @@
 -- The frame at a context that shows a state of a described chain.
 use Rattle.std.proofs.Common.{◌≡◌, ◌≢◌, ℕ, ◌-◌, ◌^◌, ◌<◌, false, List, Option, Some, None, Ok, refl, sym, ap, subst, ◌∙◌, arith, eqb, ltb, leb}
-use Rattle.std.specs.Prelude.{IsTrue, map}
+use Rattle.std.specs.Prelude.{IsTrue}
 use Rattle.std.proofs.lemmas.Bool.Decides.{nat_tests}
 use Rattle.std.proofs.lemmas.Bool.{ltb-true, leb-true}
-use Rattle.memory_image.specs.Image.{Span}
+use Rattle.memory_image.specs.Image.{Span, IsLaidOut}
 use Rattle.unwind_definitions.specs.Pointers.{Bases}
 use Rattle.unwind_definitions.specs.Row.{row_at, argument_size}
-use Rattle.unwind_definitions.specs.Scan.{scan}
 use Rattle.unwind_definitions.specs.LanguageTable.{input_at}
 use Rattle.unwind_definitions.specs.LanguageSearch.{address_of_call}
 use Rattle.unwind_definitions.specs.Caller.{Columns}
@@ -25,16 +24,17 @@ use Rattle.unwind_arch.specs.Contexts.{columns_of, context_of}
 use Rattle.unwinding_core.specs.declared.find_fde.custom.FrameInfoKind.{FrameInfoKind}
 use Rattle.unwinding_core.specs.declared.find_fde.custom.FrameInfoKind.TheVariants.{EhFrame, EhFrameHdr}
 use Rattle.unwind_definitions.specs.Expressions.{evaluation}
-use Rattle.unwinding_core.specs.Finding.{FoundFde, table_bases}
+use Rattle.unwinding_core.specs.Finding.{FoundFde, table_bases, scanned_in}
 use Rattle.unwinding_core.specs.Named.{found_by_kind}
 use Rattle.stack_deliver.specs.declared.space.Module.{Module}
 use Rattle.stack_deliver.specs.declared.delivery.Stepped.{Stepped}
 use Rattle.stack_deliver.specs.Modules.{SpaceValue, AreApart, module_at}
 use Rattle.stack_deliver.specs.Processes.{tables_of, module_of, process_of}
-use Rattle.stack_deliver.specs.Stepping.{step_of, FrameAt, frame_by, frame_of, caller_by}
-use Rattle.stack_deliver.specs.Walking.{IsDescribedCall, HaveFrameTables, Undone}
+use Rattle.stack_deliver.specs.Stepping.{step_of, FrameAt, frame_of, caller_by}
+use Rattle.stack_deliver.specs.Walking.{IsDescribedCall, Undone}
 use Rattle.stack_deliver.specs.Passes.{asked_if_named, asked_of}
 use Rattle.stack_deliver.proofs.ContextLemmas.{IsWhole}
+use Rattle.stack_deliver.proofs.HeaderFinds.{header_finds}
 use Rattle.stack_deliver.proofs.StepParts.{some_next, stepped_by, step_is}
 use Rattle.stack_deliver.proofs.StepUndone.{IsOf, contains_map, module_at-contains, context_of-holds}
 
@@ -60,7 +60,7 @@ asked_as image c found f a asks at = ap (asked_if_named image c false found) ask
     go None silent = let none : f.sites ≡ None = silent refl in rw none refl
     go (Some routine) silent = rw (at, asks.action a) refl
 
-module _ (space : SpaceValue) (c : Context) (functions : List Function) (s : State) (call : Call) (apart : AreApart 0 space.modules) (tables : HaveFrameTables (process_of space))
+module _ (space : SpaceValue) (c : Context) (functions : List Function) (s : State) (call : Call) (apart : AreApart 0 space.modules) (laid : IsLaidOut 0 space.image)
     (is : IsDescribedCall (process_of space) functions s call) (shows : Shows (columns_of c) s) where
   abbrev step : Steps (process_of space) (evaluation space.image) (columns_of c) (s.ra - 1) call
   step = one_step (process_of space) (evaluation space.image) functions (s.ra - 1) s call (columns_of c)
@@ -72,8 +72,14 @@ module _ (space : SpaceValue) (c : Context) (functions : List Function) (s : Sta
   abbrev next : Stepped
   next = record { context = context_of step.undoes.caller; signal = false }
 
-  abbrev frame_at : Module → ℕ → FrameAt
-  frame_at m f = record { found = record { fde = step.finds.fde; bases = table_bases m.frame.text_base f; table = input_at space.image f }; run = step.finds.run }
+  abbrev bases : Bases
+  bases = described.bases_of step.finds.home step.finds.frame
+
+  abbrev found_there : FoundFde
+  found_there = record { fde = step.finds.fde; bases = bases; table = input_at space.image step.finds.frame }
+
+  abbrev frame_at : FrameAt
+  frame_at = record { found = found_there; run = step.finds.run }
 
   -- the return address is a word, for its function ends below 2 ^ 64
   small : s.ra < 2 ^ 64
@@ -86,28 +92,20 @@ module _ (space : SpaceValue) (c : Context) (functions : List Function) (s : Sta
   asked_at : address_of_call c.ra false ≡ s.ra - 1
   asked_at = let some : s.ra ≢ 0 = is.called.returns in let low = small in let same = ra_is in omega arith
 
-  found_with : (m : Module) (f : ℕ) → module_of m ≡ step.finds.home → m.frame.kind ≡ EhFrame f → f ≡ step.finds.frame → module_at space.modules (s.ra - 1) ≡ Some m → Met space c s call
+  -- the module finds the description by the tables that it names
+  found_with : (m : Module) → found_by_kind m.frame.text_base m.frame.kind space.image (s.ra - 1) ≡ Some found_there → module_at space.modules (s.ra - 1) ≡ Some m → Met space c s call
   unfolding frame_of
-  found_with m f same kind place found =
+  found_with m finds found =
       let nonzero : eqb c.ra 0 ≡ false = let some : s.ra ≢ 0 = is.called.returns in let at : c.ra ≡ s.ra = ra_is in grind (arith, nat_tests) in
-      let header : described.header_of (tables_of m.frame.kind) ≡ None = rw kind refl in
-      let bases : described.bases_of step.finds.home step.finds.frame ≡ table_bases m.frame.text_base f =
-      subst (λ (h : described.Module). described.bases_of h step.finds.frame ≡ table_bases m.frame.text_base f) same
-      (subst (λ (g : ℕ). described.bases_of (module_of m) g ≡ table_bases m.frame.text_base f) place (rw header refl)) in
-      let scanned : scan (table_bases m.frame.text_base f) (input_at space.image f) (s.ra - 1) ≡ Ok step.finds.fde =
-      rw (← bases, place) step.finds.found in
-      let row : row_at (table_bases m.frame.text_base f) step.finds.fde (s.ra - 1) ≡ Ok step.finds.run = rw (← bases) step.finds.has_row in
-      let tabled : frame_by (s.ra - 1) (found_by_kind m.frame.text_base (EhFrame f) space.image (s.ra - 1)) ≡ Ok (Some (frame_at m f)) = rw (scanned, row) refl in
-      let framed : frame_of space c false ≡ Ok (Some (frame_at m f)) =
-      rw (nonzero, asked_at, found) (subst (λ (k : FrameInfoKind). frame_by (s.ra - 1) (found_by_kind m.frame.text_base k space.image (s.ra - 1)) ≡ Ok (Some (frame_at m f))) (sym kind) tabled) in
-      let called : caller_by space.image c (frame_at m f) ≡ Ok next = rw (step.undoes.is_caller, step.finds.no_signal) refl in
+      let row : row_at bases step.finds.fde (s.ra - 1) ≡ Ok step.finds.run = step.finds.has_row in
+      let framed : frame_of space c false ≡ Ok (Some frame_at) = rw (nonzero, asked_at, found, finds, row) refl in
+      let called : caller_by space.image c frame_at ≡ Ok next = rw (step.undoes.is_caller, step.finds.no_signal) refl in
       let kept : columns_of (context_of step.undoes.caller) ≡ step.undoes.caller = λ i k. context_of-holds c step.undoes.caller call.caller step.undoes.shows step.undoes.others k i in
-      let asks : AsksAs space.image (table_bases m.frame.text_base f) call.callee step.finds.fde =
-      subst (λ (b : Bases). AsksAs space.image b call.callee step.finds.fde) bases (asks_as space.image (described.bases_of step.finds.home step.finds.frame) call.callee step.finds.fde is.is_function step.finds.read step.finds.describes) in
+      let asks : AsksAs space.image bases call.callee step.finds.fde = asks_as space.image bases call.callee step.finds.fde is.is_function step.finds.read step.finds.describes in
       record {
-        frame = frame_at m f;
+        frame = frame_at;
         framed = framed;
-        asks = asked_as space.image c (frame_at m f).found call.callee (s.ra - 1) asks asked_at;
+        asks = asked_as space.image c found_there call.callee (s.ra - 1) asks asked_at;
         no_arguments = step.finds.no_arguments;
         next = next;
         called = called;
@@ -118,17 +116,26 @@ module _ (space : SpaceValue) (c : Context) (functions : List Function) (s : Sta
         address = small;
       }
 
-  by_kind : (m : Module) (kind : FrameInfoKind) → module_of m ≡ step.finds.home → m.frame.kind ≡ kind → module_at space.modules (s.ra - 1) ≡ Some m → Met space c s call
-  by_kind m (EhFrame f) same kind found =
+  -- a scan of the frame table finds it
+  scans : scanned_in bases (input_at space.image step.finds.frame) (s.ra - 1) ≡ Some found_there
+  scans = rw step.finds.found refl
+
+  -- so does the module's frame table, or the header that lists what the frame table has
+  by_kind : (m : Module) (kind : FrameInfoKind) → module_of m ≡ step.finds.home → m.frame.kind ≡ kind → found_by_kind m.frame.text_base kind space.image (s.ra - 1) ≡ Some found_there
+  by_kind m (EhFrame f) same named =
       let address : described.frame_address space.image (tables_of m.frame.kind) ≡ Some step.finds.frame = subst (λ (h : described.Module). described.frame_address space.image h.tables ≡ Some step.finds.frame) (sym same) step.finds.address in
-      let at : described.frame_address space.image (tables_of (EhFrame f)) ≡ Some step.finds.frame = rw kind at address in
+      let at : described.frame_address space.image (tables_of (EhFrame f)) ≡ Some step.finds.frame = rw named at address in
       let place : f ≡ step.finds.frame = cc in
-      found_with m f same kind place found
-  by_kind m (EhFrameHdr h) same kind found =
-      let free : described.header_of step.finds.home.tables ≡ None = lists.all_contains (λ (k : described.Module). described.header_of k.tables ≡ None) (map module_of space.modules) step.finds.home tables step.finds.known in
-      let own : described.header_of (tables_of m.frame.kind) ≡ None = subst (λ (k : described.Module). described.header_of k.tables ≡ None) (sym same) free in
-      let other : described.header_of (tables_of (EhFrameHdr h)) ≡ None = rw kind at own in
-      absurd cc
+      let header : described.header_of (tables_of m.frame.kind) ≡ None = rw named refl in
+      let same_bases : described.bases_of step.finds.home step.finds.frame ≡ table_bases m.frame.text_base f =
+      subst (λ (h : described.Module). described.bases_of h step.finds.frame ≡ table_bases m.frame.text_base f) same
+      (subst (λ (g : ℕ). described.bases_of (module_of m) g ≡ table_bases m.frame.text_base f) place (rw header refl)) in
+      rw (← same_bases, place) scans
+  by_kind m (EhFrameHdr h) same named =
+      let names : step.finds.home.tables ≡ described.Header h = ap (λ (k : described.Module). k.tables) (sym same) ∙ ap tables_of named in
+      let text : m.frame.text_base ≡ step.finds.home.text = ap (λ (k : described.Module). k.text) same in
+      let finds = header_finds space.image step.finds.home step.finds.part step.finds.home_describes h names laid (s.ra - 1) in
+      rw text (rw step.finds.framed at finds ∙ scans)
 
   pub met : Met space c s call
   met =
@@ -137,7 +144,7 @@ module _ (space : SpaceValue) (c : Context) (functions : List Function) (s : Sta
       let inside : IsTrue (described.in_module (s.ra - 1) (module_of m)) = subst (λ (h : described.Module). IsTrue (described.in_module (s.ra - 1) h)) (sym named.same) step.finds.inside in
       let both = lists.both_true (leb m.start (s.ra - 1)) (ltb (s.ra - 1) m.end) inside in
       let found : module_at space.modules (s.ra - 1) ≡ Some m = module_at-contains 0 space.modules m (s.ra - 1) apart named.among (leb-true m.start (s.ra - 1) both.0) (ltb-true (s.ra - 1) m.end both.1) in
-      by_kind m m.frame.kind named.same refl found
+      found_with m (by_kind m m.frame.kind named.same refl) found
 
   -- The step undoes the call.
   pub step_undone : Undone (step_of space c false) (columns_of c) call.caller

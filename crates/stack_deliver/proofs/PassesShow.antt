@@ -4,6 +4,7 @@ use Rattle.std.specs.Prelude.{◌==◌, IsTrue, IfSome, map}
 use Rattle.std.specs.List.{AllByRecursion, filter_map, cons_option}
 use Rattle.std.specs.Option.{option_map}
 use Rattle.std.proofs.lemmas.Bool.Decides.{nat_tests}
+use Rattle.memory_image.specs.Image.{IsLaidOut}
 use Rattle.unwind_definitions.specs.State.{State, Shows}
 use Rattle.unwind_definitions.specs.Prologue.{SystemV, steps_of}
 use Rattle.unwind_definitions.specs.Function.{Function, IsFunction, Action, NoAction, Cleanup, Catch, Filter, Terminate, in_body, action_at}
@@ -24,7 +25,7 @@ use Rattle.stack_deliver.specs.Modules.{SpaceValue, AreApart}
 use Rattle.stack_deliver.specs.Processes.{process_of}
 use Rattle.stack_deliver.specs.Resumes.{return_of}
 use Rattle.stack_deliver.specs.Shown.{state_of, landing_of, pair_of}
-use Rattle.stack_deliver.specs.Walking.{IsDescribedCall, HaveFrameTables, EachShows}
+use Rattle.stack_deliver.specs.Walking.{IsDescribedCall, EachShows}
 use Rattle.stack_deliver.specs.Passes.{Line, Stop, stops, with_context, pass_of, kept_at, pad_of, enters, landed, PassEnd, Finishes, Elsewhere, end_at, end_of, cleanup_at, resume_at, Passed, with_cleanup, resumed, followed, passes_of}
 use Rattle.stack_deliver.proofs.ContextLemmas.{IsWhole}
 use Rattle.stack_deliver.proofs.Chains.{shown_state}
@@ -82,7 +83,7 @@ resume_same (e ∷ es) pad = go (e.0 == pad) refl (resume_same es pad)
     go true is later = rw is refl
     go false is later = rw is later
 
-module _ (space : SpaceValue) (apart : AreApart 0 space.modules) (tables : HaveFrameTables (process_of space)) (functions : List Function) (are : AllByRecursion (IsFunction SystemV) functions) where
+module _ (space : SpaceValue) (apart : AreApart 0 space.modules) (laid : IsLaidOut 0 space.image) (functions : List Function) (are : AllByRecursion (IsFunction SystemV) functions) where
   abbrev Chain : State → List Call → Type 0
   Chain s calls = IsChain space.image (IsUncovered (process_of space)) functions s calls
 
@@ -94,12 +95,12 @@ module _ (space : SpaceValue) (apart : AreApart 0 space.modules) (tables : HaveF
   pub search_shows : (s : State) (calls : List Call) (c : Context) (room : ℕ) → Chain s calls → Lie calls → Shows (columns_of c) s → length calls < room → SearchShows (pass_of phase.Search space room c false) s calls
   search_shows s [] c room chain lie shows less = record {
     line = record { contexts = c ∷ []; stop = None };
-    is = pass_ends_at space tables functions c s phase.Search room (omega arith) shows chain;
+    is = pass_ends_at space laid functions c s phase.Search room (omega arith) shows chain;
     states = (shows, tt);
     stop = tt;
   }
   search_shows s (k ∷ calls) c room chain lie shows less =
-      let here : Met space c s k = met space c functions s k apart tables (call_in space functions are s k calls chain lie.0) shows in
+      let here : Met space c s k = met space c functions s k apart laid (call_in space functions are s k calls chain lie.0) shows in
       go here (search_shows k.caller calls here.next.context (room - 1) chain.1 lie.1 here.shows (omega arith)) (is_deciding (frame_in s k)) refl
     where
       go : (here : Met space c s k) → SearchShows (pass_of phase.Search space (room - 1) here.next.context false) k.caller calls → (b : Bool) → is_deciding (frame_in s k) ≡ b → SearchShows (pass_of phase.Search space room c false) s (k ∷ calls)
@@ -241,7 +242,7 @@ module _ (space : SpaceValue) (apart : AreApart 0 space.modules) (tables : HaveF
         is_call = call_in space functions are s k calls chain lie.0
 
         here : Met space c s k
-        here = met space c functions s k apart tables is_call shows
+        here = met space c functions s k apart laid is_call shows
 
         small : s.sp < 2 ^ 64
         small = chain.0.state.sp
@@ -283,7 +284,7 @@ module _ (space : SpaceValue) (apart : AreApart 0 space.modules) (tables : HaveF
             let entered : Context = enters c exception pad in
             let d : Context = record entered { ra = ret } in
             let shows_too : Shows (columns_of d) (returning s ret) = entered_shows c s exception pad shows ret in
-            let again : Met space d (returning s ret) k = met space d functions (returning s ret) k apart tables (call_resumed space functions s k ret is_call returns inside) shows_too in
+            let again : Met space d (returning s ret) k = met space d functions (returning s ret) k apart laid (call_resumed space functions s k ret is_call returns inside) shows_too in
             let quiet : stops phase.Cleanup (action_in (returning s ret) k) ≡ false = rw silent refl in
             let rest : PassesShow k.caller calls f (from_pass n (pass_of phase.Cleanup space (limit - 1) again.next.context false)) =
             outer again.next.context (limit - 1) n again.shows again.whole (omega arith) (omega arith) (later asks) (resumes_inner asks).1 in

@@ -4,6 +4,7 @@ use Rattle.std.specs.Prelude.{IsTrue}
 use Rattle.std.specs.List.{AllByRecursion}
 use Rattle.std.proofs.lemmas.List.{set-get_or, get_or-set_same, get_or-set_other}
 use Rattle.std.proofs.Math.ListN.{length-set}
+use Rattle.memory_image.specs.Image.{IsLaidOut}
 use Rattle.unwind_definitions.specs.Row.{argument_size}
 use Rattle.unwind_definitions.specs.State.{CalleeSaved, RBX, RBP, R12, R13, R14, R15, State, IsState, value_of, column_of, Shows}
 use Rattle.unwind_definitions.specs.Prologue.{SystemV, steps_of}
@@ -18,8 +19,7 @@ use Rattle.unwind_arch.specs.Contexts.{columns_of}
 use Rattle.stack_deliver.specs.declared.passes.Phase.{Phase}
 use Rattle.stack_deliver.specs.Modules.{SpaceValue}
 use Rattle.stack_deliver.specs.Processes.{process_of}
-use Rattle.stack_deliver.specs.Stepping.{FrameAt, frame_of, caller_by}
-use Rattle.stack_deliver.specs.Walking.{IsDescribedCall, HaveFrameTables}
+use Rattle.stack_deliver.specs.Walking.{IsDescribedCall}
 use Rattle.stack_deliver.specs.Passes.{stops, past_arguments, Stops, Goes, turn_of, with_context, pass_of, enters, turn_for}
 use Rattle.stack_deliver.proofs.ContextLemmas.{IsWhole}
 use Rattle.stack_deliver.proofs.LineShows.{ends}
@@ -60,12 +60,12 @@ module _ (space : SpaceValue) (c : Context) (s : State) (k : Call) (m : Met spac
 -- ---- the end of the stack
 
 -- a pass ends there
-pub pass_ends_at : (space : SpaceValue) → HaveFrameTables (process_of space) → (functions : List Function) (c : Context) (s : State) (p : Phase) (room : ℕ) → 0 < room → Shows (columns_of c) s → IsEnd space.image (IsUncovered (process_of space)) functions s →
+pub pass_ends_at : (space : SpaceValue) → IsLaidOut 0 space.image → (functions : List Function) (c : Context) (s : State) (p : Phase) (room : ℕ) → 0 < room → Shows (columns_of c) s → IsEnd space.image (IsUncovered (process_of space)) functions s →
     pass_of p space room c false ≡ Ok (record { contexts = c ∷ []; stop = None })
 unfolding turn_for
-pass_ends_at space tables functions c s p zero some shows end = absurd (omega arith)
-pass_ends_at space tables functions c s p (suc n) some shows end =
-    rw (ends space tables functions c s shows end) refl
+pass_ends_at space laid functions c s p zero some shows end = absurd (omega arith)
+pass_ends_at space laid functions c s p (suc n) some shows end =
+    rw (ends space laid functions c s shows end) refl
 
 -- ---- calls of a chain
 

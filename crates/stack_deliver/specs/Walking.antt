@@ -1,5 +1,5 @@
 -- What a walk and a delivery leave in a room, and why they are refused.
-use Rattle.std.specs.Prelude.{◌≡◌, ◌⊎◌, ℕ, zero, suc, ◌<◌, Bool, List, length, Result, Ok, Err, Some, false, [], ◌∷◌, None, Option, IsTrue}
+use Rattle.std.specs.Prelude.{◌≡◌, ◌⊎◌, ℕ, zero, suc, ◌<◌, Bool, List, length, Result, Ok, Err, Some, false, [], ◌∷◌, Option, IsTrue}
 use Rattle.unwind_definitions.specs.State.{State, Shows, IsState, KeepsOthers}
 use Rattle.unwind_definitions.specs.Function.{Function, IsFunction}
 use Rattle.unwind_definitions.specs.Chain.{Call, states_of, StacksRise, IsCalled}
@@ -15,17 +15,13 @@ use Rattle.stack_deliver.specs.Processes.{process_of}
 use Rattle.stack_deliver.specs.Stepping.{step_of}
 use Rattle.stack_deliver.specs.Delivering.{Delivered}
 use Rattle.stack_deliver.specs.Shown.{delivery_shown}
-use Rattle.std.specs.List.{Contains, AllByRecursion}
+use Rattle.std.specs.List.{Contains}
 use Rattle.unwind_definitions.specs.Caller.{Columns}
 use Rattle.unwind_definitions.specs.Prologue.{SystemV}
-use Rattle.unwind_definitions.specs.Module.{Module, Process, header_of}
+use Rattle.unwind_definitions.specs.Module.{Process}
 use Rattle.unwind_definitions.specs.Delivery as described
 
 -- ---- what it is for a step to undo a call
-
--- each module names its frame table itself, and no header table
-abbrev pub HaveFrameTables : Process → Type 0
-HaveFrameTables p = AllByRecursion (λ (m : Module). header_of m.tables ≡ None) p.modules
 
 -- A state is stopped in the body of a listed function, which was called from its caller's state and which a module describes.
 -- The caller of an outermost function has the return address 0.
@@ -79,10 +75,9 @@ abbrev pub StepFails : SpaceValue → ℕ → Context → Bool → DeliverError 
 StepFails space zero c interrupted e = ⊥
 StepFails space (suc room) c interrupted e = (step_of space c interrupted ≡ Err e) ⊎ ((s : Stepped) × (step_of space c interrupted ≡ Ok (Some s)) × StepFails space room s.context s.signal e)
 
--- A context shows the innermost state of a chain of calls that is shorter than the limit. Modules name frame tables of the
--- forms that are read, and these describe the functions of the chain.
+-- A context shows the innermost state of a chain of calls that is shorter than the limit. The tables that modules name, frame
+-- tables or headers of them, describe the functions of the chain.
 pub record StartsChain (space : SpaceValue) (c : Context) (limit : ℕ) (functions : List Function) (s : State) (calls : List Call) : Type 0 where
-  pub tables : HaveFrameTables (process_of space)
   pub described : IsDescribedChain (process_of space) functions s calls
   pub shows : Shows (columns_of c) s
   pub shorter : length calls < limit
@@ -95,7 +90,6 @@ pub record ShowChain (cs : List Context) (s : State) (calls : List Call) : Type 
 -- The same of a delivery: every module describes its part of the functions, and where a handler takes the exception, the
 -- resume table says where each frame inside it goes on behind its cleanup.
 pub record StartsValidChain (space : SpaceValue) (c : Context) (resumes : List (ℕ × ℕ)) (limit : ℕ) (functions : List Function) (s : State) (calls : List Call) : Type 0 where
-  pub tables : HaveFrameTables (process_of space)
   pub valid : IsValid (process_of space) (columns_of c) resumes functions s calls
   pub shorter : length calls < limit
 

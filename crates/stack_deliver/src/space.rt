@@ -1,5 +1,6 @@
 // An image of memory, and the modules that lie in it.
 ghost use Rattle.std.specs.Prelude.{◌≡◌, ◌<◌, [], MatchOption, IsOkUnless, OnOk, OnErr};
+ghost use Rattle.memory_image.specs.Image.{IsLaidOut};
 ghost use Rattle.stack_deliver.specs.Modules.{module_refusal, lowest_shared, module_at, with_module, modules_in, AreApart};
 ghost use Rattle.stack_deliver.specs.Modules.{last_below, first_between};
 
@@ -51,13 +52,14 @@ pub struct Space<'a> {
 }
 
 impl<'a> Model for Space<'a> {
+    ghost use Rattle.memory_image.specs.Image.{IsLaidOut};
     ghost use Rattle.stack_deliver.specs.Modules.{SpaceValue, AreApart, modules_in};
 
     ghost Value = { SpaceValue };
 
     ghost view = { λ s. record { image = s.image; modules = modules_in s.modules.entries } };
 
-    ghost invariant = { λ s. AreApart 0 (modules_in s.modules.entries) };
+    ghost invariant = { λ s. AreApart 0 (modules_in s.modules.entries) × IsLaidOut 0 s.image };
 }
 
 impl<'a> Space<'a> {
@@ -65,6 +67,8 @@ impl<'a> Space<'a> {
     pub fn new(alloc: Global, image: MemoryImage<'a>) -> Space<'a>
         ensures { result ≡ record { image = image.entry; modules = [] } }
     {
+        // A look into it tells the proof that the image is laid out.
+        let _ = image.from(0);
         Space {
             image,
             modules: BTreeMap::new(alloc),
@@ -114,6 +118,7 @@ impl<'a> Space<'a> {
     pub(crate) fn image(&self) -> &MemoryImage<'a>
         ensures image { result.now ≡ self.now.image }
         ensures apart { AreApart 0 self.now.modules }
+        ensures laid_out { IsLaidOut 0 self.now.image }
     {
         &self.image
     }

@@ -1,6 +1,6 @@
 // From a frame to its caller, by the frame tables of the module that holds it.
 ghost use Rattle.std.specs.Prelude.{◌≡◌, ◌↔◌, ℕ, List, Some, None, Ok, Err, IsTrue, IsFalse};
-ghost use Rattle.memory_image.specs.Image.{word_at};
+ghost use Rattle.memory_image.specs.Image.{word_at, IsLaidOut};
 ghost use Rattle.unwind_definitions.specs.declared.error.Error.{Error as Fault};
 ghost use Rattle.unwind_definitions.specs.State.{State, Shows};
 ghost use Rattle.unwind_definitions.specs.Function.{Function};
@@ -18,7 +18,7 @@ ghost use Rattle.stack_deliver.specs.Processes.{process_of};
 ghost use Rattle.stack_deliver.specs.Passing.{IsFrameOf, GivesFrameAt};
 ghost use Rattle.stack_deliver.specs.Results.{result_map};
 ghost use Rattle.stack_deliver.specs.Stepping.{FrameAt, frame_by, frame_in, frame_of, caller_by, step_of, pairs_at, GivesCaller, EndsAt, FaultsAt, RisesBySearch, ReadIsUnmapped};
-ghost use Rattle.stack_deliver.specs.Walking.{HaveFrameTables, IsDescribedCall, Undone};
+ghost use Rattle.stack_deliver.specs.Walking.{IsDescribedCall, Undone};
 
 use crate::delivery::{DeliverError, Stepped};
 use crate::space::{Module, Space};
@@ -131,6 +131,7 @@ fn stepped<L: Ledger>(
 ) -> Result<Option<Stepped>, DeliverError>
     ensures exact { result ≡ step_of space.now context.now interrupted }
     ensures apart { AreApart 0 space.now.modules }
+    ensures laid_out { IsLaidOut 0 space.now.image }
     ensures ticks { RisesBySearch (pairs_at space.now context.now interrupted) steps.old.number steps.new.number }
 {
     let image = space.image();
@@ -172,7 +173,7 @@ pub fn step<L: Ledger>(
     ensures table { (e : Fault) → (result ≡ Err (DeliverError.Table e)) ↔ FaultsAt space.now context.now interrupted e }
     ensures unmapped { (a : ℕ) → result ≡ Err (DeliverError.Unmapped a) → word_at space.now.image a ≡ None }
     ensures reads { (a : ℕ) → (result ≡ Err (DeliverError.Unmapped a)) ↔ ReadIsUnmapped space.now context.now interrupted a }
-    ensures undone { (functions : List Function) (s : State) (call : Call) → HaveFrameTables (process_of space.now) → IsDescribedCall (process_of space.now) functions s call →
+    ensures undone { (functions : List Function) (s : State) (call : Call) → IsDescribedCall (process_of space.now) functions s call →
         Shows (columns_of context.now) s → IsFalse interrupted → Undone result (columns_of context.now) call.caller }
     // No step is counted where the module names a frame table.
     ensures ticks { RisesBySearch (pairs_at space.now context.now interrupted) steps.old.number steps.new.number }

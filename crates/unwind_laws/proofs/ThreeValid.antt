@@ -12,11 +12,11 @@ use Rattle.unwind_definitions.specs.Entered.{IsEntered}
 use Rattle.unwind_definitions.specs.Function.{Site, Cleanup, Catch, NoAction, IsFunction}
 use Rattle.unwind_definitions.specs.LanguageTable.{IsLanguageTable}
 use Rattle.unwind_definitions.specs.FrameTable.{IsEmittedCie, DescribesFrames, MeetsNot, has_range_of}
-use Rattle.unwind_definitions.specs.Module.{IsProcess, AreApart, bases_of, DescriptionsApart, DescribesModule, IsUncovered, IsHeaderTable, pair_of}
+use Rattle.unwind_definitions.specs.Module.{Module, IsProcess, AreApart, bases_of, DescriptionsApart, DescribesModule, CoversNot, IsUncovered, IsHeaderTable, pair_of}
 use Rattle.unwind_definitions.specs.Chain.{IsCalled, IsChain}
 use Rattle.unwind_definitions.specs.Valid.{IsValid}
 use Rattle.unwind_laws.specs.Columns.{columns_of}
-use Rattle.unwind_laws.specs.Three.{header, image, table, cie_plain, cie_language, fde_a, fde_b, fde_c, fa, fb, fc, functions, entries, module_of_them, process, start, second, third, last, calls_through, calls, resumes, unlisted_process, unlisted_calls, module_with_header, header_image, header_process}
+use Rattle.unwind_laws.specs.Three.{header, image, table, cie_plain, cie_language, fde_a, fde_b, fde_c, fa, fb, fc, functions, entries, module_of_them, process, start, second, third, last, calls_through, calls, resumes, unlisted_process, unlisted_calls, module_with_header, header_image, header_process, longer_module, longer_process, behind}
 use Rattle.unwind_laws.proofs.Booleans.{here_or_later, none_in_nil, pairs_one, pairs_two}
 use Rattle.unwind_laws.proofs.RowFacts.{by_register, state_fits}
 use Rattle.unwind_laws.proofs.PushingValid.{columns_show}
@@ -245,6 +245,43 @@ header_valid = record {
   shows = columns_show start;
   chain = listed_chain (record { start = 0x504000; bytes = header } ∷ []) (IsUncovered header_process);
   resumed = λ f found accepted. (tt, ((λ e. absurd cc, refl, refl), tt));
+}
+
+-- ---- behind the functions
+longer_described : DescribesModule header_image longer_module functions
+longer_described = record {
+  frame = 0x500000;
+  address = refl;
+  entries = entries;
+  frames = frames_described 0x60 (record { start = 0x504000; bytes = header } ∷ []) (bases_of longer_module 0x500000);
+  nonempty = (lit< tt, (lit< tt, (lit< tt, tt)));
+  apart = pairs_three;
+  inside = ((lit≤ tt, lit≤ tt), ((lit≤ tt, lit≤ tt), ((lit≤ tt, lit≤ tt), tt)));
+  header = header_lists;
+}
+
+behind_uncovered : IsUncovered longer_process 0x401090
+unfolding longer_described
+behind_uncovered m has inside = elim (here_or_later longer_module [] m has) [
+  | inl same ↦ subst (λ (k : Module). CoversNot header_image k 0x401090) same (record {
+    frame = 0x500000;
+    address = refl;
+    entries = entries;
+    reads = longer_described.frames.reads;
+    uncovered = (refl, (refl, (refl, tt)));
+    header = header_lists;
+  })
+  | inr none ↦ absurd (none_in_nil m none)
+]
+
+pub behind_valid : IsValid longer_process (columns_of behind) [] functions behind []
+behind_valid = record {
+  are_functions = (function_a, (function_b, (function_c, tt)));
+  modules = (longer_described, tt);
+  no_others = (refl, (refl, (refl, tt)));
+  shows = columns_show behind;
+  chain = record { state = words behind (lit< tt) (lit< tt) (lit< tt) (lit< tt) (lit< tt) refl refl refl; ends = inr (λ e. absurd cc, behind_uncovered) };
+  resumed = λ f found accepted. absurd cc;
 }
 
 -- regions and modules share no address

@@ -56,6 +56,9 @@ module _ (p : Process) where
         inside = x.inside;
         frame = lies.describes.frame;
         address = lies.describes.address;
+        part = part_in lies.home functions;
+        home_describes = lies.describes;
+        framed = refl;
         fde = x.finds.fde;
         found = x.finds.found;
         no_signal = x.finds.no_signal;

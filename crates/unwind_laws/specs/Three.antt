@@ -237,6 +237,17 @@ header_image = image 0x60 (record { start = 0x504000; bytes = header } ∷ [])
 abbrev pub header_process : Process
 header_process = record { image = header_image; modules = module_with_header ∷ [] }
 
+-- ---- behind the functions, in a module that is longer than they are
+
+abbrev pub longer_module : Module
+longer_module = record { start = 0x401000; end = 0x401100; text = None; tables = Header 0x504000 }
+
+abbrev pub longer_process : Process
+longer_process = record { image = header_image; modules = longer_module ∷ [] }
+
+abbrev pub behind : State
+behind = state 0x401091 0x70e0 0x22 0xc 0x2e
+
 -- ---- the third function's language table with an action table that is cut inside its number
 
 abbrev pub cut_language : List ℕ

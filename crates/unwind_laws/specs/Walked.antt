@@ -11,7 +11,7 @@ use Rattle.unwind_definitions.specs.Entered.{IsEntered}
 use Rattle.unwind_definitions.specs.Function.{Function, IsFunction, in_body}
 use Rattle.unwind_definitions.specs.LanguageTable.{input_at}
 use Rattle.unwind_definitions.specs.FrameTable.{DescribesFunction}
-use Rattle.unwind_definitions.specs.Module.{Module, Process, in_module, frame_address, bases_of, IsUncovered}
+use Rattle.unwind_definitions.specs.Module.{Module, Process, in_module, frame_address, bases_of, DescribesModule, IsUncovered}
 use Rattle.unwind_definitions.specs.Chain.{Call, IsEnd}
 use Rattle.unwind_definitions.specs.Valid.{LiesDescribed}
 use Rattle.unwind_definitions.specs.Stopped.{StandsAfter}
@@ -19,13 +19,17 @@ use Rattle.unwind_laws.specs.Undoes.{Undoes}
 use Rattle.unwind_laws.specs.Found.{FdeRead}
 
 module _ (p : Process) where
-  -- For an address, the module that it lies in has a frame table, where a scan finds a function's description, which has a row.
+  -- For an address, the module that it lies in describes functions by a frame table, where a scan finds a function's
+  -- description, which has a row.
   pub record Finds (f : Function) (a : ℕ) : Type 0 where
     pub home : Module
     pub known : Contains p.modules home
     pub inside : IsTrue (in_module a home)
     pub frame : ℕ
     pub address : frame_address p.image home.tables ≡ Some frame
+    pub part : List Function
+    pub home_describes : DescribesModule p.image home part
+    pub framed : home_describes.frame ≡ frame
     pub fde : Fde
     pub found : scan (bases_of home frame) (input_at p.image frame) a ≡ Ok fde
     pub no_signal : fde.cie.letters.signal ≡ false

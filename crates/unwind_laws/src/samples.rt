@@ -1,6 +1,6 @@
 //! Processes that are valid, byte for byte, and what is delivered there.
 
-ghost use Rattle.std.specs.Prelude.{◌≡◌, ◌≢◌, ◌-◌, ◌<◌, ℕ, List, [], ◌∷◌, Some, Ok, Err, false};
+ghost use Rattle.std.specs.Prelude.{◌≡◌, ◌≢◌, ◌-◌, ◌<◌, ℕ, List, [], ◌∷◌, Some, Ok, Err, false, IsTrue};
 ghost use Rattle.unwind_definitions.specs.Prologue.{Windows, steps_of};
 ghost use Rattle.unwind_definitions.specs.Entered.{IsEntered, stack_after};
 ghost use Rattle.unwind_definitions.specs.declared.error.Error.TheVariants.{UnexpectedEof};
@@ -9,7 +9,7 @@ ghost use Rattle.unwind_definitions.specs.Function.{Site, Cleanup, Catch, Termin
 ghost use Rattle.unwind_definitions.specs.LanguageTable.{input_at, IsLanguageTable, LeadsToLanguage};
 ghost use Rattle.unwind_definitions.specs.LanguageSearch.{search};
 ghost use Rattle.unwind_definitions.specs.Caller.{Table};
-ghost use Rattle.unwind_definitions.specs.Module.{IsProcess};
+ghost use Rattle.unwind_definitions.specs.Module.{IsProcess, in_module};
 ghost use Rattle.unwind_definitions.specs.Delivery.{delivery_of};
 ghost use Rattle.unwind_definitions.specs.Valid.{IsValid};
 ghost use Rattle.unwind_definitions.specs.Stopped.{StandsAfter};
@@ -72,6 +72,13 @@ pub fn calls_are_caught()
 pub fn calls_by_a_header_are_caught()
     ensures process { IsProcess three.header_process }
     ensures valid { IsValid three.header_process (columns_of three.start) three.resumes three.functions three.start three.calls }
+{}
+
+/// A state behind these functions, in a module that is longer than they are: none of the descriptions
+/// that its header lists contains the address, and the stack ends there.
+pub fn stack_ends_behind_the_functions()
+    ensures whole { IsValid three.longer_process (columns_of three.behind) [] three.functions three.behind [] }
+    ensures inside { IsTrue (in_module (three.behind.ra - 1) three.longer_module) }
 {}
 
 /// The same where the third function's call is in no site of its language table.

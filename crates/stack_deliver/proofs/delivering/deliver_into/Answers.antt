@@ -17,7 +17,7 @@ returns-clause-takes_no_memory g c e = delivery_memory c.args.space.now c.args.s
 
 pub returns-clause-chain : goal.returns-clause-chain
 returns-clause-chain g c functions s calls starts =
-    let d = chain_delivered c.args.space.now c.args.start.now c.args.exception c.args.resumes.now c.args.limit functions s calls c.image.ensures.apart c.emptied.ensures.whole starts in
+    let d = chain_delivered c.args.space.now c.args.start.now c.args.exception c.args.resumes.now c.args.limit functions s calls c.image.ensures.apart c.image.ensures.laid_out c.emptied.ensures.whole starts in
     ending_delivered c.emptied.result c.emptied.new.room _ d.delivered (λ (x : Delivered). ShowsDelivery x c.args.exception s calls) c.emptied.ensures.exact d.is d.shows
 
 pub returns-clause-refused : goal.returns-clause-refused

@@ -9,9 +9,9 @@ use Rattle.stack_deliver.proofs.StepAnswers.{step_ends, ends_step, step_unmapped
 use Rattle.stack_deliver.proofs.stepping.step.Goals as goal
 
 pub returns-clause-undone : goal.returns-clause-undone
-returns-clause-undone g c functions s call tables is shows called =
+returns-clause-undone g c functions s call is shows called =
     let at : step_of c.args.space.now c.args.context.now false ≡ c.stepped.result = sym (rw called at c.stepped.ensures.exact) in
-    subst (λ (r : Result (Option Stepped) DeliverError). Undone r (columns_of c.args.context.now) call.caller) at (step_undone c.args.space.now c.args.context.now functions s call c.stepped.ensures.apart tables is shows)
+    subst (λ (r : Result (Option Stepped) DeliverError). Undone r (columns_of c.args.context.now) call.caller) at (step_undone c.args.space.now c.args.context.now functions s call c.stepped.ensures.apart c.stepped.ensures.laid_out is shows)
 
 pub returns-clause-ends : goal.returns-clause-ends
 returns-clause-ends g c = (λ e. step_ends c.args.space.now c.args.context.now c.args.interrupted (sym c.stepped.ensures.exact ∙ e), λ ends. c.stepped.ensures.exact ∙ ends_step c.args.space.now c.args.context.now c.args.interrupted ends)

@@ -28,7 +28,7 @@ returns-clause-takes_no_memory g c e = line_memory c.args.space.now c.args.limit
 
 pub returns-clause-chain : goal.returns-clause-chain
 returns-clause-chain g c functions s calls starts called =
-    let w = chain_walked c.args.space.now c.args.start.now c.args.limit functions s calls c.image.ensures.apart starts in
+    let w = chain_walked c.args.space.now c.args.start.now c.args.limit functions s calls c.image.ensures.apart c.image.ensures.laid_out starts in
     let exact : IsWalked c.walked.result c.walked.new.room (line_of c.args.space.now c.args.limit c.args.start.now false) = rw called at c.walked.ensures.exact in
     let r = states_walked c.walked.result c.walked.new.room _ w.0 exact w.1 in
     (r.0, subst (λ (cs : List Context). ShowChain cs s calls) r.1 w.2)
