@@ -8,7 +8,6 @@ use Rattle.unwind_definitions.specs.declared.error.Error.{Error as Fault}
 use Rattle.unwind_definitions.specs.declared.error.Error.TheVariants.{UnexpectedEof}
 use Rattle.unwind_definitions.specs.Faults.{◌>>=◌}
 use Rattle.unwind_definitions.specs.Input.{Input, skip, split, number}
-use Rattle.unwind_definitions.specs.Forms.{emitted}
 use Rattle.unwind_definitions.specs.Pointers.{Bases}
 use Rattle.unwind_definitions.specs.Entries.{Entry, Found, body, length_behind, entry_in, found_in, entry_at}
 
@@ -75,7 +74,7 @@ behind_passes n c d behind =
     let fits = behind.0 in
     (at, omega arith)
 
-length_passes : (n : ℕ × Input) (len : ℕ) (d : Input) → length_behind emitted n ≡ Ok (len, d) → (k : ℕ) × Passes k n.1 d
+length_passes : (n : ℕ × Input) (len : ℕ) (d : Input) → length_behind n ≡ Ok (len, d) → (k : ℕ) × Passes k n.1 d
 length_passes n len d e = go (n.0 == 2 ^ 32 - 1) e
   where
     go : (t : Bool) → cond t (number w64 n.1) (Ok n) ≡ Ok (len, d) → (k : ℕ) × Passes k n.1 d
@@ -87,7 +86,7 @@ ahead_by k n c rest len d four long more =
     let a = four.0 in let b = four.1 in let e = long.0 in let f = long.1 in let g = more.0 in let h = more.1 in
     (omega arith, omega arith)
 
-body_ahead : (c b d : Input) → body emitted c ≡ Ok (Some b, d) → IsAhead c d.offset
+body_ahead : (c b d : Input) → body c ≡ Ok (Some b, d) → IsAhead c d.offset
 body_ahead c b d e = go (length c.bytes == 0) (number w32 c) refl e
   where
     part : (k : ℕ) (rest : Input) (len : ℕ × Input) (r : Result (Input × Input) Fault) → Passes 4 c rest → Passes k rest len.1 → split len.0 len.1 ≡ r → (r >>= some_part) ≡ Ok (Some b, d) → IsAhead c d.offset
@@ -95,15 +94,15 @@ body_ahead c b d e = go (length c.bytes == 0) (number w32 c) refl e
     part k rest len (Ok x) four long is e =
         subst (λ (y : Input). IsAhead c y.offset) (same_rest _ (Some b) x.1 d e) (ahead_by k len.0 c rest len.1 x.1 four long (behind_passes len.0 len.1 x.1 (split_behind len.0 len.1 x.0 x.1 is)))
 
-    long : (n : ℕ × Input) (r : Result (ℕ × Input) Fault) → Passes 4 c n.1 → length_behind emitted n ≡ r → (r >>= λ len. split len.0 len.1 >>= some_part) ≡ Ok (Some b, d) → IsAhead c d.offset
+    long : (n : ℕ × Input) (r : Result (ℕ × Input) Fault) → Passes 4 c n.1 → length_behind n ≡ r → (r >>= λ len. split len.0 len.1 >>= some_part) ≡ Ok (Some b, d) → IsAhead c d.offset
     long n (Err f) four is e = absurd cc
     long n (Ok len) four is e = let passes = length_passes n len.0 len.1 is in part passes.0 n.1 len (split len.0 len.1) four passes.1 refl e
 
-    behind : (n : ℕ × Input) (z : Bool) → Passes 4 c n.1 → cond z (Ok (None, n.1)) (length_behind emitted n >>= λ len. split len.0 len.1 >>= some_part) ≡ Ok (Some b, d) → IsAhead c d.offset
+    behind : (n : ℕ × Input) (z : Bool) → Passes 4 c n.1 → cond z (Ok (None, n.1)) (length_behind n >>= λ len. split len.0 len.1 >>= some_part) ≡ Ok (Some b, d) → IsAhead c d.offset
     behind n true four e = absurd (no_part b n.1 d e)
-    behind n false four e = long n (length_behind emitted n) four refl e
+    behind n false four e = long n (length_behind n) four refl e
 
-    go : (z : Bool) (r : Result (ℕ × Input) Fault) → number w32 c ≡ r → cond z (Ok (None, c)) (r >>= λ n. if n.0 == 0 then Ok (None, n.1) else (length_behind emitted n >>= λ len. split len.0 len.1 >>= some_part)) ≡ Ok (Some b, d) → IsAhead c d.offset
+    go : (z : Bool) (r : Result (ℕ × Input) Fault) → number w32 c ≡ r → cond z (Ok (None, c)) (r >>= λ n. if n.0 == 0 then Ok (None, n.1) else (length_behind n >>= λ len. split len.0 len.1 >>= some_part)) ≡ Ok (Some b, d) → IsAhead c d.offset
     go true r is e = absurd (no_part b c d e)
     go false (Err f) is e = absurd cc
     go false (Ok n) is e = behind n (n.0 == 0) (behind_passes 4 c n.1 (number_behind w32 c n.0 n.1 is)) e
@@ -117,21 +116,21 @@ abbrev placed_before : ℕ → Entry → Result (Option Found) Fault
 placed_before next x = Ok (Some (record { entry = x; next = next }))
 
 -- The next entry stands ahead of an entry of a table, and not behind the table's end.
-pub entry_ahead : (bases : Bases) (table : Input) (offset : ℕ) (found : Found) → entry_at emitted bases table offset ≡ Ok (Some found) → IsAhead (skip offset table) found.next
+pub entry_ahead : (bases : Bases) (table : Input) (offset : ℕ) (found : Found) → entry_at bases table offset ≡ Ok (Some found) → IsAhead (skip offset table) found.next
 unfolding entry_at next_of
-entry_ahead bases table offset found at = go (body emitted (skip offset table)) refl at
+entry_ahead bases table offset found at = go (body (skip offset table)) refl at
   where
     inner : (b d : Input) (r : Result Entry Fault) → IsAhead (skip offset table) d.offset → (r >>= placed_before d.offset) ≡ Ok (Some found) → IsAhead (skip offset table) found.next
     inner b d (Err f) ahead h = absurd cc
     inner b d (Ok x) ahead h = subst (IsAhead (skip offset table)) (ap next_of h) ahead
 
-    go : (r : Result (Option Input × Input) Fault) → body emitted (skip offset table) ≡ r → (r >>= λ b. found_in emitted bases table offset b.0 b.1.offset) ≡ Ok (Some found) → IsAhead (skip offset table) found.next
+    go : (r : Result (Option Input × Input) Fault) → body (skip offset table) ≡ r → (r >>= λ b. found_in bases table offset b.0 b.1.offset) ≡ Ok (Some found) → IsAhead (skip offset table) found.next
     go (Err f) is h = absurd cc
     go (Ok (None, d)) is h = absurd cc
-    go (Ok (Some b, d)) is h = inner b d (entry_in emitted bases table offset b) (body_ahead (skip offset table) b d is) h
+    go (Ok (Some b, d)) is h = inner b d (entry_in bases table offset b) (body_ahead (skip offset table) b d is) h
 
 -- the same of a table that nothing stands before
-pub next_within : (bases : Bases) (table : Input) (offset : ℕ) (found : Found) → table.offset ≡ 0 → offset ≤ length table.bytes → entry_at emitted bases table offset ≡ Ok (Some found) →
+pub next_within : (bases : Bases) (table : Input) (offset : ℕ) (found : Found) → table.offset ≡ 0 → offset ≤ length table.bytes → entry_at bases table offset ≡ Ok (Some found) →
     (offset < found.next) × (found.next ≤ length table.bytes)
 next_within bases table offset found start within at =
     let ahead = entry_ahead bases table offset found at in

@@ -5,7 +5,6 @@ use Rattle.std.specs.Int.{Width, w8, w16, w32, w64}
 use Rattle.unwind_definitions.specs.declared.error.Error.{Error as Fault}
 use Rattle.unwind_definitions.specs.declared.error.Error.TheVariants.{UnexpectedEof, AddressOverflow, NotCie, UnsupportedPointerEncoding, CannotParseOmitPointerEncoding, UnknownPointerEncoding, BadSignedLeb128, NoUnwindInfoForAddress}
 use Rattle.unwind_definitions.specs.Faults.{◌>>=◌, unless}
-use Rattle.unwind_definitions.specs.Forms.{Forms}
 use Rattle.unwind_definitions.specs.Input.{Input, Reads, address_of, skip, split, number, uleb_from, uleb, sleb_from, sleb, text_before, text}
 use Rattle.unwind_definitions.specs.Pointers.{Bases, Pointer, Direct, Indirect, is_known, is_indirect, format_of, application_of, encoding, signed_number, value, known, base_of, pointer, direct_target, direct}
 use Rattle.unwind_definitions.specs.Instructions.{column}
@@ -148,44 +147,44 @@ other_fde_data : (bases : Bases) (cie : Cie) (start : ℕ) (c : Input) → Other
 other_fde_data bases cie start c =
     other_if _ _ _ (other_ok _) (other_then _ _ (other_uleb c) (λ n. other_then _ _ (other_split n.0 n.1) (λ block. other_then _ _ (other_language bases start cie.letters.language block.0) (λ p. other_ok _))))
 
-module _ (forms : Forms) (bases : Bases) where
-  other_cie_body : (offset : ℕ) (c : Input) → Other (cie_body forms bases offset c)
+module _ (bases : Bases) where
+  other_cie_body : (offset : ℕ) (c : Input) → Other (cie_body bases offset c)
   other_cie_body offset c =
       other_then _ _ (other_number w8 c) (λ version. other_then _ _ (other_unless _ _ (λ h. cc)) (λ u. other_then _ _ (other_text version.1) (λ augmentation. other_then _ _ (other_unless _ _ (λ h. cc)) (λ v.
       other_then _ _ (other_sizes version.0 augmentation.1) (λ size. other_then _ _ (other_uleb size.1) (λ code. other_then _ _ (other_sleb code.1) (λ data_factor.
       other_then _ _ (other_return_column version.0 data_factor.1) (λ ret. other_then _ _ (other_data bases augmentation.0 ret.1) (λ found. other_ok _)))))))))
 
-  other_fde_body : (cie : Cie) (offset : ℕ) (c : Input) → Other (fde_body forms bases cie offset c)
+  other_fde_body : (cie : Cie) (offset : ℕ) (c : Input) → Other (fde_body bases cie offset c)
   other_fde_body cie offset c =
       other_then _ _ (other_unless (forms.address (address_encoding cie)) UnsupportedPointerEncoding (λ h. cc)) (λ u. other_then _ _ (other_direct (address_encoding cie) bases c) (λ start.
       other_then _ _ (other_value (format_of (address_encoding cie)) start.1) (λ len. other_then _ _ (other_unless (nat_le (start.0 + len.0) (2 ^ 64 - 1)) AddressOverflow (λ h. cc)) (λ v.
       other_then _ _ (other_fde_data bases cie start.0 len.1) (λ found. other_ok (record { offset = offset; cie = cie; start = start.0; size = len.0; language = found.0; program = found.1 }))))))
 
-  other_length : (n : ℕ × Input) → Other (length_behind forms n)
+  other_length : (n : ℕ × Input) → Other (length_behind n)
   other_length n = other_if _ _ _ (other_number w64 n.1) (other_ok _)
 
-  other_body : (c : Input) → Other (body forms c)
+  other_body : (c : Input) → Other (body c)
   other_body c =
       other_if _ _ _ (other_ok _) (other_then _ _ (other_number w32 c) (λ n. other_if _ _ _ (other_ok _) (other_then _ _ (other_length n) (λ len. other_then _ _ (other_split len.0 len.1) (λ b. other_ok _)))))
 
-  other_cie_in : (offset : ℕ) (o : Option Input) → Other (cie_in forms bases offset o)
+  other_cie_in : (offset : ℕ) (o : Option Input) → Other (cie_in bases offset o)
   other_cie_in offset None = other_err _ (λ h. cc)
   other_cie_in offset (Some b) = other_then _ _ (other_number w32 b) (λ id. other_if _ _ _ (other_cie_body offset id.1) (other_err _ (λ h. cc)))
 
-  other_cie_at : (table : Input) (offset : ℕ) → Other (cie_at forms bases table offset)
+  other_cie_at : (table : Input) (offset : ℕ) → Other (cie_at bases table offset)
   other_cie_at table offset = other_then _ _ (other_body (skip offset table)) (λ b. other_cie_in offset b.0)
 
-  other_entry_in : (table : Input) (offset : ℕ) (b : Input) → Other (entry_in forms bases table offset b)
+  other_entry_in : (table : Input) (offset : ℕ) (b : Input) → Other (entry_in bases table offset b)
   other_entry_in table offset b =
       other_then _ _ (other_number w32 b) (λ id. other_if (id.0 == 0) _ _ (other_then _ _ (other_cie_body offset id.1) (λ cie. other_ok (ACie cie)))
       (other_if (nat_lt b.offset id.0) _ _ (other_err NotCie (λ h. cc))
       (other_then _ _ (other_cie_at table (b.offset - id.0)) (λ cie. other_then _ _ (other_fde_body cie offset id.1) (λ fde. other_ok (AFde fde))))))
 
-  other_found_in : (table : Input) (offset : ℕ) (o : Option Input) (next : ℕ) → Other (found_in forms bases table offset o next)
+  other_found_in : (table : Input) (offset : ℕ) (o : Option Input) (next : ℕ) → Other (found_in bases table offset o next)
   other_found_in table offset None next = other_ok _
   other_found_in table offset (Some b) next = other_then _ _ (other_entry_in table offset b) (λ e. other_ok _)
 
-  pub other_entry_at : (table : Input) (offset : ℕ) → entry_at forms bases table offset ≡ Err NoUnwindInfoForAddress → ⊥
+  pub other_entry_at : (table : Input) (offset : ℕ) → entry_at bases table offset ≡ Err NoUnwindInfoForAddress → ⊥
   unfolding entry_at
   other_entry_at table offset = other_then _ _ (other_body (skip offset table)) (λ b. other_found_in table offset b.0 b.1.offset)
 
@@ -206,7 +205,7 @@ other_fde_in (Some found) = go found.entry
     go (AFde fde) = other_ok fde
 
 -- nor does reading a description
-pub other_fde_at_address : (forms : Forms) (bases : Bases) (table : Input) (a : ℕ) → fde_at_address forms bases table a ≡ Err NoUnwindInfoForAddress → ⊥
-other_fde_at_address forms bases table a =
+pub other_fde_at_address : (bases : Bases) (table : Input) (a : ℕ) → fde_at_address bases table a ≡ Err NoUnwindInfoForAddress → ⊥
+other_fde_at_address bases table a =
     other_if (nat_lt a table.base) _ _ (other_err UnexpectedEof (λ h. cc)) (other_if (nat_lt (length table.bytes) (a - table.base)) _ _ (other_err UnexpectedEof (λ h. cc))
-    (other_then _ _ (other_entry_at forms bases table (a - table.base)) other_fde_in))
+    (other_then _ _ (other_entry_at bases table (a - table.base)) other_fde_in))

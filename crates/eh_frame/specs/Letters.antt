@@ -2,7 +2,8 @@
 use Rattle.std.specs.Prelude.{◌≡◌, ℕ, List, is_some}
 use Rattle.std.specs.Option.{option_map}
 use Rattle.unwind_definitions.specs.Entries.{Letters}
-use Rattle.unwind_definitions.specs.Forms.{is_among, language_letter, personality_letter, address_letter, signal_letter}
+use Rattle.unwind_definitions.specs.Augmentation.{language_letter, personality_letter, address_letter, signal_letter}
+use Rattle.unwind_definitions.specs.Membership.{is_among}
 use Rattle.unwind_definitions.specs.Pointers.{Pointer}
 use Rattle.encoded_pointers.specs.Pointers.{pointer_of}
 use Rattle.encoded_pointers.specs.declared.encoding.DwEhPe.{DwEhPe}

@@ -1,7 +1,6 @@
 -- What is left of a frame table's entries, which are read one by one.
 use Rattle.std.specs.Prelude.{ℕ, Bool, true, Option, Some, None, Result, Ok, Err, if◌then◌else◌}
 use Rattle.unwind_definitions.specs.declared.error.Error.{Error as Fault}
-use Rattle.unwind_definitions.specs.Forms.{emitted}
 use Rattle.unwind_definitions.specs.Input.{Input}
 use Rattle.unwind_definitions.specs.Pointers.{Bases}
 use Rattle.unwind_definitions.specs.Entries.{Entry, Found, entry_at}
@@ -21,7 +20,7 @@ listing_of e = record { table = table_of e.table; bases = bases_of e.bases; offs
 
 -- what stands next
 abbrev pub upcoming : Listing → Result (Option Found) Fault
-upcoming l = if l.is_over then Ok None else entry_at emitted l.bases l.table l.offset
+upcoming l = if l.is_over then Ok None else entry_at l.bases l.table l.offset
 
 abbrev pub entry_in : Result (Option Found) Fault → Result (Option Entry) Fault
 entry_in (Ok (Some found)) = Ok (Some found.entry)

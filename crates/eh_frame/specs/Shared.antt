@@ -2,7 +2,6 @@
 use Rattle.std.specs.Prelude.{◌≡◌, Ok}
 use Rattle.std.proofs.Props.{props}
 use mathlib.Core.Sum.{⊎_set}
-use Rattle.unwind_definitions.specs.Forms.{emitted}
 use Rattle.unwind_definitions.specs.Input.{Input}
 use Rattle.unwind_definitions.specs.Pointers.{Bases}
 use Rattle.unwind_definitions.specs.Entries.{Cie, Entry, ACie, AFde, cie_at}
@@ -14,7 +13,7 @@ shared (AFde fde) = fde.cie
 
 -- a common information entry is what a table has at its offset
 abbrev pub StandsIn : Bases → Input → Cie → Type 0
-StandsIn bases table cie = cie_at emitted bases table cie.offset ≡ Ok cie
+StandsIn bases table cie = cie_at bases table cie.offset ≡ Ok cie
 
 pub stands_prop : (bases : Bases) (table : Input) (cie : Cie) → IsProp (StandsIn bases table cie)
 stands_prop bases table cie = Prim.hlevel (props, ⊎_set)

@@ -2,7 +2,7 @@
 
 ghost use Rattle.std.specs.Prelude.{◌≡◌, ℕ, List, [], ◌∷◌, ◌++◌, IfOk};
 ghost use Rattle.std.specs.List.{list_all};
-ghost use Rattle.unwind_definitions.specs.Forms.{is_augmentation, is_letter, letters_in};
+ghost use Rattle.unwind_definitions.specs.Augmentation.{is_augmentation, is_letter, letters_in};
 ghost use Rattle.unwind_definitions.specs.Entries.{augmentation_data, letter, letters_from, no_letters};
 ghost use Rattle.encoded_pointers.specs.Readers.{Answers, GivesOr};
 ghost use Rattle.encoded_pointers.specs.Pointers.{bases_of};

@@ -1,7 +1,7 @@
 //! Common information entries: what the descriptions of several functions share.
 
 ghost use Rattle.std.specs.Prelude.{◌≡◌};
-ghost use Rattle.unwind_definitions.specs.Forms.{emitted, letters_in};
+ghost use Rattle.unwind_definitions.specs.Augmentation.{is_version, letters_in};
 ghost use Rattle.unwind_definitions.specs.Entries.{return_column, sizes};
 ghost use Rattle.encoded_pointers.specs.Readers.{GivesOr};
 ghost use Rattle.encoded_pointers.specs.View.{at};
@@ -33,7 +33,7 @@ impl<'a> Cie<'a> {
     ghost use Rattle.std.specs.Prelude.{is_some};
     ghost use Rattle.std.specs.Option.{option_map};
     ghost use Rattle.std.specs.Int.{w64, cast_unsigned};
-    ghost use Rattle.unwind_definitions.specs.Forms.{address_letter, has_letter, language_letter, personality_letter, signal_letter};
+    ghost use Rattle.unwind_definitions.specs.Augmentation.{address_letter, has_letter, language_letter, personality_letter, signal_letter};
     ghost use Rattle.unwind_definitions.specs.Entries.{cie_body, address_encoding, coding_of};
     ghost use Rattle.frame_rows.specs.Decoded.{coding_in};
     ghost use Rattle.encoded_pointers.specs.Readers.{Answers};
@@ -43,7 +43,7 @@ impl<'a> Cie<'a> {
 
     // What stands behind the first four bytes of the entry at `offset`.
     pub(crate) fn read(offset: u64, body: Cursor<'a>, bases: &Bases) -> Result<Cie<'a>, Error>
-        ensures { Answers cie_of result (cie_body emitted (bases_of bases.now) offset (at body.entry)) }
+        ensures { Answers cie_of result (cie_body (bases_of bases.now) offset (at body.entry)) }
     {
         let mut input = body;
         let version = input.read_u8()?;
@@ -204,7 +204,7 @@ impl<'a> Cie<'a> {
 }
 
 fn is_known_version(version: u8) -> bool
-    ensures { result ≡ emitted.version version }
+    ensures { result ≡ is_version version }
 {
     matches!(version, 1 | 3 | 4)
 }

@@ -3,7 +3,6 @@
 ghost use Rattle.std.specs.Prelude.{◌≡◌, ◌≢◌, ◌↔◌, IfErr, IfOk, IfSome, IsTrue, Result, Some, false};
 ghost use Rattle.std.specs.Result.{IsErrOf};
 ghost use Rattle.std.specs.Option.{option_map, option_map_or};
-ghost use Rattle.unwind_definitions.specs.Forms.{emitted};
 ghost use Rattle.unwind_definitions.specs.Input.{skip};
 ghost use Rattle.unwind_definitions.specs.Entries.{Fde as Described, body, length_behind, cie_at, cie_in, entry_in, entry_at};
 ghost use Rattle.unwind_definitions.specs.Row.{covers_pc};
@@ -74,14 +73,14 @@ impl<'a> EhFrame<'a> {
     /// The error of the first entry before it that can't be read, or
     /// `NoUnwindInfoForAddress` where all entries can be read and none contains `pc`.
     pub fn fde_for_address(&self, bases: &Bases, pc: u64) -> Result<Fde<'a>, Error>
-        ensures scan { Answers fde_of result (scan emitted (bases_of bases.now) (table_of self.now) pc) }
+        ensures scan { Answers fde_of result (scan (bases_of bases.now) (table_of self.now) pc) }
         ensures contains { IfOk result (λ fde. IsTrue (covers_pc (fde_of fde) pc)) }
         ensures first { IfOk result (λ fde.
-            IsFirst emitted (bases_of bases.now) (table_of self.now) pc 0 (fde_of fde)) }
+            IsFirst (bases_of bases.now) (table_of self.now) pc 0 (fde_of fde)) }
         ensures fault { IfErr result (λ e. e ≢ Error.NoUnwindInfoForAddress →
-            IsUnreadable emitted (bases_of bases.now) (table_of self.now) pc 0 e) }
+            IsUnreadable (bases_of bases.now) (table_of self.now) pc 0 e) }
         ensures none { IsErrOf result Error.NoUnwindInfoForAddress ↔
-            IsUncovered emitted (bases_of bases.now) (table_of self.now) pc 0 }
+            IsUncovered (bases_of bases.now) (table_of self.now) pc 0 }
     {
         self.scan(bases, pc)
     }
@@ -96,7 +95,7 @@ impl<'a> EhFrame<'a> {
     /// - `NotFde` where it is a common information entry, or the end of the list.
     pub fn fde_at(&self, bases: &Bases, offset: u64) -> Result<Fde<'a>, Error>
         ensures { Answers fde_of result
-            (fde_at emitted (bases_of bases.now) (table_of self.now) offset) }
+            (fde_at (bases_of bases.now) (table_of self.now) offset) }
     {
         if offset > self.bytes.len() as u64 {
             return Err(Error::UnexpectedEof);
@@ -107,7 +106,7 @@ impl<'a> EhFrame<'a> {
     // The same at an address, which isn't below the table's.
     pub(crate) fn fde_at_address(&self, bases: &Bases, address: u64) -> Result<Fde<'a>, Error>
         ensures { Answers fde_of result
-            (fde_at_address emitted (bases_of bases.now) (table_of self.now) address) }
+            (fde_at_address (bases_of bases.now) (table_of self.now) address) }
     {
         if address < self.address {
             return Err(Error::UnexpectedEof);
@@ -118,7 +117,7 @@ impl<'a> EhFrame<'a> {
     // The first description that contains an address.
     fn scan(&self, bases: &Bases, pc: u64) -> Result<Fde<'a>, Error>
         ensures { Answers fde_of result
-            (scan emitted (bases_of bases.now) (table_of self.now) pc) }
+            (scan (bases_of bases.now) (table_of self.now) pc) }
     {
         let mut known = None;
         let mut offset = 0;
@@ -150,7 +149,7 @@ impl<'a> EhFrame<'a> {
     ) -> Result<Option<Found<'a>>, Error>
         requires { IfSome known.now (λ cie. StandsIn (bases_of bases.now) (table_of self.now) (cie_of cie)) }
         ensures { Answers (option_map found_of) result
-            (entry_at emitted (bases_of bases.now) (table_of self.now) offset) }
+            (entry_at (bases_of bases.now) (table_of self.now) offset) }
     {
         let mut input = self.from(offset);
         match read_body(&mut input)? {
@@ -175,7 +174,7 @@ impl<'a> EhFrame<'a> {
     ) -> Result<Entry<'a>, Error>
         requires { IfSome known.now (λ cie. StandsIn (bases_of bases.now) (table_of self.now) (cie_of cie)) }
         ensures { Answers entry_of result
-            (entry_in emitted (bases_of bases.now) (table_of self.now) offset (at body.entry)) }
+            (entry_in (bases_of bases.now) (table_of self.now) offset (at body.entry)) }
     {
         let place = body.offset();
         let mut input = body;
@@ -199,7 +198,7 @@ impl<'a> EhFrame<'a> {
     ) -> Result<Cie<'a>, Error>
         requires { IfSome known.now (λ cie. StandsIn (bases_of bases.now) (table_of self.now) (cie_of cie)) }
         ensures { Answers cie_of result
-            (cie_at emitted (bases_of bases.now) (table_of self.now) offset) }
+            (cie_at (bases_of bases.now) (table_of self.now) offset) }
     {
         match known {
             Some(cie) if cie.offset() == offset => Ok(*cie),
@@ -210,7 +209,7 @@ impl<'a> EhFrame<'a> {
     // The common information entry at an offset.
     fn cie_at(&self, offset: u64, bases: &Bases) -> Result<Cie<'a>, Error>
         ensures { Answers cie_of result
-            (cie_at emitted (bases_of bases.now) (table_of self.now) offset) }
+            (cie_at (bases_of bases.now) (table_of self.now) offset) }
     {
         let mut input = self.from(offset);
         match read_body(&mut input)? {
@@ -261,7 +260,7 @@ fn described<'a>(found: Option<Found<'a>>) -> Result<Fde<'a>, Error>
 // The common information entry at `offset`, whose body is `body`.
 fn cie_in<'a>(offset: u64, body: Cursor<'a>, bases: &Bases) -> Result<Cie<'a>, Error>
     ensures { Answers cie_of result
-        (cie_in emitted (bases_of bases.now) offset (Some (at body.entry))) }
+        (cie_in (bases_of bases.now) offset (Some (at body.entry))) }
 {
     let mut input = body;
     let id = input.read_u32()?;
@@ -273,7 +272,7 @@ fn cie_in<'a>(offset: u64, body: Cursor<'a>, bases: &Bases) -> Result<Cie<'a>, E
 
 // The body of an entry, None at the end of the list: at the end of the table, or at a length of 0.
 fn read_body<'a>(input: &mut Cursor<'a>) -> Result<Option<Cursor<'a>>, Error>
-    ensures { GivesOr (option_map at) result (body emitted (at input.old)) (at input.new) }
+    ensures { GivesOr (option_map at) result (body (at input.old)) (at input.new) }
 {
     if input.is_empty() {
         return Ok(None);
@@ -288,7 +287,7 @@ fn read_body<'a>(input: &mut Cursor<'a>) -> Result<Option<Cursor<'a>>, Error>
 
 // The length of an entry: what four bytes spell or, where these are all set, the eight behind them.
 fn read_long_length(short: u32, input: &mut Cursor) -> Result<u64, Error>
-    ensures { GivesOr (λ n. n) result (length_behind emitted (short, at input.old)) (at input.new) }
+    ensures { GivesOr (λ n. n) result (length_behind (short, at input.old)) (at input.new) }
 {
     if short == u32::MAX {
         return input.read_u64();

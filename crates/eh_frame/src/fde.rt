@@ -32,7 +32,7 @@ pub struct Fde<'a> {
 
 impl<'a> Fde<'a> {
     ghost use Rattle.std.specs.Prelude.{◌&&◌};
-    ghost use Rattle.unwind_definitions.specs.Forms.{emitted, has_letter, language_letter};
+    ghost use Rattle.unwind_definitions.specs.Augmentation.{has_letter, language_letter};
     ghost use Rattle.unwind_definitions.specs.Entries.{fde_body, fde_data};
     ghost use Rattle.unwind_definitions.specs.Row.{covers_pc, row_at};
     ghost use Rattle.eh_frame.specs.Views.{cie_of, fde_of};
@@ -46,7 +46,7 @@ impl<'a> Fde<'a> {
         bases: &Bases,
     ) -> Result<Fde<'a>, Error>
         ensures { Answers fde_of result
-            (fde_body emitted (bases_of bases.now) (cie_of cie.entry) offset (at body.entry)) }
+            (fde_body (bases_of bases.now) (cie_of cie.entry) offset (at body.entry)) }
     {
         let encoding = cie.start_encoding();
         let mut input = body;
@@ -188,7 +188,7 @@ impl<'a> Fde<'a> {
         bases: &Bases,
         pc: u64,
     ) -> Result<Row<'a>, Error>
-        ensures { GivesRow result (row_at emitted (bases_of bases.now) (fde_of self.now) pc) }
+        ensures { GivesRow result (row_at (bases_of bases.now) (fde_of self.now) pc) }
     {
         if !self.contains(pc) {
             return Err(Error::NoUnwindInfoForAddress);
@@ -215,7 +215,7 @@ impl<'a> Fde<'a> {
         pc: u64,
         rows: &mut RowRoom<'a>,
     ) -> Result<(), Error>
-        ensures { GivesRow (made result rows.new) (row_at emitted (bases_of bases.now) (fde_of self.now) pc) }
+        ensures { GivesRow (made result rows.new) (row_at (bases_of bases.now) (fde_of self.now) pc) }
     {
         if !self.contains(pc) {
             return Err(Error::NoUnwindInfoForAddress);

@@ -1,7 +1,6 @@
 //! The search of a header's table for an address.
 
 ghost use Rattle.std.specs.Prelude.{◌≡◌, ◌≢◌, ◌+◌, ◌⊎◌, ℕ, IfErr, IfOk};
-ghost use Rattle.unwind_definitions.specs.Forms.{emitted};
 ghost use Rattle.unwind_definitions.specs.HeaderSearch.{AreWithinDigits, IsNamed, IsNamedElsewhere, IsTableAnswer, IsUnreadableNamed, IsUnreadablePair, StartsAbove, boundary_in, containing, found_by, table_answer};
 ghost use Rattle.encoded_pointers.specs.Readers.{Answers};
 ghost use Rattle.encoded_pointers.specs.Pointers.{bases_of};
@@ -41,16 +40,16 @@ impl<'a> HdrTable<'a> {
         steps: &mut Steps<L>,
     ) -> Result<Fde<'a>, Error>
         ensures exact { Answers fde_of result
-            (table_answer emitted (bases_of bases.now) (table_of frame.now) (pairs_of self.now) pc) }
-        ensures answer { IsTableAnswer emitted (bases_of bases.now) (table_of frame.now) (pairs_of self.now) pc (answer_of result) }
+            (table_answer (bases_of bases.now) (table_of frame.now) (pairs_of self.now) pc) }
+        ensures answer { IsTableAnswer (bases_of bases.now) (table_of frame.now) (pairs_of self.now) pc (answer_of result) }
         ensures named { IfOk result (λ fde.
-            IsNamed emitted (bases_of bases.now) (table_of frame.now) (pairs_of self.now) pc (fde_of fde)) }
+            IsNamed (bases_of bases.now) (table_of frame.now) (pairs_of self.now) pc (fde_of fde)) }
         ensures none { result ≡ Err Error.NoUnwindInfoForAddress →
             StartsAbove (pairs_of self.now) pc
-            ⊎ IsNamedElsewhere emitted (bases_of bases.now) (table_of frame.now) (pairs_of self.now) pc }
+            ⊎ IsNamedElsewhere (bases_of bases.now) (table_of frame.now) (pairs_of self.now) pc }
         ensures fault { IfErr result (λ e. e ≢ Error.NoUnwindInfoForAddress →
             IsUnreadablePair (pairs_of self.now) e
-            ⊎ IsUnreadableNamed emitted (bases_of bases.now) (table_of frame.now) (pairs_of self.now) pc e) }
+            ⊎ IsUnreadableNamed (bases_of bases.now) (table_of frame.now) (pairs_of self.now) pc e) }
         ensures ticks { (taken : ℕ) × (steps.new.number ≡ steps.old.number + taken)
             × AreWithinDigits (pairs_of self.now).count taken }
     {
@@ -66,7 +65,7 @@ impl<'a> HdrTable<'a> {
         steps: &mut Steps<L>,
     ) -> Result<Fde<'a>, Error>
         ensures exact { Answers fde_of result
-            (table_answer emitted (bases_of bases.now) (table_of frame.now) (pairs_of self.now) pc) }
+            (table_answer (bases_of bases.now) (table_of frame.now) (pairs_of self.now) pc) }
         ensures ticks { (taken : ℕ) × (steps.new.number ≡ steps.old.number + taken)
             × AreWithinDigits (pairs_of self.now).count taken }
     {
@@ -109,7 +108,7 @@ fn named<'a>(
     pc: u64,
 ) -> Result<Fde<'a>, Error>
     ensures { Answers fde_of result
-        (found_by emitted (bases_of bases.now) (table_of frame.now) pc (Ok entry)) }
+        (found_by (bases_of bases.now) (table_of frame.now) pc (Ok entry)) }
 {
     match entry {
         None => Err(Error::NoUnwindInfoForAddress),

@@ -6,7 +6,6 @@ use Rattle.std.proofs.lemmas.List.{append-nil}
 use Rattle.std.proofs.Math.Dec.{eqb-zero-suc, eqb-suc-suc}
 use Rattle.unwind_definitions.specs.declared.error.Error.{Error as Fault}
 use Rattle.unwind_definitions.specs.Input.{Input}
-use Rattle.unwind_definitions.specs.Forms.{Forms}
 use Rattle.unwind_definitions.specs.Instructions.{Instruction, Nop, Remember, Restore, Advance, SetLocation, Write, Reset, Cfa, CfaColumn, CfaOffset, CfaExpression, Arguments, Coding, instruction, Program, program_from, after}
 use Rattle.unwind_definitions.specs.Row.{Run, fault_of, first_fault, location, up_to, or_else}
 use Rattle.frame_rows.specs.Running.{push, stops, part, outcome}
@@ -87,28 +86,28 @@ module _ (start : ℕ) (pc : Option ℕ) where
           ∙ ap (λ at. or_else (fault_of start run i) (rest_of start (push run i) p (part at pc p.instructions))) (sym (location-push start run.own i))
           ∙ ap (or_else (fault_of start run i)) (sym (outcome_is (push run i) p))
 
-  module _ (forms : Forms) (coding : Coding) (run : Run) (c : Input) where
-    pub at_end : (n : ℕ) → n ≡ 0 → outcome start pc run (program_from forms n coding c) ≡ Ok run
-    at_end n e = ap (λ n. outcome start pc run (program_from forms n coding c)) e ∙ nothing run
+  module _ (coding : Coding) (run : Run) (c : Input) where
+    pub at_end : (n : ℕ) → n ≡ 0 → outcome start pc run (program_from n coding c) ≡ Ok run
+    at_end n e = ap (λ n. outcome start pc run (program_from n coding c)) e ∙ nothing run
 
-    turn : (n m : ℕ) → n ≡ suc m → program_from forms n coding c ≡ cond (length c.bytes == 0) (record { instructions = []; fault = None }) (after (instruction forms coding c) (program_from forms m coding))
-    turn n m e = ap (λ n. program_from forms n coding c) e
+    turn : (n m : ℕ) → n ≡ suc m → program_from n coding c ≡ cond (length c.bytes == 0) (record { instructions = []; fault = None }) (after (instruction coding c) (program_from m coding))
+    turn n m e = ap (λ n. program_from n coding c) e
 
-    pub at_empty : (n m : ℕ) → n ≡ suc m → (length c.bytes == 0) ≡ true → outcome start pc run (program_from forms n coding c) ≡ Ok run
-    at_empty n m e h = ap (outcome start pc run) (turn n m e ∙ ap (λ b. cond b (record { instructions = []; fault = None }) (after (instruction forms coding c) (program_from forms m coding))) h) ∙ nothing run
+    pub at_empty : (n m : ℕ) → n ≡ suc m → (length c.bytes == 0) ≡ true → outcome start pc run (program_from n coding c) ≡ Ok run
+    at_empty n m e h = ap (outcome start pc run) (turn n m e ∙ ap (λ b. cond b (record { instructions = []; fault = None }) (after (instruction coding c) (program_from m coding))) h) ∙ nothing run
 
-    read : (n m : ℕ) (r : Result (Instruction × Input) Fault) → n ≡ suc m → (length c.bytes == 0) ≡ false → instruction forms coding c ≡ r → program_from forms n coding c ≡ after r (program_from forms m coding)
-    read n m r e h f = turn n m e ∙ ap (λ b. cond b (record { instructions = []; fault = None }) (after (instruction forms coding c) (program_from forms m coding))) h ∙ ap (λ r. after r (program_from forms m coding)) f
+    read : (n m : ℕ) (r : Result (Instruction × Input) Fault) → n ≡ suc m → (length c.bytes == 0) ≡ false → instruction coding c ≡ r → program_from n coding c ≡ after r (program_from m coding)
+    read n m r e h f = turn n m e ∙ ap (λ b. cond b (record { instructions = []; fault = None }) (after (instruction coding c) (program_from m coding))) h ∙ ap (λ r. after r (program_from m coding)) f
 
-    pub at_fault : (n m : ℕ) (d : Fault) → n ≡ suc m → (length c.bytes == 0) ≡ false → instruction forms coding c ≡ Err d → outcome start pc run (program_from forms n coding c) ≡ Err d
+    pub at_fault : (n m : ℕ) (d : Fault) → n ≡ suc m → (length c.bytes == 0) ≡ false → instruction coding c ≡ Err d → outcome start pc run (program_from n coding c) ≡ Err d
     at_fault n m d e h f = ap (outcome start pc run) (read n m (Err d) e h f) ∙ unread run d
 
-    pub at_stop : (n m : ℕ) (i : Instruction) (next : Input) → n ≡ suc m → (length c.bytes == 0) ≡ false → instruction forms coding c ≡ Ok (i, next) → stops (location start run.own) pc i ≡ true → outcome start pc run (program_from forms n coding c) ≡ Ok run
-    at_stop n m i next e h f st = ap (outcome start pc run) (read n m (Ok (i, next)) e h f) ∙ one run i (program_from forms m coding next) true st
+    pub at_stop : (n m : ℕ) (i : Instruction) (next : Input) → n ≡ suc m → (length c.bytes == 0) ≡ false → instruction coding c ≡ Ok (i, next) → stops (location start run.own) pc i ≡ true → outcome start pc run (program_from n coding c) ≡ Ok run
+    at_stop n m i next e h f st = ap (outcome start pc run) (read n m (Ok (i, next)) e h f) ∙ one run i (program_from m coding next) true st
 
-    pub at_bad : (n m : ℕ) (i : Instruction) (next : Input) (d : Fault) → n ≡ suc m → (length c.bytes == 0) ≡ false → instruction forms coding c ≡ Ok (i, next) → stops (location start run.own) pc i ≡ false → fault_of start run i ≡ Some d → outcome start pc run (program_from forms n coding c) ≡ Err d
-    at_bad n m i next d e h f st bad = ap (outcome start pc run) (read n m (Ok (i, next)) e h f) ∙ one run i (program_from forms m coding next) false st ∙ ap (λ o. or_else o (outcome start pc (push run i) (program_from forms m coding next))) bad
+    pub at_bad : (n m : ℕ) (i : Instruction) (next : Input) (d : Fault) → n ≡ suc m → (length c.bytes == 0) ≡ false → instruction coding c ≡ Ok (i, next) → stops (location start run.own) pc i ≡ false → fault_of start run i ≡ Some d → outcome start pc run (program_from n coding c) ≡ Err d
+    at_bad n m i next d e h f st bad = ap (outcome start pc run) (read n m (Ok (i, next)) e h f) ∙ one run i (program_from m coding next) false st ∙ ap (λ o. or_else o (outcome start pc (push run i) (program_from m coding next))) bad
 
-    pub at_next : (n m : ℕ) (i : Instruction) (next : Input) → n ≡ suc m → (length c.bytes == 0) ≡ false → instruction forms coding c ≡ Ok (i, next) → stops (location start run.own) pc i ≡ false → fault_of start run i ≡ None →
-        outcome start pc run (program_from forms n coding c) ≡ outcome start pc (push run i) (program_from forms m coding next)
-    at_next n m i next e h f st fine = ap (outcome start pc run) (read n m (Ok (i, next)) e h f) ∙ one run i (program_from forms m coding next) false st ∙ ap (λ o. or_else o (outcome start pc (push run i) (program_from forms m coding next))) fine
+    pub at_next : (n m : ℕ) (i : Instruction) (next : Input) → n ≡ suc m → (length c.bytes == 0) ≡ false → instruction coding c ≡ Ok (i, next) → stops (location start run.own) pc i ≡ false → fault_of start run i ≡ None →
+        outcome start pc run (program_from n coding c) ≡ outcome start pc (push run i) (program_from m coding next)
+    at_next n m i next e h f st fine = ap (outcome start pc run) (read n m (Ok (i, next)) e h f) ∙ one run i (program_from m coding next) false st ∙ ap (λ o. or_else o (outcome start pc (push run i) (program_from m coding next))) fine

@@ -1,7 +1,6 @@
 //! The instructions of frame programs. DWARF 5 sections 6.4.2 and 7.24.
 
 ghost use Rattle.std.specs.Prelude.{◌≡◌, ◌*◌};
-ghost use Rattle.unwind_definitions.specs.Forms.{emitted};
 ghost use Rattle.unwind_definitions.specs.Instructions.{instruction, Advance, Write};
 ghost use Rattle.encoded_pointers.specs.Readers.{GivesOr};
 ghost use Rattle.encoded_pointers.specs.View.{at};
@@ -225,7 +224,7 @@ pub(crate) fn read_instruction<'a>(
     input: &mut Cursor<'a>,
     coding: Coding,
 ) -> Result<CallFrameInstruction<'a>, Error>
-    ensures { GivesOr meaning result (instruction emitted (coding_in coding.entry) (at input.old)) (at input.new) }
+    ensures { GivesOr meaning result (instruction (coding_in coding.entry) (at input.old)) (at input.new) }
 {
     let byte = input.read_u8()?;
     let low = byte % 64;

@@ -2,7 +2,6 @@
 //! address. DWARF 5 sections 6.4.1 and 6.4.3.
 
 ghost use Rattle.std.specs.Prelude.{ℕ};
-ghost use Rattle.unwind_definitions.specs.Forms.{emitted};
 ghost use Rattle.unwind_definitions.specs.Instructions.{program};
 ghost use Rattle.unwind_definitions.specs.Row.{Run, row};
 ghost use Rattle.encoded_pointers.specs.View.{at};
@@ -29,7 +28,7 @@ pub fn row_at<'a>(
     pc: u64,
 ) -> Result<Row<'a>, Error>
     ensures { let coding = coding_in coding.entry in
-        GivesRow result (row start pc (program emitted coding (at common.entry)) (program emitted coding (at own.entry))) }
+        GivesRow result (row start pc (program coding (at common.entry)) (program coding (at own.entry))) }
 {
     let mut machine = Machine::new();
     run_programs(&mut machine, common, own, coding, start, pc)?;
@@ -48,7 +47,7 @@ pub(crate) fn run_programs<'a>(
     pc: u64,
 ) -> Result<(), Error>
     ensures { let coding = coding_in coding.entry in
-        MakesRow start result machine.new (row start pc (program emitted coding (at common.entry)) (program emitted coding (at own.entry))) }
+        MakesRow start result machine.new (row start pc (program coding (at common.entry)) (program coding (at own.entry))) }
 {
     machine.restart();
     run_program(machine, common, coding, None)?;
@@ -66,7 +65,7 @@ fn run_program<'a>(
 ) -> Result<(), Error>
     ensures { (start : ℕ) (run : Run) → Represents start machine.old run →
         let coding = coding_in coding.entry in
-        Ends start result machine.new (outcome start pc run (program emitted coding (at bytes.entry))) }
+        Ends start result machine.new (outcome start pc run (program coding (at bytes.entry))) }
 {
     let mut input = bytes;
     for _turn in 0..bytes.len() {

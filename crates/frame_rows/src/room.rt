@@ -1,7 +1,6 @@
 //! Room for one row after another. DWARF 5 sections 6.4.1 and 6.4.3.
 
 ghost use Rattle.std.specs.Prelude.{◌≡◌, []};
-ghost use Rattle.unwind_definitions.specs.Forms.{emitted};
 ghost use Rattle.unwind_definitions.specs.Instructions.{program};
 ghost use Rattle.unwind_definitions.specs.Row.{row, ColumnAndOffset};
 ghost use Rattle.encoded_pointers.specs.View.{at};
@@ -71,7 +70,7 @@ impl<'a> RowRoom<'a> {
         pc: u64,
     ) -> Result<(), Error>
         ensures { let coding = coding_in coding.entry in
-            GivesRow (made result self.new) (row start pc (program emitted coding (at common.entry)) (program emitted coding (at own.entry))) }
+            GivesRow (made result self.new) (row start pc (program coding (at common.entry)) (program coding (at own.entry))) }
     {
         run_programs(&mut self.machine, common, own, coding, start, pc)?;
         self.machine.put_row(&mut self.row)

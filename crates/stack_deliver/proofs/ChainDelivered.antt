@@ -3,7 +3,6 @@ use Rattle.std.proofs.Common.{◌≡◌, ℕ, Bool, true, false, List, [], ◌�
 use Rattle.std.specs.Prelude.{IsTrue, map}
 use Rattle.std.specs.List.{find}
 use Rattle.std.specs.Option.{option_map_or}
-use Rattle.unwind_definitions.specs.Forms.{emitted}
 use Rattle.unwind_definitions.specs.State.{State}
 use Rattle.unwind_definitions.specs.Function.{Function, Action, NoAction, Cleanup, Catch, Filter, Terminate}
 use Rattle.unwind_definitions.specs.Chain.{Call, states_of}
@@ -53,8 +52,8 @@ pub record DeliversChain (exception : ℕ) (s : State) (calls : List Call) (r : 
 
 module _ (space : SpaceValue) (c : Context) (exception : ℕ) (resumes : List (ℕ × ℕ)) (limit : ℕ) (functions : List Function) (s : State) (calls : List Call) (apart : AreApart 0 space.modules) (whole : IsWhole c)
     (is : StartsValidChain space c resumes limit functions s calls) where
-  chain : IsDescribedChain emitted (process_of space) functions s calls
-  chain = valid_described emitted (process_of space) (columns_of c) resumes functions s calls is.valid
+  chain : IsDescribedChain (process_of space) functions s calls
+  chain = valid_described (process_of space) (columns_of c) resumes functions s calls is.valid
 
   abbrev passes : ℕ → Result Passed DeliverError
   passes kept = passes_of space exception kept resumes limit limit c

@@ -1,7 +1,6 @@
 -- What a walk over a described chain visits, and what is delivered to one without language tables.
 use Rattle.std.proofs.Common.{◌≡◌, ℕ, false, List, [], ◌∷◌, Some, Ok, get_or, refl}
 use Rattle.std.specs.Prelude.{map}
-use Rattle.unwind_definitions.specs.Forms.{emitted}
 use Rattle.unwind_definitions.specs.State.{RBX, RBP, R12, R13, R14, R15, State, Shows}
 use Rattle.unwind_definitions.specs.Function.{Function}
 use Rattle.unwind_definitions.specs.Chain.{Call}
@@ -21,9 +20,9 @@ use Rattle.stack_deliver.proofs.LineShows.{line_shows}
 pub chain_walked : (space : SpaceValue) (c : Context) (limit : ℕ) (functions : List Function) (s : State) (calls : List Call) → AreApart 0 space.modules → StartsChain space c limit functions s calls →
     (cs : List Context) × (line_of space limit c false ≡ Ok cs) × ShowChain cs s calls
 chain_walked space c limit functions s calls apart is =
-    let chain : IsDescribedChain emitted (process_of space) functions s calls = is.described in
+    let chain : IsDescribedChain (process_of space) functions s calls = is.described in
     let line = line_shows space apart is.tables functions chain.are_functions s calls c limit chain.chain chain.described is.shows is.shorter in
-    (line.0, line.1, record { states = line.2; rise = chain_rises emitted (process_of space) functions s calls chain.chain })
+    (line.0, line.1, record { states = line.2; rise = chain_rises (process_of space) functions s calls chain.chain })
 
 -- ---- contexts that show states
 

@@ -3,7 +3,6 @@ use Rattle.std.proofs.Common.{◌≡◌, ℕ, List, Option, Some, None, Result, 
 use Rattle.std.specs.Result.{result_ok}
 use Rattle.memory_image.specs.Image.{Span, IsLaidOut}
 use Rattle.unwind_definitions.specs.declared.error.Error.{Error as Fault}
-use Rattle.unwind_definitions.specs.Forms.{emitted}
 use Rattle.unwind_definitions.specs.Input.{Input}
 use Rattle.unwind_definitions.specs.LanguageTable.{input_at}
 use Rattle.unwind_definitions.specs.Pointers.{Bases}
@@ -22,11 +21,11 @@ use Rattle.unwinding_core.specs.Finding.{FoundFde, at_frame, relative_to, scanne
 use Rattle.unwinding_core.specs.HeaderFinding.{Led, at_header, by_led, by_table, found_by_header, led, led_by, listed, or_scanned}
 
 -- a description that a scan finds too, and else the scan
-or_same : (bases : Bases) (frames : Input) (pc : ℕ) (r : Result Fde Fault) → scan emitted bases frames pc ≡ r → or_scanned bases frames pc (result_ok r) ≡ scanned_in bases frames pc
+or_same : (bases : Bases) (frames : Input) (pc : ℕ) (r : Result Fde Fault) → scan bases frames pc ≡ r → or_scanned bases frames pc (result_ok r) ≡ scanned_in bases frames pc
 or_same bases frames pc (Ok fde) is = rw is refl
 or_same bases frames pc (Err e) is = refl
 
-module _ (image : List Span) (m : Module) (functions : List Function) (d : DescribesModule emitted image m functions) (h : ℕ) (named : m.tables ≡ Header h) (laid : IsLaidOut 0 image) (pc : ℕ) where
+module _ (image : List Span) (m : Module) (functions : List Function) (d : DescribesModule image m functions) (h : ℕ) (named : m.tables ≡ Header h) (laid : IsLaidOut 0 image) (pc : ℕ) where
   abbrev known : Bases
   known = at_header (relative_to m.text None) h
 
@@ -45,11 +44,11 @@ module _ (image : List Span) (m : Module) (functions : List Function) (d : Descr
   by_its_table : (o : Option PairTable) → table_in head ≡ o → by_table (bases_of m d.frame) (input_at image d.frame) pc o ≡ scanned_in (bases_of m d.frame) (input_at image d.frame) pc
   by_its_table None e = refl
   by_its_table (Some t) e =
-      let same : table_answer emitted (bases_of m d.frame) (input_at image d.frame) t pc ≡ scan emitted (bases_of m d.frame) (input_at image d.frame) pc =
-      search_answers emitted image m functions d h known table pc head t (table_answer emitted (bases_of m d.frame) (input_at image d.frame) t pc) laid (header_read image h d.frame (fdes_of d.entries) known table) e
-      (table_answer-is t pc emitted (bases_of m d.frame) (input_at image d.frame)) in
+      let same : table_answer (bases_of m d.frame) (input_at image d.frame) t pc ≡ scan (bases_of m d.frame) (input_at image d.frame) pc =
+      search_answers image m functions d h known table pc head t (table_answer (bases_of m d.frame) (input_at image d.frame) t pc) laid (header_read image h d.frame (fdes_of d.entries) known table) e
+      (table_answer-is t pc (bases_of m d.frame) (input_at image d.frame)) in
       ap (λ (r : Result Fde Fault). or_scanned (bases_of m d.frame) (input_at image d.frame) pc (result_ok r)) same
-      ∙ or_same (bases_of m d.frame) (input_at image d.frame) pc (scan emitted (bases_of m d.frame) (input_at image d.frame) pc) refl
+      ∙ or_same (bases_of m d.frame) (input_at image d.frame) pc (scan (bases_of m d.frame) (input_at image d.frame) pc) refl
 
   -- the header's search and the scan find the same, whatever the address
   pub header_finds : found_by_header (relative_to m.text None) image h pc ≡ scanned_in (bases_of m d.frame) (input_at image d.frame) pc
@@ -60,11 +59,11 @@ module _ (image : List Span) (m : Module) (functions : List Function) (d : Descr
       ∙ by_its_table (table_in head) refl
 
 -- ---- an address that no description contains
-none_found : (bases : Bases) (frames : Input) (pc : ℕ) → scan emitted bases frames pc ≡ nothing_found → scanned_in bases frames pc ≡ None
+none_found : (bases : Bases) (frames : Input) (pc : ℕ) → scan bases frames pc ≡ nothing_found → scanned_in bases frames pc ≡ None
 none_found bases frames pc e = rw e refl
 
 -- Where a module's header lists the descriptions of its frame table, none of which contains an address, nothing is found by it.
-module _ (image : List Span) (m : Module) (a : ℕ) (u : CoversNot emitted image m a) (h : ℕ) (named : m.tables ≡ Header h) (lists : IsHeaderTable image h u.frame (fdes_of u.entries)) (laid : IsLaidOut 0 image) where
+module _ (image : List Span) (m : Module) (a : ℕ) (u : CoversNot image m a) (h : ℕ) (named : m.tables ≡ Header h) (lists : IsHeaderTable image h u.frame (fdes_of u.entries)) (laid : IsLaidOut 0 image) where
   abbrev known_there : Bases
   known_there = at_header (relative_to m.text None) h
 
@@ -78,11 +77,11 @@ module _ (image : List Span) (m : Module) (a : ℕ) (u : CoversNot emitted image
   led_there = ap (led_by image) (header_read image h u.frame (fdes_of u.entries) known_there lists)
 
   none_in_table : (o : Option PairTable) → table_in head_there ≡ o → by_table (bases_of m u.frame) (input_at image u.frame) a o ≡ None
-  none_in_table None e = none_found (bases_of m u.frame) (input_at image u.frame) a (not_found emitted image m a u)
+  none_in_table None e = none_found (bases_of m u.frame) (input_at image u.frame) a (not_found image m a u)
   none_in_table (Some t) e =
-      let fails = uncovered_fails emitted image m a u h known_there lists laid t e in
+      let fails = uncovered_fails image m a u h known_there lists laid t e in
       ap (λ (r : Result Fde Fault). or_scanned (bases_of m u.frame) (input_at image u.frame) a (result_ok r)) fails.1
-      ∙ none_found (bases_of m u.frame) (input_at image u.frame) a (not_found emitted image m a u)
+      ∙ none_found (bases_of m u.frame) (input_at image u.frame) a (not_found image m a u)
 
   pub header_finds_none : found_by_header (relative_to m.text None) image h a ≡ None
   unfolding found_by_header

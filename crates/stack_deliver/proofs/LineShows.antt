@@ -4,7 +4,6 @@ use Rattle.std.specs.Prelude.{◌⊎◌, IsTrue, map}
 use Rattle.std.specs.List.{Contains, AllByRecursion}
 use Rattle.std.proofs.lemmas.Bool.Decides.{nat_tests}
 use Rattle.unwind_definitions.specs.declared.error.Error.TheVariants.{NoUnwindInfoForAddress}
-use Rattle.unwind_definitions.specs.Forms.{emitted}
 use Rattle.unwind_definitions.specs.State.{State, IsState, Shows}
 use Rattle.unwind_definitions.specs.Prologue.{SystemV}
 use Rattle.unwind_definitions.specs.Scan.{scan}
@@ -56,20 +55,20 @@ contains_in_map (n ∷ ns) m has = go (λ h. contains_in_map ns m h) (lists.here
 
 module _ (space : SpaceValue) where
   -- a module's frame table doesn't contain the address
-  in_no_entry : (a : ℕ) (m : Module) → described.CoversNot emitted space.image (module_of m) a → described.header_of (tables_of m.frame.kind) ≡ None → (kind : FrameInfoKind) → m.frame.kind ≡ kind → found_by_kind m.frame.text_base kind space.image a ≡ None
+  in_no_entry : (a : ℕ) (m : Module) → described.CoversNot space.image (module_of m) a → described.header_of (tables_of m.frame.kind) ≡ None → (kind : FrameInfoKind) → m.frame.kind ≡ kind → found_by_kind m.frame.text_base kind space.image a ≡ None
   in_no_entry a m u own (EhFrameHdr h) named = let other : described.header_of (tables_of (EhFrameHdr h)) ≡ None = rw named at own in absurd cc
   in_no_entry a m u own (EhFrame f) named =
       let address : described.frame_address space.image (described.Frames f) ≡ Some u.frame =
       subst (λ (k : FrameInfoKind). described.frame_address space.image (tables_of k) ≡ Some u.frame) named u.address in
       let place : f ≡ u.frame = cc in
       let header : described.header_of (tables_of m.frame.kind) ≡ None = rw named refl in
-      let none : scan emitted (described.bases_of (module_of m) f) (input_at space.image f) a ≡ Err NoUnwindInfoForAddress =
-      subst (λ (g : ℕ). scan emitted (described.bases_of (module_of m) g) (input_at space.image g) a ≡ Err NoUnwindInfoForAddress) (sym place) (not_found emitted space.image (module_of m) a u) in
+      let none : scan (described.bases_of (module_of m) f) (input_at space.image f) a ≡ Err NoUnwindInfoForAddress =
+      subst (λ (g : ℕ). scan (described.bases_of (module_of m) g) (input_at space.image g) a ≡ Err NoUnwindInfoForAddress) (sym place) (not_found space.image (module_of m) a u) in
       let same : table_bases m.frame.text_base f ≡ described.bases_of (module_of m) f = rw header refl in
       rw (same, none) refl
 
   -- an address that nothing covers ends the stack
-  by_module : HaveFrameTables (process_of space) → (a : ℕ) → described.IsUncovered emitted (process_of space) a → (o : Option Module) → module_at space.modules a ≡ o → frame_in space.image a o ≡ Ok None
+  by_module : HaveFrameTables (process_of space) → (a : ℕ) → described.IsUncovered (process_of space) a → (o : Option Module) → module_at space.modules a ≡ o → frame_in space.image a o ≡ Ok None
   by_module tables a free None found = refl
   by_module tables a free (Some m) found =
       let r = module_at-found space.modules m a found in
@@ -78,11 +77,11 @@ module _ (space : SpaceValue) where
       rw (in_no_entry a m (free (module_of m) known r.1) own m.frame.kind refl) refl
 
   -- the stack ends where the return address is 0 or no function covers it
-  pub ends : HaveFrameTables (process_of space) → (functions : List Function) (c : Context) (s : State) → Shows (columns_of c) s → IsEnd space.image (described.IsUncovered emitted (process_of space)) functions s → frame_of space c false ≡ Ok None
+  pub ends : HaveFrameTables (process_of space) → (functions : List Function) (c : Context) (s : State) → Shows (columns_of c) s → IsEnd space.image (described.IsUncovered (process_of space)) functions s → frame_of space c false ≡ Ok None
   unfolding frame_of
   ends tables functions c s shows end = go end.ends
     where
-      go : (s.ra ≡ 0) ⊎ ((s.ra ≢ 0) × described.IsUncovered emitted (process_of space) (s.ra - 1)) → frame_of space c false ≡ Ok None
+      go : (s.ra ≡ 0) ⊎ ((s.ra ≢ 0) × described.IsUncovered (process_of space) (s.ra - 1)) → frame_of space c false ≡ Ok None
       go (inl none) = let e : columns_of c 16 ≡ Some s.ra = shows.ra in let at : c.ra ≡ 0 = cc in rw at refl
       go (inr u) =
           let e : columns_of c 16 ≡ Some s.ra = shows.ra in
@@ -93,16 +92,16 @@ module _ (space : SpaceValue) where
           let asked : address_of_call c.ra false ≡ s.ra - 1 = omega arith in
           rw (nonzero, asked) (by_module tables (s.ra - 1) u.1 (module_at space.modules (s.ra - 1)) refl)
 
-  step_ends : HaveFrameTables (process_of space) → (functions : List Function) (c : Context) (s : State) → Shows (columns_of c) s → IsEnd space.image (described.IsUncovered emitted (process_of space)) functions s → step_of space c false ≡ Ok None
+  step_ends : HaveFrameTables (process_of space) → (functions : List Function) (c : Context) (s : State) → Shows (columns_of c) s → IsEnd space.image (described.IsUncovered (process_of space)) functions s → step_of space c false ≡ Ok None
   step_ends tables functions c s shows end = step_is space c false ∙ ap (stepped_by space.image c) (ends tables functions c s shows end)
 
-  state_of : (functions : List Function) (s : State) (calls : List Call) → IsChain space.image (described.IsUncovered emitted (process_of space)) functions s calls → IsState s
+  state_of : (functions : List Function) (s : State) (calls : List Call) → IsChain space.image (described.IsUncovered (process_of space)) functions s calls → IsState s
   state_of functions s [] chain = chain.state
   state_of functions s (k ∷ calls) chain = chain.0.state
 
   -- The line from a context that shows the start of a chain, where there is room for it.
   pub line_shows : AreApart 0 space.modules → HaveFrameTables (process_of space) → (functions : List Function) → AllByRecursion (IsFunction SystemV) functions → (s : State) (calls : List Call) (c : Context) (room : ℕ) →
-      IsChain space.image (described.IsUncovered emitted (process_of space)) functions s calls → AllByRecursion (λ (k : Call). LiesDescribed emitted (process_of space) functions k.callee) calls → Shows (columns_of c) s → length calls < room →
+      IsChain space.image (described.IsUncovered (process_of space)) functions s calls → AllByRecursion (λ (k : Call). LiesDescribed (process_of space) functions k.callee) calls → Shows (columns_of c) s → length calls < room →
       (cs : List Context) × (line_of space room c false ≡ Ok cs) × EachShows cs (states_of s calls)
   line_shows apart tables functions are s [] c zero chain lie shows less = absurd (omega arith)
   line_shows apart tables functions are s [] c (suc room) chain lie shows less = (c ∷ [], rw (step_ends tables functions c s shows chain) refl, (shows, tt))

@@ -4,7 +4,6 @@ use Rattle.std.specs.Prelude.{IsTrue, map}
 use Rattle.std.proofs.lemmas.Bool.Decides.{nat_tests}
 use Rattle.std.proofs.lemmas.Bool.{ltb-true, leb-true}
 use Rattle.memory_image.specs.Image.{Span}
-use Rattle.unwind_definitions.specs.Forms.{emitted}
 use Rattle.unwind_definitions.specs.Pointers.{Bases}
 use Rattle.unwind_definitions.specs.Row.{row_at, argument_size}
 use Rattle.unwind_definitions.specs.Scan.{scan}
@@ -63,8 +62,8 @@ asked_as image c found f a asks at = ap (asked_if_named image c false found) ask
 
 module _ (space : SpaceValue) (c : Context) (functions : List Function) (s : State) (call : Call) (apart : AreApart 0 space.modules) (tables : HaveFrameTables (process_of space))
     (is : IsDescribedCall (process_of space) functions s call) (shows : Shows (columns_of c) s) where
-  abbrev step : Steps emitted (process_of space) no_expressions (columns_of c) (s.ra - 1) call
-  step = one_step emitted (process_of space) no_expressions functions (s.ra - 1) s call (columns_of c)
+  abbrev step : Steps (process_of space) no_expressions (columns_of c) (s.ra - 1) call
+  step = one_step (process_of space) no_expressions functions (s.ra - 1) s call (columns_of c)
       record { is_function = is.is_function; listed = is.listed; lies = is.lies; inside = is.called.inside; entered = is.called.entered; caller = is.caller; ends = is.ends } shows
 
   ra_is : c.ra ≡ s.ra
@@ -80,7 +79,7 @@ module _ (space : SpaceValue) (c : Context) (functions : List Function) (s : Sta
   small : s.ra < 2 ^ 64
   small =
       let lies = body_inside call.callee (s.ra - 1) is.is_function is.called.inside in
-      let below = ends_below emitted (described.bases_of step.finds.home step.finds.frame) step.finds.fde step.finds.read in
+      let below = ends_below (described.bases_of step.finds.home step.finds.frame) step.finds.fde step.finds.read in
       let end = step.finds.describes.code.end in
       omega (arith, lies.1)
 
@@ -95,16 +94,16 @@ module _ (space : SpaceValue) (c : Context) (functions : List Function) (s : Sta
       let bases : described.bases_of step.finds.home step.finds.frame ≡ table_bases m.frame.text_base f =
       subst (λ (h : described.Module). described.bases_of h step.finds.frame ≡ table_bases m.frame.text_base f) same
       (subst (λ (g : ℕ). described.bases_of (module_of m) g ≡ table_bases m.frame.text_base f) place (rw header refl)) in
-      let scanned : scan emitted (table_bases m.frame.text_base f) (input_at space.image f) (s.ra - 1) ≡ Ok step.finds.fde =
+      let scanned : scan (table_bases m.frame.text_base f) (input_at space.image f) (s.ra - 1) ≡ Ok step.finds.fde =
       rw (← bases, place) step.finds.found in
-      let row : row_at emitted (table_bases m.frame.text_base f) step.finds.fde (s.ra - 1) ≡ Ok step.finds.run = rw (← bases) step.finds.has_row in
+      let row : row_at (table_bases m.frame.text_base f) step.finds.fde (s.ra - 1) ≡ Ok step.finds.run = rw (← bases) step.finds.has_row in
       let tabled : frame_by (s.ra - 1) (found_by_kind m.frame.text_base (EhFrame f) space.image (s.ra - 1)) ≡ Ok (Some (frame_at m f)) = rw (scanned, row) refl in
       let framed : frame_of space c false ≡ Ok (Some (frame_at m f)) =
       rw (nonzero, asked_at, found) (subst (λ (k : FrameInfoKind). frame_by (s.ra - 1) (found_by_kind m.frame.text_base k space.image (s.ra - 1)) ≡ Ok (Some (frame_at m f))) (sym kind) tabled) in
       let called : caller_by space.image c (frame_at m f) ≡ Ok next = rw (step.undoes.is_caller, step.finds.no_signal) refl in
       let kept : columns_of (context_of step.undoes.caller) ≡ step.undoes.caller = λ i k. context_of-holds c step.undoes.caller call.caller step.undoes.shows step.undoes.others k i in
       let asks : AsksAs space.image (table_bases m.frame.text_base f) call.callee step.finds.fde =
-      subst (λ (b : Bases). AsksAs space.image b call.callee step.finds.fde) bases (asks_as emitted space.image (described.bases_of step.finds.home step.finds.frame) call.callee step.finds.fde is.is_function step.finds.read step.finds.describes) in
+      subst (λ (b : Bases). AsksAs space.image b call.callee step.finds.fde) bases (asks_as space.image (described.bases_of step.finds.home step.finds.frame) call.callee step.finds.fde is.is_function step.finds.read step.finds.describes) in
       record {
         frame = frame_at m f;
         framed = framed;

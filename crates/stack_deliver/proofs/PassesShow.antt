@@ -4,7 +4,6 @@ use Rattle.std.specs.Prelude.{◌==◌, IsTrue, IfSome, map}
 use Rattle.std.specs.List.{AllByRecursion, filter_map, cons_option}
 use Rattle.std.specs.Option.{option_map}
 use Rattle.std.proofs.lemmas.Bool.Decides.{nat_tests}
-use Rattle.unwind_definitions.specs.Forms.{emitted}
 use Rattle.unwind_definitions.specs.State.{State, Shows}
 use Rattle.unwind_definitions.specs.Prologue.{SystemV, steps_of}
 use Rattle.unwind_definitions.specs.Function.{Function, IsFunction, Action, NoAction, Cleanup, Catch, Filter, Terminate, in_body, action_at}
@@ -85,10 +84,10 @@ resume_same (e ∷ es) pad = go (e.0 == pad) refl (resume_same es pad)
 
 module _ (space : SpaceValue) (apart : AreApart 0 space.modules) (tables : HaveFrameTables (process_of space)) (functions : List Function) (are : AllByRecursion (IsFunction SystemV) functions) where
   abbrev Chain : State → List Call → Type 0
-  Chain s calls = IsChain space.image (IsUncovered emitted (process_of space)) functions s calls
+  Chain s calls = IsChain space.image (IsUncovered (process_of space)) functions s calls
 
   abbrev Lie : List Call → Type 0
-  Lie calls = AllByRecursion (λ (k : Call). LiesDescribed emitted (process_of space) functions k.callee) calls
+  Lie calls = AllByRecursion (λ (k : Call). LiesDescribed (process_of space) functions k.callee) calls
 
   -- ---- the search
 

@@ -7,7 +7,6 @@ use Rattle.std.proofs.lemmas.Bool.Decides.{nat_tests, eqb_tells}
 use Rattle.memory_image.specs.Image.{Span, word_at}
 use Rattle.unwind_definitions.specs.declared.error.Error.{Error as Fault}
 use Rattle.unwind_definitions.specs.declared.error.Error.TheVariants.{NoCfaRegister}
-use Rattle.unwind_definitions.specs.Forms.{emitted}
 use Rattle.unwind_definitions.specs.Input.{Input}
 use Rattle.unwind_definitions.specs.Instructions as rules
 use Rattle.unwind_definitions.specs.Pointers as pointers
@@ -37,7 +36,7 @@ use Rattle.stack_deliver.proofs.StepParts.{some_next, stepped_by, step_is, none_
 -- there is no frame where nothing is found
 none_found : (a : ℕ) (o : Option FoundFde) → frame_by a o ≡ Ok None → o ≡ None
 none_found a None e = refl
-none_found a (Some found) e = absurd (never (row_at emitted found.bases found.fde a) e)
+none_found a (Some found) e = absurd (never (row_at found.bases found.fde a) e)
   where
     never : (r : Result Run Fault) → result_map_both (frame_with found) Table r ≡ Ok None → ⊥
     never (Ok run) h = absurd cc
@@ -49,7 +48,7 @@ none_scanned bases table (Ok fde) e = absurd cc
 none_scanned bases table (Err x) e = (x, refl)
 
 none_by_kind : (image : List Span) (text : Option ℕ) (kind : FrameInfoKind) (a : ℕ) → found_by_kind text kind image a ≡ None → FindsNone image text kind a
-none_by_kind image text (EhFrame frame) a e = none_scanned (table_bases text frame) (input_at image frame) (scan emitted (table_bases text frame) (input_at image frame) a) e
+none_by_kind image text (EhFrame frame) a e = none_scanned (table_bases text frame) (input_at image frame) (scan (table_bases text frame) (input_at image frame) a) e
 none_by_kind image text (EhFrameHdr header) a e = e
 
 by_kind_none : (image : List Span) (text : Option ℕ) (kind : FrameInfoKind) (a : ℕ) → FindsNone image text kind a → found_by_kind text kind image a ≡ None
@@ -205,25 +204,25 @@ module _ (image : List Span) (columns : calls.Columns) (run : Run) (b : ℕ) whe
 -- ---- what a frame and its caller answer
 
 -- a frame is refused for its row alone
-by_row : (a : ℕ) (o : Option FoundFde) (e : DeliverError) → frame_by a o ≡ Err e → (found : FoundFde) × (x : Fault) × (o ≡ Some found) × (row_at emitted found.bases found.fde a ≡ Err x) × (e ≡ Table x)
+by_row : (a : ℕ) (o : Option FoundFde) (e : DeliverError) → frame_by a o ≡ Err e → (found : FoundFde) × (x : Fault) × (o ≡ Some found) × (row_at found.bases found.fde a ≡ Err x) × (e ≡ Table x)
 by_row a None e is = absurd cc
-by_row a (Some found) e is = go (row_at emitted found.bases found.fde a) refl is
+by_row a (Some found) e is = go (row_at found.bases found.fde a) refl is
   where
-    go : (r : Result Run Fault) → row_at emitted found.bases found.fde a ≡ r → result_map_both (frame_with found) Table r ≡ Err e →
-        (g : FoundFde) × (x : Fault) × (Some found ≡ Some g) × (row_at emitted g.bases g.fde a ≡ Err x) × (e ≡ Table x)
+    go : (r : Result Run Fault) → row_at found.bases found.fde a ≡ r → result_map_both (frame_with found) Table r ≡ Err e →
+        (g : FoundFde) × (x : Fault) × (Some found ≡ Some g) × (row_at g.bases g.fde a ≡ Err x) × (e ≡ Table x)
     go (Ok run) row h = absurd cc
     go (Err x) row h = (found, x, refl, row, cc)
 
 -- a frame is what is found, with its row
-with_row : (a : ℕ) (o : Option FoundFde) (f : FrameAt) → frame_by a o ≡ Ok (Some f) → (o ≡ Some f.found) × (row_at emitted f.found.bases f.found.fde a ≡ Ok f.run)
+with_row : (a : ℕ) (o : Option FoundFde) (f : FrameAt) → frame_by a o ≡ Ok (Some f) → (o ≡ Some f.found) × (row_at f.found.bases f.found.fde a ≡ Ok f.run)
 with_row a None f is = absurd cc
-with_row a (Some found) f is = go (row_at emitted found.bases found.fde a) refl is
+with_row a (Some found) f is = go (row_at found.bases found.fde a) refl is
   where
-    go : (r : Result Run Fault) → row_at emitted found.bases found.fde a ≡ r → result_map_both (frame_with found) Table r ≡ Ok (Some f) →
-        (Some found ≡ Some f.found) × (row_at emitted f.found.bases f.found.fde a ≡ Ok f.run)
+    go : (r : Result Run Fault) → row_at found.bases found.fde a ≡ r → result_map_both (frame_with found) Table r ≡ Ok (Some f) →
+        (Some found ≡ Some f.found) × (row_at f.found.bases f.found.fde a ≡ Ok f.run)
     go (Ok run) row h =
         let same : record { found = found; run = run } ≡ f = cc in
-        subst (λ (g : FrameAt). (Some found ≡ Some g.found) × (row_at emitted g.found.bases g.found.fde a ≡ Ok g.run)) same (refl, row)
+        subst (λ (g : FrameAt). (Some found ≡ Some g.found) × (row_at g.found.bases g.found.fde a ≡ Ok g.run)) same (refl, row)
     go (Err x) row h = absurd cc
 
 caller_unmapped : (image : List Span) (c : Context) (f : FrameAt) (b : ℕ) → caller_by image c f ≡ Err (Unmapped b) → calls.caller_of calls.x86_64 no_expressions image (columns_of c) f.run ≡ Err (calls.Unmapped b)
@@ -326,11 +325,11 @@ module _ (space : SpaceValue) (c : Context) (interrupted : Bool) where
           record { returns = held.returns; holder = held.holder; holds = held.holds; found = caller.0.found; finds = row.0; fault = rw row.1 (caller_faults space.image c caller.0 e caller.2) }
 
   pub table_step : (e : Fault) → FaultsAt space c interrupted e → step_of space c interrupted ≡ Err (Table e)
-  table_step e faults = go (row_at emitted faults.found.bases faults.found.fde at_call) refl faults.fault
+  table_step e faults = go (row_at faults.found.bases faults.found.fde at_call) refl faults.fault
     where
-      by : (r : Result Run Fault) → row_at emitted faults.found.bases faults.found.fde at_call ≡ r → here ≡ result_map_both (frame_with faults.found) Table r
+      by : (r : Result Run Fault) → row_at faults.found.bases faults.found.fde at_call ≡ r → here ≡ result_map_both (frame_with faults.found) Table r
       by r row = held_frame (result_map_both (frame_with faults.found) Table r) record { returns = faults.returns; holder = faults.holder; holds = faults.holds; framed = rw (faults.finds, row) refl }
 
-      go : (r : Result Run Fault) → row_at emitted faults.found.bases faults.found.fde at_call ≡ r → RowFaults space.image c r e → step_of space c interrupted ≡ Err (Table e)
+      go : (r : Result Run Fault) → row_at faults.found.bases faults.found.fde at_call ≡ r → RowFaults space.image c r e → step_of space c interrupted ≡ Err (Table e)
       go (Ok run) row fault = step_is space c interrupted ∙ ap (stepped_by space.image c) (by (Ok run) row) ∙ rw fault refl
       go (Err x) row fault = step_is space c interrupted ∙ ap (stepped_by space.image c) (by (Err x) row) ∙ rw fault refl

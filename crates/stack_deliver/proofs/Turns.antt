@@ -4,7 +4,6 @@ use Rattle.std.specs.Prelude.{IsTrue}
 use Rattle.std.specs.List.{AllByRecursion}
 use Rattle.std.proofs.lemmas.List.{set-get_or, get_or-set_same, get_or-set_other}
 use Rattle.std.proofs.Math.ListN.{length-set}
-use Rattle.unwind_definitions.specs.Forms.{emitted}
 use Rattle.unwind_definitions.specs.Row.{argument_size}
 use Rattle.unwind_definitions.specs.State.{CalleeSaved, RBX, RBP, R12, R13, R14, R15, State, IsState, value_of, column_of, Shows}
 use Rattle.unwind_definitions.specs.Prologue.{SystemV, steps_of}
@@ -61,7 +60,7 @@ module _ (space : SpaceValue) (c : Context) (s : State) (k : Call) (m : Met spac
 -- ---- the end of the stack
 
 -- a pass ends there
-pub pass_ends_at : (space : SpaceValue) → HaveFrameTables (process_of space) → (functions : List Function) (c : Context) (s : State) (p : Phase) (room : ℕ) → 0 < room → Shows (columns_of c) s → IsEnd space.image (IsUncovered emitted (process_of space)) functions s →
+pub pass_ends_at : (space : SpaceValue) → HaveFrameTables (process_of space) → (functions : List Function) (c : Context) (s : State) (p : Phase) (room : ℕ) → 0 < room → Shows (columns_of c) s → IsEnd space.image (IsUncovered (process_of space)) functions s →
     pass_of p space room c false ≡ Ok (record { contexts = c ∷ []; stop = None })
 unfolding turn_for
 pass_ends_at space tables functions c s p zero some shows end = absurd (omega arith)
@@ -70,8 +69,8 @@ pass_ends_at space tables functions c s p (suc n) some shows end =
 
 -- ---- calls of a chain
 
-pub call_in : (space : SpaceValue) (functions : List Function) → AllByRecursion (IsFunction SystemV) functions → (s : State) (k : Call) (calls : List Call) → IsChain space.image (IsUncovered emitted (process_of space)) functions s (k ∷ calls) →
-    LiesDescribed emitted (process_of space) functions k.callee → IsDescribedCall (process_of space) functions s k
+pub call_in : (space : SpaceValue) (functions : List Function) → AllByRecursion (IsFunction SystemV) functions → (s : State) (k : Call) (calls : List Call) → IsChain space.image (IsUncovered (process_of space)) functions s (k ∷ calls) →
+    LiesDescribed (process_of space) functions k.callee → IsDescribedCall (process_of space) functions s k
 call_in space functions are s k calls chain lies =
     let link : IsLink space.image functions s k calls = chain.0 in
     record {
@@ -83,7 +82,7 @@ call_in space functions are s k calls chain lies =
       ends = λ outer. (link.last outer).1;
     }
   where
-    state_in : (t : State) (rest : List Call) → IsChain space.image (IsUncovered emitted (process_of space)) functions t rest → IsState t
+    state_in : (t : State) (rest : List Call) → IsChain space.image (IsUncovered (process_of space)) functions t rest → IsState t
     state_in t [] chain = chain.state
     state_in t (k ∷ rest) chain = chain.0.state
 

@@ -2,7 +2,6 @@
 use Rattle.std.specs.Prelude.{◌≡◌, ◌≢◌, ◌⊎◌, ℕ, ◌+◌, ◌*◌, ◌%◌, ◌^◌, ◌<◌, ◌≤◌, ◌==◌, Bool, Option, Some, None, Result, Ok, Err, List, if◌then◌else◌}
 use Rattle.memory_image.specs.Image.{Span, word_at}
 use Rattle.unwind_definitions.specs.declared.error.Error.{Error as Fault}
-use Rattle.unwind_definitions.specs.Forms.{emitted}
 use Rattle.unwind_definitions.specs.LanguageTable.{input_at}
 use Rattle.unwind_definitions.specs.LanguageSearch.{address_of_call}
 use Rattle.unwind_definitions.specs.Row.{Run, CfaRule, cfa_rule, rule_of, row_at}
@@ -45,7 +44,7 @@ frame_with found run = Some (record { found = found; run = run })
 -- by the row at an address of the description that is found for it, if one is
 abbrev pub frame_by : ℕ → Option FoundFde → Result (Option FrameAt) DeliverError
 frame_by a None = Ok None
-frame_by a (Some found) = result_map_both (frame_with found) Table (row_at emitted found.bases found.fde a)
+frame_by a (Some found) = result_map_both (frame_with found) Table (row_at found.bases found.fde a)
 
 -- by the frame tables of the module that holds an address
 abbrev pub frame_in : List Span → ℕ → Option Module → Result (Option FrameAt) DeliverError
@@ -106,7 +105,7 @@ RisesWithin space searches old new = (digits : ℕ) → CountsWithin space digit
 -- A scan of a module's frame table finds no description for an address: none contains it, or an entry before can't be read.
 -- By a module's header none is found.
 abbrev pub FindsNone : List Span → Option ℕ → FrameInfoKind → ℕ → Type 0
-FindsNone image text (EhFrame frame) a = (e : Fault) × (scan emitted (table_bases text frame) (input_at image frame) a ≡ Err e)
+FindsNone image text (EhFrame frame) a = (e : Fault) × (scan (table_bases text frame) (input_at image frame) a ≡ Err e)
 FindsNone image text (EhFrameHdr header) a = found_by_header (relative_to text None) image header a ≡ None
 
 -- an address is in no module, or in one by whose tables nothing is found for it
@@ -130,7 +129,7 @@ pub record FaultsAt (space : SpaceValue) (c : Context) (interrupted : Bool) (e :
   pub holds : module_at space.modules (address_of_call c.ra interrupted) ≡ Some holder
   pub found : FoundFde
   pub finds : found_by holder.frame space.image (address_of_call c.ra interrupted) ≡ Some found
-  pub fault : RowFaults space.image c (row_at emitted found.bases found.fde (address_of_call c.ra interrupted)) e
+  pub fault : RowFaults space.image c (row_at found.bases found.fde (address_of_call c.ra interrupted)) e
 
 -- A row reads the word at an address for the lowest column that has no value, and the word isn't wholly mapped.
 pub record ReadsUnmapped (image : List Span) (columns : Columns) (run : Run) (a : ℕ) : Type 0 where
@@ -154,5 +153,5 @@ pub record SlotIsUnmapped (space : SpaceValue) (c : Context) (interrupted : Bool
   pub found : FoundFde
   pub finds : found_by holder.frame space.image (address_of_call c.ra interrupted) ≡ Some found
   pub run : Run
-  pub row : row_at emitted found.bases found.fde (address_of_call c.ra interrupted) ≡ Ok run
+  pub row : row_at found.bases found.fde (address_of_call c.ra interrupted) ≡ Ok run
   pub reads : ReadsUnmapped space.image (columns_of c) run a

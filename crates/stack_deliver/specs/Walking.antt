@@ -1,6 +1,5 @@
 -- What a walk and a delivery leave in a room, and why they are refused.
 use Rattle.std.specs.Prelude.{◌≡◌, ◌⊎◌, ℕ, zero, suc, ◌<◌, Bool, List, length, Result, Ok, Err, Some, false, [], ◌∷◌, None, Option, IsTrue}
-use Rattle.unwind_definitions.specs.Forms.{emitted}
 use Rattle.unwind_definitions.specs.State.{State, Shows, IsState, KeepsOthers}
 use Rattle.unwind_definitions.specs.Function.{Function, IsFunction}
 use Rattle.unwind_definitions.specs.Chain.{Call, states_of, StacksRise, IsCalled}
@@ -33,7 +32,7 @@ HaveFrameTables p = AllByRecursion (λ (m : Module). header_of m.tables ≡ None
 pub record IsDescribedCall (p : Process) (functions : List Function) (s : State) (c : Call) : Type 0 where
   pub is_function : IsFunction SystemV c.callee
   pub listed : Contains functions c.callee
-  pub lies : LiesDescribed emitted p functions c.callee
+  pub lies : LiesDescribed p functions c.callee
   pub called : IsCalled p.image s c
   pub caller : IsState c.caller
   pub ends : IsTrue c.callee.outermost → c.caller.ra ≡ 0
@@ -84,7 +83,7 @@ StepFails space (suc room) c interrupted e = (step_of space c interrupted ≡ Er
 -- forms that are read, and these describe the functions of the chain.
 pub record StartsChain (space : SpaceValue) (c : Context) (limit : ℕ) (functions : List Function) (s : State) (calls : List Call) : Type 0 where
   pub tables : HaveFrameTables (process_of space)
-  pub described : IsDescribedChain emitted (process_of space) functions s calls
+  pub described : IsDescribedChain (process_of space) functions s calls
   pub shows : Shows (columns_of c) s
   pub shorter : length calls < limit
 
@@ -97,7 +96,7 @@ pub record ShowChain (cs : List Context) (s : State) (calls : List Call) : Type 
 -- resume table says where each frame inside it goes on behind its cleanup.
 pub record StartsValidChain (space : SpaceValue) (c : Context) (resumes : List (ℕ × ℕ)) (limit : ℕ) (functions : List Function) (s : State) (calls : List Call) : Type 0 where
   pub tables : HaveFrameTables (process_of space)
-  pub valid : IsValid emitted (process_of space) (columns_of c) resumes functions s calls
+  pub valid : IsValid (process_of space) (columns_of c) resumes functions s calls
   pub shorter : length calls < limit
 
 -- what a delivery did is what the definition says of a chain of calls

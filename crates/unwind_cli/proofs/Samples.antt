@@ -1,7 +1,6 @@
 -- Snapshots of valid processes are described ones.
 use Rattle.std.proofs.Common.{◌≡◌, ℕ, ◌<◌, List, [], ◌∷◌, length, Some, refl}
 use Rattle.std.specs.Prelude.{IsTrue}
-use Rattle.unwind_definitions.specs.Forms.{emitted}
 use Rattle.unwind_definitions.specs.Caller.{Columns}
 use Rattle.unwind_definitions.specs.State.{State, IsState, Shows, column_of, value_of}
 use Rattle.unwind_definitions.specs.Prologue.{SystemV}
@@ -22,7 +21,7 @@ use Rattle.unwind_cli.specs.Caught as caught
 use Rattle.unwind_cli.specs.FramePointer as frame_pointer
 use Rattle.unwind_cli.specs.Described.{DescribesChain}
 
-pub described : (s : Content) (functions : List Function) (start : State) (calls : List Call) (columns : Columns) → HaveFrameTables (process_of (space_of s)) → IsValid emitted (process_of (space_of s)) columns s.resumes functions start calls
+pub described : (s : Content) (functions : List Function) (start : State) (calls : List Call) (columns : Columns) → HaveFrameTables (process_of (space_of s)) → IsValid (process_of (space_of s)) columns s.resumes functions start calls
     → Shows (columns_of s.start) start → length calls < s.limit → DescribesChain s functions start calls
 described s functions start calls columns tables w shows shorter = record {
   tables = tables;
@@ -31,14 +30,14 @@ described s functions start calls columns tables w shows shorter = record {
 }
 
 -- the state that a chain begins with is one
-begins : (p : Process) (functions : List Function) (s : State) (calls : List Call) → IsChain p.image (IsUncovered emitted p) functions s calls → IsState s
+begins : (p : Process) (functions : List Function) (s : State) (calls : List Call) → IsChain p.image (IsUncovered p) functions s calls → IsState s
 begins p functions s [] chain = chain.state
 begins p functions s (c ∷ calls) chain = chain.0.state
 
 -- the innermost call of a valid chain is described
-pub first_described : (p : Process) (columns : Columns) (resumes : List (ℕ × ℕ)) (functions : List Function) (s : State) (c : Call) (calls : List Call) → IsValid emitted p columns resumes functions s (c ∷ calls) → IsDescribedCall p functions s c
+pub first_described : (p : Process) (columns : Columns) (resumes : List (ℕ × ℕ)) (functions : List Function) (s : State) (c : Call) (calls : List Call) → IsValid p columns resumes functions s (c ∷ calls) → IsDescribedCall p functions s c
 first_described p columns resumes functions s c calls w =
-    let d = valid_described emitted p columns resumes functions s (c ∷ calls) w in
+    let d = valid_described p columns resumes functions s (c ∷ calls) w in
     record {
       is_function = all_contains (IsFunction SystemV) functions c.callee w.are_functions w.chain.0.listed;
       listed = w.chain.0.listed;

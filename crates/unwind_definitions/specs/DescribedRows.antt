@@ -3,7 +3,7 @@
 use Rattle.std.specs.Prelude.{◌≡◌, ◌⊎◌, ℕ, ◌-◌, ◌^◌, ◌<◌, ◌≤◌, Bool, List, [], ◌∷◌, Option, Some, None, Ok, IsTrue, IsFalse, MatchOption, nat_le}
 use Rattle.std.specs.List.{filter}
 use Rattle.std.specs.Option.{option_map_or}
-use Rattle.unwind_definitions.specs.Forms.{Forms, is_among}
+use Rattle.unwind_definitions.specs.Membership.{is_among}
 use Rattle.unwind_definitions.specs.Pointers.{Bases}
 use Rattle.unwind_definitions.specs.Instructions.{Rule, Offset, SameValue, Undefined}
 use Rattle.unwind_definitions.specs.Entries.{Fde}
@@ -64,14 +64,13 @@ pub record IsOutermostRow (run : Run) : Type 0 where
 abbrev pub ended_by : ℕ → List PrologueStep → List Step
 ended_by offset prologue = steps_of (filter (λ (p : PrologueStep). nat_le p.end offset) prologue)
 
-module _ (forms : Forms) where
-  -- a description has a row at an address, of which something holds
-  abbrev pub HasRow : Bases → Fde → ℕ → (Run → Type 0) → Type 0
-  HasRow bases fde pc P = (run : Run) × (row_at forms bases fde pc ≡ Ok run) × P run
+-- a description has a row at an address, of which something holds
+abbrev pub HasRow : Bases → Fde → ℕ → (Run → Type 0) → Type 0
+HasRow bases fde pc P = (run : Run) × (row_at bases fde pc ≡ Ok run) × P run
 
-  -- The rows of a function: at each address of its body; from its start to its first body range, where the steps that
-  -- have ended count; and of an outermost function in its body. At its other addresses, as in an epilogue, rows are free.
-  pub record DescribesRows (bases : Bases) (f : Function) (fde : Fde) : Type 0 where
-    pub bodies : IsFalse f.outermost → (pc : ℕ) → IsTrue (in_body f pc) → HasRow bases fde pc (IsBodyRow (steps_of f.prologue))
-    pub prologue : IsFalse f.outermost → (pc : ℕ) → f.start ≤ pc → pc < first_body f → HasRow bases fde pc (IsPrologueRow (ended_by (pc - f.start) f.prologue))
-    pub outermost : IsTrue f.outermost → (pc : ℕ) → IsTrue (in_body f pc) → HasRow bases fde pc IsOutermostRow
+-- The rows of a function: at each address of its body; from its start to its first body range, where the steps that
+-- have ended count; and of an outermost function in its body. At its other addresses, as in an epilogue, rows are free.
+pub record DescribesRows (bases : Bases) (f : Function) (fde : Fde) : Type 0 where
+  pub bodies : IsFalse f.outermost → (pc : ℕ) → IsTrue (in_body f pc) → HasRow bases fde pc (IsBodyRow (steps_of f.prologue))
+  pub prologue : IsFalse f.outermost → (pc : ℕ) → f.start ≤ pc → pc < first_body f → HasRow bases fde pc (IsPrologueRow (ended_by (pc - f.start) f.prologue))
+  pub outermost : IsTrue f.outermost → (pc : ℕ) → IsTrue (in_body f pc) → HasRow bases fde pc IsOutermostRow

@@ -5,7 +5,7 @@ use Rattle.std.specs.Option.{unwrap_or}
 use Rattle.std.specs.Int.{w8, w32, w64}
 use Rattle.unwind_definitions.specs.Faults.{Fault, UnsupportedPointerEncoding, UnsupportedAddressSize, UnknownVersion, UnknownAugmentation, NotCie, AddressOverflow, ◌>>=◌, unless}
 use Rattle.unwind_definitions.specs.Input.{Input, Reads, skip, split, number, uleb, sleb, text}
-use Rattle.unwind_definitions.specs.Forms.{Forms, language_letter, personality_letter, address_letter, signal_letter}
+use Rattle.unwind_definitions.specs.Augmentation.{is_version, is_augmentation, language_letter, personality_letter, address_letter, signal_letter}
 use Rattle.unwind_definitions.specs.Pointers.{Bases, Pointer, encoding, pointer, value, direct, format_of}
 use Rattle.unwind_definitions.specs.Instructions.{Coding, column}
 
@@ -80,20 +80,19 @@ sizes version c = if version == 4 then (do
 abbrev pub return_column : ℕ → Reads ℕ
 return_column version c = if version == 1 then number w8 c else column c
 
-module _ (forms : Forms) where
-  -- what stands behind the first four bytes
-  abbrev pub cie_body : Bases → ℕ → Input → Result Cie Fault
-  cie_body bases offset c = do
-    version ← number w8 c
-    _ ← unless (forms.version version.0) UnknownVersion
-    augmentation ← text version.1
-    _ ← unless (forms.augmentation augmentation.0) UnknownAugmentation
-    size ← sizes version.0 augmentation.1
-    code ← uleb size.1
-    data_factor ← sleb code.1
-    ret ← return_column version.0 data_factor.1
-    found ← augmentation_data bases augmentation.0 ret.1
-    Ok (record { offset = offset; version = version.0; code_factor = code.0; data_factor = data_factor.0; return_column = ret.0; augmentation = augmentation.0; letters = found.0; program = found.1 })
+-- what stands behind the first four bytes
+abbrev pub cie_body : Bases → ℕ → Input → Result Cie Fault
+cie_body bases offset c = do
+  version ← number w8 c
+  _ ← unless (is_version version.0) UnknownVersion
+  augmentation ← text version.1
+  _ ← unless (is_augmentation augmentation.0) UnknownAugmentation
+  size ← sizes version.0 augmentation.1
+  code ← uleb size.1
+  data_factor ← sleb code.1
+  ret ← return_column version.0 data_factor.1
+  found ← augmentation_data bases augmentation.0 ret.1
+  Ok (record { offset = offset; version = version.0; code_factor = code.0; data_factor = data_factor.0; return_column = ret.0; augmentation = augmentation.0; letters = found.0; program = found.1 })
 
 -- ---- frame description entries
 
@@ -115,16 +114,15 @@ fde_data bases cie start c = if length cie.augmentation == 0 then Ok (None, c) e
   p ← language_pointer bases start cie.letters.language block.0
   Ok (p, block.1))
 
-module _ (forms : Forms) where
-  -- what stands behind the first four bytes: a start, a length in the same format, and the program
-  abbrev pub fde_body : Bases → Cie → ℕ → Input → Result Fde Fault
-  fde_body bases cie offset c = do
-    _ ← unless (forms.address (address_encoding cie)) UnsupportedPointerEncoding
-    start ← direct (address_encoding cie) bases c
-    len ← value (format_of (address_encoding cie)) start.1
-    _ ← unless (nat_le (start.0 + len.0) (2 ^ 64 - 1)) AddressOverflow
-    found ← fde_data bases cie start.0 len.1
-    Ok (record { offset = offset; cie = cie; start = start.0; size = len.0; language = found.0; program = found.1 })
+-- what stands behind the first four bytes: a start, a length in the same format, and the program
+abbrev pub fde_body : Bases → Cie → ℕ → Input → Result Fde Fault
+fde_body bases cie offset c = do
+  _ ← unless (forms.address (address_encoding cie)) UnsupportedPointerEncoding
+  start ← direct (address_encoding cie) bases c
+  len ← value (format_of (address_encoding cie)) start.1
+  _ ← unless (nat_le (start.0 + len.0) (2 ^ 64 - 1)) AddressOverflow
+  found ← fde_data bases cie start.0 len.1
+  Ok (record { offset = offset; cie = cie; start = start.0; size = len.0; language = found.0; program = found.1 })
 
 -- ---- entries of either kind
 
@@ -137,41 +135,40 @@ pub record Found : Type 0 where
   pub entry : Entry
   pub next : ℕ
 
-module _ (forms : Forms) where
-  -- a length that four bytes spell, or where they are all set the eight behind them
-  abbrev pub length_behind : ℕ × Input → Result (ℕ × Input) Fault
-  length_behind n = if forms.long_length && (n.0 == 2 ^ 32 - 1) then number w64 n.1 else Ok n
+-- a length that four bytes spell, or where they are all set the eight behind them
+abbrev pub length_behind : ℕ × Input → Result (ℕ × Input) Fault
+length_behind n = if forms.long_length && (n.0 == 2 ^ 32 - 1) then number w64 n.1 else Ok n
 
-  -- The body of an entry, None at the end of the list: at the end of the table, or at a length of 0.
-  abbrev pub body : Reads (Option Input)
-  body c = if length c.bytes == 0 then Ok (None, c) else (number w32 c >>= λ n.
-      if n.0 == 0 then Ok (None, n.1) else (length_behind n >>= λ len. split len.0 len.1 >>= λ b. Ok (Some b.0, b.1)))
+-- The body of an entry, None at the end of the list: at the end of the table, or at a length of 0.
+abbrev pub body : Reads (Option Input)
+body c = if length c.bytes == 0 then Ok (None, c) else (number w32 c >>= λ n.
+    if n.0 == 0 then Ok (None, n.1) else (length_behind n >>= λ len. split len.0 len.1 >>= λ b. Ok (Some b.0, b.1)))
 
-  abbrev pub cie_in : Bases → ℕ → Option Input → Result Cie Fault
-  cie_in bases offset None = Err NotCie
-  cie_in bases offset (Some b) = number w32 b >>= λ id. if id.0 == 0 then cie_body forms bases offset id.1 else Err NotCie
+abbrev pub cie_in : Bases → ℕ → Option Input → Result Cie Fault
+cie_in bases offset None = Err NotCie
+cie_in bases offset (Some b) = number w32 b >>= λ id. if id.0 == 0 then cie_body bases offset id.1 else Err NotCie
 
-  -- the common information entry at an offset
-  abbrev pub cie_at : Bases → Input → ℕ → Result Cie Fault
-  cie_at bases table offset = body (skip offset table) >>= λ b. cie_in bases offset b.0
+-- the common information entry at an offset
+abbrev pub cie_at : Bases → Input → ℕ → Result Cie Fault
+cie_at bases table offset = body (skip offset table) >>= λ b. cie_in bases offset b.0
 
-  -- The first four bytes of a body are 0 for a CIE, else the distance from there back to the CIE of an FDE.
-  abbrev pub entry_in : Bases → Input → ℕ → Input → Result Entry Fault
-  entry_in bases table offset b = do
-    id ← number w32 b
-    if id.0 == 0 then (cie_body forms bases offset id.1 >>= λ cie. Ok (ACie cie))
-        else (if nat_lt b.offset id.0 then Err NotCie
-        else (cie_at bases table (b.offset - id.0) >>= λ cie. fde_body forms bases cie offset id.1 >>= λ fde. Ok (AFde fde)))
+-- The first four bytes of a body are 0 for a CIE, else the distance from there back to the CIE of an FDE.
+abbrev pub entry_in : Bases → Input → ℕ → Input → Result Entry Fault
+entry_in bases table offset b = do
+  id ← number w32 b
+  if id.0 == 0 then (cie_body bases offset id.1 >>= λ cie. Ok (ACie cie))
+      else (if nat_lt b.offset id.0 then Err NotCie
+      else (cie_at bases table (b.offset - id.0) >>= λ cie. fde_body bases cie offset id.1 >>= λ fde. Ok (AFde fde)))
 
-  abbrev pub found_in : Bases → Input → ℕ → Option Input → ℕ → Result (Option Found) Fault
-  found_in bases table offset None next = Ok None
-  found_in bases table offset (Some b) next = entry_in bases table offset b >>= λ e. Ok (Some (record { entry = e; next = next }))
+abbrev pub found_in : Bases → Input → ℕ → Option Input → ℕ → Result (Option Found) Fault
+found_in bases table offset None next = Ok None
+found_in bases table offset (Some b) next = entry_in bases table offset b >>= λ e. Ok (Some (record { entry = e; next = next }))
 
-  -- what stands at an offset, None at the end of the list
-  unfoldable pub entry_at : Bases → Input → ℕ → Result (Option Found) Fault
-  entry_at bases table offset = body (skip offset table) >>= λ b. found_in bases table offset b.0 b.1.offset
+-- what stands at an offset, None at the end of the list
+unfoldable pub entry_at : Bases → Input → ℕ → Result (Option Found) Fault
+entry_at bases table offset = body (skip offset table) >>= λ b. found_in bases table offset b.0 b.1.offset
 
-  -- the table from an offset on is these entries, and then the list's end
-  abbrev pub AreEntries : Bases → Input → ℕ → List Entry → Type 0
-  AreEntries bases table offset [] = entry_at bases table offset ≡ Ok None
-  AreEntries bases table offset (e ∷ es) = (next : ℕ) × (entry_at bases table offset ≡ Ok (Some (record { entry = e; next = next }))) × AreEntries bases table next es
+-- the table from an offset on is these entries, and then the list's end
+abbrev pub AreEntries : Bases → Input → ℕ → List Entry → Type 0
+AreEntries bases table offset [] = entry_at bases table offset ≡ Ok None
+AreEntries bases table offset (e ∷ es) = (next : ℕ) × (entry_at bases table offset ≡ Ok (Some (record { entry = e; next = next }))) × AreEntries bases table next es

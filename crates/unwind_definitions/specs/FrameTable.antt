@@ -4,7 +4,6 @@ use Rattle.std.specs.Prelude.{◌≡◌, ◌≢◌, ◌⊎◌, ℕ, ◌+◌, ◌
 use Rattle.std.specs.Int.{w32}
 use Rattle.std.specs.List.{filter, list_any, Contains, AllByRecursion}
 use Rattle.memory_image.specs.Image.{Span, word_at}
-use Rattle.unwind_definitions.specs.Forms.{Forms}
 use Rattle.unwind_definitions.specs.Input.{Input, number, skip}
 use Rattle.unwind_definitions.specs.Pointers.{Bases, Pointer, Direct, Indirect}
 use Rattle.unwind_definitions.specs.Entries.{Cie, Fde, Entry, ACie, AFde, AreEntries}
@@ -49,25 +48,24 @@ pub record IsEmittedCie (image : List Span) (cie : Cie) : Type 0 where
 abbrev pub has_range_of : Function → Fde → Bool
 has_range_of f fde = (fde.start == f.start) && (fde.start + fde.size == f.end)
 
-module _ (forms : Forms) where
-  -- A description of a function's code: of the emitted form, with the function's range and its rows.
-  pub record DescribesCode (image : List Span) (bases : Bases) (f : Function) (fde : Fde) : Type 0 where
-    pub cie : IsEmittedCie image fde.cie
-    pub earlier : fde.cie.offset < fde.offset
-    pub start : fde.start ≡ f.start
-    pub end : fde.start + fde.size ≡ f.end
-    pub rows : DescribesRows forms bases f fde
+-- A description of a function's code: of the emitted form, with the function's range and its rows.
+pub record DescribesCode (image : List Span) (bases : Bases) (f : Function) (fde : Fde) : Type 0 where
+  pub cie : IsEmittedCie image fde.cie
+  pub earlier : fde.cie.offset < fde.offset
+  pub start : fde.start ≡ f.start
+  pub end : fde.start + fde.size ≡ f.end
+  pub rows : DescribesRows bases f fde
 
-  -- A description of a function: of its code, and of what its language asks.
-  pub record DescribesFunction (image : List Span) (bases : Bases) (f : Function) (fde : Fde) : Type 0 where
-    pub code : DescribesCode image bases f fde
-    pub language : LeadsToLanguage image f fde.language
+-- A description of a function: of its code, and of what its language asks.
+pub record DescribesFunction (image : List Span) (bases : Bases) (f : Function) (fde : Fde) : Type 0 where
+  pub code : DescribesCode image bases f fde
+  pub language : LeadsToLanguage image f fde.language
 
-  -- the one description in a list that has a function's range, and describes it
-  pub record HasDescription (image : List Span) (bases : Bases) (fdes : List Fde) (f : Function) : Type 0 where
-    pub fde : Fde
-    pub one : filter (has_range_of f) fdes ≡ fde ∷ []
-    pub describes : DescribesFunction image bases f fde
+-- the one description in a list that has a function's range, and describes it
+pub record HasDescription (image : List Span) (bases : Bases) (fdes : List Fde) (f : Function) : Type 0 where
+  pub fde : Fde
+  pub one : filter (has_range_of f) fdes ≡ fde ∷ []
+  pub describes : DescribesFunction image bases f fde
 
 -- a description shares no address with a function
 abbrev pub MeetsNot : Fde → Function → Type 0
@@ -83,11 +81,10 @@ offset_of (AFde fde) = fde.offset
 abbrev pub HasShortLength : Input → Entry → Type 0
 HasShortLength table e = (n : ℕ) × (rest : Input) × (number w32 (skip (offset_of e) table) ≡ Ok (n, rest)) × (n < 2 ^ 32 - 1)
 
-module _ (forms : Forms) where
-  -- A frame table describes functions: it is these entries, each function has one description there, and the other
-  -- descriptions, which are free in all else, meet none of the functions.
-  pub record DescribesFrames (image : List Span) (bases : Bases) (table : Input) (entries : List Entry) (functions : List Function) : Type 0 where
-    pub reads : AreEntries forms bases table 0 entries
-    pub lengths : AllByRecursion (HasShortLength table) entries
-    pub each : AllByRecursion (HasDescription forms image bases (fdes_of entries)) functions
-    pub foreign : (fde : Fde) → Contains (fdes_of entries) fde → IsFalse (list_any (λ f. has_range_of f fde) functions) → AllByRecursion (MeetsNot fde) functions
+-- A frame table describes functions: it is these entries, each function has one description there, and the other
+-- descriptions, which are free in all else, meet none of the functions.
+pub record DescribesFrames (image : List Span) (bases : Bases) (table : Input) (entries : List Entry) (functions : List Function) : Type 0 where
+  pub reads : AreEntries bases table 0 entries
+  pub lengths : AllByRecursion (HasShortLength table) entries
+  pub each : AllByRecursion (HasDescription image bases (fdes_of entries)) functions
+  pub foreign : (fde : Fde) → Contains (fdes_of entries) fde → IsFalse (list_any (λ f. has_range_of f fde) functions) → AllByRecursion (MeetsNot fde) functions

@@ -3,7 +3,6 @@
 use Rattle.std.specs.Prelude.{◌≡◌, ℕ, zero, suc, ◌+◌, ◌-◌, ◌/◌, ◌^◌, ◌<◌, ◌≤◌, Bool, true, false, length, Option, Some, None, Result, Ok, Err, nat_lt, nat_le, if◌then◌else◌}
 use Rattle.memory_image.specs.Halving.{place_before}
 use Rattle.unwind_definitions.specs.Faults.{Fault, UnexpectedEof, NotFde, NoUnwindInfoForAddress, ◌>>=◌}
-use Rattle.unwind_definitions.specs.Forms.{Forms}
 use Rattle.unwind_definitions.specs.Input.{Input}
 use Rattle.unwind_definitions.specs.Pointers.{Bases}
 use Rattle.unwind_definitions.specs.Entries.{Fde, Entry, ACie, AFde, Found, entry_at}
@@ -81,10 +80,10 @@ fde_in (Some found) = described found.entry
 abbrev pub containing : ℕ → Fde → Result Fde Fault
 containing pc fde = if covers_pc fde pc then Ok fde else Err NoUnwindInfoForAddress
 
-module _ (forms : Forms) (bases : Bases) (frame : Input) where
+module _ (bases : Bases) (frame : Input) where
   -- the description at an offset of a frame table
   abbrev pub fde_at : ℕ → Result Fde Fault
-  fde_at offset = if nat_lt (length frame.bytes) offset then Err UnexpectedEof else (entry_at forms bases frame offset >>= λ found. fde_in found)
+  fde_at offset = if nat_lt (length frame.bytes) offset then Err UnexpectedEof else (entry_at bases frame offset >>= λ found. fde_in found)
 
   -- the same at an address, which isn't below the table's
   abbrev pub fde_at_address : ℕ → Result Fde Fault

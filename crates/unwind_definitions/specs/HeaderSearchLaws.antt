@@ -5,7 +5,6 @@ use Rattle.std.specs.Prelude.{slice_index}
 use Rattle.std.proofs.lemmas.Bool.{ltb-true, ltb-false, leb-true, leb-false, lt-ltb, le-ltb, le-leb, lt-leb}
 use Rattle.memory_image.specs.Halving.{halved, place_before, is_at_or_before, boundary_of}
 use Rattle.unwind_definitions.specs.Faults.{Fault, ◌>>=◌}
-use Rattle.unwind_definitions.specs.Forms.{Forms}
 use Rattle.unwind_definitions.specs.Input.{Input}
 use Rattle.unwind_definitions.specs.Pointers.{Bases}
 use Rattle.unwind_definitions.specs.Header.{PairTable, pair_at}
@@ -163,8 +162,8 @@ module _ (t : PairTable) (pc : ℕ) where
   boundary_in-finds = finds_of (halved_or t.count (starts_by t pc) 0 t.count) (placed t.count 0 t.count (omega arith) (omega arith))
 
   -- what the table answers it may answer
-  pub table_answer-is : (forms : Forms) (bases : Bases) (frame : Input) → IsTableAnswer forms bases frame t pc (table_answer forms bases frame t pc)
-  table_answer-is forms bases frame = record { place = boundary_in t pc; finds = boundary_in-finds; is = refl }
+  pub table_answer-is : (bases : Bases) (frame : Input) → IsTableAnswer bases frame t pc (table_answer bases frame t pc)
+  table_answer-is bases frame = record { place = boundary_in t pc; finds = boundary_in-finds; is = refl }
 
 -- ---- where all pairs can be read
 

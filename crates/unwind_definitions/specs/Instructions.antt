@@ -3,7 +3,6 @@ use Rattle.std.specs.Prelude.{ℕ, zero, suc, ◌*◌, ◌/◌, ◌%◌, ◌^◌
 use Rattle.std.specs.Int.{Width, w8, w16, w32}
 use Rattle.unwind_definitions.specs.Faults.{Fault, UnknownInstruction, UnsupportedRegister, ◌>>=◌}
 use Rattle.unwind_definitions.specs.Input.{Input, Reads, split, number, uleb, sleb}
-use Rattle.unwind_definitions.specs.Forms.{Forms}
 use Rattle.unwind_definitions.specs.Pointers.{Bases, direct}
 use Rattle.unwind_definitions.specs.CallFrameOpcodes.{DW_CFA_nop, DW_CFA_set_loc, DW_CFA_advance_loc1, DW_CFA_advance_loc2, DW_CFA_advance_loc4, DW_CFA_offset_extended, DW_CFA_restore_extended, DW_CFA_undefined, DW_CFA_same_value, DW_CFA_register, DW_CFA_remember_state, DW_CFA_restore_state, DW_CFA_def_cfa, DW_CFA_def_cfa_register, DW_CFA_def_cfa_offset, DW_CFA_def_cfa_expression, DW_CFA_expression, DW_CFA_offset_extended_sf, DW_CFA_def_cfa_sf, DW_CFA_def_cfa_offset_sf, DW_CFA_val_offset, DW_CFA_val_offset_sf, DW_CFA_val_expression, DW_CFA_GNU_args_size}
 
@@ -187,19 +186,18 @@ saves coding r c = do
   n ← uleb c
   Ok (Write r (Offset (scaled coding n.0)), n.1)
 
-module _ (forms : Forms) where
-  -- an instruction by the two high and the six low bits of its first byte
-  unfoldable pub instruction_of : Coding → ℕ → ℕ → Reads Instruction
-  instruction_of coding high low =
-      if high == 1 then gives (Advance (low * coding.code_factor))
-      else (if high == 2 then saves coding low
-      else (if high == 3 then gives (Reset low)
-      else (if forms.operation low then operation coding low else unknown)))
+-- an instruction by the two high and the six low bits of its first byte
+unfoldable pub instruction_of : Coding → ℕ → ℕ → Reads Instruction
+instruction_of coding high low =
+    if high == 1 then gives (Advance (low * coding.code_factor))
+    else (if high == 2 then saves coding low
+    else (if high == 3 then gives (Reset low)
+    else (if forms.operation low then operation coding low else unknown)))
 
-  abbrev pub instruction : Coding → Reads Instruction
-  instruction coding c = do
-    b ← number w8 c
-    instruction_of coding (b.0 / 64) (b.0 % 64) b.1
+abbrev pub instruction : Coding → Reads Instruction
+instruction coding c = do
+  b ← number w8 c
+  instruction_of coding (b.0 / 64) (b.0 % 64) b.1
 
 -- A program: its instructions up to the first that can't be read, and why that one can't.
 pub record Program : Type 0 where
@@ -211,12 +209,11 @@ abbrev pub after : Result (Instruction × Input) Fault → (Input → Program) �
 after (Ok r) rest = let p = rest r.1 in record { instructions = r.0 ∷ p.instructions; fault = p.fault }
 after (Err e) rest = record { instructions = []; fault = Some e }
 
-module _ (forms : Forms) where
-  -- one instruction after another, at most so many
-  abbrev pub program_from : ℕ → Coding → Input → Program
-  program_from zero coding c = record { instructions = []; fault = None }
-  program_from (suc turns) coding c = if length c.bytes == 0 then record { instructions = []; fault = None } else after (instruction forms coding c) (program_from turns coding)
+-- one instruction after another, at most so many
+abbrev pub program_from : ℕ → Coding → Input → Program
+program_from zero coding c = record { instructions = []; fault = None }
+program_from (suc turns) coding c = if length c.bytes == 0 then record { instructions = []; fault = None } else after (instruction coding c) (program_from turns coding)
 
-  -- all of the bytes: each instruction takes one at least
-  abbrev pub program : Coding → Input → Program
-  program coding c = program_from (length c.bytes) coding c
+-- all of the bytes: each instruction takes one at least
+abbrev pub program : Coding → Input → Program
+program coding c = program_from (length c.bytes) coding c

@@ -6,7 +6,6 @@ use Rattle.std.specs.List.{Contains, AllPairs, AllByRecursion}
 use Rattle.std.specs.List.Sorted.{IsPermutation}
 use Rattle.memory_image.specs.Image.{Span, table_at, IsLaidOut}
 use Rattle.unwind_definitions.specs.Faults.{Fault}
-use Rattle.unwind_definitions.specs.Forms.{Forms}
 use Rattle.unwind_definitions.specs.Input.{Input, number, skip}
 use Rattle.unwind_definitions.specs.Pointers.{Bases, direct}
 use Rattle.unwind_definitions.specs.Entries.{Fde, Entry, AreEntries}
@@ -119,28 +118,27 @@ HeaderLists image (Header h) frame fdes = IsHeaderTable image h frame fdes
 abbrev pub DescriptionsApart : Fde → Fde → Type 0
 DescriptionsApart a b = (a.start + a.size ≤ b.start) ⊎ (b.start + b.size ≤ a.start)
 
-module _ (forms : Forms) where
-  -- An ELF module describes functions, which lie inside it: its frame table does, whose descriptions have nonempty ranges
-  -- that share no address, and its header table lists them all.
-  pub record DescribesModule (image : List Span) (m : Module) (functions : List Function) : Type 0 where
-    pub frame : ℕ
-    pub address : frame_address image m.tables ≡ Some frame
-    pub entries : List Entry
-    pub frames : DescribesFrames forms image (bases_of m frame) (input_at image frame) entries functions
-    pub nonempty : AllByRecursion (λ (fde : Fde). 0 < fde.size) (fdes_of entries)
-    pub apart : AllPairs DescriptionsApart (fdes_of entries)
-    pub inside : AllByRecursion (λ (f : Function). (m.start ≤ f.start) × (f.end ≤ m.end)) functions
-    pub header : HeaderLists image m.tables frame (fdes_of entries)
+-- An ELF module describes functions, which lie inside it: its frame table does, whose descriptions have nonempty ranges
+-- that share no address, and its header table lists them all.
+pub record DescribesModule (image : List Span) (m : Module) (functions : List Function) : Type 0 where
+  pub frame : ℕ
+  pub address : frame_address image m.tables ≡ Some frame
+  pub entries : List Entry
+  pub frames : DescribesFrames image (bases_of m frame) (input_at image frame) entries functions
+  pub nonempty : AllByRecursion (λ (fde : Fde). 0 < fde.size) (fdes_of entries)
+  pub apart : AllPairs DescriptionsApart (fdes_of entries)
+  pub inside : AllByRecursion (λ (f : Function). (m.start ≤ f.start) × (f.end ≤ m.end)) functions
+  pub header : HeaderLists image m.tables frame (fdes_of entries)
 
-  -- An ELF module's frame table reads, none of its descriptions contains an address, and its header table lists them all.
-  pub record CoversNot (image : List Span) (m : Module) (a : ℕ) : Type 0 where
-    pub frame : ℕ
-    pub address : frame_address image m.tables ≡ Some frame
-    pub entries : List Entry
-    pub reads : AreEntries forms (bases_of m frame) (input_at image frame) 0 entries
-    pub uncovered : AllByRecursion (λ (fde : Fde). covers_pc fde a ≡ false) (fdes_of entries)
-    pub header : HeaderLists image m.tables frame (fdes_of entries)
+-- An ELF module's frame table reads, none of its descriptions contains an address, and its header table lists them all.
+pub record CoversNot (image : List Span) (m : Module) (a : ℕ) : Type 0 where
+  pub frame : ℕ
+  pub address : frame_address image m.tables ≡ Some frame
+  pub entries : List Entry
+  pub reads : AreEntries (bases_of m frame) (input_at image frame) 0 entries
+  pub uncovered : AllByRecursion (λ (fde : Fde). covers_pc fde a ≡ false) (fdes_of entries)
+  pub header : HeaderLists image m.tables frame (fdes_of entries)
 
-  -- an address is in no module, or in one none of whose descriptions contains it
-  abbrev pub IsUncovered : Process → ℕ → Type 0
-  IsUncovered p a = (m : Module) → Contains p.modules m → IsTrue (in_module a m) → CoversNot p.image m a
+-- an address is in no module, or in one none of whose descriptions contains it
+abbrev pub IsUncovered : Process → ℕ → Type 0
+IsUncovered p a = (m : Module) → Contains p.modules m → IsTrue (in_module a m) → CoversNot p.image m a

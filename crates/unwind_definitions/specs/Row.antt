@@ -4,7 +4,6 @@ use Rattle.std.specs.Prelude.{ℕ, ◌+◌, ◌^◌, Bool, true, false, ◌&&◌
 use Rattle.std.specs.List.{filter, filter_map}
 use Rattle.std.specs.Option.{option_or, unwrap_or}
 use Rattle.unwind_definitions.specs.Faults.{Fault, AddressOverflow, LocationGoesBack, NoCfaRegister, TooManyRegisterRules, StackFull, PopWithEmptyStack, NoUnwindInfoForAddress}
-use Rattle.unwind_definitions.specs.Forms.{Forms}
 use Rattle.unwind_definitions.specs.Pointers.{Bases}
 use Rattle.unwind_definitions.specs.Instructions.{Rule, Instruction, Remember, Restore, Advance, SetLocation, Write, Reset, Cfa, CfaColumn, CfaOffset, CfaExpression, Arguments, Program, program}
 use Rattle.unwind_definitions.specs.Entries.{Fde, coding_of}
@@ -177,9 +176,8 @@ row start pc common own = row_of start common own (up_to start pc own.instructio
 abbrev pub covers_pc : Fde → ℕ → Bool
 covers_pc fde pc = nat_le fde.start pc && nat_lt pc (fde.start + fde.size)
 
-module _ (forms : Forms) where
-  -- the row of a description at an address of its range
-  unfoldable pub row_at : Bases → Fde → ℕ → Result Run Fault
-  row_at bases fde pc = if covers_pc fde pc
-      then row fde.start pc (program forms (coding_of bases fde.cie) fde.cie.program) (program forms (coding_of bases fde.cie) fde.program)
-      else Err NoUnwindInfoForAddress
+-- the row of a description at an address of its range
+unfoldable pub row_at : Bases → Fde → ℕ → Result Run Fault
+row_at bases fde pc = if covers_pc fde pc
+    then row fde.start pc (program (coding_of bases fde.cie) fde.cie.program) (program (coding_of bases fde.cie) fde.program)
+    else Err NoUnwindInfoForAddress

@@ -2,7 +2,6 @@
 use Rattle.std.specs.Prelude.{ℕ, zero, suc, List, length, Option, Some, None, Result, Ok, Err, if◌then◌else◌}
 use Rattle.std.specs.List.{find, filter_map}
 use Rattle.unwind_definitions.specs.Faults.{Fault, NoUnwindInfoForAddress, ◌>>=◌}
-use Rattle.unwind_definitions.specs.Forms.{Forms}
 use Rattle.unwind_definitions.specs.Input.{Input}
 use Rattle.unwind_definitions.specs.Pointers.{Bases}
 use Rattle.unwind_definitions.specs.Entries.{Fde, Entry, ACie, AFde, Found, entry_at}
@@ -28,12 +27,11 @@ abbrev pub scan_after : ℕ → Option Found → (ℕ → Result Fde Fault) → 
 scan_after pc None later = Err NoUnwindInfoForAddress
 scan_after pc (Some found) later = found_or pc found.entry (later found.next)
 
-module _ (forms : Forms) where
-  -- the entries from an offset on, at most so many
-  abbrev pub scan_from : ℕ → Bases → Input → ℕ → ℕ → Result Fde Fault
-  scan_from zero bases table pc offset = Err NoUnwindInfoForAddress
-  scan_from (suc turns) bases table pc offset = entry_at forms bases table offset >>= λ found. scan_after pc found (scan_from turns bases table pc)
+-- the entries from an offset on, at most so many
+abbrev pub scan_from : ℕ → Bases → Input → ℕ → ℕ → Result Fde Fault
+scan_from zero bases table pc offset = Err NoUnwindInfoForAddress
+scan_from (suc turns) bases table pc offset = entry_at bases table offset >>= λ found. scan_after pc found (scan_from turns bases table pc)
 
-  -- The first description that contains the address, or the fault of an entry before it that can't be read. An entry takes a byte at least, so a table holds no more entries than bytes.
-  unfoldable pub scan : Bases → Input → ℕ → Result Fde Fault
-  scan bases table pc = scan_from (suc (length table.bytes)) bases table pc 0
+-- The first description that contains the address, or the fault of an entry before it that can't be read. An entry takes a byte at least, so a table holds no more entries than bytes.
+unfoldable pub scan : Bases → Input → ℕ → Result Fde Fault
+scan bases table pc = scan_from (suc (length table.bytes)) bases table pc 0

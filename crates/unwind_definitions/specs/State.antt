@@ -1,7 +1,7 @@
 -- What is followed of a machine in a call: the return address, the stack pointer, and the registers that a function
 -- keeps for its caller. System V x86-64 psABI, section 3.2.1 and the table of DWARF register numbers.
 use Rattle.std.specs.Prelude.{◌≡◌, ℕ, ◌^◌, ◌<◌, Bool, true, false, [], ◌∷◌, Some, IsFalse}
-use Rattle.unwind_definitions.specs.Forms.{is_among}
+use Rattle.unwind_definitions.specs.Membership.{is_among}
 use Rattle.unwind_definitions.specs.Caller.{Columns}
 
 -- the callee-saved registers, but for the stack pointer

@@ -1,7 +1,6 @@
 -- What the theorems on walks and deliveries are about: processes whose ELF tables describe the functions of a chain.
 use Rattle.std.specs.Prelude.{◌≡◌, ◌⊎◌, ℕ, ◌-◌, List, IsTrue, Some}
 use Rattle.std.specs.List.{filter, list_any, Contains, AllByRecursion}
-use Rattle.unwind_definitions.specs.Forms.{Forms}
 use Rattle.unwind_definitions.specs.Caller.{Columns}
 use Rattle.unwind_definitions.specs.State.{State, Shows}
 use Rattle.unwind_definitions.specs.Prologue.{SystemV}
@@ -14,10 +13,10 @@ use Rattle.unwind_definitions.specs.Delivery.{Frame, action_of_frame, accepts, d
 abbrev pub part_in : Module → List Function → List Function
 part_in m functions = filter (λ (f : Function). in_module f.start m) functions
 
-module _ (forms : Forms) (p : Process) where
+module _ (p : Process) where
   -- a module describes its part of a list of functions
   abbrev pub DescribesPart : Module → List Function → Type 0
-  DescribesPart m functions = DescribesModule forms p.image m (part_in m functions)
+  DescribesPart m functions = DescribesModule p.image m (part_in m functions)
 
   -- a function lies in a module that describes its part of the list
   pub record LiesDescribed (functions : List Function) (f : Function) : Type 0 where
@@ -33,7 +32,7 @@ module _ (forms : Forms) (p : Process) where
   -- A chain over functions that the modules in its way describe.
   pub record IsDescribedChain (functions : List Function) (s : State) (calls : List Call) : Type 0 where
     pub are_functions : AllByRecursion (IsFunction SystemV) functions
-    pub chain : IsChain p.image (IsUncovered forms p) functions s calls
+    pub chain : IsChain p.image (IsUncovered p) functions s calls
     pub described : AllByRecursion (λ (c : Call). LiesDescribed functions c.callee) calls
     pub ends : ((last_state s calls).ra ≡ 0) ⊎ IsDescribedAt functions ((last_state s calls).ra - 1)
 
@@ -45,5 +44,5 @@ module _ (forms : Forms) (p : Process) where
     pub modules : AllByRecursion (λ (m : Module). DescribesPart m functions) p.modules
     pub no_others : AllByRecursion (λ (f : Function). IsTrue (list_any (in_module f.start) p.modules)) functions
     pub shows : Shows start s
-    pub chain : IsChain p.image (IsUncovered forms p) functions s calls
+    pub chain : IsChain p.image (IsUncovered p) functions s calls
     pub resumed : (f : Frame) → deciding_frame s calls ≡ Some f → IsTrue (accepts (action_of_frame f)) → AllByRecursion (Resumes resumes) (inner_frames s calls)

@@ -8,7 +8,7 @@ use Rattle.memory_image.specs.Image.{Span, word_at}
 use Rattle.unwind_definitions.specs.declared.error.Error.{Error as Fault}
 use Rattle.unwind_definitions.specs.declared.error.Error.TheVariants.{UnknownVersion, UnknownAugmentation, UnsupportedPointerEncoding, AddressOverflow}
 use Rattle.unwind_definitions.specs.Faults.{◌>>=◌, unless}
-use Rattle.unwind_definitions.specs.Forms.{Forms}
+use Rattle.unwind_definitions.specs.Augmentation.{is_version, is_augmentation}
 use Rattle.unwind_definitions.specs.Input.{Input, number, split, text, uleb, sleb}
 use Rattle.unwind_definitions.specs.Pointers.{Bases, Pointer, Direct, Indirect, encoding, pointer, direct, value, format_of}
 use Rattle.unwind_definitions.specs.Entries.{Letters, letter, letters_from, no_letters, augmentation_data, Cie, Fde, fde_data, language_pointer, sizes, return_column, address_encoding}
@@ -53,7 +53,7 @@ no_pointer bases cie start c r none e = go (eqb (length cie.augmentation) 0) e
         let same : p.0 ≡ None = ok_same p.0 None (sym p.1 ∙ absent) in
         sym (pair_first p.0 r.0 block.0.1 r.1 p.2) ∙ same
 
-module _ (forms : Forms) (bases : Bases) (fde : Fde) (read : FdeRead forms bases fde) where
+module _ (bases : Bases) (fde : Fde) (read : FdeRead bases fde) where
   -- its end is an address
   pub ends_below : fde.start + fde.size < 2 ^ 64
   ends_below =
@@ -88,12 +88,12 @@ pub record DataRead (bases : Bases) (cie : Cie) : Type 0 where
 abbrev lettered : Letters → Input → Result (Letters × Input) Fault
 lettered l c = Ok (l, c)
 
-data_read : (forms : Forms) (bases : Bases) (cie : Cie) → CieRead forms bases cie → DataRead bases cie
-data_read forms bases cie read =
+data_read : (bases : Bases) (cie : Cie) → CieRead bases cie → DataRead bases cie
+data_read bases cie read =
     let a = bound (number w8 read.from) _ cie read.is in
-    let b = bound (unless (forms.version a.0.0) UnknownVersion) _ cie a.2 in
+    let b = bound (unless (is_version a.0.0) UnknownVersion) _ cie a.2 in
     let d = bound (text a.0.1) _ cie b.2 in
-    let k = bound (unless (forms.augmentation d.0.0) UnknownAugmentation) _ cie d.2 in
+    let k = bound (unless (is_augmentation d.0.0) UnknownAugmentation) _ cie d.2 in
     let f = bound (sizes a.0.0 d.0.1) _ cie k.2 in
     let g = bound (uleb f.0.1) _ cie f.2 in
     let h = bound (sleb g.0.1) _ cie g.2 in
@@ -235,16 +235,16 @@ language_asked image bases f fde are start small leads a = go fde.language refl 
         rw (is, nonzero, start, sites) (described_asks image (record bases { func = Some f.start }) f t leads.0 a are_sites small leads.2)
 
 -- A described function's description asks what the function does.
-pub asks_as : (forms : Forms) (image : List Span) (bases : Bases) (f : Function) (fde : Fde) → IsFunction SystemV f → FdeRead forms bases fde → DescribesFunction forms image bases f fde → AsksAs image bases f fde
-asks_as forms image bases f fde is read describes =
-    let data_is = data_read forms bases fde.cie read.common in
+pub asks_as : (image : List Span) (bases : Bases) (f : Function) (fde : Fde) → IsFunction SystemV f → FdeRead bases fde → DescribesFunction image bases f fde → AsksAs image bases f fde
+asks_as image bases f fde is read describes =
+    let data_is = data_read bases fde.cie read.common in
     let reads = personality_reads bases fde.cie.augmentation data_is.from data_is.rest fde.cie.letters data_is.is in
     let n : Named image fde = named image bases fde reads describes.code.cie.personality in
-    let below = ends_below forms bases fde read in
+    let below = ends_below bases fde read in
     let end = describes.code.end in
     record {
       routine = n.routine;
       personality = n.personality;
-      silent = λ none. subst (LeadsToLanguage image f) (without_language forms bases fde read (no_encoding bases fde.cie data_is describes.code.cie.augmentation (n.silent none))) describes.language;
+      silent = λ none. subst (LeadsToLanguage image f) (without_language bases fde read (no_encoding bases fde.cie data_is describes.code.cie.augmentation (n.silent none))) describes.language;
       action = language_asked image bases f fde is.sites describes.code.start (omega arith) describes.language;
     }

@@ -10,7 +10,6 @@ use Rattle.memory_image.specs.Image.{Span}
 use Rattle.unwind_definitions.specs.declared.error.Error.{Error as Fault}
 use Rattle.unwind_definitions.specs.declared.error.Error.TheVariants.{NoUnwindInfoForAddress, UnsupportedPointerEncoding, AddressOverflow, NotCie}
 use Rattle.unwind_definitions.specs.Faults.{◌>>=◌, unless}
-use Rattle.unwind_definitions.specs.Forms.{Forms}
 use Rattle.unwind_definitions.specs.Input.{Input, skip, number}
 use Rattle.unwind_definitions.specs.Pointers.{Bases, direct, value, format_of}
 use Rattle.unwind_definitions.specs.Entries.{Cie, Fde, Entry, ACie, AFde, Found, AreEntries, entry_at, entry_in, found_in, cie_at, cie_body, fde_body, fde_data, body, address_encoding}
@@ -27,59 +26,58 @@ use Rattle.unwind_laws.proofs.Scanned.{scan_is}
 use Rattle.unwind_laws.proofs.Found.{covered, found_first, none_first}
 
 -- ---- a description stands at its own offset
-module _ (forms : Forms) where
-  of_body : (bases : Bases) (cie : Cie) (o : ℕ) (c : Input) (fde : Fde) → fde_body forms bases cie o c ≡ Ok fde → fde.offset ≡ o
-  of_body bases cie o c fde e =
-      let z = bound (unless (forms.address (address_encoding cie)) UnsupportedPointerEncoding) _ fde e in
-      let a = bound (direct (address_encoding cie) bases c) _ fde z.2 in
-      let b = bound (value (format_of (address_encoding cie)) a.0.1) _ fde a.2 in
-      let d = bound (unless (nat_le (a.0.0 + b.0.0) (2 ^ 64 - 1)) AddressOverflow) _ fde b.2 in
-      let f = bound (fde_data bases cie a.0.0 b.0.1) _ fde d.2 in
-      sym (ap (λ (k : Fde). k.offset) (ok_same _ _ f.2))
+of_body : (bases : Bases) (cie : Cie) (o : ℕ) (c : Input) (fde : Fde) → fde_body bases cie o c ≡ Ok fde → fde.offset ≡ o
+of_body bases cie o c fde e =
+    let z = bound (unless (forms.address (address_encoding cie)) UnsupportedPointerEncoding) _ fde e in
+    let a = bound (direct (address_encoding cie) bases c) _ fde z.2 in
+    let b = bound (value (format_of (address_encoding cie)) a.0.1) _ fde a.2 in
+    let d = bound (unless (nat_le (a.0.0 + b.0.0) (2 ^ 64 - 1)) AddressOverflow) _ fde b.2 in
+    let f = bound (fde_data bases cie a.0.0 b.0.1) _ fde d.2 in
+    sym (ap (λ (k : Fde). k.offset) (ok_same _ _ f.2))
 
-  behind_id : (bases : Bases) (table : Input) (o id : ℕ) (b c : Input) (fde : Fde) (q q' : Bool) (e : Fault) →
-      cond q (cie_body forms bases o c >>= λ cie. Ok (ACie cie)) (cond q' (Err e) (cie_at forms bases table (b.offset - id) >>= λ cie. fde_body forms bases cie o c >>= λ k. Ok (AFde k))) ≡ Ok (AFde fde) → fde.offset ≡ o
-  behind_id bases table o id b c fde true q' e h = let a = bound (cie_body forms bases o c) _ (AFde fde) h in absurd cc
-  behind_id bases table o id b c fde false true e h = absurd cc
-  behind_id bases table o id b c fde false false e h =
-      let a = bound (cie_at forms bases table (b.offset - id)) (λ cie. fde_body forms bases cie o c >>= λ k. Ok (AFde k)) (AFde fde) h in
-      let d = bound (fde_body forms bases a.0 o c) (λ k. Ok (AFde k)) (AFde fde) a.2 in
-      let same : d.0 ≡ fde = cc in
-      ap (λ (k : Fde). k.offset) (sym same) ∙ of_body bases a.0 o c d.0 d.1
+behind_id : (bases : Bases) (table : Input) (o id : ℕ) (b c : Input) (fde : Fde) (q q' : Bool) (e : Fault) →
+    cond q (cie_body bases o c >>= λ cie. Ok (ACie cie)) (cond q' (Err e) (cie_at bases table (b.offset - id) >>= λ cie. fde_body bases cie o c >>= λ k. Ok (AFde k))) ≡ Ok (AFde fde) → fde.offset ≡ o
+behind_id bases table o id b c fde true q' e h = let a = bound (cie_body bases o c) _ (AFde fde) h in absurd cc
+behind_id bases table o id b c fde false true e h = absurd cc
+behind_id bases table o id b c fde false false e h =
+    let a = bound (cie_at bases table (b.offset - id)) (λ cie. fde_body bases cie o c >>= λ k. Ok (AFde k)) (AFde fde) h in
+    let d = bound (fde_body bases a.0 o c) (λ k. Ok (AFde k)) (AFde fde) a.2 in
+    let same : d.0 ≡ fde = cc in
+    ap (λ (k : Fde). k.offset) (sym same) ∙ of_body bases a.0 o c d.0 d.1
 
-  in_entry : (bases : Bases) (table : Input) (o : ℕ) (b : Input) (fde : Fde) → entry_in forms bases table o b ≡ Ok (AFde fde) → fde.offset ≡ o
-  in_entry bases table o b fde e = let a = bound (number w32 b) _ (AFde fde) e in behind_id bases table o a.0.0 b a.0.1 fde (a.0.0 == 0) (ltb b.offset a.0.0) NotCie a.2
+in_entry : (bases : Bases) (table : Input) (o : ℕ) (b : Input) (fde : Fde) → entry_in bases table o b ≡ Ok (AFde fde) → fde.offset ≡ o
+in_entry bases table o b fde e = let a = bound (number w32 b) _ (AFde fde) e in behind_id bases table o a.0.0 b a.0.1 fde (a.0.0 == 0) (ltb b.offset a.0.0) NotCie a.2
 
-  entry_same : (k k' : Entry) (n n' : ℕ) → ◌≡◌ {A = Result (Option Found) Fault} (Ok (Some (record { entry = k; next = n }))) (Ok (Some (record { entry = k'; next = n' }))) → k ≡ k'
-  entry_same k k' n n' e =
-      let a : Found = record { entry = k; next = n } in
-      let b : Found = record { entry = k'; next = n' } in
-      let same : a ≡ b = cc in
-      ap (λ (q : Found). q.entry) same
+entry_same : (k k' : Entry) (n n' : ℕ) → ◌≡◌ {A = Result (Option Found) Fault} (Ok (Some (record { entry = k; next = n }))) (Ok (Some (record { entry = k'; next = n' }))) → k ≡ k'
+entry_same k k' n n' e =
+    let a : Found = record { entry = k; next = n } in
+    let b : Found = record { entry = k'; next = n' } in
+    let same : a ≡ b = cc in
+    ap (λ (q : Found). q.entry) same
 
-  in_found : (bases : Bases) (table : Input) (o : ℕ) (b : Option Input) (n next : ℕ) (fde : Fde) → found_in forms bases table o b n ≡ Ok (Some (record { entry = AFde fde; next = next })) → fde.offset ≡ o
-  in_found bases table o None n next fde e = absurd cc
-  in_found bases table o (Some b) n next fde e =
-      let a = bound (entry_in forms bases table o b) (λ k. Ok (Some (record { entry = k; next = n }))) (Some (record { entry = AFde fde; next = next })) e in
-      let same : a.0 ≡ AFde fde = entry_same a.0 (AFde fde) n next a.2 in
-      in_entry bases table o b fde (a.1 ∙ ap (λ (k : Entry). Ok k) same)
+in_found : (bases : Bases) (table : Input) (o : ℕ) (b : Option Input) (n next : ℕ) (fde : Fde) → found_in bases table o b n ≡ Ok (Some (record { entry = AFde fde; next = next })) → fde.offset ≡ o
+in_found bases table o None n next fde e = absurd cc
+in_found bases table o (Some b) n next fde e =
+    let a = bound (entry_in bases table o b) (λ k. Ok (Some (record { entry = k; next = n }))) (Some (record { entry = AFde fde; next = next })) e in
+    let same : a.0 ≡ AFde fde = entry_same a.0 (AFde fde) n next a.2 in
+    in_entry bases table o b fde (a.1 ∙ ap (λ (k : Entry). Ok k) same)
 
-  offset_is : (bases : Bases) (table : Input) (o next : ℕ) (fde : Fde) → entry_at forms bases table o ≡ Ok (Some (record { entry = AFde fde; next = next })) → fde.offset ≡ o
-  unfolding entry_at
-  offset_is bases table o next fde e = let a = bound (body forms (skip o table)) _ (Some (record { entry = AFde fde; next = next })) e in in_found bases table o a.0.0 _ next fde a.2
+offset_is : (bases : Bases) (table : Input) (o next : ℕ) (fde : Fde) → entry_at bases table o ≡ Ok (Some (record { entry = AFde fde; next = next })) → fde.offset ≡ o
+unfolding entry_at
+offset_is bases table o next fde e = let a = bound (body (skip o table)) _ (Some (record { entry = AFde fde; next = next })) e in in_found bases table o a.0.0 _ next fde a.2
 
-  pub record Placed (bases : Bases) (table : Input) (fde : Fde) : Type 0 where
-    pub next : ℕ
-    pub is : entry_at forms bases table fde.offset ≡ Ok (Some (record { entry = AFde fde; next = next }))
+pub record Placed (bases : Bases) (table : Input) (fde : Fde) : Type 0 where
+  pub next : ℕ
+  pub is : entry_at bases table fde.offset ≡ Ok (Some (record { entry = AFde fde; next = next }))
 
-  -- each description of a table stands at its own offset
-  pub placed : (bases : Bases) (table : Input) (o : ℕ) (entries : List Entry) (fde : Fde) → AreEntries forms bases table o entries → Contains (fdes_of entries) fde → Placed bases table fde
-  placed bases table o [] fde reads has = absurd (none_in_nil fde has)
-  placed bases table o (ACie cie ∷ es) fde reads has = placed bases table reads.0 es fde reads.2 has
-  placed bases table o (AFde g ∷ es) fde reads has = elim (here_or_later g (fdes_of es) fde has) [
-    | inl same ↦ subst (Placed bases table) same (record { next = reads.0; is = ap (entry_at forms bases table) (offset_is bases table o reads.0 g reads.1) ∙ reads.1 })
-    | inr more ↦ placed bases table reads.0 es fde reads.2 more
-  ]
+-- each description of a table stands at its own offset
+pub placed : (bases : Bases) (table : Input) (o : ℕ) (entries : List Entry) (fde : Fde) → AreEntries bases table o entries → Contains (fdes_of entries) fde → Placed bases table fde
+placed bases table o [] fde reads has = absurd (none_in_nil fde has)
+placed bases table o (ACie cie ∷ es) fde reads has = placed bases table reads.0 es fde reads.2 has
+placed bases table o (AFde g ∷ es) fde reads has = elim (here_or_later g (fdes_of es) fde has) [
+  | inl same ↦ subst (Placed bases table) same (record { next = reads.0; is = ap (entry_at bases table) (offset_is bases table o reads.0 g reads.1) ∙ reads.1 })
+  | inr more ↦ placed bases table reads.0 es fde reads.2 more
+]
 
 -- ---- the boundary
 pub record IsBoundary (pairs : List (ℕ × ℕ)) (a : ℕ) (p : ℕ × ℕ) : Type 0 where
@@ -177,15 +175,15 @@ alone fdes x y a apart p q some from order covers = go (same_or_apart fdes x y a
     go (inr (inr (inl le))) = let below = c.1 in absurd (omega arith)
     go (inr (inr (inr le))) = let below = c.1 in absurd (omega arith)
 
-module _ (forms : Forms) (image : List Span) (m : Module) (functions : List Function) (d : DescribesModule forms image m functions) (a : ℕ) where
+module _ (image : List Span) (m : Module) (functions : List Function) (d : DescribesModule image m functions) (a : ℕ) where
   abbrev fdes : List Fde
   fdes = fdes_of d.entries
 
   abbrev answer : Option Fde → Result Fde Fault
   answer o = option_map_or (λ (x : Fde). Ok x) o (Err NoUnwindInfoForAddress)
 
-  scanned : scan forms (bases_of m d.frame) (input_at image d.frame) a ≡ answer (first_covering fdes a)
-  scanned = scan_is forms (bases_of m d.frame) (input_at image d.frame) a d.entries refl d.frames.reads
+  scanned : scan (bases_of m d.frame) (input_at image d.frame) a ≡ answer (first_covering fdes a)
+  scanned = scan_is (bases_of m d.frame) (input_at image d.frame) a d.entries refl d.frames.reads
 
   not_covered : ((g : Fde) → Contains fdes g → covers_pc g a ≡ true → ⊥) → first_covering fdes a ≡ None
   not_covered none = none_first fdes a (contains_all (λ (g : Fde). covers_pc g a ≡ false) fdes (λ g has. go g has (covers_pc g a) refl))
@@ -198,18 +196,18 @@ module _ (forms : Forms) (image : List Span) (m : Module) (functions : List Func
     pair_listed : (g : Fde) → Contains fdes g → Contains table.pairs (pair_of d.frame g)
     pair_listed g has = Contains-permutation (map (pair_of d.frame) fdes) table.pairs (pair_of d.frame g) table.each (mapped_to (pair_of d.frame) fdes g has)
 
-    at_none : boundary table.pairs a ≡ None → scan forms (bases_of m d.frame) (input_at image d.frame) a ≡ nothing_found
+    at_none : boundary table.pairs a ≡ None → scan (bases_of m d.frame) (input_at image d.frame) a ≡ nothing_found
     at_none e = scanned ∙ ap answer (not_covered (λ g has c. let lies = covered g a c in let lt = none_below table.pairs a e (pair_of d.frame g) (pair_listed g has) in omega (arith, lies.0)))
 
-    at_some : (p : ℕ × ℕ) → boundary table.pairs a ≡ Some p → AnswersBy forms image m d.frame a p
+    at_some : (p : ℕ × ℕ) → boundary table.pairs a ≡ Some p → AnswersBy image m d.frame a p
     at_some p e =
         let b : IsBoundary table.pairs a p = boundary_is table.pairs a p table.ascend e in
         let named = mapped_from (pair_of d.frame) fdes p (Contains-permutation table.pairs (map (pair_of d.frame) fdes) p (IsPermutation-sym (map (pair_of d.frame) fdes) table.pairs table.each) b.listed) in
         let fde : Fde = named.0 in
-        let at : Placed forms (bases_of m d.frame) (input_at image d.frame) fde = placed forms (bases_of m d.frame) (input_at image d.frame) 0 d.entries fde d.frames.reads named.1 in
+        let at : Placed (bases_of m d.frame) (input_at image d.frame) fde = placed (bases_of m d.frame) (input_at image d.frame) 0 d.entries fde d.frames.reads named.1 in
         record { fde = fde; names = record { pair = named.2; next = at.next; placed = at.is }; answer = go fde named.1 named.2 b (covers_pc fde a) refl }
       where
-        go : (fde : Fde) → Contains fdes fde → p ≡ pair_of d.frame fde → IsBoundary table.pairs a p → (c : Bool) → covers_pc fde a ≡ c → scan forms (bases_of m d.frame) (input_at image d.frame) a ≡ cond c (Ok fde) nothing_found
+        go : (fde : Fde) → Contains fdes fde → p ≡ pair_of d.frame fde → IsBoundary table.pairs a p → (c : Bool) → covers_pc fde a ≡ c → scan (bases_of m d.frame) (input_at image d.frame) a ≡ cond c (Ok fde) nothing_found
         go fde has is b true c = scanned ∙ ap answer (found_first fdes fde a d.apart has c)
         go fde has is b false c = scanned ∙ ap answer (not_covered (λ g listed covers.
             let lies = covered g a covers in
@@ -224,9 +222,9 @@ module _ (forms : Forms) (image : List Span) (m : Module) (functions : List Func
             not_true h = absurd cc
 
     -- a search of the header table finds what a scan finds
-    pub header_answers : BoundaryAnswers forms image m d.frame table.pairs a
+    pub header_answers : BoundaryAnswers image m d.frame table.pairs a
     header_answers = go (boundary table.pairs a) refl
       where
-        go : (o : Option (ℕ × ℕ)) → boundary table.pairs a ≡ o → MatchOption o (scan forms (bases_of m d.frame) (input_at image d.frame) a ≡ nothing_found) (AnswersBy forms image m d.frame a)
+        go : (o : Option (ℕ × ℕ)) → boundary table.pairs a ≡ o → MatchOption o (scan (bases_of m d.frame) (input_at image d.frame) a ≡ nothing_found) (AnswersBy image m d.frame a)
         go None e = at_none e
         go (Some p) e = at_some p e

@@ -7,7 +7,6 @@ use Rattle.std.proofs.lemmas.Bool.{leb-true, le-leb, lt-ltb, ltb-true}
 use Rattle.memory_image.specs.Image.{Span}
 use Rattle.unwind_definitions.specs.declared.error.Error.{Error as Fault}
 use Rattle.unwind_definitions.specs.declared.error.Error.TheVariants.{NoUnwindInfoForAddress}
-use Rattle.unwind_definitions.specs.Forms.{Forms}
 use Rattle.unwind_definitions.specs.Entries.{Fde}
 use Rattle.unwind_definitions.specs.Row.{Run, covers_pc, row_at, argument_size}
 use Rattle.unwind_definitions.specs.Scan.{fdes_of, first_covering, scan}
@@ -69,23 +68,23 @@ pub none_first : (fdes : List Fde) (pc : ℕ) → AllByRecursion (λ (fde : Fde)
 none_first [] pc all = refl
 none_first (g ∷ gs) pc all = rw all.0 (none_first gs pc all.1)
 
-module _ (forms : Forms) (image : List Span) (m : Module) where
-  pub function_found : (functions : List Function) (d : DescribesModule forms image m functions) (f : Function) (a : ℕ) → Contains functions f → f.start ≤ a → a < f.end → FindsFunction forms image m d.frame f a
+module _ (image : List Span) (m : Module) where
+  pub function_found : (functions : List Function) (d : DescribesModule image m functions) (f : Function) (a : ℕ) → Contains functions f → f.start ≤ a → a < f.end → FindsFunction image m d.frame f a
   function_found functions d f a has from below =
       let fdes = fdes_of d.entries in
-      let one = all_contains (HasDescription forms image (bases_of m d.frame) fdes) functions f d.frames.each has in
+      let one = all_contains (HasDescription image (bases_of m d.frame) fdes) functions f d.frames.each has in
       let fde : Fde = one.fde in
       let listed : Contains fdes fde = (filter_contains (has_range_of f) fdes fde (subst (λ (l : List Fde). Contains l fde) (sym one.one) (first fde []))).0 in
       let start = one.describes.code.start in
       let end = one.describes.code.end in
       let covers : covers_pc fde a ≡ true = covers_is fde a (omega arith) (omega arith) in
-      let is = scan_is forms (bases_of m d.frame) (input_at image d.frame) a d.entries refl d.frames.reads in
+      let is = scan_is (bases_of m d.frame) (input_at image d.frame) a d.entries refl d.frames.reads in
       record {
         fde = fde;
         found = is ∙ ap (λ (o : Option Fde). option_map_or (λ (x : Fde). ok x) o (Err NoUnwindInfoForAddress)) (found_first fdes fde a d.apart listed covers);
         covers = covers;
-        no_signal = no_signal forms (bases_of m d.frame) (input_at image d.frame) 0 d.entries fde image d.frames.reads listed one.describes.code.cie;
-        read = fde_read forms (bases_of m d.frame) (input_at image d.frame) 0 d.entries fde d.frames.reads listed;
+        no_signal = no_signal (bases_of m d.frame) (input_at image d.frame) 0 d.entries fde image d.frames.reads listed one.describes.code.cie;
+        read = fde_read (bases_of m d.frame) (input_at image d.frame) 0 d.entries fde d.frames.reads listed;
         describes = one.describes;
       }
     where
@@ -93,8 +92,8 @@ module _ (forms : Forms) (image : List Span) (m : Module) where
       ok x = Ok x
 
   -- an address that no description contains isn't found
-  pub not_found : (a : ℕ) (u : CoversNot forms image m a) → scan forms (bases_of m u.frame) (input_at image u.frame) a ≡ Err NoUnwindInfoForAddress
-  not_found a u = scan_is forms (bases_of m u.frame) (input_at image u.frame) a u.entries refl u.reads ∙ ap (λ (o : Option Fde). option_map_or (λ (x : Fde). ok x) o (Err NoUnwindInfoForAddress)) (none_first (fdes_of u.entries) a u.uncovered)
+  pub not_found : (a : ℕ) (u : CoversNot image m a) → scan (bases_of m u.frame) (input_at image u.frame) a ≡ Err NoUnwindInfoForAddress
+  not_found a u = scan_is (bases_of m u.frame) (input_at image u.frame) a u.entries refl u.reads ∙ ap (λ (o : Option Fde). option_map_or (λ (x : Fde). ok x) o (Err NoUnwindInfoForAddress)) (none_first (fdes_of u.entries) a u.uncovered)
     where
       ok : Fde → Result Fde Fault
       ok x = Ok x
@@ -104,8 +103,8 @@ no_steps : (prologue : List PrologueStep) → prologue ≡ [] → steps_of prolo
 no_steps prologue e = ap steps_of e
 
 -- what is known of a state that is stopped at an address in the body of a described function
-pub record Known (forms : Forms) (p : Process) (m : Module) (frame a : ℕ) (s : State) (c : Call) (fde : Fde) : Type 0 where
-  pub describes : DescribesFunction forms p.image (bases_of m frame) c.callee fde
+pub record Known (p : Process) (m : Module) (frame a : ℕ) (s : State) (c : Call) (fde : Fde) : Type 0 where
+  pub describes : DescribesFunction p.image (bases_of m frame) c.callee fde
   pub is_function : IsFunction SystemV c.callee
   pub inside : IsTrue (in_body c.callee a)
   pub entered : IsEntered p.image c.callee.outermost (steps_of c.callee.prologue) c.caller s
@@ -113,18 +112,18 @@ pub record Known (forms : Forms) (p : Process) (m : Module) (frame a : ℕ) (s :
   pub ends : IsTrue c.callee.outermost → c.caller.ra ≡ 0
 
 -- a row that undoes the call, and has no argument size
-pub record RowUndoes (forms : Forms) (p : Process) (evaluates : Evaluates) (m : Module) (frame : ℕ) (fde : Fde) (a : ℕ) (columns : Columns) (t : State) : Type 0 where
+pub record RowUndoes (p : Process) (evaluates : Evaluates) (m : Module) (frame : ℕ) (fde : Fde) (a : ℕ) (columns : Columns) (t : State) : Type 0 where
   pub run : Run
-  pub has_row : row_at forms (bases_of m frame) fde a ≡ Ok run
+  pub has_row : row_at (bases_of m frame) fde a ≡ Ok run
   pub no_arguments : argument_size run ≡ 0
   pub undoes : Undoes evaluates p.image run t columns
 
 -- the row of a called function undoes the call
-pub row_undoes : (forms : Forms) (p : Process) (evaluates : Evaluates) (m : Module) (frame a : ℕ) (s : State) (c : Call) (columns : Columns) (fde : Fde) → Known forms p m frame a s c fde → Shows columns s →
-    RowUndoes forms p evaluates m frame fde a columns c.caller
-row_undoes forms p evaluates m frame a s c columns fde known shows = go c.callee.outermost refl
+pub row_undoes : (p : Process) (evaluates : Evaluates) (m : Module) (frame a : ℕ) (s : State) (c : Call) (columns : Columns) (fde : Fde) → Known p m frame a s c fde → Shows columns s →
+    RowUndoes p evaluates m frame fde a columns c.caller
+row_undoes p evaluates m frame a s c columns fde known shows = go c.callee.outermost refl
   where
-    go : (b : Bool) → c.callee.outermost ≡ b → RowUndoes forms p evaluates m frame fde a columns c.caller
+    go : (b : Bool) → c.callee.outermost ≡ b → RowUndoes p evaluates m frame fde a columns c.caller
     go true e =
         let row = known.describes.code.rows.outermost e a known.inside in
         let empty = no_steps c.callee.prologue (known.is_function.outermost e).0 in

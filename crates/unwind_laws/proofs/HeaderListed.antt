@@ -12,7 +12,6 @@ use Rattle.memory_image.specs.ImageLaws.{table_past, table_at-add}
 use Rattle.unwind_definitions.specs.declared.error.Error.{Error as Fault}
 use Rattle.unwind_definitions.specs.declared.error.Error.TheVariants.{NoUnwindInfoForAddress}
 use Rattle.unwind_definitions.specs.Faults.{◌>>=◌}
-use Rattle.unwind_definitions.specs.Forms.{Forms}
 use Rattle.unwind_definitions.specs.Input.{Input, address_of, number, signed, skip}
 use Rattle.unwind_definitions.specs.Pointers.{Bases, Pointer, Direct, pointer, direct}
 use Rattle.unwind_definitions.specs.Entries.{Fde, AFde, Found, entry_at}
@@ -152,9 +151,9 @@ no_wrap ss a k laid lt = elim (leb_tells (2 ^ 64) (a + k)) [
 ]
 
 -- an entry has a byte at least
-stands_inside : (forms : Forms) (bases : Bases) (table : Input) (o : ℕ) (found : Found) → entry_at forms bases table o ≡ Ok (Some found) → o < length table.bytes
+stands_inside : (bases : Bases) (table : Input) (o : ℕ) (found : Found) → entry_at bases table o ≡ Ok (Some found) → o < length table.bytes
 unfolding entry_at
-stands_inside forms bases table o found e = go (length (drop o table.bytes) == 0) refl
+stands_inside bases table o found e = go (length (drop o table.bytes) == 0) refl
   where
     go : (b : Bool) → (length (drop o table.bytes) == 0) ≡ b → o < length table.bytes
     go true is = let h = rw is at e in absurd cc
@@ -164,10 +163,10 @@ stands_inside forms bases table o found e = go (length (drop o table.bytes) == 0
         omega arith
 
 -- a description that stands at its offset is found at its address
-pub found_there : (forms : Forms) (image : List Span) (bases : Bases) (frame next : ℕ) (fde : Fde) → IsLaidOut 0 image → entry_at forms bases (input_at image frame) fde.offset ≡ Ok (Some (record { entry = AFde fde; next = next })) →
-    fde_at_address forms bases (input_at image frame) ((frame + fde.offset) % 2 ^ 64) ≡ Ok fde
-found_there forms image bases frame next fde laid e =
-    let lt : fde.offset < length (table_at image frame) = stands_inside forms bases (input_at image frame) fde.offset _ e in
+pub found_there : (image : List Span) (bases : Bases) (frame next : ℕ) (fde : Fde) → IsLaidOut 0 image → entry_at bases (input_at image frame) fde.offset ≡ Ok (Some (record { entry = AFde fde; next = next })) →
+    fde_at_address bases (input_at image frame) ((frame + fde.offset) % 2 ^ 64) ≡ Ok fde
+found_there image bases frame next fde laid e =
+    let lt : fde.offset < length (table_at image frame) = stands_inside bases (input_at image frame) fde.offset _ e in
     let fits : frame + fde.offset < 2 ^ 64 = no_wrap image frame fde.offset laid lt in
     let whole : (frame + fde.offset) % 2 ^ 64 ≡ frame + fde.offset = omega arith in
     let above : ltb (frame + fde.offset) frame ≡ false = le-ltb (frame + fde.offset) frame (omega arith) in
@@ -176,12 +175,12 @@ found_there forms image bases frame next fde laid e =
     rw whole (rw above (rw back (rw short (rw e refl))))
 
 -- ---- the search
-module _ (forms : Forms) (image : List Span) (m : Module) (functions : List Function) (d : DescribesModule forms image m functions) (h : ℕ) (bases : Bases) (table : IsHeaderTable image h d.frame (fdes_of d.entries)) (pc : ℕ) where
+module _ (image : List Span) (m : Module) (functions : List Function) (d : DescribesModule image m functions) (h : ℕ) (bases : Bases) (table : IsHeaderTable image h d.frame (fdes_of d.entries)) (pc : ℕ) where
   abbrev listed : PairTable
   listed = table_by (listing h bases d.frame (fdes_of d.entries) table.listed) 4
 
   abbrev scanned : Result Fde Fault
-  scanned = scan forms (bases_of m d.frame) (input_at image d.frame) pc
+  scanned = scan (bases_of m d.frame) (input_at image d.frame) pc
 
   as_many : length (fdes_of d.entries) ≡ length table.pairs
   as_many = sym (length-map (fdes_of d.entries) (pair_of d.frame)) ∙ sym (length_permutation (map (pair_of d.frame) (fdes_of d.entries)) table.pairs table.each)
@@ -192,10 +191,10 @@ module _ (forms : Forms) (image : List Span) (m : Module) (functions : List Func
   pair_there : (i : ℕ) → i < length (fdes_of d.entries) → (p : ℕ × ℕ) × (slice_get table.pairs i ≡ Some p)
   pair_there i lt = let many = as_many in within table.pairs i (omega arith)
 
-  named : (p : ℕ × ℕ) → AnswersBy forms image m d.frame pc p → IsLaidOut 0 image → found_by forms (bases_of m d.frame) (input_at image d.frame) pc (Ok (Some p)) ≡ scanned
+  named : (p : ℕ × ℕ) → AnswersBy image m d.frame pc p → IsLaidOut 0 image → found_by (bases_of m d.frame) (input_at image d.frame) pc (Ok (Some p)) ≡ scanned
   named p by laid =
-      let at : fde_at_address forms (bases_of m d.frame) (input_at image d.frame) p.1 ≡ Ok by.fde =
-      ap (λ (q : ℕ × ℕ). fde_at_address forms (bases_of m d.frame) (input_at image d.frame) q.1) by.names.pair ∙ found_there forms image (bases_of m d.frame) d.frame by.names.next by.fde laid by.names.placed in
+      let at : fde_at_address (bases_of m d.frame) (input_at image d.frame) p.1 ≡ Ok by.fde =
+      ap (λ (q : ℕ × ℕ). fde_at_address (bases_of m d.frame) (input_at image d.frame) q.1) by.names.pair ∙ found_there image (bases_of m d.frame) d.frame by.names.next by.fde laid by.names.placed in
       ap (λ (r : Result Fde Fault). r >>= λ fde. containing pc fde) at ∙ sym by.answer
 
   behind : (i : ℕ) (p : ℕ × ℕ) → slice_get table.pairs i ≡ Some p → StartsBehind listed pc i → pc < p.0
@@ -204,15 +203,15 @@ module _ (forms : Forms) (image : List Span) (m : Module) (functions : List Func
       let same : later.0 ≡ p = ok_same later.0 p read in
       subst (λ (q : ℕ × ℕ). pc < q.0) same later.2
 
-  answers_at : (place : Result (Option (ℕ × ℕ)) Fault) → Finds listed pc place → IsLaidOut 0 image → found_by forms (bases_of m d.frame) (input_at image d.frame) pc place ≡ scanned
+  answers_at : (place : Result (Option (ℕ × ℕ)) Fault) → Finds listed pc place → IsLaidOut 0 image → found_by (bases_of m d.frame) (input_at image d.frame) pc place ≡ scanned
   answers_at (Err e) finds laid =
       let p = pair_there finds.0 finds.1 in
       let bad : ◌≡◌ {A = Result (ℕ × ℕ) Fault} (Err e) (Ok p.0) = sym finds.2 ∙ pair_is finds.0 p.0 p.1 in
       absurd cc
   answers_at (Ok None) finds laid =
       let none : boundary table.pairs pc ≡ None = none_starts table.pairs pc table.ascend (λ q at. behind 0 q at (finds (let lt = inside table.pairs 0 q at in let many = as_many in omega arith))) in
-      let by : MatchOption (boundary table.pairs pc) (scanned ≡ nothing_found) (AnswersBy forms image m d.frame pc) = header_answers forms image m functions d pc h table in
-      sym (subst (λ (o : Option (ℕ × ℕ)). MatchOption o (scanned ≡ nothing_found) (AnswersBy forms image m d.frame pc)) none by)
+      let by : MatchOption (boundary table.pairs pc) (scanned ≡ nothing_found) (AnswersBy image m d.frame pc) = header_answers image m functions d pc h table in
+      sym (subst (λ (o : Option (ℕ × ℕ)). MatchOption o (scanned ≡ nothing_found) (AnswersBy image m d.frame pc)) none by)
   answers_at (Ok (Some p)) finds laid =
       let q = pair_there finds.index finds.within in
       let read : ◌≡◌ {A = Result (ℕ × ℕ) Fault} (Ok q.0) (Ok p) = sym (pair_is finds.index q.0 q.1) ∙ finds.reads in
@@ -222,8 +221,8 @@ module _ (forms : Forms) (image : List Span) (m : Module) (functions : List Func
       let lt = inside table.pairs (suc finds.index) r next in let many = as_many in
       let one : finds.index + 1 ≡ suc finds.index = omega arith in
       behind (suc finds.index) r next (subst (StartsBehind listed pc) one (finds.next_behind (omega arith)))) in
-      let by : MatchOption (boundary table.pairs pc) (scanned ≡ nothing_found) (AnswersBy forms image m d.frame pc) = header_answers forms image m functions d pc h table in
-      named p (subst (λ (o : Option (ℕ × ℕ)). MatchOption o (scanned ≡ nothing_found) (AnswersBy forms image m d.frame pc)) is by) laid
+      let by : MatchOption (boundary table.pairs pc) (scanned ≡ nothing_found) (AnswersBy image m d.frame pc) = header_answers image m functions d pc h table in
+      named p (subst (λ (o : Option (ℕ × ℕ)). MatchOption o (scanned ≡ nothing_found) (AnswersBy image m d.frame pc)) is by) laid
 
   table_is : (t : PairTable) → table_in (listing h bases d.frame (fdes_of d.entries) table.listed) ≡ Some t → listed ≡ t
   table_is t e = go (length (fdes_of d.entries) == 0) refl
@@ -233,7 +232,7 @@ module _ (forms : Forms) (image : List Span) (m : Module) (functions : List Func
       go false is = let h = rw is at e in cc
 
   pub search_answers : (found : FrameHeader) (t : PairTable) (answer : Result Fde Fault) → IsLaidOut 0 image → header bases (input_at image h) ≡ Ok found → table_in found ≡ Some t →
-      IsTableAnswer forms (bases_of m d.frame) (input_at image d.frame) t pc answer → answer ≡ scanned
+      IsTableAnswer (bases_of m d.frame) (input_at image d.frame) t pc answer → answer ≡ scanned
   search_answers found t answer laid reads has by =
       let read : ◌≡◌ {A = Result FrameHeader Fault} (Ok (listing h bases d.frame (fdes_of d.entries) table.listed)) (Ok found) = sym (header_read image h d.frame (fdes_of d.entries) bases table) ∙ reads in
       let same : listing h bases d.frame (fdes_of d.entries) table.listed ≡ found = ok_same _ _ read in
@@ -246,22 +245,22 @@ contains_at [] i x e = absurd cc
 contains_at (y ∷ ys) zero x e = let same : y ≡ x = cc in subst (Contains (y ∷ ys)) same (first y ys)
 contains_at (y ∷ ys) (suc i) x e = later y ys x (contains_at ys i x e)
 
-module _ (forms : Forms) (image : List Span) (m : Module) (a : ℕ) (u : CoversNot forms image m a) (h : ℕ) (bases : Bases) (table : IsHeaderTable image h u.frame (fdes_of u.entries)) (laid : IsLaidOut 0 image) where
+module _ (image : List Span) (m : Module) (a : ℕ) (u : CoversNot image m a) (h : ℕ) (bases : Bases) (table : IsHeaderTable image h u.frame (fdes_of u.entries)) (laid : IsLaidOut 0 image) where
   abbrev lists : PairTable
   lists = table_by (listing h bases u.frame (fdes_of u.entries) table.listed) 4
 
   abbrev due : Result (Option (ℕ × ℕ)) Fault → Result Fde Fault
-  due place = found_by forms (bases_of m u.frame) (input_at image u.frame) a place
+  due place = found_by (bases_of m u.frame) (input_at image u.frame) a place
 
   -- what a pair names doesn't contain the address
   misses : (i : ℕ) (q : ℕ × ℕ) → slice_get table.pairs i ≡ Some q → due (Ok (Some q)) ≡ nothing_found
   misses i q at =
       let listed = Contains-permutation table.pairs (map (pair_of u.frame) (fdes_of u.entries)) q (IsPermutation-sym (map (pair_of u.frame) (fdes_of u.entries)) table.pairs table.each) (contains_at table.pairs i q at) in
       let named = mapped_from (pair_of u.frame) (fdes_of u.entries) q listed in
-      let stands = placed forms (bases_of m u.frame) (input_at image u.frame) 0 u.entries named.0 u.reads named.1 in
+      let stands = placed (bases_of m u.frame) (input_at image u.frame) 0 u.entries named.0 u.reads named.1 in
       let out : covers_pc named.0 a ≡ false = all_contains (λ (g : Fde). covers_pc g a ≡ false) (fdes_of u.entries) named.0 u.uncovered named.1 in
-      let there : fde_at_address forms (bases_of m u.frame) (input_at image u.frame) q.1 ≡ Ok named.0 =
-      ap (λ (x : ℕ × ℕ). fde_at_address forms (bases_of m u.frame) (input_at image u.frame) x.1) named.2 ∙ found_there forms image (bases_of m u.frame) u.frame stands.next named.0 laid stands.is in
+      let there : fde_at_address (bases_of m u.frame) (input_at image u.frame) q.1 ≡ Ok named.0 =
+      ap (λ (x : ℕ × ℕ). fde_at_address (bases_of m u.frame) (input_at image u.frame) x.1) named.2 ∙ found_there image (bases_of m u.frame) u.frame stands.next named.0 laid stands.is in
       rw there (rw out refl)
 
   many : length (fdes_of u.entries) ≡ length table.pairs
@@ -286,5 +285,5 @@ module _ (forms : Forms) (image : List Span) (m : Module) (a : ℕ) (u : CoversN
       go false is = let h = rw is at e in cc
 
   -- a search of the header's table is an error
-  pub uncovered_fails : (t : PairTable) → table_in (listing h bases u.frame (fdes_of u.entries) table.listed) ≡ Some t → (e : Fault) × (table_answer forms (bases_of m u.frame) (input_at image u.frame) t a ≡ Err e)
+  pub uncovered_fails : (t : PairTable) → table_in (listing h bases u.frame (fdes_of u.entries) table.listed) ≡ Some t → (e : Fault) × (table_answer (bases_of m u.frame) (input_at image u.frame) t a ≡ Err e)
   uncovered_fails t has = fails_at (boundary_in t a) (subst (λ (x : PairTable). Finds x a (boundary_in t a)) (sym (lists_are t has)) (boundary_in-finds t a))

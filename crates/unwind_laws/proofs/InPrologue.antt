@@ -3,7 +3,6 @@ use Rattle.std.proofs.Common.{◌≡◌, ◌≢◌, ℕ, ◌+◌, ◌-◌, ◌<�
 use Rattle.std.specs.List.{AllByRecursion}
 use Rattle.std.proofs.lemmas.Bool.{le-leb, lt-leb}
 use Rattle.memory_image.specs.Image.{Span}
-use Rattle.unwind_definitions.specs.Forms.{Forms}
 use Rattle.unwind_definitions.specs.Pointers.{Bases}
 use Rattle.unwind_definitions.specs.Entries.{Fde}
 use Rattle.unwind_definitions.specs.Row.{argument_size}
@@ -92,9 +91,9 @@ stands_inside f image done later t s is st =
         omega (arith, le, last, behind)
 
 -- a description's rows undo the steps that a stopped state has run
-pub stopped_row : (forms : Forms) (bases : Bases) (evaluates : Evaluates) (image : List Span) (f : Function) (fde : Fde) (done later : List PrologueStep) (t s : State) (columns : Columns) →
-    IsFunction SystemV f → f.outermost ≡ false → DescribesRows forms bases f fde → StandsAfter image f done later t s → IsState t → Shows columns s → HasRow forms bases fde s.ra (λ run. Undoes evaluates image run t columns × (argument_size run ≡ 0))
-stopped_row forms bases evaluates image f fde done later t s columns is inner d st words shows =
+pub stopped_row : (bases : Bases) (evaluates : Evaluates) (image : List Span) (f : Function) (fde : Fde) (done later : List PrologueStep) (t s : State) (columns : Columns) →
+    IsFunction SystemV f → f.outermost ≡ false → DescribesRows bases f fde → StandsAfter image f done later t s → IsState t → Shows columns s → HasRow bases fde s.ra (λ run. Undoes evaluates image run t columns × (argument_size run ≡ 0))
+stopped_row bases evaluates image f fde done later t s columns is inner d st words shows =
     let o : ℕ = s.ra - f.start in
     let from = st.behind in
     let ends : Ends 0 (done ++ later) = subst (Ends 0) st.steps (plain_ends f is) in

@@ -4,7 +4,7 @@ use Rattle.std.specs.Prelude.{is_some, ◌==◌}
 use Rattle.std.proofs.lemmas.Bool.{eqb-true}
 use Rattle.unwind_definitions.specs.declared.error.Error.{Error as Fault}
 use Rattle.unwind_definitions.specs.declared.error.Error.TheVariants.{UnknownAugmentation}
-use Rattle.unwind_definitions.specs.Forms.{is_among}
+use Rattle.unwind_definitions.specs.Membership.{is_among}
 use Rattle.unwind_definitions.specs.Input.{Input, split, uleb}
 use Rattle.unwind_definitions.specs.Pointers.{Bases, encoding, pointer}
 use Rattle.unwind_definitions.specs.Entries.{Letters, letter, letters_from, no_letters, augmentation_data}

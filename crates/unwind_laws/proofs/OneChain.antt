@@ -5,7 +5,6 @@ use Rattle.std.specs.Prelude.{◌⊎◌, IsTrue}
 use Rattle.std.specs.List.{AllPairs, AllByRecursion, Contains, find, before_first, filter_map, cons_option}
 use Rattle.std.specs.Option.{option_map_or, option_map}
 use Rattle.memory_image.specs.Image.{Span}
-use Rattle.unwind_definitions.specs.Forms.{Forms}
 use Rattle.unwind_definitions.specs.Caller.{Columns, Evaluates, StepFault, Unmapped, x86_64, caller_of}
 use Rattle.unwind_definitions.specs.State.{CalleeSaved, RBX, RBP, R12, R13, R14, R15, State, value_of, Shows}
 use Rattle.unwind_definitions.specs.Prologue.{SystemV}
@@ -50,12 +49,12 @@ Alike s [] (d ∷ ds) = ⊥
 Alike s (c ∷ cs) [] = ⊥
 Alike s (c ∷ cs) (d ∷ ds) = (c.caller ≡ d.caller) × (action_at c.callee (s.ra - 1) ≡ action_at d.callee (s.ra - 1)) × Alike c.caller cs ds
 
-module _ (forms : Forms) (p : Process) (apart : AllPairs AreApart p.modules) (evaluates : Evaluates) where
+module _ (p : Process) (apart : AllPairs AreApart p.modules) (evaluates : Evaluates) where
   -- one step by one set of columns
-  one_step : (columns : Columns) (s : State) (c d : Call) (x : Steps forms p evaluates columns (s.ra - 1) c) (y : Steps forms p evaluates columns (s.ra - 1) d) →
+  one_step : (columns : Columns) (s : State) (c d : Call) (x : Steps p evaluates columns (s.ra - 1) c) (y : Steps p evaluates columns (s.ra - 1) d) →
       (c.caller ≡ d.caller) × (action_at c.callee (s.ra - 1) ≡ action_at d.callee (s.ra - 1)) × (x.undoes.caller ≡ y.undoes.caller)
   one_step columns s c d x y =
-      let same : Same forms p apart c.callee d.callee (s.ra - 1) x.finds y.finds = one_found forms p apart c.callee d.callee (s.ra - 1) x.finds y.finds in
+      let same : Same p apart c.callee d.callee (s.ra - 1) x.finds y.finds = one_found p apart c.callee d.callee (s.ra - 1) x.finds y.finds in
       let callers : x.undoes.caller ≡ y.undoes.caller = ok_is {E = StepFault} x.undoes.caller y.undoes.caller (sym x.undoes.is_caller ∙ ap (caller_of x86_64 evaluates p.image columns) same.run ∙ y.undoes.is_caller) in
       let states : c.caller ≡ d.caller = one_state x.undoes.caller c.caller d.caller x.undoes.shows (subst (λ (k : Columns). Shows k d.caller) (sym callers) y.undoes.shows) in
       let starts : c.callee.start ≡ d.callee.start = sym x.finds.describes.code.start ∙ ap (λ (k : Fde). k.start) same.fde ∙ y.finds.describes.code.start in
@@ -63,17 +62,17 @@ module _ (forms : Forms) (p : Process) (apart : AllPairs AreApart p.modules) (ev
       let actions = one_action p.image c.callee d.callee x.finds.fde.language (s.ra - 1) starts x.finds.describes.language leads in
       (states, actions, callers)
 
-  not_ended : (columns : Columns) (s : State) (functions : List Function) (d : Call) → s.ra ≢ 0 → Steps forms p evaluates columns (s.ra - 1) d → IsEnd p.image (IsUncovered forms p) functions s → ⊥
-  not_ended columns s functions d nonzero y end = elim end.ends [ inl z ↦ nonzero z | inr u ↦ found_is_covered forms p apart d.callee (s.ra - 1) y.finds u.1 ]
+  not_ended : (columns : Columns) (s : State) (functions : List Function) (d : Call) → s.ra ≢ 0 → Steps p evaluates columns (s.ra - 1) d → IsEnd p.image (IsUncovered p) functions s → ⊥
+  not_ended columns s functions d nonzero y end = elim end.ends [ inl z ↦ nonzero z | inr u ↦ found_is_covered p apart d.callee (s.ra - 1) y.finds u.1 ]
 
-  walks_alike : (functions more : List Function) (s : State) (cs ds : List Call) (columns : Columns) → IsWalk forms p evaluates functions columns s cs → IsWalk forms p evaluates more columns s ds → Alike s cs ds
+  walks_alike : (functions more : List Function) (s : State) (cs ds : List Call) (columns : Columns) → IsWalk p evaluates functions columns s cs → IsWalk p evaluates more columns s ds → Alike s cs ds
   walks_alike functions more s [] [] columns x y = tt
   walks_alike functions more s [] (d ∷ ds) columns x y = absurd (not_ended columns s functions d y.1 y.3.0 x.1)
   walks_alike functions more s (c ∷ cs) [] columns x y = absurd (not_ended columns s more c x.1 x.3.0 y.1)
   walks_alike functions more s (c ∷ cs) (d ∷ ds) columns x y =
       let one = one_step columns s c d x.3.0 y.3.0 in
-      let rest : IsWalk forms p evaluates more x.3.0.undoes.caller c.caller ds =
-      subst (λ (k : State). IsWalk forms p evaluates more x.3.0.undoes.caller k ds) (sym one.0) (subst (λ (k : Columns). IsWalk forms p evaluates more k d.caller ds) (sym one.2) y.3.1) in
+      let rest : IsWalk p evaluates more x.3.0.undoes.caller c.caller ds =
+      subst (λ (k : State). IsWalk p evaluates more x.3.0.undoes.caller k ds) (sym one.0) (subst (λ (k : Columns). IsWalk p evaluates more k d.caller ds) (sym one.2) y.3.1) in
       (one.0, one.1, walks_alike functions more c.caller cs ds x.3.0.undoes.caller x.3.1 rest)
 
 -- ---- what is delivered to such chains
@@ -178,11 +177,11 @@ abbrev no_expressions : Evaluates
 no_expressions bytes stack columns = Err (Unmapped 0)
 
 -- two described chains of one start
-pub chains_alike : (forms : Forms) (p : Process) → AllPairs AreApart p.modules → (functions more : List Function) (s : State) (cs ds : List Call) →
-    IsDescribedChain forms p functions s cs → IsDescribedChain forms p more s ds → Alike s cs ds
-chains_alike forms p apart functions more s cs ds x y =
-    walks_alike forms p apart no_expressions functions more s cs ds (columns_of s)
-    (chain_walked forms p no_expressions functions s cs (columns_of s) x (columns_show s)) (chain_walked forms p no_expressions more s ds (columns_of s) y (columns_show s))
+pub chains_alike : (p : Process) → AllPairs AreApart p.modules → (functions more : List Function) (s : State) (cs ds : List Call) →
+    IsDescribedChain p functions s cs → IsDescribedChain p more s ds → Alike s cs ds
+chains_alike p apart functions more s cs ds x y =
+    walks_alike p apart no_expressions functions more s cs ds (columns_of s)
+    (chain_walked p no_expressions functions s cs (columns_of s) x (columns_show s)) (chain_walked p no_expressions more s ds (columns_of s) y (columns_show s))
 
 -- ---- chains over one list of functions that share no address
 within : (f : Function) (a : ℕ) → IsFunction SystemV f → IsTrue (in_body f a) → (f.start ≤ a) × (a < f.end)
@@ -217,6 +216,6 @@ same_callees image Uncovered functions apart are s (c ∷ cs) (d ∷ ds) x y a =
     ap (λ (k : Call). k ∷ cs) call ∙ ap (λ (l : List Call). d ∷ l) rest
 
 -- over functions that share no address, two described chains of one start are one
-pub one_chain : (forms : Forms) (p : Process) → AllPairs AreApart p.modules → (functions : List Function) → AllPairs FunctionsApart functions → (s : State) (cs ds : List Call) →
-    IsDescribedChain forms p functions s cs → IsDescribedChain forms p functions s ds → cs ≡ ds
-one_chain forms p apart functions alone s cs ds x y = same_callees p.image (IsUncovered forms p) functions alone x.are_functions s cs ds x.chain y.chain (chains_alike forms p apart functions functions s cs ds x y)
+pub one_chain : (p : Process) → AllPairs AreApart p.modules → (functions : List Function) → AllPairs FunctionsApart functions → (s : State) (cs ds : List Call) →
+    IsDescribedChain p functions s cs → IsDescribedChain p functions s ds → cs ≡ ds
+one_chain p apart functions alone s cs ds x y = same_callees p.image (IsUncovered p) functions alone x.are_functions s cs ds x.chain y.chain (chains_alike p apart functions functions s cs ds x y)

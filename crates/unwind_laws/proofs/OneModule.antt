@@ -5,7 +5,6 @@ use Rattle.std.specs.List.{Contains, AllPairs}
 use Rattle.std.proofs.lemmas.Bool.{leb-true, ltb-true}
 use Rattle.unwind_definitions.specs.declared.error.Error.{Error as Fault}
 use Rattle.unwind_definitions.specs.declared.error.Error.TheVariants.{NoUnwindInfoForAddress}
-use Rattle.unwind_definitions.specs.Forms.{Forms}
 use Rattle.unwind_definitions.specs.Entries.{Fde}
 use Rattle.unwind_definitions.specs.Row.{row_at}
 use Rattle.unwind_definitions.specs.Scan.{scan}
@@ -40,33 +39,33 @@ some_same a b e = cc
 pub ok_is : {A E : Type 0} (a b : A) → ◌≡◌ {A = Result A E} (Ok a) (Ok b) → a ≡ b
 ok_is a b e = cc
 
-module _ (forms : Forms) (p : Process) (apart : AllPairs AreApart p.modules) where
+module _ (p : Process) (apart : AllPairs AreApart p.modules) where
   -- what is found for an address is one description, with one row
-  pub record Same (f g : Function) (a : ℕ) (x : Finds forms p f a) (y : Finds forms p g a) : Type 0 where
+  pub record Same (f g : Function) (a : ℕ) (x : Finds p f a) (y : Finds p g a) : Type 0 where
     pub home : x.home ≡ y.home
     pub frame : x.frame ≡ y.frame
     pub fde : x.fde ≡ y.fde
     pub run : x.run ≡ y.run
 
-  pub one_found : (f g : Function) (a : ℕ) (x : Finds forms p f a) (y : Finds forms p g a) → Same f g a x y
+  pub one_found : (f g : Function) (a : ℕ) (x : Finds p f a) (y : Finds p g a) → Same f g a x y
   one_found f g a x y =
       let home : x.home ≡ y.home = one_module p.modules apart a x.home y.home x.known y.known x.inside y.inside in
       let frame : x.frame ≡ y.frame = some_same x.frame y.frame (sym x.address ∙ ap (λ (m : Module). frame_address p.image m.tables) home ∙ y.address) in
       let fde : x.fde ≡ y.fde = ok_is {E = Fault} x.fde y.fde (sym x.found
-      ∙ ap (λ (m : Module). scan forms (bases_of m x.frame) (input_at p.image x.frame) a) home
-      ∙ ap (λ (o : ℕ). scan forms (bases_of y.home o) (input_at p.image o) a) frame ∙ y.found) in
+      ∙ ap (λ (m : Module). scan (bases_of m x.frame) (input_at p.image x.frame) a) home
+      ∙ ap (λ (o : ℕ). scan (bases_of y.home o) (input_at p.image o) a) frame ∙ y.found) in
       let run : x.run ≡ y.run = ok_is {E = Fault} x.run y.run (sym x.has_row
-      ∙ ap (λ (m : Module). row_at forms (bases_of m x.frame) x.fde a) home
-      ∙ ap (λ (o : ℕ). row_at forms (bases_of y.home o) x.fde a) frame
-      ∙ ap (λ (d : Fde). row_at forms (bases_of y.home y.frame) d a) fde ∙ y.has_row) in
+      ∙ ap (λ (m : Module). row_at (bases_of m x.frame) x.fde a) home
+      ∙ ap (λ (o : ℕ). row_at (bases_of y.home o) x.fde a) frame
+      ∙ ap (λ (d : Fde). row_at (bases_of y.home y.frame) d a) fde ∙ y.has_row) in
       record { home = home; frame = frame; fde = fde; run = run }
 
   not_err : (x : Fde) → ◌≡◌ {A = Result Fde Fault} (Ok x) (Err NoUnwindInfoForAddress) → ⊥
   not_err x e = absurd cc
 
   -- an address for which a description is found isn't uncovered
-  pub found_is_covered : (f : Function) (a : ℕ) → Finds forms p f a → IsUncovered forms p a → ⊥
+  pub found_is_covered : (f : Function) (a : ℕ) → Finds p f a → IsUncovered p a → ⊥
   found_is_covered f a x uncovered =
-      let u : CoversNot forms p.image x.home a = uncovered x.home x.known x.inside in
+      let u : CoversNot p.image x.home a = uncovered x.home x.known x.inside in
       let frame : x.frame ≡ u.frame = some_same x.frame u.frame (sym x.address ∙ u.address) in
-      not_err x.fde (sym x.found ∙ ap (λ (o : ℕ). scan forms (bases_of x.home o) (input_at p.image o) a) frame ∙ not_found forms p.image x.home a u)
+      not_err x.fde (sym x.found ∙ ap (λ (o : ℕ). scan (bases_of x.home o) (input_at p.image o) a) frame ∙ not_found p.image x.home a u)

@@ -3,7 +3,6 @@ use Rattle.std.proofs.Common.{◌≡◌, ℕ, ◌-◌, ◌^◌, ◌<◌, ◌≤�
 use Rattle.std.specs.Prelude.{IsTrue, ◌≢◌}
 use Rattle.std.proofs.lemmas.Bool.{leb-true, ltb-true}
 use Rattle.memory_image.specs.Image.{Span, word_at}
-use Rattle.unwind_definitions.specs.Forms.{Forms, whole, emitted}
 use Rattle.unwind_definitions.specs.Instructions.{program, instruction_of}
 use Rattle.unwind_definitions.specs.Entries.{coding_of, AreEntries, entry_at}
 use Rattle.unwind_definitions.specs.Row.{row_at, rule_of}
@@ -26,17 +25,17 @@ pub columns_show : (s : State) → Shows (columns_of s) s
 columns_show s = record { ra = refl; sp = refl; saved = λ r. by_register (λ r. columns_of s (column_of r) ≡ Some (value_of r s)) refl refl refl refl refl refl r }
 
 -- what the readers of some forms give for this sample
-pub record Reads (forms : Forms) : Type 0 where
-  pub listed : AreEntries forms bases table 0 entries
-  pub at_start : row_at forms bases fde 0x401000 ≡ Ok start_run
-  pub at_body : row_at forms bases fde 0x401001 ≡ Ok body_run
-  pub steady : is_steady 0x401000 0x401001 0x401010 (program forms (coding_of bases fde.cie) fde.program).instructions ≡ true
+pub record Reads : Type 0 where
+  pub listed : AreEntries bases table 0 entries
+  pub at_start : row_at bases fde 0x401000 ≡ Ok start_run
+  pub at_body : row_at bases fde 0x401001 ≡ Ok body_run
+  pub steady : is_steady 0x401000 0x401001 0x401010 (program (coding_of bases fde.cie) fde.program).instructions ≡ true
 
-pub reads_whole : Reads whole
+pub reads_whole : Reads
 unfolding entry_at row_at instruction_of
 reads_whole = record { listed = (24, refl, (48, refl, refl)); at_start = refl; at_body = refl; steady = refl }
 
-pub reads_emitted : Reads emitted
+pub reads_emitted : Reads
 unfolding entry_at row_at instruction_of
 reads_emitted = record { listed = (24, refl, (48, refl, refl)); at_start = refl; at_body = refl; steady = refl }
 
@@ -72,18 +71,18 @@ is_function = record {
   outermost = λ e. absurd cc;
 }
 
-module _ (forms : Forms) (reads : Reads forms) where
-  rows : DescribesRows forms bases function fde
+module _ (reads : Reads) where
+  rows : DescribesRows bases function fde
   rows = record {
     bodies = λ inner pc h. let lies = in_body_is pc h in
-        let same = same_row_at forms bases fde 0x401001 0x401010 pc lies.0 lies.1 (lit≤ tt) (lit≤ tt) reads.steady in
+        let same = same_row_at bases fde 0x401001 0x401010 pc lies.0 lies.1 (lit≤ tt) (lit≤ tt) reads.steady in
         (body_run, same ∙ reads.at_body, body_row);
     prologue = λ inner pc from below. let is : 0x401000 ≡ pc = omega arith in
-        subst (λ (a : ℕ). HasRow forms bases fde a (IsPrologueRow (ended_by (a - 0x401000) function.prologue))) is (start_run, reads.at_start, start_row);
+        subst (λ (a : ℕ). HasRow bases fde a (IsPrologueRow (ended_by (a - 0x401000) function.prologue))) is (start_run, reads.at_start, start_row);
     outermost = λ outer pc h. absurd cc;
   }
 
-  describes : (memory : List Span) → DescribesFunction forms memory bases function fde
+  describes : (memory : List Span) → DescribesFunction memory bases function fde
   describes memory = record {
     code = record {
       cie = record { version = refl; code_factor = refl; data_factor = refl; return_column = refl; augmentation = inl refl; address = refl; language = inl refl; personality = tt; program = (2, refl) };
@@ -95,7 +94,7 @@ module _ (forms : Forms) (reads : Reads forms) where
     language = refl;
   }
 
-  frames_described : (memory : List Span) → DescribesFrames forms memory bases table entries (function ∷ [])
+  frames_described : (memory : List Span) → DescribesFrames memory bases table entries (function ∷ [])
   frames_described memory = record {
     reads = reads.listed;
     lengths = ((20, _, refl, lit< tt), ((20, _, refl, lit< tt), tt));
@@ -106,7 +105,7 @@ module _ (forms : Forms) (reads : Reads forms) where
     ];
   }
 
-  module_described : DescribesModule forms image module_of_it (function ∷ [])
+  module_described : DescribesModule image module_of_it (function ∷ [])
   module_described = record {
     frame = 0x500000;
     address = refl;
@@ -118,7 +117,7 @@ module _ (forms : Forms) (reads : Reads forms) where
     header = tt;
   }
 
-  module_of_three_described : DescribesModule forms image_of_three module_of_it (function ∷ [])
+  module_of_three_described : DescribesModule image_of_three module_of_it (function ∷ [])
   module_of_three_described = record {
     frame = 0x500000;
     address = refl;
@@ -172,12 +171,12 @@ link : (memory : List Span) (sp rbx : ℕ) (t : State) (outer : List Call) → s
     IsLink memory (function ∷ []) (state 0x401006 sp rbx) (record { callee = function; caller = t }) outer
 link memory sp rbx t outer a b entered = record { state = words 0x401006 sp rbx (lit< tt) a b; listed = (0, lit< tt, refl); called = called memory sp rbx t entered; last = λ outer. absurd cc }
 
-module _ (forms : Forms) (reads : Reads forms) where
+module _ (reads : Reads) where
   -- one call
-  pub one_valid : IsValid forms process (columns_of start) [] (function ∷ []) start calls
+  pub one_valid : IsValid process (columns_of start) [] (function ∷ []) start calls
   one_valid = record {
     are_functions = (is_function, tt);
-    modules = (module_described forms reads, tt);
+    modules = (module_described reads, tt);
     no_others = (refl, tt);
     shows = columns_show start;
     chain = (link image 0x7000 9 caller [] (lit< tt) (lit< tt) entered_one, record { state = words 0 0x7010 5 (lit< tt) (lit< tt) (lit< tt); ends = inl refl });
@@ -185,10 +184,10 @@ module _ (forms : Forms) (reads : Reads forms) where
   }
 
   -- three calls
-  pub three_valid : IsValid forms process_of_three (columns_of start) [] (function ∷ []) start calls_of_three
+  pub three_valid : IsValid process_of_three (columns_of start) [] (function ∷ []) start calls_of_three
   three_valid = record {
     are_functions = (is_function, tt);
-    modules = (module_of_three_described forms reads, tt);
+    modules = (module_of_three_described reads, tt);
     no_others = (refl, tt);
     shows = columns_show start;
     chain = (

@@ -6,7 +6,6 @@ use Rattle.std.proofs.lemmas.List.{append-nil}
 use Rattle.std.proofs.Math.Dec.{eqb-zero-suc, eqb-suc-suc}
 use Rattle.unwind_definitions.specs.declared.error.Error.{Error as Fault}
 use Rattle.unwind_definitions.specs.Faults.{◌>>=◌}
-use Rattle.unwind_definitions.specs.Forms.{Forms}
 use Rattle.unwind_definitions.specs.Input.{Input}
 use Rattle.unwind_definitions.specs.Instructions.{Instruction, Nop, Remember, Restore, Advance, SetLocation, Write, Reset, Cfa, CfaColumn, CfaOffset, CfaExpression, Arguments, Coding, instruction, Program, program, program_from, after}
 use Rattle.unwind_definitions.specs.Row.{Run, fault_of, first_fault, location, up_to, or_else, from_common, common_fault, own_fault, row}
@@ -117,39 +116,38 @@ nothing start limit run = ap (rest_of start run (record { instructions = []; fau
 unread : (start : ℕ) (limit : Option ℕ) (run : Run) (e : Fault) → whole_rest start limit run (record { instructions = []; fault = Some e }) ≡ Err e
 unread start limit run e = ap (rest_of start run (record { instructions = []; fault = Some e })) (part_nil limit (location start run.own))
 
-module _ (forms : Forms) where
-  cases : (turns : ℕ) (coding : Coding) (start : ℕ) (limit : Option ℕ) (run : Run) → ((run : Run) (c : Input) → reached forms turns coding start limit run c ≡ whole_rest start limit run (program_from forms turns coding c)) →
-      (b : Bool) (r : Result (Instruction × Input) Fault) → cond b (Ok run) (r >>= λ x. act start limit run x.0 (reached forms turns coding start limit (push run x.0) x.1)) ≡
-      whole_rest start limit run (cond b (record { instructions = []; fault = None }) (after r (program_from forms turns coding)))
-  cases turns coding start limit run ih true r = sym (nothing start limit run)
-  cases turns coding start limit run ih false (Ok x) = ap (act start limit run x.0) (ih (push run x.0) x.1) ∙ sym (one start limit run x.0 (program_from forms turns coding x.1))
-  cases turns coding start limit run ih false (Err e) = sym (unread start limit run e)
+cases : (turns : ℕ) (coding : Coding) (start : ℕ) (limit : Option ℕ) (run : Run) → ((run : Run) (c : Input) → reached turns coding start limit run c ≡ whole_rest start limit run (program_from turns coding c)) →
+    (b : Bool) (r : Result (Instruction × Input) Fault) → cond b (Ok run) (r >>= λ x. act start limit run x.0 (reached turns coding start limit (push run x.0) x.1)) ≡
+    whole_rest start limit run (cond b (record { instructions = []; fault = None }) (after r (program_from turns coding)))
+cases turns coding start limit run ih true r = sym (nothing start limit run)
+cases turns coding start limit run ih false (Ok x) = ap (act start limit run x.0) (ih (push run x.0) x.1) ∙ sym (one start limit run x.0 (program_from turns coding x.1))
+cases turns coding start limit run ih false (Err e) = sym (unread start limit run e)
 
-  -- what is reached of what is left of a program, behind what ran
-  pub reached_is : (turns : ℕ) (coding : Coding) (start : ℕ) (limit : Option ℕ) (run : Run) (c : Input) → reached forms turns coding start limit run c ≡ whole_rest start limit run (program_from forms turns coding c)
-  unfolding reached
-  reached_is zero coding start limit run c = sym (nothing start limit run)
-  reached_is (suc turns) coding start limit run c = cases turns coding start limit run (reached_is turns coding start limit) (length c.bytes == 0) (instruction forms coding c)
+-- what is reached of what is left of a program, behind what ran
+pub reached_is : (turns : ℕ) (coding : Coding) (start : ℕ) (limit : Option ℕ) (run : Run) (c : Input) → reached turns coding start limit run c ≡ whole_rest start limit run (program_from turns coding c)
+unfolding reached
+reached_is zero coding start limit run c = sym (nothing start limit run)
+reached_is (suc turns) coding start limit run c = cases turns coding start limit run (reached_is turns coding start limit) (length c.bytes == 0) (instruction coding c)
 
-  then_run : (o : Option Fault) (x : Run) (f : Run → Result Run Fault) → (or_else o (ended x) >>= f) ≡ or_else o (f x)
-  then_run None x f = refl
-  then_run (Some e) x f = refl
+then_run : (o : Option Fault) (x : Run) (f : Run → Result Run Fault) → (or_else o (ended x) >>= f) ≡ or_else o (f x)
+then_run None x f = refl
+then_run (Some e) x f = refl
 
-  whole_common : (p : Program) → whole_rest 0 None (from_common []) p ≡ or_else (common_fault p) (Ok (record { common = []; own = p.instructions }))
-  whole_common p = ap (λ b. or_else (option_or (first_fault 0 (from_common []) p.instructions) (cond b p.fault None)) (ended (record { common = []; own = p.instructions }))) (same_number (length p.instructions))
+whole_common : (p : Program) → whole_rest 0 None (from_common []) p ≡ or_else (common_fault p) (Ok (record { common = []; own = p.instructions }))
+whole_common p = ap (λ b. or_else (option_or (first_fault 0 (from_common []) p.instructions) (cond b p.fault None)) (ended (record { common = []; own = p.instructions }))) (same_number (length p.instructions))
 
-  -- reading both programs gives their row
-  pub row_is_read : (coding : Coding) (start pc : ℕ) (common own : Input) →
-      (common_reached forms coding common >>= λ before. own_reached forms coding start pc before own >>= λ run. row_reached run) ≡ row start pc (program forms coding common) (program forms coding own)
-  row_is_read coding start pc common own =
-      let cp : Program = program forms coding common in
-      let op : Program = program forms coding own in
-      let first = reached_is (length common.bytes) coding 0 None (from_common []) common ∙ whole_common cp in
-      let second : (before : Run) → own_reached forms coding start pc before own ≡ whole_rest start (Some pc) (from_common before.own) op =
-      λ before. reached_is (length own.bytes) coding start (Some pc) (from_common before.own) own in
-      let rest : Run → Result Run Fault = λ before. own_reached forms coding start pc before own >>= λ run. row_reached run in
-      let at_end : Run = record { common = []; own = cp.instructions } in
-      let is : List Instruction = up_to start pc op.instructions in
-      let run : Run = record { common = cp.instructions; own = is } in
-      ap (λ r. r >>= rest) first ∙ then_run (common_fault cp) at_end rest
-      ∙ ap (or_else (common_fault cp)) (ap (λ r. r >>= λ x. row_reached x) (second at_end) ∙ then_run (own_fault start cp.instructions op is) run (λ x. row_reached x))
+-- reading both programs gives their row
+pub row_is_read : (coding : Coding) (start pc : ℕ) (common own : Input) →
+    (common_reached coding common >>= λ before. own_reached coding start pc before own >>= λ run. row_reached run) ≡ row start pc (program coding common) (program coding own)
+row_is_read coding start pc common own =
+    let cp : Program = program coding common in
+    let op : Program = program coding own in
+    let first = reached_is (length common.bytes) coding 0 None (from_common []) common ∙ whole_common cp in
+    let second : (before : Run) → own_reached coding start pc before own ≡ whole_rest start (Some pc) (from_common before.own) op =
+    λ before. reached_is (length own.bytes) coding start (Some pc) (from_common before.own) own in
+    let rest : Run → Result Run Fault = λ before. own_reached coding start pc before own >>= λ run. row_reached run in
+    let at_end : Run = record { common = []; own = cp.instructions } in
+    let is : List Instruction = up_to start pc op.instructions in
+    let run : Run = record { common = cp.instructions; own = is } in
+    ap (λ r. r >>= rest) first ∙ then_run (common_fault cp) at_end rest
+    ∙ ap (or_else (common_fault cp)) (ap (λ r. r >>= λ x. row_reached x) (second at_end) ∙ then_run (own_fault start cp.instructions op is) run (λ x. row_reached x))

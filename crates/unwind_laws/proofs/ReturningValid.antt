@@ -4,7 +4,6 @@ use Rattle.std.specs.Prelude.{IsTrue, IsFalse, ◌≢◌}
 use Rattle.std.specs.List.{Contains, AllPairs, AllByRecursion, list_any}
 use Rattle.std.proofs.lemmas.Bool.{leb-true, ltb-true, cases_lt}
 use Rattle.memory_image.specs.Image.{word_at}
-use Rattle.unwind_definitions.specs.Forms.{Forms, whole, emitted as emitted_forms}
 use Rattle.unwind_definitions.specs.Instructions.{program, instruction_of}
 use Rattle.unwind_definitions.specs.Entries.{Fde, coding_of, AreEntries, entry_at}
 use Rattle.unwind_definitions.specs.Row.{row_at, rule_of}
@@ -25,26 +24,26 @@ use Rattle.unwind_laws.proofs.Steady.{is_steady, same_row_at}
 use Rattle.unwind_laws.proofs.PushingValid.{columns_show}
 
 -- between two addresses the callee's row stays
-abbrev Stays : Forms → Fde → ℕ → ℕ → Type 0
-Stays forms fde low high = is_steady fde.start low high (program forms (coding_of bases fde.cie) fde.program).instructions ≡ true
+abbrev Stays : Fde → ℕ → ℕ → Type 0
+Stays fde low high = is_steady fde.start low high (program (coding_of bases fde.cie) fde.program).instructions ≡ true
 
 -- what the readers of some forms give for this sample
-pub record Reads (forms : Forms) : Type 0 where
-  pub listed : AreEntries forms bases table 0 entries
-  pub at_start : row_at forms bases callee_fde 0x402000 ≡ Ok (run_of [])
-  pub at_one : row_at forms bases callee_fde 0x402002 ≡ Ok (run_of pushed_one)
-  pub at_two : row_at forms bases callee_fde 0x402003 ≡ Ok (run_of pushed_two)
-  pub at_first : row_at forms bases callee_fde 0x402007 ≡ Ok (run_of in_first_body)
-  pub at_second : row_at forms bases callee_fde 0x402028 ≡ Ok (run_of in_second_body)
-  pub at_outermost : row_at forms bases outermost_fde 0x402040 ≡ Ok (run_of in_outermost)
-  pub stay_start : Stays forms callee_fde 0x402000 0x402002
-  pub stay_one : Stays forms callee_fde 0x402002 0x402003
-  pub stay_two : Stays forms callee_fde 0x402003 0x402007
-  pub stay_first : Stays forms callee_fde 0x402007 0x402020
-  pub stay_second : Stays forms callee_fde 0x402028 0x402040
-  pub stay_outermost : Stays forms outermost_fde 0x402040 0x402050
+pub record Reads : Type 0 where
+  pub listed : AreEntries bases table 0 entries
+  pub at_start : row_at bases callee_fde 0x402000 ≡ Ok (run_of [])
+  pub at_one : row_at bases callee_fde 0x402002 ≡ Ok (run_of pushed_one)
+  pub at_two : row_at bases callee_fde 0x402003 ≡ Ok (run_of pushed_two)
+  pub at_first : row_at bases callee_fde 0x402007 ≡ Ok (run_of in_first_body)
+  pub at_second : row_at bases callee_fde 0x402028 ≡ Ok (run_of in_second_body)
+  pub at_outermost : row_at bases outermost_fde 0x402040 ≡ Ok (run_of in_outermost)
+  pub stay_start : Stays callee_fde 0x402000 0x402002
+  pub stay_one : Stays callee_fde 0x402002 0x402003
+  pub stay_two : Stays callee_fde 0x402003 0x402007
+  pub stay_first : Stays callee_fde 0x402007 0x402020
+  pub stay_second : Stays callee_fde 0x402028 0x402040
+  pub stay_outermost : Stays outermost_fde 0x402040 0x402050
 
-pub reads_whole : Reads whole
+pub reads_whole : Reads
 unfolding entry_at row_at instruction_of
 reads_whole = record {
   listed = (24, refl, (68, refl, (88, refl, (108, refl, refl))));
@@ -62,7 +61,7 @@ reads_whole = record {
   stay_outermost = refl;
 }
 
-pub reads_emitted : Reads emitted_forms
+pub reads_emitted : Reads
 unfolding entry_at row_at instruction_of
 reads_emitted = record {
   listed = (24, refl, (68, refl, (88, refl, (108, refl, refl))));
@@ -138,48 +137,48 @@ outermost_row = record {
 in_first : (low high pc : ℕ) → (leb low pc && ltb pc high) ≡ true → (low ≤ pc) × (pc < high)
 in_first low high pc h = let both = both_true (leb low pc) (ltb pc high) h in (leb-true low pc both.0, ltb-true pc high both.1)
 
-module _ (forms : Forms) (reads : Reads forms) where
-  callee_bodies : (pc : ℕ) → IsTrue (in_body callee pc) → HasRow forms bases callee_fde pc (IsBodyRow (steps_of callee.prologue))
+module _ (reads : Reads) where
+  callee_bodies : (pc : ℕ) → IsTrue (in_body callee pc) → HasRow bases callee_fde pc (IsBodyRow (steps_of callee.prologue))
   callee_bodies pc h = elim (either_true (leb 0x402007 pc && ltb pc 0x402020) _ h) [
     | inl first ↦ let lies = in_first 0x402007 0x402020 pc first in
-        let same = same_row_at forms bases callee_fde 0x402007 0x402020 pc lies.0 lies.1 (lit≤ tt) (lit≤ tt) reads.stay_first in
+        let same = same_row_at bases callee_fde 0x402007 0x402020 pc lies.0 lies.1 (lit≤ tt) (lit≤ tt) reads.stay_first in
         (run_of in_first_body, same ∙ reads.at_first, first_row)
     | inr rest ↦ let lies = in_first 0x402028 0x402040 pc (either_false _ rest) in
-        let same = same_row_at forms bases callee_fde 0x402028 0x402040 pc lies.0 lies.1 (lit≤ tt) (lit≤ tt) reads.stay_second in
+        let same = same_row_at bases callee_fde 0x402028 0x402040 pc lies.0 lies.1 (lit≤ tt) (lit≤ tt) reads.stay_second in
         (run_of in_second_body, same ∙ reads.at_second, second_row)
   ]
 
-  at_start : (pc : ℕ) → 0x402000 ≤ pc → pc < 0x402002 → HasRow forms bases callee_fde pc (IsPrologueRow (ended_by (pc - 0x402000) callee.prologue))
+  at_start : (pc : ℕ) → 0x402000 ≤ pc → pc < 0x402002 → HasRow bases callee_fde pc (IsPrologueRow (ended_by (pc - 0x402000) callee.prologue))
   at_start pc from below =
-      let same = same_row_at forms bases callee_fde 0x402000 0x402002 pc from below (lit≤ tt) (lit≤ tt) reads.stay_start in
+      let same = same_row_at bases callee_fde 0x402000 0x402002 pc from below (lit≤ tt) (lit≤ tt) reads.stay_start in
       let steps : ended_by (pc - 0x402000) callee.prologue ≡ ended_by 0 callee.prologue = same_ended callee.prologue 0 2 (pc - 0x402000) (omega arith) (omega arith) refl in
       (run_of [], same ∙ reads.at_start, rw steps start_row)
 
-  at_one : (pc : ℕ) → 0x402002 ≤ pc → pc < 0x402003 → HasRow forms bases callee_fde pc (IsPrologueRow (ended_by (pc - 0x402000) callee.prologue))
+  at_one : (pc : ℕ) → 0x402002 ≤ pc → pc < 0x402003 → HasRow bases callee_fde pc (IsPrologueRow (ended_by (pc - 0x402000) callee.prologue))
   at_one pc from below =
-      let same = same_row_at forms bases callee_fde 0x402002 0x402003 pc from below (lit≤ tt) (lit≤ tt) reads.stay_one in
+      let same = same_row_at bases callee_fde 0x402002 0x402003 pc from below (lit≤ tt) (lit≤ tt) reads.stay_one in
       let steps : ended_by (pc - 0x402000) callee.prologue ≡ ended_by 2 callee.prologue = same_ended callee.prologue 2 3 (pc - 0x402000) (omega arith) (omega arith) refl in
       (run_of pushed_one, same ∙ reads.at_one, rw steps one_row)
 
-  at_two : (pc : ℕ) → 0x402003 ≤ pc → pc < 0x402007 → HasRow forms bases callee_fde pc (IsPrologueRow (ended_by (pc - 0x402000) callee.prologue))
+  at_two : (pc : ℕ) → 0x402003 ≤ pc → pc < 0x402007 → HasRow bases callee_fde pc (IsPrologueRow (ended_by (pc - 0x402000) callee.prologue))
   at_two pc from below =
-      let same = same_row_at forms bases callee_fde 0x402003 0x402007 pc from below (lit≤ tt) (lit≤ tt) reads.stay_two in
+      let same = same_row_at bases callee_fde 0x402003 0x402007 pc from below (lit≤ tt) (lit≤ tt) reads.stay_two in
       let steps : ended_by (pc - 0x402000) callee.prologue ≡ ended_by 3 callee.prologue = same_ended callee.prologue 3 7 (pc - 0x402000) (omega arith) (omega arith) refl in
       (run_of pushed_two, same ∙ reads.at_two, rw steps two_row)
 
-  pub callee_rows : DescribesRows forms bases callee callee_fde
+  pub callee_rows : DescribesRows bases callee callee_fde
   callee_rows = record {
     bodies = λ inner pc h. callee_bodies pc h;
     prologue = λ inner pc from below. elim (cases_lt pc 0x402002) [ inl lt ↦ at_start pc from lt | inr ge ↦ elim (cases_lt pc 0x402003) [ inl lt ↦ at_one pc ge lt | inr ge ↦ at_two pc ge below ] ];
     outermost = λ outer pc h. absurd cc;
   }
 
-  outermost_rows : DescribesRows forms bases outermost outermost_fde
+  outermost_rows : DescribesRows bases outermost outermost_fde
   outermost_rows = record {
     bodies = λ inner pc h. absurd cc;
     prologue = λ inner pc from below. absurd cc;
     outermost = λ outer pc h. let lies = in_first 0x402040 0x402050 pc (either_false _ h) in
-        let same = same_row_at forms bases outermost_fde 0x402040 0x402050 pc lies.0 lies.1 (lit≤ tt) (lit≤ tt) reads.stay_outermost in
+        let same = same_row_at bases outermost_fde 0x402040 0x402050 pc lies.0 lies.1 (lit≤ tt) (lit≤ tt) reads.stay_outermost in
         (run_of in_outermost, same ∙ reads.at_outermost, outermost_row);
   }
 
@@ -195,7 +194,7 @@ module _ (forms : Forms) (reads : Reads forms) where
     ]
   ]
 
-  frames_described : DescribesFrames forms image bases table entries functions
+  frames_described : DescribesFrames image bases table entries functions
   frames_described = record {
     reads = reads.listed;
     lengths = ((20, _, refl, lit< tt), ((40, _, refl, lit< tt), ((16, _, refl, lit< tt), ((16, _, refl, lit< tt), tt))));
@@ -216,7 +215,7 @@ module _ (forms : Forms) (reads : Reads forms) where
   pairs_three (suc (suc i)) (suc (suc zero)) d lt below = absurd (omega arith)
   pairs_three i (suc (suc (suc j))) d lt below = absurd (omega arith)
 
-  module_described : DescribesModule forms image module_of_them functions
+  module_described : DescribesModule image module_of_them functions
   module_described = record {
     frame = 0x500000;
     address = refl;
@@ -266,10 +265,10 @@ outermost_entered = record { room = lit≤ tt; returns = λ h. absurd cc; leaves
 words : (ra sp rbx r14 : ℕ) → ra < 2 ^ 64 → sp < 2 ^ 64 → rbx < 2 ^ 64 → r14 < 2 ^ 64 → IsState (state ra sp rbx r14)
 words ra sp rbx r14 a b c d = state_fits (state ra sp rbx r14) a b c (lit< tt) (lit< tt) (lit< tt) d (lit< tt)
 
-pub late_valid : (forms : Forms) → Reads forms → IsValid forms process (columns_of start) [] functions start calls
-late_valid forms reads = record {
+pub late_valid : Reads → IsValid process (columns_of start) [] functions start calls
+late_valid reads = record {
   are_functions = (callee_function, (outermost_function, tt));
-  modules = (module_described forms reads, tt);
+  modules = (module_described reads, tt);
   no_others = (refl, (refl, tt));
   shows = columns_show start;
   chain = (

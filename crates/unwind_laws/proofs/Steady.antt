@@ -1,7 +1,6 @@
 -- Between two advances the row stays the same.
 use Rattle.std.proofs.Common.{◌≡◌, ℕ, ◌+◌, ◌^◌, ◌<◌, ◌≤◌, Bool, true, false, cond, ltb, leb, ◌&&◌, List, [], ◌∷◌, refl, ap, arith}
 use Rattle.std.proofs.lemmas.Bool.{leb-true, le-ltb, lt-ltb, le-leb}
-use Rattle.unwind_definitions.specs.Forms.{Forms}
 use Rattle.unwind_definitions.specs.Pointers.{Bases}
 use Rattle.unwind_definitions.specs.Instructions.{Instruction, Nop, Remember, Restore, Advance, SetLocation, Write, Reset, Cfa, CfaColumn, CfaOffset, CfaExpression, Arguments, Program, program}
 use Rattle.unwind_definitions.specs.Row.{up_to, row_of, row_at}
@@ -52,11 +51,11 @@ module _ (low high pc : ℕ) (from : low ≤ pc) (below : pc < high) where
   same_up_to at (Arguments n ∷ is) steady = ap (λ x. Arguments n ∷ x) (same_up_to at is steady)
 
 -- a description has the same row at each address between two advances
-pub same_row_at : (forms : Forms) (bases : Bases) (fde : Fde) (low high pc : ℕ) → low ≤ pc → pc < high → fde.start ≤ low → high ≤ fde.start + fde.size →
-    is_steady fde.start low high (program forms (coding_of bases fde.cie) fde.program).instructions ≡ true → row_at forms bases fde pc ≡ row_at forms bases fde low
+pub same_row_at : (bases : Bases) (fde : Fde) (low high pc : ℕ) → low ≤ pc → pc < high → fde.start ≤ low → high ≤ fde.start + fde.size →
+    is_steady fde.start low high (program (coding_of bases fde.cie) fde.program).instructions ≡ true → row_at bases fde pc ≡ row_at bases fde low
 unfolding row_at
-same_row_at forms bases fde low high pc from below inside within steady =
-    let common : Program = program forms (coding_of bases fde.cie) fde.cie.program in
-    let own : Program = program forms (coding_of bases fde.cie) fde.program in
+same_row_at bases fde low high pc from below inside within steady =
+    let common : Program = program (coding_of bases fde.cie) fde.cie.program in
+    let own : Program = program (coding_of bases fde.cie) fde.program in
     rw (le-leb fde.start pc (omega arith), lt-ltb pc (fde.start + fde.size) (omega arith), le-leb fde.start low inside, lt-ltb low (fde.start + fde.size) (omega arith))
     (ap (row_of fde.start common own) (same_up_to low high pc from below fde.start own.instructions steady))

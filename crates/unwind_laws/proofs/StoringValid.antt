@@ -4,7 +4,6 @@ use Rattle.std.specs.Prelude.{IsTrue, IsFalse, ◌≢◌}
 use Rattle.std.specs.List.{Contains, AllByRecursion, list_any}
 use Rattle.std.proofs.lemmas.Bool.{leb-true, ltb-true, cases_lt}
 use Rattle.memory_image.specs.Image.{word_at}
-use Rattle.unwind_definitions.specs.Forms.{Forms, whole, emitted as emitted_forms}
 use Rattle.unwind_definitions.specs.Instructions.{program, instruction_of}
 use Rattle.unwind_definitions.specs.Entries.{Fde, coding_of, AreEntries, entry_at}
 use Rattle.unwind_definitions.specs.Row.{row_at, rule_of}
@@ -24,28 +23,28 @@ use Rattle.unwind_laws.proofs.Steady.{is_steady, same_row_at}
 use Rattle.unwind_laws.proofs.PushingValid.{columns_show}
 
 -- between two addresses a description's row stays
-abbrev Stays : Forms → Fde → ℕ → ℕ → Type 0
-Stays forms fde low high = is_steady fde.start low high (program forms (coding_of bases fde.cie) fde.program).instructions ≡ true
+abbrev Stays : Fde → ℕ → ℕ → Type 0
+Stays fde low high = is_steady fde.start low high (program (coding_of bases fde.cie) fde.program).instructions ≡ true
 
 -- what the readers of some forms give for this sample
-pub record Reads (forms : Forms) : Type 0 where
-  pub listed : AreEntries forms bases table 0 entries
-  pub at_storing : row_at forms bases storing_fde 0x401000 ≡ Ok (run_of [])
-  pub at_allocated : row_at forms bases storing_fde 0x401004 ≡ Ok (run_of allocated)
-  pub at_stored : row_at forms bases storing_fde 0x401009 ≡ Ok (run_of in_storing)
-  pub at_framed : row_at forms bases framed_fde 0x401020 ≡ Ok (run_of [])
-  pub at_pushed : row_at forms bases framed_fde 0x401021 ≡ Ok (run_of pushed)
-  pub at_set : row_at forms bases framed_fde 0x401024 ≡ Ok (run_of set)
-  pub at_body : row_at forms bases framed_fde 0x401029 ≡ Ok (run_of in_framed)
-  pub stay_storing : Stays forms storing_fde 0x401000 0x401004
-  pub stay_allocated : Stays forms storing_fde 0x401004 0x401009
-  pub stay_stored : Stays forms storing_fde 0x401009 0x401020
-  pub stay_framed : Stays forms framed_fde 0x401020 0x401021
-  pub stay_pushed : Stays forms framed_fde 0x401021 0x401024
-  pub stay_set : Stays forms framed_fde 0x401024 0x401029
-  pub stay_body : Stays forms framed_fde 0x401029 0x401040
+pub record Reads : Type 0 where
+  pub listed : AreEntries bases table 0 entries
+  pub at_storing : row_at bases storing_fde 0x401000 ≡ Ok (run_of [])
+  pub at_allocated : row_at bases storing_fde 0x401004 ≡ Ok (run_of allocated)
+  pub at_stored : row_at bases storing_fde 0x401009 ≡ Ok (run_of in_storing)
+  pub at_framed : row_at bases framed_fde 0x401020 ≡ Ok (run_of [])
+  pub at_pushed : row_at bases framed_fde 0x401021 ≡ Ok (run_of pushed)
+  pub at_set : row_at bases framed_fde 0x401024 ≡ Ok (run_of set)
+  pub at_body : row_at bases framed_fde 0x401029 ≡ Ok (run_of in_framed)
+  pub stay_storing : Stays storing_fde 0x401000 0x401004
+  pub stay_allocated : Stays storing_fde 0x401004 0x401009
+  pub stay_stored : Stays storing_fde 0x401009 0x401020
+  pub stay_framed : Stays framed_fde 0x401020 0x401021
+  pub stay_pushed : Stays framed_fde 0x401021 0x401024
+  pub stay_set : Stays framed_fde 0x401024 0x401029
+  pub stay_body : Stays framed_fde 0x401029 0x401040
 
-pub reads_whole : Reads whole
+pub reads_whole : Reads
 unfolding entry_at row_at instruction_of
 reads_whole = record {
   listed = (24, refl, (48, refl, (80, refl, refl)));
@@ -65,7 +64,7 @@ reads_whole = record {
   stay_body = refl;
 }
 
-pub reads_emitted : Reads emitted_forms
+pub reads_emitted : Reads
 unfolding entry_at row_at instruction_of
 reads_emitted = record {
   listed = (24, refl, (48, refl, (80, refl, refl)));
@@ -170,56 +169,56 @@ in_framed_body pc h =
     let both = both_true (leb 0x401029 pc) (ltb pc 0x401040) (either_false _ h) in
     (leb-true 0x401029 pc both.0, ltb-true pc 0x401040 both.1)
 
-module _ (forms : Forms) (reads : Reads forms) where
-  at_storing : (pc : ℕ) → 0x401000 ≤ pc → pc < 0x401004 → HasRow forms bases storing_fde pc (IsPrologueRow (ended_by (pc - 0x401000) storing.prologue))
+module _ (reads : Reads) where
+  at_storing : (pc : ℕ) → 0x401000 ≤ pc → pc < 0x401004 → HasRow bases storing_fde pc (IsPrologueRow (ended_by (pc - 0x401000) storing.prologue))
   at_storing pc from below =
-      let same = same_row_at forms bases storing_fde 0x401000 0x401004 pc from below (lit≤ tt) (lit≤ tt) reads.stay_storing in
+      let same = same_row_at bases storing_fde 0x401000 0x401004 pc from below (lit≤ tt) (lit≤ tt) reads.stay_storing in
       let steps : ended_by (pc - 0x401000) storing.prologue ≡ ended_by 0 storing.prologue = same_ended storing.prologue 0 4 (pc - 0x401000) (omega arith) (omega arith) refl in
       (run_of [], same ∙ reads.at_storing, rw steps storing_row)
 
-  at_allocated : (pc : ℕ) → 0x401004 ≤ pc → pc < 0x401009 → HasRow forms bases storing_fde pc (IsPrologueRow (ended_by (pc - 0x401000) storing.prologue))
+  at_allocated : (pc : ℕ) → 0x401004 ≤ pc → pc < 0x401009 → HasRow bases storing_fde pc (IsPrologueRow (ended_by (pc - 0x401000) storing.prologue))
   at_allocated pc from below =
-      let same = same_row_at forms bases storing_fde 0x401004 0x401009 pc from below (lit≤ tt) (lit≤ tt) reads.stay_allocated in
+      let same = same_row_at bases storing_fde 0x401004 0x401009 pc from below (lit≤ tt) (lit≤ tt) reads.stay_allocated in
       let steps : ended_by (pc - 0x401000) storing.prologue ≡ ended_by 4 storing.prologue = same_ended storing.prologue 4 9 (pc - 0x401000) (omega arith) (omega arith) refl in
       (run_of allocated, same ∙ reads.at_allocated, rw steps allocated_row)
 
-  storing_rows : DescribesRows forms bases storing storing_fde
+  storing_rows : DescribesRows bases storing storing_fde
   storing_rows = record {
     bodies = λ inner pc h. let lies = in_storing_body pc h in
-        let same = same_row_at forms bases storing_fde 0x401009 0x401020 pc lies.0 lies.1 (lit≤ tt) (lit≤ tt) reads.stay_stored in
+        let same = same_row_at bases storing_fde 0x401009 0x401020 pc lies.0 lies.1 (lit≤ tt) (lit≤ tt) reads.stay_stored in
         (run_of in_storing, same ∙ reads.at_stored, stored_row);
     prologue = λ inner pc from below. elim (cases_lt pc 0x401004) [ inl lt ↦ at_storing pc from lt | inr ge ↦ at_allocated pc ge below ];
     outermost = λ outer pc h. absurd cc;
   }
 
-  at_framed : (pc : ℕ) → 0x401020 ≤ pc → pc < 0x401021 → HasRow forms bases framed_fde pc (IsPrologueRow (ended_by (pc - 0x401020) framed.prologue))
+  at_framed : (pc : ℕ) → 0x401020 ≤ pc → pc < 0x401021 → HasRow bases framed_fde pc (IsPrologueRow (ended_by (pc - 0x401020) framed.prologue))
   at_framed pc from below =
-      let same = same_row_at forms bases framed_fde 0x401020 0x401021 pc from below (lit≤ tt) (lit≤ tt) reads.stay_framed in
+      let same = same_row_at bases framed_fde 0x401020 0x401021 pc from below (lit≤ tt) (lit≤ tt) reads.stay_framed in
       let steps : ended_by (pc - 0x401020) framed.prologue ≡ ended_by 0 framed.prologue = same_ended framed.prologue 0 1 (pc - 0x401020) (omega arith) (omega arith) refl in
       (run_of [], same ∙ reads.at_framed, rw steps framed_row)
 
-  at_pushed : (pc : ℕ) → 0x401021 ≤ pc → pc < 0x401024 → HasRow forms bases framed_fde pc (IsPrologueRow (ended_by (pc - 0x401020) framed.prologue))
+  at_pushed : (pc : ℕ) → 0x401021 ≤ pc → pc < 0x401024 → HasRow bases framed_fde pc (IsPrologueRow (ended_by (pc - 0x401020) framed.prologue))
   at_pushed pc from below =
-      let same = same_row_at forms bases framed_fde 0x401021 0x401024 pc from below (lit≤ tt) (lit≤ tt) reads.stay_pushed in
+      let same = same_row_at bases framed_fde 0x401021 0x401024 pc from below (lit≤ tt) (lit≤ tt) reads.stay_pushed in
       let steps : ended_by (pc - 0x401020) framed.prologue ≡ ended_by 1 framed.prologue = same_ended framed.prologue 1 4 (pc - 0x401020) (omega arith) (omega arith) refl in
       (run_of pushed, same ∙ reads.at_pushed, rw steps pushed_row)
 
-  at_set : (pc : ℕ) → 0x401024 ≤ pc → pc < 0x401025 → HasRow forms bases framed_fde pc (IsPrologueRow (ended_by (pc - 0x401020) framed.prologue))
+  at_set : (pc : ℕ) → 0x401024 ≤ pc → pc < 0x401025 → HasRow bases framed_fde pc (IsPrologueRow (ended_by (pc - 0x401020) framed.prologue))
   at_set pc from below =
-      let same = same_row_at forms bases framed_fde 0x401024 0x401029 pc from (omega arith) (lit≤ tt) (lit≤ tt) reads.stay_set in
+      let same = same_row_at bases framed_fde 0x401024 0x401029 pc from (omega arith) (lit≤ tt) (lit≤ tt) reads.stay_set in
       let steps : ended_by (pc - 0x401020) framed.prologue ≡ ended_by 4 framed.prologue = same_ended framed.prologue 4 5 (pc - 0x401020) (omega arith) (omega arith) refl in
       (run_of set, same ∙ reads.at_set, rw steps set_row)
 
-  at_late : (pc : ℕ) → 0x401025 ≤ pc → pc < 0x401029 → HasRow forms bases framed_fde pc (IsPrologueRow (ended_by (pc - 0x401020) framed.prologue))
+  at_late : (pc : ℕ) → 0x401025 ≤ pc → pc < 0x401029 → HasRow bases framed_fde pc (IsPrologueRow (ended_by (pc - 0x401020) framed.prologue))
   at_late pc from below =
-      let same = same_row_at forms bases framed_fde 0x401024 0x401029 pc (omega arith) below (lit≤ tt) (lit≤ tt) reads.stay_set in
+      let same = same_row_at bases framed_fde 0x401024 0x401029 pc (omega arith) below (lit≤ tt) (lit≤ tt) reads.stay_set in
       let steps : ended_by (pc - 0x401020) framed.prologue ≡ ended_by 5 framed.prologue = same_ended framed.prologue 5 9 (pc - 0x401020) (omega arith) (omega arith) refl in
       (run_of set, same ∙ reads.at_set, rw steps late_row)
 
-  framed_rows : DescribesRows forms bases framed framed_fde
+  framed_rows : DescribesRows bases framed framed_fde
   framed_rows = record {
     bodies = λ inner pc h. let lies = in_framed_body pc h in
-        let same = same_row_at forms bases framed_fde 0x401029 0x401040 pc lies.0 lies.1 (lit≤ tt) (lit≤ tt) reads.stay_body in
+        let same = same_row_at bases framed_fde 0x401029 0x401040 pc lies.0 lies.1 (lit≤ tt) (lit≤ tt) reads.stay_body in
         (run_of in_framed, same ∙ reads.at_body, body_row);
     prologue = λ inner pc from below. elim (cases_lt pc 0x401021) [
       | inl lt ↦ at_framed pc from lt
@@ -237,7 +236,7 @@ module _ (forms : Forms) (reads : Reads forms) where
     | inr h2 ↦ elim (here_or_later framed_fde [] f h2) [ inl e ↦ subst P e b | inr none ↦ absurd (none_in_nil f none) ]
   ]
 
-  frames_described : DescribesFrames forms image bases table entries functions
+  frames_described : DescribesFrames image bases table entries functions
   frames_described = record {
     reads = reads.listed;
     lengths = ((20, _, refl, lit< tt), ((20, _, refl, lit< tt), ((28, _, refl, lit< tt), tt)));
@@ -248,7 +247,7 @@ module _ (forms : Forms) (reads : Reads forms) where
     foreign = each_fde (λ fde. IsFalse (list_any (λ f. has_range_of f fde) functions) → AllByRecursion (MeetsNot fde) functions) (λ none. absurd cc) (λ none. absurd cc);
   }
 
-  module_described : DescribesModule forms image module_of_them functions
+  module_described : DescribesModule image module_of_them functions
   module_described = record {
     frame = 0x500000;
     address = refl;
@@ -302,10 +301,10 @@ framed_entered = record {
 words : (ra sp rbx rbp r12 : ℕ) → ra < 2 ^ 64 → sp < 2 ^ 64 → rbx < 2 ^ 64 → rbp < 2 ^ 64 → r12 < 2 ^ 64 → IsState (state ra sp rbx rbp r12)
 words ra sp rbx rbp r12 a b c d e = state_fits (state ra sp rbx rbp r12) a b c d e (lit< tt) (lit< tt) (lit< tt)
 
-pub pointed_valid : (forms : Forms) → Reads forms → IsValid forms process (columns_of start) [] functions start calls
-pointed_valid forms reads = record {
+pub pointed_valid : Reads → IsValid process (columns_of start) [] functions start calls
+pointed_valid reads = record {
   are_functions = (storing_function, (framed_function, tt));
-  modules = (module_described forms reads, tt);
+  modules = (module_described reads, tt);
   no_others = (refl, (refl, tt));
   shows = columns_show start;
   chain = (

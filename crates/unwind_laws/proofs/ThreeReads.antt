@@ -4,7 +4,6 @@ use Rattle.std.proofs.Common.{◌≡◌, ℕ, ◌-◌, ◌^◌, ◌<◌, List, [
 use Rattle.std.specs.Prelude.{IsFalse, IsTrue}
 use Rattle.std.specs.List.{Contains, AllByRecursion, list_any}
 use Rattle.memory_image.specs.Image.{Span, word_at}
-use Rattle.unwind_definitions.specs.Forms.{whole, emitted}
 use Rattle.unwind_definitions.specs.Input.{Input}
 use Rattle.unwind_definitions.specs.Pointers.{Bases}
 use Rattle.unwind_definitions.specs.Instructions.{instruction_of}
@@ -30,9 +29,9 @@ use Rattle.unwind_laws.proofs.ThreeValid.{sites_b, sites_c, function_a, function
 
 -- a description has the same rows by both
 abbrev HasSameRows : Bases → Fde → Type 0
-HasSameRows bases fde = (pc : ℕ) → row_at emitted bases fde pc ≡ row_at whole bases fde pc
+HasSameRows bases fde = (pc : ℕ) → row_at bases fde pc ≡ row_at bases fde pc
 
-rows_read : (bases : Bases) (f : Function) (fde : Fde) → HasSameRows bases fde → DescribesRows whole bases f fde → DescribesRows emitted bases f fde
+rows_read : (bases : Bases) (f : Function) (fde : Fde) → HasSameRows bases fde → DescribesRows bases f fde → DescribesRows bases f fde
 rows_read bases f fde same rows = record {
   bodies = λ inner pc h. let r = rows.bodies inner pc h in (r.0, same pc ∙ r.1, r.2);
   prologue = λ inner pc from below. let r = rows.prologue inner pc from below in (r.0, same pc ∙ r.1, r.2);
@@ -57,7 +56,7 @@ bases = bases_of module_of_them 0x500000
 abbrev fdes : List Fde
 fdes = fde_a ∷ fde_b ∷ fde_c ∷ []
 
-entries_read : AreEntries emitted bases table 0 entries
+entries_read : AreEntries bases table 0 entries
 unfolding entry_at
 entries_read = (24, refl, (52, refl, (84, refl, (112, refl, (148, refl, refl)))))
 
@@ -92,20 +91,20 @@ abbrev MeetsNone : List Function → Fde → Type 0
 MeetsNone fs fde = IsFalse (list_any (λ f. has_range_of f fde) fs) → AllByRecursion (MeetsNot fde) fs
 
 module _ (memory : List Span) (holds : HoldsTables memory) where
-  has_a : HasDescription emitted memory bases fdes fa
+  has_a : HasDescription memory bases fdes fa
   has_a = record { fde = fde_a; one = refl; describes = record { code = record { cie = emitted_plain memory; earlier = lit< tt; start = refl; end = refl; rows = rows_read bases fa fde_a (rows_a_read bases) (rows_a bases) }; language = refl } }
 
-  has_b : HasDescription emitted memory bases fdes fb
+  has_b : HasDescription memory bases fdes fb
   has_b = record { fde = fde_b; one = refl; describes = record { code = record { cie = holds.cie; earlier = lit< tt; start = refl; end = refl; rows = rows_read bases fb fde_b (rows_b_read bases) (rows_b bases) }; language = (sites_b, refl, holds.second) } }
 
-  has_c : HasDescription emitted memory bases fdes fc
+  has_c : HasDescription memory bases fdes fc
   has_c = record { fde = fde_c; one = refl; describes = record { code = record { cie = holds.cie; earlier = lit< tt; start = refl; end = refl; rows = rows_read bases fc fde_c (rows_c_read bases) (rows_c bases) }; language = (sites_c, refl, holds.third) } }
 
-  frames_of : (fs : List Function) → AllByRecursion (HasDescription emitted memory bases fdes) fs → AreForeign fs → DescribesFrames emitted memory bases (input_at memory 0x500000) entries fs
-  frames_of fs each foreign = let P : Input → Type 0 = λ t. DescribesFrames emitted memory bases t entries fs in
+  frames_of : (fs : List Function) → AllByRecursion (HasDescription memory bases fdes) fs → AreForeign fs → DescribesFrames memory bases (input_at memory 0x500000) entries fs
+  frames_of fs each foreign = let P : Input → Type 0 = λ t. DescribesFrames memory bases t entries fs in
       subst P (sym holds.frames) (record { reads = entries_read; lengths = lengths; each = each; foreign = foreign })
 
-  all_described : DescribesModule emitted memory module_of_them functions
+  all_described : DescribesModule memory module_of_them functions
   all_described = record {
     frame = 0x500000;
     address = refl;
@@ -117,7 +116,7 @@ module _ (memory : List Span) (holds : HoldsTables memory) where
     header = tt;
   }
 
-  first_described : DescribesModule emitted memory module_of_first (fa ∷ [])
+  first_described : DescribesModule memory module_of_first (fa ∷ [])
   first_described = record {
     frame = 0x500000;
     address = refl;
@@ -129,7 +128,7 @@ module _ (memory : List Span) (holds : HoldsTables memory) where
     header = tt;
   }
 
-  others_described : DescribesModule emitted memory module_of_others (fb ∷ fc ∷ [])
+  others_described : DescribesModule memory module_of_others (fb ∷ fc ∷ [])
   others_described = record {
     frame = 0x500000;
     address = refl;
@@ -144,46 +143,46 @@ module _ (memory : List Span) (holds : HoldsTables memory) where
 -- ---- calls over the first stack
 
 -- an exception in these calls is caught
-pub caught_read : IsValid emitted process (columns_of start) resumes functions start calls
+pub caught_read : IsValid process (columns_of start) resumes functions start calls
 caught_read = record {
   are_functions = (function_a, (function_b, (function_c, tt)));
   modules = (all_described (image 0x60 []) (holds_image 0x60), tt);
   no_others = (refl, (refl, (refl, tt)));
   shows = columns_show start;
-  chain = listed_chain [] (IsUncovered emitted process);
+  chain = listed_chain [] (IsUncovered process);
   resumed = λ f found accepted. (tt, ((λ e. absurd cc, refl, refl), tt));
 }
 
 -- in these it ends the program
-pub unlisted_read : IsValid emitted unlisted_process (columns_of start) resumes functions start unlisted_calls
+pub unlisted_read : IsValid unlisted_process (columns_of start) resumes functions start unlisted_calls
 unlisted_read = record {
   are_functions = (function_a, (function_b, (function_c, tt)));
   modules = (all_described (image 0x70 []) (holds_image 0x70), tt);
   no_others = (refl, (refl, (refl, tt)));
   shows = columns_show start;
-  chain = unlisted_chain [] (IsUncovered emitted unlisted_process);
+  chain = unlisted_chain [] (IsUncovered unlisted_process);
   resumed = λ f found accepted. (tt, ((λ e. absurd cc, refl, refl), tt));
 }
 
 -- the functions lie in two modules
-pub two_read : IsValid emitted process_of_two (columns_of start) resumes functions start calls
+pub two_read : IsValid process_of_two (columns_of start) resumes functions start calls
 two_read = record {
   are_functions = (function_a, (function_b, (function_c, tt)));
   modules = (first_described (image 0x60 []) (holds_image 0x60), (others_described (image 0x60 []) (holds_image 0x60), tt));
   no_others = (refl, (refl, (refl, tt)));
   shows = columns_show start;
-  chain = listed_chain [] (IsUncovered emitted process_of_two);
+  chain = listed_chain [] (IsUncovered process_of_two);
   resumed = λ f found accepted. (tt, ((λ e. absurd cc, refl, refl), tt));
 }
 
 -- the first function's caller is in no module
-outside : IsUncovered emitted process_of_first (0x401030 - 1)
+outside : IsUncovered process_of_first (0x401030 - 1)
 outside m has inside = elim (here_or_later module_of_first [] m has) [
   | inl same ↦ let P : Module → Type 0 = λ k. IsTrue (in_module 0x40102f k) in let h : IsTrue (in_module 0x40102f module_of_first) = subst P (sym same) inside in absurd cc
   | inr none ↦ absurd (none_in_nil m none)
 ]
 
-pub first_read : IsValid emitted process_of_first (columns_of start) [] (fa ∷ []) start (first_call ∷ [])
+pub first_read : IsValid process_of_first (columns_of start) [] (fa ∷ []) start (first_call ∷ [])
 first_read = record {
   are_functions = (function_a, tt);
   modules = (first_described (image 0x60 []) (holds_image 0x60), tt);
@@ -251,7 +250,7 @@ deep_entered_c = record {
 deep_link : (sp : ℕ) (t : State) (outer : List Call) → sp < 2 ^ 64 → IsEntered deep_image false (steps_of fb.prologue) t (deep_second sp) → IsLink deep_image functions (deep_second sp) (record { callee = fb; caller = t }) outer
 deep_link sp t outer low entered = record { state = words (deep_second sp) (lit< tt) low (lit< tt) (lit< tt) (lit< tt) refl refl refl; listed = (1, lit< tt, refl); called = record { returns = λ e. absurd cc; inside = refl; entered = entered }; last = λ outer. absurd cc }
 
-deep_chain : IsChain deep_image (IsUncovered emitted deep_process) functions deep_start deep_calls
+deep_chain : IsChain deep_image (IsUncovered deep_process) functions deep_start deep_calls
 deep_chain = (
   record { state = words deep_start (lit< tt) (lit< tt) (lit< tt) (lit< tt) (lit< tt) refl refl refl; listed = (0, lit< tt, refl); called = record { returns = λ e. absurd cc; inside = refl; entered = deep_entered_a }; last = λ outer. absurd cc },
   (
@@ -270,7 +269,7 @@ deep_chain = (
 )
 
 -- the cleanup of the second function runs three times
-pub deep_read : IsValid emitted deep_process (columns_of deep_start) resumes functions deep_start deep_calls
+pub deep_read : IsValid deep_process (columns_of deep_start) resumes functions deep_start deep_calls
 deep_read = record {
   are_functions = (function_a, (function_b, (function_c, tt)));
   modules = (all_described deep_image holds_deep, tt);

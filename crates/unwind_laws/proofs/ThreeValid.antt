@@ -4,7 +4,6 @@ use Rattle.std.specs.Prelude.{IsFalse, ◌≢◌}
 use Rattle.std.specs.List.{Contains, AllPairs, AllByRecursion, list_any}
 use Rattle.std.proofs.lemmas.List.Sorted.{IsPermutation-refl}
 use Rattle.memory_image.specs.Image.{Span, word_at}
-use Rattle.unwind_definitions.specs.Forms.{whole}
 use Rattle.unwind_definitions.specs.Pointers.{Bases}
 use Rattle.unwind_definitions.specs.Entries.{Fde, entry_at}
 use Rattle.unwind_definitions.specs.State.{State, value_of, IsState}
@@ -95,7 +94,7 @@ module _ (b : ℕ) (more : List Span) where
   unfolding word_at
   emitted_language = record { version = refl; code_factor = refl; data_factor = refl; return_column = refl; augmentation = inr (inr refl); address = refl; language = inr refl; personality = inr (refl, λ e. absurd cc); program = (2, refl) }
 
-  frames_described : (bases : Bases) → DescribesFrames whole (image b more) bases table entries functions
+  frames_described : (bases : Bases) → DescribesFrames (image b more) bases table entries functions
   unfolding entry_at
   frames_described bases = record {
     reads = (24, refl, (52, refl, (84, refl, (112, refl, (148, refl, refl)))));
@@ -110,7 +109,7 @@ module _ (b : ℕ) (more : List Span) where
     foreign = each_fde (λ fde. IsFalse (list_any (λ f. has_range_of f fde) functions) → AllByRecursion (MeetsNot fde) functions) (λ none. absurd cc) (λ none. absurd cc) (λ none. absurd cc);
   }
 
-  module_described : DescribesModule whole (image b more) module_of_them functions
+  module_described : DescribesModule (image b more) module_of_them functions
   module_described = record {
     frame = 0x500000;
     address = refl;
@@ -188,24 +187,24 @@ pub unlisted_chain : (more : List Span) (Uncovered : ℕ → Type 0) → IsChain
 unlisted_chain more Uncovered = let at = unlisted_word more in chain_is 0x70 0x401070 more at Uncovered (lit< tt) (record { returns = λ e. absurd cc; inside = refl; entered = entered_c 0x70 0x401070 more at })
 
 -- an exception in these calls is caught
-pub caught_valid : IsValid whole process (columns_of start) resumes functions start calls
+pub caught_valid : IsValid process (columns_of start) resumes functions start calls
 caught_valid = record {
   are_functions = (function_a, (function_b, (function_c, tt)));
   modules = (module_described 0x60 [], tt);
   no_others = (refl, (refl, (refl, tt)));
   shows = columns_show start;
-  chain = listed_chain [] (IsUncovered whole process);
+  chain = listed_chain [] (IsUncovered process);
   resumed = λ f found accepted. (tt, ((λ e. absurd cc, refl, refl), tt));
 }
 
 -- and in these it ends the program
-pub unlisted_valid : IsValid whole unlisted_process (columns_of start) resumes functions start unlisted_calls
+pub unlisted_valid : IsValid unlisted_process (columns_of start) resumes functions start unlisted_calls
 unlisted_valid = record {
   are_functions = (function_a, (function_b, (function_c, tt)));
   modules = (module_described 0x70 [], tt);
   no_others = (refl, (refl, (refl, tt)));
   shows = columns_show start;
-  chain = unlisted_chain [] (IsUncovered whole unlisted_process);
+  chain = unlisted_chain [] (IsUncovered unlisted_process);
   resumed = λ f found accepted. (tt, ((λ e. absurd cc, refl, refl), tt));
 }
 
@@ -226,7 +225,7 @@ header_lists = record {
   ascend = (lit< tt, (lit< tt, tt));
 }
 
-header_described : DescribesModule whole header_image module_with_header functions
+header_described : DescribesModule header_image module_with_header functions
 header_described = record {
   frame = 0x500000;
   address = refl;
@@ -238,13 +237,13 @@ header_described = record {
   header = header_lists;
 }
 
-pub header_valid : IsValid whole header_process (columns_of start) resumes functions start calls
+pub header_valid : IsValid header_process (columns_of start) resumes functions start calls
 header_valid = record {
   are_functions = (function_a, (function_b, (function_c, tt)));
   modules = (header_described, tt);
   no_others = (refl, (refl, (refl, tt)));
   shows = columns_show start;
-  chain = listed_chain (record { start = 0x504000; bytes = header } ∷ []) (IsUncovered whole header_process);
+  chain = listed_chain (record { start = 0x504000; bytes = header } ∷ []) (IsUncovered header_process);
   resumed = λ f found accepted. (tt, ((λ e. absurd cc, refl, refl), tt));
 }
 

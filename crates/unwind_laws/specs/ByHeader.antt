@@ -2,7 +2,6 @@
 use Rattle.std.specs.Prelude.{◌≡◌, ℕ, List, [], ◌∷◌, Option, Some, None, Ok, nat_le, if◌then◌else◌, MatchOption}
 use Rattle.std.specs.Option.{option_or}
 use Rattle.memory_image.specs.Image.{Span}
-use Rattle.unwind_definitions.specs.Forms.{Forms}
 use Rattle.unwind_definitions.specs.Entries.{Fde, AFde, entry_at}
 use Rattle.unwind_definitions.specs.Row.{covers_pc}
 use Rattle.unwind_definitions.specs.Scan.{scan}
@@ -16,16 +15,16 @@ boundary [] a = None
 boundary (p ∷ ps) a = option_or (boundary ps a) (if nat_le p.0 a then Some p else None)
 
 -- a pair names a description, which stands at its own offset
-pub record Names (forms : Forms) (image : List Span) (m : Module) (frame : ℕ) (p : ℕ × ℕ) (fde : Fde) : Type 0 where
+pub record Names (image : List Span) (m : Module) (frame : ℕ) (p : ℕ × ℕ) (fde : Fde) : Type 0 where
   pub pair : p ≡ pair_of frame fde
   pub next : ℕ
-  pub placed : entry_at forms (bases_of m frame) (input_at image frame) fde.offset ≡ Ok (Some (record { entry = AFde fde; next = next }))
+  pub placed : entry_at (bases_of m frame) (input_at image frame) fde.offset ≡ Ok (Some (record { entry = AFde fde; next = next }))
 
 -- A scan answers the description that a boundary names, where it contains the address, and else that there is none.
-pub record AnswersBy (forms : Forms) (image : List Span) (m : Module) (frame a : ℕ) (p : ℕ × ℕ) : Type 0 where
+pub record AnswersBy (image : List Span) (m : Module) (frame a : ℕ) (p : ℕ × ℕ) : Type 0 where
   pub fde : Fde
-  pub names : Names forms image m frame p fde
-  pub answer : scan forms (bases_of m frame) (input_at image frame) a ≡ (if covers_pc fde a then Ok fde else nothing_found)
+  pub names : Names image m frame p fde
+  pub answer : scan (bases_of m frame) (input_at image frame) a ≡ (if covers_pc fde a then Ok fde else nothing_found)
 
-abbrev pub BoundaryAnswers : Forms → List Span → Module → ℕ → List (ℕ × ℕ) → ℕ → Type 0
-BoundaryAnswers forms image m frame pairs a = MatchOption (boundary pairs a) (scan forms (bases_of m frame) (input_at image frame) a ≡ nothing_found) (AnswersBy forms image m frame a)
+abbrev pub BoundaryAnswers : List Span → Module → ℕ → List (ℕ × ℕ) → ℕ → Type 0
+BoundaryAnswers image m frame pairs a = MatchOption (boundary pairs a) (scan (bases_of m frame) (input_at image frame) a ≡ nothing_found) (AnswersBy image m frame a)

@@ -4,7 +4,6 @@ use Rattle.std.specs.Option.{option_map_or}
 use Rattle.memory_image.specs.Image.{Span}
 use Rattle.unwind_definitions.specs.declared.error.Error.{Error as Fault}
 use Rattle.unwind_definitions.specs.declared.error.Error.TheVariants.{NoUnwindInfoForAddress}
-use Rattle.unwind_definitions.specs.Forms.{Forms}
 use Rattle.unwind_definitions.specs.Input.{Input}
 use Rattle.unwind_definitions.specs.Pointers.{Bases}
 use Rattle.unwind_definitions.specs.Entries.{Cie, Fde, cie_body, fde_body}
@@ -24,28 +23,28 @@ found_among fdes pc = option_map_or (λ (fde : Fde). Ok fde) (first_covering fde
 abbrev pub nothing_found : Result Fde Fault
 nothing_found = Err NoUnwindInfoForAddress
 
-module _ (forms : Forms) (bases : Bases) where
+module _ (bases : Bases) where
   -- bytes read as a common description
   pub record CieRead (cie : Cie) : Type 0 where
     pub offset : ℕ
     pub from : Input
-    pub is : cie_body forms bases offset from ≡ Ok cie
+    pub is : cie_body bases offset from ≡ Ok cie
 
   -- bytes read as a description, and others as its common one
   pub record FdeRead (fde : Fde) : Type 0 where
     pub common : CieRead fde.cie
     pub offset : ℕ
     pub from : Input
-    pub is : fde_body forms bases fde.cie offset from ≡ Ok fde
+    pub is : fde_body bases fde.cie offset from ≡ Ok fde
 
 -- a scan of a module's frame table finds a function's description for an address
-pub record FindsFunction (forms : Forms) (image : List Span) (m : Module) (frame : ℕ) (f : Function) (a : ℕ) : Type 0 where
+pub record FindsFunction (image : List Span) (m : Module) (frame : ℕ) (f : Function) (a : ℕ) : Type 0 where
   pub fde : Fde
-  pub found : scan forms (bases_of m frame) (input_at image frame) a ≡ Ok fde
+  pub found : scan (bases_of m frame) (input_at image frame) a ≡ Ok fde
   pub covers : covers_pc fde a ≡ true
   pub no_signal : fde.cie.letters.signal ≡ false
-  pub read : FdeRead forms (bases_of m frame) fde
-  pub describes : DescribesFunction forms image (bases_of m frame) f fde
+  pub read : FdeRead (bases_of m frame) fde
+  pub describes : DescribesFunction image (bases_of m frame) f fde
 
 -- A function's description asks what the function does: it names a personality where the function has a language table, and
 -- that table gives the function's action at each address.

@@ -3,7 +3,6 @@ use Rattle.std.specs.Prelude.{◌≡◌, ℕ, zero, suc, ◌+◌, ◌^◌, Bool,
 use Rattle.unwind_definitions.specs.declared.error.Error.{Error as Fault}
 use Rattle.unwind_definitions.specs.declared.error.Error.TheVariants.{NoCfaRegister}
 use Rattle.unwind_definitions.specs.Faults.{◌>>=◌}
-use Rattle.unwind_definitions.specs.Forms.{Forms}
 use Rattle.unwind_definitions.specs.Input.{Input}
 use Rattle.unwind_definitions.specs.Instructions.{Instruction, Advance, SetLocation, Coding, instruction, program}
 use Rattle.unwind_definitions.specs.Row.{Run, fault_of, location, from_common, or_else, cfa_rule, row}
@@ -27,25 +26,24 @@ push run i = record run { own = run.own ++ i ∷ [] }
 abbrev pub act : ℕ → Option ℕ → Run → Instruction → Result Run Fault → Result Run Fault
 act start limit run i later = if passes_limit (location start run.own) limit i then Ok run else or_else (fault_of start run i) later
 
-module _ (forms : Forms) where
-  -- at most so many instructions of what is left of a program that began at a location, behind those that ran
-  unfoldable pub reached : ℕ → Coding → ℕ → Option ℕ → Run → Input → Result Run Fault
-  reached zero coding start limit run c = Ok run
-  reached (suc turns) coding start limit run c = if length c.bytes == 0 then Ok run else (instruction forms coding c >>= λ r. act start limit run r.0 (reached turns coding start limit (push run r.0) r.1))
+-- at most so many instructions of what is left of a program that began at a location, behind those that ran
+unfoldable pub reached : ℕ → Coding → ℕ → Option ℕ → Run → Input → Result Run Fault
+reached zero coding start limit run c = Ok run
+reached (suc turns) coding start limit run c = if length c.bytes == 0 then Ok run else (instruction coding c >>= λ r. act start limit run r.0 (reached turns coding start limit (push run r.0) r.1))
 
-  -- the whole of a common program
-  abbrev pub common_reached : Coding → Input → Result Run Fault
-  common_reached coding c = reached (length c.bytes) coding 0 None (from_common []) c
+-- the whole of a common program
+abbrev pub common_reached : Coding → Input → Result Run Fault
+common_reached coding c = reached (length c.bytes) coding 0 None (from_common []) c
 
-  -- a description's program behind it, up to an address
-  abbrev pub own_reached : Coding → ℕ → ℕ → Run → Input → Result Run Fault
-  own_reached coding start pc common c = reached (length c.bytes) coding start (Some pc) (from_common common.own) c
+-- a description's program behind it, up to an address
+abbrev pub own_reached : Coding → ℕ → ℕ → Run → Input → Result Run Fault
+own_reached coding start pc common c = reached (length c.bytes) coding start (Some pc) (from_common common.own) c
 
 -- the row of what was reached
 abbrev pub row_reached : Run → Result Run Fault
 row_reached run = if is_some (cfa_rule run) then Ok run else Err NoCfaRegister
 
 -- Reading gives the row of the two whole programs.
-abbrev pub ReadsRow : Forms → Coding → ℕ → ℕ → Input → Input → Type 0
-ReadsRow forms coding start pc common own =
-    (common_reached forms coding common >>= λ before. own_reached forms coding start pc before own >>= λ run. row_reached run) ≡ row start pc (program forms coding common) (program forms coding own)
+abbrev pub ReadsRow : Coding → ℕ → ℕ → Input → Input → Type 0
+ReadsRow coding start pc common own =
+    (common_reached coding common >>= λ before. own_reached coding start pc before own >>= λ run. row_reached run) ≡ row start pc (program coding common) (program coding own)

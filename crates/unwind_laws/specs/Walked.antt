@@ -1,7 +1,6 @@
 -- A chain that is walked by its modules' tables, call by call.
 use Rattle.std.specs.Prelude.{◌≡◌, ◌≢◌, ℕ, ◌-◌, ◌<◌, false, List, [], ◌∷◌, Some, Ok, IsTrue}
 use Rattle.std.specs.List.{Contains}
-use Rattle.unwind_definitions.specs.Forms.{Forms}
 use Rattle.unwind_definitions.specs.Entries.{Fde}
 use Rattle.unwind_definitions.specs.Row.{Run, row_at, argument_size}
 use Rattle.unwind_definitions.specs.Scan.{scan}
@@ -19,7 +18,7 @@ use Rattle.unwind_definitions.specs.Stopped.{StandsAfter}
 use Rattle.unwind_laws.specs.Undoes.{Undoes}
 use Rattle.unwind_laws.specs.Found.{FdeRead}
 
-module _ (forms : Forms) (p : Process) where
+module _ (p : Process) where
   -- For an address, the module that it lies in has a frame table, where a scan finds a function's description, which has a row.
   pub record Finds (f : Function) (a : ℕ) : Type 0 where
     pub home : Module
@@ -28,12 +27,12 @@ module _ (forms : Forms) (p : Process) where
     pub frame : ℕ
     pub address : frame_address p.image home.tables ≡ Some frame
     pub fde : Fde
-    pub found : scan forms (bases_of home frame) (input_at p.image frame) a ≡ Ok fde
+    pub found : scan (bases_of home frame) (input_at p.image frame) a ≡ Ok fde
     pub no_signal : fde.cie.letters.signal ≡ false
-    pub read : FdeRead forms (bases_of home frame) fde
-    pub describes : DescribesFunction forms p.image (bases_of home frame) f fde
+    pub read : FdeRead (bases_of home frame) fde
+    pub describes : DescribesFunction p.image (bases_of home frame) f fde
     pub run : Run
-    pub has_row : row_at forms (bases_of home frame) fde a ≡ Ok run
+    pub has_row : row_at (bases_of home frame) fde a ≡ Ok run
     pub no_arguments : argument_size run ≡ 0
 
   -- By what is found for an address in a called function, the frame that columns show has a caller that shows a state.
@@ -45,7 +44,7 @@ module _ (forms : Forms) (p : Process) where
   pub record CanStep (functions : List Function) (a : ℕ) (s : State) (c : Call) : Type 0 where
     pub is_function : IsFunction SystemV c.callee
     pub listed : Contains functions c.callee
-    pub lies : LiesDescribed forms p functions c.callee
+    pub lies : LiesDescribed p functions c.callee
     pub inside : IsTrue (in_body c.callee a)
     pub entered : IsEntered p.image c.callee.outermost (steps_of c.callee.prologue) c.caller s
     pub caller : IsState c.caller
@@ -56,13 +55,13 @@ module _ (forms : Forms) (p : Process) where
     pub is_function : IsFunction SystemV c.callee
     pub inner : c.callee.outermost ≡ false
     pub listed : Contains functions c.callee
-    pub lies : LiesDescribed forms p functions c.callee
+    pub lies : LiesDescribed p functions c.callee
     pub stands : StandsAfter p.image c.callee done later c.caller s
     pub caller : IsState c.caller
 
   -- Columns that show a state, and step by step those of its callers, each by the address before the return address, up to
   -- the end of the stack; stack pointers strictly rise.
   abbrev pub IsWalk : Evaluates → List Function → Columns → State → List Call → Type 0
-  IsWalk evaluates functions columns s [] = Shows columns s × IsEnd p.image (IsUncovered forms p) functions s
+  IsWalk evaluates functions columns s [] = Shows columns s × IsEnd p.image (IsUncovered p) functions s
   IsWalk evaluates functions columns s (c ∷ calls) = Shows columns s × (s.ra ≢ 0) × (s.sp < c.caller.sp)
       × ((step : Steps evaluates columns (s.ra - 1) c) × IsWalk evaluates functions step.undoes.caller c.caller calls)

@@ -3,7 +3,6 @@
 ghost use Rattle.std.specs.Prelude.{◌≡◌, ◌-◌, ℕ, Bool, List, []};
 ghost use Rattle.std.specs.List.{AllPairs, AllByRecursion};
 ghost use Rattle.memory_image.specs.Image.{Span};
-ghost use Rattle.unwind_definitions.specs.Forms.{Forms};
 ghost use Rattle.unwind_definitions.specs.Caller.{Columns, Evaluates};
 ghost use Rattle.unwind_definitions.specs.State.{State, Shows};
 ghost use Rattle.unwind_definitions.specs.Prologue.{Convention, Step, PrologueStep, EachMayFollow, saves};
@@ -19,48 +18,48 @@ ghost use Rattle.unwind_laws.specs.Walked.{CanStep, CanStepInside, Steps, IsWalk
 /// Stopped at an address in the body of a described function, the tables give the caller: a module,
 /// its description of the function, that description's row, and the caller's columns.
 pub fn call_is_undone()
-    ensures { (forms : Forms) (p : Process) (evaluates : Evaluates) (functions : List Function) (a : ℕ) (s : State) (c : Call) (columns : Columns) →
-        CanStep forms p functions a s c → Shows columns s → Steps forms p evaluates columns a c }
+    ensures { (p : Process) (evaluates : Evaluates) (functions : List Function) (a : ℕ) (s : State) (c : Call) (columns : Columns) →
+        CanStep p functions a s c → Shows columns s → Steps p evaluates columns a c }
 {}
 
 /// The same of a state that is stopped in the prologue, by its own address.
 pub fn part_of_a_call_is_undone()
-    ensures { (forms : Forms) (p : Process) (evaluates : Evaluates) (functions : List Function) (done later : List PrologueStep) (s : State) (c : Call) (columns : Columns) →
-        CanStepInside forms p functions done later s c → Shows columns s → Steps forms p evaluates columns s.ra c }
+    ensures { (p : Process) (evaluates : Evaluates) (functions : List Function) (done later : List PrologueStep) (s : State) (c : Call) (columns : Columns) →
+        CanStepInside p functions done later s c → Shows columns s → Steps p evaluates columns s.ra c }
 {}
 
 /// From columns that show the start of a described chain its tables lead, call by call, to columns
 /// that show each caller, up to the end.
 pub fn chain_is_walked()
-    ensures { (forms : Forms) (p : Process) (evaluates : Evaluates) (functions : List Function) (s : State) (calls : List Call) (columns : Columns) →
-        IsDescribedChain forms p functions s calls → Shows columns s → IsWalk forms p evaluates functions columns s calls }
+    ensures { (p : Process) (evaluates : Evaluates) (functions : List Function) (s : State) (calls : List Call) (columns : Columns) →
+        IsDescribedChain p functions s calls → Shows columns s → IsWalk p evaluates functions columns s calls }
 {}
 
 /// The chain of a valid start is described.
 pub fn valid_chain_is_described()
-    ensures { (forms : Forms) (p : Process) (start : Columns) (resumes : List (ℕ × ℕ)) (functions : List Function) (s : State) (calls : List Call) →
-        IsValid forms p start resumes functions s calls → IsDescribedChain forms p functions s calls }
+    ensures { (p : Process) (start : Columns) (resumes : List (ℕ × ℕ)) (functions : List Function) (s : State) (calls : List Call) →
+        IsValid p start resumes functions s calls → IsDescribedChain p functions s calls }
 {}
 
 /// Stack pointers strictly rise along a chain.
 pub fn stack_pointers_rise()
-    ensures { (forms : Forms) (p : Process) (functions : List Function) (s : State) (calls : List Call) →
-        IsChain p.image (IsUncovered forms p) functions s calls → StacksRise (states_of s calls) }
+    ensures { (p : Process) (functions : List Function) (s : State) (calls : List Call) →
+        IsChain p.image (IsUncovered p) functions s calls → StacksRise (states_of s calls) }
 {}
 
 /// Two described chains of one start go through the same states, and what is delivered to them is
 /// one, whatever lists of functions they are over.
 pub fn delivery_is_one()
-    ensures states { (forms : Forms) (p : Process) (functions others : List Function) (s : State) (calls more : List Call) →
-        IsProcess p → IsDescribedChain forms p functions s calls → IsDescribedChain forms p others s more → states_of s calls ≡ states_of s more }
-    ensures delivery { (forms : Forms) (p : Process) (functions others : List Function) (s : State) (calls more : List Call) (exception : ℕ) →
-        IsProcess p → IsDescribedChain forms p functions s calls → IsDescribedChain forms p others s more → delivery_of exception s calls ≡ delivery_of exception s more }
+    ensures states { (p : Process) (functions others : List Function) (s : State) (calls more : List Call) →
+        IsProcess p → IsDescribedChain p functions s calls → IsDescribedChain p others s more → states_of s calls ≡ states_of s more }
+    ensures delivery { (p : Process) (functions others : List Function) (s : State) (calls more : List Call) (exception : ℕ) →
+        IsProcess p → IsDescribedChain p functions s calls → IsDescribedChain p others s more → delivery_of exception s calls ≡ delivery_of exception s more }
 {}
 
 /// Over functions that share no address, two described chains of one start are one.
 pub fn chain_is_one()
-    ensures { (forms : Forms) (p : Process) (functions : List Function) (s : State) (calls more : List Call) → IsProcess p → AllPairs FunctionsApart functions →
-        IsDescribedChain forms p functions s calls → IsDescribedChain forms p functions s more → calls ≡ more }
+    ensures { (p : Process) (functions : List Function) (s : State) (calls more : List Call) → IsProcess p → AllPairs FunctionsApart functions →
+        IsDescribedChain p functions s calls → IsDescribedChain p functions s more → calls ≡ more }
 {}
 
 /// What a prologue saves lies between its last stack pointer and the return address.

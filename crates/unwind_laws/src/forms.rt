@@ -4,7 +4,7 @@
 ghost use Rattle.std.specs.Prelude.{◌≡◌, ℕ, ◌+◌, ◌-◌, ◌^◌, ◌≤◌, ◌∷◌, [], true, codes};
 ghost use Rattle.std.specs.List.{AllByRecursion};
 ghost use Rattle.unwind_definitions.specs.Entries.{ACie, AFde, AreEntries};
-ghost use Rattle.unwind_definitions.specs.Forms.{emitted};
+ghost use Rattle.unwind_definitions.specs.Augmentation.{is_version, is_augmentation};
 ghost use Rattle.unwind_definitions.specs.Pointers.{Bases};
 ghost use Rattle.unwind_laws.specs.Emitted.{Four, signed_of, start_of, table, cie, fde};
 
@@ -12,8 +12,8 @@ ghost use Rattle.unwind_laws.specs.Emitted.{Four, signed_of, start_of, table, ci
 /// 10.6.1.
 pub fn emitted_forms_are_read()
     // The version of entries in .eh_frame.
-    ensures version { emitted.version 1 ≡ true }
-    ensures augmentations { AllByRecursion (λ letters. emitted.augmentation letters ≡ true) (codes "zR" ∷ codes "zPR" ∷ codes "zPLR" ∷ []) }
+    ensures version { is_version 1 ≡ true }
+    ensures augmentations { AllByRecursion (λ letters. is_augmentation letters ≡ true) (codes "zR" ∷ codes "zPR" ∷ codes "zPLR" ∷ []) }
     // Each encoding of a function's start.
     ensures addresses { (encoding : ℕ) → emitted.address encoding ≡ true }
     // Nop, the advances with an operand, undefined, remembering and restoring a state, and the CFA by a
@@ -25,5 +25,5 @@ pub fn emitted_forms_are_read()
 /// length and the program of the description are, they read so. The range has to end below 2^64.
 pub fn emitted_entries_are_spelled()
     ensures { (bases : Bases) (base : ℕ) (start size front back : Four) → start_of base start + signed_of size ≤ 2 ^ 64 - 1 →
-        AreEntries emitted bases (table base start size front back) 0 (ACie (cie base) ∷ AFde (fde base start size front back) ∷ []) }
+        AreEntries bases (table base start size front back) 0 (ACie (cie base) ∷ AFde (fde base start size front back) ∷ []) }
 {}

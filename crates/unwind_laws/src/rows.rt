@@ -2,7 +2,6 @@
 
 ghost use Rattle.std.specs.Prelude.{◌≡◌, ℕ, List, [], None, Ok, false, true, OnOk};
 ghost use Rattle.memory_image.specs.Image.{Span};
-ghost use Rattle.unwind_definitions.specs.Forms.{Forms};
 ghost use Rattle.unwind_definitions.specs.Input.{Input};
 ghost use Rattle.unwind_definitions.specs.Pointers.{Bases};
 ghost use Rattle.unwind_definitions.specs.Instructions.{Coding, Rule, Instruction};
@@ -22,7 +21,7 @@ ghost use Rattle.unwind_laws.specs.Undoes.{Undoes, AreRules, ruled};
 /// Reading the common program whole, and then a description's up to an address, one instruction
 /// after another and up to the first fault, gives the row of the two whole programs.
 pub fn reading_gives_row()
-    ensures { (forms : Forms) (coding : Coding) (start pc : ℕ) (common own : Input) → ReadsRow forms coding start pc common own }
+    ensures { (coding : Coding) (start pc : ℕ) (common own : Input) → ReadsRow coding start pc common own }
 {}
 
 /// The row of a frame whose prologue has run gives its caller: the caller's state, and every
@@ -48,9 +47,9 @@ pub fn outermost_row_undoes()
 
 /// The rows of a function undo the steps that a state has run that is stopped in its prologue.
 pub fn interrupted_row_undoes()
-    ensures { (forms : Forms) (bases : Bases) (evaluates : Evaluates) (image : List Span) (f : Function) (fde : Fde) (done later : List PrologueStep) (t s : State) (columns : Columns) →
-        IsFunction SystemV f → f.outermost ≡ false → DescribesRows forms bases f fde → StandsAfter image f done later t s → IsState t → Shows columns s →
-        HasRow forms bases fde s.ra (λ run. Undoes evaluates image run t columns) }
+    ensures { (bases : Bases) (evaluates : Evaluates) (image : List Span) (f : Function) (fde : Fde) (done later : List PrologueStep) (t s : State) (columns : Columns) →
+        IsFunction SystemV f → f.outermost ≡ false → DescribesRows bases f fde → StandsAfter image f done later t s → IsState t → Shows columns s →
+        HasRow bases fde s.ra (λ run. Undoes evaluates image run t columns) }
 {}
 
 /// The caller by a row is what its rules give one after another, by ascending column and up to the

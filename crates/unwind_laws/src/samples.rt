@@ -1,7 +1,6 @@
 //! Processes that are valid, byte for byte, and what is delivered there.
 
 ghost use Rattle.std.specs.Prelude.{◌≡◌, ◌≢◌, ◌-◌, ◌<◌, ℕ, List, [], ◌∷◌, Some, Ok, Err, false};
-ghost use Rattle.unwind_definitions.specs.Forms.{emitted, whole};
 ghost use Rattle.unwind_definitions.specs.Prologue.{Windows, steps_of};
 ghost use Rattle.unwind_definitions.specs.Entered.{IsEntered, stack_after};
 ghost use Rattle.unwind_definitions.specs.declared.error.Error.TheVariants.{UnexpectedEof};
@@ -24,8 +23,8 @@ ghost use Rattle.unwind_laws.specs.Windows as windows;
 /// A call of a function that pushes RBX, from a caller that returns to 0.
 pub fn one_call_is_valid()
     ensures process { IsProcess pushing.process }
-    ensures whole { IsValid whole pushing.process (columns_of pushing.start) [] (pushing.function ∷ []) pushing.start pushing.calls }
-    ensures emitted { IsValid emitted pushing.process (columns_of pushing.start) [] (pushing.function ∷ []) pushing.start pushing.calls }
+    ensures whole { IsValid pushing.process (columns_of pushing.start) [] (pushing.function ∷ []) pushing.start pushing.calls }
+    ensures emitted { IsValid pushing.process (columns_of pushing.start) [] (pushing.function ∷ []) pushing.start pushing.calls }
     ensures delivery { delivery_of 0 pushing.start pushing.calls ≡ pushing.delivery }
 {}
 
@@ -37,8 +36,8 @@ pub fn other_slot_is_no_entering()
 /// Three calls of that function, by itself.
 pub fn three_calls_are_valid()
     ensures process { IsProcess pushing.process_of_three }
-    ensures whole { IsValid whole pushing.process_of_three (columns_of pushing.start) [] (pushing.function ∷ []) pushing.start pushing.calls_of_three }
-    ensures emitted { IsValid emitted pushing.process_of_three (columns_of pushing.start) [] (pushing.function ∷ []) pushing.start pushing.calls_of_three }
+    ensures whole { IsValid pushing.process_of_three (columns_of pushing.start) [] (pushing.function ∷ []) pushing.start pushing.calls_of_three }
+    ensures emitted { IsValid pushing.process_of_three (columns_of pushing.start) [] (pushing.function ∷ []) pushing.start pushing.calls_of_three }
     ensures delivery { delivery_of 0 pushing.start pushing.calls_of_three ≡ pushing.delivery_of_three }
 {}
 
@@ -46,8 +45,8 @@ pub fn three_calls_are_valid()
 /// table that also has a description of other code.
 pub fn calls_of_an_outermost_function_are_valid()
     ensures process { IsProcess returning.process }
-    ensures whole { IsValid whole returning.process (columns_of returning.start) [] returning.functions returning.start returning.calls }
-    ensures emitted { IsValid emitted returning.process (columns_of returning.start) [] returning.functions returning.start returning.calls }
+    ensures whole { IsValid returning.process (columns_of returning.start) [] returning.functions returning.start returning.calls }
+    ensures emitted { IsValid returning.process (columns_of returning.start) [] returning.functions returning.start returning.calls }
     ensures delivery { delivery_of 0 returning.start returning.calls ≡ returning.delivery }
 {}
 
@@ -60,8 +59,8 @@ pub fn state_stands_inside_a_prologue()
 /// its body has a lower stack pointer than its prologue left.
 pub fn calls_through_a_frame_pointer_are_valid()
     ensures process { IsProcess storing.process }
-    ensures whole { IsValid whole storing.process (columns_of storing.start) [] storing.functions storing.start storing.calls }
-    ensures emitted { IsValid emitted storing.process (columns_of storing.start) [] storing.functions storing.start storing.calls }
+    ensures whole { IsValid storing.process (columns_of storing.start) [] storing.functions storing.start storing.calls }
+    ensures emitted { IsValid storing.process (columns_of storing.start) [] storing.functions storing.start storing.calls }
     ensures lower { storing.caller.sp < stack_after (storing.last.sp - 8) (steps_of storing.framed.prologue) }
     ensures delivery { delivery_of 0 storing.start storing.calls ≡ storing.delivery }
 {}
@@ -69,21 +68,21 @@ pub fn calls_through_a_frame_pointer_are_valid()
 /// Three functions, two of them with language tables: the second runs a cleanup, the third catches.
 pub fn calls_are_caught()
     ensures process { IsProcess three.process }
-    ensures whole { IsValid whole three.process (columns_of three.start) three.resumes three.functions three.start three.calls }
-    ensures emitted { IsValid emitted three.process (columns_of three.start) three.resumes three.functions three.start three.calls }
+    ensures whole { IsValid three.process (columns_of three.start) three.resumes three.functions three.start three.calls }
+    ensures emitted { IsValid three.process (columns_of three.start) three.resumes three.functions three.start three.calls }
     ensures delivery { delivery_of three.exception three.start three.calls ≡ three.delivery }
 {}
 
 /// The same by a header table.
 pub fn calls_by_a_header_are_caught()
     ensures process { IsProcess three.header_process }
-    ensures whole { IsValid whole three.header_process (columns_of three.start) three.resumes three.functions three.start three.calls }
+    ensures whole { IsValid three.header_process (columns_of three.start) three.resumes three.functions three.start three.calls }
 {}
 
 /// The same where the third function's call is in no site of its language table.
 pub fn unlisted_call_ends_the_program()
-    ensures whole { IsValid whole three.unlisted_process (columns_of three.start) three.resumes three.functions three.start three.unlisted_calls }
-    ensures emitted { IsValid emitted three.unlisted_process (columns_of three.start) three.resumes three.functions three.start three.unlisted_calls }
+    ensures whole { IsValid three.unlisted_process (columns_of three.start) three.resumes three.functions three.start three.unlisted_calls }
+    ensures emitted { IsValid three.unlisted_process (columns_of three.start) three.resumes three.functions three.start three.unlisted_calls }
     ensures action { action_at three.fc (0x401070 - 1) ≡ Terminate }
     ensures delivery { delivery_of three.exception three.start three.unlisted_calls ≡ three.unlisted_delivery }
 {}
@@ -91,13 +90,13 @@ pub fn unlisted_call_ends_the_program()
 /// The same where the functions lie in two modules.
 pub fn calls_through_two_modules_are_caught()
     ensures process { IsProcess three.process_of_two }
-    ensures emitted { IsValid emitted three.process_of_two (columns_of three.start) three.resumes three.functions three.start three.calls }
+    ensures emitted { IsValid three.process_of_two (columns_of three.start) three.resumes three.functions three.start three.calls }
 {}
 
 /// The same where the second function calls itself twice: its cleanup runs three times.
 pub fn each_call_is_cleaned()
     ensures process { IsProcess three.deep_process }
-    ensures emitted { IsValid emitted three.deep_process (columns_of three.deep_start) three.resumes three.functions three.deep_start three.deep_calls }
+    ensures emitted { IsValid three.deep_process (columns_of three.deep_start) three.resumes three.functions three.deep_start three.deep_calls }
     ensures delivery { delivery_of three.exception three.deep_start three.deep_calls ≡ three.deep_delivery }
 {}
 
@@ -105,7 +104,7 @@ pub fn each_call_is_cleaned()
 /// stack ends there.
 pub fn call_from_outside_is_valid()
     ensures process { IsProcess three.process_of_first }
-    ensures emitted { IsValid emitted three.process_of_first (columns_of three.start) [] (three.fa ∷ []) three.start (three.first_call ∷ []) }
+    ensures emitted { IsValid three.process_of_first (columns_of three.start) [] (three.fa ∷ []) three.start (three.first_call ∷ []) }
     ensures outside { three.second.ra ≢ 0 }
     ensures delivery { delivery_of three.exception three.start (three.first_call ∷ []) ≡ three.first_delivery }
 {}

@@ -3,7 +3,7 @@
 ghost use Rattle.std.specs.Prelude.{◌≡◌, ℕ, ◌<◌, ◌≤◌, ◌^◌, List, ◌∷◌, Some, Result, Ok, Err, is_some};
 ghost use Rattle.std.specs.List.{Contains};
 ghost use Rattle.memory_image.specs.Image.{Span, IsLaidOut};
-ghost use Rattle.unwind_definitions.specs.Forms.{Forms, is_among};
+ghost use Rattle.unwind_definitions.specs.Membership.{is_among};
 ghost use Rattle.unwind_definitions.specs.Input.{Input};
 ghost use Rattle.unwind_definitions.specs.Pointers.{Bases};
 ghost use Rattle.unwind_definitions.specs.Entries.{Entry, Fde, Letters, AreEntries, augmentation_data};
@@ -36,28 +36,28 @@ pub fn letters_are_told()
 /// A scan of a table whose entries all read answers the first description that contains the
 /// address, or that there is none.
 pub fn scan_finds_first()
-    ensures { (forms : Forms) (bases : Bases) (table : Input) (pc : ℕ) (entries : List Entry) → table.offset ≡ 0 → AreEntries forms bases table 0 entries →
-        scan forms bases table pc ≡ found_among (fdes_of entries) pc }
+    ensures { (bases : Bases) (table : Input) (pc : ℕ) (entries : List Entry) → table.offset ≡ 0 → AreEntries bases table 0 entries →
+        scan bases table pc ≡ found_among (fdes_of entries) pc }
 {}
 
 /// For an address inside a described function a scan finds that function's description.
 pub fn function_is_found()
-    ensures { (forms : Forms) (image : List Span) (m : Module) (functions : List Function) (d : DescribesModule forms image m functions) (f : Function) (a : ℕ) →
-        Contains functions f → f.start ≤ a → a < f.end → FindsFunction forms image m d.frame f a }
+    ensures { (image : List Span) (m : Module) (functions : List Function) (d : DescribesModule image m functions) (f : Function) (a : ℕ) →
+        Contains functions f → f.start ≤ a → a < f.end → FindsFunction image m d.frame f a }
 {}
 
 /// For an address that no description contains a scan finds none.
 pub fn uncovered_is_not_found()
-    ensures { (forms : Forms) (image : List Span) (m : Module) (a : ℕ) (u : CoversNot forms image m a) →
-        scan forms (bases_of m u.frame) (input_at image u.frame) a ≡ nothing_found }
+    ensures { (image : List Span) (m : Module) (a : ℕ) (u : CoversNot image m a) →
+        scan (bases_of m u.frame) (input_at image u.frame) a ≡ nothing_found }
 {}
 
 /// Of a described module's header table the last pair that starts at or below an address names a
 /// description, which stands at its own offset, and which a scan answers where it contains the
 /// address; where it doesn't, or there is no such pair, a scan finds none.
 pub fn header_table_answers_as_a_scan()
-    ensures { (forms : Forms) (image : List Span) (m : Module) (functions : List Function) (d : DescribesModule forms image m functions) (a h : ℕ) (table : IsHeaderTable image h d.frame (fdes_of d.entries)) →
-        BoundaryAnswers forms image m d.frame table.pairs a }
+    ensures { (image : List Span) (m : Module) (functions : List Function) (d : DescribesModule image m functions) (a h : ℕ) (table : IsHeaderTable image h d.frame (fdes_of d.entries)) →
+        BoundaryAnswers image m d.frame table.pairs a }
 {}
 
 /// The header of a described module reads, whatever its pointers may be relative to: it leads to the
@@ -65,12 +65,12 @@ pub fn header_table_answers_as_a_scan()
 /// address, a scan answers the same; so what its table answers is what a scan does.
 pub fn header_search_answers_as_a_scan()
     ensures reads { (image : List Span) (h frame : ℕ) (fdes : List Fde) (bases : Bases) (table : IsHeaderTable image h frame fdes) → header bases (input_at image h) ≡ Ok (listing h bases frame fdes table.listed) }
-    ensures answers { (forms : Forms) (image : List Span) (m : Module) (functions : List Function) (d : DescribesModule forms image m functions) (h : ℕ) (bases : Bases) (table : IsHeaderTable image h d.frame (fdes_of d.entries)) (pc : ℕ) (found : FrameHeader) (t : PairTable) (answer : Result Fde Error) →
-        IsLaidOut 0 image → header bases (input_at image h) ≡ Ok found → table_in found ≡ Some t → IsTableAnswer forms (bases_of m d.frame) (input_at image d.frame) t pc answer →
-        answer ≡ scan forms (bases_of m d.frame) (input_at image d.frame) pc }
-    ensures exact { (forms : Forms) (image : List Span) (m : Module) (functions : List Function) (d : DescribesModule forms image m functions) (h : ℕ) (bases : Bases) (table : IsHeaderTable image h d.frame (fdes_of d.entries)) (pc : ℕ) (found : FrameHeader) (t : PairTable) →
+    ensures answers { (image : List Span) (m : Module) (functions : List Function) (d : DescribesModule image m functions) (h : ℕ) (bases : Bases) (table : IsHeaderTable image h d.frame (fdes_of d.entries)) (pc : ℕ) (found : FrameHeader) (t : PairTable) (answer : Result Fde Error) →
+        IsLaidOut 0 image → header bases (input_at image h) ≡ Ok found → table_in found ≡ Some t → IsTableAnswer (bases_of m d.frame) (input_at image d.frame) t pc answer →
+        answer ≡ scan (bases_of m d.frame) (input_at image d.frame) pc }
+    ensures exact { (image : List Span) (m : Module) (functions : List Function) (d : DescribesModule image m functions) (h : ℕ) (bases : Bases) (table : IsHeaderTable image h d.frame (fdes_of d.entries)) (pc : ℕ) (found : FrameHeader) (t : PairTable) →
         IsLaidOut 0 image → header bases (input_at image h) ≡ Ok found → table_in found ≡ Some t →
-        table_answer forms (bases_of m d.frame) (input_at image d.frame) t pc ≡ scan forms (bases_of m d.frame) (input_at image d.frame) pc }
+        table_answer (bases_of m d.frame) (input_at image d.frame) t pc ≡ scan (bases_of m d.frame) (input_at image d.frame) pc }
 {}
 
 /// The search of a header's table by halving finds what it may find, on every table. Where all pairs
@@ -96,5 +96,5 @@ pub fn described_language_table_asks()
 /// The description that is found for a described function asks what the function does: it names a
 /// personality where the function has a language table, and the table gives its actions.
 pub fn described_function_asks()
-    ensures { (forms : Forms) (image : List Span) (m : Module) (frame : ℕ) (f : Function) (a : ℕ) → IsFunction SystemV f → (finds : FindsFunction forms image m frame f a) → AsksAs image (bases_of m frame) f finds.fde }
+    ensures { (image : List Span) (m : Module) (frame : ℕ) (f : Function) (a : ℕ) → IsFunction SystemV f → (finds : FindsFunction image m frame f a) → AsksAs image (bases_of m frame) f finds.fde }
 {}

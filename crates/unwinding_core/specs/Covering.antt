@@ -3,7 +3,6 @@ use Rattle.std.proofs.Common.{◌≡◌, ℕ, zero, suc, Bool, true, false, Opti
 use Rattle.std.specs.Prelude.{IsTrue, length}
 use Rattle.unwind_definitions.specs.declared.error.Error.{Error as Fault}
 use Rattle.unwind_definitions.specs.Faults.{◌>>=◌}
-use Rattle.unwind_definitions.specs.Forms.{Forms, emitted}
 use Rattle.unwind_definitions.specs.Input.{Input}
 use Rattle.unwind_definitions.specs.Pointers.{Bases}
 use Rattle.unwind_definitions.specs.Entries.{Fde, Entry, ACie, AFde, Found, entry_at}
@@ -11,7 +10,7 @@ use Rattle.unwind_definitions.specs.Row.{covers_pc}
 use Rattle.unwind_definitions.specs.Scan.{scan, scan_from, scan_after, found_or}
 use Rattle.unwinding_core.specs.Finding.{FoundFde, found_in, scanned_in}
 
-module _ (forms : Forms) (bases : Bases) (table : Input) (pc : ℕ) (fde : Fde) where
+module _ (bases : Bases) (table : Input) (pc : ℕ) (fde : Fde) where
   in_entry : (entry : Entry) (later : Result Fde Fault) → (later ≡ Ok fde → IsTrue (covers_pc fde pc)) → found_or pc entry later ≡ Ok fde → IsTrue (covers_pc fde pc)
   in_entry (ACie cie) later behind e = behind e
   in_entry (AFde first) later behind e = go (covers_pc first pc) refl e
@@ -20,26 +19,26 @@ module _ (forms : Forms) (bases : Bases) (table : Input) (pc : ℕ) (fde : Fde) 
       go true is e = let same : first ≡ fde = cc in subst (λ (f : Fde). IsTrue (covers_pc f pc)) same is
       go false is e = behind e
 
-  covers_from : (turns offset : ℕ) → scan_from forms turns bases table pc offset ≡ Ok fde → IsTrue (covers_pc fde pc)
+  covers_from : (turns offset : ℕ) → scan_from turns bases table pc offset ≡ Ok fde → IsTrue (covers_pc fde pc)
   covers_from zero offset e = absurd cc
-  covers_from (suc turns) offset e = go (λ next later. covers_from turns next later) (entry_at forms bases table offset) e
+  covers_from (suc turns) offset e = go (λ next later. covers_from turns next later) (entry_at bases table offset) e
     where
-      go : ((next : ℕ) → scan_from forms turns bases table pc next ≡ Ok fde → IsTrue (covers_pc fde pc)) → (r : Result (Option Found) Fault) →
-          (r >>= λ found. scan_after pc found (scan_from forms turns bases table pc)) ≡ Ok fde → IsTrue (covers_pc fde pc)
+      go : ((next : ℕ) → scan_from turns bases table pc next ≡ Ok fde → IsTrue (covers_pc fde pc)) → (r : Result (Option Found) Fault) →
+          (r >>= λ found. scan_after pc found (scan_from turns bases table pc)) ≡ Ok fde → IsTrue (covers_pc fde pc)
       go behind (Err x) e = absurd cc
       go behind (Ok None) e = absurd cc
-      go behind (Ok (Some found)) e = in_entry found.entry (scan_from forms turns bases table pc found.next) (behind found.next) e
+      go behind (Ok (Some found)) e = in_entry found.entry (scan_from turns bases table pc found.next) (behind found.next) e
 
-  pub scan-covers : scan forms bases table pc ≡ Ok fde → IsTrue (covers_pc fde pc)
+  pub scan-covers : scan bases table pc ≡ Ok fde → IsTrue (covers_pc fde pc)
   unfolding scan
   scan-covers e = covers_from (suc (length table.bytes)) 0 e
 
-pub in_found : (bases : Bases) (table : Input) (pc : ℕ) (found : FoundFde) (r : Result Fde Fault) → scan emitted bases table pc ≡ r → found_in bases table r ≡ Some found → IsTrue (covers_pc found.fde pc)
+pub in_found : (bases : Bases) (table : Input) (pc : ℕ) (found : FoundFde) (r : Result Fde Fault) → scan bases table pc ≡ r → found_in bases table r ≡ Some found → IsTrue (covers_pc found.fde pc)
 in_found bases table pc found (Ok fde) is e =
     let same : fde ≡ found.fde = cc in
-    subst (λ (f : Fde). IsTrue (covers_pc f pc)) same (scan-covers emitted bases table pc fde is)
+    subst (λ (f : Fde). IsTrue (covers_pc f pc)) same (scan-covers bases table pc fde is)
 in_found bases table pc found (Err x) is e = absurd cc
 
 -- what a scan finds contains the address
 pub scanned_covers : (bases : Bases) (table : Input) (pc : ℕ) (found : FoundFde) → scanned_in bases table pc ≡ Some found → IsTrue (covers_pc found.fde pc)
-scanned_covers bases table pc found e = in_found bases table pc found (scan emitted bases table pc) refl e
+scanned_covers bases table pc found e = in_found bases table pc found (scan bases table pc) refl e

@@ -2,7 +2,6 @@
 use Rattle.std.specs.Prelude.{ℕ, List, Option, Some, None, Result, Ok, Err}
 use Rattle.memory_image.specs.Image.{Span}
 use Rattle.unwind_definitions.specs.declared.error.Error.{Error as Fault}
-use Rattle.unwind_definitions.specs.Forms.{emitted}
 use Rattle.unwind_definitions.specs.Input.{Input}
 use Rattle.unwind_definitions.specs.LanguageTable.{input_at}
 use Rattle.unwind_definitions.specs.Module.{no_bases}
@@ -34,7 +33,7 @@ found_in bases table (Err e) = None
 
 -- by a scan of a frame table: its first description that contains pc, unless an entry before it can't be read
 abbrev pub scanned_in : Bases → Input → ℕ → Option FoundFde
-scanned_in bases table pc = found_in bases table (scan emitted bases table pc)
+scanned_in bases table pc = found_in bases table (scan bases table pc)
 
 -- by a scan of the frame table at an address
 abbrev pub scanned_by : Bases → List Span → ℕ → ℕ → Option FoundFde
@@ -42,4 +41,4 @@ scanned_by bases image frame pc = scanned_in (at_frame bases frame) (input_at im
 
 -- the same, where the text alone is known
 abbrev pub scanned : Option ℕ → List Span → ℕ → ℕ → Option FoundFde
-scanned text image frame pc = found_in (table_bases text frame) (input_at image frame) (scan emitted (table_bases text frame) (input_at image frame) pc)
+scanned text image frame pc = found_in (table_bases text frame) (input_at image frame) (scan (table_bases text frame) (input_at image frame) pc)

@@ -1,7 +1,6 @@
 -- A frame: a description that was found for an address, and its row there.
 use Rattle.std.specs.Prelude.{◌≡◌, ℕ, Option, Some, None, Result, Ok, Err}
 use Rattle.unwind_definitions.specs.declared.error.Error.{Error as Fault}
-use Rattle.unwind_definitions.specs.Forms.{emitted}
 use Rattle.unwind_definitions.specs.Row.{Run, row_at}
 use Rattle.frame_rows.specs.Rows.{IsRowOf}
 use Rattle.unwinding_core.specs.declared.frame.StepError.{StepError}
@@ -11,8 +10,8 @@ use Rattle.unwinding_core.specs.FrameValue.{FrameValue}
 
 -- a frame of the description with its row at an address, or the row's fault
 abbrev pub GivesRowOf : Result FrameValue Fault → FoundFde → ℕ → Type 0
-GivesRowOf (Ok frame) found a = (frame.found ≡ found) × ((run : Run) × (row_at emitted found.bases found.fde a ≡ Ok run) × IsRowOf frame.row run)
-GivesRowOf (Err fault) found a = row_at emitted found.bases found.fde a ≡ Err fault
+GivesRowOf (Ok frame) found a = (frame.found ≡ found) × ((run : Run) × (row_at found.bases found.fde a ≡ Ok run) × IsRowOf frame.row run)
+GivesRowOf (Err fault) found a = row_at found.bases found.fde a ≡ Err fault
 
 -- no frame where nothing is found, else that of the description that is found
 abbrev pub GivesFrame : ℕ → Option FoundFde → Result (Option FrameValue) StepError → Type 0

@@ -6,7 +6,6 @@ use Rattle.memory_image.specs.Image.{Span}
 use Rattle.unwind_definitions.specs.declared.error.Error.{Error as Fault}
 use Rattle.unwind_definitions.specs.declared.error.Error.TheVariants.{NoUnwindInfoForAddress}
 use Rattle.unwind_definitions.specs.Faults.{◌>>=◌}
-use Rattle.unwind_definitions.specs.Forms.{Forms, emitted}
 use Rattle.unwind_definitions.specs.Input.{Input}
 use Rattle.unwind_definitions.specs.LanguageTable.{input_at}
 use Rattle.unwind_definitions.specs.Pointers.{Bases}
@@ -24,7 +23,7 @@ use Rattle.unwinding_core.specs.Placed.{Placed, in_text, FindsPlaced, FindsByPla
 use Rattle.unwinding_core.specs.Covering.{scanned_covers}
 
 -- ---- by a header's table
-module _ (forms : Forms) (bases : Bases) (frame : Input) (pc : ℕ) (fde : Fde) where
+module _ (bases : Bases) (frame : Input) (pc : ℕ) (fde : Fde) where
   contained : (k : Fde) (b : Bool) → covers_pc k pc ≡ b → cond b (Ok k) (Err NoUnwindInfoForAddress) ≡ Ok fde → IsTrue (covers_pc fde pc)
   contained k true is e = let same : k ≡ fde = cc in subst (λ (f : Fde). IsTrue (covers_pc f pc)) same is
   contained k false is e = absurd cc
@@ -33,23 +32,23 @@ module _ (forms : Forms) (bases : Bases) (frame : Input) (pc : ℕ) (fde : Fde) 
   stands (Ok k) e = contained k (covers_pc k pc) refl e
   stands (Err x) e = absurd cc
 
-  named : (place : Result (Option (ℕ × ℕ)) Fault) → found_by forms bases frame pc place ≡ Ok fde → IsTrue (covers_pc fde pc)
+  named : (place : Result (Option (ℕ × ℕ)) Fault) → found_by bases frame pc place ≡ Ok fde → IsTrue (covers_pc fde pc)
   named (Err x) e = absurd cc
   named (Ok None) e = absurd cc
-  named (Ok (Some p)) e = stands (fde_at_address forms bases frame p.1) e
+  named (Ok (Some p)) e = stands (fde_at_address bases frame p.1) e
 
-  pub answer_covers : (t : PairTable) → table_answer forms bases frame t pc ≡ Ok fde → IsTrue (covers_pc fde pc)
+  pub answer_covers : (t : PairTable) → table_answer bases frame t pc ≡ Ok fde → IsTrue (covers_pc fde pc)
   answer_covers t e = named (boundary_in t pc) e
 
-or_covers : (bases : Bases) (frames : Input) (pc : ℕ) (found : FoundFde) (t : PairTable) (r : Result Fde Fault) → table_answer emitted bases frames t pc ≡ r → or_scanned bases frames pc (result_ok r) ≡ Some found → IsTrue (covers_pc found.fde pc)
+or_covers : (bases : Bases) (frames : Input) (pc : ℕ) (found : FoundFde) (t : PairTable) (r : Result Fde Fault) → table_answer bases frames t pc ≡ r → or_scanned bases frames pc (result_ok r) ≡ Some found → IsTrue (covers_pc found.fde pc)
 or_covers bases frames pc found t (Ok fde) is e =
     let same : fde ≡ found.fde = cc in
-    subst (λ (f : Fde). IsTrue (covers_pc f pc)) same (answer_covers emitted bases frames pc fde t is)
+    subst (λ (f : Fde). IsTrue (covers_pc f pc)) same (answer_covers bases frames pc fde t is)
 or_covers bases frames pc found t (Err x) is e = scanned_covers bases frames pc found e
 
 table_covers : (bases : Bases) (frames : Input) (pc : ℕ) (found : FoundFde) (t : Option PairTable) → by_table bases frames pc t ≡ Some found → IsTrue (covers_pc found.fde pc)
 table_covers bases frames pc found None e = scanned_covers bases frames pc found e
-table_covers bases frames pc found (Some t) e = or_covers bases frames pc found t (table_answer emitted bases frames t pc) refl e
+table_covers bases frames pc found (Some t) e = or_covers bases frames pc found t (table_answer bases frames t pc) refl e
 
 led_covers : (bases : Bases) (image : List Span) (pc : ℕ) (found : FoundFde) (l : Option Led) → by_led bases image pc l ≡ Some found → IsTrue (covers_pc found.fde pc)
 led_covers bases image pc found None e = absurd cc

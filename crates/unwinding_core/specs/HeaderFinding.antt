@@ -3,7 +3,6 @@ use Rattle.std.specs.Prelude.{ℕ, List, Option, Some, None, Result, Ok, Err}
 use Rattle.std.specs.Result.{result_ok}
 use Rattle.memory_image.specs.Image.{Span, word_at}
 use Rattle.unwind_definitions.specs.declared.error.Error.{Error as Fault}
-use Rattle.unwind_definitions.specs.Forms.{emitted}
 use Rattle.unwind_definitions.specs.Input.{Input}
 use Rattle.unwind_definitions.specs.LanguageTable.{input_at}
 use Rattle.unwind_definitions.specs.Pointers.{Bases, Pointer, Direct, Indirect}
@@ -45,7 +44,7 @@ led bases image h = led_by image (header (at_header bases h) (input_at image h))
 -- what a header's table finds, where there is one and it gives no error
 abbrev pub listed : Bases → Input → ℕ → Option PairTable → Option Fde
 listed bases frames pc None = None
-listed bases frames pc (Some t) = result_ok (table_answer emitted bases frames t pc)
+listed bases frames pc (Some t) = result_ok (table_answer bases frames t pc)
 
 -- what was found, and else what a scan finds
 abbrev pub or_scanned : Bases → Input → ℕ → Option Fde → Option FoundFde

@@ -3,7 +3,6 @@ use Rattle.std.specs.Prelude.{◌≡◌, ℕ, ◌+◌, ◌%◌, ◌^◌, ◌==�
 use Rattle.std.specs.Option.{unwrap_or}
 use Rattle.memory_image.specs.Image.{Span}
 use Rattle.unwind_definitions.specs.declared.error.Error.{Error as Fault}
-use Rattle.unwind_definitions.specs.Forms.{emitted}
 use Rattle.unwind_definitions.specs.Row.{Run, row_at, argument_size}
 use Rattle.unwind_definitions.specs.Caller.{Columns, Machine, StepFault, Table, caller_of}
 use Rattle.unwind_definitions.specs.LanguageSearch.{personality_address}
@@ -26,8 +25,8 @@ pub record FrameSeen : Type 0 where
 abbrev pub Shows : ℕ → Option FoundFde → Result (Option FrameSeen) StepFault → Type 0
 Shows a None seen = seen ≡ Ok None
 Shows a (Some found) (Ok None) = ⊥
-Shows a (Some found) (Ok (Some f)) = (f.value.found ≡ found) × (row_at emitted found.bases found.fde a ≡ Ok f.run) × IsRowOf f.value.row f.run
-Shows a (Some found) (Err e) = (fault : Fault) × (e ≡ Table fault) × (row_at emitted found.bases found.fde a ≡ Err fault)
+Shows a (Some found) (Ok (Some f)) = (f.value.found ≡ found) × (row_at found.bases found.fde a ≡ Ok f.run) × IsRowOf f.value.row f.run
+Shows a (Some found) (Err e) = (fault : Fault) × (e ≡ Table fault) × (row_at found.bases found.fde a ≡ Err fault)
 
 -- which answers a finder may give for an address of an image, each in so many counted steps
 abbrev pub Finds : Type 1

@@ -3,7 +3,6 @@
 ghost use Rattle.std.specs.Prelude.{◌≡◌, ◌+◌, ℕ, List, Option, Some, IsTrue};
 ghost use Rattle.std.specs.Option.{option_map};
 ghost use Rattle.memory_image.specs.Image.{Span};
-ghost use Rattle.unwind_definitions.specs.Forms.{emitted};
 ghost use Rattle.unwind_definitions.specs.Row.{covers_pc, row_at};
 ghost use Rattle.frame_rows.specs.Rows.{GivesRow, made};
 ghost use Rattle.unwinding_core.specs.Finding.{FoundFde};
@@ -40,7 +39,7 @@ impl<'a> FDESearchResult<'a> {
     ///
     /// The first fault of the row: those of [`Fde::unwind_info_for_address`].
     pub fn make_row(&self, address: u64, rows: &mut RowRoom<'a>) -> Result<(), Error>
-        ensures row { GivesRow (made result rows.new) (row_at emitted (answered self.now).bases (answered self.now).fde address) }
+        ensures row { GivesRow (made result rows.new) (row_at (answered self.now).bases (answered self.now).fde address) }
     {
         self.fde
             .make_row(&self.eh_frame, &self.bases, address, rows)

@@ -1,6 +1,5 @@
 use Rattle.std.proofs.Common.{[], sym, subst}
 use Rattle.std.proofs.lemmas.Result.{err_from_is_err_and}
-use Rattle.unwind_definitions.specs.Forms.{emitted}
 use Rattle.unwind_definitions.specs.Instructions.{Program, Coding, program}
 use Rattle.unwind_definitions.specs.Row.{from_common}
 use Rattle.encoded_pointers.specs.View.{at}
@@ -13,14 +12,14 @@ pub returns-in_err-run_program : goal.returns-in_err-run_program
 returns-in_err-run_program c =
     let coding : Coding = coding_in c.args.coding in
     let p = err_from_is_err_and c.from_residual.result c.from_residual.ensures.1 in
-    rw (p.1, p.2) (common_stops c.args.start c.args.pc (program emitted coding (at c.args.common)) (program emitted coding (at c.args.own)) c.in_err-run_program.field-0.0
+    rw (p.1, p.2) (common_stops c.args.start c.args.pc (program coding (at c.args.common)) (program coding (at c.args.own)) c.in_err-run_program.field-0.0
     (c.in_err-run_program.ensures 0 (from_common []) c.restart.ensures))
 
 pub returns : goal.returns
 returns c =
     let coding : Coding = coding_in c.args.coding in
-    let common : Program = program emitted coding (at c.args.common) in
-    let own : Program = program emitted coding (at c.args.own) in
+    let common : Program = program coding (at c.args.common) in
+    let own : Program = program coding (at c.args.own) in
     let first = c.in_ok-run_program.ensures 0 (from_common []) c.restart.ensures in
     let ran = subst (λ run. Represents 0 c.run_program.new.machine run) (sym (common_run c.args.start c.args.pc common own first.0 first.1)) first.2 in
     let begun = c.begin.ensures common.instructions ran in

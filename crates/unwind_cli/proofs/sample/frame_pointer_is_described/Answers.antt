@@ -1,6 +1,5 @@
 use Rattle.std.proofs.Common.{refl, arith}
 use Rattle.std.specs.Fmt.{digits}
-use Rattle.unwind_definitions.specs.Forms.{emitted}
 use Rattle.unwind_laws.specs.Storing as storing
 use Rattle.unwind_laws.proofs.StoringValid.{pointed_valid, reads_emitted}
 use Rattle.stack_report.specs.Digits.{hexadecimal}
@@ -10,7 +9,7 @@ use Rattle.unwind_cli.proofs.Samples.{described, shows_stored}
 use Rattle.unwind_cli.proofs.sample.frame_pointer_is_described.Goals as goal
 
 pub returns-clause-described : goal.returns-clause-described
-returns-clause-described c = described snapshot storing.functions storing.start storing.calls _ (refl, tt) (pointed_valid emitted reads_emitted) shows_stored (omega arith)
+returns-clause-described c = described snapshot storing.functions storing.start storing.calls _ (refl, tt) (pointed_valid reads_emitted) shows_stored (omega arith)
 
 pub returns-clause-written : goal.returns-clause-written
 unfolding digits hexadecimal state_fields state_line

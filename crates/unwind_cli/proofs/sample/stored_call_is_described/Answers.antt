@@ -1,5 +1,4 @@
 use Rattle.std.proofs.Common.{[], ◌∷◌, refl}
-use Rattle.unwind_definitions.specs.Forms.{emitted}
 use Rattle.unwind_laws.specs.Storing as storing
 use Rattle.unwind_laws.proofs.StoringValid.{pointed_valid, reads_emitted}
 use Rattle.unwind_cli.proofs.Samples.{first_described, shows_stored}
@@ -9,7 +8,7 @@ pub returns-clause-tables : goal.returns-clause-tables
 returns-clause-tables c = (refl, tt)
 
 pub returns-clause-call : goal.returns-clause-call
-returns-clause-call c = first_described storing.process _ [] storing.functions storing.start _ (record { callee = storing.framed; caller = storing.last } ∷ []) (pointed_valid emitted reads_emitted)
+returns-clause-call c = first_described storing.process _ [] storing.functions storing.start _ (record { callee = storing.framed; caller = storing.last } ∷ []) (pointed_valid reads_emitted)
 
 pub returns-clause-shows : goal.returns-clause-shows
 returns-clause-shows c = shows_stored

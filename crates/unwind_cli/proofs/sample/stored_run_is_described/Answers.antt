@@ -1,7 +1,6 @@
 use Rattle.std.proofs.Common.{◌≡◌, Some, refl, arith}
 use Rattle.std.specs.Fmt.{digits}
 use Rattle.unwind_definitions.specs.State.{CalleeSaved, RBX, RBP, R12, R13, R14, R15, column_of, value_of, Shows}
-use Rattle.unwind_definitions.specs.Forms.{emitted}
 use Rattle.unwind_laws.specs.Pushing.{start}
 use Rattle.unwind_laws.proofs.PushingValid.{one_valid, reads_emitted}
 use Rattle.unwind_arch.specs.Contexts.{columns_of}
@@ -22,7 +21,7 @@ shown : Shows (columns_of snapshot.start) start
 shown = record { ra = refl; sp = refl; saved = saved }
 
 pub returns-clause-described : goal.returns-clause-described
-returns-clause-described c = let w = one_valid emitted reads_emitted in record {
+returns-clause-described c = let w = one_valid reads_emitted in record {
   tables = (refl, tt);
   valid = record { are_functions = w.are_functions; modules = w.modules; no_others = w.no_others; shows = shown; chain = w.chain; resumed = w.resumed };
   shorter = omega arith;

@@ -1,7 +1,6 @@
 use Rattle.std.proofs.Common.{◌≡◌, [], ◌∷◌, Some, refl, arith}
 use Rattle.std.specs.Fmt.{digits}
 use Rattle.unwind_definitions.specs.State.{CalleeSaved, RBX, RBP, R12, R13, R14, R15, column_of, value_of, Shows}
-use Rattle.unwind_definitions.specs.Forms.{emitted}
 use Rattle.unwind_laws.specs.Pushing.{function, start, calls}
 use Rattle.unwind_laws.proofs.PushingValid.{one_valid, reads_emitted}
 use Rattle.unwind_laws.proofs.Walk.{valid_described}
@@ -26,8 +25,8 @@ shown = record { ra = refl; sp = refl; saved = saved }
 
 pub returns-clause-described : goal.returns-clause-described
 returns-clause-described c =
-    let w = one_valid emitted reads_emitted in
-    let described = valid_described emitted (process_of (space_of snapshot)) _ _ (function ∷ []) start calls w in
+    let w = one_valid reads_emitted in
+    let described = valid_described (process_of (space_of snapshot)) _ _ (function ∷ []) start calls w in
     (refl, record { tables = (refl, tt); described = described; shows = shown; shorter = omega arith })
 
 pub returns-clause-written : goal.returns-clause-written

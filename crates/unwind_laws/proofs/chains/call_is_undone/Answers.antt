@@ -2,4 +2,4 @@ use Rattle.unwind_laws.proofs.Walk.{one_step}
 use Rattle.unwind_laws.proofs.chains.call_is_undone.Goals as goal
 
 pub returns : goal.returns
-returns c forms p evaluates functions a s k columns can shows = one_step forms p evaluates functions a s k columns can shows
+returns c p evaluates functions a s k columns can shows = one_step p evaluates functions a s k columns can shows

@@ -2,4 +2,4 @@ use Rattle.unwind_laws.proofs.Walk.{valid_described}
 use Rattle.unwind_laws.proofs.chains.valid_chain_is_described.Goals as goal
 
 pub returns : goal.returns
-returns c forms p start resumes functions s calls valid = valid_described forms p start resumes functions s calls valid
+returns c p start resumes functions s calls valid = valid_described p start resumes functions s calls valid

@@ -9,8 +9,8 @@ pub returns-clause-reads : goal.returns-clause-reads
 returns-clause-reads c image h frame fdes bases table = header_read image h frame fdes bases table
 
 pub returns-clause-answers : goal.returns-clause-answers
-returns-clause-answers c forms image m functions d h bases table pc found t answer laid reads has by = search_answers forms image m functions d h bases table pc found t answer laid reads has by
+returns-clause-answers c image m functions d h bases table pc found t answer laid reads has by = search_answers image m functions d h bases table pc found t answer laid reads has by
 
 pub returns-clause-exact : goal.returns-clause-exact
-returns-clause-exact c forms image m functions d h bases table pc found t laid reads has =
-    search_answers forms image m functions d h bases table pc found t (table_answer forms (bases_of m d.frame) (input_at image d.frame) t pc) laid reads has (table_answer-is t pc forms (bases_of m d.frame) (input_at image d.frame))
+returns-clause-exact c image m functions d h bases table pc found t laid reads has =
+    search_answers image m functions d h bases table pc found t (table_answer (bases_of m d.frame) (input_at image d.frame) t pc) laid reads has (table_answer-is t pc (bases_of m d.frame) (input_at image d.frame))

@@ -2,4 +2,4 @@ use Rattle.unwind_laws.proofs.Scanned.{scan_is}
 use Rattle.unwind_laws.proofs.tables.scan_finds_first.Goals as goal
 
 pub returns : goal.returns
-returns c forms bases table pc entries start are = scan_is forms bases table pc entries start are
+returns c bases table pc entries start are = scan_is bases table pc entries start are

@@ -1,5 +1,4 @@
 use Rattle.std.proofs.Common.{◌≡◌, ◌-◌, ◌+◌, ◌<◌, ◌≤◌, ℕ, length}
-use Rattle.unwind_definitions.specs.Forms.{emitted}
 use Rattle.encoded_pointers.specs.Pointers.{bases_of}
 use Rattle.unwind_definitions.specs.Scan.{scan, scan_from}
 use Rattle.std.specs.Prelude.{IfSome}
@@ -10,7 +9,7 @@ use Rattle.eh_frame.proofs.entries.EhFrame.scan.Given as goal
 -- with turns enough, what is left gives what the whole table gives
 abbrev pub invariant-loop-found : goal.invariant-loop-found
 invariant-loop-found l = (l.offset ≤ length l.self.bytes.now) × (turns : ℕ) × (length l.self.bytes.now < turns + l.offset) ×
-    (scan emitted (bases_of l.bases) (table_of l.self) l.pc ≡ scan_from emitted turns (bases_of l.bases) (table_of l.self) l.pc l.offset) ×
+    (scan (bases_of l.bases) (table_of l.self) l.pc ≡ scan_from turns (bases_of l.bases) (table_of l.self) l.pc l.offset) ×
     IfSome l.known (λ cie. StandsIn (bases_of l.bases) (table_of l.self) (cie_of cie))
 
 abbrev pub decreases-loop-found : goal.decreases-loop-found

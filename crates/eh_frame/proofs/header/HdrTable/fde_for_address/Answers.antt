@@ -1,4 +1,3 @@
-use Rattle.unwind_definitions.specs.Forms.{emitted}
 use Rattle.encoded_pointers.specs.Pointers.{bases_of}
 use Rattle.eh_frame.specs.Views.{table_of}
 use Rattle.eh_frame.specs.Headers.{pairs_of}
@@ -6,13 +5,13 @@ use Rattle.eh_frame.proofs.Named.{answer_may, answer_named, answer_none, answer_
 use Rattle.eh_frame.proofs.header.HdrTable.fde_for_address.Goals as goal
 
 pub returns-clause-answer : goal.returns-clause-answer
-returns-clause-answer g c = answer_may emitted (bases_of c.args.bases.now) (table_of c.args.frame.now) (pairs_of c.args.self.now) c.args.pc c.search.result c.search.ensures.exact
+returns-clause-answer g c = answer_may (bases_of c.args.bases.now) (table_of c.args.frame.now) (pairs_of c.args.self.now) c.args.pc c.search.result c.search.ensures.exact
 
 pub returns-clause-named : goal.returns-clause-named
-returns-clause-named g c = answer_named emitted (bases_of c.args.bases.now) (table_of c.args.frame.now) (pairs_of c.args.self.now) c.args.pc c.search.result (answer_may emitted (bases_of c.args.bases.now) (table_of c.args.frame.now) (pairs_of c.args.self.now) c.args.pc c.search.result c.search.ensures.exact)
+returns-clause-named g c = answer_named (bases_of c.args.bases.now) (table_of c.args.frame.now) (pairs_of c.args.self.now) c.args.pc c.search.result (answer_may (bases_of c.args.bases.now) (table_of c.args.frame.now) (pairs_of c.args.self.now) c.args.pc c.search.result c.search.ensures.exact)
 
 pub returns-clause-none : goal.returns-clause-none
-returns-clause-none g c = answer_none emitted (bases_of c.args.bases.now) (table_of c.args.frame.now) (pairs_of c.args.self.now) c.args.pc c.search.result (answer_may emitted (bases_of c.args.bases.now) (table_of c.args.frame.now) (pairs_of c.args.self.now) c.args.pc c.search.result c.search.ensures.exact)
+returns-clause-none g c = answer_none (bases_of c.args.bases.now) (table_of c.args.frame.now) (pairs_of c.args.self.now) c.args.pc c.search.result (answer_may (bases_of c.args.bases.now) (table_of c.args.frame.now) (pairs_of c.args.self.now) c.args.pc c.search.result c.search.ensures.exact)
 
 pub returns-clause-fault : goal.returns-clause-fault
-returns-clause-fault g c = answer_fault emitted (bases_of c.args.bases.now) (table_of c.args.frame.now) (pairs_of c.args.self.now) c.args.pc c.search.result (answer_may emitted (bases_of c.args.bases.now) (table_of c.args.frame.now) (pairs_of c.args.self.now) c.args.pc c.search.result c.search.ensures.exact)
+returns-clause-fault g c = answer_fault (bases_of c.args.bases.now) (table_of c.args.frame.now) (pairs_of c.args.self.now) c.args.pc c.search.result (answer_may (bases_of c.args.bases.now) (table_of c.args.frame.now) (pairs_of c.args.self.now) c.args.pc c.search.result c.search.ensures.exact)
