@@ -1,3 +1,4 @@
+pub mod AnyPassesAre
 pub mod Apart
 pub mod Chains
 pub mod Counted

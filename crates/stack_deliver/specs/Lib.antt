@@ -1,3 +1,4 @@
+pub mod AnyPasses
 pub mod Causes
 pub mod Delivering
 pub mod Modules

@@ -16,7 +16,7 @@ mod walking;
 pub use delivering::{deliver, deliver_into};
 pub use delivery::{DeliverError, Delivery, Ending, Outcome, Stepped, Trail};
 pub use eh_frame::Error;
-pub use personality::passes_ask_the_personality;
+pub use personality::{a_handler_is_asked_for, deliveries_are_passes, passes_ask_the_personality};
 pub use resumes::{Resumes, first_entry_counts};
 pub use room::Room;
 pub use space::{Module, Space, SpaceError};

@@ -1,13 +1,20 @@
 // How the passes of a delivery and the personality of Rust hang together.
-ghost use Rattle.std.specs.Prelude.{◌≡◌, ◌≢◌, ◌↔◌, Bool, true, false, List, length, IsSome};
+ghost use Rattle.std.specs.Prelude.{◌≡◌, ◌≢◌, ◌↔◌, ℕ, Bool, true, false, List, Result, length, IsSome};
 ghost use Rattle.memory_image.specs.Image.{Span};
 ghost use Rattle.unwind_definitions.specs.Function.{Action, Catch};
+ghost use Rattle.unwind_definitions.specs.Row.{Run};
+ghost use Rattle.frame_rows.specs.RowValue.{RowValue};
 ghost use Rattle.unwind_arch.specs.declared.x86_64.Context.{Context};
 ghost use Rattle.unwind_arch.specs.Contexts.{columns_of};
 ghost use Rattle.unwinding_core.specs.FrameValue.{FrameValue};
 ghost use Rattle.unwinding_core.specs.Sample as sample;
 ghost use Rattle.unwinding_core.specs.Personalities.{Asked, searched};
-ghost use Rattle.stack_deliver.specs.Passes.{stops, pad_of};
+ghost use Rattle.unwinding_core.specs.Seen.{Thrown};
+ghost use Rattle.stack_deliver.specs.declared.delivery.DeliverError.{DeliverError};
+ghost use Rattle.stack_deliver.specs.AnyPasses.{stepping_in, rust_in, Search, search_of, IsSearchBy, IsPassBy, IsDeliveryBy};
+ghost use Rattle.stack_deliver.specs.Delivering.{Delivered, delivery_of};
+ghost use Rattle.stack_deliver.specs.Modules.{SpaceValue};
+ghost use Rattle.stack_deliver.specs.Passes.{PassEnd, stops, pad_of, cleanup_of};
 ghost use Rattle.stack_deliver.specs.Personality.{InSearch, InCleanup, IsAsked, AnswersCleanup, answer_for, code_of};
 ghost use Rattle.unwinding_core.specs.declared.abi.TheConstants.UnwindReasonCode.{CONTINUE_UNWIND, HANDLER_FOUND};
 
@@ -35,10 +42,37 @@ pub fn passes_ask_the_personality()
         (stops Phase.Cleanup action ≡ true) ↔ (code_of (answer_for asked image frame c interrupted) ≢ CONTINUE_UNWIND) }
 {}
 
-/// The premise of `passes_ask_the_personality` can be met: a frame whose function has a handler at
+/// The premises of the laws here can be met: a frame whose function has a handler at
 /// 0x1020 for its calls from 0x1000 on, in the search phase. The function does nothing.
 pub fn a_handler_is_asked_for()
     ensures asked { IsAsked sample.image sample.context false sample.frame (Catch 0x1020) }
     ensures search { InSearch sample.search_asked }
     ensures cleanup { InCleanup sample.cleanup_asked }
+    ensures registers { length sample.context.registers ≡ 16 }
+{}
+
+/// The passes of a delivery are the passes over any stack, by the step of its space and with the
+/// personality of Rust. A law: the function does nothing.
+///
+/// The definitions of a search and of a cleanup pass that the runs of `unwinding_core` go by hold,
+/// at that step and that personality, of exactly one answer, and a delivery's is that one: the
+/// states that the search visits, where it ends, and the stack pointer that it keeps; how a cleanup
+/// pass toward such a stack pointer ends; and a whole delivery, which is the search and then cleanup
+/// passes, each but the first from where the resume table sends the cleanup before it. The
+/// personality doesn't read the row of a frame, so this may be given by any function.
+/// Source: Itanium C++ ABI, exception handling, level I, section 1.3.
+pub fn deliveries_are_passes()
+    ensures search { (space : SpaceValue) (row : Run → RowValue) (thrown : Thrown) (limit : ℕ)
+        (start : Context) (due : Result Search DeliverError) → length start.registers ≡ 16 →
+        IsSearchBy (stepping_in space) (rust_in space row thrown) limit start due
+        ↔ (due ≡ search_of space limit start) }
+    ensures cleanup { (space : SpaceValue) (row : Run → RowValue) (thrown : Thrown) (limit kept : ℕ)
+        (start : Context) (due : Result PassEnd DeliverError) → length start.registers ≡ 16 →
+        IsPassBy (stepping_in space) (rust_in space row thrown) limit kept start due
+        ↔ (due ≡ cleanup_of space thrown.word kept limit start) }
+    ensures delivery { (space : SpaceValue) (row : Run → RowValue) (thrown : Thrown) (limit : ℕ)
+        (resumes : List (ℕ × ℕ)) (start : Context) (due : Result Delivered DeliverError) →
+        length start.registers ≡ 16 →
+        IsDeliveryBy (stepping_in space) (rust_in space row thrown) limit resumes start due
+        ↔ (due ≡ delivery_of space start thrown.word resumes limit) }
 {}

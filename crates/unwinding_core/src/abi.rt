@@ -14,12 +14,21 @@ pub mod raise;
 pub mod stop;
 pub mod unwound;
 
+pub use backtrace::{_Unwind_Backtrace, Ended, Trace};
 pub use context::{
     _Unwind_GetCFA, _Unwind_GetDataRelBase, _Unwind_GetGR, _Unwind_GetIP, _Unwind_GetIPInfo,
     _Unwind_GetLanguageSpecificData, _Unwind_GetRegionStart, _Unwind_GetTextRelBase, _Unwind_SetGR,
     _Unwind_SetIP, UnwindContext,
 };
+pub use enclosing::_Unwind_FindEnclosingFunction;
+pub use exception::{_Unwind_DeleteException, Kept, UnwindException};
+pub use laws::lines_are_one;
+pub use raise::{
+    _Unwind_ForcedUnwind, _Unwind_RaiseException, _Unwind_Resume, _Unwind_Resume_or_Rethrow,
+};
 use std::ops::BitOr;
+pub use stop::Stop;
+pub use unwound::{Cause, Unwound};
 
 /// How an unwinding came out, or a step of it.
 ///

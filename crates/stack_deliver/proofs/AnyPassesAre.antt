@@ -1,0 +1,433 @@
+-- The passes of a delivery are those over any stack, by the step of its space and the personality of Rust.
+use Rattle.std.proofs.Common.{inl, inr, ◌≡◌, ℕ, zero, suc, Bool, true, false, List, ◌∷◌, length, map, set, Option, Some, None, Result, Ok, Err, refl, sym, ap, subst, ◌∙◌, ◌+◌, ◌%◌, ◌^◌, arith}
+use Rattle.std.specs.Prelude.{pos, ◌⊎◌, ◌↔◌, is_some, if◌then◌else◌, ◌==◌, slice_index}
+use Rattle.std.specs.Option.{option_map_or}
+use Rattle.std.specs.Result.{result_map_both}
+use Rattle.std.proofs.Math.ListN.{length-set}
+use Rattle.unwind_definitions.specs.Row.{Run, argument_size}
+use Rattle.unwind_definitions.specs.Caller.{Columns, StepFault, x86_64, caller_of}
+use Rattle.unwind_definitions.specs.Function.{Action, NoAction, Cleanup, Catch, Filter, Terminate}
+use Rattle.unwind_definitions.specs.LanguageSearch.{personality_address, address_of_call, language_action}
+use Rattle.frame_rows.specs.RowValue.{RowValue}
+use Rattle.unwind_arch.specs.declared.x86_64.Context.{Context}
+use Rattle.unwind_arch.specs.Columns.{rsp}
+use Rattle.unwind_arch.specs.Contexts.{columns_of, context_of}
+use Rattle.unwinding_core.specs.declared.abi.UnwindAction.{UnwindAction}
+use Rattle.unwinding_core.specs.declared.abi.UnwindReasonCode.{UnwindReasonCode}
+use Rattle.unwinding_core.specs.declared.abi.TheConstants.UnwindAction as actions
+use Rattle.unwinding_core.specs.declared.abi.TheConstants.UnwindReasonCode.{HANDLER_FOUND, INSTALL_CONTEXT, CONTINUE_UNWIND, FATAL_PHASE1_ERROR, FATAL_PHASE2_ERROR}
+use Rattle.unwinding_core.specs.Calling.{no_expressions}
+use Rattle.unwinding_core.specs.FrameValue.{FrameValue}
+use Rattle.unwinding_core.specs.OneLine as one
+use Rattle.unwinding_core.specs.Passes.{Marked, unmarked, Answering, LineEnd, RanOut, Decides, Fails, Crowded, is_code, by_personality, cleanup_actions, cleanup_end, mark_of, turn_asked, turn_seen, goes, asked}
+use Rattle.unwinding_core.specs.Passes as any
+use Rattle.unwinding_core.specs.Personalities.{Asked, Answer, searched}
+use Rattle.unwinding_core.specs.Seen.{Thrown}
+use Rattle.stack_deliver.specs.declared.delivery.Outcome.TheVariants.{FatalPhase1}
+use Rattle.stack_deliver.specs.declared.delivery.DeliverError.{DeliverError}
+use Rattle.stack_deliver.specs.declared.delivery.DeliverError.TheVariants.{FrameLimit, PassLimit}
+use Rattle.stack_deliver.specs.declared.passes.Phase.{Phase}
+use Rattle.stack_deliver.specs.declared.passes.Phase.TheVariants as phase
+use Rattle.stack_deliver.specs.AnyPasses.{marked, undoing_in, sees_in, stepping_in, rust_in, answer_left, Search, TakenBy, Untaken, search_end, search_stop, search_line, search_of, pass_end, FollowedBy, ResumedBy, IsSearchBy, IsPassBy, ArePassesBy, IsDeliveredAfter, IsDeliveredBy, IsDeliveryBy}
+use Rattle.stack_deliver.specs.Modules.{SpaceValue}
+use Rattle.stack_deliver.specs.Passes.{Line, Stop, Turn, Ends, Stops, Goes, stops, stop_by, asked_if_named, asked_of, or_terminate, turn_at, turn_in, turn_for, line_turn, line_for, pass_of, past_arguments, pad_of, enters, kept_at, with_context, PassEnd, Finishes, Elsewhere, end_at, end_by, end_of, cleanup_of, landed, cleanup_at, resume_at, Passed, with_cleanup, resumed, followed, passes_of}
+use Rattle.stack_deliver.specs.Delivering.{Delivered, delivered_after, delivered_at, delivered_to, delivered_by, delivery_of}
+use Rattle.stack_deliver.specs.Resumes.{return_of}
+use Rattle.stack_deliver.specs.Personality.{InCleanup, IsAsked, AnswersCleanup, answer_for}
+use Rattle.stack_deliver.specs.Results.{◌>>=◌, result_map}
+use Rattle.stack_deliver.specs.Stepping.{FrameAt, frame_of, caller_by, next_with, refusal_of}
+use Rattle.stack_deliver.proofs.ContextLemmas.{IsWhole, context_of-columns}
+use Rattle.stack_deliver.proofs.PersonalityAsks.{answers_search, answers_cleanup}
+
+-- a landing pad is entered past the arguments
+past_then_enters : (c : Context) (size exception pad : ℕ) → IsWhole c → past_arguments (enters c exception pad) size ≡ enters (past_arguments c size) exception pad
+past_then_enters c size exception pad whole = go c.registers whole
+  where
+    go : (xs : List ℕ) → length xs ≡ 16 → past_arguments (enters (record c { registers = xs }) exception pad) size ≡ enters (past_arguments (record c { registers = xs }) size) exception pad
+    go (x0 ∷ x1 ∷ x2 ∷ x3 ∷ x4 ∷ x5 ∷ x6 ∷ x7 ∷ xs) e = refl
+    go _ e = absurd (omega arith)
+
+enters_whole : (c : Context) (exception pad : ℕ) → IsWhole c → IsWhole (enters c exception pad)
+enters_whole c exception pad whole = length-set (set c.registers 0 exception) 1 0 ∙ length-set c.registers 0 exception ∙ whole
+
+past_whole : (c : Context) (size : ℕ) → IsWhole c → IsWhole (past_arguments c size)
+past_whole c size whole = length-set c.registers rsp ((slice_index c.registers rsp + size) % 2 ^ 64) ∙ whole
+
+module _ (space : SpaceValue) (row : Run → RowValue) (thrown : Thrown) where
+  abbrev p : Answering Context FrameAt DeliverError
+  p = rust_in space row thrown
+
+  -- ---- an answer at a frame
+
+  -- a cleanup pass enters a pad where one is asked for
+  abbrev Enters : Option ℕ → Stop → UnwindReasonCode → Context → Type 0
+  Enters None stop code past = is_code code INSTALL_CONTEXT ≡ false
+  Enters (Some pad) stop code past = (is_code code INSTALL_CONTEXT ≡ true) × (past ≡ enters stop.past thrown.word pad) × IsWhole past
+
+  -- an answer other than to go on is what the pass stops for
+  abbrev Agrees : Phase → Stop → UnwindReasonCode → Context → Context → Type 0
+  Agrees phase.Search stop code left past = (left ≡ stop.context) × (is_code code HANDLER_FOUND ≡ is_some (pad_of stop.action))
+  Agrees phase.Cleanup stop code left past = Enters (pad_of stop.action) stop code past
+
+  abbrev stop_for : Marked Context → FrameAt → Action → Stop
+  stop_for x f action = record { context = x.context; interrupted = x.signal; action = action; past = past_arguments x.context (argument_size f.run) }
+
+  abbrev Answers : Phase → Marked Context → FrameAt → Action → Bool → UnwindReasonCode → Context → Type 0
+  Answers ph x f wanted true code left = (is_code code CONTINUE_UNWIND ≡ false) × Agrees ph (stop_for x f wanted) code left (past_arguments left (argument_size f.run))
+  Answers ph x f wanted false code left = (is_code code CONTINUE_UNWIND ≡ true) × (left ≡ x.context)
+
+  record Answered (ph : Phase) (acts : UnwindAction) (x : Marked Context) (f : FrameAt) (routine : ℕ) (action : Action) : Type 0 where
+    pub code : UnwindReasonCode
+    pub left : Context
+    pub is : p.answers routine acts f x ≡ (code, left)
+    pub agrees : Answers ph x f action (stops ph action) code left
+
+  abbrev asked_with : UnwindAction → ℕ → Asked
+  asked_with acts routine = record { routine = routine; version = pos 1; actions = acts; class = thrown.class; exception = thrown.word }
+
+  abbrev value_of : FrameAt → FrameValue
+  value_of f = record { found = f.found; row = row f.run }
+
+  whole_left : (c : Context) → IsWhole c → context_of (columns_of c) ≡ c
+  whole_left c whole = context_of-columns c (columns_of c) whole (λ k. refl)
+
+  abbrev left_with : UnwindReasonCode → Context → UnwindReasonCode × Context
+  left_with code c = (code, c)
+
+  module _ (x : Marked Context) (f : FrameAt) (routine : ℕ) (action : Action) (whole : IsWhole x.context) (is : IsAsked space.image x.context x.signal (value_of f) action) where
+    search_answers : (a : Action) → Answers phase.Search x f a (stops phase.Search a) (searched a) x.context
+    search_answers NoAction = (refl, refl)
+    search_answers (Cleanup pad) = (refl, refl)
+    search_answers (Catch pad) = (refl, (refl, refl))
+    search_answers (Filter pad) = (refl, (refl, refl))
+    search_answers Terminate = (refl, (refl, refl))
+
+    searches : Answered phase.Search actions.SEARCH_PHASE x f routine action
+    searches = record {
+      code = searched action;
+      left = x.context;
+      is = ap answer_left (answers_search space.image x.context x.signal (value_of f) action (asked_with actions.SEARCH_PHASE routine) is (record { version = refl; search = refl })) ∙ ap (left_with (searched action)) (whole_left x.context whole);
+      agrees = search_answers action;
+    }
+
+    abbrev answer_to : UnwindAction → Answer
+    answer_to acts = answer_for (asked_with acts routine) space.image (value_of f) x.context x.signal
+
+    cleans : (acts : UnwindAction) → InCleanup (asked_with acts routine) → Answered phase.Cleanup acts x f routine action
+    cleans acts in_cleanup = go action (answer_to acts) refl (answers_cleanup space.image x.context x.signal (value_of f) action (asked_with acts routine) is in_cleanup whole)
+      where
+        stays : (a : Action) (code : UnwindReasonCode) → answer_to acts ≡ (code, columns_of x.context) → Answers phase.Cleanup x f a (stops phase.Cleanup a) code x.context → Answered phase.Cleanup acts x f routine a
+        stays a code same agrees = record { code = code; left = x.context; is = ap answer_left same ∙ ap (left_with code) (whole_left x.context whole); agrees = agrees }
+
+        installs : (a : Action) (pad : ℕ) → answer_to acts ≡ (INSTALL_CONTEXT, columns_of (enters x.context thrown.word pad)) → Answers phase.Cleanup x f a (stops phase.Cleanup a) INSTALL_CONTEXT (enters x.context thrown.word pad) → Answered phase.Cleanup acts x f routine a
+        installs a pad same agrees = record {
+          code = INSTALL_CONTEXT;
+          left = enters x.context thrown.word pad;
+          is = ap answer_left same ∙ ap (left_with INSTALL_CONTEXT) (whole_left (enters x.context thrown.word pad) (enters_whole x.context thrown.word pad whole));
+          agrees = agrees;
+        }
+
+        entered : (pad : ℕ) → (is_code INSTALL_CONTEXT INSTALL_CONTEXT ≡ true) × (past_arguments (enters x.context thrown.word pad) (argument_size f.run) ≡ enters (past_arguments x.context (argument_size f.run)) thrown.word pad) × IsWhole (past_arguments (enters x.context thrown.word pad) (argument_size f.run))
+        entered pad = (refl, past_then_enters x.context (argument_size f.run) thrown.word pad whole, past_whole (enters x.context thrown.word pad) (argument_size f.run) (enters_whole x.context thrown.word pad whole))
+
+        go : (a : Action) (r : Answer) → answer_to acts ≡ r → AnswersCleanup a thrown.word x.context r → Answered phase.Cleanup acts x f routine a
+        go NoAction r same so = stays NoAction CONTINUE_UNWIND (same ∙ so) (refl, refl)
+        go (Cleanup pad) r same so = installs (Cleanup pad) pad (same ∙ so) (refl, entered pad)
+        go (Catch pad) r same so = installs (Catch pad) pad (same ∙ so) (refl, entered pad)
+        go (Filter pad) r same so = installs (Filter pad) pad (same ∙ so) (refl, entered pad)
+        go Terminate r same (inl so) = stays Terminate FATAL_PHASE2_ERROR (same ∙ so) (refl, refl)
+        go Terminate r same (inr so) = stays Terminate FATAL_PHASE1_ERROR (same ∙ so) (refl, refl)
+
+  -- ---- a turn
+
+  -- the actions of a phase, and what frames answer to them
+  abbrev AreAnswered : Phase → (Marked Context → UnwindAction) → Type 0
+  AreAnswered ph acts = (x : Marked Context) (f : FrameAt) (routine : ℕ) (action : Action) → IsWhole x.context → IsAsked space.image x.context x.signal (value_of f) action → Answered ph (acts x) x f routine action
+
+  abbrev Turned : Phase → Marked Context → Result Turn DeliverError → any.Turn Context DeliverError (Unit {0}) → Type 0
+  Turned ph x (Ok Ends) g = g ≡ any.Ends tt (RanOut x)
+  Turned ph x (Ok (Stops action past)) g =
+      (code : UnwindReasonCode) × (left : Context) × (entered : Context) × (g ≡ any.Ends tt (Decides x code left entered)) ×
+      Agrees ph (record { context = x.context; interrupted = x.signal; action = action; past = past }) code left entered
+  Turned ph x (Ok (Goes next)) g = (g ≡ any.Goes tt (marked next)) × IsWhole next.context
+  Turned ph x (Err e) g = g ≡ any.Ends tt (Fails e)
+
+  module _ (ph : Phase) (acts : Marked Context → UnwindAction) (answered : AreAnswered ph acts) where
+    module _ (x : Marked Context) (whole : IsWhole x.context) where
+      module _ (f : FrameAt) where
+        calls : Turned ph x (result_map Goes (caller_by space.image x.context f)) (goes tt ((undoing_in space).caller f x.context))
+        calls = go (caller_of x86_64 no_expressions space.image (columns_of x.context) f.run)
+          where
+            go : (r : Result Columns StepFault) → Turned ph x (result_map Goes (result_map_both (next_with f.found.fde.cie.letters.signal) refusal_of r)) (goes tt (result_map marked (result_map_both (next_with f.found.fde.cie.letters.signal) refusal_of r)))
+            go (Ok columns) = (refl, refl)
+            go (Err e) = refl
+
+        abbrev Framed : Result Action DeliverError → Result (UnwindReasonCode × Context) DeliverError → Type 0
+        Framed due answer = Turned ph x (result_map (stop_by ph) due >>= turn_at space.image x.context f) (turn_asked (undoing_in space) f x (tt, answer))
+
+        spoken : (action : Action) (code : UnwindReasonCode) (left : Context) (t : Bool) → stops ph action ≡ t → Answers ph x f action t code left → Framed (Ok action) (Ok (code, left))
+        spoken wanted code left true is (other, agrees) = rw (is, other) (code, left, past_arguments left (argument_size f.run), refl, agrees)
+        spoken wanted code left false is (same, stays) = rw (is, same, stays) calls
+
+        quiet : (k : Phase) → stops k NoAction ≡ false
+        quiet phase.Search = refl
+        quiet phase.Cleanup = refl
+
+        silent : Framed (Ok NoAction) (Ok (CONTINUE_UNWIND, x.context))
+        silent = spoken NoAction CONTINUE_UNWIND x.context false (quiet ph) (refl, refl)
+
+        named : (routine : ℕ) → personality_address space.image f.found.fde ≡ Ok (Some routine) →
+            Framed (Ok (or_terminate (language_action space.image f.found.bases f.found.fde (address_of_call x.context.ra x.signal)))) (Ok (p.answers routine (acts x) f x))
+        named routine is =
+            let action : Action = or_terminate (language_action space.image f.found.bases f.found.fde (address_of_call x.context.ra x.signal)) in
+            let a = answered x f routine action whole (record { routine = routine; named = is; asks = ap (asked_if_named space.image x.context x.signal f.found) is }) in
+            subst (λ (r : UnwindReasonCode × Context). Framed (Ok action) (Ok r)) (sym a.is) (spoken action a.code a.left (stops ph action) refl a.agrees)
+
+        framed : Framed (asked_of space.image x.context x.signal f.found) (asked p (acts x) f x)
+        framed = go (personality_address space.image f.found.fde) refl
+          where
+            go : (r : Result (Option ℕ) StepFault) → personality_address space.image f.found.fde ≡ r →
+                Framed (asked_if_named space.image x.context x.signal f.found r) (any.asked_if_named p (acts x) f x (result_map_both (λ routine. routine) refusal_of r))
+            go (Err e) is = refl
+            go (Ok None) is = silent
+            go (Ok (Some routine)) is = named routine is
+
+      turned : Turned ph x (turn_for (Some ph) space x.context x.signal) (turn_seen (undoing_in space) (by_personality p acts) tt x (sees_in space x))
+      unfolding turn_for
+      turned = go (frame_of space x.context x.signal)
+        where
+          go : (r : Result (Option FrameAt) DeliverError) → Turned ph x (r >>= turn_in (Some ph) space.image x.context x.signal) (turn_seen (undoing_in space) (by_personality p acts) tt x r)
+          go (Ok None) = refl
+          go (Ok (Some f)) = framed f
+          go (Err e) = refl
+
+    -- ---- a line
+
+    abbrev line_of : ℕ → Marked Context → any.Line Context DeliverError (Unit {0})
+    line_of room x = one.line_of (sees_in space) (undoing_in space) (by_personality p acts) room tt x
+
+    abbrev contexts_of : any.Line Context DeliverError (Unit {0}) → List Context
+    contexts_of line = map (λ x. x.context) line.contexts
+
+    abbrev Stopped : Option Stop → LineEnd Context DeliverError → Type 0
+    Stopped None end = (x : Marked Context) × (end ≡ RanOut x)
+    Stopped (Some stop) end =
+        (code : UnwindReasonCode) × (left : Context) × (entered : Context) × (end ≡ Decides (record { context = stop.context; signal = stop.interrupted }) code left entered) × Agrees ph stop code left entered
+
+    abbrev Lined : Result Line DeliverError → any.Line Context DeliverError (Unit {0}) → Type 0
+    Lined (Ok found) line = (found.contexts ≡ contexts_of line) × Stopped found.stop line.end
+    Lined (Err e) line = (line.end ≡ Fails e) ⊎ ((line.end ≡ Crowded) × (e ≡ FrameLimit))
+
+    preceded : (x : Marked Context) (r : Result Line DeliverError) (line : any.Line Context DeliverError (Unit {0})) → Lined r line → Lined (with_context x.context r) (one.with_rest x line)
+    preceded x (Ok found) line (same, end) = (ap (λ (cs : List Context). x.context ∷ cs) same, end)
+    preceded x (Err e) line is = is
+
+    lined : (room : ℕ) (x : Marked Context) → IsWhole x.context → Lined (line_for (Some ph) space room x.context x.signal) (line_of room x)
+    lined zero x whole = inr (refl, refl)
+    lined (suc room) x whole = go (turn_for (Some ph) space x.context x.signal) (turn_seen (undoing_in space) (by_personality p acts) tt x (sees_in space x)) (turned x whole) (λ y whole. lined room y whole)
+      where
+        go : (t : Result Turn DeliverError) (g : any.Turn Context DeliverError (Unit {0})) → Turned ph x t g → ((y : Marked Context) → IsWhole y.context → Lined (line_for (Some ph) space room y.context y.signal) (line_of room y)) →
+            Lined (line_turn x.context x.signal t (line_for (Some ph) space room)) (one.line_after (one.line_of (sees_in space) (undoing_in space) (by_personality p acts) room) x g)
+        go (Ok Ends) g is later = rw is (refl, (x, refl))
+        go (Ok (Stops wanted past)) g (code, left, entered, is, agrees) later = rw is (refl, (code, left, entered, refl, agrees))
+        go (Ok (Goes next)) g (is, whole) later = rw is (preceded x (line_for (Some ph) space room next.context next.signal) (line_of room (marked next)) (later (marked next) whole))
+        go (Err e) g is later = rw is (inl refl)
+
+  abbrev stack_pointer : Context → ℕ
+  stack_pointer c = slice_index c.registers rsp
+
+  -- ---- the search
+
+  abbrev search_acts : Marked Context → UnwindAction
+  search_acts x = actions.SEARCH_PHASE
+
+  answers_to_search : AreAnswered phase.Search search_acts
+  answers_to_search x f routine action whole is = searches x f routine action whole is
+
+  abbrev searched_line : ℕ → Context → any.Line Context DeliverError (Unit {0})
+  searched_line limit start = line_of phase.Search search_acts answers_to_search limit (unmarked start)
+
+  search_same : (r : Result Line DeliverError) (line : any.Line Context DeliverError (Unit {0})) → Lined phase.Search search_acts answers_to_search r line →
+      search_end stack_pointer (map (λ x. x.context) line.contexts) line.end ≡ result_map search_line r
+  search_same (Ok found) line (same, end) = go found.stop refl end
+    where
+      pads : (contexts : List Context) (stop : Stop) (o : Option ℕ) →
+          ◌≡◌ {A = Result Search DeliverError} (Ok (record { visited = contexts; end = if is_some o then TakenBy (kept_at stop.context stop.interrupted) else Untaken FatalPhase1 }))
+          (Ok (record { visited = contexts; end = option_map_or (λ pad. TakenBy (kept_at stop.context stop.interrupted)) o (Untaken FatalPhase1) }))
+      pads contexts stop None = refl
+      pads contexts stop (Some pad) = refl
+
+      go : (o : Option Stop) → found.stop ≡ o → Stopped phase.Search search_acts answers_to_search o line.end → search_end stack_pointer (map (λ x. x.context) line.contexts) line.end ≡ Ok (search_line found)
+      go None none (x, is) = rw (is, none, same) refl
+      go (Some stop) some (code, left, entered, is, (stays, test)) = rw (is, some, same, stays, test) (pads (map (λ x. x.context) line.contexts) stop (pad_of stop.action))
+  search_same (Err e) line (inl is) = rw is refl
+  search_same (Err e) line (inr (is, same)) = rw (is, same) refl
+
+  search_by_line : (limit : ℕ) (start : Context) → IsWhole start → search_end stack_pointer (map (λ x. x.context) (searched_line limit start).contexts) (searched_line limit start).end ≡ search_of space limit start
+  search_by_line limit start whole = search_same (pass_of phase.Search space limit start false) (searched_line limit start) (lined phase.Search search_acts answers_to_search limit (unmarked start) whole)
+
+  pub searches_are : (limit : ℕ) (start : Context) (due : Result Search DeliverError) → IsWhole start → IsSearchBy (stepping_in space) p limit start due ↔ (due ≡ search_of space limit start)
+  searches_are limit start due whole = (
+    λ s. s.2 ∙ ap (λ (line : any.Line Context DeliverError (Unit {0})). search_end stack_pointer (map (λ x. x.context) line.contexts) line.end)
+        (one.line_is (sees_in space) (undoing_in space) (by_personality p search_acts) limit tt (unmarked start) s.0 s.1) ∙ search_by_line limit start whole,
+    λ e. (searched_line limit start, one.is_line (sees_in space) (undoing_in space) (by_personality p search_acts) limit tt (unmarked start), e ∙ sym (search_by_line limit start whole)),
+  )
+
+  -- ---- a cleanup pass
+
+  abbrev IsWholeEnd : Result PassEnd DeliverError → Type 0
+  IsWholeEnd (Ok (Elsewhere pad entered)) = IsWhole entered
+  IsWholeEnd _ = Unit {0}
+
+  module _ (kept : ℕ) where
+    abbrev cleanup_acts : Marked Context → UnwindAction
+    cleanup_acts = cleanup_actions stack_pointer kept
+
+    answers_to_cleanup : AreAnswered phase.Cleanup cleanup_acts
+    answers_to_cleanup x f routine action whole is = cleans x f routine action whole is (cleanup_acts x) (go (mark_of stack_pointer x == kept))
+      where
+        go : (b : Bool) → InCleanup (asked_with (if b then any.both actions.CLEANUP_PHASE actions.HANDLER_FRAME else actions.CLEANUP_PHASE) routine)
+        go true = record { version = refl; cleanup = refl; unforced = refl }
+        go false = record { version = refl; cleanup = refl; unforced = refl }
+
+    abbrev cleaned_line : ℕ → Context → any.Line Context DeliverError (Unit {0})
+    cleaned_line limit start = line_of phase.Cleanup cleanup_acts answers_to_cleanup limit (unmarked start)
+
+    abbrev Passes : Result PassEnd DeliverError → any.Outcome Context DeliverError → Type 0
+    Passes due outcome = (pass_end outcome ≡ due) × IsWholeEnd due
+
+    pass_same : (r : Result Line DeliverError) (line : any.Line Context DeliverError (Unit {0})) → Lined phase.Cleanup cleanup_acts answers_to_cleanup r line → Passes (end_of thrown.word kept r) (cleanup_end stack_pointer kept line.end)
+    pass_same (Ok found) line (same, end) = go found.stop end
+      where
+        at_pad : (stop : Stop) (code : UnwindReasonCode) (left entered : Context) (o : Option ℕ) → Enters o stop code entered →
+            Passes (Ok (end_at thrown.word kept stop o)) (cleanup_end stack_pointer kept (Decides (record { context = stop.context; signal = stop.interrupted }) code left entered))
+        at_pad stop code left entered None other = rw other (refl, tt)
+        at_pad stop code left entered (Some pad) (installs, is, whole) = rw installs (marks (kept_at stop.context stop.interrupted == kept))
+          where
+            marks : (b : Bool) → Passes (Ok (if b then Finishes (landed (enters stop.past thrown.word pad)) else Elsewhere pad (enters stop.past thrown.word pad))) (any.Installs entered b)
+            marks true = rw is (refl, tt)
+            marks false = rw is (refl, subst IsWhole is whole)
+
+        go : (o : Option Stop) → Stopped phase.Cleanup cleanup_acts answers_to_cleanup o line.end → Passes (Ok (end_by thrown.word kept o)) (cleanup_end stack_pointer kept line.end)
+        go None (x, is) = rw is (refl, tt)
+        go (Some stop) (code, left, entered, is, enters_too) = rw is (at_pad stop code left entered (pad_of stop.action) enters_too)
+    pass_same (Err e) line (inl is) = rw is (refl, tt)
+    pass_same (Err e) line (inr (is, same)) = rw (is, same) (refl, tt)
+
+    passes_by_line : (limit : ℕ) (start : Context) → IsWhole start → Passes (cleanup_of space thrown.word kept limit start) (cleanup_end stack_pointer kept (cleaned_line limit start).end)
+    passes_by_line limit start whole = pass_same (pass_of phase.Cleanup space limit start false) (cleaned_line limit start) (lined phase.Cleanup cleanup_acts answers_to_cleanup limit (unmarked start) whole)
+
+    pub pass_is : (limit : ℕ) (start : Context) (due : Result PassEnd DeliverError) → IsWhole start → IsPassBy (stepping_in space) p limit kept start due → due ≡ cleanup_of space thrown.word kept limit start
+    pass_is limit start due whole (outcome, (line, is, ends), e) =
+        e ∙ ap pass_end ends ∙ ap (λ (l : any.Line Context DeliverError (Unit {0})). pass_end (cleanup_end stack_pointer kept l.end)) (one.line_is (sees_in space) (undoing_in space) (by_personality p cleanup_acts) limit tt (unmarked start) line is)
+        ∙ (passes_by_line limit start whole).0
+
+    pub is_pass : (limit : ℕ) (start : Context) → IsWhole start → IsPassBy (stepping_in space) p limit kept start (cleanup_of space thrown.word kept limit start)
+    is_pass limit start whole = (
+      cleanup_end stack_pointer kept (cleaned_line limit start).end,
+      (cleaned_line limit start, one.is_line (sees_in space) (undoing_in space) (by_personality p cleanup_acts) limit tt (unmarked start), refl),
+      sym (passes_by_line limit start whole).0,
+    )
+
+    pub passes_are : (limit : ℕ) (start : Context) (due : Result PassEnd DeliverError) → IsWhole start → IsPassBy (stepping_in space) p limit kept start due ↔ (due ≡ cleanup_of space thrown.word kept limit start)
+    passes_are limit start due whole = (pass_is limit start due whole, λ e. subst (IsPassBy (stepping_in space) p limit kept start) (sym e) (is_pass limit start whole))
+
+    -- ---- the cleanup passes
+
+    module _ (resumes : List (ℕ × ℕ)) (limit : ℕ) where
+      abbrev passes : ℕ → Context → Result Passed DeliverError
+      passes places start = passes_of space thrown.word kept resumes limit places start
+
+      abbrev ArePasses : ℕ → Context → Result Passed DeliverError → Type 0
+      ArePasses places start passed = ArePassesBy (stepping_in space) p limit resumes kept places start passed
+
+      abbrev end_from : Context → Result PassEnd DeliverError
+      end_from start = cleanup_of space thrown.word kept limit start
+
+      -- what follows a cleanup where the trail has a place for it
+      abbrev Later : ℕ → ℕ → Context → Result Passed DeliverError → Type 0
+      Later places pad entered due = ResumedBy (ArePasses places) (cleanup_at pad entered) (resume_at pad entered (return_of resumes pad)) due
+
+      abbrev later : ℕ → ℕ → Context → Result Passed DeliverError
+      later places pad entered = resumed (cleanup_at pad entered) (resume_at pad entered (return_of resumes pad)) (passes places)
+
+      pub hold : (places : ℕ) (start : Context) → IsWhole start → ArePasses places start (passes places start)
+      hold zero start whole = (end_from start, is_pass limit start whole, go (end_from start))
+        where
+          go : (r : Result PassEnd DeliverError) → FollowedBy (λ pad entered due. due ≡ Err PassLimit) r (followed r (λ pad entered. Err PassLimit))
+          go (Ok (Finishes ending)) = refl
+          go (Ok (Elsewhere pad entered)) = refl
+          go (Err e) = refl
+      hold (suc places) start whole = (end_from start, is_pass limit start whole, go (end_from start) (passes_by_line limit start whole).1 (λ d whole. hold places d whole))
+        where
+          resumes_by : (pad : ℕ) (entered : Context) → IsWhole entered → ((d : Context) → IsWhole d → ArePasses places d (passes places d)) → (o : Option ℕ) →
+              ResumedBy (ArePasses places) (cleanup_at pad entered) (resume_at pad entered o) (resumed (cleanup_at pad entered) (resume_at pad entered o) (passes places))
+          resumes_by pad entered whole holds None = refl
+          resumes_by pad entered whole holds (Some ret) = (passes places (record entered { ra = ret }), holds (record entered { ra = ret }) whole, refl)
+
+          go : (r : Result PassEnd DeliverError) → IsWholeEnd r → ((d : Context) → IsWhole d → ArePasses places d (passes places d)) → FollowedBy (Later places) r (followed r (later places))
+          go (Ok (Finishes ending)) whole holds = refl
+          go (Ok (Elsewhere pad entered)) whole holds = resumes_by pad entered whole holds (return_of resumes pad)
+          go (Err e) whole holds = refl
+
+      pub only : (places : ℕ) (start : Context) (due : Result Passed DeliverError) → IsWhole start → ArePasses places start due → due ≡ passes places start
+      only zero start due whole (end, is, follows) = go (end_from start) (subst (λ (r : Result PassEnd DeliverError). FollowedBy (λ pad entered due. due ≡ Err PassLimit) r due) (pass_is limit start end whole is) follows)
+        where
+          go : (r : Result PassEnd DeliverError) → FollowedBy (λ pad entered due. due ≡ Err PassLimit) r due → due ≡ followed r (λ pad entered. Err PassLimit)
+          go (Ok (Finishes ending)) e = e
+          go (Ok (Elsewhere pad entered)) e = e
+          go (Err e) same = same
+      only (suc places) start due whole (end, is, follows) =
+          go (end_from start) (passes_by_line limit start whole).1 (λ d rest whole. only places d rest whole) (subst (λ (r : Result PassEnd DeliverError). FollowedBy (Later places) r due) (pass_is limit start end whole is) follows)
+        where
+          resumes_by : (pad : ℕ) (entered : Context) → IsWhole entered → ((d : Context) (rest : Result Passed DeliverError) → IsWhole d → ArePasses places d rest → rest ≡ passes places d) → (o : Option ℕ) →
+              ResumedBy (ArePasses places) (cleanup_at pad entered) (resume_at pad entered o) due → due ≡ resumed (cleanup_at pad entered) (resume_at pad entered o) (passes places)
+          resumes_by pad entered whole outer None e = e
+          resumes_by pad entered whole outer (Some ret) (rest, are, e) = e ∙ ap (with_cleanup (cleanup_at pad entered)) (outer (record entered { ra = ret }) rest whole are)
+
+          go : (r : Result PassEnd DeliverError) → IsWholeEnd r → ((d : Context) (rest : Result Passed DeliverError) → IsWhole d → ArePasses places d rest → rest ≡ passes places d) → FollowedBy (Later places) r due → due ≡ followed r (later places)
+          go (Ok (Finishes ending)) whole outer e = e
+          go (Ok (Elsewhere pad entered)) whole outer e = resumes_by pad entered whole outer (return_of resumes pad) e
+          go (Err e) whole outer same = same
+
+  -- ---- a delivery
+
+  module _ (resumes : List (ℕ × ℕ)) (limit : ℕ) (start : Context) (whole : IsWhole start) where
+    abbrev toward : ℕ → Result Passed DeliverError
+    toward kept = passes_of space thrown.word kept resumes limit limit start
+
+    abbrev Delivered_by : Result Search DeliverError → Result Delivered DeliverError → Type 0
+    Delivered_by found due = IsDeliveredBy (stepping_in space) p limit resumes start found due
+
+    holds_at : (visited : List Context) (stop : Stop) (o : Option ℕ) →
+        IsDeliveredAfter (stepping_in space) p limit resumes start visited (option_map_or (λ pad. TakenBy (kept_at stop.context stop.interrupted)) o (Untaken FatalPhase1)) (delivered_at visited o (toward (kept_at stop.context stop.interrupted)))
+    holds_at visited stop None = refl
+    holds_at visited stop (Some pad) = let kept : ℕ = kept_at stop.context stop.interrupted in (toward kept, hold kept resumes limit limit start whole, refl)
+
+    holds_to : (visited : List Context) (o : Option Stop) → IsDeliveredAfter (stepping_in space) p limit resumes start visited (search_stop o) (delivered_to visited o toward)
+    holds_to visited None = refl
+    holds_to visited (Some stop) = holds_at visited stop (pad_of stop.action)
+
+    holds_by : (r : Result Line DeliverError) → Delivered_by (result_map search_line r) (delivered_by r toward)
+    holds_by (Ok line) = holds_to line.contexts line.stop
+    holds_by (Err e) = refl
+
+    only_at : (due : Result Delivered DeliverError) (visited : List Context) (stop : Stop) (o : Option ℕ) →
+        IsDeliveredAfter (stepping_in space) p limit resumes start visited (option_map_or (λ pad. TakenBy (kept_at stop.context stop.interrupted)) o (Untaken FatalPhase1)) due → due ≡ delivered_at visited o (toward (kept_at stop.context stop.interrupted))
+    only_at due visited stop None e = e
+    only_at due visited stop (Some pad) (passed, are, e) = e ∙ ap (delivered_after visited) (only (kept_at stop.context stop.interrupted) resumes limit limit start passed whole are)
+
+    only_to : (due : Result Delivered DeliverError) (visited : List Context) (o : Option Stop) → IsDeliveredAfter (stepping_in space) p limit resumes start visited (search_stop o) due → due ≡ delivered_to visited o toward
+    only_to due visited None e = e
+    only_to due visited (Some stop) e = only_at due visited stop (pad_of stop.action) e
+
+    only_by : (due : Result Delivered DeliverError) (r : Result Line DeliverError) → Delivered_by (result_map search_line r) due → due ≡ delivered_by r toward
+    only_by due (Ok line) is = only_to due line.contexts line.stop is
+    only_by due (Err e) is = is
+
+    pub deliveries_are : (due : Result Delivered DeliverError) → IsDeliveryBy (stepping_in space) p limit resumes start due ↔ (due ≡ delivery_of space start thrown.word resumes limit)
+    unfolding delivery_of
+    deliveries_are due = (
+      λ d. only_by due (pass_of phase.Search space limit start false) (subst (λ (found : Result Search DeliverError). Delivered_by found due) ((searches_are limit start d.0 whole).0 d.1) d.2),
+      λ e. subst (IsDeliveryBy (stepping_in space) p limit resumes start) (sym e) (search_of space limit start, (searches_are limit start (search_of space limit start) whole).1 refl, holds_by (pass_of phase.Search space limit start false)),
+    )

@@ -1,0 +1,162 @@
+-- A delivery in the words of the passes over any stack: by the step of a space, and with the personality of Rust at its frames.
+-- Itanium C++ ABI, exception handling, level I, section 1.3.
+use Rattle.std.specs.Prelude.{◌≡◌, ℕ, zero, suc, true, false, List, [], Option, Some, None, Result, Ok, Err, map, slice_index, if◌then◌else◌}
+use Rattle.std.specs.Option.{option_map_or}
+use Rattle.std.specs.Result.{result_map_both}
+use Rattle.unwind_definitions.specs.Row.{Run, argument_size}
+use Rattle.unwind_definitions.specs.Caller.{Columns, StepFault}
+use Rattle.frame_rows.specs.RowValue.{RowValue}
+use Rattle.unwind_arch.specs.declared.x86_64.Context.{Context}
+use Rattle.unwind_arch.specs.Columns.{rsp}
+use Rattle.unwind_arch.specs.Contexts.{columns_of, context_of}
+use Rattle.unwinding_core.specs.declared.abi.UnwindReasonCode.{UnwindReasonCode}
+use Rattle.unwinding_core.specs.declared.abi.TheConstants.UnwindReasonCode.{HANDLER_FOUND}
+use Rattle.unwinding_core.specs.OneLine.{by_one}
+use Rattle.unwinding_core.specs.Passes.{Marked, Undoing, Stepping, Answering, LineEnd, RanOut, Decides, Fails, Crowded, Line, Fault, Installs, Gives, is_code, less_signal, IsSearched, IsCleanup}
+use Rattle.unwinding_core.specs.Passes as any
+use Rattle.unwinding_core.specs.Personalities.{Answer, rust_answers}
+use Rattle.unwinding_core.specs.Seen.{FrameSeen, Thrown, answering}
+use Rattle.stack_deliver.specs.declared.delivery.Stepped.{Stepped}
+use Rattle.stack_deliver.specs.declared.delivery.Trail.{Trail}
+use Rattle.stack_deliver.specs.declared.delivery.Outcome.{Outcome}
+use Rattle.stack_deliver.specs.declared.delivery.Outcome.TheVariants.{EndOfStack, FatalPhase1}
+use Rattle.stack_deliver.specs.declared.delivery.DeliverError.{DeliverError}
+use Rattle.stack_deliver.specs.declared.delivery.DeliverError.TheVariants.{FrameLimit, PassLimit}
+use Rattle.stack_deliver.specs.declared.passes.Phase.TheVariants as phase
+use Rattle.stack_deliver.specs.Delivering.{Delivered, delivered_after, undelivered}
+use Rattle.stack_deliver.specs.Modules.{SpaceValue}
+use Rattle.stack_deliver.specs.Passes.{Stop, PassEnd, Finishes, Elsewhere, Passed, past_arguments, pass_of, kept_at, pad_of, fatal, landed, cleanup_at, resume_at, with_cleanup}
+use Rattle.stack_deliver.specs.Passes as stopped
+use Rattle.stack_deliver.specs.Personality.{landing_columns}
+use Rattle.stack_deliver.specs.Resumes.{return_of}
+use Rattle.stack_deliver.specs.Results.{result_map}
+use Rattle.stack_deliver.specs.Stepping.{FrameAt, frame_of, caller_by, refusal_of}
+
+-- ---- the step of a space
+
+abbrev pub marked : Stepped → Marked Context
+marked s = record { context = s.context; signal = s.signal }
+
+-- how the frames of a space are undone
+abbrev pub undoing_in : SpaceValue → Undoing Context FrameAt DeliverError
+undoing_in space = record {
+  caller = λ f c. result_map marked (caller_by space.image c f);
+  stack_pointer = λ c. slice_index c.registers rsp;
+  past_arguments = λ f c. past_arguments c (argument_size f.run);
+}
+
+-- what is seen at a context of a space: its frame
+abbrev pub sees_in : SpaceValue → Marked Context → Result (Option FrameAt) DeliverError
+sees_in space x = frame_of space x.context x.signal
+
+abbrev pub stepping_in : SpaceValue → Stepping Context FrameAt DeliverError
+stepping_in space = by_one (sees_in space) (undoing_in space)
+
+-- ---- the personality of Rust at its frames
+
+-- a frame as personalities see it; its row, which the personality of Rust doesn't read, is given by any function
+abbrev pub seen_with : (Run → RowValue) → FrameAt → FrameSeen
+seen_with row f = record { value = record { found = f.found; row = row f.run }; run = f.run }
+
+abbrev pub at_columns : Marked Context → Marked Columns
+at_columns x = record { context = columns_of x.context; signal = x.signal }
+
+-- an answer, and the context that holds the registers that are left
+abbrev pub answer_left : Answer → UnwindReasonCode × Context
+answer_left (code, columns) = (code, context_of columns)
+
+-- what answers for the personalities of a space: `RustPersonality`, for an exception
+abbrev pub rust : SpaceValue → Thrown → Answering Columns FrameSeen StepFault
+rust space thrown = answering (rust_answers landing_columns) space.image thrown
+
+abbrev pub rust_in : SpaceValue → (Run → RowValue) → Thrown → Answering Context FrameAt DeliverError
+rust_in space row thrown = record {
+  named = λ f. result_map_both (λ routine. routine) refusal_of ((rust space thrown).named (seen_with row f));
+  answers = λ routine actions f x. answer_left ((rust space thrown).answers routine actions (seen_with row f) (at_columns x));
+}
+
+-- ---- a delivery, by any step over contexts and any personality
+
+-- how a search ends: at a frame that takes the exception, by its mark, or with an outcome
+pub data SearchEnd : Type 0 where
+  TakenBy : ℕ → SearchEnd
+  Untaken : Outcome → SearchEnd
+
+-- the contexts that a search visits, and its end
+pub record Search : Type 0 where
+  pub visited : List Context
+  pub end : SearchEnd
+
+-- by the end of its line: the mark is that of what the personality left
+abbrev pub search_end : (Context → ℕ) → List Context → LineEnd Context DeliverError → Result Search DeliverError
+search_end stack_pointer visited (RanOut x) = Ok (record { visited = visited; end = Untaken EndOfStack })
+search_end stack_pointer visited (Decides x code left past) =
+    Ok (record { visited = visited; end = if is_code code HANDLER_FOUND then TakenBy (less_signal x.signal (stack_pointer left)) else Untaken FatalPhase1 })
+search_end stack_pointer visited (Fails e) = Err e
+search_end stack_pointer visited Crowded = Err FrameLimit
+
+-- How a cleanup pass ends: with the landing, with a cleanup that is entered, with the program, or with a fault. The return address
+-- of a context that is installed is the landing pad.
+abbrev pub pass_end : any.Outcome Context DeliverError → Result PassEnd DeliverError
+pass_end (Installs entered true) = Ok (Finishes (landed entered))
+pass_end (Installs entered false) = Ok (Elsewhere entered.ra entered)
+pass_end (Gives code None) = Ok (Finishes fatal)
+pass_end (Gives code (Some any.FrameLimit)) = Err FrameLimit
+pass_end (Gives code (Some (Fault e))) = Err e
+
+-- what passes come to of which the first ends so: nothing more, or what follows its cleanup
+abbrev pub FollowedBy : (ℕ → Context → Result Passed DeliverError → Type 0) → Result PassEnd DeliverError → Result Passed DeliverError → Type 0
+FollowedBy later (Ok (Finishes ending)) passed = passed ≡ Ok (record { trail = []; ending = ending })
+FollowedBy later (Ok (Elsewhere pad entered)) passed = later pad entered passed
+FollowedBy later (Err e) passed = passed ≡ Err e
+
+-- a cleanup is put on the trail, and the later passes start at the context after it
+abbrev pub ResumedBy : (Context → Result Passed DeliverError → Type 0) → Trail → Result Context DeliverError → Result Passed DeliverError → Type 0
+ResumedBy later cleanup (Ok after) passed = (rest : Result Passed DeliverError) × later after rest × (passed ≡ with_cleanup cleanup rest)
+ResumedBy later cleanup (Err e) passed = passed ≡ Err e
+
+module _ (step : Stepping Context FrameAt DeliverError) (p : Answering Context FrameAt DeliverError) (limit : ℕ) where
+  -- A search from a context.
+  abbrev pub IsSearchBy : Context → Result Search DeliverError → Type 0
+  IsSearchBy start due =
+      (line : Line Context DeliverError (Unit {0})) × IsSearched step p limit start line × (due ≡ search_end step.undoing.stack_pointer (map (λ x. x.context) line.contexts) line.end)
+
+  -- A cleanup pass from a context toward the frame with a mark.
+  abbrev pub IsPassBy : ℕ → Context → Result PassEnd DeliverError → Type 0
+  IsPassBy kept start due = (outcome : any.Outcome Context DeliverError) × IsCleanup step p kept limit start outcome × (due ≡ pass_end outcome)
+
+  -- The cleanup passes toward the frame with a mark, where the trail has places for so many cleanups. After each cleanup the resume
+  -- table says where the next pass starts.
+  abbrev pub ArePassesBy : List (ℕ × ℕ) → ℕ → ℕ → Context → Result Passed DeliverError → Type 0
+  ArePassesBy resumes kept zero start passed =
+      (end : Result PassEnd DeliverError) × IsPassBy kept start end × FollowedBy (λ pad entered due. due ≡ Err PassLimit) end passed
+  ArePassesBy resumes kept (suc places) start passed =
+      (end : Result PassEnd DeliverError) × IsPassBy kept start end ×
+      FollowedBy (λ pad entered due. ResumedBy (ArePassesBy resumes kept places) (cleanup_at pad entered) (resume_at pad entered (return_of resumes pad)) due) end passed
+
+  -- What is delivered after a search: nothing, or what the passes toward its frame come to.
+  abbrev pub IsDeliveredAfter : List (ℕ × ℕ) → Context → List Context → SearchEnd → Result Delivered DeliverError → Type 0
+  IsDeliveredAfter resumes start visited (Untaken outcome) due = due ≡ Ok (undelivered visited outcome)
+  IsDeliveredAfter resumes start visited (TakenBy kept) due =
+      (passed : Result Passed DeliverError) × ArePassesBy resumes kept limit start passed × (due ≡ delivered_after visited passed)
+
+  abbrev pub IsDeliveredBy : List (ℕ × ℕ) → Context → Result Search DeliverError → Result Delivered DeliverError → Type 0
+  IsDeliveredBy resumes start (Ok found) due = IsDeliveredAfter resumes start found.visited found.end due
+  IsDeliveredBy resumes start (Err e) due = due ≡ Err e
+
+  -- A delivery from a context: the search, and the passes.
+  abbrev pub IsDeliveryBy : List (ℕ × ℕ) → Context → Result Delivered DeliverError → Type 0
+  IsDeliveryBy resumes start due = (found : Result Search DeliverError) × IsSearchBy start found × IsDeliveredBy resumes start found due
+
+-- ---- the search of a delivery
+
+abbrev pub search_stop : Option Stop → SearchEnd
+search_stop None = Untaken EndOfStack
+search_stop (Some stop) = option_map_or (λ pad. TakenBy (kept_at stop.context stop.interrupted)) (pad_of stop.action) (Untaken FatalPhase1)
+
+abbrev pub search_line : stopped.Line → Search
+search_line line = record { visited = line.contexts; end = search_stop line.stop }
+
+-- What the search of a delivery visits, and where it ends.
+abbrev pub search_of : SpaceValue → ℕ → Context → Result Search DeliverError
+search_of space limit c = result_map search_line (pass_of phase.Search space limit c false)
