@@ -16,7 +16,7 @@ use Rattle.unwinding_core.specs.declared.abi.UnwindAction.{UnwindAction}
 use Rattle.unwinding_core.specs.declared.abi.UnwindReasonCode.{UnwindReasonCode}
 use Rattle.unwinding_core.specs.declared.abi.TheConstants.UnwindAction as actions
 use Rattle.unwinding_core.specs.declared.abi.TheConstants.UnwindReasonCode.{HANDLER_FOUND, INSTALL_CONTEXT, CONTINUE_UNWIND, FATAL_PHASE1_ERROR, FATAL_PHASE2_ERROR}
-use Rattle.unwinding_core.specs.Calling.{no_expressions}
+use Rattle.unwind_definitions.specs.Expressions.{evaluation}
 use Rattle.unwinding_core.specs.FrameValue.{FrameValue}
 use Rattle.unwinding_core.specs.OneLine as one
 use Rattle.unwinding_core.specs.Passes.{Marked, unmarked, Answering, LineEnd, RanOut, Decides, Fails, Crowded, is_code, by_personality, cleanup_actions, cleanup_end, mark_of, turn_asked, turn_seen, goes, asked}
@@ -156,7 +156,7 @@ module _ (space : SpaceValue) (row : Run → RowValue) (thrown : Thrown) where
     module _ (x : Marked Context) (whole : IsWhole x.context) where
       module _ (f : FrameAt) where
         calls : Turned ph x (result_map Goes (caller_by space.image x.context f)) (goes tt ((undoing_in space).caller f x.context))
-        calls = go (caller_of x86_64 no_expressions space.image (columns_of x.context) f.run)
+        calls = go (caller_of x86_64 (evaluation space.image) space.image (columns_of x.context) f.run)
           where
             go : (r : Result Columns StepFault) → Turned ph x (result_map Goes (result_map_both (next_with f.found.fde.cie.letters.signal) refusal_of r)) (goes tt (result_map marked (result_map_both (next_with f.found.fde.cie.letters.signal) refusal_of r)))
             go (Ok columns) = (refl, refl)
