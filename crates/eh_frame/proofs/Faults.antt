@@ -96,8 +96,8 @@ other_known (Some base) = other_ok _
 
 other_base : (bases : Bases) (at application : ℕ) → Other (base_of bases at application)
 other_base bases at application =
-    other_if (application == 0) _ _ (other_ok 0) (other_if (application == 1) _ _ (other_ok at) (other_if (application == 2) _ _ (other_known bases.text)
-    (other_if (application == 3) _ _ (other_known bases.data_base) (other_if (application == 4) _ _ (other_known bases.func) (other_err UnsupportedPointerEncoding (λ h. cc))))))
+    other_if (application == 0) _ _ (other_ok 0) (other_if (application == 0x10) _ _ (other_ok at) (other_if (application == 0x20) _ _ (other_known bases.text)
+    (other_if (application == 0x30) _ _ (other_known bases.data_base) (other_if (application == 0x40) _ _ (other_known bases.func) (other_err UnsupportedPointerEncoding (λ h. cc))))))
 
 other_pointer : (e : ℕ) (bases : Bases) (c : Input) → Other (pointer e bases c)
 other_pointer e bases c =

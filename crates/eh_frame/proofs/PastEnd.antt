@@ -39,7 +39,7 @@ ends base = base >>= λ b. short
 
 -- what refuses a pointer of which no byte is there doesn't depend on its place
 same_end : (bases : Bases) (a b application : ℕ) → ends (base_of bases a application) ≡ ends (base_of bases b application)
-same_end bases a b application = go (application == 0) (application == 1) _
+same_end bases a b application = go (application == 0) (application == 0x10) _
   where
     go : (first second : Bool) (later : Result ℕ Fault) → ends (if first then Ok 0 else (if second then Ok a else later)) ≡ ends (if first then Ok 0 else (if second then Ok b else later))
     go true second later = refl

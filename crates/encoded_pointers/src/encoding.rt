@@ -1,10 +1,11 @@
 //! How a pointer in call frame bytes is encoded. LSB, DWARF exception header encoding.
 
-ghost use Rattle.std.specs.Prelude.{◌≡◌, ◌==◌, ◌*◌, OnErr};
+ghost use Rattle.std.specs.Prelude.{◌≡◌, ◌==◌, OnErr};
 ghost use Rattle.unwind_definitions.specs.Pointers.{application_of, encoding, format_of, is_indirect, is_known};
 ghost use Rattle.encoded_pointers.specs.Readers.{GivesOr};
 ghost use Rattle.encoded_pointers.specs.View.{at};
 
+use crate::constants::*;
 use crate::cursor::Cursor;
 use unwind_definitions::Error;
 
@@ -21,17 +22,15 @@ const FORMAT: u8 = 0x0f;
 // its application
 const APPLICATION: u8 = 0x70;
 
-const INDIRECT: u8 = 0x80;
-
 impl DwEhPe {
     /// `DW_EH_PE_absptr`: a word that is the address itself.
-    pub const ABSPTR: DwEhPe = DwEhPe(0x00);
+    pub const ABSPTR: DwEhPe = DwEhPe(DW_EH_PE_ABSPTR);
 
     /// `DW_EH_PE_pcrel | DW_EH_PE_sdata4`: four signed bytes, relative to their own place.
-    pub const RELATIVE_SDATA4: DwEhPe = DwEhPe(0x1b);
+    pub const RELATIVE_SDATA4: DwEhPe = DwEhPe(DW_EH_PE_PCREL | DW_EH_PE_SDATA4);
 
     /// `DW_EH_PE_omit`: there is no pointer.
-    pub const OMIT: DwEhPe = DwEhPe(0xff);
+    pub const OMIT: DwEhPe = DwEhPe(DW_EH_PE_OMIT);
 
     /// How the value is spelled: the low four bits.
     pub fn format(self) -> DwEhPe
@@ -42,7 +41,7 @@ impl DwEhPe {
 
     /// What the value is relative to: the bits 0x70.
     pub fn application(self) -> DwEhPe
-        ensures { result.0 ≡ 16 * application_of self.0 }
+        ensures { result.0 ≡ application_of self.0 }
     {
         DwEhPe(self.0 & APPLICATION)
     }
@@ -52,7 +51,7 @@ impl DwEhPe {
     pub fn is_indirect(self) -> bool
         ensures { result ≡ is_indirect self.0 }
     {
-        !self.is_absent() && self.0 & INDIRECT != 0
+        !self.is_absent() && self.0 & DW_EH_PE_INDIRECT != 0
     }
 
     /// Whether there is no pointer: `DW_EH_PE_omit`.
@@ -66,8 +65,11 @@ impl DwEhPe {
     pub fn is_valid_encoding(self) -> bool
         ensures { result ≡ is_known self.0 }
     {
-        let is_format = matches!(self.format().0, 0x00..=0x04 | 0x09..=0x0c);
-        let is_application = self.application().0 <= 0x50;
+        let is_format = matches!(
+            self.format().0,
+            DW_EH_PE_ABSPTR..=DW_EH_PE_UDATA8 | DW_EH_PE_SLEB128..=DW_EH_PE_SDATA8
+        );
+        let is_application = self.application().0 <= DW_EH_PE_ALIGNED;
         self.is_absent() || is_format && is_application
     }
 }

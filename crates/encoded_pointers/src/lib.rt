@@ -3,12 +3,13 @@
 //!
 //! [`Cursor`] reads, and stays where it is when it can't. [`parse_pointer_encoding`] reads how a
 //! pointer is encoded, and [`parse_encoded_pointer`] the pointer, which may be relative to one of
-//! its [`Bases`].
+//! its [`Bases`]. [`constants`] names the encodings' bytes.
 //!
 //! Source: DWARF 5 section 7 for numbers, 7.6 for LEB128; LSB, DWARF exception header encoding.
 #![tactic(auto)]
 
 mod bases;
+pub mod constants;
 mod cursor;
 mod encoding;
 mod pointer;

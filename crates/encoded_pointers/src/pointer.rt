@@ -7,6 +7,7 @@ ghost use Rattle.encoded_pointers.specs.Pointers.{bases_of, pointer_of};
 ghost use Rattle.encoded_pointers.specs.View.{at};
 
 use crate::bases::Bases;
+use crate::constants::*;
 use crate::cursor::Cursor;
 use crate::encoding::DwEhPe;
 use unwind_definitions::Error;
@@ -66,11 +67,11 @@ fn base_address(encoding: DwEhPe, bases: &Bases, place: u64) -> Result<u64, Erro
     ensures { Answers (λ x. x) result (base_of (bases_of bases.now) place (application_of encoding.0)) }
 {
     match encoding.application().0 {
-        0x00 => Ok(0),
-        0x10 => Ok(place),
-        0x20 => known_base(bases.text),
-        0x30 => known_base(bases.data_base),
-        0x40 => known_base(bases.func),
+        DW_EH_PE_ABSPTR => Ok(0),
+        DW_EH_PE_PCREL => Ok(place),
+        DW_EH_PE_TEXTREL => known_base(bases.text),
+        DW_EH_PE_DATAREL => known_base(bases.data_base),
+        DW_EH_PE_FUNCREL => known_base(bases.func),
         _ => Err(Error::UnsupportedPointerEncoding),
     }
 }
@@ -92,12 +93,12 @@ pub fn read_value(encoding: DwEhPe, input: &mut Cursor) -> Result<u64, Error>
     ensures unchanged { OnErr result (at input.new ≡ at input.old) }
 {
     match encoding.format().0 {
-        0x01 => input.read_uleb128(),
-        0x02 => Ok(u64::from(input.read_u16()?)),
-        0x03 => Ok(u64::from(input.read_u32()?)),
-        0x09 => input.read_sleb128_word(),
-        0x0a => Ok(i64::from(input.read_i16()?).cast_unsigned()),
-        0x0b => Ok(i64::from(input.read_i32()?).cast_unsigned()),
+        DW_EH_PE_ULEB128 => input.read_uleb128(),
+        DW_EH_PE_UDATA2 => Ok(u64::from(input.read_u16()?)),
+        DW_EH_PE_UDATA4 => Ok(u64::from(input.read_u32()?)),
+        DW_EH_PE_SLEB128 => input.read_sleb128_word(),
+        DW_EH_PE_SDATA2 => Ok(i64::from(input.read_i16()?).cast_unsigned()),
+        DW_EH_PE_SDATA4 => Ok(i64::from(input.read_i32()?).cast_unsigned()),
         // of the other formats those of whole words are known
         _ => input.read_u64(),
     }

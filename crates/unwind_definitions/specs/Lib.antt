@@ -19,6 +19,7 @@ pub mod Faults
 pub mod Input
 pub mod Membership
 pub mod Augmentation
+pub mod PointerEncodings
 pub mod Pointers
 pub mod CallFrameOpcodes
 pub mod Instructions

@@ -1,9 +1,10 @@
 -- Pointers in call frame bytes: an encoding byte says the format, what the value is relative to, and whether it is the
 -- address of the pointer. LSB, section on DWARF exception header encoding.
-use Rattle.std.specs.Prelude.{ℕ, ◌+◌, ◌/◌, ◌%◌, ◌^◌, Bool, ◌&&◌, ◌||◌, Option, Some, None, Result, Ok, Err, nat_lt, nat_le, ◌==◌, if◌then◌else◌}
+use Rattle.std.specs.Prelude.{ℕ, ◌+◌, ◌*◌, ◌/◌, ◌%◌, ◌^◌, Bool, ◌&&◌, ◌||◌, Option, Some, None, Result, Ok, Err, nat_lt, nat_le, ◌==◌, if◌then◌else◌}
 use Rattle.std.specs.Int.{Width, w8, w16, w32, w64}
 use Rattle.unwind_definitions.specs.Faults.{Fault, UnsupportedPointerEncoding, UndefinedBase, CannotParseOmitPointerEncoding, UnknownPointerEncoding, ◌>>=◌, unless}
 use Rattle.unwind_definitions.specs.Input.{Reads, address_of, number, signed, uleb, sleb}
+use Rattle.unwind_definitions.specs.PointerEncodings.{DW_EH_PE_absptr, DW_EH_PE_uleb128, DW_EH_PE_udata2, DW_EH_PE_udata4, DW_EH_PE_udata8, DW_EH_PE_sleb128, DW_EH_PE_sdata2, DW_EH_PE_sdata4, DW_EH_PE_sdata8, DW_EH_PE_pcrel, DW_EH_PE_textrel, DW_EH_PE_datarel, DW_EH_PE_funcrel, DW_EH_PE_aligned, DW_EH_PE_indirect, DW_EH_PE_omit}
 
 -- what a pointer may be relative to
 pub record Bases : Type 0 where
@@ -22,13 +23,16 @@ format_of e = e % 16
 
 -- the bits 0x70
 abbrev pub application_of : ℕ → ℕ
-application_of e = (e / 16) % 8
+application_of e = 16 * ((e / 16) % 8)
 
 abbrev pub is_indirect : ℕ → Bool
-is_indirect e = nat_le 128 e && nat_lt e 255
+is_indirect e = nat_le DW_EH_PE_indirect e && nat_lt e DW_EH_PE_omit
 
 abbrev pub is_known : ℕ → Bool
-is_known e = (e == 255) || ((nat_le (format_of e) 4 || (nat_le 9 (format_of e) && nat_le (format_of e) 12)) && nat_le (application_of e) 5)
+is_known e =
+    (e == DW_EH_PE_omit)
+    || ((nat_le (format_of e) DW_EH_PE_udata8 || (nat_le DW_EH_PE_sleb128 (format_of e) && nat_le (format_of e) DW_EH_PE_sdata8))
+    && nat_le (application_of e) DW_EH_PE_aligned)
 
 -- an encoding byte
 abbrev pub encoding : Reads ℕ
@@ -41,17 +45,17 @@ signed_number w bits c = do
   n ← number w c
   Ok (signed bits n.0, n.1)
 
--- the number of a format: absptr, uleb128, udata2, udata4, udata8, sleb128, sdata2, sdata4, sdata8
+-- the number of a format; what is left is DW_EH_PE_sdata8
 abbrev pub value : ℕ → Reads ℕ
 value format =
-    if format == 0 then number w64
-    else (if format == 1 then uleb
-    else (if format == 2 then number w16
-    else (if format == 3 then number w32
-    else (if format == 4 then number w64
-    else (if format == 9 then sleb
-    else (if format == 10 then signed_number w16 16
-    else (if format == 11 then signed_number w32 32
+    if format == DW_EH_PE_absptr then number w64
+    else (if format == DW_EH_PE_uleb128 then uleb
+    else (if format == DW_EH_PE_udata2 then number w16
+    else (if format == DW_EH_PE_udata4 then number w32
+    else (if format == DW_EH_PE_udata8 then number w64
+    else (if format == DW_EH_PE_sleb128 then sleb
+    else (if format == DW_EH_PE_sdata2 then signed_number w16 16
+    else (if format == DW_EH_PE_sdata4 then signed_number w32 32
     else number w64)))))))
 
 abbrev pub known : Option ℕ → Result ℕ Fault
@@ -62,15 +66,15 @@ known (Some base) = Ok base
 -- or the function. An aligned pointer isn't read.
 abbrev pub base_of : Bases → ℕ → ℕ → Result ℕ Fault
 base_of bases at application =
-    if application == 0 then Ok 0
-    else (if application == 1 then Ok at
-    else (if application == 2 then known bases.text
-    else (if application == 3 then known bases.data_base
-    else (if application == 4 then known bases.func
+    if application == DW_EH_PE_absptr then Ok 0
+    else (if application == DW_EH_PE_pcrel then Ok at
+    else (if application == DW_EH_PE_textrel then known bases.text
+    else (if application == DW_EH_PE_datarel then known bases.data_base
+    else (if application == DW_EH_PE_funcrel then known bases.func
     else Err UnsupportedPointerEncoding))))
 
 abbrev pub pointer : ℕ → Bases → Reads Pointer
-pointer e bases c = if e == 255 then Err CannotParseOmitPointerEncoding else (do
+pointer e bases c = if e == DW_EH_PE_omit then Err CannotParseOmitPointerEncoding else (do
   _ ← unless (is_known e) UnknownPointerEncoding
   base ← base_of bases (address_of c) (application_of e)
   n ← value (format_of e) c
