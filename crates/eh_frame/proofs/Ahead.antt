@@ -1,4 +1,4 @@
--- Each entry ends behind its start, and inside its table.
+-- Each entry ends after its start, and inside its table.
 use Rattle.std.proofs.Common.{◌≡◌, ℕ, ◌+◌, ◌-◌, ◌<◌, ◌≤◌, ◌^◌, Bool, true, false, cond, length, take, drop, Option, Some, None, Result, Ok, Err, refl, sym, ap, subst, arith}
 use Rattle.std.specs.Prelude.{nat_lt, ◌==◌, if◌then◌else◌}
 use Rattle.std.specs.Int.{Width, w32, w64, byte_len, from_le_bytes}
@@ -11,7 +11,7 @@ use Rattle.unwind_definitions.specs.Input.{Input, skip, split, number}
 use Rattle.unwind_definitions.specs.Pointers.{Bases}
 use Rattle.unwind_definitions.specs.Entries.{Entry, Found, body, length_behind, entry_in, found_in, entry_at}
 
--- so many bytes are there, and a place stands behind them
+-- so many bytes are there, and a place stands after them
 abbrev IsBehind : ℕ → Input → Input → Type 0
 IsBehind n c d = (n ≤ length c.bytes) × (d ≡ skip n c)
 
@@ -46,7 +46,7 @@ split_behind n c b d e = go (nat_lt (length c.bytes) n) refl e
     go true is e = absurd cc
     go false is e = (ltb-false (length c.bytes) n is, sym (same_rest _ b (skip n c) d e))
 
--- a place is ahead of another, and not behind the end of its bytes
+-- a place is ahead of another, and not after the end of its bytes
 abbrev IsAhead : Input → ℕ → Type 0
 IsAhead c next = (c.offset < next) × (next ≤ c.offset + length c.bytes)
 
@@ -115,7 +115,7 @@ next_of (Err f) = 0
 abbrev placed_before : ℕ → Entry → Result (Option Found) Fault
 placed_before next x = Ok (Some (record { entry = x; next = next }))
 
--- The next entry stands ahead of an entry of a table, and not behind the table's end.
+-- The next entry stands ahead of an entry of a table, and not after the table's end.
 pub entry_ahead : (bases : Bases) (table : Input) (offset : ℕ) (found : Found) → entry_at bases table offset ≡ Ok (Some found) → IsAhead (skip offset table) found.next
 unfolding entry_at next_of
 entry_ahead bases table offset found at = go (body (skip offset table)) refl at

@@ -18,7 +18,7 @@ module _ (bases : Bases) (cie : Cie) (offset : ℕ) (c : Input) (e : ℕ) (encod
     no_len f fault = rw (encoded, read_start, fault) refl
 
     module _ (len : ℕ) (after_len : Input) (read_len : value (format_of e) after_start ≡ Ok (len, after_len)) where
-      -- the addresses end behind the last one
+      -- the addresses end after the last one
       pub overflows : 2 ^ 64 - 1 < start + len → fde_body bases cie offset c ≡ Err AddressOverflow
       overflows above = rw (encoded, read_start, read_len, lt-leb (start + len) (2 ^ 64 - 1) above) refl
 

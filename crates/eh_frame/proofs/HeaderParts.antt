@@ -1,4 +1,4 @@
--- What a header is where its parts read, one behind the other, and the fault of the first that doesn't.
+-- What a header is where its parts read, one after the other, and the fault of the first that doesn't.
 use Rattle.std.proofs.Common.{◌≡◌, ℕ, List, Result, Ok, Err, sym, ap, ◌∙◌}
 use Rattle.std.specs.Prelude.{◌==◌}
 use Rattle.std.specs.Int.{w8}

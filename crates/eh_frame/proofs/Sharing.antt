@@ -16,7 +16,7 @@ before : {A B : Type 0} (r : Result A Fault) (f : A → Result B Fault) (y : B) 
 before (Ok x) f y is = (x, refl, is)
 before (Err e) f y is = absurd cc
 
--- what holds of each end holds behind what is read first
+-- what holds of each end holds after what is read first
 through : {A B : Type 0} (P : B → Type 0) (r : Result A Fault) (f : A → Result B Fault) → ((x : A) → IfOk (f x) P) → IfOk (r >>= f) P
 through P (Ok x) f holds = holds x
 through P (Err e) f holds = tt

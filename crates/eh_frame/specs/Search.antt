@@ -8,7 +8,7 @@ use Rattle.unwind_definitions.specs.Row.{covers_pc}
 use Rattle.unwind_definitions.specs.Scan.{fdes_of, first_covering}
 
 module _ (bases : Bases) (table : Input) (pc : ℕ) where
-  -- entries that can be read, each behind the one before, from an offset on and up to another
+  -- entries that can be read, each after the one before, from an offset on and up to another
   abbrev pub Precede : ℕ → List Entry → ℕ → Type 0
   Precede from [] end = from ≡ end
   Precede from (e ∷ es) end = (next : ℕ) × (entry_at bases table from ≡ Ok (Some (record { entry = e; next = next }))) × Precede next es end

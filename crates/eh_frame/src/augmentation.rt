@@ -64,8 +64,8 @@ fn is_letter(byte: u8) -> bool
     matches!(byte, b'L' | b'P' | b'R' | b'S')
 }
 
-/// What stands behind the return column: with a z a length, and so many bytes for the other
-/// letters. Behind a fault the cursor isn't told.
+/// What stands after the return column: with a z a length, and so many bytes for the other
+/// letters. After a fault the cursor is unspecified.
 pub(crate) fn read_augmentation_data(
     augmentation: &[u8],
     bases: &Bases,

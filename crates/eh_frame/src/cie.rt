@@ -41,7 +41,7 @@ impl<'a> Cie<'a> {
     ghost use Rattle.eh_frame.specs.Letters.{byte_of};
     ghost use Rattle.eh_frame.specs.Views.{cie_of};
 
-    // What stands behind the first four bytes of the entry at `offset`.
+    // What stands after the first four bytes of the entry at `offset`.
     pub(crate) fn read(offset: u64, body: Cursor<'a>, bases: &Bases) -> Result<Cie<'a>, Error>
         ensures { Answers cie_of result (cie_body (bases_of bases.now) offset (at body.entry)) }
     {
@@ -159,8 +159,10 @@ impl<'a> Cie<'a> {
     /// The personality: the routine that reads the language tables of the descriptions. `None`
     /// exactly where the augmentation has no `P`.
     pub fn personality(&self) -> Option<Pointer>
-        ensures pointer { option_map pointer_of result ≡ option_map (λ p. p.1) (cie_of self.now).letters.personality }
-        ensures letter { is_some result ≡ has_letter personality_letter (cie_of self.now).augmentation }
+        ensures pointer { option_map pointer_of result ≡ option_map
+            (λ p. p.1) (cie_of self.now).letters.personality }
+        ensures letter { is_some result ≡ has_letter personality_letter
+            (cie_of self.now).augmentation }
     {
         self.letters
             .personality
@@ -169,8 +171,10 @@ impl<'a> Cie<'a> {
 
     /// How the personality is encoded. `None` exactly where the augmentation has no `P`.
     pub fn personality_encoding(&self) -> Option<DwEhPe>
-        ensures encoding { option_map byte_of result ≡ option_map (λ p. p.0) (cie_of self.now).letters.personality }
-        ensures letter { is_some result ≡ has_letter personality_letter (cie_of self.now).augmentation }
+        ensures encoding { option_map byte_of result ≡ option_map
+            (λ p. p.0) (cie_of self.now).letters.personality }
+        ensures letter { is_some result ≡ has_letter personality_letter
+            (cie_of self.now).augmentation }
     {
         self.letters
             .personality
@@ -181,7 +185,8 @@ impl<'a> Cie<'a> {
     /// augmentation has no `L`.
     pub fn lsda_encoding(&self) -> Option<DwEhPe>
         ensures encoding { option_map byte_of result ≡ (cie_of self.now).letters.language }
-        ensures letter { is_some result ≡ has_letter language_letter (cie_of self.now).augmentation }
+        ensures letter { is_some result ≡ has_letter language_letter
+            (cie_of self.now).augmentation }
     {
         self.letters.language
     }

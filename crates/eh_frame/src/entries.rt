@@ -58,15 +58,16 @@ impl<'a> EhFrame<'a> {
     /// The entries of the table, from its first byte on. `bases` is what their pointers may be
     /// relative to.
     pub fn entries(&self, bases: &Bases) -> Entries<'a>
-        ensures { listing_of result ≡ record { table = table_of self.now; bases = bases_of bases.now; offset = 0; is_over = false } }
+        ensures { listing_of result ≡ record
+            { table = table_of self.now; bases = bases_of bases.now; offset = 0; is_over = false } }
     {
         Entries::new(*self, *bases)
     }
 
     /// The first frame description entry, in the table's order, that contains the address `pc`.
     ///
-    /// Entries are read one after another, each once, and a description's common information
-    /// entry with it, where it isn't the one before. `bases` is what their pointers may be relative to.
+    /// Entries are read one after another, each once, and a description's common information entry
+    /// with it, where it isn't the one before. `bases` is what their pointers may be relative to.
     ///
     /// # Errors
     ///
@@ -147,7 +148,8 @@ impl<'a> EhFrame<'a> {
         known: &Option<Cie<'a>>,
         bases: &Bases,
     ) -> Result<Option<Found<'a>>, Error>
-        requires { IfSome known.now (λ cie. StandsIn (bases_of bases.now) (table_of self.now) (cie_of cie)) }
+        requires { IfSome known.now
+            (λ cie. StandsIn (bases_of bases.now) (table_of self.now) (cie_of cie)) }
         ensures { Answers (option_map found_of) result
             (entry_at (bases_of bases.now) (table_of self.now) offset) }
     {
@@ -172,7 +174,8 @@ impl<'a> EhFrame<'a> {
         known: &Option<Cie<'a>>,
         bases: &Bases,
     ) -> Result<Entry<'a>, Error>
-        requires { IfSome known.now (λ cie. StandsIn (bases_of bases.now) (table_of self.now) (cie_of cie)) }
+        requires { IfSome known.now
+            (λ cie. StandsIn (bases_of bases.now) (table_of self.now) (cie_of cie)) }
         ensures { Answers entry_of result
             (entry_in (bases_of bases.now) (table_of self.now) offset (at body.entry)) }
     {
@@ -196,7 +199,8 @@ impl<'a> EhFrame<'a> {
         known: &Option<Cie<'a>>,
         bases: &Bases,
     ) -> Result<Cie<'a>, Error>
-        requires { IfSome known.now (λ cie. StandsIn (bases_of bases.now) (table_of self.now) (cie_of cie)) }
+        requires { IfSome known.now
+            (λ cie. StandsIn (bases_of bases.now) (table_of self.now) (cie_of cie)) }
         ensures { Answers cie_of result
             (cie_at (bases_of bases.now) (table_of self.now) offset) }
     {
@@ -233,7 +237,8 @@ impl<'a> Entry<'a> {
     // The entry, where it is a description that contains an address.
     fn containing(&self, pc: u64) -> Option<Fde<'a>>
         ensures { (later : Result Described Error) →
-            found_or pc (entry_of self.now) later ≡ option_map_or (λ fde. Ok (fde_of fde)) result later }
+            found_or pc (entry_of self.now) later ≡ option_map_or
+            (λ fde. Ok (fde_of fde)) result later }
     {
         match self {
             Entry::Fde(fde) if fde.contains(pc) => Some(*fde),
@@ -285,7 +290,7 @@ fn read_body<'a>(input: &mut Cursor<'a>) -> Result<Option<Cursor<'a>>, Error>
     Ok(Some(input.split(length)?))
 }
 
-// The length of an entry: what four bytes spell or, where these are all set, the eight behind them.
+// The length of an entry: what four bytes spell or, where these are all set, the eight after them.
 fn read_long_length(short: u32, input: &mut Cursor) -> Result<u64, Error>
     ensures { GivesOr (λ n. n) result (length_behind (short, at input.old)) (at input.new) }
 {

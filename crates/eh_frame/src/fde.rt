@@ -38,7 +38,7 @@ impl<'a> Fde<'a> {
     ghost use Rattle.eh_frame.specs.Views.{cie_of, fde_of};
     ghost use Rattle.frame_rows.specs.Rows.{GivesRow, made};
 
-    // What stands behind the first four bytes of the entry at `offset`, which names `cie`.
+    // What stands after the first four bytes of the entry at `offset`, which names `cie`.
     pub(crate) fn read(
         cie: Cie<'a>,
         offset: u64,
@@ -66,8 +66,8 @@ impl<'a> Fde<'a> {
         })
     }
 
-    // The bytes of an augmentation, where there is one: their number, and so many, with the pointer to
-    // the language table of the function at `start`. Behind a fault the cursor isn't told.
+    // The bytes of an augmentation, where there is one: their number, and so many, with the pointer
+    // to the language table of the function at `start`. After a fault the cursor is unspecified.
     fn read_augmentation_data(
         cie: &Cie,
         bases: &Bases,
@@ -76,7 +76,8 @@ impl<'a> Fde<'a> {
     ) -> Result<Option<Pointer>, Error>
         ensures reads { GivesOr (option_map pointer_of) result
             (fde_data (bases_of bases.now) (cie_of cie.now) start (at input.old)) (at input.new) }
-        ensures told { IfOk result (λ lsda. is_some lsda ≡ is_pointing (letters_of cie.now.letters).language) }
+        ensures told { IfOk result
+            (λ lsda. is_some lsda ≡ is_pointing (letters_of cie.now.letters).language) }
     {
         if cie.augmentation().is_empty() {
             return Ok(None);
@@ -126,7 +127,8 @@ impl<'a> Fde<'a> {
     /// `L`, or where its encoding says that there is none.
     pub fn lsda(&self) -> Option<Pointer>
         ensures pointer { option_map pointer_of result ≡ (fde_of self.now).language }
-        ensures letter { is_some result ≡ (has_letter language_letter (fde_of self.now).cie.augmentation
+        ensures letter { is_some result ≡
+            (has_letter language_letter (fde_of self.now).cie.augmentation
             && is_pointing (fde_of self.now).cie.letters.language) }
     {
         self.lsda
@@ -134,12 +136,13 @@ impl<'a> Fde<'a> {
 
     /// The personality of the common information entry.
     pub fn personality(&self) -> Option<Pointer>
-        ensures { option_map pointer_of result ≡ option_map (λ p. p.1) (fde_of self.now).cie.letters.personality }
+        ensures { option_map pointer_of result ≡ option_map
+            (λ p. p.1) (fde_of self.now).cie.letters.personality }
     {
         self.cie.personality()
     }
 
-    /// The instructions of the function's rows, behind those of the common information entry, in
+    /// The instructions of the function's rows, after those of the common information entry, in
     /// bytes.
     pub fn program(&self) -> &'a [u8]
         ensures { result.now ≡ (fde_of self.now).program.bytes }
@@ -175,8 +178,8 @@ impl<'a> Fde<'a> {
     /// in the order of reading and running:
     ///
     /// - an instruction that isn't known or that can't be read;
-    /// - `AddressOverflow` where the location passes 2^64 - 1, and `LocationGoesBack` where it is set
-    ///   to a lower one;
+    /// - `AddressOverflow` where the location passes 2^64 - 1, and `LocationGoesBack` where it is
+    ///   set to a lower one;
     /// - `TooManyRegisterRules` where a 33rd register gets a rule;
     /// - `NoCfaRegister` where a register or an offset is put in a CFA that has none, or where the
     ///   row has no CFA;
@@ -215,7 +218,8 @@ impl<'a> Fde<'a> {
         pc: u64,
         rows: &mut RowRoom<'a>,
     ) -> Result<(), Error>
-        ensures { GivesRow (made result rows.new) (row_at (bases_of bases.now) (fde_of self.now) pc) }
+        ensures { GivesRow (made result rows.new)
+            (row_at (bases_of bases.now) (fde_of self.now) pc) }
     {
         if !self.contains(pc) {
             return Err(Error::NoUnwindInfoForAddress);
@@ -230,8 +234,8 @@ impl<'a> Fde<'a> {
     }
 }
 
-// The pointer to the language table of the function at `start`, `None` where the augmentation has no
-// `L` or its encoding says that there is none.
+// The pointer to the language table of the function at `start`, `None` where the augmentation has
+// no `L` or its encoding says that there is none.
 fn read_language_pointer(
     encoding: Option<DwEhPe>,
     bases: &Bases,

@@ -81,8 +81,8 @@ impl<'a> EhFrameHdr<'a> {
         self.eh_frame_ptr
     }
 
-    /// The table by which a description is searched. `None` exactly where the count is 0 or omitted,
-    /// or where the format of the table's addresses is omitted or of variable length.
+    /// The table by which a description is searched. `None` exactly where the count is 0 or
+    /// omitted, or where the format of the table's addresses is omitted or of variable length.
     pub fn table(&self) -> Option<HdrTable<'a>>
         ensures { option_map pairs_of result ≡ table_in (header_of self.now) }
     {
@@ -156,7 +156,7 @@ impl<'a> HdrTable<'a> {
     }
 }
 
-// Two addresses, one behind the other.
+// Two addresses, one after the other.
 fn read_pair(encoding: DwEhPe, bases: &Bases, input: Cursor) -> Result<(u64, u64), Error>
     ensures { Answers (λ p. p) result (pair_from encoding.0 (bases_of bases.now) (at input.entry)) }
 {
@@ -166,10 +166,11 @@ fn read_pair(encoding: DwEhPe, bases: &Bases, input: Cursor) -> Result<(u64, u64
     Ok((start, description))
 }
 
-// How many entries a table has, by the encodings of the count and of the table's addresses. Behind a
-// fault the cursor isn't told.
+// How many entries a table has, by the encodings of the count and of the table's addresses. After a
+// fault the cursor is unspecified.
 fn read_count(encoding: DwEhPe, table: DwEhPe, input: &mut Cursor) -> Result<u64, Error>
-    ensures { GivesOr (λ x. x) result (pair_count encoding.0 table.0 (at input.old)) (at input.new) }
+    ensures { GivesOr (λ x. x) result (pair_count encoding.0 table.0 (at input.old))
+        (at input.new) }
 {
     if encoding.is_absent() || table.is_absent() {
         return Ok(0);

@@ -18,7 +18,7 @@ impl<'a> HdrTable<'a> {
     /// The description of the function that contains the address `pc`, by a search that halves.
     ///
     /// The search finds a boundary: an entry that starts at or before `pc`, and the next one, if
-    /// there is one, behind it. In an ascending table there is one at most; in another the one that
+    /// there is one, after it. In an ascending table there is one at most; in another the one that
     /// halving leads to is found. Its description is the answer where it contains `pc`. `frame` is
     /// the frame table, and `bases` what its pointers may be relative to.
     ///
@@ -41,7 +41,8 @@ impl<'a> HdrTable<'a> {
     ) -> Result<Fde<'a>, Error>
         ensures exact { Answers fde_of result
             (table_answer (bases_of bases.now) (table_of frame.now) (pairs_of self.now) pc) }
-        ensures answer { IsTableAnswer (bases_of bases.now) (table_of frame.now) (pairs_of self.now) pc (answer_of result) }
+        ensures answer { IsTableAnswer (bases_of bases.now) (table_of frame.now) (pairs_of self.now)
+            pc (answer_of result) }
         ensures named { IfOk result (λ fde.
             IsNamed (bases_of bases.now) (table_of frame.now) (pairs_of self.now) pc (fde_of fde)) }
         ensures none { result ≡ Err Error.NoUnwindInfoForAddress →

@@ -89,7 +89,7 @@ static HEADER_OF_THREE: [u8; 36] = [
     0xff, 0xff,
 ];
 
-// The header leads behind an entry that can't be read, where a scan finds nothing.
+// The header leads after an entry that can't be read, where a scan finds nothing.
 #[test]
 fn three_functions_take_two_steps(rt: HostRuntime) -> Result<(), Fail> {
     let header = EhFrameHdr::parse(&HEADER_OF_THREE, 0x504000, &Bases::default())?;
@@ -123,7 +123,7 @@ fn fault_of(rt: &impl Abort, bytes: &[u8], fault: Error) {
 #[test]
 fn the_first_fault_of_a_header_is_told(rt: HostRuntime) {
     fault_of(&rt, b"", Error::UnexpectedEof);
-    // version 2, and nothing behind it
+    // version 2, and nothing after it
     fault_of(&rt, b"\x02", Error::UnknownVersion);
     fault_of(&rt, b"\x01\x1b\x03", Error::UnexpectedEof);
     // encodings with the formats 0d and 05

@@ -24,7 +24,11 @@ pub struct Entries<'a> {
     is_over: bool,
     // the common information entry that the entry before is or names
     known: Option<Cie<'a>>,
-    ghost stands: { IfSome known (λ cie. StandsIn (bases_of bases) (table_of table) (cie_of cie)) } by { Prim.hlevel (props, λ (cie : ReadCie). stands_prop (bases_of bases) (table_of table) (cie_of cie)) },
+    ghost stands: { IfSome known
+        (λ cie. StandsIn (bases_of bases) (table_of table) (cie_of cie)) } by { Prim.hlevel (
+          props,
+          λ (cie : ReadCie). stands_prop (bases_of bases) (table_of table) (cie_of cie),
+        ) },
 }
 
 impl<'a> Entries<'a> {
@@ -36,7 +40,8 @@ impl<'a> Entries<'a> {
 
     /// The entries of a table from its first byte on.
     pub(crate) fn new(table: EhFrame<'a>, bases: Bases) -> Entries<'a>
-        ensures { listing_of result ≡ record { table = table_of table.entry; bases = bases_of bases; offset = 0; is_over = false } }
+        ensures { listing_of result ≡ record
+            { table = table_of table.entry; bases = bases_of bases; offset = 0; is_over = false } }
     {
         Entries {
             table,
@@ -62,8 +67,10 @@ impl<'a> Entries<'a> {
     ///
     /// The error of the entry, where it can't be read.
     pub fn next(&mut self) -> Result<Option<Entry<'a>>, Error>
-        ensures entry { Answers (option_map entry_of) result (entry_in (upcoming (listing_of self.old))) }
-        ensures rest { listing_of self.new ≡ behind (listing_of self.old) (upcoming (listing_of self.old)) }
+        ensures entry { Answers (option_map entry_of) result
+            (entry_in (upcoming (listing_of self.old))) }
+        ensures rest { listing_of self.new ≡ behind (listing_of self.old)
+            (upcoming (listing_of self.old)) }
     {
         if self.is_over {
             return Ok(None);

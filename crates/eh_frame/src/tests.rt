@@ -58,7 +58,7 @@ fn the_row_of_a_description(rt: HostRuntime) -> Result<(), Fail> {
     Ok(())
 }
 
-// Behind the description stands an entry of version 2.
+// After the description stands an entry of version 2.
 #[test]
 fn an_unreadable_entry_ends_the_search(rt: HostRuntime) -> Result<(), Fail> {
     let table = EhFrame::new(
@@ -86,7 +86,7 @@ fn the_first_fault_is_told(rt: HostRuntime) -> Result<(), Fail> {
         error_of(b"\x05\x00\x00\x00\x00\x00\x00\x00"),
         Some(Error::UnexpectedEof)
     );
-    // augmentation zPR, nothing behind it
+    // augmentation zPR, nothing after it
     assert_eq!(rt;
         error_of(b"\x09\x00\x00\x00\x00\x00\x00\x00\x01\x7a\x50\x52\x00"),
         Some(Error::UnexpectedEof)
@@ -156,7 +156,7 @@ fn the_first_fault_is_told(rt: HostRuntime) -> Result<(), Fail> {
         ),
         Some(Error::AddressOverflow)
     );
-    // augmentation bytes behind the description
+    // augmentation bytes after the description
     assert_eq!(rt;
         error_of(
             b"\x0d\x00\x00\x00\x00\x00\x00\x00\x01\x7a\x52\x00\x01\x78\x10\x01\x1b\x0d\x00\x00\x00\x15\x00\x00\x00\x00\x00\x00\x00\x01\x00\x00\x00\x01"

@@ -31,6 +31,6 @@ bound_more left b high two lt h =
 pub bound_first : (left b : ℕ) → 2 ≤ left → b < 128 → b < 2 ^ (7 * left - 6)
 bound_first left b two lt = let m : 7 ≤ 7 * left - 6 = omega arith in omega (arith, pow_mono m)
 
--- what stands behind the first byte times 128 fits a word
+-- what stands after the first byte times 128 fits a word
 pub bound_word : (left high : ℕ) → 2 ≤ left → left ≤ 10 → high < 2 ^ (7 * (left - 1) - 6) → high < 2 ^ 57
 bound_word left high two ten h = let m : 7 * (left - 1) - 6 ≤ 57 = omega arith in omega (arith, pow_mono m)

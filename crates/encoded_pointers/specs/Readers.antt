@@ -9,7 +9,7 @@ abbrev pub Gives : {X Y : Type 0} → (X → Y) → Result X Fault → Input →
 Gives view (Ok x) old reads new = reads old ≡ Ok (view x, new)
 Gives view (Err e) old reads new = (reads old ≡ Err e) × (new ≡ old)
 
--- the same, where the place behind a fault isn't told
+-- the same, where the place after a fault is unspecified
 abbrev pub GivesOr : {X Y : Type 0} → (X → Y) → Result X Fault → Result (Y × Input) Fault → Input → Type 0
 GivesOr view (Ok x) read new = read ≡ Ok (view x, new)
 GivesOr view (Err e) read new = read ≡ Err e

@@ -9,9 +9,8 @@ use unwind_definitions::Error;
 
 /// Bytes of a table that are still to be read, and where they stand.
 ///
-/// Each read takes its bytes from the front, the lowest first. A refused read leaves the cursor as it
-/// was.
-/// Source: DWARF 5 section 7.
+/// Each read takes its bytes from the front, the lowest first. A refused read leaves the cursor as
+/// it was. Source: DWARF 5 section 7.
 #[derive(Clone, Copy)]
 pub struct Cursor<'a> {
     bytes: &'a [u8],
@@ -41,10 +40,11 @@ impl<'a> Cursor<'a> {
         }
     }
 
-    /// The bytes of a table from an offset on, of which there are none behind its end. The table's
+    /// The bytes of a table from an offset on, of which there are none after its end. The table's
     /// first byte has the address `address`.
     pub fn from_offset(bytes: &'a [u8], address: u64, offset: u64) -> Cursor<'a>
-        ensures { at result ≡ skip offset (record { base = address; offset = 0; bytes = bytes.now }) }
+        ensures { at result ≡ skip offset
+            (record { base = address; offset = 0; bytes = bytes.now }) }
     {
         let start = offset.min(bytes.len() as u64);
         Cursor {
@@ -137,7 +137,8 @@ impl<'a> Cursor<'a> {
     ///
     /// `UnexpectedEof` where no byte is left.
     pub fn read_i8(&mut self) -> Result<i8, Error>
-        ensures reads { GivesOr (cast_unsigned w64) result (signed_number w8 8 (at self.old)) (at self.new) }
+        ensures reads { GivesOr (cast_unsigned w64) result (signed_number w8 8 (at self.old))
+            (at self.new) }
         ensures unchanged { OnErr result (at self.new ≡ at self.old) }
     {
         let number = self.read_u8()?;
@@ -150,7 +151,8 @@ impl<'a> Cursor<'a> {
     ///
     /// `UnexpectedEof` where fewer are left.
     pub fn read_i16(&mut self) -> Result<i16, Error>
-        ensures reads { GivesOr (cast_unsigned w64) result (signed_number w16 16 (at self.old)) (at self.new) }
+        ensures reads { GivesOr (cast_unsigned w64) result (signed_number w16 16 (at self.old))
+            (at self.new) }
         ensures unchanged { OnErr result (at self.new ≡ at self.old) }
     {
         let number = self.read_u16()?;
@@ -163,7 +165,8 @@ impl<'a> Cursor<'a> {
     ///
     /// `UnexpectedEof` where fewer are left.
     pub fn read_i32(&mut self) -> Result<i32, Error>
-        ensures reads { GivesOr (cast_unsigned w64) result (signed_number w32 32 (at self.old)) (at self.new) }
+        ensures reads { GivesOr (cast_unsigned w64) result (signed_number w32 32 (at self.old))
+            (at self.new) }
         ensures unchanged { OnErr result (at self.new ≡ at self.old) }
     {
         let number = self.read_u32()?;
@@ -176,7 +179,8 @@ impl<'a> Cursor<'a> {
     ///
     /// `UnexpectedEof` where fewer are left.
     pub fn read_i64(&mut self) -> Result<i64, Error>
-        ensures reads { GivesOr (cast_unsigned w64) result (signed_number w64 64 (at self.old)) (at self.new) }
+        ensures reads { GivesOr (cast_unsigned w64) result (signed_number w64 64 (at self.old))
+            (at self.new) }
         ensures unchanged { OnErr result (at self.new ≡ at self.old) }
     {
         let number = self.read_u64()?;
@@ -184,7 +188,7 @@ impl<'a> Cursor<'a> {
     }
 
     // An unsigned number of which at most `left` bytes may come.
-    // Behind a fault the cursor isn't told.
+    // After a fault the cursor is unspecified.
     fn uleb_left(&mut self, left: u8) -> Result<u64, Error>
         requires low { 1 ≤ left }
         requires high { left ≤ 10 }
@@ -209,8 +213,8 @@ impl<'a> Cursor<'a> {
     ///
     /// # Errors
     ///
-    /// `UnexpectedEof` where the bytes end before the number does, and `BadUnsignedLeb128` where its
-    /// tenth byte is neither 00 nor 01. DWARF 5 section 7.6.
+    /// `UnexpectedEof` where the bytes end before the number does, and `BadUnsignedLeb128` where
+    /// its tenth byte is neither 00 nor 01. DWARF 5 section 7.6.
     pub fn read_uleb128(&mut self) -> Result<u64, Error>
         ensures reads { GivesOr (λ x. x) result (uleb (at self.old)) (at self.new) }
         ensures unchanged { OnErr result (at self.new ≡ at self.old) }
@@ -237,7 +241,7 @@ impl<'a> Cursor<'a> {
     }
 
     // A signed number, as a word, of which at most `left` bytes may come.
-    // Behind a fault the cursor isn't told.
+    // After a fault the cursor is unspecified.
     fn sleb_left(&mut self, left: u8) -> Result<u64, Error>
         requires low { 1 ≤ left }
         requires high { left ≤ 10 }

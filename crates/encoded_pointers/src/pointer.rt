@@ -43,7 +43,8 @@ pub fn parse_encoded_pointer(
     bases: &Bases,
     input: &mut Cursor,
 ) -> Result<Pointer, Error>
-    ensures reads { GivesOr pointer_of result (pointer encoding.0 (bases_of bases.now) (at input.old)) (at input.new) }
+    ensures reads { GivesOr pointer_of result
+        (pointer encoding.0 (bases_of bases.now) (at input.old)) (at input.new) }
     ensures unchanged { OnErr result (at input.new ≡ at input.old) }
 {
     if encoding.is_absent() {
@@ -64,7 +65,8 @@ pub fn parse_encoded_pointer(
 
 // What a pointer at `place` is relative to, 0 where it is an address by itself.
 fn base_address(encoding: DwEhPe, bases: &Bases, place: u64) -> Result<u64, Error>
-    ensures { Answers (λ x. x) result (base_of (bases_of bases.now) place (application_of encoding.0)) }
+    ensures { Answers (λ x. x) result
+        (base_of (bases_of bases.now) place (application_of encoding.0)) }
 {
     match encoding.application().0 {
         DW_EH_PE_ABSPTR => Ok(0),
@@ -89,7 +91,8 @@ fn known_base(base: Option<u64>) -> Result<u64, Error>
 ///
 /// The fault of reading the number. The cursor then stays.
 pub fn read_value(encoding: DwEhPe, input: &mut Cursor) -> Result<u64, Error>
-    ensures reads { GivesOr (λ x. x) result (value (format_of encoding.0) (at input.old)) (at input.new) }
+    ensures reads { GivesOr (λ x. x) result (value (format_of encoding.0) (at input.old))
+        (at input.new) }
     ensures unchanged { OnErr result (at input.new ≡ at input.old) }
 {
     match encoding.format().0 {
@@ -115,7 +118,8 @@ pub fn parse_direct_pointer(
     bases: &Bases,
     input: &mut Cursor,
 ) -> Result<u64, Error>
-    ensures reads { GivesOr (λ x. x) result (direct encoding.0 (bases_of bases.now) (at input.old)) (at input.new) }
+    ensures reads { GivesOr (λ x. x) result (direct encoding.0 (bases_of bases.now) (at input.old))
+        (at input.new) }
     ensures unchanged { OnErr result (at input.new ≡ at input.old) }
 {
     let mut rest = *input;

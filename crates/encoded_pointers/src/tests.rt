@@ -237,7 +237,7 @@ fn refused_pointers(rt: HostRuntime) {
     for (encoding, fault) in cases {
         assert_eq!(rt; pointer_by(encoding, &NO_BASES), (Err(fault), 0));
     }
-    // a base that isn't known is told before bytes that are missing
+    // a base that isn't known is reported before bytes that are missing
     let mut input = Cursor::new(&[0xfe], 0x4000);
     let textrel = parse_encoded_pointer(DwEhPe(0x22), &NO_BASES, &mut input);
     assert_eq!(rt; textrel, Err(Error::UndefinedBase));

@@ -32,10 +32,17 @@ pub fn evaluate<R: RegisterMap<Word = u64>>(
     registers: &R,
     image: &MemoryImage<'_>,
 ) -> Result<u64, EvalError>
-    ensures value { (v : ℕ) → (result ≡ Ok v) ↔ HasValue image.now (R.columns registers.now) expression.now (operation_limit expression.now) (begun (stack_of initial)) v }
-    ensures fault { (e : StepFault) → (value_given result ≡ Err e) ↔ HasFault image.now (R.columns registers.now) expression.now (operation_limit expression.now) (begun (stack_of initial)) e }
-    ensures endless { (value_given result ≡ Err (Table Error.TooManyOperations)) ↔ IsEndless image.now (R.columns registers.now) expression.now (operation_limit expression.now) (begun (stack_of initial)) }
-    ensures evaluated { value_given result ≡ evaluation image.now expression.now (stack_of initial) (R.columns registers.now) }
+    ensures value { (v : ℕ) → (result ≡ Ok v) ↔
+        HasValue image.now (R.columns registers.now) expression.now (operation_limit expression.now)
+        (begun (stack_of initial)) v }
+    ensures fault { (e : StepFault) → (value_given result ≡ Err e) ↔
+        HasFault image.now (R.columns registers.now) expression.now (operation_limit expression.now)
+        (begun (stack_of initial)) e }
+    ensures endless { (value_given result ≡ Err (Table Error.TooManyOperations)) ↔
+        IsEndless image.now (R.columns registers.now) expression.now
+        (operation_limit expression.now) (begun (stack_of initial)) }
+    ensures evaluated { value_given result ≡ evaluation image.now expression.now (stack_of initial)
+        (R.columns registers.now) }
 {
     run(expression, initial, registers, image)
 }
@@ -46,7 +53,8 @@ fn run<R: RegisterMap<Word = u64>>(
     registers: &R,
     image: &MemoryImage<'_>,
 ) -> Result<u64, EvalError>
-    ensures { value_given result ≡ evaluation image.now expression.now (stack_of initial) (R.columns registers.now) }
+    ensures { value_given result ≡ evaluation image.now expression.now (stack_of initial)
+        (R.columns registers.now) }
 {
     let end = expression.len() as u64;
     let mut left = 10_000 + end;

@@ -7,8 +7,10 @@ ghost use Rattle.unwind_definitions.specs.Expressions.{Configuration, HasAnswer,
 
 /// An expression has one answer, a value or a fault: that of the run that begins with its stack.
 pub fn answer_is_that_of_a_run()
-    ensures { (image : List Span) (expression stack : List ℕ) (columns : Columns) (answer : Result ℕ StepFault) →
-        (evaluation image expression stack columns ≡ answer) ↔ HasAnswer image columns expression (operation_limit expression) (begun stack) answer }
+    ensures { (image : List Span) (expression stack : List ℕ) (columns : Columns)
+        (answer : Result ℕ StepFault) →
+        (evaluation image expression stack columns ≡ answer) ↔
+        HasAnswer image columns expression (operation_limit expression) (begun stack) answer }
 {}
 
 /// `DW_OP_plus_uconst` 8, by which a register is found that was saved 8 bytes above the frame's
@@ -33,6 +35,7 @@ pub fn loop_is_endless()
 /// Where a number that an expression reads isn't wholly mapped, the word at its address isn't
 /// either.
 pub fn fault_tells_what_is_unmapped()
-    ensures { (image : List Span) (columns : Columns) (expression : List ℕ) (limit : ℕ) (start : Configuration) (a : ℕ) →
+    ensures { (image : List Span) (columns : Columns) (expression : List ℕ) (limit : ℕ)
+        (start : Configuration) (a : ℕ) →
         HasFault image columns expression limit start (Unmapped a) → word_at image a ≡ None }
 {}

@@ -16,7 +16,7 @@ use unwind_arch::{Register, RegisterMap};
 use unwind_definitions::Error;
 
 /// Performs an operation of an expression of so many bytes; the next one stands at `next`.
-/// Answers where the expression goes on. Behind a fault the stack isn't told.
+/// Answers where the expression goes on. After a fault the stack is unspecified.
 #[tactic(auto, unfolding(unwind_definitions::specs::Expressions::done))]
 pub(crate) fn perform<R: RegisterMap<Word = u64>>(
     operation: Operation,
@@ -51,9 +51,10 @@ pub(crate) fn perform<R: RegisterMap<Word = u64>>(
     }
 }
 
-// Where it goes on behind an operation on the stack alone.
+// Where it goes on after an operation on the stack alone.
 fn behind(done: Result<(), Error>, next: u64) -> Result<u64, EvalError>
-    ensures goes_on { (new : List ℕ) (due : Result (List ℕ) Fault) → Leaves done new due → GoesOn result new (goes_on next due) }
+    ensures goes_on { (new : List ℕ) (due : Result (List ℕ) Fault) → Leaves done new due →
+        GoesOn result new (goes_on next due) }
     ensures within { IfOk result (λ n. n ≡ next) }
 {
     match done {
@@ -69,7 +70,8 @@ fn push_register<R: RegisterMap<Word = u64>>(
     stack: &mut Stack,
     registers: &R,
 ) -> Result<u64, EvalError>
-    ensures does { GoesOn result stack.new (pushed_column next offset stack.old (held (R.columns registers.now register.0))) }
+    ensures does { GoesOn result stack.new
+        (pushed_column next offset stack.old (held (R.columns registers.now register.0))) }
     ensures within { IfOk result (λ n. n ≡ next) }
 {
     match registers.get(register) {

@@ -138,7 +138,7 @@ fn read_extension(input: &mut Cursor, code: u8) -> Result<Operation, Error>
     }
 }
 
-/// The next operation. Behind a fault the cursor isn't told.
+/// The next operation. After a fault the cursor is unspecified.
 #[tactic(auto, unfolding(unwind_definitions::specs::Operations::operation_of))]
 pub(crate) fn read_operation(input: &mut Cursor) -> Result<Operation, Error>
     ensures { GivesOr meaning result (operation (at input.old)) (at input.new) }

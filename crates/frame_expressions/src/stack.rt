@@ -50,7 +50,7 @@ impl Stack {
         }
     }
 
-    /// Puts a word on top. Behind a fault the stack isn't told.
+    /// Puts a word on top. After a fault the stack is unspecified.
     pub(crate) fn push(&mut self, word: u64) -> Result<(), Error>
         ensures { Leaves result self.new (push word self.old) }
     {

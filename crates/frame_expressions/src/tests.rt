@@ -1,4 +1,5 @@
-//! Values and faults that an evaluator written in Python from the standard finds for the same bytes.
+//! Values and faults that an evaluator written in Python from the standard finds for the same
+//! bytes.
 
 ghost use Rattle.std.specs.Prelude.{◌≡◌, ◌≢◌, ℕ, Some, None, ◌==◌, is_some, OnSome, IfNone, if◌then◌else◌};
 
@@ -20,7 +21,9 @@ struct Registers {
 impl RegisterMap for Registers {
     type Word = u64;
 
-    ghost columns = { λ r k. if k == 0 then Some r.rax else (if k == 3 then Some r.rbx else (if k == 7 then Some r.rsp else (if k == 64 then Some r.mxcsr else None))) };
+    ghost columns = { λ r k. if k == 0 then Some r.rax else
+        (if k == 3 then Some r.rbx else
+        (if k == 7 then Some r.rsp else (if k == 64 then Some r.mxcsr else None))) };
 
     fn get(&self, register: Register) -> Option<u64> {
         match register.0 {
@@ -56,7 +59,7 @@ static WORDS: [u8; 16] = [
     0x11, 0x12, 0x13, 0x14, 0x15, 0x16, 0x17, 0x18, 0x19, 0x1a, 0x1b, 0x1c, 0x1d, 0x1e, 0x1f, 0x20,
 ];
 
-// Behind them, at 0x7010.
+// After them, at 0x7010.
 static HALF: [u8; 4] = [0xfe, 0xdc, 0xba, 0x98];
 
 // The last four addresses.
@@ -375,7 +378,7 @@ fn branches_stay_within(rt: HostRuntime) -> Result<(), ImageError> {
     Ok(())
 }
 
-// The first fault is told.
+// The first fault is reported.
 static FAULTS: [Case; 13] = [
     (&[], None, Err(EvalError::Table(Error::PopWithEmptyStack))),
     (
@@ -451,7 +454,8 @@ fn first_faults(rt: HostRuntime) -> Result<(), ImageError> {
     Ok(())
 }
 
-// The rule of a register saved 8 bytes above the frame's address, which is what its stack begins with.
+// The rule of a register saved 8 bytes above the frame's address, which is what its stack begins
+// with.
 #[test]
 fn a_saved_register(rt: HostRuntime) {
     let image = MemoryImage::new(rt.alloc());
@@ -476,8 +480,8 @@ fn sixty_four_words(rt: HostRuntime) {
     );
 }
 
-// A turn of this loop takes six operations and counts down by one. The expression has eight bytes, so
-// 10,008 operations are allowed, and 1,668 turns take just as many.
+// A turn of this loop takes six operations and counts down by one. The expression has eight bytes,
+// so 10,008 operations are allowed, and 1,668 turns take just as many.
 #[test]
 fn the_last_operation_is_done(rt: HostRuntime) {
     let image = MemoryImage::new(rt.alloc());

@@ -18,7 +18,7 @@ use Rattle.frame_rows.specs.Rules.{rule_in, AscendsFrom, is_room}
 abbrev names : List Instruction → ℕ → Bool
 names is c = is_member nat_eq (filter_map column_named is) c
 
--- what a cut keeps, and what it keeps behind the first restore, says nothing of a column
+-- what a cut keeps, and what it keeps after the first restore, says nothing of a column
 record Silent (initial : Option Rule) (c : ℕ) (kept : Cut) : Type 0 where
   now : last_word (says_of initial c) kept.kept ≡ None
   later : last_word (says_of initial c) (unwrap_or kept.behind []) ≡ None

@@ -95,7 +95,7 @@ module _ (c : ℕ) where
     ascends = λ rule from fits. (from, later);
   }
 
-  -- behind a lower entry
+  -- after a lower entry
   behind : (rule r o : Option Rule) (e : ℕ × Rule) (q : ℕ) → e.0 < c → r ≡ cond (c == q) rule o → cond (e.0 == q) (Some e.1) r ≡ cond (c == q) rule (cond (e.0 == q) (Some e.1) o)
   behind rule r o e q lt is = go (e.0 == q) refl
     where

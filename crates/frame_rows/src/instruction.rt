@@ -53,7 +53,8 @@ fn set_rule<'a>(register: Register, rule: RegisterRule<'a>) -> CallFrameInstruct
 
 // An offset that is spelled in data units, unsigned.
 fn read_offset(input: &mut Cursor, coding: Coding) -> Result<u64, Error>
-    ensures { GivesOr (λ n. n) result (unsigned_offset (coding_in coding.entry) (at input.old)) (at input.new) }
+    ensures { GivesOr (λ n. n) result (unsigned_offset (coding_in coding.entry) (at input.old))
+        (at input.new) }
 {
     let units = input.read_uleb128()?;
     Ok(units.wrapping_mul(coding.data_factor))
@@ -61,13 +62,14 @@ fn read_offset(input: &mut Cursor, coding: Coding) -> Result<u64, Error>
 
 // The same, signed.
 fn read_signed_offset(input: &mut Cursor, coding: Coding) -> Result<u64, Error>
-    ensures { GivesOr (λ n. n) result (signed_offset (coding_in coding.entry) (at input.old)) (at input.new) }
+    ensures { GivesOr (λ n. n) result (signed_offset (coding_in coding.entry) (at input.old))
+        (at input.new) }
 {
     let units = input.read_sleb128_word()?;
     Ok(units.wrapping_mul(coding.data_factor))
 }
 
-// The bytes of an expression, behind their number.
+// The bytes of an expression, after their number.
 fn read_expression<'a>(input: &mut Cursor<'a>) -> Result<&'a [u8], Error>
     ensures { GivesOr (λ bytes. bytes.now) result (block (at input.old)) (at input.new) }
 {
@@ -84,7 +86,8 @@ fn read_operation<'a>(
     coding: Coding,
     operation: u8,
 ) -> Result<CallFrameInstruction<'a>, Error>
-    ensures { GivesOr meaning result (operation_read (coding_in coding.entry) operation (at input.old)) (at input.new) }
+    ensures { GivesOr meaning result
+        (operation_read (coding_in coding.entry) operation (at input.old)) (at input.new) }
 {
     match operation {
         DW_CFA_SET_LOC => {
@@ -105,7 +108,8 @@ fn read_cfa_definition<'a>(
     coding: Coding,
     operation: u8,
 ) -> Result<CallFrameInstruction<'a>, Error>
-    ensures { GivesOr meaning result (cfa_read (coding_in coding.entry) operation (at input.old)) (at input.new) }
+    ensures { GivesOr meaning result (cfa_read (coding_in coding.entry) operation (at input.old))
+        (at input.new) }
 {
     Ok(match operation {
         DW_CFA_DEF_CFA => {
@@ -137,7 +141,8 @@ fn read_offset_rule<'a>(
     coding: Coding,
     operation: u8,
 ) -> Result<CallFrameInstruction<'a>, Error>
-    ensures { GivesOr meaning result (offset_read (coding_in coding.entry) operation (at input.old)) (at input.new) }
+    ensures { GivesOr meaning result (offset_read (coding_in coding.entry) operation (at input.old))
+        (at input.new) }
 {
     match operation {
         DW_CFA_OFFSET_EXTENDED => {
@@ -224,7 +229,8 @@ pub(crate) fn read_instruction<'a>(
     input: &mut Cursor<'a>,
     coding: Coding,
 ) -> Result<CallFrameInstruction<'a>, Error>
-    ensures { GivesOr meaning result (instruction (coding_in coding.entry) (at input.old)) (at input.new) }
+    ensures { GivesOr meaning result (instruction (coding_in coding.entry) (at input.old))
+        (at input.new) }
 {
     let byte = input.read_u8()?;
     let low = byte % 64;

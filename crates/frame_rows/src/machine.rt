@@ -40,7 +40,8 @@ pub(crate) struct Machine<'a> {
     remembered: Option<RowState<'a>>,
     location: u64,
     state: RowState<'a>,
-    // the rules that the CIE's program ended with; none while that one runs, which has no rules before
+    // the rules that the CIE's program ended with; none while that one runs, which has no rules
+    // before
     initial: RegisterRules<'a>,
 }
 
@@ -95,7 +96,8 @@ impl<'a> Machine<'a> {
     /// Makes what the entry's program said the beginning of a description's program, which starts
     /// at a location.
     pub(crate) fn begin(&mut self, location: u64)
-        ensures { (common : List Instruction) → Represents 0 self.old (record { common = []; own = common }) →
+        ensures { (common : List Instruction) →
+            Represents 0 self.old (record { common = []; own = common }) →
             Represents location self.new (from_common common) }
     {
         self.location = location;
@@ -221,7 +223,7 @@ impl<'a> Machine<'a> {
         Ok(())
     }
 
-    /// Runs one instruction. Behind a fault the machine isn't told.
+    /// Runs one instruction. After a fault the machine is unspecified.
     pub(crate) fn run(&mut self, instruction: CallFrameInstruction<'a>) -> Result<(), Error>
         ensures { (start : ℕ) (run : Run) → Represents start self.old run →
             Follows start run (meaning instruction.entry) result self.new }
@@ -255,7 +257,8 @@ impl<'a> Machine<'a> {
 
     /// Puts the row that the programs end with in place of another.
     pub(crate) fn put_row(&self, row: &mut Row<'a>) -> Result<(), Error>
-        ensures { (start : ℕ) (run : Run) → Represents start self.now run → IsLast run (made result row.new) }
+        ensures { (start : ℕ) (run : Run) → Represents start self.now run →
+            IsLast run (made result row.new) }
     {
         match self.state.cfa {
             Some(cfa) => {
@@ -290,7 +293,8 @@ impl<'a> Machine<'a> {
 
 // The register and the offset of a CFA that is found by them.
 fn register_and_offset(cfa: Option<CfaRule>) -> Result<(Register, u64), Error>
-    ensures ok { IfOk result (λ r. option_map cfa_meaning cfa.entry ≡ Some (ColumnAndOffset r.0.0 r.1)) }
+    ensures ok { IfOk result (λ r. option_map cfa_meaning cfa.entry ≡ Some
+        (ColumnAndOffset r.0.0 r.1)) }
     ensures err { IfErr result (λ e. e ≡ Error.NoCfaRegister) }
     ensures none { OnErr result (has_column (option_map cfa_meaning cfa.entry) ≡ false) }
 {

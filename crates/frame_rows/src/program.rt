@@ -37,7 +37,7 @@ pub fn row_at<'a>(
 
 /// Runs the program of a common information entry, whole, and then a description's own, which
 /// begins at `start`, up to the instruction that leads past an address. What the machine ran before
-/// doesn't matter, and behind a fault it isn't told.
+/// doesn't matter, and after a fault it is unspecified.
 pub(crate) fn run_programs<'a>(
     machine: &mut Machine<'a>,
     common: Cursor<'a>,
@@ -55,8 +55,8 @@ pub(crate) fn run_programs<'a>(
     run_program(machine, own, coding, Some(pc))
 }
 
-// Runs a program, whole or up to the instruction that leads past an address. Behind a fault the
-// machine isn't told.
+// Runs a program, whole or up to the instruction that leads past an address. After a fault the
+// machine is unspecified.
 fn run_program<'a>(
     machine: &mut Machine<'a>,
     bytes: Cursor<'a>,

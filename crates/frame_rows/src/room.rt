@@ -52,7 +52,7 @@ impl<'a> RowRoom<'a> {
         }
     }
 
-    /// The row that was made last. Behind a fault it isn't told.
+    /// The row that was made last. After a fault it is unspecified.
     pub fn row(&self) -> RowRef<'_, 'a>
         ensures { result ≡ self.now }
     {

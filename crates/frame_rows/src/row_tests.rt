@@ -182,7 +182,7 @@ fn each_instruction(rt: HostRuntime) -> Result<(), Fail> {
     Ok(())
 }
 
-// Why a program has no row at its end, behind one that says nothing.
+// Why a program has no row at its end, after one that says nothing.
 fn fault_of(own: &[u8]) -> Option<Error> {
     let common = Cursor::from_offset(&[], 0, 0);
     let coding = Coding {

@@ -34,7 +34,8 @@ impl RegisterMap for Context {
     /// What a column holds. `None` exactly where the number is none of 0 to 31 and 64 to 95.
     fn get(&self, register: Register) -> Option<u64>
         ensures value { result ≡ columns_of self.now register.0 }
-        ensures found { IsSome result ↔ ((register.0 < 32) ⊎ ((64 ≤ register.0) × (register.0 < 96))) }
+        ensures found { IsSome result ↔
+            ((register.0 < 32) ⊎ ((64 ≤ register.0) × (register.0 < 96))) }
     {
         match register.0 {
             0..31 => Some(self.gp[register.0 as usize]),
@@ -44,12 +45,14 @@ impl RegisterMap for Context {
         }
     }
 
-    /// Writes a column. `None`, and nothing is written, exactly where the number is none of 0 to 31 and 64 to 95.
+    /// Writes a column. `None`, and nothing is written, exactly where the number is none of 0 to 31
+    /// and 64 to 95.
     fn set(&mut self, register: Register, value: u64) -> Option<()>
         ensures context { written result self.new ≡ with_column self.old register.0 value }
         ensures found { is_some result ≡ is_some (columns_of self.old register.0) }
         ensures holds { OnSome result (columns_of self.new register.0 ≡ Some value) }
-        ensures others { OnSome result ((k : ℕ) → k ≢ register.0 → columns_of self.new k ≡ columns_of self.old k) }
+        ensures others { OnSome result ((k : ℕ) → k ≢ register.0 →
+            columns_of self.new k ≡ columns_of self.old k) }
         ensures unchanged { IfNone result (self.new ≡ self.old) }
     {
         match register.0 {

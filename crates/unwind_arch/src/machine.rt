@@ -35,8 +35,10 @@ pub trait Machine {
     ghost has_ra: { (c : Self.Context) → IsSome (Self.Context.columns c RA.0) };
 
     /// Every context has the register of the exception.
-    ghost has_exception: { (c : Self.Context) → IsSome (Self.Context.columns c UNWIND_DATA_REG.0.0) };
+    ghost has_exception: { (c : Self.Context) →
+        IsSome (Self.Context.columns c UNWIND_DATA_REG.0.0) };
 
     /// Every context has the register of the selector.
-    ghost has_selector: { (c : Self.Context) → IsSome (Self.Context.columns c UNWIND_DATA_REG.1.0) };
+    ghost has_selector: { (c : Self.Context) →
+        IsSome (Self.Context.columns c UNWIND_DATA_REG.1.0) };
 }

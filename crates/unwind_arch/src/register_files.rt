@@ -37,12 +37,14 @@ impl RegisterMap for Context {
         }
     }
 
-    /// Writes a column. `None`, and nothing is written, exactly where the number is none of 0 to 63.
+    /// Writes a column. `None`, and nothing is written, exactly where the number is none of 0 to
+    /// 63.
     fn set(&mut self, register: Register, value: u64) -> Option<()>
         ensures context { written result self.new ≡ with_column self.old register.0 value }
         ensures found { is_some result ≡ is_some (columns_of self.old register.0) }
         ensures holds { OnSome result (columns_of self.new register.0 ≡ Some value) }
-        ensures others { OnSome result ((k : ℕ) → k ≢ register.0 → columns_of self.new k ≡ columns_of self.old k) }
+        ensures others { OnSome result ((k : ℕ) → k ≢ register.0 →
+            columns_of self.new k ≡ columns_of self.old k) }
         ensures unchanged { IfNone result (self.new ≡ self.old) }
     {
         match register.0 {

@@ -25,6 +25,7 @@ pub trait RegisterMap {
     fn set(&mut self, register: Register, value: Self::Word) -> Option<()>
         ensures found { is_some result ≡ is_some (columns self.old register.0) }
         ensures holds { OnSome result (columns self.new register.0 ≡ Some value) }
-        ensures others { OnSome result ((k : ℕ) → k ≢ register.0 → columns self.new k ≡ columns self.old k) }
+        ensures others { OnSome result ((k : ℕ) → k ≢ register.0 →
+            columns self.new k ≡ columns self.old k) }
         ensures unchanged { IfNone result (self.new ≡ self.old) };
 }

@@ -24,7 +24,7 @@ signal_letter = 0x53
 abbrev pub is_letter : ℕ → Bool
 is_letter l = is_among (language_letter ∷ personality_letter ∷ address_letter ∷ signal_letter ∷ []) l
 
--- the letters that stand behind a z
+-- the letters that stand after a z
 abbrev pub letters_in : List ℕ → List ℕ
 letters_in [] = []
 letters_in (z ∷ letters) = letters
@@ -33,7 +33,7 @@ letters_in (z ∷ letters) = letters
 abbrev pub has_letter : ℕ → List ℕ → Bool
 has_letter letter text = is_among (letters_in text) letter
 
--- none, or a z and letters behind it
+-- none, or a z and letters after it
 abbrev pub is_augmentation : List ℕ → Bool
 is_augmentation [] = true
 is_augmentation (z ∷ letters) = (z == 0x7a) && list_all is_letter letters

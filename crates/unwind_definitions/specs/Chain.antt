@@ -14,7 +14,7 @@ pub record Call : Type 0 where
   pub caller : State
 
 -- A state is stopped in the body of a function that was entered from the caller's state. The return address is the one
--- behind a call, so that the address before it lies in the body.
+-- after a call, so that the address before it lies in the body.
 pub record IsCalled (image : List Span) (s : State) (c : Call) : Type 0 where
   pub returns : s.ra ≢ 0
   pub inside : IsTrue (in_body c.callee (s.ra - 1))

@@ -100,7 +100,7 @@ abbrev pub delivery_of : ℕ → State → List Call → Delivery
 delivery_of exception s calls = option_map_or (λ (f : Frame). decided_by exception (inner_frames s calls) f.state (action_of_frame f)) (deciding_frame s calls)
     (not_installed (states_of s calls) EndOfStack)
 
--- ---- resuming behind a cleanup
+-- ---- resuming after a cleanup
 
 -- the first return address that a resume table has for a landing pad
 abbrev pub resume_of : List (ℕ × ℕ) → ℕ → Option ℕ
@@ -111,6 +111,6 @@ abbrev pub GoesOn : Function → Option ℕ → Type 0
 GoesOn f None = ⊥
 GoesOn f (Some ret) = (ret ≢ 0) × IsTrue (in_body f (ret - 1)) × (action_at f (ret - 1) ≡ NoAction)
 
--- behind its cleanup, where it has one, a frame's function goes on where the resume table says
+-- after its cleanup, where it has one, a frame's function goes on where the resume table says
 abbrev pub Resumes : List (ℕ × ℕ) → Frame → Type 0
 Resumes resumes f = IfSome (cleanup_pad (action_of_frame f)) (λ pad. GoesOn f.function (resume_of resumes pad))

@@ -24,7 +24,7 @@ Leaves image t sp (Allocate n ∷ steps) = (n ≤ sp) × Leaves image t (sp - n)
 Leaves image t sp (SetFrame m ∷ steps) = (sp + m < 2 ^ 64) × Leaves image t sp steps
 Leaves image t sp (Store r k ∷ steps) = (sp + k + size_of r ≤ 2 ^ 64) × SlotHolds image t (sp + k) r × Leaves image t sp steps
 
--- the stack pointer behind steps
+-- the stack pointer after steps
 abbrev pub stack_after : ℕ → List Step → ℕ
 stack_after sp [] = sp
 stack_after sp (Push r ∷ steps) = stack_after (sp - 8) steps

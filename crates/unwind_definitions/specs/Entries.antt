@@ -61,7 +61,7 @@ letters_from bases (l ∷ ls) before c = letter bases l before c >>= λ r. lette
 abbrev pub no_letters : Letters
 no_letters = record { language = None; personality = None; address = None; signal = false }
 
--- behind a z a length, and so many bytes for the other letters
+-- after a z a length, and so many bytes for the other letters
 abbrev pub augmentation_data : Bases → List ℕ → Reads Letters
 augmentation_data bases [] c = Ok (no_letters, c)
 augmentation_data bases (z ∷ ls) c = do
@@ -80,7 +80,7 @@ sizes version c = if version == 4 then (do
 abbrev pub return_column : ℕ → Reads ℕ
 return_column version c = if version == 1 then number w8 c else column c
 
--- what stands behind the first four bytes
+-- what stands after the first four bytes
 abbrev pub cie_body : Bases → ℕ → Input → Result Cie Fault
 cie_body bases offset c = do
   version ← number w8 c
@@ -106,7 +106,7 @@ abbrev pub language_pointer : Bases → ℕ → Option ℕ → Input → Result 
 language_pointer bases start None c = Ok None
 language_pointer bases start (Some e) c = if e == 255 then Ok None else (pointer e (record bases { func = Some start }) c >>= λ p. Ok (Some p.0))
 
--- behind a z a length, and so many bytes with the language table's pointer
+-- after a z a length, and so many bytes with the language table's pointer
 abbrev pub fde_data : Bases → Cie → ℕ → Reads (Option Pointer)
 fde_data bases cie start c = if length cie.augmentation == 0 then Ok (None, c) else (do
   n ← uleb c
@@ -114,7 +114,7 @@ fde_data bases cie start c = if length cie.augmentation == 0 then Ok (None, c) e
   p ← language_pointer bases start cie.letters.language block.0
   Ok (p, block.1))
 
--- what stands behind the first four bytes: a start, a length in the same format, and the program
+-- what stands after the first four bytes: a start, a length in the same format, and the program
 abbrev pub fde_body : Bases → Cie → ℕ → Input → Result Fde Fault
 fde_body bases cie offset c = do
   start ← direct (address_encoding cie) bases c
@@ -134,7 +134,7 @@ pub record Found : Type 0 where
   pub entry : Entry
   pub next : ℕ
 
--- a length that four bytes spell, or where they are all set the eight behind them
+-- a length that four bytes spell, or where they are all set the eight after them
 abbrev pub length_behind : ℕ × Input → Result (ℕ × Input) Fault
 length_behind n = if n.0 == 2 ^ 32 - 1 then number w64 n.1 else Ok n
 

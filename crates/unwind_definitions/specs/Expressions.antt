@@ -57,7 +57,7 @@ pub record Configuration : Type 0 where
 abbrev pub rest_at : List ℕ → ℕ → Input
 rest_at expression n = record { base = 0; offset = n; bytes = drop n expression }
 
--- the stack behind an operation that goes on to the next one
+-- the stack after an operation that goes on to the next one
 abbrev pub goes_on : ℕ → Result (List ℕ) Fault → Result Configuration StepFault
 goes_on next (Ok stack) = Ok (record { position = next; stack = stack })
 goes_on next (Err e) = Err (Table e)

@@ -77,7 +77,7 @@ abbrev pub offset_of : Entry → ℕ
 offset_of (ACie cie) = cie.offset
 offset_of (AFde fde) = fde.offset
 
--- an entry's length is spelled by its first four bytes, and not by eight behind them
+-- an entry's length is spelled by its first four bytes, and not by eight after them
 abbrev pub HasShortLength : Input → Entry → Type 0
 HasShortLength table e = (n : ℕ) × (rest : Input) × (number w32 (skip (offset_of e) table) ≡ Ok (n, rest)) × (n < 2 ^ 32 - 1)
 

@@ -66,7 +66,7 @@ table_by h width = record { count = h.count; width = width; encoding = h.encodin
 abbrev pub table_in : FrameHeader → Option PairTable
 table_in h = if h.count == 0 then None else option_map (table_by h) (width_of (format_of h.encoding))
 
--- a start, and the description's address behind it
+-- a start, and the description's address after it
 abbrev pub pair_from : ℕ → Bases → Input → Result (ℕ × ℕ) Fault
 pair_from e bases c = do
   start ← direct e bases c

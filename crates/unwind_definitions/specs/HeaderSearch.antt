@@ -11,11 +11,11 @@ use Rattle.unwind_definitions.specs.Header.{PairTable, pair_at}
 
 -- ---- boundaries
 
--- the pair at an index can be read, and starts behind an address
+-- the pair at an index can be read, and starts after an address
 abbrev pub StartsBehind : PairTable → ℕ → ℕ → Type 0
 StartsBehind t pc i = (p : ℕ × ℕ) × (pair_at t i ≡ Ok p) × (pc < p.0)
 
--- a pair starts at or before an address, and the next one, if there is one, behind it
+-- a pair starts at or before an address, and the next one, if there is one, after it
 pub record IsBoundary (t : PairTable) (pc : ℕ) (p : ℕ × ℕ) : Type 0 where
   pub index : ℕ
   pub within : index < t.count
@@ -23,7 +23,7 @@ pub record IsBoundary (t : PairTable) (pc : ℕ) (p : ℕ × ℕ) : Type 0 where
   pub at_or_before : p.0 ≤ pc
   pub next_behind : index + 1 < t.count → StartsBehind t pc (index + 1)
 
--- there is no pair, or the first one starts behind an address
+-- there is no pair, or the first one starts after an address
 abbrev pub StartsAbove : PairTable → ℕ → Type 0
 StartsAbove t pc = 0 < t.count → StartsBehind t pc 0
 

@@ -89,7 +89,7 @@ module _ (t : PairTable) (pc : ℕ) where
 
   -- ---- what is answered
 
-  -- the pair just below a place is at or before the address, unless the search began there, and that at it behind, unless the
+  -- the pair just below a place is at or before the address, unless the search began there, and that at it after, unless the
   -- search ended there
   abbrev IsPlace : ℕ → ℕ → Result ℕ Fault → Type 0
   IsPlace low high (Err e) = (i : ℕ) × (i < high) × (pair_at t i ≡ Err e)

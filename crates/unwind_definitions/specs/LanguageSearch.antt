@@ -42,7 +42,7 @@ sum_below a b = if nat_lt (a + b) (2 ^ 64) then Ok (a + b) else Err (Table Addre
 
 -- ---- a table's head
 
--- what landing pads count from, how the numbers of a call site are encoded, the call sites, and the action table behind them
+-- what landing pads count from, how the numbers of a call site are encoded, the call sites, and the action table after them
 pub record Head : Type 0 where
   pub pad_base : ℕ
   pub site_encoding : ℕ
@@ -106,7 +106,7 @@ decision start a h s = do
 
 -- ---- the search
 
--- a decision, or what a search behind it gives
+-- a decision, or what a search after it gives
 abbrev pub decided_or : Option Action → Result Action StepFault → Result Action StepFault
 decided_or (Some x) later = Ok x
 decided_or None later = later
@@ -136,7 +136,7 @@ some_address r = r >>= λ a. Ok (Some a)
 abbrev pub personality_address : List Span → Fde → Result (Option ℕ) StepFault
 personality_address image fde = option_map_or (λ p. some_address (target image p)) (option_map (λ p. p.1) fde.cie.letters.personality) (Ok None)
 
--- A frame's return address stands behind a call, or at an instruction that a signal stopped.
+-- A frame's return address stands after a call, or at an instruction that a signal stopped.
 abbrev pub address_of_call : ℕ → Bool → ℕ
 address_of_call ra signal = if signal then ra else (ra + (2 ^ 64 - 1)) % 2 ^ 64
 
@@ -152,7 +152,7 @@ language_action image bases fde a = language_address image fde >>= asked_by imag
 -- ---- which call site decides, in words
 
 module _ (image : List Span) (bases : Bases) (start a : ℕ) (h : Head) where
-  -- call sites, each behind the one before, that all end at the address or before it
+  -- call sites, each after the one before, that all end at the address or before it
   abbrev pub Precede : Input → List CallSite → Input → Type 0
   Precede c [] d = c ≡ d
   Precede c (s ∷ ss) d = (next : Input) × (call_site image bases h.site_encoding c ≡ Ok (s, next)) × (start + s.from + s.size ≤ a) × Precede next ss d

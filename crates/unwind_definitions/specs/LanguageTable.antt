@@ -55,7 +55,7 @@ site_bytes c = do
   uleb site.1
 
 -- At an address, which isn't 0, stands a language table of a function that starts here, with these sites, and the action
--- table behind them. It lies in one region.
+-- table after them. It lies in one region.
 pub record IsLanguageTable (image : List Span) (a start : ℕ) (sites : List Site) : Type 0 where
   pub nonzero : a ≢ 0
   pub size : ℕ

@@ -25,7 +25,7 @@ pub mod CallFrameOpcodes
 pub mod Instructions
 pub mod Entries
 pub mod Row
--- Behind these the theorem on chains asks for nothing more. What is said of any bytes beside it: what a scan and a header
+-- After these the theorem on chains asks for nothing more. What is said of any bytes beside it: what a scan and a header
 -- answer, the caller by a row, what a language table asks, a state inside a prologue, and how numbers are spelled.
 pub mod Caller
 pub mod ExpressionOpcodes

@@ -60,7 +60,7 @@ header_bases h = record no_bases { data_base = Some h }
 abbrev pub header_form : List ℕ
 header_form = 1 ∷ 0x1b ∷ 0x03 ∷ 0x3b ∷ []
 
--- the frame table's address: four signed bytes behind those, relative to their place
+-- the frame table's address: four signed bytes after those, relative to their place
 abbrev pub header_pointer : List Span → ℕ → Result (ℕ × Input) Fault
 header_pointer image h = direct 0x1b no_bases (skip 4 (input_at image h))
 

@@ -32,7 +32,7 @@ room_of (Allocate n) = n
 room_of (SetFrame m) = 0
 room_of (Store r k) = 0
 
--- how far the stack pointer is below the caller's behind steps; the return address takes 8 bytes of it
+-- how far the stack pointer is below the caller's after steps; the return address takes 8 bytes of it
 abbrev pub depth : List Step → ℕ
 depth steps = 8 + sum_by room_of steps
 

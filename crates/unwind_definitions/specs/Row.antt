@@ -27,7 +27,7 @@ location at (Advance n ∷ is) = location (at + n) is
 location at (SetLocation a ∷ is) = location a is
 location at (i ∷ is) = location at is
 
--- without each stretch from a remember to the next restore; and the same of what is behind the first restore
+-- without each stretch from a remember to the next restore; and the same of what is after the first restore
 pub record Cut : Type 0 where
   pub kept : List Instruction
   pub behind : Option (List Instruction)
@@ -115,7 +115,7 @@ remembers Remember = Some true
 remembers Restore = Some false
 remembers _ = None
 
--- whether a state is remembered behind instructions
+-- whether a state is remembered after instructions
 abbrev pub is_open : List Instruction → Bool
 is_open is = unwrap_or (last_word remembers is) false
 
@@ -142,7 +142,7 @@ fault_of start run Remember = fault_where (is_open run.own) StackFull
 fault_of start run Restore = fault_where (not (is_open run.own)) PopWithEmptyStack
 fault_of start run _ = None
 
--- the first fault in reading order, of instructions behind others
+-- the first fault in reading order, of instructions after others
 abbrev pub first_fault : ℕ → Run → List Instruction → Option Fault
 first_fault start run [] = None
 first_fault start run (i ∷ is) = option_or (fault_of start run i) (first_fault start (record run { own = run.own ++ i ∷ [] }) is)

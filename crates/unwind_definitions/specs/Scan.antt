@@ -18,7 +18,7 @@ fdes_of entries = filter_map fde_of entries
 abbrev pub first_covering : List Fde → ℕ → Option Fde
 first_covering fdes pc = find (λ fde. covers_pc fde pc) fdes
 
--- the description, where it contains the address, or what a search behind it gives
+-- the description, where it contains the address, or what a search after it gives
 abbrev pub found_or : ℕ → Entry → Result Fde Fault → Result Fde Fault
 found_or pc (ACie cie) later = later
 found_or pc (AFde fde) later = if covers_pc fde pc then Ok fde else later

@@ -11,7 +11,7 @@ abbrev pub IsBelowNext : Function → ℕ → List PrologueStep → Type 0
 IsBelowNext f a [] = a < first_body f
 IsBelowNext f a (p ∷ later) = a < f.start + p.end
 
--- A state stands behind the first steps of a prologue, `done`, and before the `later` ones. Every register still holds what
+-- A state stands after the first steps of a prologue, `done`, and before the `later` ones. Every register still holds what
 -- the caller had, but for RBP once it is set.
 pub record StandsAfter (image : List Span) (f : Function) (done later : List PrologueStep) (t s : State) : Type 0 where
   pub steps : f.prologue ≡ done ++ later

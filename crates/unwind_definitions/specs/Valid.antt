@@ -38,7 +38,7 @@ module _ (p : Process) where
 
   -- A start, functions and a chain are valid: each module describes its part of the functions, and there is no other one;
   -- the start shows the chain's innermost state; and where a handler takes the exception, each frame inside it goes on
-  -- behind its cleanup where the resume table says.
+  -- after its cleanup where the resume table says.
   pub record IsValid (start : Columns) (resumes : List (ℕ × ℕ)) (functions : List Function) (s : State) (calls : List Call) : Type 0 where
     pub are_functions : AllByRecursion (IsFunction SystemV) functions
     pub modules : AllByRecursion (λ (m : Module). DescribesPart m functions) p.modules

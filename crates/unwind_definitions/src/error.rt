@@ -1,6 +1,6 @@
 /// Why call frame bytes can't be read or run: `.eh_frame`, `.eh_frame_hdr` and language tables.
 ///
-/// Readings go from left to right, and the first condition that holds is the one that is told.
+/// Readings go from left to right, and the first condition that holds is the one that is reported.
 /// Source: DWARF 5 section 6.4, the LSB forms of `.eh_frame` and `.eh_frame_hdr`, and level 1 of
 /// the Itanium C++ ABI for exception handling.
 #[derive(Clone, Copy, Debug, PartialEq, Eq, thiserror::Error)]

@@ -52,7 +52,7 @@ steps_append : (xs ys : List PrologueStep) → steps_of (xs ++ ys) ≡ steps_of 
 steps_append [] ys = refl
 steps_append (x ∷ xs) ys = ap (λ l. x.step ∷ l) (steps_append xs ys)
 
--- the first body lies behind the prologue
+-- the first body lies after the prologue
 body_behind : (f : Function) → IsFunction SystemV f → f.start + last_end f.prologue ≤ first_body f
 body_behind f is = go f.bodies is.has_body is.bodies
   where

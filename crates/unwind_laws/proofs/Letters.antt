@@ -13,7 +13,7 @@ use Rattle.unwind_laws.proofs.Signal.{bound, ok_same}
 same_found : (a b : Letters) (c d : Input) → ◌≡◌ {A = Result (Letters × Input) Fault} (Ok (a, c)) (Ok (b, d)) → a ≡ b
 same_found a b c d e = ap (λ (q : Letters × Input). q.0) (ok_same (a, c) (b, d) e)
 
--- what is said behind letters is what they say, and what was said before them
+-- what is said after letters is what they say, and what was said before them
 record Adds (said : ℕ → Bool) (before after : Letters) : Type 0 where
   personality : is_some after.personality ≡ (said 0x50 || is_some before.personality)
   language : is_some after.language ≡ (said 0x4c || is_some before.language)

@@ -123,7 +123,7 @@ cases turns coding start limit run ih true r = sym (nothing start limit run)
 cases turns coding start limit run ih false (Ok x) = ap (act start limit run x.0) (ih (push run x.0) x.1) ∙ sym (one start limit run x.0 (program_from turns coding x.1))
 cases turns coding start limit run ih false (Err e) = sym (unread start limit run e)
 
--- what is reached of what is left of a program, behind what ran
+-- what is reached of what is left of a program, after what ran
 pub reached_is : (turns : ℕ) (coding : Coding) (start : ℕ) (limit : Option ℕ) (run : Run) (c : Input) → reached turns coding start limit run c ≡ whole_rest start limit run (program_from turns coding c)
 unfolding reached
 reached_is zero coding start limit run c = sym (nothing start limit run)

@@ -181,12 +181,12 @@ remember_same run = says_same run.common (run.own ++ Remember ∷ []) run.own (a
 pub remember_restores : (run : Run) → is_open run.own ≡ false → SaysSame (restored (push run Remember)) run
 remember_restores run closed = says_same run.common ((run.own ++ Remember ∷ []) ++ Restore ∷ []) run.own (ap cut (append_assoc run.own (Remember ∷ []) (Restore ∷ [])) ∙ remembered_kept run.own closed)
 
--- Behind it, what a restore would leave stays.
+-- After it, what a restore would leave stays.
 pub plain_restores : (run : Run) (i : Instruction) → remembers i ≡ None → is_open run.own ≡ true → SaysSame (restored (push run i)) (restored run)
 plain_restores run i plain opened = says_same run.common ((run.own ++ i ∷ []) ++ Restore ∷ []) (run.own ++ Restore ∷ [])
     (ap cut (append_assoc run.own (i ∷ []) (Restore ∷ [])) ∙ ap (λ (c : Cut). c.kept) (open_cut run.own i plain (open_says run.own opened)))
 
--- whether a state is remembered behind one more instruction
+-- whether a state is remembered after one more instruction
 pub open_push : (own : List Instruction) (i : Instruction) → is_open (own ++ i ∷ []) ≡ unwrap_or (remembers i) (is_open own)
 open_push own i = ap (λ o. unwrap_or o false) (last_word-push remembers own i) ∙ go (remembers i)
   where

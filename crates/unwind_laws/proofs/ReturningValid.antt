@@ -262,7 +262,7 @@ late_valid = record {
   resumed = λ f found accepted. absurd cc;
 }
 
--- a state behind the two pushes
+-- a state after the two pushes
 pub interrupted_stands : StandsAfter image callee done later caller interrupted
 unfolding word_at
 interrupted_stands = record {

@@ -74,7 +74,7 @@ module _ (machine : Machine) (evaluates : Evaluates) (image : List Span) (old : 
   has_unruled : (c : ℕ) → HasValue (value_by None c)
   has_unruled c = (unruled machine old cfa c, refl)
 
-  -- a column's value behind low is by the rules, and those below it have one
+  -- a column's value after low is by the rules, and those below it have one
   pub record IsBy (value : ℕ → Result (Option ℕ) StepFault) (low : ℕ) (rules : List (ℕ × Rule)) : Type 0 where
     pub below : (c : ℕ) → c < low → HasValue (value c)
     pub behind : (c : ℕ) → low ≤ c → value c ≡ value_by (rule_in rules c) c

@@ -29,7 +29,7 @@ module _ (bases : Bases) (table : Input) (pc : ℕ) where
 
 -- ---- each entry takes a byte
 
--- what a reading left begins behind where it began, and inside its bytes
+-- what a reading left begins after where it began, and inside its bytes
 pub record Moves (least : ℕ) (from to : Input) : Type 0 where
   pub ahead : from.offset + least ≤ to.offset
   pub inside : to.offset + length to.bytes ≡ from.offset + length from.bytes

@@ -125,7 +125,7 @@ module _ (b : ℕ) (more : List Span) where
 pub words : (s : State) → s.ra < 2 ^ 64 → s.sp < 2 ^ 64 → s.rbx < 2 ^ 64 → s.rbp < 2 ^ 64 → s.r14 < 2 ^ 64 → s.r12 ≡ 0 → s.r13 ≡ 0 → s.r15 ≡ 0 → IsState s
 words s a b c d e f g h = state_fits s a b c d (omega arith) (omega arith) e (omega arith)
 
--- of a byte, whatever regions stand behind
+-- of a byte, whatever regions stand after
 module _ (b ra : ℕ) (more : List Span) (at : word_at (image b more) 0x70d8 ≡ Some ra) where
   pub entered_a : IsEntered (image b more) false (steps_of fa.prologue) second start
   unfolding word_at
@@ -247,7 +247,7 @@ header_valid = record {
   resumed = λ f found accepted. (tt, ((λ e. absurd cc, refl, refl), tt));
 }
 
--- ---- behind the functions
+-- ---- after the functions
 longer_described : DescribesModule header_image longer_module functions
 longer_described = record {
   frame = 0x500000;

@@ -26,7 +26,7 @@ push run i = record run { own = run.own ++ i ∷ [] }
 abbrev pub act : ℕ → Option ℕ → Run → Instruction → Result Run Fault → Result Run Fault
 act start limit run i later = if passes_limit (location start run.own) limit i then Ok run else or_else (fault_of start run i) later
 
--- at most so many instructions of what is left of a program that began at a location, behind those that ran
+-- at most so many instructions of what is left of a program that began at a location, after those that ran
 unfoldable pub reached : ℕ → Coding → ℕ → Option ℕ → Run → Input → Result Run Fault
 reached zero coding start limit run c = Ok run
 reached (suc turns) coding start limit run c = if length c.bytes == 0 then Ok run else (instruction coding c >>= λ r. act start limit run r.0 (reached turns coding start limit (push run r.0) r.1))
@@ -35,7 +35,7 @@ reached (suc turns) coding start limit run c = if length c.bytes == 0 then Ok ru
 abbrev pub common_reached : Coding → Input → Result Run Fault
 common_reached coding c = reached (length c.bytes) coding 0 None (from_common []) c
 
--- a description's program behind it, up to an address
+-- a description's program after it, up to an address
 abbrev pub own_reached : Coding → ℕ → ℕ → Run → Input → Result Run Fault
 own_reached coding start pc common c = reached (length c.bytes) coding start (Some pc) (from_common common.own) c
 

@@ -90,7 +90,7 @@ pushed_two = Advance 2 ∷ CfaOffset 16 ∷ Advance 1 ∷ CfaOffset 24 ∷ []
 abbrev pub in_first_body : List Instruction
 in_first_body = Advance 2 ∷ CfaOffset 16 ∷ Advance 1 ∷ CfaOffset 24 ∷ Advance 4 ∷ CfaOffset 32 ∷ Write 3 (Offset (2 ^ 64 - 24)) ∷ Write 14 (Offset (2 ^ 64 - 16)) ∷ []
 
--- behind the epilogue what was before it is restored
+-- after the epilogue what was before it is restored
 abbrev pub in_second_body : List Instruction
 in_second_body = Advance 2 ∷ CfaOffset 16 ∷ Advance 1 ∷ CfaOffset 24 ∷ Advance 4 ∷ CfaOffset 32 ∷ Write 3 (Offset (2 ^ 64 - 24)) ∷ Write 14 (Offset (2 ^ 64 - 16)) ∷
     Advance 25 ∷ Remember ∷ Advance 4 ∷ CfaOffset 24 ∷ Advance 1 ∷ CfaOffset 16 ∷ Advance 2 ∷ CfaOffset 8 ∷ Advance 1 ∷ Restore ∷ Nop ∷ []
@@ -136,7 +136,7 @@ calls = record { callee = callee; caller = caller } ∷ record { callee = outerm
 abbrev pub delivery : Delivery
 delivery = record { visited = start ∷ caller ∷ last ∷ []; trail = []; landing = None; outcome = EndOfStack }
 
--- stopped behind the two pushes, which the table doesn't yet tell of
+-- stopped after the two pushes, which the table doesn't yet tell of
 abbrev pub interrupted : State
 interrupted = state 0x402005 0x7008 0x11 0x22
 

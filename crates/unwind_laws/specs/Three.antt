@@ -37,7 +37,7 @@ stack b = 0x00 ∷ 0x00 ∷ 0x00 ∷ 0x00 ∷ 0x00 ∷ 0x00 ∷ 0x00 ∷ 0x00 �
     0x00 ∷ 0x00 ∷ 0x00 ∷ 0x00 ∷ 0x00 ∷ 0x00 ∷ 0x00 ∷ 0x00 ∷ 0x0b ∷ 0x00 ∷ 0x00 ∷ 0x00 ∷ 0x00 ∷ 0x00 ∷ 0x00 ∷ 0x00 ∷
     0x0e ∷ 0x00 ∷ 0x00 ∷ 0x00 ∷ 0x00 ∷ 0x00 ∷ 0x00 ∷ 0x00 ∷ 0x00 ∷ 0x00 ∷ 0x00 ∷ 0x00 ∷ 0x00 ∷ 0x00 ∷ 0x00 ∷ 0x00 ∷ []
 
--- the memory, with more regions behind
+-- the memory, with more regions after
 abbrev pub image : ℕ → List Span → List Span
 image b more = record { start = 0x70b0; bytes = stack b } ∷ record { start = 0x500000; bytes = frames } ∷ record { start = 0x502000; bytes = languages } ∷ record { start = 0x503000; bytes = cell } ∷ more
 
@@ -137,7 +137,7 @@ calls_through ra = record { callee = fa; caller = second } ∷ record { callee =
 abbrev pub calls : List Call
 calls = calls_through 0x401060
 
--- behind the cleanup the second function goes on
+-- after the cleanup the second function goes on
 abbrev pub resumes : List (ℕ × ℕ)
 resumes = (0x401040, 0x401048) ∷ []
 
@@ -237,7 +237,7 @@ header_image = image 0x60 (record { start = 0x504000; bytes = header } ∷ [])
 abbrev pub header_process : Process
 header_process = record { image = header_image; modules = module_with_header ∷ [] }
 
--- ---- behind the functions, in a module that is longer than they are
+-- ---- after the functions, in a module that is longer than they are
 
 abbrev pub longer_module : Module
 longer_module = record { start = 0x401000; end = 0x401100; text = None; tables = Header 0x504000 }

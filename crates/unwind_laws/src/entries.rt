@@ -12,12 +12,16 @@ ghost use Rattle.unwind_laws.specs.Emitted.{Four, signed_of, start_of, table, ci
 pub fn emitted_augmentations_are_known()
     // The version of entries in .eh_frame.
     ensures version { is_version 1 ≡ true }
-    ensures augmentations { AllByRecursion (λ letters. is_augmentation letters ≡ true) (codes "zR" ∷ codes "zPR" ∷ codes "zPLR" ∷ codes "zRS" ∷ []) }
+    ensures augmentations { AllByRecursion
+        (λ letters. is_augmentation letters ≡ true)
+        (codes "zR" ∷ codes "zPR" ∷ codes "zPLR" ∷ codes "zRS" ∷ []) }
 {}
 
-/// The bytes of the entries that compilers emit for a function without a language table: whatever the start, the
-/// length and the program of the description are, they read so. The range has to end below 2^64.
+/// The bytes of the entries that compilers emit for a function without a language table: whatever
+/// the start, the length and the program of the description are, they read so. The range has to end
+/// below 2^64.
 pub fn entries_are_spelled()
-    ensures { (bases : Bases) (base : ℕ) (start size front back : Four) → start_of base start + signed_of size ≤ 2 ^ 64 - 1 →
+    ensures { (bases : Bases) (base : ℕ) (start size front back : Four) →
+        start_of base start + signed_of size ≤ 2 ^ 64 - 1 →
         AreEntries bases (table base start size front back) 0 (ACie (cie base) ∷ AFde (fde base start size front back) ∷ []) }
 {}
