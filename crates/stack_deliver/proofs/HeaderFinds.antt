@@ -1,5 +1,5 @@
 -- What a search by the header of a described module finds is what a scan of its frame table finds.
-use Rattle.std.proofs.Common.{◌≡◌, ℕ, List, Option, Some, None, Result, Ok, Err, refl, sym, ap, subst, ◌∙◌}
+use Rattle.std.proofs.Common.{◌≡◌, ℕ, List, Option, Some, None, Result, Ok, Err, refl, ap, subst, ◌∙◌}
 use Rattle.std.specs.Result.{result_ok}
 use Rattle.memory_image.specs.Image.{Span, IsLaidOut}
 use Rattle.unwind_definitions.specs.declared.error.Error.{Error as Fault}
@@ -17,8 +17,8 @@ use Rattle.unwind_laws.specs.Listing.{listing}
 use Rattle.unwind_laws.specs.Found.{nothing_found}
 use Rattle.unwind_laws.proofs.Found.{not_found}
 use Rattle.unwind_laws.proofs.HeaderListed.{header_read, search_answers, uncovered_fails}
-use Rattle.unwinding_core.specs.Finding.{FoundFde, at_frame, relative_to, scanned_in}
-use Rattle.unwinding_core.specs.HeaderFinding.{Led, at_header, by_led, by_table, found_by_header, led, led_by, listed, or_scanned}
+use Rattle.unwinding_core.specs.Finding.{at_frame, relative_to, scanned_in}
+use Rattle.unwinding_core.specs.HeaderFinding.{at_header, by_led, by_table, found_by_header, led, led_by, or_scanned}
 
 -- a description that a scan finds too, and else the scan
 or_same : (bases : Bases) (frames : Input) (pc : ℕ) (r : Result Fde Fault) → scan bases frames pc ≡ r → or_scanned bases frames pc (result_ok r) ≡ scanned_in bases frames pc

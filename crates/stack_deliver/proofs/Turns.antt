@@ -18,7 +18,6 @@ use Rattle.unwind_arch.specs.Contexts.{columns_of}
 use Rattle.stack_deliver.specs.declared.passes.Phase.{Phase}
 use Rattle.stack_deliver.specs.Modules.{SpaceValue}
 use Rattle.stack_deliver.specs.Processes.{process_of}
-use Rattle.stack_deliver.specs.Stepping.{FrameAt, frame_of, caller_by}
 use Rattle.stack_deliver.specs.Walking.{IsDescribedCall, HaveFrameTables}
 use Rattle.stack_deliver.specs.Passes.{stops, past_arguments, Stops, Goes, turn_of, with_context, pass_of, enters, turn_for}
 use Rattle.stack_deliver.proofs.ContextLemmas.{IsWhole}

@@ -79,8 +79,8 @@ abbrev pub StepFails : SpaceValue → ℕ → Context → Bool → DeliverError 
 StepFails space zero c interrupted e = ⊥
 StepFails space (suc room) c interrupted e = (step_of space c interrupted ≡ Err e) ⊎ ((s : Stepped) × (step_of space c interrupted ≡ Ok (Some s)) × StepFails space room s.context s.signal e)
 
--- A context shows the innermost state of a chain of calls that is shorter than the limit. Modules name frame tables of the
--- forms that are read, and these describe the functions of the chain.
+-- A context shows the innermost state of a chain of calls that is shorter than the limit. Modules name frame tables, and
+-- these describe the functions of the chain.
 pub record StartsChain (space : SpaceValue) (c : Context) (limit : ℕ) (functions : List Function) (s : State) (calls : List Call) : Type 0 where
   pub tables : HaveFrameTables (process_of space)
   pub described : IsDescribedChain (process_of space) functions s calls
