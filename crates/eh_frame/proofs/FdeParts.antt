@@ -1,4 +1,4 @@
--- What a frame description entry of the emitted forms is, field by field.
+-- What a frame description entry is, field by field.
 use Rattle.std.proofs.Common.{◌≡◌, ℕ, ◌+◌, ◌-◌, ◌^◌, ◌<◌, ◌≤◌, Option, Ok, Err, refl}
 use Rattle.std.proofs.lemmas.Bool.{le-leb, lt-leb}
 use Rattle.unwind_definitions.specs.declared.error.Error.{Error as Fault}
