@@ -42,11 +42,13 @@ class Entry:
 
 @dataclass(frozen=True)
 class CommonEntry:
-    """What is read of a CIE. `personality` is an encoding and the offset of the pointer."""
+    """What is read of a CIE. `personality` is an encoding and the offset of the pointer, and
+    `language_table` the encoding of what its entries say of language tables."""
 
     is_signal: bool
     address_encoding: int
     personality: tuple[int, int] | None
+    language_table: int = OMITTED
 
 
 def entries(table: Table) -> Iterator[Entry]:
@@ -105,17 +107,19 @@ def common_entry(table: Table, entry: Entry) -> CommonEntry:
     _, offset = uleb128(content, offset)
     _, offset = uleb128(content, offset)
     offset = offset + 1 if version == 1 else uleb128(content, offset)[1]
-    address_encoding, personality = ABSOLUTE, None
+    address_encoding, personality, language_table = ABSOLUTE, None, OMITTED
     if letters.startswith("z"):
         _, offset = uleb128(content, offset)
         for letter in letters[1:]:
             if letter == "R":
                 address_encoding = content[offset]
+            elif letter == "L":
+                language_table = content[offset]
             elif letter == "P" and content[offset] != OMITTED:
                 personality = (content[offset], offset + 1)
                 offset += encoded_size(content[offset])
             offset += letter in "LPR"
-    return CommonEntry("S" in letters, address_encoding, personality)
+    return CommonEntry("S" in letters, address_encoding, personality, language_table)
 
 
 def common_entries(table: Table) -> dict[int, CommonEntry]:

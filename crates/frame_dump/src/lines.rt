@@ -56,23 +56,62 @@ pub fn put_fault(line: &mut String, error: Error) -> Result<(), AllocError> {
     Ok(())
 }
 
-/// Puts the rule of the CFA, those of registers, and the size of the arguments where it isn't 0.
-pub fn put_row(line: &mut String, row: &RowRef) -> Result<(), AllocError> {
-    match row.cfa() {
-        CfaRule::RegisterAndOffset { register, offset } => {
-            let (register, offset) = (register.0, offset.cast_signed());
-            write!(line, " cfa=r{register}{offset:+}")?;
-        }
-        CfaRule::Expression(_) => line.push_str(" cfa=exp")?,
+/// Puts what a row says otherwise than the one before it: the rule of the CFA, those of registers, a
+/// dash for each register that no longer has one, and the size of the arguments.
+pub fn put_changes(line: &mut String, before: &RowRef, row: &RowRef) -> Result<(), AllocError> {
+    if row.cfa() != before.cfa() {
+        put_cfa(line, row.cfa())?;
     }
     for (register, rule) in row.registers() {
-        let register = register.0;
-        write!(line, " r{register}=")?;
-        put_rule(line, rule)?;
+        if !has_rule(before, register, rule) {
+            let Register(column) = register;
+            write!(line, " r{column}=")?;
+            put_rule(line, rule)?;
+        }
     }
+    put_gone(line, before, row)?;
     let arguments = row.saved_args_size();
-    if arguments != 0 {
+    if arguments != before.saved_args_size() {
         write!(line, " arguments={arguments:#x}")?;
+    }
+    Ok(())
+}
+
+fn put_gone(line: &mut String, before: &RowRef, row: &RowRef) -> Result<(), AllocError> {
+    for (register, _rule) in before.registers() {
+        if !has_register(row, register) {
+            let Register(column) = register;
+            write!(line, " r{column}=-")?;
+        }
+    }
+    Ok(())
+}
+
+fn has_rule(row: &RowRef, register: Register, rule: RegisterRule) -> bool {
+    for (other, said) in row.registers() {
+        if other == register {
+            return said == rule;
+        }
+    }
+    false
+}
+
+fn has_register(row: &RowRef, register: Register) -> bool {
+    for (other, _rule) in row.registers() {
+        if other == register {
+            return true;
+        }
+    }
+    false
+}
+
+fn put_cfa(line: &mut String, rule: CfaRule) -> Result<(), AllocError> {
+    match rule {
+        CfaRule::RegisterAndOffset { register, offset } => {
+            let (Register(column), offset) = (register, offset.cast_signed());
+            write!(line, " cfa=r{column}{offset:+}")?;
+        }
+        CfaRule::Expression(_) => line.push_str(" cfa=exp")?,
     }
     Ok(())
 }

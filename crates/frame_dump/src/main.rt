@@ -1,17 +1,18 @@
-//! Prints a frame table: a line for each entry, and below a description's line one for each row that
-//! differs from the row before it. `frame_dump ADDRESS FILE` reads the bytes of an `.eh_frame` section
-//! from FILE; ADDRESS, in hexadecimal digits, is that of its first byte.
+//! Prints frame tables: a line for each entry, and below a description's line one for each row, with
+//! what it says otherwise than the row before it. `frame_dump ADDRESS FILE ..` reads the bytes of an
+//! `.eh_frame` section from each FILE; ADDRESS, in hexadecimal digits, is that of its first byte.
 #![tactic(auto)]
 
 mod lines;
 
-use crate::lines::{put_cie, put_end, put_fault, put_fde, put_row};
+use crate::lines::{put_changes, put_cie, put_end, put_fault, put_fde};
 use anyhow::{Result, bail};
 use eh_frame::{Bases, EhFrame, Entry, Fde, RowRoom};
 use std::alloc::Global;
-use std::{env, fs};
+use std::{env, fs, mem};
 
-/// Prints a line for each row of a description that differs from the row at the address before.
+/// Prints a line for each row of a description that differs from the row at the address before, and
+/// the fault that ends them, if there is one.
 fn print_rows<'a>(
     rt: &HostRuntime,
     table: &EhFrame<'a>,
@@ -19,18 +20,20 @@ fn print_rows<'a>(
     bases: &Bases,
 ) -> Result<()> {
     let mut rows = RowRoom::new();
-    let mut before = String::new(rt.alloc());
+    let mut before = RowRoom::new();
     for distance in 0..fde.len() {
         let address = fde.initial_address().wrapping_add(distance);
         let mut line = String::new(rt.alloc());
-        match fde.make_row(table, bases, address, &mut rows) {
-            Ok(()) => put_row(&mut line, &rows.row())?,
-            Err(error) => put_fault(&mut line, error)?,
-        }
-        if line != before {
+        if let Err(error) = fde.make_row(table, bases, address, &mut rows) {
+            put_fault(&mut line, error)?;
             println!(rt; "  {address:#x}{line}")?;
+            break;
         }
-        before = line;
+        put_changes(&mut line, &before.row(), &rows.row())?;
+        if !line.is_empty() {
+            println!(rt; "  {address:#x}{line}")?;
+            mem::swap(&mut rows, &mut before);
+        }
     }
     Ok(())
 }
@@ -69,14 +72,25 @@ fn print_table(rt: &HostRuntime, table: &EhFrame) -> Result<()> {
     Ok(())
 }
 
-fn main(rt: HostRuntime) -> Result<()> {
-    let mut words = env::args(&rt)?.skip(1);
-    let (Some(address), Some(file)) = (words.next(), words.next()) else {
-        bail!("usage: frame_dump ADDRESS FILE");
-    };
-    let Ok(address) = u64::from_str_radix(address.as_str(), 16) else {
+/// Prints the table in a file.
+fn print_file(rt: &HostRuntime, address: &str, file: &str) -> Result<()> {
+    let Ok(address) = u64::from_str_radix(address, 16) else {
         bail!("the address has to be in hexadecimal digits");
     };
-    let bytes = fs::read(&rt, file.as_str())?;
-    print_table(&rt, &EhFrame::new(&bytes, address))
+    let bytes = fs::read(rt, file)?;
+    print_table(rt, &EhFrame::new(&bytes, address))
+}
+
+fn main(rt: HostRuntime) -> Result<()> {
+    let mut words = env::args(&rt)?.skip(1);
+    for _ in 0..u64::MAX {
+        let Some(address) = words.next() else {
+            return Ok(());
+        };
+        let Some(file) = words.next() else {
+            bail!("usage: frame_dump ADDRESS FILE ..");
+        };
+        print_file(&rt, address.as_str(), file.as_str())?;
+    }
+    Ok(())
 }
