@@ -10,7 +10,8 @@ use std::alloc::Global;
 use std::{fs, str};
 
 /// Snapshots to be walked. The compilers' names are in those of the files, and how far they optimise.
-const WALKS: [&str; 8] = [
+/// The last three have all modules of their processes, the others the program's own.
+const WALKS: [&str; 14] = [
     "nested-gcc-O0.json",
     "nested-gcc-O2.json",
     "nested-clang-O0.json",
@@ -19,6 +20,12 @@ const WALKS: [&str; 8] = [
     "frame_pointer-gcc-O2.json",
     "frame_pointer-clang-O0.json",
     "frame_pointer-clang-O2.json",
+    "realigned-gcc-O0.json",
+    "realigned-gcc-O2.json",
+    "lazy_call-gcc-O0.json",
+    "lazy_call-gcc-O2.json",
+    "signals-gcc-O2.json",
+    "vfork-gcc-O2.json",
 ];
 
 /// Snapshots of a throw, to be delivered.
