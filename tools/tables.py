@@ -83,7 +83,8 @@ def readelf(file: str, option: str) -> list[str]:
         check=True, capture_output=True, text=True,
     ).stdout
     parts = re.split(r"^Contents of the (\S+) section.*:$", text, flags=re.MULTILINE)
-    return dict(zip(parts[1::2], parts[2::2]))[".eh_frame"].splitlines()
+    contents: dict[str, str] = dict(zip(parts[1::2], parts[2::2]))
+    return contents[".eh_frame"].splitlines()
 
 
 def entry_of(found: re.Match[str]) -> Entry:

@@ -89,7 +89,7 @@ class Lines(unittest.TestCase):
         theirs = [["0x0 cie"], ["0x20 fde", "  0x1000 cfa=r7+8", "  0x1001 cfa=r7+16"], ["0x60 end"]]
         lines = [line for block in theirs for line in block]
         self.assertEqual(printed_blocks(lines), theirs)
-        cases = {
+        cases: dict[str, tuple[list[str], list[str]]] = {
             "the same": (lines, []),
             "another row": (
                 [line.replace("+16", "+24") for line in lines],
