@@ -95,7 +95,9 @@ class Lines(unittest.TestCase):
                 [line.replace("+16", "+24") for line in lines],
                 ["0x20 fde:   0x1001 cfa=r7+24, and readelf has   0x1001 cfa=r7+16"],
             ),
-            "a row is missing": (lines[:2] + lines[3:], ["0x20 fde:   0x1001 cfa=r7+16, and readelf has   0x1000 cfa=r7+8"]),
+            "a row is missing": (
+                lines[:2] + lines[3:], ["0x20 fde:   0x1001 cfa=r7+16, and readelf has   0x1000 cfa=r7+8"],
+            ),
             "the last row is missing": (lines[:3] + lines[4:], ["0x20 fde: 1 rows, and readelf has 2 rows"]),
             "another expression": (
                 [lines[0], lines[1], lines[2], "  0x1001 cfa=r7+16", "  0x1002 cfa=r7+16", lines[4]], [],
