@@ -10,9 +10,9 @@ use Rattle.stack_deliver.specs.declared.delivery.Stepped.{Stepped}
 use Rattle.stack_deliver.specs.declared.delivery.DeliverError.{DeliverError}
 use Rattle.stack_deliver.specs.declared.delivery.DeliverError.TheVariants.{NoMemory, Unmapped, FrameLimit, Table}
 use Rattle.unwind_definitions.specs.Expressions.{evaluation}
-use Rattle.unwinding_core.specs.Finding.{FoundFde}
+use Rattle.fde_finders.specs.Finding.{FoundFde}
 use Rattle.unwind_definitions.specs.LanguageSearch.{address_of_call}
-use Rattle.unwinding_core.specs.Named.{found_by}
+use Rattle.fde_finders.specs.Named.{found_by}
 use Rattle.unwind_arch.specs.Contexts.{columns_of}
 use Rattle.stack_deliver.specs.Modules.{SpaceValue, module_at}
 use Rattle.std.specs.Result.{result_map_both}

@@ -9,7 +9,7 @@ use Rattle.unwind_definitions.specs.Delivery.{decides}
 use Rattle.unwind_definitions.specs.LanguageSearch.{personality_address, address_of_call, language_action}
 use Rattle.unwind_arch.specs.declared.x86_64.Context.{Context}
 use Rattle.unwind_arch.specs.Columns.{rax, rdx, rsp}
-use Rattle.unwinding_core.specs.Finding.{FoundFde}
+use Rattle.fde_finders.specs.Finding.{FoundFde}
 use Rattle.stack_deliver.specs.declared.delivery.Stepped.{Stepped}
 use Rattle.stack_deliver.specs.declared.delivery.Trail.{Trail}
 use Rattle.stack_deliver.specs.declared.delivery.Ending.{Ending}

@@ -4,9 +4,9 @@ use Rattle.std.specs.Option.{option_map}
 use Rattle.frame_rows.specs.Rows.{IsRowOf}
 use Rattle.unwind_arch.specs.declared.x86_64.Context.{Context}
 use Rattle.frame_rows.specs.RowValue.{RowValue}
-use Rattle.unwinding_core.specs.declared.find_fde.FDESearchResult.{FDESearchResult}
-use Rattle.unwinding_core.specs.Answered.{answered}
-use Rattle.unwinding_core.specs.Languages.{action_of}
+use Rattle.fde_finders.specs.declared.find_fde.FDESearchResult.{FDESearchResult}
+use Rattle.fde_finders.specs.Answered.{answered}
+use Rattle.unwinding_frames.specs.Languages.{action_of}
 use Rattle.stack_deliver.specs.declared.delivery.DeliverError.{DeliverError}
 use Rattle.stack_deliver.specs.declared.delivery.Ending.{Ending}
 use Rattle.stack_deliver.specs.declared.delivery.Trail.{Trail}

@@ -2,8 +2,8 @@
 // cleanups on the way to it. Itanium C++ ABI, exception handling, level I, section 1.3.
 ghost use Rattle.std.specs.Prelude.{◌≡◌, ◌≤◌, ◌<◌, ◌+◌, ◌*◌, ◌++◌, ◌∷◌, Err, [], true, false, length, Some, OnOk, IfOk};
 ghost use Rattle.std.specs.Option.{option_map};
-ghost use Rattle.unwinding_core.specs.Answered.{answered};
-ghost use Rattle.unwinding_core.specs.Languages.{action_of};
+ghost use Rattle.fde_finders.specs.Answered.{answered};
+ghost use Rattle.unwinding_frames.specs.Languages.{action_of};
 ghost use Rattle.stack_deliver.specs.Passes.{asked_of, stops, stop_of, past_arguments, turn_for, line_for, kept_at, pad_of, enters, end_by, cleanup_of, cleanup_at, resume_at, passes_of};
 ghost use Rattle.stack_deliver.specs.Passing.{turn_shown, stop_shown, end_shown, visits, visited_with, StaysAt, IsOutward, IsPassed};
 ghost use Rattle.stack_deliver.specs.Results.{result_map};
@@ -16,9 +16,10 @@ use crate::room::Room;
 use crate::space::Space;
 use crate::stepping::{frame_at, leave};
 use eh_frame::RowRoom;
+use fde_finders::FDESearchResult;
 use memory_image::{Ledger, MemoryImage, Steps};
 use unwind_arch::x86_64::{Context, RAX, RDX, RSP};
-use unwinding_core::{EhAction, FDESearchResult};
+use unwinding_frames::{EhAction, eh_action_of, personality_of};
 
 /// What a pass over the stack is for.
 #[derive(Clone, Copy)]
@@ -108,13 +109,9 @@ fn asked(
 ) -> Result<EhAction, DeliverError>
     ensures { result_map action_of result ≡ asked_of image.now state.now.context state.now.signal (answered found.now) }
 {
-    match found.personality(image)? {
+    match personality_of(found, image)? {
         None => Ok(EhAction::None),
-        Some(_) => Ok(
-            found
-                .eh_action(image, state.address())
-                .unwrap_or(EhAction::Terminate),
-        ),
+        Some(_) => Ok(eh_action_of(found, image, state.address()).unwrap_or(EhAction::Terminate)),
     }
 }
 

@@ -6,17 +6,17 @@ ghost use Rattle.unwind_definitions.specs.Row.{Run};
 ghost use Rattle.frame_rows.specs.RowValue.{RowValue};
 ghost use Rattle.unwind_arch.specs.declared.x86_64.Context.{Context};
 ghost use Rattle.unwind_arch.specs.Contexts.{columns_of};
-ghost use Rattle.unwinding_core.specs.FrameValue.{FrameValue};
-ghost use Rattle.unwinding_core.specs.Sample as sample;
-ghost use Rattle.unwinding_core.specs.Personalities.{Asked, searched};
-ghost use Rattle.unwinding_core.specs.Seen.{Thrown};
+ghost use Rattle.unwinding_frames.specs.FrameValue.{FrameValue};
+ghost use Rattle.unwinding_frames.specs.Sample as sample;
+ghost use Rattle.unwinding_frames.specs.Personalities.{Asked, searched};
+ghost use Rattle.unwinding_frames.specs.Seen.{Thrown};
 ghost use Rattle.stack_deliver.specs.declared.delivery.DeliverError.{DeliverError};
 ghost use Rattle.stack_deliver.specs.AnyPasses.{stepping_in, rust_in, Search, search_of, IsSearchBy, IsPassBy, IsDeliveryBy};
 ghost use Rattle.stack_deliver.specs.Delivering.{Delivered, delivery_of};
 ghost use Rattle.stack_deliver.specs.Modules.{SpaceValue};
 ghost use Rattle.stack_deliver.specs.Passes.{PassEnd, stops, pad_of, cleanup_of};
 ghost use Rattle.stack_deliver.specs.Personality.{InSearch, InCleanup, IsAsked, AnswersCleanup, answer_for, code_of};
-ghost use Rattle.unwinding_core.specs.declared.abi.TheConstants.UnwindReasonCode.{CONTINUE_UNWIND, HANDLER_FOUND};
+ghost use Rattle.unwinding_frames.specs.declared.abi.TheConstants.UnwindReasonCode.{CONTINUE_UNWIND, HANDLER_FOUND};
 
 use crate::passes::Phase;
 

@@ -4,11 +4,11 @@ ghost use Rattle.memory_image.specs.Image.{IsLaidOut};
 ghost use Rattle.stack_deliver.specs.Modules.{module_refusal, lowest_shared, module_at, with_module, modules_in, AreApart};
 ghost use Rattle.stack_deliver.specs.Modules.{last_below, first_between};
 
+use fde_finders::FrameInfo;
 use memory_image::MemoryImage;
 use std::alloc::Global;
 use std::collections::BTreeMap;
 use std::marker::Model;
-use unwinding_core::FrameInfo;
 
 /// An ELF module: its addresses are those from `start` to before `end`.
 #[derive(Clone, Copy, Debug, PartialEq, Eq)]

@@ -10,9 +10,9 @@ ghost use Rattle.unwind_definitions.specs.Row.{Run};
 ghost use Rattle.unwind_definitions.specs.Caller.{x86_64, caller_of};
 ghost use Rattle.frame_rows.specs.Rows.{IsRowOf};
 ghost use Rattle.unwind_definitions.specs.Expressions.{evaluation};
-ghost use Rattle.unwinding_core.specs.Calling.{columns_given};
+ghost use Rattle.unwinding_frames.specs.Calling.{columns_given};
 ghost use Rattle.unwind_arch.specs.Contexts.{columns_of};
-ghost use Rattle.unwinding_core.specs.Named.{found_by, pairs_by};
+ghost use Rattle.fde_finders.specs.Named.{found_by, pairs_by};
 ghost use Rattle.stack_deliver.specs.Modules.{AreApart, contains};
 ghost use Rattle.stack_deliver.specs.Processes.{process_of};
 ghost use Rattle.stack_deliver.specs.Passing.{IsFrameOf, GivesFrameAt};
@@ -23,11 +23,10 @@ ghost use Rattle.stack_deliver.specs.Walking.{IsDescribedCall, Undone};
 use crate::delivery::{DeliverError, Stepped};
 use crate::space::{Module, Space};
 use eh_frame::RowRoom;
+use fde_finders::{FDESearchResult, FrameInfo, find_named};
 use memory_image::{Ledger, MemoryImage, Steps};
 use unwind_arch::x86_64::{Arch, Context};
-use unwinding_core::{
-    FDESearchResult, FrameInfo, StepError, address_asked, find_named, step_by_row,
-};
+use unwinding_frames::{StepError, address_asked, step_by_row};
 
 impl Stepped {
     /// The address that is asked of the frame: that of its instruction, or of a byte of its call.

@@ -7,22 +7,20 @@ ghost use Rattle.memory_image.specs.Image.{Span};
 ghost use Rattle.unwind_definitions.specs.Row.{Run};
 ghost use Rattle.unwind_definitions.specs.Caller.{Columns, StepFault};
 ghost use Rattle.frame_rows.specs.Rows.{IsRowOf};
-ghost use Rattle.unwinding_core.specs.FrameValue.{FrameValue};
-ghost use Rattle.unwinding_core.specs.Calling.{machine_of};
-ghost use Rattle.unwinding_core.specs.Passes.{by_trace, run_out, turn_asked, turn_seen, IsTraced};
-ghost use Rattle.unwinding_core.specs.Seen.{FrameSeen, SeesFrame, in_column, undoing, stepping};
+ghost use Rattle.unwinding_frames.specs.FrameValue.{FrameValue};
+ghost use Rattle.unwinding_frames.specs.Calling.{machine_of};
+ghost use Rattle.unwinding_frames.specs.Passes.{by_trace, run_out, turn_asked, turn_seen, IsTraced};
+ghost use Rattle.unwinding_frames.specs.Seen.{FrameSeen, SeesFrame, in_column, undoing, stepping};
 ghost use Rattle.unwinding_core.specs.Stopping.{TraceAnswer, tracing, start_of};
 ghost use Rattle.unwinding_core.specs.Turns.{turn_shown};
 ghost use Rattle.unwinding_core.specs.Runs.{ended_shown};
 
-use crate::abi::UnwindReasonCode;
-use crate::abi::context::UnwindContext;
 use crate::abi::passes::{Turn, frame_at, past_arguments};
 use crate::abi::unwound::Cause;
-use crate::find_fde::FDEFinder;
-use crate::frame::{Frame, StepError};
+use fde_finders::FDEFinder;
 use memory_image::{Ledger, MemoryImage, Steps};
 use unwind_arch::Machine;
+use unwinding_frames::{Frame, StepError, UnwindContext, UnwindReasonCode};
 
 /// What visits the frames of a stack.
 ///

@@ -2,9 +2,9 @@
 
 ghost use Rattle.std.specs.Prelude.{◌≡◌, ◌≢◌, ◌+◌, ◌-◌, ℕ, Option};
 ghost use Rattle.std.specs.Option.{option_map_or};
-ghost use Rattle.unwinding_core.specs.Finding.{FoundFde};
+ghost use Rattle.fde_finders.specs.Finding.{FoundFde};
 
-use crate::find_fde::FDEFinder;
+use fde_finders::FDEFinder;
 use memory_image::{Ledger, MemoryImage, Steps};
 
 /// The address of the first byte of the function that a call returns to at `pc`: that of the

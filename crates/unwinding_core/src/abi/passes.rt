@@ -7,24 +7,23 @@ ghost use Rattle.std.specs.Option.{option_map};
 ghost use Rattle.unwind_definitions.specs.Row.{Run, argument_size};
 ghost use Rattle.unwind_definitions.specs.Caller.{Columns, StepFault};
 ghost use Rattle.frame_rows.specs.Rows.{IsRowOf};
-ghost use Rattle.unwinding_core.specs.Calling.{machine_of};
-ghost use Rattle.unwinding_core.specs.Columns.{with_value};
-ghost use Rattle.unwinding_core.specs.Passes.{Line, IsLine, less_signal, by_force, unmarked, turn_asked, turn_seen};
-ghost use Rattle.unwinding_core.specs.Passes.{asked};
-ghost use Rattle.unwinding_core.specs.Seen.{FrameSeen, SeesFrame, in_column, past_in_column, undoing, stepping, answering};
-ghost use Rattle.unwinding_core.specs.Languages.{given};
+ghost use Rattle.unwinding_frames.specs.Calling.{machine_of};
+ghost use Rattle.unwinding_frames.specs.Columns.{with_value};
+ghost use Rattle.unwinding_frames.specs.Passes.{Line, IsLine, less_signal, by_force, unmarked, turn_asked, turn_seen};
+ghost use Rattle.unwinding_frames.specs.Passes.{asked};
+ghost use Rattle.unwinding_frames.specs.Seen.{FrameSeen, SeesFrame, in_column, past_in_column, undoing, stepping, answering};
+ghost use Rattle.unwinding_frames.specs.Languages.{given};
 ghost use Rattle.unwinding_core.specs.Stopping.{stopping};
 ghost use Rattle.unwinding_core.specs.Turns.{IsSeen, thrown, actions_in, answer_shown, asks_in, turn_shown, end_shown};
 
-use crate::abi::context::UnwindContext;
 use crate::abi::stop::Stop;
-use crate::abi::{UnwindAction, UnwindReasonCode};
-use crate::find_fde::FDEFinder;
-use crate::frame::{Frame, StepError};
-use crate::personality::Personality;
 use eh_frame::RegisterMap;
+use fde_finders::FDEFinder;
 use memory_image::{Ledger, MemoryImage, Steps};
 use unwind_arch::Machine;
+use unwinding_frames::{
+    Frame, Personality, StepError, UnwindAction, UnwindContext, UnwindReasonCode,
+};
 
 /// What a pass over the stack is for.
 #[derive(Clone, Copy)]
@@ -155,7 +154,7 @@ fn personality_answer<'a, M: Machine, P: Personality<M>>(
         call.word,
         &mut unwind_ctx,
     );
-    let left = *unwind_ctx.ctx;
+    let left = unwind_ctx.context();
     Ok(Answer { code, left })
 }
 
@@ -175,7 +174,7 @@ pub(crate) fn stop_answer<'a, M: Machine, T: Stop<M>>(
     let mut left = *context;
     let mut unwind_ctx = UnwindContext::new(image, frame, &mut left, signal);
     let code = stop.stop(1, actions, call.exception_class, &mut unwind_ctx);
-    let left = *unwind_ctx.ctx;
+    let left = unwind_ctx.context();
     Answer { code, left }
 }
 

@@ -4,22 +4,20 @@
 
 ghost use Rattle.std.specs.Prelude.{◌≡◌, Some, None};
 ghost use Rattle.unwind_definitions.specs.Caller.{Columns, StepFault};
-ghost use Rattle.unwinding_core.specs.Calling.{machine_of};
-ghost use Rattle.unwinding_core.specs.Passes.{Line, IsSearched, IsCleanup, IsRaised, IsForced, IsResumed, IsRethrown, cleanup_end, forced_end, RanOut, Gives};
+ghost use Rattle.unwinding_frames.specs.Calling.{machine_of};
+ghost use Rattle.unwinding_frames.specs.Passes.{Line, IsSearched, IsCleanup, IsRaised, IsForced, IsResumed, IsRethrown, cleanup_end, forced_end, RanOut, Gives};
 ghost use Rattle.unwinding_core.specs.Runs.{thrown_by, cause_shown, unwound_shown, IsUntaken};
-ghost use Rattle.unwinding_core.specs.Seen.{in_column, stepping, answering};
+ghost use Rattle.unwinding_frames.specs.Seen.{in_column, stepping, answering};
 ghost use Rattle.unwinding_core.specs.Stopping.{stopping};
 ghost use Rattle.unwinding_core.specs.Turns.{thrown, end_shown};
 
-use crate::abi::exception::{Kept, UnwindException};
 use crate::abi::passes::{Call, LineEnd, Phase, mark, pass, stop_answer};
 use crate::abi::stop::{NoStop, Stop};
 use crate::abi::unwound::{Cause, Unwound};
-use crate::abi::{UnwindAction, UnwindReasonCode};
-use crate::find_fde::FDEFinder;
-use crate::personality::Personality;
+use fde_finders::FDEFinder;
 use memory_image::{Ledger, MemoryImage, Steps};
 use unwind_arch::Machine;
+use unwinding_frames::{Kept, Personality, UnwindAction, UnwindException, UnwindReasonCode};
 
 /// What personalities are called with in a phase.
 fn call(exception: &UnwindException, phase: Phase) -> Call

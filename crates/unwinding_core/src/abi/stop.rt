@@ -4,12 +4,11 @@ ghost use Rattle.std.specs.Prelude.{◌≡◌, ℕ, Bool, List, [], Option};
 ghost use Rattle.std.specs.Option.{option_map};
 ghost use Rattle.memory_image.specs.Image.{Span};
 ghost use Rattle.unwind_definitions.specs.Caller.{Columns};
-ghost use Rattle.unwinding_core.specs.FrameValue.{FrameValue};
+ghost use Rattle.unwinding_frames.specs.FrameValue.{FrameValue};
 ghost use Rattle.unwinding_core.specs.Stopping.{StopAsked, StopAnswer, never_stopped};
 
-use crate::abi::context::UnwindContext;
-use crate::abi::{UnwindAction, UnwindReasonCode};
 use unwind_arch::Machine;
+use unwinding_frames::{UnwindAction, UnwindContext, UnwindReasonCode};
 
 /// What is asked at each frame of a forced unwinding whether that is to stop, and once more at the
 /// end of the stack.
@@ -60,7 +59,7 @@ impl<M: Machine> Stop<M> for NoStop {
         exception_class: u64,
         unwind_ctx: &mut UnwindContext<'_, '_, M>,
     ) -> UnwindReasonCode {
-        let _ = (version, actions, exception_class, unwind_ctx.signal);
+        let _ = (version, actions, exception_class, unwind_ctx.context());
         UnwindReasonCode::NO_REASON
     }
 }
