@@ -48,8 +48,8 @@ pub trait EhFrameFinder: Drop {
 #[error("a finder is set already")]
 pub struct SetCustomEhFrameFinderError;
 
-/// A finder by the tables that another value names: by a `.eh_frame_hdr` as [`GnuHdrFinder`] does, and by
-/// a `.eh_frame` by a scan. It finds nothing until that value is set.
+/// A finder by the tables that another value names: by a `.eh_frame_hdr` as [`GnuHdrFinder`] does,
+/// and by a `.eh_frame` by a scan. It finds nothing until that value is set.
 ///
 /// [`GnuHdrFinder`]: crate::GnuHdrFinder
 #[derive(Drop)]
@@ -106,7 +106,8 @@ impl<E: EhFrameFinder> FDEFinder for CustomFinder<E> {
         find_named(image, pc, info, steps)
     }
 
-    ghost contains = { λ finder image pc found ticks. named_contains E.names finder image pc found ticks };
+    ghost contains = { λ finder image pc found ticks. named_contains E.names finder image pc found
+        ticks };
 }
 
 /// The description that a table of a module finds: a frame table by a scan, a header by its table.

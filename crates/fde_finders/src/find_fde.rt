@@ -31,7 +31,8 @@ impl<'a> FDESearchResult<'a> {
     ///
     /// The first fault of the row: those of [`Fde::unwind_info_for_address`].
     pub fn make_row(&self, address: u64, rows: &mut RowRoom<'a>) -> Result<(), Error>
-        ensures row { GivesRow (made result rows.new) (row_at (answered self.now).bases (answered self.now).fde address) }
+        ensures row { GivesRow (made result rows.new)
+            (row_at (answered self.now).bases (answered self.now).fde address) }
     {
         self.fde
             .make_row(&self.eh_frame, &self.bases, address, rows)
@@ -69,8 +70,10 @@ pub trait FDEFinder {
         pc: u64,
         steps: &mut Steps<L>,
     ) -> Option<FDESearchResult<'a>>
-        ensures found { (ticks : ℕ) × (steps.new.number ≡ steps.old.number + ticks) × finds self.now image.now pc (option_map answered result) ticks };
+        ensures found { (ticks : ℕ) × (steps.new.number ≡ steps.old.number + ticks) ×
+            finds self.now image.now pc (option_map answered result) ticks };
 
     /// A description that is found contains the address.
-    ghost contains: { (finder : Self) (image : List Span) (pc : ℕ) (found : FoundFde) (ticks : ℕ) → finds finder image pc (Some found) ticks → IsTrue (covers_pc found.fde pc) };
+    ghost contains: { (finder : Self) (image : List Span) (pc : ℕ) (found : FoundFde) (ticks : ℕ) →
+        finds finder image pc (Some found) ticks → IsTrue (covers_pc found.fde pc) };
 }

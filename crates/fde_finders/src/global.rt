@@ -31,7 +31,8 @@ pub struct GlobalFinder<'p, E: EhFrameFinder> {
 }
 
 impl<'p, E: EhFrameFinder> FDEFinder for GlobalFinder<'p, E> {
-    ghost finds = { λ f image pc. FindsInTurn E.names f.custom f.registry f.gnu f.phdr f.fixed image pc };
+    ghost finds = { λ f image pc. FindsInTurn E.names f.custom f.registry f.gnu f.phdr f.fixed image
+        pc };
 
     fn find_fde<'a, L: Ledger>(
         &self,
@@ -48,7 +49,8 @@ impl<'p, E: EhFrameFinder> FDEFinder for GlobalFinder<'p, E> {
         find_in_objects(&self.gnu, &self.phdr, &self.fixed, image, pc, steps)
     }
 
-    ghost contains = { λ f image pc found ticks finds. in_turn_contains image pc E.names f.custom f.registry f.gnu f.phdr f.fixed found ticks finds };
+    ghost contains = { λ f image pc found ticks finds. in_turn_contains image pc E.names f.custom
+        f.registry f.gnu f.phdr f.fixed found ticks finds };
 }
 
 // The description that the finders find that know where their tables lie.
@@ -61,7 +63,8 @@ fn find_in_objects<'a, L: Ledger>(
     steps: &mut Steps<L>,
 ) -> Option<FDESearchResult<'a>>
     ensures { (ticks : ℕ) × (steps.new.number ≡ steps.old.number + ticks)
-        × FindsInObjects gnu.now phdr.now fixed.now image.now pc (option_map answered result) ticks }
+        × FindsInObjects gnu.now phdr.now fixed.now image.now pc (option_map answered result)
+        ticks }
 {
     if let Some(found) = ask(gnu, image, pc, steps) {
         return Some(found);

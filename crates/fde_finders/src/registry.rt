@@ -72,7 +72,9 @@ impl Registry {
         tbase: u64,
         dbase: u64,
     ) -> Result<(), AllocError>
-        ensures registered { OnOk result (self.new ≡ with_object (record { begin = begin; tbase = tbase; dbase = dbase; multiple = false }) self.old) }
+        ensures registered { OnOk result
+            (self.new ≡ with_object (record
+            { begin = begin; tbase = tbase; dbase = dbase; multiple = false }) self.old) }
         ensures unchanged { OnErr result (self.new ≡ self.old) }
         ensures nothing { begin ≡ 0 → result ≡ Ok tt }
     {
@@ -94,7 +96,9 @@ impl Registry {
     ///
     /// `AllocError` where memory ran out; the registry is then as before.
     pub fn register_frame_info(&mut self, begin: u64) -> Result<(), AllocError>
-        ensures registered { OnOk result (self.new ≡ with_object (record { begin = begin; tbase = 0; dbase = 0; multiple = false }) self.old) }
+        ensures registered { OnOk result
+            (self.new ≡ with_object (record
+            { begin = begin; tbase = 0; dbase = 0; multiple = false }) self.old) }
         ensures unchanged { OnErr result (self.new ≡ self.old) }
         ensures nothing { begin ≡ 0 → result ≡ Ok tt }
     {
@@ -107,7 +111,9 @@ impl Registry {
     ///
     /// `AllocError` where memory ran out; the registry is then as before.
     pub fn register_frame(&mut self, begin: u64) -> Result<(), AllocError>
-        ensures registered { OnOk result (self.new ≡ with_object (record { begin = begin; tbase = 0; dbase = 0; multiple = false }) self.old) }
+        ensures registered { OnOk result
+            (self.new ≡ with_object (record
+            { begin = begin; tbase = 0; dbase = 0; multiple = false }) self.old) }
         ensures unchanged { OnErr result (self.new ≡ self.old) }
         ensures nothing { begin ≡ 0 → result ≡ Ok tt }
     {
@@ -125,7 +131,9 @@ impl Registry {
         tbase: u64,
         dbase: u64,
     ) -> Result<(), AllocError>
-        ensures registered { OnOk result (self.new ≡ record { begin = begin; tbase = tbase; dbase = dbase; multiple = true } ∷ self.old) }
+        ensures registered { OnOk result
+            (self.new ≡ record { begin = begin; tbase = tbase; dbase = dbase; multiple = true } ∷
+            self.old) }
         ensures unchanged { OnErr result (self.new ≡ self.old) }
     {
         self.objects.push_front(Object {
@@ -143,7 +151,9 @@ impl Registry {
     ///
     /// `AllocError` where memory ran out; the registry is then as before.
     pub fn register_frame_info_table(&mut self, begin: u64) -> Result<(), AllocError>
-        ensures registered { OnOk result (self.new ≡ record { begin = begin; tbase = 0; dbase = 0; multiple = true } ∷ self.old) }
+        ensures registered { OnOk result
+            (self.new ≡ record { begin = begin; tbase = 0; dbase = 0; multiple = true } ∷
+            self.old) }
         ensures unchanged { OnErr result (self.new ≡ self.old) }
     {
         self.register_frame_info_table_bases(begin, 0, 0)
@@ -155,7 +165,9 @@ impl Registry {
     ///
     /// `AllocError` where memory ran out; the registry is then as before.
     pub fn register_frame_table(&mut self, begin: u64) -> Result<(), AllocError>
-        ensures registered { OnOk result (self.new ≡ with_object (record { begin = begin; tbase = 0; dbase = 0; multiple = true }) self.old) }
+        ensures registered { OnOk result
+            (self.new ≡ with_object (record
+            { begin = begin; tbase = 0; dbase = 0; multiple = true }) self.old) }
         ensures unchanged { OnErr result (self.new ≡ self.old) }
         ensures nothing { begin ≡ 0 → result ≡ Ok tt }
     {
@@ -224,7 +236,8 @@ fn find_among<'a>(
     image: &MemoryImage<'a>,
     pc: u64,
 ) -> Option<FDESearchResult<'a>>
-    ensures { FindsAmong (FindsRegistered image.now pc) objects.now.items (option_map answered result) 0 }
+    ensures { FindsAmong (FindsRegistered image.now pc) objects.now.items
+        (option_map answered result) 0 }
 {
     let mut i = 0;
     while i < objects.len() {

@@ -66,7 +66,8 @@ pub(crate) fn search_header<'a, L: Ledger>(
     header: u64,
     steps: &mut Steps<L>,
 ) -> Option<FDESearchResult<'a>>
-    ensures found { option_map answered result ≡ found_by_header (bases_of known.now) image.now header pc }
+    ensures found { option_map answered result ≡ found_by_header (bases_of known.now) image.now
+        header pc }
     ensures ticks { (taken : ℕ) × (steps.new.number ≡ steps.old.number + taken)
         × AreWithinDigits (pairs_by_header (bases_of known.now) image.now header) taken }
 {
@@ -92,7 +93,8 @@ fn search_table<'a, L: Ledger>(
     pc: u64,
     steps: &mut Steps<L>,
 ) -> Option<FDESearchResult<'a>>
-    ensures found { option_map answered result ≡ by_table (bases_of bases) (table_of eh_frame.entry) pc (option_map pairs_of table.entry) }
+    ensures found { option_map answered result ≡ by_table (bases_of bases)
+        (table_of eh_frame.entry) pc (option_map pairs_of table.entry) }
     ensures ticks { (taken : ℕ) × (steps.new.number ≡ steps.old.number + taken)
         × AreWithinDigits (pairs_in (option_map pairs_of table.entry)) taken }
 {
@@ -115,7 +117,8 @@ fn listed<'a, L: Ledger>(
     pc: u64,
     steps: &mut Steps<L>,
 ) -> Option<Fde<'a>>
-    ensures found { option_map fde_of result ≡ listed (bases_of bases.now) (table_of eh_frame.now) pc (option_map pairs_of table.entry) }
+    ensures found { option_map fde_of result ≡ listed (bases_of bases.now)
+        (table_of eh_frame.now) pc (option_map pairs_of table.entry) }
     ensures ticks { (taken : ℕ) × (steps.new.number ≡ steps.old.number + taken)
         × AreWithinDigits (pairs_in (option_map pairs_of table.entry)) taken }
 {

@@ -23,7 +23,7 @@ use Rattle.stack_deliver.proofs.StepParts.{some_next, stepped_by, step_is, goes,
 use Rattle.stack_deliver.proofs.LineAnswers.{IsStepFault, OnStepFault, step_faults}
 use Rattle.stack_deliver.proofs.StepAnswers.{step_unmapped}
 
--- an error of a delivery, but want of memory; an unmapped word isn't mapped
+-- an error of a delivery, but out of memory; an unmapped word isn't mapped
 abbrev pub IsCause : List Span → DeliverError → Type 0
 IsCause image NoMemory = ⊥
 IsCause image (Unmapped a) = word_at image a ≡ None

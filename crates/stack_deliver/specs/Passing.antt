@@ -90,7 +90,7 @@ abbrev pub with_cleanups : List Trail → Result Passed DeliverError → Result 
 with_cleanups front (Ok passed) = Ok (record passed { trail = front ++ passed.trail })
 with_cleanups front (Err e) = Err e
 
--- the answer of passes, and the room behind it
+-- the answer of passes, and the room after it
 abbrev pub IsPassed : Result Ending DeliverError → RoomValue → Result Passed DeliverError → Type 0
 IsPassed (Ok ending) room due = due ≡ Ok (record { trail = room.trail; ending = ending })
 IsPassed (Err e) room due = due ≡ Err e

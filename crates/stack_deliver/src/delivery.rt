@@ -108,7 +108,12 @@ impl Model for Delivery {
 
     ghost Value = { Delivered };
 
-    ghost view = { λ d. record { visited = d.visited.items; trail = d.trail.items; outcome = d.outcome; landing = d.landing } };
+    ghost view = { λ d. record {
+      visited = d.visited.items;
+      trail = d.trail.items;
+      outcome = d.outcome;
+      landing = d.landing;
+    } };
 }
 
 impl Delivery {

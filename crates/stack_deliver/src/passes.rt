@@ -77,7 +77,8 @@ impl Stop {
 
     /// The registers with which a landing pad is entered.
     fn entering(&self, exception: u64, pad: u64) -> Context
-        ensures { result ≡ enters (past_arguments self.now.state.context self.now.arguments) exception pad }
+        ensures { result ≡ enters (past_arguments self.now.state.context self.now.arguments)
+            exception pad }
     {
         let mut context = self.state.context;
         // Past the arguments that the callee removes.
@@ -100,14 +101,15 @@ enum Turn {
     Caller,
 }
 
-/// What the language of a frame asks. A language table that can't be read ends the program, but what
-/// names the personality has to be read.
+/// What the language of a frame asks. A language table that can't be read ends the program, but
+/// what names the personality has to be read.
 fn asked(
     image: &MemoryImage<'_>,
     state: &Stepped,
     found: &FDESearchResult<'_>,
 ) -> Result<EhAction, DeliverError>
-    ensures { result_map action_of result ≡ asked_of image.now state.now.context state.now.signal (answered found.now) }
+    ensures { result_map action_of result ≡ asked_of image.now state.now.context state.now.signal
+        (answered found.now) }
 {
     match personality_of(found, image)? {
         None => Ok(EhAction::None),
@@ -122,7 +124,8 @@ fn stop_action(
     state: &Stepped,
     found: &FDESearchResult<'_>,
 ) -> Result<Option<EhAction>, DeliverError>
-    ensures { result_map (option_map action_of) result ≡ stop_of phase image.now state.now.context state.now.signal (answered found.now) }
+    ensures { result_map (option_map action_of) result ≡ stop_of phase image.now state.now.context
+        state.now.signal (answered found.now) }
 {
     let Some(phase) = phase else {
         return Ok(None);
@@ -135,7 +138,8 @@ fn stop_action(
     }
 }
 
-/// What a walk or a pass meets at a state. Where that is the caller, it stands in the state's place.
+/// What a walk or a pass meets at a state. Where that is the caller, it stands in the state's
+/// place.
 #[tactic(auto, unfolding(crate::specs::Passes::turn_for))]
 fn meet<'a, L: Ledger>(
     phase: Option<Phase>,
@@ -144,9 +148,11 @@ fn meet<'a, L: Ledger>(
     rows: &mut RowRoom<'a>,
     steps: &mut Steps<L>,
 ) -> Result<Turn, DeliverError>
-    ensures met { result_map (turn_shown state.new) result ≡ turn_for phase space.now state.old.context state.old.signal }
+    ensures met { result_map (turn_shown state.new) result ≡ turn_for phase space.now
+        state.old.context state.old.signal }
     ensures stays { IfOk result (λ turn. StaysAt turn state.old state.new) }
-    ensures ticks { RisesBySearch (pairs_at space.now state.old.context state.old.signal) steps.old.number steps.new.number }
+    ensures ticks { RisesBySearch (pairs_at space.now state.old.context state.old.signal)
+        steps.old.number steps.new.number }
 {
     let Some(found) = frame_at(space, state, rows, steps)? else {
         return Ok(Turn::End);
@@ -171,8 +177,8 @@ fn visit(phase: Option<Phase>, state: &Stepped, room: &mut Room)
 }
 
 /// Goes from a state outwards: a walk, which has no phase and puts each state into the room, the
-/// search, which does so too, or a cleanup pass. It answers where it stops, `None` at the end of the
-/// stack.
+/// search, which does so too, or a cleanup pass. It answers where it stops, `None` at the end of
+/// the stack.
 pub(crate) fn outwards<'a, L: Ledger>(
     phase: Option<Phase>,
     space: &Space<'a>,
@@ -184,7 +190,8 @@ pub(crate) fn outwards<'a, L: Ledger>(
 ) -> Result<Option<Stop>, DeliverError>
     requires within { limit ≤ room.old.limit }
     requires empty { visits phase ≡ true → room.old.visited ≡ [] }
-    ensures exact { IsOutward (visits phase) result room.new (line_for phase space.now limit start.context start.signal) }
+    ensures exact { IsOutward (visits phase) result room.new
+        (line_for phase space.now limit start.context start.signal) }
     ensures kept { (room.new.trail ≡ room.old.trail) × (room.new.limit ≡ room.old.limit) }
     ensures stays { visits phase ≡ false → room.new ≡ room.old }
     ensures ticks { RisesWithin space.now limit steps.old.number steps.new.number }
@@ -251,7 +258,8 @@ fn cleanup<'a, L: Ledger>(
     steps: &mut Steps<L>,
 ) -> Result<Pass, DeliverError>
     requires within { limit ≤ room.old.limit }
-    ensures exact { result_map end_shown result ≡ cleanup_of space.now exception kept limit start.now }
+    ensures exact { result_map end_shown result ≡ cleanup_of space.now exception kept limit
+        start.now }
     ensures stays { room.new ≡ room.old }
     ensures ticks { RisesWithin space.now limit steps.old.number steps.new.number }
 {
@@ -265,7 +273,7 @@ fn cleanup<'a, L: Ledger>(
     }
 }
 
-/// Puts the cleanup at a landing pad on the trail, and gives the registers behind it.
+/// Puts the cleanup at a landing pad on the trail, and gives the registers after it.
 fn resume(
     pad: u64,
     entered: Context,
@@ -275,8 +283,10 @@ fn resume(
 ) -> Result<Context, DeliverError>
     requires within { limit ≤ room.old.limit }
     ensures full { limit ≤ length room.old.trail → result ≡ Err DeliverError.PassLimit }
-    ensures resumed { length room.old.trail < limit → result ≡ resume_at pad entered (return_of resumes.now pad) }
-    ensures trail { OnOk result (room.new ≡ record room.old { trail = room.old.trail ++ cleanup_at pad entered ∷ [] }) }
+    ensures resumed { length room.old.trail < limit →
+        result ≡ resume_at pad entered (return_of resumes.now pad) }
+    ensures trail { OnOk result
+        (room.new ≡ record room.old { trail = room.old.trail ++ cleanup_at pad entered ∷ [] }) }
     ensures kept { (room.new.visited ≡ room.old.visited) × (room.new.limit ≡ room.old.limit) }
 {
     if room.trail_len() >= limit as usize {
@@ -296,7 +306,7 @@ fn resume(
     }
 }
 
-/// The cleanup passes from the start on, each but the first from behind the cleanup before it, until
+/// The cleanup passes from the start on, each but the first from after the cleanup before it, until
 /// one enters the handler of the frame with the kept mark or ends the program.
 pub(crate) fn passes<'a, L: Ledger>(
     space: &Space<'a>,
@@ -311,7 +321,8 @@ pub(crate) fn passes<'a, L: Ledger>(
 ) -> Result<Ending, DeliverError>
     requires within { limit ≤ room.old.limit }
     requires empty { room.old.trail ≡ [] }
-    ensures exact { IsPassed result room.new (passes_of space.now exception kept resumes.now limit limit start.now) }
+    ensures exact { IsPassed result room.new
+        (passes_of space.now exception kept resumes.now limit limit start.now) }
     ensures kept { (room.new.visited ≡ room.old.visited) × (room.new.limit ≡ room.old.limit) }
     ensures ticks { RisesWithin space.now ((limit + 1) * limit) steps.old.number steps.new.number }
 {

@@ -29,17 +29,31 @@ use crate::passes::Phase;
 /// delivery adds the size of the arguments to the stack pointer of what is installed.
 /// Source: Itanium C++ ABI, exception handling, section 2.5.
 pub fn passes_ask_the_personality()
-    ensures search { (image : List Span) (c : Context) (interrupted : Bool) (frame : FrameValue) (action : Action) (asked : Asked) → IsAsked image c interrupted frame action → InSearch asked →
+    ensures search { (image : List Span) (c : Context) (interrupted : Bool) (frame : FrameValue)
+        (action : Action) (asked : Asked) → IsAsked image c interrupted frame action →
+        InSearch asked →
         answer_for asked image frame c interrupted ≡ (searched action, columns_of c) }
-    ensures cleanup { (image : List Span) (c : Context) (interrupted : Bool) (frame : FrameValue) (action : Action) (asked : Asked) → IsAsked image c interrupted frame action → InCleanup asked → length c.registers ≡ 16 →
+    ensures cleanup { (image : List Span) (c : Context) (interrupted : Bool) (frame : FrameValue)
+        (action : Action) (asked : Asked) → IsAsked image c interrupted frame action →
+        InCleanup asked → length c.registers ≡ 16 →
         AnswersCleanup action asked.exception c (answer_for asked image frame c interrupted) }
-    // A pass stops exactly where the personality doesn't go on, and the search takes exactly where a handler is found.
-    ensures search_stops { (image : List Span) (c : Context) (interrupted : Bool) (frame : FrameValue) (action : Action) (asked : Asked) → IsAsked image c interrupted frame action → InSearch asked →
-        (stops Phase.Search action ≡ true) ↔ (code_of (answer_for asked image frame c interrupted) ≢ CONTINUE_UNWIND) }
-    ensures search_takes { (image : List Span) (c : Context) (interrupted : Bool) (frame : FrameValue) (action : Action) (asked : Asked) → IsAsked image c interrupted frame action → InSearch asked →
-        ((stops Phase.Search action ≡ true) × IsSome (pad_of action)) ↔ (code_of (answer_for asked image frame c interrupted) ≡ HANDLER_FOUND) }
-    ensures cleanup_stops { (image : List Span) (c : Context) (interrupted : Bool) (frame : FrameValue) (action : Action) (asked : Asked) → IsAsked image c interrupted frame action → InCleanup asked → length c.registers ≡ 16 →
-        (stops Phase.Cleanup action ≡ true) ↔ (code_of (answer_for asked image frame c interrupted) ≢ CONTINUE_UNWIND) }
+    // A pass stops exactly where the personality doesn't go on, and the search takes exactly where
+    // a handler is found.
+    ensures search_stops { (image : List Span) (c : Context) (interrupted : Bool)
+        (frame : FrameValue) (action : Action) (asked : Asked) →
+        IsAsked image c interrupted frame action → InSearch asked →
+        (stops Phase.Search action ≡ true) ↔
+        (code_of (answer_for asked image frame c interrupted) ≢ CONTINUE_UNWIND) }
+    ensures search_takes { (image : List Span) (c : Context) (interrupted : Bool)
+        (frame : FrameValue) (action : Action) (asked : Asked) →
+        IsAsked image c interrupted frame action → InSearch asked →
+        ((stops Phase.Search action ≡ true) × IsSome (pad_of action)) ↔
+        (code_of (answer_for asked image frame c interrupted) ≡ HANDLER_FOUND) }
+    ensures cleanup_stops { (image : List Span) (c : Context) (interrupted : Bool)
+        (frame : FrameValue) (action : Action) (asked : Asked) →
+        IsAsked image c interrupted frame action → InCleanup asked → length c.registers ≡ 16 →
+        (stops Phase.Cleanup action ≡ true) ↔
+        (code_of (answer_for asked image frame c interrupted) ≢ CONTINUE_UNWIND) }
 {}
 
 /// The premises of the laws here can be met: a frame whose function has a handler at
@@ -57,10 +71,10 @@ pub fn a_handler_is_asked_for()
 /// The definitions of a search and of a cleanup pass that the runs of `unwinding_core` go by hold,
 /// at that step and that personality, of exactly one answer, and a delivery's is that one: the
 /// states that the search visits, where it ends, and the stack pointer that it keeps; how a cleanup
-/// pass toward such a stack pointer ends; and a whole delivery, which is the search and then cleanup
-/// passes, each but the first from where the resume table sends the cleanup before it. The
-/// personality doesn't read the row of a frame, so this may be given by any function.
-/// Source: Itanium C++ ABI, exception handling, level I, section 1.3.
+/// pass toward such a stack pointer ends; and a whole delivery, which is the search and then
+/// cleanup passes, each but the first from where the resume table sends the cleanup before it. The
+/// personality doesn't read the row of a frame, so this may be given by any function. Source:
+/// Itanium C++ ABI, exception handling, level I, section 1.3.
 pub fn deliveries_are_passes()
     ensures search { (space : SpaceValue) (row : Run → RowValue) (thrown : Thrown) (limit : ℕ)
         (start : Context) (due : Result Search DeliverError) → length start.registers ≡ 16 →

@@ -13,7 +13,7 @@ use Rattle.stack_report.specs.Report.{line}
 abbrev pub module_at : ℕ → ℕ → Module
 module_at start end = record { start = start; end = end; frame = record { text_base = None; kind = EhFrame 0x500000 } }
 
--- the tables, with a stack behind
+-- the tables, with a stack after
 abbrev pub regions_with : Span → List Span
 regions_with stack = record { start = 0x500000; bytes = three.frames } ∷ record { start = 0x502000; bytes = three.languages } ∷ record { start = 0x503000; bytes = three.cell } ∷ stack ∷ []
 

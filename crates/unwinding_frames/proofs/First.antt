@@ -71,7 +71,7 @@ module _ (image : List Span) (bases : Bases) (start a : ℕ) (h : Head) where
   decision_is : (s : CallSite) → IsDecision s (decision start a h s)
   decision_is s = by_start s (nat_lt (start + s.from) (2 ^ 64))
 
-  -- a call site that ends before the address, and what those behind it ask
+  -- a call site that ends before the address, and what those after it ask
   behind_it : (c d : Input) (s : CallSite) (x : Action) → call_site image bases h.site_encoding c ≡ Ok (s, d) → start + s.from + s.size ≤ a → SitesAsk image bases start a h d x → SitesAsk image bases start a h c x
   behind_it c d s x reads ends (inl first) = inl (record { before = s ∷ first.before; place = first.place; precede = (d, reads, ends, first.precede); site = first.site; behind = first.behind; stands = first.stands; says = first.says })
   behind_it c d s x reads ends (inr none) = inr (record { sites = s ∷ none.0.sites; end = none.0.end; precede = (d, reads, ends, none.0.precede); ends = none.0.ends }, none.1)

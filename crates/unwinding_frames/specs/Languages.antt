@@ -32,7 +32,7 @@ abbrev pub given : {A B : Type 0} → (A → B) → Result A StepError → Resul
 given view (Ok x) = Ok (view x)
 given view (Err e) = Err (fault_of e)
 
--- From one place a reader gives a value, seen by a view, and the next place; or a fault. The place behind a fault isn't told.
+-- From one place a reader gives a value, seen by a view, and the next place; or a fault. The place after a fault is unspecified.
 abbrev pub GivesOr : {A B : Type 0} → (A → B) → Result A StepError → Result (B × Input) StepFault → Input → Type 0
 GivesOr view (Ok x) read new = read ≡ Ok (view x, new)
 GivesOr view (Err e) read new = read ≡ Err (fault_of e)

@@ -13,7 +13,7 @@ use Rattle.unwinding_frames.specs.declared.abi.exception.Kept.TheVariants.{Handl
 
 -- ---- contexts, and the step from one to the next
 
--- a context, and whether it stands at its instruction, as behind a signal's frame, and not behind a call
+-- a context, and whether it stands at its instruction, as after a signal's frame, and not after a call
 pub record Marked (C : Type 0) : Type 0 where
   pub context : C
   pub signal : Bool
@@ -35,7 +35,7 @@ pub record Stepping (C F E : Type 0) : Type 1 where
   pub Sees : Marked C → Result (Option F) E → Type 0
   pub undoing : Undoing C F E
 
--- What knows a frame of a stack again: its stack pointer, as a word one less behind a signal's frame.
+-- What knows a frame of a stack again: its stack pointer, as a word one less after a signal's frame.
 abbrev pub less_signal : Bool → ℕ → ℕ
 less_signal signal sp = if signal then (sp + (2 ^ 64 - 1)) % 2 ^ 64 else sp
 

@@ -86,7 +86,7 @@ impl<'a, M: Machine> Frame<'a, M> {
     /// The frame whose registers are `context`, `None` at the end of the stack.
     ///
     /// The address asked is the return address where `signal` is true, for then the frame stands
-    /// at that instruction. Else it is the return address less one: behind a call that is a byte of
+    /// at that instruction. Else it is the return address less one: after a call that is a byte of
     /// the call, which may be the last of its function. The stack ends where the return address is
     /// 0, and where the finder finds nothing. The finder is asked once at most, and steps are
     /// counted there alone.
@@ -101,11 +101,16 @@ impl<'a, M: Machine> Frame<'a, M> {
         signal: bool,
         steps: &mut Steps<L>,
     ) -> Result<Option<Frame<'a, M>>, StepError>
-        ensures ends { M.Context.columns context.now M.RA.0 ≡ Some 0 → (result ≡ Ok None) × (steps.new.number ≡ steps.old.number) }
+        ensures ends { M.Context.columns context.now M.RA.0 ≡ Some 0 →
+            (result ≡ Ok None) × (steps.new.number ≡ steps.old.number) }
         ensures frame { (ra : ℕ) → M.Context.columns context.now M.RA.0 ≡ Some ra → ra ≢ 0 →
-            (answer : Option FoundFde) × (ticks : ℕ) × (steps.new.number ≡ steps.old.number + ticks) × F.finds finder.now image.now (address_of_call ra signal) answer ticks × GivesFrame (address_of_call ra signal) answer result }
+            (answer : Option FoundFde) × (ticks : ℕ) ×
+            (steps.new.number ≡ steps.old.number + ticks) ×
+            F.finds finder.now image.now (address_of_call ra signal) answer ticks ×
+            GivesFrame (address_of_call ra signal) answer result }
         ensures contains { (ra : ℕ) → M.Context.columns context.now M.RA.0 ≡ Some ra →
-            IfOk result (λ frame. IfSome frame (λ f. IsTrue (covers_pc f.found.fde (address_of_call ra signal)))) }
+            IfOk result (λ frame. IfSome frame
+            (λ f. IsTrue (covers_pc f.found.fde (address_of_call ra signal)))) }
     {
         let ra = return_address::<M>(context);
         if ra == 0 {
@@ -121,7 +126,9 @@ impl<'a, M: Machine> Frame<'a, M> {
         address: u64,
         steps: &mut Steps<L>,
     ) -> Result<Option<Frame<'a, M>>, StepError>
-        ensures frame { (answer : Option FoundFde) × (ticks : ℕ) × (steps.new.number ≡ steps.old.number + ticks) × F.finds finder.now image.now address answer ticks × GivesFrame address answer result }
+        ensures frame { (answer : Option FoundFde) × (ticks : ℕ) ×
+            (steps.new.number ≡ steps.old.number + ticks) ×
+            F.finds finder.now image.now address answer ticks × GivesFrame address answer result }
     {
         match finder.find_fde(image, address, steps) {
             None => Ok(None),
@@ -152,15 +159,16 @@ impl<'a, M: Machine> Frame<'a, M> {
     /// # Errors
     ///
     /// The first fault: that of the canonical frame address, or else of the lowest column. `Table`
-    /// where a column isn't the machine's or an expression has no value, `Unmapped` with the address
-    /// of a slot, or of a number that an expression reads, that isn't wholly mapped.
+    /// where a column isn't the machine's or an expression has no value, `Unmapped` with the
+    /// address of a slot, or of a number that an expression reads, that isn't wholly mapped.
     pub fn unwind(
         &self,
         image: &MemoryImage<'a>,
         context: &M::Context,
     ) -> Result<M::Context, StepError>
         ensures caller { (run : Run) → IsRowOf self.now.row run →
-            columns_given M.Context.columns result ≡ caller_of (machine_of M.SP.0 M.RA.0) (evaluation image.now) image.now (M.Context.columns context.now) run }
+            columns_given M.Context.columns result ≡ caller_of (machine_of M.SP.0 M.RA.0)
+            (evaluation image.now) image.now (M.Context.columns context.now) run }
     {
         let mut caller = *context;
         step_by_row::<M>(image, &mut caller, &self.row.as_ref())?;
@@ -170,8 +178,11 @@ impl<'a, M: Machine> Frame<'a, M> {
     /// Takes the arguments that the frame's callee removes off the stack of `context`: their size
     /// is added to the stack pointer, and wraps at 2^64.
     pub fn adjust_stack_for_args(&self, context: &mut M::Context)
-        ensures sp { (sp : ℕ) → M.Context.columns context.old M.SP.0 ≡ Some sp → M.Context.columns context.new M.SP.0 ≡ Some ((sp + self.now.row.saved_args_size) % 2 ^ 64) }
-        ensures others { (k : ℕ) → k ≢ M.SP.0 → M.Context.columns context.new k ≡ M.Context.columns context.old k }
+        ensures sp { (sp : ℕ) → M.Context.columns context.old M.SP.0 ≡ Some sp →
+            M.Context.columns context.new M.SP.0 ≡ Some
+            ((sp + self.now.row.saved_args_size) % 2 ^ 64) }
+        ensures others { (k : ℕ) → k ≢ M.SP.0 →
+            M.Context.columns context.new k ≡ M.Context.columns context.old k }
     {
         if let Some(sp) = context.get(M::SP) {
             context.set(M::SP, sp.wrapping_add(self.row.saved_args_size()));
@@ -204,7 +215,8 @@ impl<'a, M: Machine> Frame<'a, M> {
     ///
     /// # Errors
     ///
-    /// `Unmapped` with the address of the cell that holds the address, where it isn't wholly mapped.
+    /// `Unmapped` with the address of the cell that holds the address, where it isn't wholly
+    /// mapped.
     pub fn personality(&self, image: &MemoryImage<'_>) -> Result<Option<u64>, StepError>
         ensures { value_given result ≡ personality_address image.now self.now.found.fde }
     {
@@ -215,7 +227,8 @@ impl<'a, M: Machine> Frame<'a, M> {
     ///
     /// # Errors
     ///
-    /// `Unmapped` with the address of the cell that holds the address, where it isn't wholly mapped.
+    /// `Unmapped` with the address of the cell that holds the address, where it isn't wholly
+    /// mapped.
     pub fn lsda(&self, image: &MemoryImage<'_>) -> Result<u64, StepError>
         ensures { value_given result ≡ language_address image.now self.now.found.fde }
     {
@@ -223,7 +236,7 @@ impl<'a, M: Machine> Frame<'a, M> {
     }
 
     /// Whether the frame is one that a signal's delivery made: its caller stands before the
-    /// instruction at its return address and not behind a call.
+    /// instruction at its return address and not after a call.
     pub fn is_signal_trampoline(&self) -> bool
         ensures { result ≡ self.now.found.fde.cie.letters.signal }
     {
@@ -302,7 +315,9 @@ pub fn step_by_row<M: Machine>(
     row: &RowRef<'_, '_>,
 ) -> Result<(), StepError>
     ensures caller { (run : Run) → IsRowOf row.now run →
-        columns_given M.Context.columns (written_in result context.new) ≡ caller_of (machine_of M.SP.0 M.RA.0) (evaluation image.now) image.now (M.Context.columns context.old) run }
+        columns_given M.Context.columns (written_in result context.new) ≡ caller_of
+        (machine_of M.SP.0 M.RA.0)
+        (evaluation image.now) image.now (M.Context.columns context.old) run }
 {
     let callee = *context;
     let cfa = cfa::<M>(image, &callee, row.cfa())?;
@@ -346,7 +361,8 @@ fn cfa<M: Machine>(
     context: &M::Context,
     rule: CfaRule<'_>,
 ) -> Result<u64, StepError>
-    ensures { value_given result ≡ cfa_value (evaluation image.now) (M.Context.columns context.now) (cfa_meaning rule.entry) }
+    ensures { value_given result ≡ cfa_value (evaluation image.now) (M.Context.columns context.now)
+        (cfa_meaning rule.entry) }
 {
     match rule {
         CfaRule::RegisterAndOffset { register, offset } => {
@@ -360,7 +376,8 @@ fn cfa<M: Machine>(
 /// Makes a frame's registers its caller's before any rule is applied: the stack pointer is the
 /// canonical frame address, and the return address 0.
 fn begin<M: Machine>(context: &mut M::Context, cfa: u64)
-    ensures { M.Context.columns context.new ≡ unruled (machine_of M.SP.0 M.RA.0) (M.Context.columns context.old) cfa }
+    ensures { M.Context.columns context.new ≡ unruled (machine_of M.SP.0 M.RA.0)
+        (M.Context.columns context.old) cfa }
 {
     context.set(M::RA, 0);
     context.set(M::SP, cfa);
@@ -375,7 +392,8 @@ fn rule_value<M: Machine>(
     register: Register,
     rule: RegisterRule<'_>,
 ) -> Result<u64, StepError>
-    ensures { value_given result ≡ rule_value (evaluation image.now) image.now (M.Context.columns context.now) cfa register.0 (rule_meaning rule.entry) }
+    ensures { value_given result ≡ rule_value (evaluation image.now) image.now
+        (M.Context.columns context.now) cfa register.0 (rule_meaning rule.entry) }
 {
     match rule {
         RegisterRule::Undefined => Ok(0),
@@ -402,7 +420,11 @@ fn apply_rule<M: Machine>(
     rule: RegisterRule<'_>,
     caller: &mut M::Context,
 ) -> Result<(), StepError>
-    ensures { columns_given M.Context.columns (written_in result caller.new) ≡ rule_applied (evaluation image.now) image.now (M.Context.columns context.now) cfa (entry_of (register, rule.entry)) (M.Context.columns caller.old) }
+    ensures { columns_given M.Context.columns (written_in result caller.new) ≡ rule_applied
+        (evaluation image.now) image.now (M.Context.columns context.now) cfa (entry_of (
+          register,
+          rule.entry,
+        )) (M.Context.columns caller.old) }
 {
     let value = rule_value::<M>(image, context, cfa, register, rule)?;
     match caller.set(register, value) {
@@ -420,7 +442,9 @@ fn apply<M: Machine>(
     rules: Registers<'_, '_>,
     caller: &mut M::Context,
 ) -> Result<(), StepError>
-    ensures { columns_given M.Context.columns (written_in result caller.new) ≡ applied (evaluation image.now) image.now (M.Context.columns context.now) cfa (map entry_of (left rules.entry)) (M.Context.columns caller.old) }
+    ensures { columns_given M.Context.columns (written_in result caller.new) ≡ applied
+        (evaluation image.now) image.now (M.Context.columns context.now) cfa
+        (map entry_of (left rules.entry)) (M.Context.columns caller.old) }
 {
     for (register, rule) in rules {
         apply_rule::<M>(image, context, cfa, register, rule, caller)?;

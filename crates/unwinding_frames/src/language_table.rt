@@ -1,7 +1,7 @@
 //! Language tables: what the language of a function asks of a frame that is stopped in it.
 //!
-//! Itanium C++ ABI, exception handling tables. A table has a head, the call sites of its function in
-//! ascending order, and the action table.
+//! Itanium C++ ABI, exception handling tables. A table has a head, the call sites of its function
+//! in ascending order, and the action table.
 
 ghost use Rattle.std.specs.Prelude.{◌≡◌, ℕ, length, Some, IfOk};
 ghost use Rattle.std.specs.Option.{option_map};
@@ -64,7 +64,7 @@ const OVERFLOW: StepError = StepError::Table(Error::AddressOverflow);
 
 /// What the function of a frame asks of it, by its language table: `None` where it has no table.
 ///
-/// The address asked is the return address, less one unless `signal`: behind a call that is a byte
+/// The address asked is the return address, less one unless `signal`: after a call that is a byte
 /// of the call. Call sites are taken in order. The first that holds the address decides, or the
 /// first that begins past it, and then the program ends; so it does where none decides. A site
 /// without a landing pad asks nothing.
@@ -72,7 +72,7 @@ const OVERFLOW: StepError = StepError::Table(Error::AddressOverflow);
 ///
 /// # Errors
 ///
-/// The first that holds in the order of reading. What stands behind the deciding site isn't read.
+/// The first that holds in the order of reading. What stands after the deciding site isn't read.
 ///
 /// - `Table` with the fault of an encoding, a number, a pointer or the bytes that call sites take;
 /// - `Table(AddressOverflow)` where an address of a site or of a landing pad passes 2^64 - 1;
@@ -84,9 +84,11 @@ pub fn find_eh_action<M: Machine>(
     signal: bool,
 ) -> Result<EhAction, StepError>
     ensures action { (ra : ℕ) → M.Context.columns context.now M.RA.0 ≡ Some ra →
-        given action_of result ≡ language_action image.now frame.now.found.bases frame.now.found.fde (address_of_call ra signal) }
+        given action_of result ≡ language_action image.now frame.now.found.bases frame.now.found.fde
+        (address_of_call ra signal) }
     ensures first { (ra : ℕ) → M.Context.columns context.now M.RA.0 ≡ Some ra →
-        IfOk result (λ action. LanguageAsks image.now frame.now.found.bases frame.now.found.fde (address_of_call ra signal) (action_of action)) }
+        IfOk result (λ action. LanguageAsks image.now frame.now.found.bases frame.now.found.fde
+        (address_of_call ra signal) (action_of action)) }
 {
     let address = address_asked(return_address::<M>(context), signal);
     eh_action_of(frame.found(), image, address)
@@ -103,7 +105,8 @@ pub fn eh_action_of(
     image: &MemoryImage<'_>,
     address: u64,
 ) -> Result<EhAction, StepError>
-    ensures { given action_of result ≡ language_action image.now (answered found.now).bases (answered found.now).fde address }
+    ensures { given action_of result ≡ language_action image.now (answered found.now).bases
+        (answered found.now).fde address }
 {
     let table = lsda_of(found, image)?;
     if table == 0 {
@@ -126,7 +129,8 @@ fn action_at(
     table: u64,
     address: u64,
 ) -> Result<EhAction, StepError>
-    ensures { given action_of result ≡ search image.now (bases_of bases.now) start address (input_at image.now table) }
+    ensures { given action_of result ≡ search image.now (bases_of bases.now) start address
+        (input_at image.now table) }
 {
     let table = LanguageTable::read(image, bases, start, input_at(image, table))?;
     table.search(image, bases, start, address)
@@ -147,7 +151,8 @@ impl<'a> LanguageTable<'a> {
         start: u64,
         input: Cursor<'a>,
     ) -> Result<LanguageTable<'a>, StepError>
-        ensures { given head_of result ≡ head image.now (bases_of bases.now) start (at input.entry) }
+        ensures { given head_of result ≡ head image.now (bases_of bases.now) start
+            (at input.entry) }
     {
         let mut rest = input;
         let pad_base = read_pad_base(image, bases, start, &mut rest)?;
@@ -171,7 +176,8 @@ impl<'a> LanguageTable<'a> {
         start: u64,
         address: u64,
     ) -> Result<EhAction, StepError>
-        ensures { given action_of result ≡ search_from (length (at self.now.sites).bytes) image.now (bases_of bases.now) start address (head_of self.now) (at self.now.sites) }
+        ensures { given action_of result ≡ search_from (length (at self.now.sites).bytes) image.now
+            (bases_of bases.now) start address (head_of self.now) (at self.now.sites) }
     {
         let mut sites = self.sites;
         while !sites.is_empty() {
@@ -190,7 +196,8 @@ impl<'a> LanguageTable<'a> {
         address: u64,
         site: CallSite,
     ) -> Result<Option<EhAction>, StepError>
-        ensures { given (option_map action_of) result ≡ decision start address (head_of self.now) (site_of site) }
+        ensures { given (option_map action_of) result ≡ decision start address (head_of self.now)
+            (site_of site) }
     {
         let from = sum(start, site.from)?;
         if address < from {
@@ -241,28 +248,30 @@ fn sum(address: u64, distance: u64) -> Result<u64, StepError>
     address.checked_add(distance).ok_or(OVERFLOW)
 }
 
-/// An address by an encoding. Behind a fault the cursor isn't told.
+/// An address by an encoding. After a fault the cursor is unspecified.
 fn read_address(
     image: &MemoryImage<'_>,
     bases: &Bases,
     encoding: DwEhPe,
     input: &mut Cursor<'_>,
 ) -> Result<u64, StepError>
-    ensures { GivesOr (λ x. x) result (address image.now encoding.0 (bases_of bases.now) (at input.old)) (at input.new) }
+    ensures { GivesOr (λ x. x) result (address image.now encoding.0 (bases_of bases.now)
+        (at input.old)) (at input.new) }
 {
     let pointer = parse_encoded_pointer(encoding, bases, input)?;
     target(image, pointer)
 }
 
 /// What landing pads count from: the function's start, unless the table says another address.
-/// Behind a fault the cursor isn't told.
+/// After a fault the cursor is unspecified.
 fn read_pad_base(
     image: &MemoryImage<'_>,
     bases: &Bases,
     start: u64,
     input: &mut Cursor<'_>,
 ) -> Result<u64, StepError>
-    ensures { GivesOr (λ x. x) result (pad_base image.now (bases_of bases.now) start (at input.old)) (at input.new) }
+    ensures { GivesOr (λ x. x) result (pad_base image.now (bases_of bases.now) start (at input.old))
+        (at input.new) }
 {
     let encoding = parse_pointer_encoding(input)?;
     if encoding.is_absent() {
@@ -271,8 +280,8 @@ fn read_pad_base(
     read_address(image, bases, encoding, input)
 }
 
-/// Passes over the types' encoding and, unless there are none, the distance to their table. Behind a
-/// fault the cursor isn't told.
+/// Passes over the types' encoding and, unless there are none, the distance to their table. After a
+/// fault the cursor is unspecified.
 fn skip_types(input: &mut Cursor<'_>) -> Result<(), Error>
     ensures { Reads (λ x. x) result (passes_types (at input.old)) (at input.new) }
 {
@@ -283,14 +292,15 @@ fn skip_types(input: &mut Cursor<'_>) -> Result<(), Error>
     Ok(())
 }
 
-/// A call site. Behind a fault the cursor isn't told.
+/// A call site. After a fault the cursor is unspecified.
 fn read_call_site(
     image: &MemoryImage<'_>,
     bases: &Bases,
     encoding: DwEhPe,
     input: &mut Cursor<'_>,
 ) -> Result<CallSite, StepError>
-    ensures { GivesOr site_of result (call_site image.now (bases_of bases.now) encoding.0 (at input.old)) (at input.new) }
+    ensures { GivesOr site_of result
+        (call_site image.now (bases_of bases.now) encoding.0 (at input.old)) (at input.new) }
 {
     let from = read_address(image, bases, encoding, input)?;
     let len = read_address(image, bases, encoding, input)?;

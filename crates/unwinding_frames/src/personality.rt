@@ -26,9 +26,9 @@ pub trait Personality<M: Machine> {
     /// The answer, and the registers that are left.
     ghost answers: { Self → Asked → List Span → Option FrameValue → Columns → Bool → Answer };
 
-    /// Asks what the routine at the address `routine` is to say of a frame. `version` is that of the
-    /// interface, 1; `exception_class` tells the language of the exception, and `exception` is its
-    /// word, which a landing pad gets.
+    /// Asks what the routine at the address `routine` is to say of a frame. `version` is that of
+    /// the interface, 1; `exception_class` tells the language of the exception, and `exception` is
+    /// its word, which a landing pad gets.
     fn call(
         &self,
         routine: u64,
@@ -40,7 +40,8 @@ pub trait Personality<M: Machine> {
     ) -> UnwindReasonCode
         ensures answer { (result, M.Context.columns unwind_ctx.new.ctx.now) ≡
             answers self.now (record { routine = routine; version = version; actions = actions; class = exception_class; exception = exception })
-            unwind_ctx.old.image.now (option_map (λ f. f.now) unwind_ctx.old.frame) (M.Context.columns unwind_ctx.old.ctx.now) unwind_ctx.old.signal }
+            unwind_ctx.old.image.now (option_map (λ f. f.now) unwind_ctx.old.frame)
+            (M.Context.columns unwind_ctx.old.ctx.now) unwind_ctx.old.signal }
         ensures image { unwind_ctx.new.image ≡ unwind_ctx.old.image }
         ensures frame { unwind_ctx.new.frame ≡ unwind_ctx.old.frame }
         ensures reference { unwind_ctx.new.ctx.ghost_name ≡ unwind_ctx.old.ctx.ghost_name }
@@ -53,9 +54,9 @@ pub trait Personality<M: Machine> {
 /// where the language table can't be read.
 ///
 /// In the search phase a handler or an exception specification is `HANDLER_FOUND`, and a call that
-/// no exception may leave `FATAL_PHASE1_ERROR`. In the cleanup phase the context becomes that of the
-/// landing pad, which is `INSTALL_CONTEXT`: the exception's word is in the first data register, 0 in
-/// the second, and the pad in the return address. A forced unwinding doesn't enter that of an
+/// no exception may leave `FATAL_PHASE1_ERROR`. In the cleanup phase the context becomes that of
+/// the landing pad, which is `INSTALL_CONTEXT`: the exception's word is in the first data register,
+/// 0 in the second, and the pad in the return address. A forced unwinding doesn't enter that of an
 /// exception specification. A call that no exception may leave is `FATAL_PHASE2_ERROR`. All else
 /// goes on by `CONTINUE_UNWIND`.
 #[derive(Clone, Copy)]
@@ -91,7 +92,10 @@ impl<M: Machine> Personality<M> for RustPersonality {
 
 /// What the language of a frame asks, which is nothing without a frame.
 fn action<M: Machine>(unwind_ctx: &UnwindContext<'_, '_, M>) -> Result<EhAction, StepError>
-    ensures { given action_of result ≡ asked_of unwind_ctx.now.image.now (option_map (λ f. f.now) unwind_ctx.now.frame) (address_of_call (unwrap_or (M.Context.columns unwind_ctx.now.ctx.now M.RA.0) 0) unwind_ctx.now.signal) }
+    ensures { given action_of result ≡ asked_of unwind_ctx.now.image.now (option_map
+        (λ f. f.now) unwind_ctx.now.frame)
+        (address_of_call (unwrap_or (M.Context.columns unwind_ctx.now.ctx.now M.RA.0) 0)
+        unwind_ctx.now.signal) }
 {
     match unwind_ctx.frame {
         None => Ok(EhAction::None),
@@ -117,7 +121,14 @@ fn cleaned<M: Machine>(
     exception: u64,
     context: &mut M::Context,
 ) -> UnwindReasonCode
-    ensures { (result, M.Context.columns context.new) ≡ cleaned (record { return_address = M.RA.0; exception = M.UNWIND_DATA_REG.0.0; selector = M.UNWIND_DATA_REG.1.0 }) forced exception (M.Context.columns context.old) (action_of action) }
+    ensures { (result, M.Context.columns context.new) ≡ cleaned
+        (record {
+          return_address = M.RA.0;
+          exception = M.UNWIND_DATA_REG.0.0;
+          selector =
+              M.UNWIND_DATA_REG.1.0;
+        }) forced exception (M.Context.columns context.old)
+        (action_of action) }
 {
     match action {
         EhAction::None => UnwindReasonCode::CONTINUE_UNWIND,
@@ -132,7 +143,13 @@ fn cleaned<M: Machine>(
 
 /// The registers as a landing pad is entered.
 fn land<M: Machine>(exception: u64, pad: u64, context: &mut M::Context)
-    ensures { M.Context.columns context.new ≡ landed (record { return_address = M.RA.0; exception = M.UNWIND_DATA_REG.0.0; selector = M.UNWIND_DATA_REG.1.0 }) exception pad (M.Context.columns context.old) }
+    ensures { M.Context.columns context.new ≡ landed
+        (record {
+          return_address = M.RA.0;
+          exception = M.UNWIND_DATA_REG.0.0;
+          selector =
+              M.UNWIND_DATA_REG.1.0;
+        }) exception pad (M.Context.columns context.old) }
 {
     put::<M>(M::UNWIND_DATA_REG.0, exception, context);
     put::<M>(M::UNWIND_DATA_REG.1, 0, context);
@@ -142,7 +159,8 @@ fn land<M: Machine>(exception: u64, pad: u64, context: &mut M::Context)
 /// Writes a column that the machine has.
 fn put<M: Machine>(register: Register, value: u64, context: &mut M::Context)
     requires held { IsSome (M.Context.columns context.old register.0) }
-    ensures { M.Context.columns context.new ≡ with_value (M.Context.columns context.old) register.0 value }
+    ensures { M.Context.columns context.new ≡ with_value (M.Context.columns context.old) register.0
+        value }
 {
     context.set(register, value);
 }

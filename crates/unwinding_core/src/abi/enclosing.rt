@@ -19,7 +19,10 @@ pub fn _Unwind_FindEnclosingFunction<F: FDEFinder, L: Ledger>(
     steps: &mut Steps<L>,
 ) -> u64
     ensures zero { pc ≡ 0 → (result ≡ 0) × (steps.new.number ≡ steps.old.number) }
-    ensures start { pc ≢ 0 → (answer : Option FoundFde) × (ticks : ℕ) × (steps.new.number ≡ steps.old.number + ticks) × F.finds finder.now image.now (pc - 1) answer ticks × (result ≡ option_map_or (λ f. f.fde.start) answer 0) }
+    ensures start { pc ≢ 0 → (answer : Option FoundFde) × (ticks : ℕ) ×
+        (steps.new.number ≡ steps.old.number + ticks) ×
+        F.finds finder.now image.now (pc - 1) answer ticks ×
+        (result ≡ option_map_or (λ f. f.fde.start) answer 0) }
 {
     if pc == 0 {
         return 0;

@@ -59,16 +59,16 @@ pub(crate) enum Turn<C> {
     /// An answer other than to go on: it, the context that is left, and that past the frame's
     /// arguments.
     Stop(UnwindReasonCode, C, C),
-    /// The caller, and whether it stands behind a signal's frame.
+    /// The caller, and whether it stands after a signal's frame.
     Caller(C, bool),
 }
 
 /// How a pass ends.
 #[derive(Clone, Copy)]
 pub(crate) enum LineEnd<C> {
-    /// With the stack: its last context, and whether that stands behind a signal's frame.
+    /// With the stack: its last context, and whether that stands after a signal's frame.
     RanOut(C, bool),
-    /// With an answer other than to go on: the context, whether it stands behind a signal's frame,
+    /// With an answer other than to go on: the context, whether it stands after a signal's frame,
     /// the answer, the context that is left, and that past the frame's arguments.
     Decided(C, bool, UnwindReasonCode, C, C),
     /// With a fault.
@@ -77,7 +77,7 @@ pub(crate) enum LineEnd<C> {
     Crowded,
 }
 
-/// By what a later pass knows a frame: its stack pointer, less 1 behind a signal's frame.
+/// By what a later pass knows a frame: its stack pointer, less 1 after a signal's frame.
 pub(crate) fn mark<M: Machine>(context: &M::Context, signal: bool) -> u64
     ensures { result ≡ less_signal signal (in_column M.SP.0 (M.Context.columns context.now)) }
 {
@@ -91,7 +91,8 @@ pub(crate) fn mark<M: Machine>(context: &M::Context, signal: bool) -> u64
 
 /// The context past the arguments that the frame's callee removes.
 pub(crate) fn past_arguments<M: Machine>(frame: &Frame<'_, M>, context: &M::Context) -> M::Context
-    ensures { M.Context.columns result ≡ past_in_column M.SP.0 frame.now.row.saved_args_size (M.Context.columns context.now) }
+    ensures { M.Context.columns result ≡ past_in_column M.SP.0 frame.now.row.saved_args_size
+        (M.Context.columns context.now) }
 {
     let mut past = *context;
     frame.adjust_stack_for_args(&mut past);
@@ -106,7 +107,9 @@ pub(crate) fn frame_at<'a, M: Machine, F: FDEFinder, L: Ledger>(
     signal: bool,
     steps: &mut Steps<L>,
 ) -> Result<Option<Frame<'a, M>>, StepError>
-    ensures { (seen : Result (Option FrameSeen) StepFault) × SeesFrame (F.finds finder.now) image.now (in_column M.RA.0 (M.Context.columns context.now)) signal seen × IsSeen result seen }
+    ensures { (seen : Result (Option FrameSeen) StepFault) ×
+        SeesFrame (F.finds finder.now) image.now (in_column M.RA.0 (M.Context.columns context.now))
+        signal seen × IsSeen result seen }
 {
     Frame::from_context(image, finder, context, signal, steps)
 }
@@ -169,7 +172,9 @@ pub(crate) fn stop_answer<'a, M: Machine, T: Stop<M>>(
     signal: bool,
 ) -> Answer<M::Context>
     ensures { (result.code, M.Context.columns result.left, T.words stop.new) ≡
-        T.stops (T.words stop.old) (record { version = pos 1; actions = actions; class = call.exception_class }) image.now (option_map (λ f. f.now) frame.entry) (M.Context.columns context.now) signal }
+        T.stops (T.words stop.old)
+        (record { version = pos 1; actions = actions; class = call.exception_class }) image.now
+        (option_map (λ f. f.now) frame.entry) (M.Context.columns context.now) signal }
 {
     let mut left = *context;
     let mut unwind_ctx = UnwindContext::new(image, frame, &mut left, signal);
@@ -242,7 +247,10 @@ fn meet_frame<'a, M: Machine, P: Personality<M>, T: Stop<M>>(
     context: &M::Context,
     signal: bool,
 ) -> Result<Turn<M::Context>, StepError>
-    ensures { (run : Run) → IsRowOf frame.now.row run → turn_shown M.Context.columns (record { context = M.Context.columns context.now; signal = signal }) (T.words stop.new) result ≡
+    ensures { (run : Run) → IsRowOf frame.now.row run →
+        turn_shown M.Context.columns
+        (record { context = M.Context.columns context.now; signal = signal })
+        (T.words stop.new) result ≡
         turn_asked (undoing (machine_of M.SP.0 M.RA.0) image.now) (record { value = frame.now; run = run }) (record { context = M.Context.columns context.now; signal = signal })
         (asks_in call.phase (in_column M.SP.0) (answering (P.answers personality.now) image.now (thrown call)) (stopping T.stops image.now (thrown call)) (T.words stop.old) (record { value = frame.now; run = run }) (record { context = M.Context.columns context.now; signal = signal })) }
 {
@@ -267,8 +275,12 @@ fn meet<M: Machine, F: FDEFinder, P: Personality<M>, T: Stop<M>, L: Ledger>(
     signal: bool,
     steps: &mut Steps<L>,
 ) -> Result<Turn<M::Context>, StepError>
-    ensures { (seen : Result (Option FrameSeen) StepFault) × SeesFrame (F.finds finder.now) image.now (in_column M.RA.0 (M.Context.columns context.now)) signal seen ×
-        (turn_shown M.Context.columns (record { context = M.Context.columns context.now; signal = signal }) (T.words stop.new) result ≡
+    ensures { (seen : Result (Option FrameSeen) StepFault) ×
+        SeesFrame (F.finds finder.now) image.now (in_column M.RA.0 (M.Context.columns context.now))
+        signal seen ×
+        (turn_shown M.Context.columns
+        (record { context = M.Context.columns context.now; signal = signal })
+        (T.words stop.new) result ≡
         turn_seen (undoing (machine_of M.SP.0 M.RA.0) image.now) (asks_in call.phase (in_column M.SP.0) (answering (P.answers personality.now) image.now (thrown call)) (stopping T.stops image.now (thrown call)))
         (T.words stop.old) (record { context = M.Context.columns context.now; signal = signal }) seen) }
 {

@@ -13,7 +13,7 @@ use memory_image::MemoryImage;
 use unwind_arch::{Machine, Register, RegisterMap};
 
 /// A frame as a personality sees it: the memory, what is known of its function, its registers, and
-/// whether it stands at the instruction of its return address, as behind a signal.
+/// whether it stands at the instruction of its return address, as after a signal.
 ///
 /// Contracts see these four.
 #[derive(Drop)]
@@ -71,8 +71,10 @@ pub fn _Unwind_SetGR<M: Machine>(
     value: u64,
 ) -> Option<()>
     ensures found { is_some result ≡ is_some (column_at (M.Context.columns ctx.old.ctx.now) index) }
-    ensures holds { OnSome result (column_at (M.Context.columns ctx.new.ctx.now) index ≡ Some value) }
-    ensures others { OnSome result ((k : ℕ) → pos k ≢ index → M.Context.columns ctx.new.ctx.now k ≡ M.Context.columns ctx.old.ctx.now k) }
+    ensures holds { OnSome result
+        (column_at (M.Context.columns ctx.new.ctx.now) index ≡ Some value) }
+    ensures others { OnSome result ((k : ℕ) → pos k ≢ index →
+        M.Context.columns ctx.new.ctx.now k ≡ M.Context.columns ctx.old.ctx.now k) }
     ensures unchanged { IfNone result (ctx.new.ctx.now ≡ ctx.old.ctx.now) }
     ensures image { ctx.new.image ≡ ctx.old.image }
     ensures frame { ctx.new.frame ≡ ctx.old.frame }
@@ -100,7 +102,8 @@ pub fn _Unwind_GetIP<M: Machine>(ctx: &UnwindContext<'_, '_, M>) -> u64
 /// Writes the return address, by which the frame goes on.
 pub fn _Unwind_SetIP<M: Machine>(ctx: &mut UnwindContext<'_, '_, M>, value: u64)
     ensures holds { M.Context.columns ctx.new.ctx.now M.RA.0 ≡ Some value }
-    ensures others { (k : ℕ) → k ≢ M.RA.0 → M.Context.columns ctx.new.ctx.now k ≡ M.Context.columns ctx.old.ctx.now k }
+    ensures others { (k : ℕ) → k ≢ M.RA.0 →
+        M.Context.columns ctx.new.ctx.now k ≡ M.Context.columns ctx.old.ctx.now k }
     ensures image { ctx.new.image ≡ ctx.old.image }
     ensures frame { ctx.new.frame ≡ ctx.old.frame }
     ensures reference { ctx.new.ctx.ghost_name ≡ ctx.old.ctx.ghost_name }
@@ -110,7 +113,7 @@ pub fn _Unwind_SetIP<M: Machine>(ctx: &mut UnwindContext<'_, '_, M>, value: u64)
 }
 
 /// The return address. `ip_before_insn` becomes 1 where the frame stands before the instruction
-/// there, and 0 where it stands behind a call.
+/// there, and 0 where it stands after a call.
 pub fn _Unwind_GetIPInfo<M: Machine>(
     ctx: &UnwindContext<'_, '_, M>,
     ip_before_insn: &mut i32,
@@ -141,7 +144,8 @@ pub fn _Unwind_GetRegionStart<M: Machine>(ctx: &UnwindContext<'_, '_, M>) -> u64
 pub fn _Unwind_GetLanguageSpecificData<M: Machine>(
     ctx: &UnwindContext<'_, '_, M>,
 ) -> Result<u64, StepError>
-    ensures { value_given result ≡ option_map_or (λ f. language_address ctx.now.image.now f.now.found.fde) ctx.now.frame (Ok 0) }
+    ensures { value_given result ≡ option_map_or
+        (λ f. language_address ctx.now.image.now f.now.found.fde) ctx.now.frame (Ok 0) }
 {
     match ctx.frame {
         None => Ok(0),

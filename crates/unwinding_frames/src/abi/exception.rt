@@ -8,7 +8,7 @@ use crate::abi::UnwindReasonCode;
 /// What an exception keeps from one run to the next: where an unwinding of it goes on to.
 #[derive(Clone, Copy, Debug, PartialEq, Eq)]
 pub enum Kept {
-    /// Toward the frame whose handler a search found: its stack pointer, less 1 behind a signal's
+    /// Toward the frame whose handler a search found: its stack pointer, less 1 after a signal's
     /// frame.
     Handler(u64),
     /// By force, until it is stopped.
@@ -39,8 +39,8 @@ impl UnwindException {
     }
 }
 
-/// Lets an exception go that another language caught: `cleanup`, where there is one, is called once,
-/// with `FOREIGN_EXCEPTION_CAUGHT`.
+/// Lets an exception go that another language caught: `cleanup`, where there is one, is called
+/// once, with `FOREIGN_EXCEPTION_CAUGHT`.
 ///
 /// Source: Itanium C++ ABI, exception handling, section 1.2.2, `_Unwind_DeleteException`.
 pub fn _Unwind_DeleteException<C: FnOnce(UnwindReasonCode, &UnwindException)>(
@@ -48,7 +48,8 @@ pub fn _Unwind_DeleteException<C: FnOnce(UnwindReasonCode, &UnwindException)>(
     cleanup: Option<C>,
 )
     requires { ForSome cleanup (λ c. C.pre c UnwindReasonCode.FOREIGN_EXCEPTION_CAUGHT exception) }
-    ensures { IfSome cleanup (λ c. C.post c UnwindReasonCode.FOREIGN_EXCEPTION_CAUGHT exception.entry tt) }
+    ensures { IfSome cleanup (λ c. C.post c UnwindReasonCode.FOREIGN_EXCEPTION_CAUGHT
+        exception.entry tt) }
 {
     if let Some(cleanup) = cleanup {
         cleanup(UnwindReasonCode::FOREIGN_EXCEPTION_CAUGHT, exception);

@@ -9,7 +9,11 @@ ghost use Rattle.unwinding_frames.specs.Seen.{FrameSeen};
 /// Where one thing is seen at each context there is one line from each: the plain recursion on
 /// frames. A law: the function does nothing.
 pub fn lines_are_one()
-    ensures { (sees : Marked Columns → Result (Option FrameSeen) StepFault) (undoing : Undoing Columns FrameSeen StepFault) (asks : Asks Columns FrameSeen StepFault (List ℕ))
-        (limit : ℕ) (words : List ℕ) (start : Marked Columns) (line : Line Columns StepFault (List ℕ)) →
-        IsLine (by_one sees undoing) asks limit words start line ↔ (line ≡ line_of sees undoing asks limit words start) }
+    ensures { (sees : Marked Columns → Result (Option FrameSeen) StepFault)
+        (undoing : Undoing Columns FrameSeen StepFault)
+        (asks : Asks Columns FrameSeen StepFault (List ℕ))
+        (limit : ℕ) (words : List ℕ) (start : Marked Columns)
+        (line : Line Columns StepFault (List ℕ)) →
+        IsLine (by_one sees undoing) asks limit words start line ↔
+        (line ≡ line_of sees undoing asks limit words start) }
 {}
