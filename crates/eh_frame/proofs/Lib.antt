@@ -12,3 +12,9 @@ mod Halving
 mod PastEnd
 mod Named
 mod HeaderParts
+mod Ascending
+mod Indexed
+mod Keeping
+mod Collecting
+mod Preparing
+mod Exactly

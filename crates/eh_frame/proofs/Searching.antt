@@ -1,6 +1,7 @@
 -- A scan answers the first description that contains an address, or the first fault before it.
 use Rattle.std.proofs.Common.{◌≡◌, ℕ, zero, suc, ◌+◌, ◌<◌, ◌≤◌, Bool, true, false, List, [], ◌∷◌, length, Option, Some, None, Result, Ok, Err, refl, arith, inl, inr}
 use Rattle.std.specs.Prelude.{◌⊎◌, if◌then◌else◌}
+use Rattle.std.specs.Option.{option_map_or}
 use Rattle.unwind_definitions.specs.declared.error.Error.{Error as Fault}
 use Rattle.unwind_definitions.specs.declared.error.Error.TheVariants.{NoUnwindInfoForAddress}
 use Rattle.unwind_definitions.specs.Faults.{◌>>=◌}
@@ -89,3 +90,19 @@ module _ (bases : Bases) (table : Input) (pc : ℕ) (start : table.offset ≡ 0)
   pub uncovered : IsUncovered bases table pc 0 → scan bases table pc ≡ Err NoUnwindInfoForAddress
   unfolding scan
   uncovered u = let all = few 0 u.entries (omega arith) u.are in none_found (suc (length table.bytes)) 0 u.entries u.are (omega arith) u.none
+
+  -- what a scan answers where all entries can be read
+  scans : (turns from : ℕ) (es : List Entry) → AreEntries bases table from es → length es < turns → scan_from turns bases table pc from ≡ option_map_or (λ (x : Fde). Ok x) (first_covering (fdes_of es) pc) (Err NoUnwindInfoForAddress)
+  scans zero from es are lt = absurd (omega arith)
+  scans (suc turns) from [] are lt = rw are refl
+  scans (suc turns) from (ACie cie ∷ es) are lt = rw are.1 (scans turns are.0 es are.2 (omega arith))
+  scans (suc turns) from (AFde fde ∷ es) are lt = rw are.1 (go (covers_pc fde pc) refl (scans turns are.0 es are.2 (omega arith)))
+    where
+      go : (b : Bool) → covers_pc fde pc ≡ b → scan_from turns bases table pc are.0 ≡ option_map_or (λ (x : Fde). Ok x) (first_covering (fdes_of es) pc) (Err NoUnwindInfoForAddress) →
+          (if covers_pc fde pc then Ok fde else scan_from turns bases table pc are.0) ≡ option_map_or (λ (x : Fde). Ok x) (first_covering (fde ∷ fdes_of es) pc) (Err NoUnwindInfoForAddress)
+      go true is later = rw is refl
+      go false is later = rw is later
+
+  pub scan_listed : (es : List Entry) → AreEntries bases table 0 es → scan bases table pc ≡ option_map_or (λ (x : Fde). Ok x) (first_covering (fdes_of es) pc) (Err NoUnwindInfoForAddress)
+  unfolding scan
+  scan_listed es are = let all = few 0 es (omega arith) are in scans (suc (length table.bytes)) 0 es are (omega arith)

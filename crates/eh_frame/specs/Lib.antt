@@ -4,3 +4,5 @@ pub mod Search
 pub mod Shared
 pub mod Headers
 pub mod Listing
+pub mod Listed
+pub mod Index

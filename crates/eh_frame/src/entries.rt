@@ -1,6 +1,6 @@
 //! The entries of a frame table, one after another.
 
-ghost use Rattle.std.specs.Prelude.{◌≡◌, ◌≢◌, ◌↔◌, IfErr, IfOk, IfSome, IsTrue, Result, Some, false};
+ghost use Rattle.std.specs.Prelude.{◌≡◌, ◌≢◌, ◌↔◌, ◌++◌, ◌∷◌, [], IfErr, IfOk, IfSome, IsTrue, OnOk, Result, Some, false, map};
 ghost use Rattle.std.specs.Result.{IsErrOf};
 ghost use Rattle.std.specs.Option.{option_map, option_map_or};
 ghost use Rattle.unwind_definitions.specs.Input.{skip};
@@ -14,12 +14,14 @@ ghost use Rattle.eh_frame.specs.Search.{IsFirst, IsUncovered, IsUnreadable};
 ghost use Rattle.encoded_pointers.specs.View.{at};
 ghost use Rattle.encoded_pointers.specs.Pointers.{bases_of};
 ghost use Rattle.eh_frame.specs.Listing.{listing_of};
+ghost use Rattle.eh_frame.specs.Listed.{ListsNonempty, nonempty};
 ghost use Rattle.eh_frame.specs.Views.{cie_of, fde_of, entry_of, found_of, table_of};
 
 use crate::cie::Cie;
 use crate::fde::Fde;
 use crate::listing::Entries;
 use encoded_pointers::{Bases, Cursor};
+use std::alloc::{AllocError, Global};
 use unwind_definitions::Error;
 
 /// A frame table: the bytes of `.eh_frame`.
@@ -113,6 +115,27 @@ impl<'a> EhFrame<'a> {
             return Err(Error::UnexpectedEof);
         }
         self.fde_at(bases, address - self.address)
+    }
+
+    // The descriptions whose ranges aren't empty, in the table's order. `None` where an entry can't
+    // be read.
+    pub(crate) fn nonempty_fdes(
+        &self,
+        alloc: Global,
+        bases: &Bases,
+    ) -> Result<Option<Vec<Fde<'a>>>, AllocError>
+        ensures { IfOk result (λ fdes. ListsNonempty (bases_of bases.now) (table_of self.now)
+            (option_map (λ v. map fde_of v.items) fdes)) }
+    {
+        let mut fdes = Vec::new(alloc);
+        let mut entries = self.entries(bases);
+        loop {
+            match entries.next() {
+                Err(_) => return Ok(None),
+                Ok(None) => return Ok(Some(fdes)),
+                Ok(Some(entry)) => entry.push_nonempty(&mut fdes)?,
+            }
+        }
     }
 
     // The first description that contains an address.
@@ -232,6 +255,18 @@ impl<'a> Entry<'a> {
             Entry::Cie(cie) => *cie,
             Entry::Fde(fde) => fde.cie(),
         }
+    }
+
+    // Adds the entry to descriptions, where it is one whose range isn't empty.
+    fn push_nonempty(&self, fdes: &mut Vec<Fde<'a>>) -> Result<(), AllocError>
+        ensures { OnOk result (map fde_of fdes.new.items
+            ≡ map fde_of fdes.old.items ++ nonempty (entry_of self.now ∷ [])) }
+    {
+        match self {
+            Entry::Fde(fde) if fde.len() > 0 => fdes.push(*fde)?,
+            _ => {}
+        }
+        Ok(())
     }
 
     // The entry, where it is a description that contains an address.

@@ -1,6 +1,6 @@
 //! Frame description entries: where a function's code lies, and how its frame is undone.
 
-ghost use Rattle.std.specs.Prelude.{◌≡◌, IfOk, is_some};
+ghost use Rattle.std.specs.Prelude.{◌≡◌, ◌+◌, ◌<◌, ◌^◌, IfOk, is_some};
 ghost use Rattle.std.specs.Option.{option_map};
 ghost use Rattle.unwind_definitions.specs.Entries.{is_pointing, language_pointer};
 ghost use Rattle.encoded_pointers.specs.Readers.{GivesOr, Answers};
@@ -13,7 +13,8 @@ use crate::entries::EhFrame;
 use encoded_pointers::{
     Bases, Cursor, DwEhPe, Pointer, parse_direct_pointer, parse_encoded_pointer, read_value,
 };
-use frame_rows::{Row, RowRoom};
+use frame_rows::{Row, RowRoom, RowTableBuilder};
+use std::alloc::AllocError;
 use unwind_definitions::Error;
 
 /// A frame description entry (FDE): the addresses of a function, and the program of its rows.
@@ -28,6 +29,7 @@ pub struct Fde<'a> {
     lsda: Option<Pointer>,
     program: Cursor<'a>,
     ghost told: { is_some lsda ≡ is_pointing (letters_of cie.letters).language },
+    ghost ends: { initial_address + len < 2 ^ 64 },
 }
 
 impl<'a> Fde<'a> {
@@ -37,6 +39,8 @@ impl<'a> Fde<'a> {
     ghost use Rattle.unwind_definitions.specs.Row.{covers_pc, row_at};
     ghost use Rattle.eh_frame.specs.Views.{cie_of, fde_of};
     ghost use Rattle.frame_rows.specs.Rows.{GivesRow, made};
+    ghost use Rattle.frame_rows.specs.KeptRows.{Adds};
+    ghost use Rattle.eh_frame.specs.Index.{common_program, end_of, own_program};
 
     // What stands after the first four bytes of the entry at `offset`, which names `cie`.
     pub(crate) fn read(
@@ -113,6 +117,34 @@ impl<'a> Fde<'a> {
         ensures { result ≡ (fde_of self.now).size }
     {
         self.len
+    }
+
+    // The address after the function's last byte.
+    pub(crate) fn end(&self) -> u64
+        ensures { result ≡ end_of (fde_of self.now) }
+    {
+        self.initial_address + self.len
+    }
+
+    // Adds the function's rows to those of others. `false` where they would be too many.
+    pub(crate) fn add_rows(
+        &self,
+        bases: &Bases,
+        rows: &mut RowTableBuilder<'a>,
+    ) -> Result<bool, AllocError>
+        requires { 0 < (fde_of self.now).size }
+        ensures rows { let fde = fde_of self.now in let bases = bases_of bases.now in
+            Adds rows.old.limits fde.start (end_of fde) (common_program bases fde)
+            (own_program bases fde) rows.old.table result rows.new.table }
+        ensures limits { rows.new.limits ≡ rows.old.limits }
+    {
+        rows.add(
+            self.cie.instructions(),
+            self.instructions(),
+            self.cie.coding(bases),
+            self.initial_address,
+            self.end(),
+        )
     }
 
     /// Whether the function's frame is one that a signal's delivery made, which its common

@@ -7,6 +7,9 @@
 //! [`Fde::unwind_info_for_address`] runs its program, and gives the [`Row`] by which the caller of
 //! the function's frame is found. [`Fde::make_row`] makes one row after another in a [`RowRoom`].
 //!
+//! A [`Prepared`] table is an index by address with the rows of all descriptions, in which a look-up
+//! is a search.
+//!
 //! Entries are read in all forms: lengths of four and of eight bytes, common information entries of
 //! the versions 1, 3 and 4, no augmentation or a `z` and the letters `L`, `P`, `R` and `S` in any
 //! order, and pointers of any encoding. Programs may have
@@ -22,6 +25,7 @@ mod fde;
 mod header;
 mod header_search;
 mod listing;
+mod prepared;
 
 pub use cie::Cie;
 pub use encoded_pointers::{
@@ -35,11 +39,14 @@ pub use frame_rows::{
 };
 pub use header::{EhFrameHdr, HdrTable};
 pub use listing::Entries;
+pub use prepared::{Found, Prepared};
 pub use unwind_definitions::Error;
 
 #[cfg(test)]
 mod entry_tests;
 #[cfg(test)]
 mod header_tests;
+#[cfg(test)]
+mod prepared_tests;
 #[cfg(test)]
 mod tests;

@@ -5,3 +5,7 @@ mod Steps
 mod CannotFollow
 mod Reading
 mod Together
+mod StretchSteps
+mod Adding
+mod Growing
+mod LookedUp

@@ -118,7 +118,7 @@ lead at (Advance n) = at + n
 lead at (SetLocation a) = a
 lead at _ = at
 
-location_one : (start : ℕ) (i : Instruction) → location start (i ∷ []) ≡ lead start i
+pub location_one : (start : ℕ) (i : Instruction) → location start (i ∷ []) ≡ lead start i
 location_one start (Nop) = refl
 location_one start (Remember) = refl
 location_one start (Restore) = refl

@@ -72,7 +72,7 @@ module _ (start : ℕ) (pc : Option ℕ) where
       none None = refl
       none (Some a) = refl
 
-  one : (run : Run) (i : Instruction) (p : Program) (b : Bool) → stops (location start run.own) pc i ≡ b →
+  pub one : (run : Run) (i : Instruction) (p : Program) (b : Bool) → stops (location start run.own) pc i ≡ b →
       outcome start pc run (record { instructions = i ∷ p.instructions; fault = p.fault }) ≡ cond b (Ok run) (or_else (fault_of start run i) (outcome start pc (push run i) p))
   one run i p b is =
       outcome_is run (record { instructions = i ∷ p.instructions; fault = p.fault })

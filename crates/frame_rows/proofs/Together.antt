@@ -33,6 +33,23 @@ common_is : (common : Program) → outcome 0 None (from_common []) common ≡ or
 unfolding outcome
 common_is common = ap (λ b. or_else (option_or (first_fault 0 (from_common []) common.instructions) (cond b common.fault None)) (Ok (whole common.instructions))) (eq-eqb (length common.instructions) (length common.instructions) refl)
 
+pub common_run : (common : Program) (run : Run) → outcome 0 None (from_common []) common ≡ Ok run → whole common.instructions ≡ run
+common_run common run is = value_is (common_fault common) (whole common.instructions) run (sym (common_is common) ∙ is)
+
+no_fault : {A : Type 0} (o : Option Fault) (a b : A) → or_else o (Ok a) ≡ Ok b → o ≡ None
+no_fault None a b is = refl
+no_fault (Some d) a b is = absurd cc
+
+that_fault : {A : Type 0} (o : Option Fault) (a : A) (e : Fault) → or_else o (Ok a) ≡ Err e → o ≡ Some e
+that_fault None a e is = absurd cc
+that_fault (Some d) a e is = cc
+
+pub common_fine : (common : Program) (run : Run) → outcome 0 None (from_common []) common ≡ Ok run → common_fault common ≡ None
+common_fine common run is = no_fault (common_fault common) (whole common.instructions) run (sym (common_is common) ∙ is)
+
+pub common_bad : (common : Program) (e : Fault) → outcome 0 None (from_common []) common ≡ Err e → common_fault common ≡ Some e
+common_bad common e is = that_fault (common_fault common) (whole common.instructions) e (sym (common_is common) ∙ is)
+
 module _ (start pc : ℕ) (common own : Program) where
   abbrev reached : List Instruction
   reached = up_to start pc own.instructions
@@ -49,9 +66,6 @@ module _ (start pc : ℕ) (common own : Program) where
 
   pub common_stops : (e : Fault) → outcome 0 None (from_common []) common ≡ Err e → row start pc common own ≡ Err e
   common_stops e is = stops_at (common_fault common) (whole common.instructions) e (or_else (own_fault start common.instructions own reached) ending) (sym (common_is common) ∙ is)
-
-  pub common_run : (run : Run) → outcome 0 None (from_common []) common ≡ Ok run → whole common.instructions ≡ run
-  common_run run is = value_is (common_fault common) (whole common.instructions) run (sym (common_is common) ∙ is)
 
   pub own_run : (run : Run) → outcome start (Some pc) (from_common common.instructions) own ≡ Ok run → last ≡ run
   own_run run is = value_is (own_fault start common.instructions own reached) last run (sym own_is ∙ is)

@@ -4,3 +4,6 @@ pub mod Decoded
 pub mod RowValue
 pub mod Rows
 pub mod Left
+pub mod KeptRows
+pub mod Stretches
+pub mod TableRows

@@ -3,7 +3,7 @@ use Rattle.std.specs.Prelude.{◌≡◌, ℕ, ◌+◌, ◌^◌, Bool, false, ◌
 use Rattle.std.specs.Option.{option_or, option_map}
 use Rattle.unwind_definitions.specs.declared.error.Error.{Error as Fault}
 use Rattle.unwind_definitions.specs.Instructions.{Rule, Instruction, Advance, SetLocation, Program}
-use Rattle.unwind_definitions.specs.Row.{Run, cut, cut_of, cfa_rule, rule_of, initial_rule, argument_size, location, up_to, first_fault, fault_of, is_open, or_else}
+use Rattle.unwind_definitions.specs.Row.{Run, cut, cut_of, cfa_rule, rule_of, initial_rule, argument_size, location, up_to, first_fault, fault_of, is_open, or_else, from_common}
 use Rattle.frame_rows.specs.Rules.{rule_in, cfa_meaning}
 use Rattle.frame_rows.specs.RowValue.{RowValue}
 use Rattle.frame_rows.specs.Rows.{GivesRow, IsLast}
@@ -76,3 +76,8 @@ MakesRow start (Err e) new due = due ≡ Err e
 abbrev pub Ends : ℕ → Result (Unit {0}) Fault → Machine → Result Run Fault → Type 0
 Ends start (Ok done) new due = (run : Run) × (due ≡ Ok run) × Represents start new run
 Ends start (Err e) new due = due ≡ Err e
+
+-- a common information entry's program has run whole, and a description's own is to run
+abbrev pub Begins : ℕ → Result (Unit {0}) Fault → Machine → Program → Type 0
+Begins start (Ok done) new common = (run : Run) × (outcome 0 None (from_common []) common ≡ Ok run) × Represents start new (from_common common.instructions)
+Begins start (Err e) new common = outcome 0 None (from_common []) common ≡ Err e

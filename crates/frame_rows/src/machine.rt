@@ -8,6 +8,7 @@ ghost use Rattle.frame_rows.specs.Rules.{cfa_meaning};
 
 use crate::instruction::CallFrameInstruction;
 use crate::row::Row;
+use crate::row_ref::RowRef;
 use crate::rule::{CfaRule, RegisterRule};
 use crate::rules::RegisterRules;
 use unwind_arch::Register;
@@ -46,13 +47,14 @@ pub(crate) struct Machine<'a> {
 }
 
 impl<'a> Machine<'a> {
-    ghost use Rattle.std.specs.Prelude.{[], List};
+    ghost use Rattle.std.specs.Prelude.{[], ◌∷◌, ◌<◌, List};
     ghost use Rattle.unwind_definitions.specs.Instructions.{Instruction, Advance, SetLocation, Write, Reset, Remember, Restore, CfaColumn, CfaOffset};
-    ghost use Rattle.unwind_definitions.specs.Row.{Run, from_common};
+    ghost use Rattle.unwind_definitions.specs.Row.{Run, from_common, location as location_after};
     ghost use Rattle.frame_rows.specs.Rules.{rule_meaning, rule_in};
     ghost use Rattle.frame_rows.specs.Decoded.{meaning};
-    ghost use Rattle.frame_rows.specs.Running.{Represents, Follows, stops, initial_rules};
+    ghost use Rattle.frame_rows.specs.Running.{Represents, Follows, stops, initial_rules, push};
     ghost use Rattle.frame_rows.specs.Rows.{IsLast, made};
+    ghost use Rattle.frame_rows.specs.Stretches.{LeadsOn};
 
     /// A machine that is to run the program of a common information entry.
     pub(crate) fn new() -> Machine<'a>
@@ -123,6 +125,30 @@ impl<'a> Machine<'a> {
             }
             _ => false,
         }
+    }
+
+    /// Where an instruction leads on from the location. One that is a fault there doesn't.
+    pub(crate) fn leads_on(&self, instruction: CallFrameInstruction<'a>) -> Option<u64>
+        ensures { LeadsOn self.now.location (meaning instruction.entry) result }
+    {
+        let location = self.location;
+        match instruction {
+            CallFrameInstruction::AdvanceLocation(delta)
+                if delta != 0 && delta <= (u64::MAX - location) as u128 => {
+                Some(location + delta as u64)
+            }
+            CallFrameInstruction::SetLocation(address) if address > location => Some(address),
+            _ => None,
+        }
+    }
+
+    /// Moves to the location that an instruction leads on to.
+    pub(crate) fn go_on(&mut self, location: u64)
+        ensures { (start : ℕ) (run : Run) (i : Instruction) → Represents start self.old run →
+            location_after (location_after start run.own) (i ∷ []) ≡ location →
+            location_after start run.own < location → Represents start self.new (push run i) }
+    {
+        self.location = location;
     }
 
     // Raises the location.
@@ -265,6 +291,20 @@ impl<'a> Machine<'a> {
                 row.assign(cfa, &self.state.rules, self.state.saved_args_size);
                 Ok(())
             }
+            None => Err(Error::NoCfaRegister),
+        }
+    }
+
+    /// The row that the programs end with so far, lent.
+    pub(crate) fn row(&self) -> Result<RowRef<'_, 'a>, Error>
+        ensures { (start : ℕ) (run : Run) → Represents start self.now run → IsLast run result }
+    {
+        match self.state.cfa {
+            Some(cfa) => Ok(RowRef::new(
+                cfa,
+                self.state.rules.entries(),
+                self.state.saved_args_size,
+            )),
             None => Err(Error::NoCfaRegister),
         }
     }

@@ -7,7 +7,7 @@ ghost use Rattle.unwind_definitions.specs.Row.{Run, row};
 ghost use Rattle.encoded_pointers.specs.View.{at};
 ghost use Rattle.frame_rows.specs.Decoded.{coding_in};
 ghost use Rattle.frame_rows.specs.Rows.{GivesRow};
-ghost use Rattle.frame_rows.specs.Running.{Represents, outcome, Ends, MakesRow};
+ghost use Rattle.frame_rows.specs.Running.{Represents, outcome, Ends, MakesRow, Begins};
 
 use crate::coding::Coding;
 use crate::instruction::read_instruction;
@@ -49,10 +49,25 @@ pub(crate) fn run_programs<'a>(
     ensures { let coding = coding_in coding.entry in
         MakesRow start result machine.new (row start pc (program coding (at common.entry)) (program coding (at own.entry))) }
 {
+    begin_own(machine, common, coding, start)?;
+    run_program(machine, own, coding, Some(pc))
+}
+
+/// Runs the program of a common information entry, whole, and begins a description's own at
+/// `start`. What the machine ran before doesn't matter, and after a fault it is unspecified.
+pub(crate) fn begin_own<'a>(
+    machine: &mut Machine<'a>,
+    common: Cursor<'a>,
+    coding: Coding,
+    start: u64,
+) -> Result<(), Error>
+    ensures { Begins start result machine.new
+        (program (coding_in coding.entry) (at common.entry)) }
+{
     machine.restart();
     run_program(machine, common, coding, None)?;
     machine.begin(start);
-    run_program(machine, own, coding, Some(pc))
+    Ok(())
 }
 
 // Runs a program, whole or up to the instruction that leads past an address. After a fault the

@@ -3,12 +3,14 @@
 ghost use Rattle.std.specs.Prelude.{◌≡◌, ◌≤◌, length, map};
 ghost use Rattle.frame_rows.specs.Rules.{entry_of, cfa_meaning, AscendsFrom};
 
-use crate::row::Registers;
+use crate::row::{Registers, Row};
 use crate::rule::{CfaRule, RegisterRule};
+use crate::rules::RegisterRules;
 use std::marker::Model;
 use unwind_arch::Register;
 
-/// A row that is lent: its rules stand in a [`Row`](crate::Row) or in a [`RowRoom`](crate::RowRoom).
+/// A row that is lent: its rules stand in a [`Row`](crate::Row), in a [`RowRoom`](crate::RowRoom) or
+/// in a [`RowTable`](crate::RowTable).
 ///
 /// It is made in a few instructions, where a row of its own has place for 32 rules.
 #[derive(Drop)]
@@ -74,10 +76,30 @@ impl<'r, 'a> RowRef<'r, 'a> {
         Registers::over(self.rules)
     }
 
+    // The same, as they stand.
+    pub(crate) fn entries(&self) -> &'r [(Register, RegisterRule<'a>)]
+        ensures rules { map entry_of result.now ≡ self.now.rules }
+        ensures ascending { AscendsFrom 0 self.now.rules }
+        ensures count { length result.now ≤ 32 }
+    {
+        self.rules
+    }
+
     /// How many bytes of the stack hold arguments that the callee removes.
     pub fn saved_args_size(&self) -> u64
         ensures { result ≡ self.now.saved_args_size }
     {
         self.saved_args_size
+    }
+
+    /// The same row with rules of its own.
+    pub fn to_row(&self) -> Row<'a>
+        ensures { result ≡ self.now }
+    {
+        Row::new(
+            self.cfa,
+            RegisterRules::of(self.rules),
+            self.saved_args_size,
+        )
     }
 }

@@ -57,6 +57,17 @@ impl<'a> RegisterRules<'a> {
         RegisterRules { entries }
     }
 
+    /// These rules.
+    pub(crate) fn of(entries: &[(Register, RegisterRule<'a>)]) -> RegisterRules<'a>
+        requires ascending { AscendsFrom 0 (map entry_of entries.now) }
+        requires fits { length entries.now ≤ 32 }
+        ensures { result ≡ map entry_of entries.now }
+    {
+        let mut rules = RegisterRules::new();
+        let _fits = rules.entries.try_extend_from_slice(entries);
+        rules
+    }
+
     /// The registers that have a rule, by ascending column.
     pub(crate) fn entries(&self) -> &[(Register, RegisterRule<'a>)]
         ensures value { map entry_of result.now ≡ self.now }

@@ -1,0 +1,138 @@
+-- Ranges that ascend and lie apart: what a search that halves finds among them.
+use Rattle.std.proofs.Common.{◌≡◌, ℕ, zero, suc, ◌+◌, ◌-◌, ◌<◌, ◌≤◌, Bool, true, false, ◌&&◌, List, [], ◌∷◌, length, get_or, Some, None, refl, sym, ap, subst, arith}
+use Rattle.std.specs.Prelude.{nat_le, nat_lt}
+use Rattle.std.specs.List.{AllByRecursion}
+use Rattle.std.proofs.lemmas.Bool.{leb-true, le-leb, lt-leb, lt-ltb, le-ltb, ltb-true}
+use Rattle.unwind_definitions.specs.Entries.{Fde}
+use Rattle.unwind_definitions.specs.Row.{covers_pc}
+use Rattle.eh_frame.specs.Index.{AreFewSteps, AscendApart, Described, FindsIndex, described_fde, end_of}
+use Rattle.eh_frame.proofs.Halving.{IsHalved, IsLeft}
+
+-- ---- whether a range contains an address
+
+both_true : (a b : Bool) → (a && b) ≡ true → (a ≡ true) × (b ≡ true)
+both_true true true e = (refl, refl)
+both_true true false e = absurd cc
+both_true false b e = absurd cc
+
+pub covered : (fde : Fde) (pc : ℕ) → covers_pc fde pc ≡ true → (fde.start ≤ pc) × (pc < end_of fde)
+covered fde pc e = let both = both_true (nat_le fde.start pc) (nat_lt pc (end_of fde)) e in (leb-true fde.start pc both.0, ltb-true pc (end_of fde) both.1)
+
+pub covers_is : (fde : Fde) (pc : ℕ) → fde.start ≤ pc → pc < end_of fde → covers_pc fde pc ≡ true
+covers_is fde pc a b = rw (le-leb fde.start pc a, lt-ltb pc (end_of fde) b) refl
+
+misses_before : (fde : Fde) (pc : ℕ) → pc < fde.start → covers_pc fde pc ≡ false
+misses_before fde pc lt = rw (lt-leb fde.start pc lt) refl
+
+and_false : (b : Bool) → (b && false) ≡ false
+and_false true = refl
+and_false false = refl
+
+misses_after : (fde : Fde) (pc : ℕ) → end_of fde ≤ pc → covers_pc fde pc ≡ false
+misses_after fde pc le = rw (le-ltb pc (end_of fde) le) (and_false (nat_le fde.start pc))
+
+-- ---- what lies before and after
+
+module _ {X : Type 0} (fde : X → Fde) where
+  abbrev Misses : ℕ → X → Type 0
+  Misses pc x = covers_pc (fde x) pc ≡ false
+
+  pub all_above : (xs : List X) (low pc : ℕ) → AscendApart fde low xs → pc < low → AllByRecursion (λ x. covers_pc (fde x) pc ≡ false) xs
+  all_above [] low pc apart lt = tt
+  all_above (x ∷ xs) low pc apart lt =
+      let h : low ≤ (fde x).start = apart.0 in
+      (misses_before (fde x) pc (omega arith), all_above xs (end_of (fde x)) pc apart.2 (omega arith))
+
+  end_above : (xs : List X) (low i : ℕ) (d : X) → AscendApart fde low xs → i < length xs → low ≤ end_of (fde (get_or xs i d))
+  end_above [] low i d apart lt = absurd (omega arith)
+  end_above (x ∷ xs) low zero d apart lt = let h : low ≤ (fde x).start = apart.0 in omega arith
+  end_above (x ∷ xs) low (suc i) d apart lt =
+      let h : low ≤ (fde x).start = apart.0 in
+      let ih = end_above xs (end_of (fde x)) i d apart.2 (omega arith) in omega arith
+
+  pub none_contain : (xs : List X) (low pc i : ℕ) (d : X) → AscendApart fde low xs → i < length xs → end_of (fde (get_or xs i d)) ≤ pc → ((e : X) → i + 1 < length xs → pc < (fde (get_or xs (i + 1) e)).start) → AllByRecursion (λ x. covers_pc (fde x) pc ≡ false) xs
+  none_contain [] low pc i d apart lt after next = absurd (omega arith)
+  none_contain (x ∷ xs) low pc zero d apart lt after next = (misses_after (fde x) pc after, rest xs apart.2 next)
+    where
+      rest : (xs : List X) → AscendApart fde (end_of (fde x)) xs → ((e : X) → 0 + 1 < length (x ∷ xs) → pc < (fde (get_or (x ∷ xs) (0 + 1) e)).start) → AllByRecursion (λ x. covers_pc (fde x) pc ≡ false) xs
+      rest [] apart next = tt
+      rest (y ∷ ys) apart next =
+          let below : pc < (fde y).start = next y (omega arith) in
+          (misses_before (fde y) pc below, all_above ys (end_of (fde y)) pc apart.2 (omega arith))
+  none_contain (x ∷ xs) low pc (suc i) d apart lt after next =
+      let end = end_above xs (end_of (fde x)) i d apart.2 (omega arith) in (
+        misses_after (fde x) pc (omega arith),
+        none_contain xs (end_of (fde x)) pc i d apart.2 (omega arith) after (λ e lt. let more : suc i + 1 ≡ suc (i + 1) = omega arith in subst (λ n. pc < (fde (get_or (x ∷ xs) n e)).start) more (next e (omega arith))),
+      )
+
+  pub all_after : (xs : List X) (low pc : ℕ) → AscendApart fde low xs → ((e : X) → 0 < length xs → pc < (fde (get_or xs 0 e)).start) → AllByRecursion (λ x. covers_pc (fde x) pc ≡ false) xs
+  all_after [] low pc apart next = tt
+  all_after (x ∷ xs) low pc apart next =
+      let below : pc < (fde x).start = next x (omega arith) in
+      (misses_before (fde x) pc below, all_above xs (end_of (fde x)) pc apart.2 (omega arith))
+
+-- ---- the search
+
+module _ (fs : List Described) (pc : ℕ) where
+  -- the range just below an index starts at or before the address, and this is its end; or there is none below
+  abbrev pub EndsBelow : ℕ → ℕ → Type 0
+  EndsBelow zero end = end ≡ 0
+  EndsBelow (suc i) end = (d : Described) → ((get_or fs i d).fde.start ≤ pc) × (end ≡ end_of (get_or fs i d).fde)
+
+  pub record IsBetween (low high end : ℕ) : Type 0 where
+    pub ordered : low ≤ high
+    pub within : high ≤ length fs
+    pub below : EndsBelow low end
+    pub after : (d : Described) → high < length fs → pc < (get_or fs high d).fde.start
+
+  pub begun : (n : ℕ) → n ≡ length fs → IsBetween 0 n 0
+  begun n is = record { ordered = omega arith; within = omega arith; below = refl; after = λ d lt. absurd (omega arith) }
+
+  pub raised : (low high middle start end old : ℕ) → IsBetween low high old → middle < high → ((d : Described) → (start ≡ (get_or fs middle d).fde.start) × (end ≡ end_of (get_or fs middle d).fde)) → start ≤ pc → IsBetween (middle + 1) high end
+  raised low high middle start end old s lt range le =
+      let more : middle + 1 ≡ suc middle = omega arith in
+      let there : EndsBelow (suc middle) end = λ d. let r = range d in let a = r.0 in (omega arith, r.1) in
+      record { ordered = omega arith; within = s.within; below = subst (λ n. EndsBelow n end) (sym more) there; after = s.after }
+
+  pub lowered : (low high middle start end old : ℕ) → IsBetween low high old → low ≤ middle → middle < high → ((d : Described) → (start ≡ (get_or fs middle d).fde.start) × (end ≡ end_of (get_or fs middle d).fde)) → pc < start → IsBetween low middle old
+  lowered low high middle start end old s ge lt range above =
+      let w = s.within in record { ordered = ge; within = omega arith; below = s.below; after = λ d below. let r = range d in let a = r.0 in omega arith }
+
+  pub some_below : (low high end : ℕ) → IsBetween low high end → pc < end → 0 < low
+  some_below zero high end s inside = let e : end ≡ 0 = s.below in absurd (omega arith)
+  some_below (suc i) high end s inside = omega arith
+
+  pub ended_inside : (low high end : ℕ) → IsBetween low high end → pc < end → FindsIndex fs pc (Some (low - 1))
+  ended_inside zero high end s inside = let e : end ≡ 0 = s.below in absurd (omega arith)
+  ended_inside (suc i) high end s inside =
+      let o = s.ordered in let w = s.within in
+      let at : suc i - 1 ≡ i = omega arith in
+      subst (λ n. FindsIndex fs pc (Some n)) (sym at) (omega arith, λ d. let b = s.below d in let from = b.0 in let to = b.1 in covers_is (get_or fs i d).fde pc from (omega arith))
+
+  pub ended_outside : (low high end : ℕ) → AscendApart described_fde 0 fs → IsBetween low high end → high ≤ low → end ≤ pc → FindsIndex fs pc None
+  ended_outside zero high end apart s le outside =
+      let at : high ≡ 0 = omega arith in
+      all_after described_fde fs 0 pc apart (subst (λ n. (d : Described) → n < length fs → pc < (get_or fs n d).fde.start) at s.after)
+  ended_outside (suc i) high end apart s le outside = some_item fs refl
+    where
+      next : high ≡ i + 1
+      next = let o = s.ordered in omega arith
+
+      some_item : (gs : List Described) → gs ≡ fs → AllByRecursion (λ d. covers_pc d.fde pc ≡ false) fs
+      some_item [] is = let n = ap length is in let o = s.ordered in let w = s.within in absurd (omega arith)
+      some_item (g ∷ gs) is =
+          let b = s.below g in let to = b.1 in let o = s.ordered in let w = s.within in
+          none_contain described_fde fs 0 pc i g apart (omega arith) (omega arith) (λ d lt. subst (λ n. n < length fs → pc < (get_or fs n d).fde.start) next (s.after d) lt)
+
+-- ---- the steps
+
+-- so many are left, and one was taken unless all are left
+pub record AreLeft (count before now size : ℕ) : Type 0 where
+  pub halved : IsHalved count before now size
+  pub some : size < count → before < now
+
+pub few : (count before now size : ℕ) → 0 < count → size ≡ 0 → AreLeft count before now size → AreFewSteps count before now
+few count before now size some none left = record { one = left.some (omega arith); digits = λ d lt. go d (left.halved.digits d lt) }
+  where
+    go : (d : ℕ) → IsLeft d left.halved.taken size → now ≤ before + d
+    go d k = let both = k.both in let c = left.halved.counted in omega arith

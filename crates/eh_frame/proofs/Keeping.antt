@@ -1,0 +1,192 @@
+-- The rows of descriptions are kept, one description after another.
+use Rattle.std.proofs.Common.{◌≡◌, ℕ, zero, suc, ◌+◌, ◌-◌, ◌<◌, ◌≤◌, List, [], ◌∷◌, ◌++◌, length, map, take, drop, get_or, None, refl, sym, ap, ◌∙◌, subst, inl, inr, arith, length-append, length-drop}
+use Rattle.std.specs.Prelude.{slice_range}
+use Rattle.std.specs.List.{AllByRecursion, sum_by}
+use Rattle.std.proofs.lemmas.List.{take-append-le, drop-append-le, length-map, map-append, take_more}
+use Rattle.std.proofs.lemmas.List.Sums.{sum_by_more_le, sum_by_push}
+use Rattle.std.proofs.Math.Seq.{drop-append_seam, take-length}
+use Rattle.unwind_definitions.specs.Pointers.{Bases}
+use Rattle.unwind_definitions.specs.Entries.{Fde}
+use Rattle.frame_rows.specs.KeptRows.{AreKeptOf, AreTooMany, IsAdded, Kept, KeptRows, kept_rule_count, location_of, reached_locations}
+use Rattle.frame_rows.specs.declared.row_table.RowLimits.{RowLimits}
+use Rattle.eh_frame.specs.Index.{AreKept, AscendApart, Described, HasRows, IsIndex, IsRowedBy, KeepsRows, common_program, described_fde, described_in, end_of, own_program, range_of, rows_due, rules_due}
+use Rattle.eh_frame.specs.Views.{fde_of}
+use Rattle.eh_frame.specs.declared.fde.Fde.{Fde as CodeFde}
+use Rattle.eh_frame.specs.declared.prepared.AddressRange.{AddressRange}
+use Rattle.eh_frame.specs.declared.prepared.PreparedFunction.{PreparedFunction}
+
+-- ---- lists
+
+all_push : {X : Type 0} (P : X → Type 0) (xs : List X) (x : X) → AllByRecursion P xs → P x → AllByRecursion P (xs ++ x ∷ [])
+all_push P [] x all one = (one, tt)
+all_push P (y ∷ ys) x all one = (all.0, all_push P ys x all.1 one)
+
+all_also : {X : Type 0} (P Q : X → Type 0) (xs : List X) → AllByRecursion P xs → ((x : X) → P x → Q x) → AllByRecursion Q xs
+all_also P Q [] all step = tt
+all_also P Q (x ∷ xs) all step = (step x all.0, all_also P Q xs all.1 step)
+
+part_stays : {X : Type 0} (xs ys : List X) (a b : ℕ) → a ≤ b → b ≤ length xs → slice_range (xs ++ ys) a b ≡ slice_range xs a b
+part_stays xs ys a b le within =
+    let n = length-drop a xs in
+    ap (take (b - a)) (drop-append-le a xs ys (omega arith)) ∙ take-append-le (b - a) (drop a xs) ys (omega arith)
+
+part_added : {X : Type 0} (xs ys : List X) → slice_range (xs ++ ys) (length xs) (length (xs ++ ys)) ≡ ys
+part_added xs ys =
+    let n = length-append xs ys in
+    let m : length (xs ++ ys) - length xs ≡ length ys = omega arith in
+    ap (take (length (xs ++ ys) - length xs)) (drop-append_seam xs ys) ∙ ap (λ n. take n ys) m ∙ take-length ys
+
+-- the first of what is added
+added_first : (xs ys : List Kept) (d : Kept) (k : ℕ) (ls : List ℕ) → map location_of ys ≡ k ∷ ls → (get_or (xs ++ ys) (length xs) d).location ≡ k
+added_first [] [] d k ls is = absurd cc
+added_first [] (y ∷ ys) d k ls is = cc
+added_first (x ∷ xs) ys d k ls is = added_first xs ys d k ls is
+
+before_stays : (xs ys : List Kept) (i : ℕ) (d : Kept) → i < length xs → get_or (xs ++ ys) i d ≡ get_or xs i d
+before_stays [] ys i d lt = absurd (omega arith)
+before_stays (x ∷ xs) ys zero d lt = refl
+before_stays (x ∷ xs) ys (suc i) d lt = before_stays xs ys i d (omega arith)
+
+pub same_apart : {X Y : Type 0} (f : X → Fde) (g : Y → Fde) (low : ℕ) (xs : List X) (ys : List Y) → map g ys ≡ map f xs → AscendApart f low xs → AscendApart g low ys
+same_apart f g low [] [] is apart = tt
+same_apart f g low [] (y ∷ ys) is apart = absurd cc
+same_apart f g low (x ∷ xs) [] is apart = absurd cc
+same_apart f g low (x ∷ xs) (y ∷ ys) is apart =
+    let first : g y ≡ f x = cc in let rest : map g ys ≡ map f xs = cc in
+    (subst (λ (e : Fde). low ≤ e.start) (sym first) apart.0, subst (λ (e : Fde). 0 < e.size) (sym first) apart.1, subst (λ (e : Fde). AscendApart g (end_of e) ys) (sym first) (same_apart f g (end_of (f x)) xs ys rest apart.2))
+
+pub has_size : {X : Type 0} (f : X → Fde) (low : ℕ) (xs : List X) (i : ℕ) (x : X) → AscendApart f low xs → i < length xs → x ≡ get_or xs i x → 0 < (f x).size
+has_size f low [] i x apart lt is = absurd (omega arith)
+has_size f low (y ∷ ys) zero x apart lt is = subst (λ z. 0 < (f z).size) (sym is) apart.1
+has_size f low (y ∷ ys) (suc i) x apart lt is = has_size f (end_of (f y)) ys i x apart.2 (omega arith) is
+
+-- ---- rows that are kept so far
+
+module _ (bases : Bases) (fdes : List Fde) (limits : RowLimits) where
+  pub record IsKeeping (i : ℕ) (rows : KeptRows) (ranges : List AddressRange) (functions : List PreparedFunction) : Type 0 where
+    pub ranges_are : ranges ≡ map range_of functions
+    pub each : map described_fde (map (described_in rows.rows) functions) ≡ take i fdes
+    pub rowed : AllByRecursion (HasRows rows.rows) functions
+    pub kept : AllByRecursion (IsRowedBy bases) (map (described_in rows.rows) functions)
+    pub row_count : length rows.rows ≡ sum_by (rows_due bases) (take i fdes)
+    pub rule_count : rows.rule_count ≡ sum_by (rules_due bases) (take i fdes)
+    pub rows_fit : length rows.rows ≤ limits.rows
+    pub rules_fit : rows.rule_count ≤ limits.rules
+
+  pub begun : IsKeeping 0 (record { rows = []; rule_count = 0 }) [] []
+  begun = record { ranges_are = refl; each = refl; rowed = tt; kept = tt; row_count = refl; rule_count = refl; rows_fit = omega arith; rules_fit = omega arith }
+
+  abbrev pub Added : Fde → KeptRows → KeptRows → Type 0
+  Added fde old new = IsAdded limits fde.start (end_of fde) (common_program bases fde) (own_program bases fde) old new
+
+  module _ (i : ℕ) (rows : KeptRows) (ranges : List AddressRange) (functions : List PreparedFunction) (k : IsKeeping i rows ranges functions) (code : CodeFde) (lt : i < length fdes) (is : fde_of code ≡ get_or fdes i (fde_of code)) where
+    abbrev fde : Fde
+    fde = fde_of code
+
+    one_more : take (i + 1) fdes ≡ take i fdes ++ fde ∷ []
+    one_more = take_more fdes i fde lt ∙ ap (λ (x : Fde). take i fdes ++ x ∷ []) (sym is)
+
+    module _ (new : KeptRows) (adds : Added fde rows new) where
+      abbrev function : PreparedFunction
+      function = record { fde = code; first_row = length rows.rows; end_row = length new.rows }
+
+      -- what was there before
+      same_before : (fs : List PreparedFunction) → AllByRecursion (HasRows rows.rows) fs → map (described_in new.rows) fs ≡ map (described_in rows.rows) fs
+      same_before [] all = refl
+      same_before (f ∷ fs) all =
+          let a = adds in let o = all.0.some in
+          ap (λ (l : List Described). described_in new.rows f ∷ l) (same_before fs all.1)
+          ∙ ap (λ (ks : List Kept). let d : Described = record { fde = fde_of f.fde; kept = ks } in d ∷ map (described_in rows.rows) fs)
+          (ap (λ (l : List Kept). slice_range l f.first_row f.end_row) a.rows ∙ part_stays rows.rows a.kept f.first_row f.end_row (omega arith) all.0.within)
+
+      rowed_before : (f : PreparedFunction) → HasRows rows.rows f → HasRows new.rows f
+      rowed_before f has =
+          let a = adds in let n = ap length a.rows in let m = length-append rows.rows a.kept in
+          let w = has.within in let s = has.some in
+          record {
+            some = has.some;
+            within = omega arith;
+            begun = λ d. subst (λ (q : Kept). q.location ≤ (fde_of f.fde).start) (sym (ap (λ (l : List Kept). get_or l f.first_row d) a.rows ∙ before_stays rows.rows a.kept f.first_row d (omega arith))) (has.begun d);
+          }
+
+      -- what is added
+      kept_one : slice_range new.rows (length rows.rows) (length new.rows) ≡ (adds).kept
+      kept_one = let a = adds in ap (λ (l : List Kept). slice_range l (length rows.rows) (length l)) a.rows ∙ part_added rows.rows a.kept
+
+      count_one : length (adds).kept ≡ rows_due bases fde
+      unfolding rows_due
+      count_one = let a = adds in sym (length-map a.kept location_of) ∙ ap length a.of.locations
+
+      rules_one : new.rule_count ≡ rows.rule_count + rules_due bases fde
+      unfolding rules_due
+      rules_one = (adds).rule_count
+
+      rowed_one : HasRows new.rows function
+      rowed_one =
+          let a = adds in let n = ap length a.rows in let m = length-append rows.rows a.kept in
+          let o = ap length a.of.locations in let l = length-map a.kept location_of in
+          record {
+            some = omega arith;
+            within = omega arith;
+            begun = λ d. let at : (get_or new.rows (length rows.rows) d).location ≡ fde.start =
+                ap (λ (l : List Kept). (get_or l (length rows.rows) d).location) a.rows ∙ added_first rows.rows a.kept d fde.start _ a.of.locations in omega arith;
+          }
+
+      pub further : IsKeeping (i + 1) new (ranges ++ range_of function ∷ []) (functions ++ function ∷ [])
+      further =
+          let same = same_before functions k.rowed in
+          let a = adds in
+          record {
+            ranges_are = ap (λ (l : List AddressRange). l ++ range_of function ∷ []) k.ranges_are ∙ sym (map-append range_of functions (function ∷ []));
+            each = ap (map described_fde) (map-append (described_in new.rows) functions (function ∷ [])) ∙ map-append described_fde (map (described_in new.rows) functions) (described_in new.rows function ∷ [])
+                ∙ ap (λ (l : List Described). map described_fde l ++ fde ∷ []) same ∙ ap (λ (l : List Fde). l ++ fde ∷ []) k.each ∙ sym one_more;
+            rowed = all_push (HasRows new.rows) functions function (all_also (HasRows rows.rows) (HasRows new.rows) functions k.rowed (rowed_before)) (rowed_one);
+            kept = subst (AllByRecursion (IsRowedBy bases)) (sym (map-append (described_in new.rows) functions (function ∷ [])))
+                (all_push (IsRowedBy bases) (map (described_in new.rows) functions) (described_in new.rows function) (subst (AllByRecursion (IsRowedBy bases)) (sym same) (k.kept))
+                (subst (λ (ks : List Kept). AreKeptOf fde.start (end_of fde) (common_program bases fde) (own_program bases fde) ks) (sym (kept_one)) (adds).of));
+            row_count = let b = adds in let n = ap length b.rows in let m = length-append rows.rows b.kept in let c = k.row_count in let o = count_one in
+                let s = ap (sum_by (rows_due bases)) one_more in let t = sum_by_push (rows_due bases) (take i fdes) fde in omega arith;
+            rule_count = let c = k.rule_count in let o = rules_one in
+                let s = ap (sum_by (rules_due bases)) one_more in let t = sum_by_push (rules_due bases) (take i fdes) fde in omega arith;
+            rows_fit = a.rows_fit;
+            rules_fit = a.rules_fit;
+          }
+
+    pub would_be_too_many : AreTooMany limits rows (length (reached_locations fde.start (end_of fde) (common_program bases fde) (own_program bases fde))) (kept_rule_count fde.start (end_of fde) (common_program bases fde) (own_program bases fde)) →
+        KeepsRows fdes limits.rows limits.rules bases None
+    unfolding rows_due rules_due
+    would_be_too_many more =
+        let a = sum_by_more_le (rows_due bases) fdes i fde lt in
+        let b = sum_by_more_le (rules_due bases) fdes i fde lt in
+        let s = ap (rows_due bases) is in let t = ap (rules_due bases) is in
+        let c = k.row_count in let d = k.rule_count in
+        elim more [ inl rows ↦ inl (omega arith) | inr rules ↦ inr (omega arith) ]
+
+  -- all are kept
+  module _ (i : ℕ) (rows : KeptRows) (ranges : List AddressRange) (functions : List PreparedFunction) (k : IsKeeping i rows ranges functions) (all : i ≡ length fdes) where
+    whole : take i fdes ≡ fdes
+    whole = ap (λ n. take n fdes) all ∙ take-length fdes
+
+    pub is_index : {X : Type 0} (f : X → Fde) (xs : List X) → fdes ≡ map f xs → 0 < length xs → AscendApart f 0 xs → limits.rows < 4294967296 → limits.rules < 4294967296 → IsIndex ranges functions rows
+    is_index f xs same some apart rows_few rules_few =
+        let r = k.rows_fit in let s = k.rules_fit in
+        let n = ap length k.each in let m = length-map (map (described_in rows.rows) functions) described_fde in let o = length-map functions (described_in rows.rows) in
+        let w = ap length whole in let p = ap length same in let q = length-map xs f in
+        record {
+          ranges_are = k.ranges_are;
+          some = omega arith;
+          apart = same_apart f described_fde 0 xs (map (described_in rows.rows) functions) (k.each ∙ whole ∙ same) apart;
+          rowed = k.rowed;
+          rows_fit = omega arith;
+          rules_fit = omega arith;
+        }
+
+    pub are_kept : AreKept fdes limits.rows limits.rules bases (record { functions = map (described_in rows.rows) functions; row_count = length rows.rows; rule_count = rows.rule_count })
+    are_kept = record {
+      each = k.each ∙ whole;
+      rowed = k.kept;
+      row_count = k.row_count ∙ ap (sum_by (rows_due bases)) whole;
+      rule_count = k.rule_count ∙ ap (sum_by (rules_due bases)) whole;
+      rows_fit = k.rows_fit;
+      rules_fit = k.rules_fit;
+    }

@@ -1,0 +1,233 @@
+-- A description's rows are added to a table, one location after another.
+use Rattle.std.proofs.Common.{◌≡◌, ℕ, ◌+◌, ◌<◌, ◌≤◌, Bool, cond, true, false, List, [], ◌∷◌, ◌++◌, length, map, Option, Some, None, Result, Ok, Err, refl, sym, ap, ◌∙◌, subst, inl, inr, arith, append_assoc, length-append}
+use Rattle.std.specs.Prelude.{is_some}
+use Rattle.std.proofs.lemmas.Bool.{lt-ltb, le-ltb}
+use Rattle.std.proofs.lemmas.List.{append-nil, map-append, length-map}
+use Rattle.std.specs.declared.alloc.AllocError.{AllocError}
+use Rattle.unwind_definitions.specs.declared.error.Error.{Error as Fault}
+use Rattle.unwind_definitions.specs.Instructions.{Program}
+use Rattle.unwind_definitions.specs.Row.{Run, location, from_common, row}
+use Rattle.frame_rows.specs.RowValue.{RowValue}
+use Rattle.frame_rows.specs.Rows.{GivesRow, IsLast}
+use Rattle.frame_rows.specs.Running.{push, outcome}
+use Rattle.frame_rows.specs.KeptRows.{Kept, KeptRows, Adds, AreRows, AreTooMany, IsAdded, Ascends, answer_rule_count, kept_rule_count, location_of, locations_after, reached_locations, rule_count_at, rule_count_of, then_location}
+use Rattle.frame_rows.specs.Stretches.{EndsStretch, IsLastStretch, IsStretch, IsFaultyStretch}
+use Rattle.frame_rows.specs.TableRows.{IsPushed, Pushes, Keeps}
+use Rattle.frame_rows.specs.declared.machine.Machine.{Machine}
+use Rattle.frame_rows.specs.declared.row_table.RowLimits.{RowLimits}
+use Rattle.frame_rows.proofs.Columns.{count_ruled}
+use Rattle.frame_rows.proofs.StretchSteps.{location_pushed}
+use Rattle.frame_rows.proofs.Together.{common_fine, common_bad, common_stops, own_run, own_stops, row_made}
+
+-- a row has as many rules as are due
+pub as_many_rules : (answer : Result RowValue Fault) (due : Result Run Fault) → GivesRow answer due → Ascends answer → answer_rule_count answer ≡ rule_count_of due
+as_many_rules (Ok r) due gives asc = count_ruled gives.0 r.rules asc gives.2.rules ∙ ap rule_count_of (sym gives.1)
+as_many_rules (Err e) due gives asc = ap rule_count_of (sym gives)
+
+abbrev keeps : ℕ → Result RowValue Fault → Kept
+keeps location answer = record { location = location; answer = answer }
+
+module _ (due : ℕ → Result Run Fault) where
+  rows_push : (done : List Kept) (here end : ℕ) (answer : Result RowValue Fault) → AreRows due here done → ((pc : ℕ) → here ≤ pc → pc < end → GivesRow answer (due pc)) → AreRows due end (done ++ record { location = here; answer = answer } ∷ [])
+  rows_push [] here end answer rows gives = (gives, tt)
+  rows_push (k ∷ []) here end answer rows gives = (rows.0, rows_push [] here end answer tt gives)
+  rows_push (k ∷ l ∷ ks) here end answer rows gives = (rows.0, rows_push (l ∷ ks) here end answer rows.1 gives)
+
+  count_append : (ls ms : List ℕ) → rule_count_at due (ls ++ ms) ≡ rule_count_at due ls + rule_count_at due ms
+  count_append [] ms = omega arith
+  count_append (l ∷ ls) ms = let h = count_append ls ms in omega arith
+
+  count_one : (l : ℕ) → rule_count_at due (l ∷ []) ≡ rule_count_of (due l)
+  count_one l = omega arith
+
+module _ (start end : ℕ) (common own : Program) (old : KeptRows) where
+  abbrev pub due_at : ℕ → Result Run Fault
+  due_at pc = row start pc common own
+
+  -- so many locations are done, and from one on so many instructions are left
+  pub record IsAdding (here : ℕ) (now : Run) (q : Program) (table : KeptRows) : Type 0 where
+    pub done : List Kept
+    pub stands : here ≡ location start now.own
+    pub below : here < end
+    pub listed : map location_of done ++ here ∷ locations_after start end now q.instructions ≡ reached_locations start end common own
+    pub stays : (pc : ℕ) → here ≤ pc → outcome start (Some pc) (from_common common.instructions) own ≡ outcome start (Some pc) now q
+    pub rows : AreRows due_at here done
+    pub kept : table.rows ≡ old.rows ++ done
+    pub counted : table.rule_count ≡ old.rule_count + rule_count_at due_at (map location_of done)
+
+  pub begin : (run : Run) → start < end → outcome 0 None (from_common []) common ≡ Ok run → IsAdding start (from_common common.instructions) own old
+  begin run some ran = record {
+    done = [];
+    stands = refl;
+    below = some;
+    listed = ap (λ o. start ∷ cond (is_some o) [] (locations_after start end (from_common common.instructions) own.instructions)) (sym (common_fine common run ran));
+    stays = λ pc le. refl;
+    rows = tt;
+    kept = sym (append-nil old.rows);
+    counted = omega arith;
+  }
+
+  -- ---- what is due on a stretch
+
+  module _ (run : Run) (ran : outcome 0 None (from_common []) common ≡ Ok run) (here : ℕ) (now : Run) (q : Program) (table : KeptRows) (a : IsAdding here now q table) where
+    given : (pc : ℕ) (last : Run) (answer : Result RowValue Fault) → here ≤ pc → outcome start (Some pc) now q ≡ Ok last → IsLast last answer → GivesRow answer (due_at pc)
+    given pc last answer le is ends =
+        let whole = a.stays pc le ∙ is in
+        row_made start pc common own run last answer ran whole (subst (λ r. IsLast r answer) (sym (own_run start pc common own last whole)) ends)
+
+    pub due_last : (new : Machine) (answer : Result RowValue Fault) (st : IsLastStretch start now q new) → IsLast st.now answer → (pc : ℕ) → here ≤ pc → pc < end → GivesRow answer (due_at pc)
+    due_last new answer st ends pc le lt = let h = a.stands in given pc st.now answer le (st.stays pc (omega arith)) ends
+
+    pub due_up_to : (next : ℕ) (new : Machine) (rest : Program) (answer : Result RowValue Fault) (st : IsStretch start now q next new rest) → IsLast st.now answer → (pc : ℕ) → here ≤ pc → pc < next → GivesRow answer (due_at pc)
+    due_up_to next new rest answer st ends pc le lt = let h = a.stands in given pc st.now answer le (st.stays pc (omega arith) lt) ends
+
+    pub due_fault : (e : Fault) → IsFaultyStretch start now q e → (pc : ℕ) → here ≤ pc → pc < end → due_at pc ≡ Err e
+    due_fault e st pc le lt = let h = a.stands in own_stops start pc common own run e ran (a.stays pc le ∙ st.stays pc (omega arith))
+
+  -- ---- one more row
+
+  module _ (here : ℕ) (now : Run) (q : Program) (table : KeptRows) (a : IsAdding here now q table) (limits : RowLimits) (answer : Result RowValue Fault) (many : answer_rule_count answer ≡ rule_count_of (due_at here)) where
+    abbrev one : List Kept
+    one = record { location = here; answer = answer } ∷ []
+
+    locations_one : map location_of (a.done ++ one) ≡ map location_of a.done ++ here ∷ []
+    locations_one = map-append location_of a.done one
+
+    counted_one : (new : KeptRows) → IsPushed limits here answer (answer_rule_count answer) table new → new.rule_count ≡ old.rule_count + rule_count_at due_at (map location_of (a.done ++ one))
+    counted_one new p =
+        let before = a.counted in
+        let now = p.rule_count in
+        let more = count_append due_at (map location_of a.done) (here ∷ []) in
+        let same = ap (rule_count_at due_at) locations_one in
+        let one = count_one due_at here in
+        omega arith
+
+    kept_one : (new : KeptRows) → IsPushed limits here answer (answer_rule_count answer) table new → new.rows ≡ old.rows ++ (a.done ++ one)
+    kept_one new p = p.rows ∙ ap (λ l. l ++ one) a.kept ∙ append_assoc old.rows a.done one
+
+    -- it is the last
+    pub added : (new : KeptRows) → ((pc : ℕ) → here ≤ pc → pc < end → GivesRow answer (due_at pc)) → locations_after start end now q.instructions ≡ [] → IsPushed limits here answer (answer_rule_count answer) table new → IsAdded limits start end common own old new
+    added new gives none p =
+        let all : map location_of (a.done ++ one) ≡ reached_locations start end common own =
+        locations_one ∙ ap (λ ls. map location_of a.done ++ here ∷ ls) (sym none) ∙ a.listed in
+        record {
+          kept = a.done ++ one;
+          of = record { locations = all; rows = rows_push due_at a.done here end answer a.rows gives };
+          rows = kept_one new p;
+          rule_count = counted_one new p ∙ ap (λ ls. old.rule_count + rule_count_at due_at ls) all;
+          rows_fit = p.rows_fit;
+          rules_fit = p.rules_fit;
+        }
+
+    none_left : (next here' : ℕ) (ls : List ℕ) → here' < next → end ≤ next → then_location end here' next ls ≡ []
+    none_left next here' ls ahead past = rw (lt-ltb here' next ahead, le-ltb next end past) refl
+
+    -- an instruction leads out of the range
+    pub added_past : (next : ℕ) (new : KeptRows) (m : Machine) (rest : Program) → IsStretch start now q next m rest → end ≤ next → ((pc : ℕ) → here ≤ pc → pc < end → GivesRow answer (due_at pc)) → IsPushed limits here answer (answer_rule_count answer) table new → IsAdded limits start end common own old new
+    added_past next new m rest st past gives p = added new gives (st.more end ∙ none_left next (location start now.own) _ st.ahead past) p
+
+    -- an instruction leads on
+    pub goes_on : (next : ℕ) (new : KeptRows) (m : Machine) (rest : Program) (st : IsStretch start now q next m rest) → next < end → ((pc : ℕ) → here ≤ pc → pc < next → GivesRow answer (due_at pc)) → IsPushed limits here answer (answer_rule_count answer) table new → IsAdding next (push st.now st.by) rest new
+    goes_on next new m rest st inside gives p =
+        let h = a.stands in
+        let ahead = st.ahead in
+        record {
+          done = a.done ++ one;
+          stands = sym st.leads ∙ sym (location_pushed start st.now st.by);
+          below = inside;
+          listed = ap (λ ls. ls ++ next ∷ locations_after start end (push st.now st.by) rest.instructions) locations_one
+              ∙ append_assoc (map location_of a.done) (here ∷ []) (next ∷ locations_after start end (push st.now st.by) rest.instructions)
+              ∙ ap (λ ls. map location_of a.done ++ here ∷ ls) (sym (st.more end ∙ one_left)) ∙ a.listed;
+          stays = λ pc le. a.stays pc (omega arith) ∙ st.goes_on pc le;
+          rows = rows_push due_at a.done here next answer a.rows gives;
+          kept = kept_one new p;
+          counted = counted_one new p;
+        }
+      where
+        one_left : then_location end (location start now.own) next (locations_after start end (push st.now st.by) rest.instructions) ≡ next ∷ locations_after start end (push st.now st.by) rest.instructions
+        one_left = rw (lt-ltb (location start now.own) next st.ahead, lt-ltb next end inside) refl
+
+    -- it would be too much
+    pub too_many : AreTooMany limits table 1 (answer_rule_count answer) → AreTooMany limits old (length (reached_locations start end common own)) (kept_rule_count start end common own)
+    too_many more =
+        let all = ap length a.listed in
+        let n = length-append (map location_of a.done) (here ∷ locations_after start end now q.instructions) in
+        let m = length-map a.done location_of in
+        let k = ap length a.kept in
+        let l = length-append old.rows a.done in
+        let rules = ap (rule_count_at due_at) a.listed in
+        let r = count_append due_at (map location_of a.done) (here ∷ locations_after start end now q.instructions) in
+        let c = a.counted in
+        elim more [ inl rows ↦ inl (omega arith) | inr more_rules ↦ inr (omega arith) ]
+
+  -- ---- what a stretch ends with is kept
+
+  module _ (run : Run) (ran : outcome 0 None (from_common []) common ≡ Ok run) (here : ℕ) (now : Run) (q : Program) (table : KeptRows) (a : IsAdding here now q table) (limits : RowLimits) (m : Machine) (rest : Program) (new : KeptRows) where
+    here_at : (answer : Result RowValue Fault) (bound : ℕ) → here < bound → ((pc : ℕ) → here ≤ pc → pc < bound → GivesRow answer (due_at pc)) → Ascends answer → answer_rule_count answer ≡ rule_count_of (due_at here)
+    here_at answer bound below gives asc = as_many_rules answer (due_at here) (gives here (omega arith) below) asc
+
+    pub kept_too_many : (next : Result (Option ℕ) Fault) → EndsStretch start now q next m rest → Keeps limits here next m table (Ok false) new → AreTooMany limits old (length (reached_locations start end common own)) (kept_rule_count start end common own)
+    kept_too_many (Ok None) st k =
+        let gives = due_last run ran here now q table a m k.0 st (k.1 start st.now st.represents) in
+        too_many here now q table a limits k.0 (here_at k.0 end a.below gives k.2.ascends) k.2.pushes
+    kept_too_many (Ok (Some next)) st k =
+        let gives = due_up_to run ran here now q table a next m rest k.0 st (k.1 start st.now st.represents) in
+        let h = a.stands in let ahead = st.ahead in
+        too_many here now q table a limits k.0 (here_at k.0 next (omega arith) gives k.2.ascends) k.2.pushes
+    kept_too_many (Err e) st k =
+        let gives = due_fault run ran here now q table a e st in
+        too_many here now q table a limits (Err e) (here_at (Err e) end a.below gives tt) k.pushes
+
+    pub kept_at_end : EndsStretch start now q (Ok None) m rest → Keeps limits here (Ok None) m table (Ok true) new → IsAdded limits start end common own old new
+    kept_at_end st k =
+        let gives = due_last run ran here now q table a m k.0 st (k.1 start st.now st.represents) in
+        added here now q table a limits k.0 (here_at k.0 end a.below gives k.2.ascends) new gives (st.no_more end) k.2.pushes
+
+    pub kept_fault : (e : Fault) → EndsStretch start now q (Err e) m rest → Keeps limits here (Err e) m table (Ok true) new → IsAdded limits start end common own old new
+    kept_fault e st k =
+        let gives = due_fault run ran here now q table a e st in
+        added here now q table a limits (Err e) (here_at (Err e) end a.below gives tt) new gives (st.no_more end) k.pushes
+
+    module _ (next : ℕ) (st : IsStretch start now q next m rest) (k : Keeps limits here (Ok (Some next)) m table (Ok true) new) where
+      abbrev gives_up_to : (pc : ℕ) → here ≤ pc → pc < next → GivesRow k.0 (due_at pc)
+      gives_up_to = due_up_to run ran here now q table a next m rest k.0 st (k.1 start st.now st.represents)
+
+      as_many : answer_rule_count k.0 ≡ rule_count_of (due_at here)
+      as_many = let h = a.stands in let ahead = st.ahead in here_at k.0 next (omega arith) gives_up_to k.2.ascends
+
+      pub kept_past : end ≤ next → IsAdded limits start end common own old new
+      kept_past past = added_past here now q table a limits k.0 as_many next new m rest st past (λ pc le lt. gives_up_to pc le (omega arith)) k.2.pushes
+
+      pub kept_on : next < end → IsAdding next (push st.now st.by) rest new
+      kept_on inside = goes_on here now q table a limits k.0 as_many next new m rest st inside gives_up_to k.2.pushes
+
+  -- ---- a description whose common program can't be run
+
+  module _ (limits : RowLimits) (e : Fault) (bad : outcome 0 None (from_common []) common ≡ Err e) where
+    only_start : reached_locations start end common own ≡ start ∷ []
+    only_start = ap (λ o. start ∷ cond (is_some o) [] (locations_after start end (from_common common.instructions) own.instructions)) (common_bad common e bad)
+
+    none_due : kept_rule_count start end common own ≡ 0
+    none_due = ap (rule_count_at due_at) only_start ∙ ap (λ d. rule_count_of d + 0) (common_stops start start common own e bad)
+
+    pub added_fault : (new : KeptRows) → IsPushed limits start (Err e) 0 old new → IsAdded limits start end common own old new
+    added_fault new p =
+        let n = none_due in let c = p.rule_count in
+        record {
+          kept = record { location = start; answer = Err e } ∷ [];
+          of = record { locations = sym only_start; rows = (λ pc le lt. common_stops start pc common own e bad, tt) };
+          rows = p.rows;
+          rule_count = omega arith;
+          rows_fit = p.rows_fit;
+          rules_fit = p.rules_fit;
+        }
+
+    pub too_many_fault : AreTooMany limits old 1 0 → AreTooMany limits old (length (reached_locations start end common own)) (kept_rule_count start end common own)
+    too_many_fault more =
+        let n = none_due in let l = ap length only_start in
+        elim more [ inl rows ↦ inl (omega arith) | inr rules ↦ inr (omega arith) ]
+
+    pub adds_fault : (r : Result Bool AllocError) (new : KeptRows) → Pushes limits start (Err e) 0 old r new → Adds limits start end common own old r new
+    adds_fault (Ok true) new p = added_fault new p
+    adds_fault (Ok false) new p = too_many_fault p
+    adds_fault (Err f) new p = tt

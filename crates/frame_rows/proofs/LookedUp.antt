@@ -1,0 +1,55 @@
+-- What a search of a table's rows finds holds at the address.
+use Rattle.std.proofs.Common.{◌≡◌, ℕ, zero, suc, ◌+◌, ◌-◌, ◌<◌, ◌≤◌, List, [], ◌∷◌, ◌++◌, length, map, take, drop, get_or, Result, refl, sym, ap, ◌∙◌, subst, arith}
+use Rattle.std.specs.Prelude.{slice_range}
+use Rattle.std.proofs.lemmas.List.{take-map, drop-map, get_or-take, get_or-drop}
+use Rattle.std.proofs.Math.ListN.{get_or-map}
+use Rattle.unwind_definitions.specs.declared.error.Error.{Error as Fault}
+use Rattle.unwind_definitions.specs.Row.{Run}
+use Rattle.frame_rows.specs.RowValue.{RowValue}
+use Rattle.frame_rows.specs.Rows.{GivesRow}
+use Rattle.frame_rows.specs.KeptRows.{Kept, AreRows, first_location, location_of}
+use Rattle.frame_rows.specs.TableRows.{HoldsAt, IsLastAt, kept_in}
+use Rattle.unwind_arch.specs.declared.register.Register.{Register as Column}
+use Rattle.frame_rows.specs.declared.rule.RegisterRule.{RegisterRule}
+use Rattle.frame_rows.specs.declared.row_table.TableRow.{TableRow}
+
+module _ (rules : List (Column × RegisterRule)) where
+  pub part_of : (items : List TableRow) (first end : ℕ) → slice_range (map (kept_in rules) items) first end ≡ map (kept_in rules) (slice_range items first end)
+  part_of items first end = ap (take (end - first)) (drop-map (kept_in rules) first items) ∙ take-map (kept_in rules) (end - first) (drop first items)
+
+  pub first_begun : (items : List TableRow) (first end pc : ℕ) → first < end → ((d : Kept) → location_of (get_or (map (kept_in rules) items) first d) ≤ pc) → (d : TableRow) → (get_or (take (end - first) (drop first items)) 0 d).location ≤ pc
+  first_begun items first end pc some begun d =
+      let one : get_or (take (end - first) (drop first items)) 0 d ≡ get_or items first d =
+      get_or-take (end - first) (drop first items) 0 d (omega arith) ∙ get_or-drop first items 0 d ∙ ap (λ i. get_or items i d) (omega arith) in
+      let same = get_or-map (kept_in rules) items first d in
+      let le = begun (kept_in rules d) in
+      subst (λ (r : TableRow). r.location ≤ pc) (sym one) (subst (λ (k : Kept). k.location ≤ pc) same le)
+
+  pub holds : (xs : List TableRow) (pc i : ℕ) (d : TableRow) (answer : Result RowValue Fault) → IsLastAt xs pc i → answer ≡ (kept_in rules (get_or xs i d)).answer → HoldsAt (map (kept_in rules) xs) pc answer
+  holds [] pc i d answer last is = let w = last.within in absurd (omega arith)
+  holds (x ∷ xs) pc zero d answer last is = record {
+    before = [];
+    here = kept_in rules x;
+    later = map (kept_in rules) xs;
+    all = refl;
+    at_or_before = last.before d;
+    after = λ end below. go xs end below last.after;
+    answers = is;
+  }
+    where
+      go : (xs : List TableRow) (end : ℕ) → pc < end → ((d : TableRow) → 0 + 1 < length (x ∷ xs) → pc < (get_or (x ∷ xs) (0 + 1) d).location) → pc < first_location end (map (kept_in rules) xs)
+      go [] end below behind = below
+      go (y ∷ ys) end below behind = behind d (omega arith)
+  holds (x ∷ xs) pc (suc i) d answer last is =
+      let h = holds xs pc i d answer (record { within = let w = last.within in omega arith; before = last.before; after = λ e lt. let more : suc i + 1 ≡ suc (i + 1) = omega arith in subst (λ n. pc < (get_or (x ∷ xs) n e).location) more (last.after e (omega arith)) }) is in
+      record { before = kept_in rules x ∷ h.before; here = h.here; later = h.later; all = ap (λ l. kept_in rules x ∷ l) h.all; at_or_before = h.at_or_before; after = h.after; answers = h.answers }
+
+-- what holds at an address is what is due there
+pub due_there : (due : ℕ → Result Run Fault) (end pc : ℕ) (kept : List Kept) (answer : Result RowValue Fault) → AreRows due end kept → pc < end → HoldsAt kept pc answer → GivesRow answer (due pc)
+due_there due end pc kept answer rows below h =
+    let all = subst (AreRows due end) h.all rows in
+    subst (λ a. GivesRow a (due pc)) (sym h.answers) (go h.before all)
+  where
+    go : (before : List Kept) → AreRows due end (before ++ h.here ∷ h.later) → GivesRow h.here.answer (due pc)
+    go [] rows = rows.0 pc h.at_or_before (h.after end below)
+    go (k ∷ ks) rows = go ks rows.1

@@ -1,0 +1,100 @@
+-- The rows that are kept of a description: one for each location that its program reaches. DWARF 5 section 6.4.1.
+use Rattle.std.specs.Prelude.{◌≡◌, ℕ, ◌+◌, ◌<◌, ◌≤◌, ◌⊎◌, Bool, true, false, List, [], ◌∷◌, ◌++◌, length, map, Result, Ok, Err, is_some, nat_lt, if◌then◌else◌}
+use Rattle.unwind_definitions.specs.declared.error.Error.{Error as Fault}
+use Rattle.unwind_definitions.specs.Instructions.{Instruction, Program}
+use Rattle.unwind_definitions.specs.Row.{Run, location, fault_of, common_fault, from_common, ruled_columns, row}
+use Rattle.frame_rows.specs.RowValue.{RowValue}
+use Rattle.frame_rows.specs.Rows.{GivesRow}
+use Rattle.frame_rows.specs.Rules.{AscendsFrom}
+use Rattle.std.specs.declared.alloc.AllocError.{AllocError}
+use Rattle.frame_rows.specs.declared.row_table.RowLimits.{RowLimits}
+
+-- what holds from a location on: a row, or a fault
+pub record Kept : Type 0 where
+  pub location : ℕ
+  pub answer : Result RowValue Fault
+
+-- what is kept of several descriptions, and how many rules of registers it has
+pub record KeptRows : Type 0 where
+  pub rows : List Kept
+  pub rule_count : ℕ
+
+-- ---- locations
+
+-- where an instruction leads from one location, before those to which the later ones lead: locations don't go back, so what follows one outside the range lies outside too
+abbrev pub then_location : ℕ → ℕ → ℕ → List ℕ → List ℕ
+then_location end here next rest = if nat_lt here next then (if nat_lt next end then next ∷ rest else []) else rest
+
+-- The locations below an end to which instructions lead after others, up to the first that can't follow.
+abbrev pub locations_after : ℕ → ℕ → Run → List Instruction → List ℕ
+locations_after start end run [] = []
+locations_after start end run (i ∷ is) = if is_some (fault_of start run i) then [] else
+    then_location end (location start run.own) (location (location start run.own) (i ∷ [])) (locations_after start end (record run { own = run.own ++ i ∷ [] }) is)
+
+-- the locations that a description's program reaches in its range; where the program that runs before it can't be run, its start
+abbrev pub reached_locations : ℕ → ℕ → Program → Program → List ℕ
+reached_locations start end common own = start ∷ (if is_some (common_fault common) then [] else locations_after start end (from_common common.instructions) own.instructions)
+
+-- ---- rows
+
+-- how many columns have a rule
+abbrev pub rule_count_of : Result Run Fault → ℕ
+rule_count_of (Ok run) = length (ruled_columns run)
+rule_count_of (Err e) = 0
+
+-- the same over several locations
+abbrev pub rule_count_at : (ℕ → Result Run Fault) → List ℕ → ℕ
+rule_count_at due [] = 0
+rule_count_at due (l ∷ ls) = rule_count_of (due l) + rule_count_at due ls
+
+abbrev pub first_location : ℕ → List Kept → ℕ
+first_location end [] = end
+first_location end (k ∷ ks) = k.location
+
+-- each holds from its location on, up to the next one's, and the last up to an end
+abbrev pub AreRows : (ℕ → Result Run Fault) → ℕ → List Kept → Type 0
+AreRows due end [] = Unit {0}
+AreRows due end (k ∷ ks) = ((pc : ℕ) → k.location ≤ pc → pc < first_location end ks → GivesRow k.answer (due pc)) × AreRows due end ks
+
+abbrev pub location_of : Kept → ℕ
+location_of k = k.location
+
+-- what is kept of a description that ranges from a start to an end
+pub record AreKeptOf (start end : ℕ) (common own : Program) (kept : List Kept) : Type 0 where
+  pub locations : map location_of kept ≡ reached_locations start end common own
+  pub rows : AreRows (λ pc. row start pc common own) end kept
+
+-- how many rules of registers are kept of it
+abbrev pub kept_rule_count : ℕ → ℕ → Program → Program → ℕ
+kept_rule_count start end common own = rule_count_at (λ pc. row start pc common own) (reached_locations start end common own)
+
+-- how many rules a row has
+abbrev pub answer_rule_count : Result RowValue Fault → ℕ
+answer_rule_count (Ok row) = length row.rules
+answer_rule_count (Err e) = 0
+
+-- ---- what a table has once a description is added
+
+-- its columns ascend
+abbrev pub Ascends : Result RowValue Fault → Type 0
+Ascends (Ok row) = AscendsFrom 0 row.rules
+Ascends (Err e) = Unit {0}
+
+-- a description's rows are added, within limits
+pub record IsAdded (limits : RowLimits) (start end : ℕ) (common own : Program) (old new : KeptRows) : Type 0 where
+  pub kept : List Kept
+  pub of : AreKeptOf start end common own kept
+  pub rows : new.rows ≡ old.rows ++ kept
+  pub rule_count : new.rule_count ≡ old.rule_count + kept_rule_count start end common own
+  pub rows_fit : length new.rows ≤ limits.rows
+  pub rules_fit : new.rule_count ≤ limits.rules
+
+-- so many rows or rules more would be too many
+abbrev pub AreTooMany : RowLimits → KeptRows → ℕ → ℕ → Type 0
+AreTooMany limits old rows rules = (limits.rows < length old.rows + rows) ⊎ (limits.rules < old.rule_count + rules)
+
+-- a description's rows are added, or would be too many
+abbrev pub Adds : RowLimits → ℕ → ℕ → Program → Program → KeptRows → Result Bool AllocError → KeptRows → Type 0
+Adds limits start end common own old (Ok true) new = IsAdded limits start end common own old new
+Adds limits start end common own old (Ok false) new = AreTooMany limits old (length (reached_locations start end common own)) (kept_rule_count start end common own)
+Adds limits start end common own old (Err e) new = Unit {0}

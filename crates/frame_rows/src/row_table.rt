@@ -1,0 +1,200 @@
+//! Tables of the rows that several descriptions have. DWARF 5 section 6.4.1.
+
+ghost use Rattle.std.specs.Prelude.{◌≡◌, ◌<◌, ◌≤◌, [], length, map, slice_range, slice_index_or, ℕ, Result};
+ghost use Rattle.unwind_definitions.specs.declared.error.Error.{Error as Fault};
+ghost use Rattle.unwind_definitions.specs.Row.{Run};
+ghost use Rattle.frame_rows.specs.declared.row_table.TableRow.{TableRow};
+ghost use Rattle.frame_rows.specs.KeptRows.{AreRows, Kept, location_of, answer_rule_count, Ascends};
+ghost use Rattle.frame_rows.specs.Rules.{entry_of, AscendsFrom};
+ghost use Rattle.frame_rows.specs.Rows.{GivesRow};
+ghost use Rattle.frame_rows.specs.TableRows.{HoldsAt, IsLastAt, IsInRules, Pushes, kept_in, kept_answer};
+
+use crate::row_ref::RowRef;
+use crate::rule::{CfaRule, RegisterRule};
+use std::alloc::{AllocError, Global};
+use std::marker::Model;
+use unwind_arch::Register;
+use unwind_definitions::Error;
+
+/// How much a table of rows may hold.
+#[derive(Clone, Copy, Debug, PartialEq, Eq)]
+pub struct RowLimits {
+    /// How many rows and faults.
+    pub rows: u32,
+    /// How many rules of registers, in all rows together.
+    pub rules: u32,
+}
+
+// What holds from a location on: a row, or a fault.
+#[derive(Clone, Copy)]
+pub(crate) struct TableRow<'a> {
+    location: u64,
+    cfa: Result<CfaRule<'a>, Error>,
+    saved_args_size: u64,
+    first_rule: usize,
+    end_rule: usize,
+}
+
+/// The rows of several descriptions, one after another, each with the location from which on it
+/// holds.
+///
+/// A fault is kept like a row. The rules of all rows stand in one list, so that a row takes no
+/// place for rules that it doesn't have, and one is looked up without being copied.
+#[derive(Drop)]
+pub struct RowTable<'a> {
+    rows: Vec<TableRow<'a>>,
+    rules: Vec<(Register, RegisterRule<'a>)>,
+}
+
+impl<'a> Model for RowTable<'a> {
+    ghost use Rattle.std.specs.Prelude.{length, map};
+    ghost use Rattle.std.specs.List.{AllByRecursion};
+    ghost use Rattle.frame_rows.specs.KeptRows.{KeptRows};
+    ghost use Rattle.frame_rows.specs.TableRows.{IsInRules, kept_in};
+
+    ghost Value = { KeptRows };
+
+    ghost view = { λ t. record {
+      rows = map (kept_in t.rules.items) t.rows.items;
+      rule_count = length t.rules.items;
+    } };
+
+    ghost invariant = { λ t. AllByRecursion (IsInRules t.rules.items) t.rows.items };
+}
+
+impl<'a> RowTable<'a> {
+    /// A table without rows.
+    pub fn new(alloc: Global) -> RowTable<'a>
+        ensures { result ≡ record { rows = []; rule_count = 0 } }
+    {
+        RowTable {
+            rows: Vec::new(alloc),
+            rules: Vec::new(alloc),
+        }
+    }
+
+    /// How many rows and faults there are.
+    pub fn len(&self) -> usize
+        ensures { result ≡ length self.now.rows }
+    {
+        self.rows.len()
+    }
+
+    /// How many rules of registers there are, in all rows together.
+    pub fn rule_count(&self) -> usize
+        ensures { result ≡ self.now.rule_count }
+    {
+        self.rules.len()
+    }
+
+    /// What holds at the address `pc` by the rows from the index `first` up to `end`, of which the
+    /// first one's location is at or before it: the row or the fault at the last location at or
+    /// before it.
+    ///
+    /// # Errors
+    ///
+    /// The fault that is kept there.
+    pub fn row(&self, first: usize, end: usize, pc: u64) -> Result<RowRef<'_, 'a>, Error>
+        requires some { first < end }
+        requires within { end ≤ length self.now.rows }
+        requires begun { (d : Kept) → location_of (slice_index_or self.now.rows first d) ≤ pc }
+        ensures last { HoldsAt (slice_range self.now.rows first end) pc result }
+        ensures due { (due : ℕ → Result Run Fault) (bound : ℕ) →
+            AreRows due bound (slice_range self.now.rows first end) →
+            pc < bound → GivesRow result (due pc) }
+    {
+        let rows = &self.rows[first..end];
+        kept(&self.rules, rows[last_at(rows, pc)])
+    }
+
+    /// Keeps a row or a fault for a location. `false` where it would be too much.
+    pub(crate) fn push(
+        &mut self,
+        location: u64,
+        answer: Result<RowRef<'_, 'a>, Error>,
+        limits: RowLimits,
+    ) -> Result<bool, AllocError>
+        ensures pushes { Pushes limits location answer.entry (answer_rule_count answer.entry)
+            self.old result self.new }
+        ensures ascends { Ascends answer.entry }
+    {
+        match answer {
+            Ok(row) => self.push_entry(
+                location,
+                Ok(row.cfa()),
+                row.entries(),
+                row.saved_args_size(),
+                limits,
+            ),
+            Err(e) => self.push_entry(location, Err(e), &[], 0, limits),
+        }
+    }
+
+    // Keeps a row by its parts, or a fault.
+    fn push_entry(
+        &mut self,
+        location: u64,
+        cfa: Result<CfaRule<'a>, Error>,
+        rules: &[(Register, RegisterRule<'a>)],
+        saved_args_size: u64,
+        limits: RowLimits,
+    ) -> Result<bool, AllocError>
+        requires ascending { AscendsFrom 0 (map entry_of rules.now) }
+        requires few { length rules.now ≤ 32 }
+        ensures { Pushes limits location
+            (kept_answer cfa.entry (map entry_of rules.now) saved_args_size) (length rules.now)
+            self.old result self.new }
+    {
+        let first_rule = self.rules.len();
+        let end_rule = first_rule + rules.len();
+        if self.rows.len() >= limits.rows as usize || end_rule > limits.rules as usize {
+            return Ok(false);
+        }
+        self.rules.extend_from_slice(rules)?;
+        self.rows.push(TableRow {
+            location,
+            cfa,
+            saved_args_size,
+            first_rule,
+            end_rule,
+        })?;
+        Ok(true)
+    }
+}
+
+// What a row of a table says, whose rules are among these.
+fn kept<'r, 'a>(
+    rules: &'r [(Register, RegisterRule<'a>)],
+    row: TableRow<'a>,
+) -> Result<RowRef<'r, 'a>, Error>
+    requires { IsInRules rules.now row }
+    ensures { result ≡ (kept_in rules.now row.entry).answer }
+{
+    match row.cfa {
+        Ok(cfa) => Ok(RowRef::new(
+            cfa,
+            &rules[row.first_rule..row.end_rule],
+            row.saved_args_size,
+        )),
+        Err(e) => Err(e),
+    }
+}
+
+// The index of the last of some rows that is at or before an address, where the first one is.
+fn last_at(rows: &[TableRow], pc: u64) -> usize
+    requires some { 0 < length rows.now }
+    requires begun { (d : TableRow) → (slice_index_or rows.now 0 d).location ≤ pc }
+    ensures { IsLastAt rows.now pc result }
+{
+    let mut low = 0;
+    let mut high = rows.len();
+    while high - low > 1 {
+        let middle = low + (high - low) / 2;
+        if rows[middle].location <= pc {
+            low = middle;
+        } else {
+            high = middle;
+        }
+    }
+    low
+}

@@ -1,0 +1,132 @@
+//! Making the rows of several descriptions. DWARF 5 sections 6.4.1 and 6.4.3.
+
+ghost use Rattle.std.specs.Prelude.{◌≡◌, ◌<◌, ℕ, [], None, Ok, length};
+ghost use Rattle.unwind_definitions.specs.Instructions.{program, Program};
+ghost use Rattle.unwind_definitions.specs.Row.{Run, from_common};
+ghost use Rattle.encoded_pointers.specs.View.{at};
+ghost use Rattle.frame_rows.specs.Decoded.{coding_in};
+ghost use Rattle.frame_rows.specs.KeptRows.{Adds};
+ghost use Rattle.frame_rows.specs.Running.{Represents, outcome};
+ghost use Rattle.frame_rows.specs.TableRows.{Keeps};
+
+use crate::coding::Coding;
+use crate::machine::Machine;
+use crate::program::begin_own;
+use crate::row_table::{RowLimits, RowTable};
+use crate::stretch::{Instructions, run_stretch};
+use encoded_pointers::Cursor;
+use std::alloc::{AllocError, Global};
+use unwind_definitions::Error;
+
+/// Makes a [`RowTable`], one description after another, within limits.
+///
+/// Each program is run once, over all the locations that it reaches.
+#[derive(Drop)]
+pub struct RowTableBuilder<'a> {
+    table: RowTable<'a>,
+    limits: RowLimits,
+    machine: Machine<'a>,
+}
+
+impl<'a> RowTableBuilder<'a> {
+    /// A builder of a table without rows.
+    pub fn new(alloc: Global, limits: RowLimits) -> RowTableBuilder<'a>
+        ensures table { result.table ≡ record { rows = []; rule_count = 0 } }
+        ensures limits { result.limits ≡ limits }
+    {
+        RowTableBuilder {
+            table: RowTable::new(alloc),
+            limits,
+            machine: Machine::new(),
+        }
+    }
+
+    /// Adds the rows of a description that ranges from `start` to `end`: one row or fault for each
+    /// location that its program reaches there, its start included. `false` where they would be
+    /// too many; then the table is unspecified.
+    ///
+    /// A fault is kept from the location at which it is met.
+    pub fn add(
+        &mut self,
+        common: Cursor<'a>,
+        own: Cursor<'a>,
+        coding: Coding,
+        start: u64,
+        end: u64,
+    ) -> Result<bool, AllocError>
+        requires { start < end }
+        ensures rows { let coding = coding_in coding.entry in
+            Adds self.old.limits start end (program coding (at common.entry))
+            (program coding (at own.entry)) self.old.table result self.new.table }
+        ensures limits { self.new.limits ≡ self.old.limits }
+    {
+        match begin_own(&mut self.machine, common, coding, start) {
+            Err(e) => self.table.push(start, Err(e), self.limits),
+            Ok(()) => self.add_rows(own, coding, start, end),
+        }
+    }
+
+    /// How many rows and faults there are so far.
+    pub fn len(&self) -> usize
+        ensures { result ≡ length self.now.table.rows }
+    {
+        self.table.len()
+    }
+
+    /// The table.
+    pub fn finish(self) -> RowTable<'a>
+        ensures { result ≡ self.entry.table }
+    {
+        self.table
+    }
+
+    // Adds the rows of a description whose own program is to run.
+    fn add_rows(
+        &mut self,
+        own: Cursor<'a>,
+        coding: Coding,
+        start: u64,
+        end: u64,
+    ) -> Result<bool, AllocError>
+        requires { start < end }
+        ensures rows { (common : Program) (run : Run) →
+            outcome 0 None (from_common []) common ≡ Ok run →
+            Represents start self.old.machine (from_common common.instructions) →
+            Adds self.old.limits start end common (program (coding_in coding.entry) (at own.entry))
+            self.old.table result self.new.table }
+        ensures limits { self.new.limits ≡ self.old.limits }
+    {
+        let mut instructions = Instructions::new(own);
+        let mut location = start;
+        loop {
+            let next = run_stretch(&mut self.machine, &mut instructions, coding);
+            if !self.keep(location, next)? {
+                return Ok(false);
+            }
+            match next {
+                Ok(Some(next)) => {
+                    if next >= end {
+                        return Ok(true);
+                    }
+                    self.machine.go_on(next);
+                    location = next;
+                }
+                Ok(None) => return Ok(true),
+                Err(_) => return Ok(true),
+            }
+        }
+    }
+
+    // Keeps what a stretch from a location on ends with: its row, or its fault.
+    fn keep(&mut self, location: u64, next: Result<Option<u64>, Error>) -> Result<bool, AllocError>
+        ensures rows { Keeps self.old.limits location next self.old.machine self.old.table
+            result self.new.table }
+        ensures machine { self.new.machine ≡ self.old.machine }
+        ensures limits { self.new.limits ≡ self.old.limits }
+    {
+        match next {
+            Ok(_) => self.table.push(location, self.machine.row(), self.limits),
+            Err(e) => self.table.push(location, Err(e), self.limits),
+        }
+    }
+}
