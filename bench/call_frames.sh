@@ -21,12 +21,12 @@ echo 'call_frames: eh_frame arrayvec anyhow' >>"$copy/crates.txt"
 mkdir -p "$copy/crates/call_frames/src"
 cat >"$copy/crates/call_frames/src/main.rt" <<'RATTLE'
 //! Scans a frame table, makes a row, or makes or copies a list of rules:
-//! `call_frames scan|row|new|cleared|clone|extend DESCRIPTIONS PASSES`.
+//! `call_frames scan|row|room|new|cleared|clone|extend DESCRIPTIONS PASSES`.
 #![tactic(auto)]
 
 use anyhow::Result;
 use arrayvec::ArrayVec;
-use eh_frame::{Bases, EhFrame, Error, Register, RegisterRule};
+use eh_frame::{Bases, EhFrame, Error, Register, RegisterRule, RowRoom};
 use std::alloc::AllocError;
 use std::env;
 
@@ -88,6 +88,19 @@ fn rows(frame: &EhFrame, passes: u32) -> Result<u64, Error> {
     Ok(total)
 }
 
+fn rows_in_room(frame: &EhFrame, passes: u32) -> Result<u64, Error> {
+    let bases = Bases::default();
+    let fde = frame.fde_for_address(&bases, START)?;
+    let mut room = RowRoom::new();
+    let mut total = 0u64;
+    for pass in 0..passes {
+        let pc = if pass % 2 == 0 { LAST } else { LAST - 1 };
+        fde.make_row(frame, &bases, pc, &mut room)?;
+        total = total.wrapping_add(room.row().saved_args_size()).wrapping_add(1);
+    }
+    Ok(total)
+}
+
 type Rules = ArrayVec<(Register, RegisterRule<'static>), 32>;
 
 const BLANK: [(Register, RegisterRule<'static>); 32] = [(Register(0), RegisterRule::Undefined); 32];
@@ -141,6 +154,7 @@ fn lists(task: Task, passes: u32) -> u64 {
 enum Task {
     Scan,
     Row,
+    Room,
     New,
     Cleared,
     Clone,
@@ -154,6 +168,7 @@ fn main(rt: HostRuntime) -> Result<()> {
     for word in env::args(&rt)? {
         match word.as_str() {
             "scan" => task = Task::Scan,
+            "room" => task = Task::Room,
             "new" => task = Task::New,
             "cleared" => task = Task::Cleared,
             "clone" => task = Task::Clone,
@@ -175,6 +190,7 @@ fn main(rt: HostRuntime) -> Result<()> {
     let told = match task {
         Task::Scan => scan(&frame, numbers[1]),
         Task::Row => rows(&frame, numbers[1])?,
+        Task::Room => rows_in_room(&frame, numbers[1])?,
         _ => lists(task, numbers[1]),
     };
     println!(rt; "{told}")?;
@@ -197,6 +213,9 @@ done
 few=$(count /dev/null row 0 0)
 many=$(count "$counts" row 0 10000)
 echo "row: $(((many - few) / 10000)) instructions"
+few=$(count /dev/null room 0 0)
+many=$(count /dev/null room 0 10000)
+echo "row in a room: $(((many - few) / 10000)) instructions"
 for kind in new cleared clone extend; do
     few=$(count /dev/null $kind 0 0)
     many=$(count /dev/null $kind 0 10000)
