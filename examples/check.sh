@@ -1,6 +1,6 @@
 #!/usr/bin/env bash
 # Compares walks of a program in out/ with gdb's backtraces: once of the live process, and once of its
-# core. The snapshots are taken by the commands of "Your own program" in ../README.md.
+# core. The snapshots are taken by the commands of ../docs/SNAPSHOTS.md.
 #
 #   check.sh take NAME                  snapshots and backtraces, into out/check
 #   check.sh compare NAME UNWIND_CLI    their walks, against the backtraces

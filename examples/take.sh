@@ -1,12 +1,10 @@
 #!/usr/bin/env bash
 # Takes the snapshot of a program in out/, and writes what gdb says of the same process.
 #
-#   take.sh walk NAME SNAPSHOT FRAMES        where it waits: gdb's frames
+#   take.sh walk NAME SNAPSHOT FRAMES        where it stops, the program's module alone: gdb's frames
+#   take.sh whole NAME SNAPSHOT FRAMES       the same with all modules, up to the outermost frame's outside
 #   take.sh steps NAME COUNT                 before each of so many instructions, into out/NAME.steps
 #   take.sh delivery NAME SNAPSHOT REPORT    where it throws: gdb's frames, the landing pads, the handler
-#
-# Of the same process a second snapshot is taken by headers in place of frame tables: for NAME.json it is
-# NAME-by-header.json.
 #
 # The program runs without an environment and without a random layout, so that addresses and bytes
 # are the same each time, and nothing of the machine is in its stack.
@@ -21,15 +19,18 @@ begin() {
 }
 
 in_gdb() {
-    gdb -nx -q -p "$process" -batch -x ../../tools/frames.py -x ../landings.py -ix ../../tools/snapshot.py -x ../steps.py "$@"
+    gdb -nx -q -p "$process" -batch -x ../../tools/frames.py -x ../landings.py -ix ../../tools/snapshot.py -x ../steps.py -x ../stops.py "$@"
 }
 
 # Only its owner may read a snapshot that the command writes, and it has paths of this machine; these
 # hold nothing of anybody.
 for_all() {
     ../../tools/join.py --bare "$1.taken" > "../$2"
-    ../../tools/join.py --bare "$1-by-header.taken" > "../${2%.json}-by-header.json"
-    rm "$1.taken" "$1-by-header.taken"
+    rm "$1.taken"
+    if [ -e "$1-by-header.taken" ]; then
+        ../../tools/join.py --bare "$1-by-header.taken" > "../${2%.json}-by-header.json"
+        rm "$1-by-header.taken"
+    fi
 }
 
 # By its frame table, and by its header.
@@ -45,7 +46,27 @@ end() {
 }
 
 of_report() {
-    grep -E '^(frame|end|cleanup|landing|outcome)'
+    grep -E '^(frame [0-9]+ ra=|end|cleanup|landing|outcome)'
+}
+
+# Where a program stops: where it waits, or so many instructions after a place to which it goes on.
+stop_of() {
+    case $1 in
+        lazy_call-*-O0) echo "stop_after 1 *'getpagesize@plt'" ;;
+        lazy_call-*) echo "stop_after 2 *'getpagesize@plt'" ;;
+        vfork-*) echo 'stop_after 1 *vfork' ;;
+        *) echo 'frame 0' ;;
+    esac
+}
+
+# One gdb takes the snapshot and says what it finds: where it lets the process go it would go on.
+take_stop() {
+    local told
+    begin "$1"
+    told=$(in_gdb -ex "$(stop_of "$1")" -ex "snapshot $1.taken --limit 64 $4" -ex "frames $5")
+    for_all "$1" "$2"
+    of_report <<< "$told" > "../$3"
+    end
 }
 
 take_walk() {
@@ -56,6 +77,14 @@ take_walk() {
     end
 }
 
+take_stopped() {
+    take_stop "$@" "--module $1" --program
+}
+
+take_whole() {
+    take_stop "$@" '' --outside
+}
+
 take_steps() {
     rm -rf "$1.steps"
     mkdir "$1.steps"
@@ -64,7 +93,7 @@ take_steps() {
     end
 }
 
-# The return addresses behind cleanups are known only when they have run, and the stack that a
+# The return addresses after cleanups are known only when they have run, and the stack that a
 # delivery begins with only before: so the program runs twice.
 take_delivery() {
     local told marks

@@ -2,15 +2,18 @@
 
     gdb -p PID -batch -x tools/frames.py -ex "frames"
 
-    frames [--program]
+    frames [--program | --outside]
 
 Each line holds what `info registers` shows in that frame. With --program they end with the first
-frame that stands outside of the program's own file. Functions that were inlined and those that were
+frame that stands outside of the program's own file. With --outside they end with the state outside of
+the outermost frame, for which gdb has no frame: where the tables say that a return address isn't
+known, a walk goes on to the address 0 and ends there. Functions that were inlined and those that were
 left by a tail call have no frame in the machine, and are left out. It is there to compare with: it
 reads nothing that tools/snapshot.py or unwind_cli wrote.
 """
 from __future__ import annotations
 
+import re
 from typing import Iterator
 
 import gdb
@@ -49,13 +52,29 @@ def frame_line(level: int, frame: gdb.Frame) -> str:
     return f"frame {level} " + " ".join(fields)
 
 
+POINTER_LINE = re.compile(r"Previous frame's sp is (0x[0-9a-f]+)$")
+
+
+def outside_line(level: int, frame: gdb.Frame) -> str:
+    """The line of the state outside of the outermost frame: its stack pointer is gdb's, and its other
+    registers are those of the frame, as long as gdb says of none that it is saved."""
+    frame.select()
+    text = gdb.execute("info frame", to_string=True).rstrip()
+    found = POINTER_LINE.search(text)
+    if "Outermost frame: outermost" not in text or found is None:
+        raise gdb.GdbError("frames: the outermost frame isn't the one where the tables end")
+    fields = frame_line(level, frame).split()
+    fields[2:4] = ["ra=0x0", f"sp={found[1]}"]
+    return " ".join(fields)
+
+
 def is_in_program(frame: gdb.Frame) -> bool:
     """Whether the frame stands in the program's own file, and not in a shared library."""
     return gdb.current_progspace().solib_name(frame.pc()) is None
 
 
 class FramesCommand(gdb.Command):
-    """Print each frame's registers in the form of a walk's report: frames [--program]"""
+    """Print each frame's registers in the form of a walk's report: frames [--program | --outside]"""
 
     def __init__(self) -> None:
         super().__init__("frames", gdb.COMMAND_STACK)
@@ -63,14 +82,16 @@ class FramesCommand(gdb.Command):
     def invoke(self, argument: str, from_tty: bool) -> None:
         """Prints them."""
         words = gdb.string_to_argv(argument)
-        if words not in ([], ["--program"]):
-            raise gdb.GdbError("frames: usage: frames [--program]")
+        if words not in ([], ["--program"], ["--outside"]):
+            raise gdb.GdbError("frames: usage: frames [--program | --outside]")
         if gdb.selected_thread() is None:
             raise gdb.GdbError("frames: no thread is selected")
         for level, frame in enumerate(frames_outwards()):
             print(frame_line(level, frame))
-            if words and not is_in_program(frame):
+            if words == ["--program"] and not is_in_program(frame):
                 break
+        if words == ["--outside"]:
+            print(outside_line(level + 1, frame))
         print("end")
 
 

@@ -3,18 +3,19 @@
 
     tools/tables.py FILE..
     tools/tables.py --printed PRINTED FILE
-    tools/tables.py --keep FOLDER FILE[:BYTES]..
+    tools/tables.py --keep FOLDER FILE[:LINES]..
 
 Each FILE is an ELF file of x86-64 with an .eh_frame section. In the first form the program frame_dump
-of this repository prints each table: its entries, and of each description's rows what they say
-otherwise than the row before. Each entry has to be printed as `readelf --debug-dump=frames-interp` and
-`--debug-dump=frames` say, and in that order. One line is printed for a file, and the first
-differences, if there are any; the status is then 1. In the second form PRINTED holds what frame_dump
-printed of the table of FILE.
+of this repository prints each table: its entries, of each description's rows what they say otherwise
+than the row before, and how many lines these are and a sum of them. Each entry has to be printed as
+`readelf --debug-dump=frames-interp` and `--debug-dump=frames` say, and in that order. One line is
+printed for a file, and the first differences, if there are any; the status is then 1. In the second
+form PRINTED holds what frame_dump printed of the table of FILE.
 
-In the third form nothing is compared: the tables are written to FOLDER/data, or of a table the whole
-entries among its first BYTES, with the words that frame_dump is given to FOLDER/args and the lines that
-it has to print to FOLDER/stdout, which are readelf's alone.
+In the third form nothing is compared: the tables are written to FOLDER/data, with the words that
+frame_dump is given to FOLDER/args and what it has to print to FOLDER/stdout, made of what readelf says
+alone: the first LINES lines of each table, and the sum of all. (The pointers to personalities and
+language tables, of which readelf prints the bytes, are read by frame_table.py beside this file.)
 
 readelf prints a column without a rule as one that is undefined: so only where it says that of the
 return address, which has a rule from the beginning on, it is taken as a rule. Of rules by expression it
@@ -32,12 +33,15 @@ import tempfile
 from dataclasses import dataclass, field
 from typing import Iterator
 
-from elf_image import ElfImage, Range
+from elf_image import WORD, ElfImage, Range
 from frame_table import (
     INDIRECT, OMITTED, CommonEntry, Table, common_entries, encoded_pointer, encoded_size, uleb128,
 )
 
 PROGRAM = pathlib.Path(__file__).resolve().parent.parent / "crates" / "frame_dump"
+
+# More than any table has.
+ALL_LINES = 2**32
 
 # System V x86-64 psABI, figure 3.36
 NAMES = "rax rdx rcx rbx rsi rdi rbp rsp r8 r9 r10 r11 r12 r13 r14 r15 rip".split()
@@ -83,7 +87,8 @@ def readelf(file: str, option: str) -> list[str]:
         check=True, capture_output=True, text=True,
     ).stdout
     parts = re.split(r"^Contents of the (\S+) section.*:$", text, flags=re.MULTILINE)
-    return dict(zip(parts[1::2], parts[2::2]))[".eh_frame"].splitlines()
+    contents: dict[str, str] = dict(zip(parts[1::2], parts[2::2]))
+    return contents[".eh_frame"].splitlines()
 
 
 def entry_of(found: re.Match[str]) -> Entry:
@@ -238,9 +243,20 @@ def blocks(table: Table, entries: list[Entry]) -> Iterator[list[str]]:
             yield [first, *row_lines(entry, commons[entry.common])]
 
 
-def end_line(entries: list[Entry]) -> str:
-    """The line of the list's end: after the last entry."""
-    return f"{entries[-1].offset + entries[-1].size if entries else 0:#x} end"
+def sum_of(content: bytes) -> int:
+    """The sum of bytes, by FNV-1a of 64 bits."""
+    total = 0xCBF29CE484222325
+    for byte in content:
+        total = (total ^ byte) * 0x100000001B3 % WORD
+    return total
+
+
+def listing(table: Table, entries: list[Entry], most: int) -> list[str]:
+    """What frame_dump prints of a table: the first lines, and the end with the sum of all."""
+    lines = [line for block in blocks(table, entries) for line in block]
+    total = sum_of("".join(f"{line}\n" for line in lines).encode())
+    end = entries[-1].offset + entries[-1].size if entries else 0
+    return lines[:most] + [f"{end:#x} end lines={len(lines)} sum={total:#x}"]
 
 
 # ---- comparing
@@ -262,21 +278,9 @@ def printed(table: Table) -> list[str]:
         copy.write(table.content)
         copy.flush()
         return subprocess.run(
-            ["rt", "run", "--", f"{table.address:x}", copy.name],
+            ["rt", "run", "--", f"{table.address:x}", copy.name, str(ALL_LINES)],
             cwd=PROGRAM, check=True, capture_output=True, text=True,
         ).stdout.splitlines()
-
-
-def without_repeats(lines: list[str]) -> Iterator[str]:
-    """The lines of rows without words that the row before has too: frame_dump says that an expression
-    is another one, and readelf prints no expressions here."""
-    before: Row = {}
-    for line in lines:
-        address, *words = line.split()
-        said = [word for word in words if "=" not in word or before.get(word.split("=")[0]) != word.split("=")[1]]
-        before |= dict(word.split("=") for word in said if "=" in word)
-        if said:
-            yield " ".join([f"  {address}", *said])
 
 
 def printed_blocks(lines: list[str]) -> list[list[str]]:
@@ -287,7 +291,7 @@ def printed_blocks(lines: list[str]) -> list[list[str]]:
             found[-1].append(line)
         else:
             found.append([line])
-    return [[first, *without_repeats(rows)] for first, *rows in found]
+    return found
 
 
 def differences(ours: list[list[str]], theirs: list[list[str]]) -> Iterator[str]:
@@ -305,7 +309,7 @@ def is_same(file: str, lines: list[str] | None) -> bool:
     """Compares a file's table, and prints the line of the file and the first differences."""
     table, entries = table_of(file), entries_of(file)
     ours = printed_blocks(printed(table) if lines is None else lines)
-    theirs = [*blocks(table, entries), [end_line(entries)]]
+    theirs = printed_blocks(listing(table, entries, ALL_LINES))
     found = list(differences(ours, theirs))
     rows = sum(len(block) - 1 for block in ours)
     last = ours[-1][0] if ours else "nothing was printed"
@@ -315,24 +319,16 @@ def is_same(file: str, lines: list[str] | None) -> bool:
     return not found
 
 
-def front(table: Table, entries: list[Entry], size: int) -> tuple[Table, list[Entry]]:
-    """The whole entries among the first bytes of a table."""
-    kept = [entry for entry in entries if entry.offset + entry.size <= size]
-    end = kept[-1].offset + kept[-1].size if kept else 0
-    return Table(table.address, table.content[:end]), kept
-
-
 def keep(folder: pathlib.Path, names: list[str]) -> None:
-    """Writes tables, or their fronts, and what frame_dump has to print of them."""
+    """Writes tables, and what frame_dump has to print of them."""
     words, lines = [], []
     for name in names:
-        file, _colon, size = name.partition(":")
-        table, entries = front(table_of(file), entries_of(file), int(size or 2**64))
-        data = pathlib.Path(file).name + ".eh_frame"
+        file, _colon, most = name.partition(":")
+        table, data = table_of(file), pathlib.Path(file).name + ".eh_frame"
         (folder / "data").mkdir(exist_ok=True)
         (folder / "data" / data).write_bytes(table.content)
-        words += [f"{table.address:x}", data]
-        lines += [line for block in blocks(table, entries) for line in block] + [end_line(entries)]
+        words += [f"{table.address:x}", data, most or str(ALL_LINES)]
+        lines += listing(table, entries_of(file), int(most or ALL_LINES))
     (folder / "args").write_text("".join(f"{word}\n" for word in words))
     (folder / "stdout").write_text("".join(f"{line}\n" for line in lines))
 

@@ -2,7 +2,7 @@
 import unittest
 
 from frame_table import Table
-from tables import blocks, differences, end_line, front, printed_blocks, read_facts, read_rows
+from tables import blocks, differences, listing, printed_blocks, read_facts, read_rows, sum_of
 
 # A frame table of gcc, as far as it is read here: the CIE of examples/cleanups.cpp, built by g++ -O2.
 CONTENT = bytes.fromhex("1c00000000000000017a504c5200017810079bc91e00001b1b0c070890010000")
@@ -77,29 +77,34 @@ class Lines(unittest.TestCase):
             ["0x48 fde cie=0x0 start=0x1020 len=0x1", "  0x1020 cfa=r7+8 r16=c-8"],
         ]
         self.assertEqual(list(blocks(table(), self.entries)), expected)
-        self.assertEqual(end_line(self.entries), "0x60 end")
 
-    def test_the_front_of_a_table(self) -> None:
-        for size, kept, end in [(0x48, 2, 0x48), (0x5F, 2, 0x48), (0x60, 3, 0x60), (0, 0, 0)]:
-            with self.subTest(size):
-                content, entries = front(table(), self.entries, size)
-                self.assertEqual((len(entries), len(content.content)), (kept, end))
+    def test_the_first_lines(self) -> None:
+        first = '0x0 cie version=1 code=1 data=-8 return=r16 "zPLR" personality=[0x7edc]'
+        lines = [line for block in blocks(table(), self.entries) for line in block]
+        end = f"0x60 end lines=8 sum={sum_of(chr(10).join([*lines, '']).encode()):#x}"
+        for most, expected in [(0, [end]), (1, [first, end]), (100, [*lines, end])]:
+            with self.subTest(most):
+                self.assertEqual(listing(table(), self.entries, most), expected)
+
+    def test_sums(self) -> None:
+        # Test vectors of FNV-1a with 64 bits (Fowler, Noll, Vo).
+        for content, total in [(b"", 0xCBF29CE484222325), (b"a", 0xAF63DC4C8601EC8C), (b"foobar", 0x85944171F73967E8)]:
+            self.assertEqual(sum_of(content), total)
 
     def test_differences(self) -> None:
         theirs = [["0x0 cie"], ["0x20 fde", "  0x1000 cfa=r7+8", "  0x1001 cfa=r7+16"], ["0x60 end"]]
         lines = [line for block in theirs for line in block]
         self.assertEqual(printed_blocks(lines), theirs)
-        cases = {
+        cases: dict[str, tuple[list[str], list[str]]] = {
             "the same": (lines, []),
             "another row": (
                 [line.replace("+16", "+24") for line in lines],
                 ["0x20 fde:   0x1001 cfa=r7+24, and readelf has   0x1001 cfa=r7+16"],
             ),
-            "a row is missing": (lines[:2] + lines[3:], ["0x20 fde:   0x1001 cfa=r7+16, and readelf has   0x1000 cfa=r7+8"]),
-            "the last row is missing": (lines[:3] + lines[4:], ["0x20 fde: 1 rows, and readelf has 2 rows"]),
-            "another expression": (
-                [lines[0], lines[1], lines[2], "  0x1001 cfa=r7+16", "  0x1002 cfa=r7+16", lines[4]], [],
+            "a row is missing": (
+                lines[:2] + lines[3:], ["0x20 fde:   0x1001 cfa=r7+16, and readelf has   0x1000 cfa=r7+8"],
             ),
+            "the last row is missing": (lines[:3] + lines[4:], ["0x20 fde: 1 rows, and readelf has 2 rows"]),
             "nothing": ([], ["0 entries, and readelf has 3"]),
         }
         for name, (ours, expected) in cases.items():

@@ -57,9 +57,10 @@ pub fn put_fault(line: &mut String, error: Error) -> Result<(), AllocError> {
 }
 
 /// Puts what a row says otherwise than the one before it: the rule of the CFA, those of registers, a
-/// dash for each register that no longer has one, and the size of the arguments.
+/// dash for each register that no longer has one, and the size of the arguments. One expression
+/// isn't told from another.
 pub fn put_changes(line: &mut String, before: &RowRef, row: &RowRef) -> Result<(), AllocError> {
-    if row.cfa() != before.cfa() {
+    if !is_cfa_like(row.cfa(), before.cfa()) {
         put_cfa(line, row.cfa())?;
     }
     for (register, rule) in row.registers() {
@@ -90,10 +91,25 @@ fn put_gone(line: &mut String, before: &RowRef, row: &RowRef) -> Result<(), Allo
 fn has_rule(row: &RowRef, register: Register, rule: RegisterRule) -> bool {
     for (other, said) in row.registers() {
         if other == register {
-            return said == rule;
+            return is_rule_like(said, rule);
         }
     }
     false
+}
+
+fn is_rule_like(rule: RegisterRule, other: RegisterRule) -> bool {
+    match (rule, other) {
+        (RegisterRule::Expression(_), RegisterRule::Expression(_)) => true,
+        (RegisterRule::ValExpression(_), RegisterRule::ValExpression(_)) => true,
+        _ => rule == other,
+    }
+}
+
+fn is_cfa_like(rule: CfaRule, other: CfaRule) -> bool {
+    match (rule, other) {
+        (CfaRule::Expression(_), CfaRule::Expression(_)) => true,
+        _ => rule == other,
+    }
 }
 
 fn has_register(row: &RowRef, register: Register) -> bool {

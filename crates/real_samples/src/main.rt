@@ -21,6 +21,17 @@ const WALKS: [&str; 8] = [
     "frame_pointer-clang-O2",
 ];
 
+/// Snapshots to be walked by frame tables alone. The last four stopped at a lazily bound call, in signal
+/// handlers and in `vfork`; the last three have all modules of their processes.
+const MORE_WALKS: [&str; 6] = [
+    "realigned-gcc-O0.json",
+    "realigned-gcc-O2.json",
+    "lazy_call-gcc-O0.json",
+    "lazy_call-gcc-O2.json",
+    "signals-gcc-O2.json",
+    "vfork-gcc-O2.json",
+];
+
 /// Programs that throw, to be delivered to.
 const DELIVERIES: [&str; 4] = [
     "cleanups-gcc-O0",
@@ -86,12 +97,17 @@ fn print_report(rt: &HostRuntime, name: &str, report: &Report) -> Result<()> {
     Ok(())
 }
 
+/// The walk of a snapshot.
+fn print_walk(rt: &HostRuntime, name: &str) -> Result<()> {
+    let report = walk_report(rt.alloc(), &snapshot_in(rt, name)?)?;
+    print_report(rt, name, &report)
+}
+
 /// The walks of a program's snapshots.
 fn print_walks(rt: &HostRuntime, program: &str) -> Result<()> {
     for form in FORMS {
         let name = format!(in rt.alloc(); "{program}{form}")?;
-        let report = walk_report(rt.alloc(), &snapshot_in(rt, &name)?)?;
-        print_report(rt, &name, &report)?;
+        print_walk(rt, &name)?;
     }
     Ok(())
 }
@@ -109,6 +125,9 @@ fn print_deliveries(rt: &HostRuntime, program: &str) -> Result<()> {
 fn main(rt: HostRuntime) -> Result<()> {
     for program in WALKS {
         print_walks(&rt, program)?;
+    }
+    for name in MORE_WALKS {
+        print_walk(&rt, name)?;
     }
     println!(rt; "{OF_DELIVERIES}")?;
     for program in DELIVERIES {

@@ -1,10 +1,13 @@
--- What holds of each snapshot: its modules are apart, and its start has sixteen registers.
-use Rattle.std.proofs.Common.{◌≡◌, ℕ, suc, ◌<◌, Bool, true, false, List, [], ◌∷◌, length, Option, Some, None, Result, Ok, Err, refl, sym, ap, subst, ◌∙◌, arith, leb}
+-- What holds of each snapshot: its memory is laid out, its modules are apart, and its start has sixteen registers.
+use Rattle.std.proofs.Common.{◌≡◌, ℕ, suc, ◌+◌, ◌^◌, ◌<◌, ◌≤◌, Bool, true, false, List, [], ◌∷◌, length, Option, Some, None, Result, Ok, Err, refl, sym, ap, subst, ◌∙◌, arith, eqb, leb, ltb}
 use Rattle.std.specs.Prelude.{is_none, codes, if◌then◌else◌}
 use Rattle.std.specs.Option.{option_map, option_and_then}
 use Rattle.std.proofs.lemmas.Bool.Decides.{nat_tests}
 use Rattle.serde_json.specs.Data.{Data}
 use Rattle.serde_json.specs.Find.{get, as_array}
+use Rattle.memory_image.specs.Image.{Span, end_of, IsLaidOut, lowest_overlap, refusal, with_span}
+use Rattle.memory_image.specs.declared.errors.ImageError.TheVariants as image_errors
+use Rattle.memory_image.proofs.SpanAdds.{laid-with_span}
 use Rattle.unwind_laws.proofs.Booleans as lists
 use Rattle.unwind_arch.specs.declared.x86_64.Context.{Context}
 use Rattle.stack_deliver.specs.declared.space.Module.{Module}
@@ -14,9 +17,9 @@ use Rattle.stack_deliver.proofs.Apart.{with_apart}
 use Rattle.stack_deliver.proofs.ContextLemmas.{IsWhole}
 use Rattle.stack_snapshot.specs.declared.errors.Field.{Field}
 use Rattle.stack_snapshot.specs.declared.errors.Field.TheVariants as fields
-use Rattle.stack_snapshot.specs.Content.{Content, takes_modules, modules_after, space_of}
+use Rattle.stack_snapshot.specs.Content.{Content, takes_regions, takes_modules, image_of, modules_after, space_of}
 use Rattle.stack_snapshot.specs.Fields.{word_at, word_or_zero_at}
-use Rattle.stack_snapshot.specs.Snapshot.{◌>>=◌, needs, if_spaced, module_list, whole_numbers, regions_of, modules_of, registers_in, register_names, context_with, start_in, start_of, resumes_of, limit_of, interrupted_of, snapshot_of}
+use Rattle.stack_snapshot.specs.Snapshot.{◌>>=◌, needs, if_taken, region_list, if_spaced, module_list, whole_numbers, regions_of, modules_of, registers_in, register_names, context_with, start_in, start_of, resumes_of, limit_of, interrupted_of, snapshot_of}
 use Rattle.stack_snapshot.specs.Answers.{value_of, content_with, content_by, content_of}
 
 -- ---- a snapshot's modules are apart
@@ -36,6 +39,41 @@ apart_after taken (m ∷ ms) apart takes =
     let both = lists.both_true (is_none (module_refusal taken m)) (takes_modules (with_module m taken) ms) takes in
     let free = free_module taken m both.0 in
     apart_after (with_module m taken) ms (with_apart taken 0 m apart (omega arith) free.0 free.1) both.1
+
+-- ---- its memory is laid out
+
+-- what refuses no region
+pub record IsFree (image : List Span) (s : Span) : Type 0 where
+  pub some : 0 < length s.bytes
+  pub fits : end_of s ≤ 2 ^ 64
+  pub apart : lowest_overlap image s.start (length s.bytes) ≡ None
+
+free_region : (image : List Span) (s : Span) → is_none (refusal image s.start s.bytes) ≡ true → IsFree image s
+free_region image s free = go (eqb (length s.bytes) 0) refl (ltb (2 ^ 64) (s.start + length s.bytes)) refl (lowest_overlap image s.start (length s.bytes)) refl free
+  where
+    go : (a : Bool) → eqb (length s.bytes) 0 ≡ a → (b : Bool) → ltb (2 ^ 64) (s.start + length s.bytes) ≡ b → (o : Option ℕ) → lowest_overlap image s.start (length s.bytes) ≡ o →
+        is_none (if a then Some image_errors.Empty else (if b then Some image_errors.Wraps else option_map image_errors.Overlap o)) ≡ true → IsFree image s
+    go true none b past o is e = absurd cc
+    go false some true past o is e = absurd cc
+    go false some false fits (Some n) is e = absurd cc
+    go false some false fits None is e = record { some = grind (arith, nat_tests); fits = grind (arith, nat_tests); apart = is }
+
+laid_after : (image ss : List Span) → IsLaidOut 0 image → takes_regions image ss ≡ true → IsLaidOut 0 (image_of image ss)
+laid_after image [] laid takes = laid
+laid_after image (s ∷ ss) laid takes =
+    let both = lists.both_true (is_none (refusal image s.start s.bytes)) (takes_regions (with_span s image) ss) takes in
+    let free = free_region image s both.0 in
+    laid_after (with_span s image) ss (laid-with_span s image 0 laid (omega arith) free.some free.fits free.apart) both.1
+
+taken : (o : Option (List Span)) (rs : List Span) → option_and_then if_taken o ≡ Some rs → takes_regions [] rs ≡ true
+taken None rs e = absurd cc
+taken (Some ns) rs e = go (takes_regions [] ns) refl e
+  where
+    go : (b : Bool) → takes_regions [] ns ≡ b → (if b then Some ns else None) ≡ Some rs → takes_regions [] rs ≡ true
+    go true is e = let same : ns ≡ rs = cc in subst (λ (l : List Span). takes_regions [] l ≡ true) same is
+    go false is e = absurd cc
+
+-- ---- what is read
 
 -- a reading that gave a value began with one
 bound : {A B : Type 0} (r : Result A Field) (f : A → Result B Field) (y : B) → (r >>= f) ≡ Ok y → (x : A) × (r ≡ Ok x) × (f x ≡ Ok y)
@@ -75,6 +113,34 @@ modules_taken d s is =
     let interrupted = bound (needs fields.Interrupted (interrupted_of d)) _ s limit.2 in
     let same : modules.0 ≡ s.modules = ap (λ (c : Content). c.modules) (ok_same _ s interrupted.2) in
     subst (λ (ms : List Module). takes_modules [] ms ≡ true) same (spaced (option_and_then module_list (option_and_then as_array (get (codes "modules") d))) modules.0 (needed fields.Modules (modules_of d) modules.0 modules.1))
+
+-- its regions are
+regions_taken : (d : Data) (s : Content) → snapshot_of d ≡ Ok s → takes_regions [] s.regions ≡ true
+unfolding snapshot_of regions_of
+regions_taken d s is =
+    let whole = bound (needs fields.Object (whole_numbers d)) _ s is in
+    let regions = bound (needs fields.Regions (regions_of d)) _ s whole.2 in
+    let modules = bound (needs fields.Modules (modules_of d)) _ s regions.2 in
+    let start = bound (needs fields.Start (start_of d)) _ s modules.2 in
+    let exception = bound (needs fields.Exception (word_or_zero_at (codes "exception") d)) _ s start.2 in
+    let class = bound (needs fields.Class (word_or_zero_at (codes "class") d)) _ s exception.2 in
+    let resumes = bound (needs fields.Resumes (resumes_of d)) _ s class.2 in
+    let limit = bound (needs fields.Limit (limit_of d)) _ s resumes.2 in
+    let interrupted = bound (needs fields.Interrupted (interrupted_of d)) _ s limit.2 in
+    let same : regions.0 ≡ s.regions = ap (λ (c : Content). c.regions) (ok_same _ s interrupted.2) in
+    subst (λ (rs : List Span). takes_regions [] rs ≡ true) same (taken (option_and_then region_list (option_and_then as_array (get (codes "regions") d))) regions.0 (needed fields.Regions (regions_of d) regions.0 regions.1))
+
+-- the memory of what bytes say is laid out
+pub content_laid_out : (bytes : List ℕ) (s : Content) → content_of bytes ≡ Ok s → IsLaidOut 0 (space_of s).image
+content_laid_out bytes s is = go (value_of bytes) is
+  where
+    go : (o : Option Data) → content_by o ≡ Ok s → IsLaidOut 0 (space_of s).image
+    go None e = absurd cc
+    go (Some d) e = said (snapshot_of d) refl e
+      where
+        said : (r : Result Content Field) → snapshot_of d ≡ r → content_with r ≡ Ok s → IsLaidOut 0 (space_of s).image
+        said (Ok t) reads e = let same : t ≡ s = cc in laid_after [] s.regions tt (regions_taken d s (reads ∙ ap Ok same))
+        said (Err f) reads e = absurd cc
 
 -- the modules of what bytes say are apart
 pub content_apart : (bytes : List ℕ) (s : Content) → content_of bytes ≡ Ok s → AreApart 0 (space_of s).modules

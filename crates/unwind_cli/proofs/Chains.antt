@@ -1,6 +1,7 @@
 -- What is delivered and walked of a snapshot whose tables describe a chain.
 use Rattle.std.proofs.Common.{◌≡◌, List, Ok}
 use Rattle.std.specs.Prelude.{map}
+use Rattle.memory_image.specs.Image.{IsLaidOut}
 use Rattle.unwind_definitions.specs.State.{State}
 use Rattle.unwind_definitions.specs.Function.{Function}
 use Rattle.unwind_definitions.specs.Chain.{Call, states_of}
@@ -16,14 +17,14 @@ use Rattle.unwind_cli.specs.Described.{DescribesChain, DescribesWalk}
 use Rattle.unwind_cli.specs.Due.{delivery_from, walk_from}
 
 -- What is delivered of a snapshot whose tables describe a chain is what the definition says of the chain.
-pub chain_delivered : (s : Content) (functions : List Function) (start : State) (calls : List Call) → AreApart 0 (space_of s).modules → IsWhole s.start → DescribesChain s functions start calls → DeliversChain s.exception start calls (delivery_from s)
+pub chain_delivered : (s : Content) (functions : List Function) (start : State) (calls : List Call) → AreApart 0 (space_of s).modules → IsLaidOut 0 (space_of s).image → IsWhole s.start → DescribesChain s functions start calls → DeliversChain s.exception start calls (delivery_from s)
 unfolding delivery_from
-chain_delivered s functions start calls apart whole is = delivered.chain_delivered (space_of s) s.start s.exception s.resumes s.limit functions start calls apart whole is
+chain_delivered s functions start calls apart laid whole is = delivered.chain_delivered (space_of s) s.start s.exception s.resumes s.limit functions start calls apart laid whole is
 
 -- The walk over it visits the chain's states.
-pub chain_walked : (s : Content) (functions : List Function) (start : State) (calls : List Call) → AreApart 0 (space_of s).modules → DescribesWalk s functions start calls →
+pub chain_walked : (s : Content) (functions : List Function) (start : State) (calls : List Call) → AreApart 0 (space_of s).modules → IsLaidOut 0 (space_of s).image → DescribesWalk s functions start calls →
     (cs : List Context) × (walk_from s ≡ Ok cs) × (map state_of cs ≡ states_of start calls)
 unfolding walk_from
-chain_walked s functions start calls apart is =
-    let w = chains.chain_walked (space_of s) s.start s.limit functions start calls apart is.1 in
+chain_walked s functions start calls apart laid is =
+    let w = chains.chain_walked (space_of s) s.start s.limit functions start calls apart laid is.1 in
     (w.0, rw is.0 w.1, chains.shown_states w.0 (states_of start calls) w.2.states)

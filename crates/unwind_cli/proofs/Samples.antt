@@ -15,16 +15,15 @@ use Rattle.unwind_laws.proofs.RowFacts.{by_register}
 use Rattle.unwind_laws.proofs.Walk.{valid_described}
 use Rattle.unwind_arch.specs.Contexts.{columns_of}
 use Rattle.stack_deliver.specs.Processes.{process_of}
-use Rattle.stack_deliver.specs.Walking.{HaveFrameTables, IsDescribedCall}
+use Rattle.stack_deliver.specs.Walking.{IsDescribedCall}
 use Rattle.stack_snapshot.specs.Content.{Content, space_of}
 use Rattle.unwind_cli.specs.Caught as caught
 use Rattle.unwind_cli.specs.FramePointer as frame_pointer
 use Rattle.unwind_cli.specs.Described.{DescribesChain}
 
-pub described : (s : Content) (functions : List Function) (start : State) (calls : List Call) (columns : Columns) → HaveFrameTables (process_of (space_of s)) → IsValid (process_of (space_of s)) columns s.resumes functions start calls
+pub described : (s : Content) (functions : List Function) (start : State) (calls : List Call) (columns : Columns) → IsValid (process_of (space_of s)) columns s.resumes functions start calls
     → Shows (columns_of s.start) start → length calls < s.limit → DescribesChain s functions start calls
-described s functions start calls columns tables w shows shorter = record {
-  tables = tables;
+described s functions start calls columns w shows shorter = record {
   valid = record { are_functions = w.are_functions; modules = w.modules; no_others = w.no_others; shows = shows; chain = w.chain; resumed = w.resumed };
   shorter = shorter;
 }

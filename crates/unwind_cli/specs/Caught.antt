@@ -4,7 +4,7 @@ use Rattle.std.specs.Prelude.{ℕ, List, [], ◌∷◌, ◌++◌, codes, None, f
 use Rattle.memory_image.specs.Image.{Span}
 use Rattle.unwind_laws.specs.Three as three
 use Rattle.unwind_arch.specs.declared.x86_64.Context.{Context}
-use Rattle.unwinding_core.specs.declared.find_fde.custom.FrameInfoKind.TheVariants.{EhFrame}
+use Rattle.unwinding_core.specs.declared.find_fde.custom.FrameInfoKind.TheVariants.{EhFrame, EhFrameHdr}
 use Rattle.stack_deliver.specs.declared.space.Module.{Module}
 use Rattle.stack_snapshot.specs.Content.{Content}
 use Rattle.stack_report.specs.Report.{line}
@@ -41,6 +41,13 @@ text = line (codes "frame 0 ra=0x401010 sp=0x70b0 rbx=0x7 rbp=0x70c0 r12=0x0 r13
     ++ line (codes "cleanup pad=0x401040 sp=0x70d0")
     ++ line (codes "landing ra=0x401070 sp=0x70e0 rbx=0x22 rbp=0xc r12=0x0 r13=0x0 r14=0x2e r15=0x0 rax=0x900000 rdx=0x0")
     ++ line (codes "outcome installed")
+
+-- the same where the module names the header of its frame table
+abbrev pub by_header : Content
+by_header = record snapshot {
+  regions = record { start = 0x504000; bytes = three.header } ∷ regions_with (record { start = 0x70b0; bytes = three.stack 0x60 });
+  modules = record { start = 0x401000; end = 0x401080; frame = record { text_base = None; kind = EhFrameHdr 0x504000 } } ∷ [];
+}
 
 -- the same where the functions lie in two modules
 abbrev pub in_two_modules : Content

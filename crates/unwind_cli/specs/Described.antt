@@ -6,7 +6,7 @@ use Rattle.unwind_definitions.specs.Chain.{Call}
 use Rattle.stack_deliver.specs.Walking.{StartsChain, StartsValidChain}
 use Rattle.stack_snapshot.specs.Content.{Content, space_of}
 
--- The snapshot's modules name frame tables of the forms that are read, which describe functions, and its start shows the
+-- The tables that the snapshot's modules name, frame tables or headers of them, describe functions, and its start shows the
 -- innermost state of a chain of calls over these that is shorter than its limit. Where a handler takes the exception, its
 -- resume table says where each frame inside the handler's goes on behind its cleanup.
 abbrev pub DescribesChain : Content → List Function → State → List Call → Type 0

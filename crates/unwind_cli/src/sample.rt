@@ -8,7 +8,7 @@ ghost use Rattle.unwind_laws.specs.Storing as storing;
 ghost use Rattle.unwind_laws.specs.Three as three;
 ghost use Rattle.unwind_arch.specs.Contexts.{columns_of};
 ghost use Rattle.stack_deliver.specs.Processes.{process_of};
-ghost use Rattle.stack_deliver.specs.Walking.{HaveFrameTables, IsDescribedCall};
+ghost use Rattle.stack_deliver.specs.Walking.{IsDescribedCall};
 ghost use Rattle.stack_snapshot.specs.Content.{space_of};
 ghost use Rattle.unwind_cli.specs.declared.words.Command.TheVariants as command;
 ghost use Rattle.unwind_cli.specs.Due.{Asks};
@@ -54,6 +54,13 @@ pub fn caught_exception_is_described()
     ensures written { delivery_text (delivery_of three.exception three.start three.calls) ≡ caught.text }
 {}
 
+/// The same where the module names the header of its frame table, which lists the three descriptions.
+pub fn functions_by_a_header_are_described()
+    ensures described { DescribesChain caught.by_header three.functions three.start three.calls }
+    ensures walked { DescribesWalk caught.by_header three.functions three.start three.calls }
+    ensures written { delivery_text (delivery_of three.exception three.start three.calls) ≡ caught.text }
+{}
+
 /// The same where the functions lie in two modules.
 pub fn functions_in_two_modules_are_described()
     ensures described { DescribesChain caught.in_two_modules three.functions three.start three.calls }
@@ -82,14 +89,18 @@ pub fn call_from_outside_is_described()
 /// What a step asks of a call that it undoes is met by that function, which pushes, sets a frame
 /// pointer and allocates.
 pub fn pushed_call_is_described()
-    ensures tables { HaveFrameTables (process_of (space_of caught.first)) }
     ensures call { IsDescribedCall (process_of (space_of caught.first)) (three.fa ∷ []) three.start three.first_call }
     ensures shows { Shows (columns_of caught.first.start) three.start }
 {}
 
 /// And by one that allocates and stores a register.
 pub fn stored_call_is_described()
-    ensures tables { HaveFrameTables (process_of (space_of frame_pointer.snapshot)) }
     ensures call { IsDescribedCall (process_of (space_of frame_pointer.snapshot)) storing.functions storing.start (record { callee = storing.storing; caller = storing.caller }) }
     ensures shows { Shows (columns_of frame_pointer.snapshot.start) storing.start }
+{}
+
+/// And by a function whose module names the header of its frame table.
+pub fn listed_call_is_described()
+    ensures call { IsDescribedCall (process_of (space_of caught.by_header)) three.functions three.start three.first_call }
+    ensures shows { Shows (columns_of caught.by_header.start) three.start }
 {}

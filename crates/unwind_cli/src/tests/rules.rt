@@ -19,6 +19,14 @@ const RULE_TABLE: &str =
 const ADDRESS_TABLE: &str =
     "{\"regions\":[{\"address\":\"0x500000\",\"bytes\":\"1400000000000000017a5200017810011b0c070890010000140000001c000000e00ff0ff10000000000f03771006000000000000\"},{\"address\":\"0x7000\",\"bytes\":\"";
 
+/// The frame's address is 8 above a word that nothing has put on the stack.
+const EMPTY_TABLE: &str =
+    "{\"regions\":[{\"address\":\"0x500000\",\"bytes\":\"1400000000000000017a5200017810011b0c070890010000140000001c000000e00ff0ff10000000000f02230800000000000000\"},{\"address\":\"0x7000\",\"bytes\":\"";
+
+/// RBX is the value of an expression that goes back to its start.
+const ENDLESS_TABLE: &str =
+    "{\"regions\":[{\"address\":\"0x500000\",\"bytes\":\"1400000000000000017a5200017810011b0c070890010000140000001c000000e00ff0ff10000000001603032ffdff0000000000\"},{\"address\":\"0x7000\",\"bytes\":\"";
+
 /// The return address at the function's start, and 0.
 const AT_START_STACK: &str = "00104000000000000000000000000000";
 
@@ -31,7 +39,7 @@ const FIRST: &str = "frame 0 ra=0x401006 sp=0x7000 rbx=0x0 rbp=0x0 r12=0x0 r13=0
 const INTERRUPTED: &str =
     "frame 1 ra=0x401000 sp=0x7008 rbx=0x0 rbp=0x0 r12=0x0 r13=0x0 r14=0x0 r15=0x0";
 
-static CASES: [Case; 5] = [
+static CASES: [Case; 7] = [
     // Behind a signal's frame the first instruction of a function is its own.
     Case {
         words: &["walk"],
@@ -98,6 +106,19 @@ static CASES: [Case; 5] = [
         ],
         number: 8,
         lines: &["refused: unmapped 0x6f"],
+    },
+    // The expression of a frame's address begins with an empty stack.
+    Case {
+        words: &["walk"],
+        input: &[EMPTY_TABLE, STACK, MODULE, PLAIN_START, "\"limit\":2}"],
+        number: 8,
+        lines: &["refused: table PopWithEmptyStack"],
+    },
+    Case {
+        words: &["walk"],
+        input: &[ENDLESS_TABLE, STACK, MODULE, PLAIN_START, "\"limit\":2}"],
+        number: 8,
+        lines: &["refused: table TooManyOperations"],
     },
 ];
 

@@ -22,7 +22,6 @@ shown = record { ra = refl; sp = refl; saved = saved }
 
 pub returns-clause-described : goal.returns-clause-described
 returns-clause-described c = let w = one_valid in record {
-  tables = (refl, tt);
   valid = record { are_functions = w.are_functions; modules = w.modules; no_others = w.no_others; shows = shown; chain = w.chain; resumed = w.resumed };
   shorter = omega arith;
 }

@@ -4,8 +4,13 @@ use Rattle.encoded_pointers.specs.View.{at}
 use Rattle.unwind_definitions.specs.LanguageSearch.{head}
 use Rattle.unwinding_core.specs.Languages.{head_of}
 use Rattle.unwinding_core.proofs.Faults.{table_given}
-use Rattle.unwinding_core.proofs.Heads.{types_passed}
+use Rattle.unwinding_core.proofs.Heads.{types_passed, types_refused}
 use Rattle.unwinding_core.proofs.language_table.LanguageTable.read.Goals as goal
+
+pub returns-in_err-skip_types : goal.returns-in_err-skip_types
+returns-in_err-skip_types c =
+    table_given head_of _ c.in_err-skip_types.field-0.0 (head c.args.image.now (bases_of c.args.bases.now) c.args.start (at c.args.input)) c.from_residual-in_err-skip_types.ensures.1
+    (rw (c.in_ok-pad_base.ensures, types_refused (at c.read_pad_base.new.input) c.in_err-skip_types.field-0.0 c.in_err-skip_types.ensures) refl)
 
 pub returns-in_err-site_encoding : goal.returns-in_err-site_encoding
 returns-in_err-site_encoding c =
