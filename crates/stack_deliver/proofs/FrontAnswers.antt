@@ -14,15 +14,22 @@ use Rattle.unwinding_core.specs.declared.find_fde.custom.FrameInfoKind.TheVarian
 use Rattle.unwinding_core.specs.Finding.{table_bases, relative_to}
 use Rattle.stack_deliver.specs.declared.delivery.Stepped.{Stepped}
 use Rattle.stack_deliver.specs.declared.delivery.DeliverError.{DeliverError}
-use Rattle.stack_deliver.specs.declared.delivery.DeliverError.TheVariants.{FrameLimit}
+use Rattle.stack_deliver.specs.declared.delivery.DeliverError.TheVariants.{NoMemory, Unmapped, FrameLimit, PassLimit, NoResume, Table}
 use Rattle.stack_deliver.specs.declared.front.Front.{Front}
 use Rattle.stack_deliver.specs.declared.front.Front.TheVariants.{Outermost, NoModule, NoDescription, UnreadableTable, Refused, Limit}
 use Rattle.stack_deliver.specs.declared.space.Module.{Module}
 use Rattle.stack_deliver.specs.Modules.{SpaceValue, module_at}
 use Rattle.stack_deliver.specs.Stepping.{step_of, FindsNone, IsUncovered as HasNone, EndsAt}
 use Rattle.stack_deliver.specs.Delivering.{with_first, line_after, line_of, NeedsMore}
-use Rattle.stack_deliver.specs.Fronts.{reached_after, reached_by, caller_in, caller_from, started, front_of, IsUnreadableAt, IsUndescribedIn, IsUnlisted, IsUndescribed, IsUnheld, IsUnknown, EndsFor, Meets, ComesTo}
-use Rattle.stack_deliver.proofs.StepAnswers.{ends_step}
+use Rattle.stack_deliver.specs.Fronts.{reached_after, reached_by, caller_in, caller_from, turned_from, IsReached, started, front_of, IsUnreadableAt, IsUndescribedIn, IsUnlisted, IsUndescribed, IsUnheld, IsUnknown, EndsFor, stopped_by, Meets, ComesTo}
+use Rattle.stack_deliver.specs.declared.passes.Stop.{Stop as CodeStop}
+use Rattle.stack_deliver.specs.Walking.{RoomValue, IsWalked}
+use Rattle.stack_deliver.specs.Passes.{line_for}
+use Rattle.stack_deliver.specs.Passing.{IsOutward}
+use Rattle.stack_deliver.proofs.LineAnswers.{line_limit}
+use Rattle.stack_deliver.proofs.PassLines.{walk_line, walked_by}
+use Rattle.stack_deliver.proofs.Reaching.{same_reached, turned_called}
+use Rattle.stack_deliver.proofs.StepAnswers.{step_ends, ends_step}
 use Rattle.stack_deliver.proofs.Unread.{one_unread, none_unread}
 
 -- ---- the last context
@@ -53,13 +60,14 @@ module _ (space : SpaceValue) where
   pub last_meets : (P : Context → Bool → Type 0) (room : ℕ) (s : Stepped) → line_from room s ≢ Err FrameLimit →
       P (reached_by (caller_from space) room s).state.context (reached_by (caller_from space) room s).state.signal → Meets space P room s.context s.signal
   last_meets P zero s more is = absurd (more refl)
-  last_meets P (suc room) s more is = go (step_of space s.context s.signal) refl more is
+  last_meets P (suc room) s more is = go (λ t. last_meets P room t) (step_of space s.context s.signal) refl more is
     where
-      go : (r : Result (Option Stepped) DeliverError) → step_of space s.context s.signal ≡ r → line_after s.context r (line_of space room) ≢ Err FrameLimit →
+      go : ((t : Stepped) → line_from room t ≢ Err FrameLimit → P (reached_by (caller_from space) room t).state.context (reached_by (caller_from space) room t).state.signal → Meets space P room t.context t.signal) →
+          (r : Result (Option Stepped) DeliverError) → step_of space s.context s.signal ≡ r → line_after s.context r (line_of space room) ≢ Err FrameLimit →
           P (after room s (caller_in r)).context (after room s (caller_in r)).signal → Meets space P (suc room) s.context s.signal
-      go (Ok None) steps more is = inl is
-      go (Ok (Some t)) steps more is = inr (t, steps, last_meets P room t (λ h. more (first_limit s.context (line_from room t) h)) is)
-      go (Err e) steps more is = inl is
+      go later (Ok None) steps more is = inl is
+      go later (Ok (Some t)) steps more is = inr (t, steps, later t (λ h. more (first_limit s.context (line_from room t) h)) is)
+      go later (Err e) steps more is = inl is
 
   -- what is met, and has no caller, is so there
   pub meets_last : (P : Context → Bool → Type 0) → ((t : Stepped) → P t.context t.signal → caller_from space t ≡ None) → (room : ℕ) (s : Stepped) → Meets space P room s.context s.signal →
@@ -72,53 +80,60 @@ module _ (space : SpaceValue) where
   pub line_ended : (room : ℕ) (s : Stepped) (cs : List Context) → line_from room s ≡ Ok cs →
       step_of space (reached_by (caller_from space) room s).state.context (reached_by (caller_from space) room s).state.signal ≡ Ok None
   line_ended zero s cs is = absurd cc
-  line_ended (suc room) s cs is = go (step_of space s.context s.signal) refl is
+  line_ended (suc room) s cs is = go (λ t rest of_rest. line_ended room t rest of_rest) (step_of space s.context s.signal) refl is
     where
-      go : (r : Result (Option Stepped) DeliverError) → step_of space s.context s.signal ≡ r → line_after s.context r (line_of space room) ≡ Ok cs →
+      go : ((t : Stepped) (rest : List Context) → line_from room t ≡ Ok rest → step_of space (reached_by (caller_from space) room t).state.context (reached_by (caller_from space) room t).state.signal ≡ Ok None) →
+          (r : Result (Option Stepped) DeliverError) → step_of space s.context s.signal ≡ r → line_after s.context r (line_of space room) ≡ Ok cs →
           step_of space (after room s (caller_in r)).context (after room s (caller_in r)).signal ≡ Ok None
-      go (Ok None) steps is = steps
-      go (Ok (Some t)) steps is = let rest = first_rest s.context (line_from room t) cs is in line_ended room t rest.0 rest.1
-      go (Err e) steps is = absurd cc
+      go later (Ok None) steps is = steps
+      go later (Ok (Some t)) steps is = let rest = first_rest s.context (line_from room t) cs is in later t rest.0 rest.1
+      go later (Err e) steps is = absurd cc
 
   pub line_failed : (room : ℕ) (s : Stepped) (e : DeliverError) → e ≢ FrameLimit → line_from room s ≡ Err e →
       step_of space (reached_by (caller_from space) room s).state.context (reached_by (caller_from space) room s).state.signal ≡ Err e
   line_failed zero s e other is = let same : e ≡ FrameLimit = cc in absurd (other same)
-  line_failed (suc room) s e other is = go (step_of space s.context s.signal) refl is
+  line_failed (suc room) s e other is = go (λ t of_rest. line_failed room t e other of_rest) (step_of space s.context s.signal) refl is
     where
-      go : (r : Result (Option Stepped) DeliverError) → step_of space s.context s.signal ≡ r → line_after s.context r (line_of space room) ≡ Err e →
+      go : ((t : Stepped) → line_from room t ≡ Err e → step_of space (reached_by (caller_from space) room t).state.context (reached_by (caller_from space) room t).state.signal ≡ Err e) →
+          (r : Result (Option Stepped) DeliverError) → step_of space s.context s.signal ≡ r → line_after s.context r (line_of space room) ≡ Err e →
           step_of space (after room s (caller_in r)).context (after room s (caller_in r)).signal ≡ Err e
-      go (Ok None) steps is = absurd cc
-      go (Ok (Some t)) steps is = line_failed room t e other (first_fails s.context (line_from room t) e is)
-      go (Err x) steps is = steps ∙ is
+      go later (Ok None) steps is = absurd cc
+      go later (Ok (Some t)) steps is = later t (first_fails s.context (line_from room t) e is)
+      go later (Err x) steps is = let same : x ≡ e = cc in steps ∙ ap (λ (f : DeliverError). refused f) same
+        where
+          refused : DeliverError → Result (Option Stepped) DeliverError
+          refused f = Err f
 
   -- a line that has room for a shorter front begins with it
   pub line_front : (room longer : ℕ) (s : Stepped) (cs : List Context) → room ≤ longer → line_from longer s ≡ Ok cs → (reached_by (caller_from space) room s).contexts ≡ take room cs
   line_front zero longer s cs less is = refl
   line_front (suc room) zero s cs less is = absurd (omega arith)
-  line_front (suc room) (suc longer) s cs less is = go (step_of space s.context s.signal) is
+  line_front (suc room) (suc longer) s cs less is = go (λ t rest of_rest. line_front room longer t rest (omega arith) of_rest) (step_of space s.context s.signal) is
     where
-      go : (r : Result (Option Stepped) DeliverError) → line_after s.context r (line_of space longer) ≡ Ok cs → (reached_after s (caller_in r) (reached_by (caller_from space) room)).contexts ≡ take (suc room) cs
-      go (Ok None) is = let same : s.context ∷ [] ≡ cs = cc in subst (λ (l : List Context). s.context ∷ [] ≡ take (suc room) l) same (sym (alone room))
-        where
-          alone : (n : ℕ) → take (suc n) (s.context ∷ []) ≡ s.context ∷ []
-          alone zero = refl
-          alone (suc n) = refl
-      go (Ok (Some t)) is =
+      alone : (n : ℕ) → s.context ∷ [] ≡ take (suc n) (s.context ∷ [])
+      alone zero = refl
+      alone (suc n) = refl
+
+      go : ((t : Stepped) (rest : List Context) → line_from longer t ≡ Ok rest → (reached_by (caller_from space) room t).contexts ≡ take room rest) →
+          (r : Result (Option Stepped) DeliverError) → line_after s.context r (line_of space longer) ≡ Ok cs → (reached_after s (caller_in r) (reached_by (caller_from space) room)).contexts ≡ take (suc room) cs
+      go later (Ok None) is = let same : s.context ∷ [] ≡ cs = cc in subst (λ (l : List Context). s.context ∷ [] ≡ take (suc room) l) same (alone room)
+      go later (Ok (Some t)) is =
           let rest = first_rest s.context (line_from longer t) cs is in
-          rw rest.2 (ap (λ (l : List Context). s.context ∷ l) (line_front room longer t rest.0 (omega arith) rest.1))
-      go (Err e) is = absurd cc
+          rw rest.2 (ap (λ (l : List Context). s.context ∷ l) (later t rest.0 rest.1))
+      go later (Err e) is = absurd cc
 
   -- a line is its whole front
   pub line_whole : (room : ℕ) (s : Stepped) (cs : List Context) → line_from room s ≡ Ok cs → (reached_by (caller_from space) room s).contexts ≡ cs
   line_whole zero s cs is = absurd cc
-  line_whole (suc room) s cs is = go (step_of space s.context s.signal) is
+  line_whole (suc room) s cs is = go (λ t rest of_rest. line_whole room t rest of_rest) (step_of space s.context s.signal) is
     where
-      go : (r : Result (Option Stepped) DeliverError) → line_after s.context r (line_of space room) ≡ Ok cs → (reached_after s (caller_in r) (reached_by (caller_from space) room)).contexts ≡ cs
-      go (Ok None) is = cc
-      go (Ok (Some t)) is =
+      go : ((t : Stepped) (rest : List Context) → line_from room t ≡ Ok rest → (reached_by (caller_from space) room t).contexts ≡ rest) →
+          (r : Result (Option Stepped) DeliverError) → line_after s.context r (line_of space room) ≡ Ok cs → (reached_after s (caller_in r) (reached_by (caller_from space) room)).contexts ≡ cs
+      go later (Ok None) is = cc
+      go later (Ok (Some t)) is =
           let rest = first_rest s.context (line_from room t) cs is in
-          rw rest.2 (ap (λ (l : List Context). s.context ∷ l) (line_whole room t rest.0 rest.1))
-      go (Err e) is = absurd cc
+          rw rest.2 (ap (λ (l : List Context). s.context ∷ l) (later t rest.0 rest.1))
+      go later (Err e) is = absurd cc
 
   -- where each of so many has a caller none is without one
   needs_none : (P : Context → Bool → Type 0) → ((t : Stepped) → P t.context t.signal → caller_from space t ≡ None) → (room : ℕ) (s : Stepped) → NeedsMore space room s.context s.signal → Meets space P room s.context s.signal → ⊥
@@ -286,3 +301,70 @@ comes (NoDescription a) space limit s more is = last_meets space (EndsFor (NoDes
 comes (UnreadableTable a offset e) space limit s more is = last_meets space (EndsFor (UnreadableTable a offset e) space) limit s more is
 comes (Refused a e) space limit s more is = last_meets space (EndsFor (Refused a e) space) limit s more is
 comes Limit space limit s more is = absurd is
+
+-- ---- what the way outwards leaves of a walk
+
+-- where a step finds no frame at an address that a module holds, its tables find nothing
+pub held_finds_none : (space : SpaceValue) (c : Context) (interrupted : Bool) (m : Module) (a : ℕ) → c.ra ≢ 0 → step_of space c interrupted ≡ Ok None → a ≡ address_of_call c.ra interrupted →
+    Some m ≡ module_at space.modules a → FindsNone space.image m.frame.text_base m.frame.kind a
+held_finds_none space c interrupted m a returns none at_call holds = go (step_ends space c interrupted none)
+  where
+    go : EndsAt space c interrupted → FindsNone space.image m.frame.text_base m.frame.kind a
+    go (inl outermost) = absurd (returns outermost)
+    go (inr ends) =
+        let held : Some m ≡ module_at space.modules (address_of_call c.ra interrupted) = rw at_call at holds in
+        let found : FindsNone space.image m.frame.text_base m.frame.kind (address_of_call c.ra interrupted) = rw (← held) at ends.1 in
+        rw at_call found
+
+module _ (space : SpaceValue) (limit : ℕ) (c : Context) (interrupted : Bool) (room : RoomValue) (state : Stepped)
+    (reached : IsReached true room state (reached_by (turned_from None space) limit (started c interrupted))) where
+  walk_reached : IsReached true room state (reached_by (caller_from space) limit (started c interrupted))
+  walk_reached = subst (IsReached true room state) (same_reached (turned_from None space) (caller_from space) (turned_called space) limit (started c interrupted)) reached
+
+  -- the contexts
+  pub walk_states : room.visited ≡ front_of space limit c interrupted
+  walk_states = walk_reached.0
+
+  module _ (result : Result (Option CodeStop) DeliverError) (out : IsOutward true result room (line_for None space limit c interrupted)) where
+    line : IsWalked result room (line_of space limit c interrupted)
+    line = walked_by result room (line_for None space limit c interrupted) (line_of space limit c interrupted) out (walk_line space limit c interrupted)
+
+    -- the end of the stack
+    pub walk_ends : (stop : Option CodeStop) → result ≡ Ok stop → step_of space state.context state.signal ≡ Ok None
+    walk_ends stop is =
+        let ended : line_of space limit c interrupted ≡ Ok room.visited = rw is at line in
+        rw walk_reached.1 (line_ended space limit (started c interrupted) room.visited ended)
+
+    pub walk_ends_for : (stop : Option CodeStop) → result ≡ Ok stop → (why : Front) → EndsFor why space state.context state.signal → ComesTo why space limit c interrupted
+    walk_ends_for stop is why ends =
+        let ended : line_of space limit c interrupted ≡ Ok room.visited = rw is at line in
+        comes why space limit (started c interrupted) (λ h. never (sym ended ∙ h)) (rw walk_reached.1 at ends)
+      where
+        never : ◌≡◌ {A = Result (List Context) DeliverError} (Ok room.visited) (Err FrameLimit) → ⊥
+        never bad = absurd cc
+
+    -- the limit
+    pub walk_limit : result ≡ Err FrameLimit → NeedsMore space limit c interrupted
+    walk_limit is =
+        let met : line_of space limit c interrupted ≡ Err FrameLimit = rw is at line in
+        line_limit space limit c interrupted met
+
+    -- a fault
+    pub walk_fails : (e : DeliverError) → result ≡ Err e → e ≢ FrameLimit → (a : ℕ) → a ≡ address_of_call state.context.ra state.signal → Meets space (EndsFor (Refused a e) space) limit c interrupted
+    walk_fails e is other a at_call =
+        let failed : line_of space limit c interrupted ≡ Err e = rw is at line in
+        let steps : step_of space state.context state.signal ≡ Err e = rw walk_reached.1 (line_failed space limit (started c interrupted) e other failed) in
+        let ends : EndsFor (Refused a e) space state.context state.signal = (at_call, steps) in
+        comes (Refused a e) space limit (started c interrupted) (λ h. other (same (sym failed ∙ h))) (rw walk_reached.1 at ends)
+      where
+        same : ◌≡◌ {A = Result (List Context) DeliverError} (Err e) (Err FrameLimit) → e ≡ FrameLimit
+        same h = cc
+
+    -- either
+    pub walk_stops : (e : DeliverError) → result ≡ Err e → (a : ℕ) → a ≡ address_of_call state.context.ra state.signal → ComesTo (stopped_by a e) space limit c interrupted
+    walk_stops FrameLimit is a at_call = walk_limit is
+    walk_stops NoMemory is a at_call = walk_fails NoMemory is (λ h. cc) a at_call
+    walk_stops (Unmapped b) is a at_call = walk_fails (Unmapped b) is (λ h. cc) a at_call
+    walk_stops PassLimit is a at_call = walk_fails PassLimit is (λ h. cc) a at_call
+    walk_stops (NoResume pad) is a at_call = walk_fails (NoResume pad) is (λ h. cc) a at_call
+    walk_stops (Table f) is a at_call = walk_fails (Table f) is (λ h. cc) a at_call

@@ -87,8 +87,8 @@ turned_called space s = go (frame_of space s.context s.signal)
 -- the same next states lead as far
 pub same_reached : (f g : Stepped → Option Stepped) → ((s : Stepped) → f s ≡ g s) → (room : ℕ) (s : Stepped) → reached_by f room s ≡ reached_by g room s
 same_reached f g same zero s = refl
-same_reached f g same (suc room) s = rw (same s) (go (g s))
+same_reached f g same (suc room) s = rw (same s) (go (λ t. same_reached f g same room t) (g s))
   where
-    go : (o : Option Stepped) → reached_after s o (reached_by f room) ≡ reached_after s o (reached_by g room)
-    go None = refl
-    go (Some t) = ap (λ (r : Reached). reached (s.context ∷ r.contexts) r.state) (same_reached f g same room t)
+    go : ((t : Stepped) → reached_by f room t ≡ reached_by g room t) → (o : Option Stepped) → reached_after s o (reached_by f room) ≡ reached_after s o (reached_by g room)
+    go later None = refl
+    go later (Some t) = ap (λ (r : Reached). reached (s.context ∷ r.contexts) r.state) (later t)

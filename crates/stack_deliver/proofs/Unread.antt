@@ -1,5 +1,7 @@
 -- The entry of a frame table that a scan can't read.
 use Rattle.std.proofs.Common.{◌≡◌, ◌≢◌, ℕ, zero, suc, Bool, true, false, List, [], ◌∷◌, Option, Some, None, Result, Ok, Err, refl, sym, ap, subst, ◌∙◌, cond, length}
+use Rattle.std.specs.Result.{is_err}
+use Rattle.encoded_pointers.specs.Readers.{Answers}
 use Rattle.unwind_definitions.specs.declared.error.Error.{Error as Fault}
 use Rattle.unwind_definitions.specs.declared.error.Error.TheVariants.{NoUnwindInfoForAddress}
 use Rattle.unwind_definitions.specs.Input.{Input}
@@ -11,13 +13,31 @@ use Rattle.eh_frame.specs.Search.{Precede, IsUnreadable, IsUncovered}
 use Rattle.eh_frame.specs.Listing.{Listing, upcoming, entry_in, behind}
 use Rattle.stack_deliver.specs.Fronts.{IsUnreadableAt}
 
+-- ---- an answer is a fault, or none
+
+pub answered_err : {X Y : Type 0} (view : X → Y) (r : Result X Fault) (given : Result Y Fault) → Answers view r given → is_err r ≡ true → (x : Fault) × (given ≡ Err x)
+answered_err view (Ok v) given is fails = absurd cc
+answered_err view (Err x) given is fails = (x, is)
+
+pub answered_ok : {X Y : Type 0} (view : X → Y) (r : Result X Fault) (given : Result Y Fault) → Answers view r given → is_err r ≡ false → (y : Y) × (given ≡ Ok y)
+answered_ok view (Ok v) given is fine = (view v, is)
+answered_ok view (Err x) given is fine = absurd cc
+
+-- ---- at most one entry is the first that can't be read
+
 abbrev ok_entry : Entry → ℕ → Result (Option Found) Fault
 ok_entry e next = Ok (Some (record { entry = e; next = next }))
+
+next_of : Result (Option Found) Fault → ℕ
+next_of (Ok (Some found)) = found.next
+next_of (Ok None) = 0
+next_of (Err e) = 0
 
 module _ (bases : Bases) (table : Input) where
   -- an entry that can be read is one
   one_next : (offset : ℕ) (d e : Entry) (m n : ℕ) → entry_at bases table offset ≡ ok_entry d m → entry_at bases table offset ≡ ok_entry e n → m ≡ n
-  one_next offset d e m n is also = let same : ok_entry d m ≡ ok_entry e n = sym is ∙ also in cc
+  unfolding next_of
+  one_next offset d e m n is also = ap next_of (sym is ∙ also)
 
   -- at most one entry is the first that can't be read
   pub one_unread : (a from : ℕ) (before also : List Entry) (x y : ℕ) (e f : Fault) → Precede bases table a from before x → entry_at bases table x ≡ Err e →
@@ -49,22 +69,22 @@ module _ (bases : Bases) (table : Input) where
 
 -- ---- the way to it
 
-module _ (bases : Bases) (table : Input) (a : ℕ) (e : Fault) (unread : e ≢ NoUnwindInfoForAddress) where
-  -- a scan from an offset on fails for the entry for which it fails from the start on
-  abbrev pub Fails : ℕ → ℕ → Type 0
-  Fails turns offset = (scan_from turns bases table a offset ≡ Err e) × ((at_offset : ℕ) → IsUnreadableAt bases table a offset at_offset e → IsUnreadableAt bases table a 0 at_offset e)
+-- a scan from an offset on fails for the entry for which it fails from the start on
+abbrev pub Fails : Bases → Input → ℕ → Fault → ℕ → ℕ → Type 0
+Fails bases table a e turns offset = (scan_from turns bases table a offset ≡ Err e) × ((at_offset : ℕ) → IsUnreadableAt bases table a offset at_offset e → IsUnreadableAt bases table a 0 at_offset e)
 
-  pub fails_first : (turns : ℕ) → turns ≡ suc (length table.bytes) → scan bases table a ≡ Err e → Fails turns 0
+module _ (bases : Bases) (table : Input) (a : ℕ) (e : Fault) (unread : e ≢ NoUnwindInfoForAddress) where
+  pub fails_first : (turns : ℕ) → turns ≡ suc (length table.bytes) → scan bases table a ≡ Err e → Fails bases table a e turns 0
   unfolding scan
   fails_first turns enough is = (rw enough is, λ o u. u)
 
-  pub never_spent : (turns offset : ℕ) → turns ≡ 0 → Fails turns offset → ⊥
+  pub never_spent : (turns offset : ℕ) → turns ≡ 0 → Fails bases table a e turns offset → ⊥
   never_spent turns offset none fails =
       let bad : ◌≡◌ {A = Result Fde Fault} (Err NoUnwindInfoForAddress) (Err e) = rw none at fails.0 in
       let same : e ≡ NoUnwindInfoForAddress = cc in unread same
 
   -- it is this one
-  pub fails_here : (turns offset : ℕ) (x : Fault) → Fails (suc turns) offset → entry_at bases table offset ≡ Err x → IsUnreadableAt bases table a 0 offset e
+  pub fails_here : (turns offset : ℕ) (x : Fault) → Fails bases table a e (suc turns) offset → entry_at bases table offset ≡ Err x → IsUnreadableAt bases table a 0 offset e
   fails_here turns offset x fails is =
       let same : ◌≡◌ {A = Result Fde Fault} (Err x) (Err e) = rw is at fails.0 in
       let fault : x ≡ e = cc in
@@ -73,7 +93,7 @@ module _ (bases : Bases) (table : Input) (a : ℕ) (e : Fault) (unread : e ≢ N
       refused : Fault → Result (Option Found) Fault
       refused f = Err f
 
-  pub never_ends : (turns offset : ℕ) → Fails (suc turns) offset → entry_at bases table offset ≡ Ok None → ⊥
+  pub never_ends : (turns offset : ℕ) → Fails bases table a e (suc turns) offset → entry_at bases table offset ≡ Ok None → ⊥
   never_ends turns offset fails is =
       let bad : ◌≡◌ {A = Result Fde Fault} (Err NoUnwindInfoForAddress) (Err e) = rw is at fails.0 in
       let same : e ≡ NoUnwindInfoForAddress = cc in unread same
@@ -88,7 +108,7 @@ module _ (bases : Bases) (table : Input) (a : ℕ) (e : Fault) (unread : e ≢ N
       go true covers is = absurd cc
       go false covers is = (is, λ es none. rw covers none)
 
-  pub fails_later : (turns offset : ℕ) (found : Found) → Fails (suc turns) offset → entry_at bases table offset ≡ Ok (Some found) → Fails turns found.next
+  pub fails_later : (turns offset : ℕ) (found : Found) → Fails bases table a e (suc turns) offset → entry_at bases table offset ≡ Ok (Some found) → Fails bases table a e turns found.next
   fails_later turns offset found fails is =
       let scanned : found_or a found.entry (scan_from turns bases table a found.next) ≡ Err e = rw is at fails.0 in
       let before = before_it found.entry (scan_from turns bases table a found.next) scanned in (
@@ -108,12 +128,12 @@ module _ (bases : Bases) (table : Input) (a : ℕ) (e : Fault) (unread : e ≢ N
   -- ---- the same of what is left of a table's entries
 
   abbrev Goes : ℕ → Listing → Type 0
-  Goes turns l = (l.table ≡ table) × (l.bases ≡ bases) × (l.is_over ≡ false) × Fails turns l.offset
+  Goes turns l = (l.table ≡ table) × (l.bases ≡ bases) × (l.is_over ≡ false) × Fails bases table a e turns l.offset
 
   upcoming_at : (l : Listing) → l.table ≡ table → l.bases ≡ bases → l.is_over ≡ false → upcoming l ≡ entry_at bases table l.offset
   upcoming_at l of_table by more = rw (of_table, by, more) refl
 
-  pub listing_fails : (turns left : ℕ) (l : Listing) (x : Fault) → left ≡ suc turns → l.table ≡ table → l.bases ≡ bases → l.is_over ≡ false → Fails left l.offset →
+  pub listing_fails : (turns left : ℕ) (l : Listing) (x : Fault) → left ≡ suc turns → l.table ≡ table → l.bases ≡ bases → l.is_over ≡ false → Fails bases table a e left l.offset →
       entry_in (upcoming l) ≡ Err x → IsUnreadableAt bases table a 0 l.offset e
   listing_fails turns left l x left_is of_table by more fails is = go (entry_at bases table l.offset) refl (rw (upcoming_at l of_table by more) at is)
     where
@@ -122,7 +142,7 @@ module _ (bases : Bases) (table : Input) (a : ℕ) (e : Fault) (unread : e ≢ N
       go (Ok (Some found)) at_offset h = absurd cc
       go (Err f) at_offset h = fails_here turns l.offset f (rw left_is at fails) at_offset
 
-  pub listing_goes : (turns left : ℕ) (l m : Listing) (o : Option Entry) → left ≡ suc turns → l.table ≡ table → l.bases ≡ bases → l.is_over ≡ false → Fails left l.offset →
+  pub listing_goes : (turns left : ℕ) (l m : Listing) (o : Option Entry) → left ≡ suc turns → l.table ≡ table → l.bases ≡ bases → l.is_over ≡ false → Fails bases table a e left l.offset →
       entry_in (upcoming l) ≡ Ok o → m ≡ behind l (upcoming l) → Goes turns m
   listing_goes turns left l m o left_is of_table by more fails is then = go (entry_at bases table l.offset) refl (rw (upcoming_at l of_table by more) at is) (rw (upcoming_at l of_table by more) at then)
     where

@@ -14,6 +14,7 @@ use Rattle.unwinding_core.specs.Finding.{table_bases, relative_to}
 use Rattle.unwinding_core.specs.HeaderFinding.{found_by_header}
 use Rattle.stack_deliver.specs.declared.delivery.Stepped.{Stepped}
 use Rattle.stack_deliver.specs.declared.delivery.DeliverError.{DeliverError}
+use Rattle.stack_deliver.specs.declared.delivery.DeliverError.TheVariants.{FrameLimit}
 use Rattle.stack_deliver.specs.declared.front.Front.{Front}
 use Rattle.stack_deliver.specs.declared.front.Front.TheVariants.{Outermost, NoModule, NoDescription, UnreadableTable, Refused, Limit}
 use Rattle.stack_deliver.specs.declared.passes.Phase.{Phase}
@@ -120,6 +121,11 @@ EndsFor why space c interrupted =
     (c.ra ≢ 0) × (step_of space c interrupted ≡ Ok None)
     × IsUnknown space.image (module_at space.modules (address_of_call c.ra interrupted))
     (address_of_call c.ra interrupted) why
+
+-- why it goes no further where it meets the limit, or a fault
+abbrev pub stopped_by : ℕ → DeliverError → Front
+stopped_by a FrameLimit = Limit
+stopped_by a e = Refused a e
 
 -- Of so many contexts from one outwards, each the caller of the one before, one is so.
 abbrev pub Meets : SpaceValue → (Context → Bool → Type 0) → ℕ → Context → Bool → Type 0

@@ -7,7 +7,7 @@ ghost use Rattle.unwind_arch.specs.declared.x86_64.Context.{Context};
 ghost use Rattle.eh_frame.specs.Listing.{listing_of};
 ghost use Rattle.unwinding_core.specs.Finding.{table_bases};
 ghost use Rattle.stack_deliver.specs.Delivering.{line_of};
-ghost use Rattle.stack_deliver.specs.Fronts.{ComesTo, EndsFor, front_of, input_of, IsUndescribed, IsUndescribedIn};
+ghost use Rattle.stack_deliver.specs.Fronts.{ComesTo, EndsFor, front_of, input_of, IsUndescribed, IsUndescribedIn, stopped_by};
 ghost use Rattle.stack_deliver.specs.Stepping.{FindsNone, RisesWithin, step_of};
 
 use crate::delivery::{DeliverError, Stepped};
@@ -131,6 +131,16 @@ fn unframed(space: &Space<'_>, state: &Stepped) -> Front
     }
 }
 
+/// Why a walk goes no further where it meets the limit or a fault.
+fn stopped(address: u64, error: DeliverError) -> Front
+    ensures { result ≡ stopped_by address error }
+{
+    match error {
+        DeliverError::FrameLimit => Front::Limit,
+        error => Front::Refused { address, error },
+    }
+}
+
 /// Visits the states from the start outwards, in a room that is emptied first.
 fn fronted<L: Ledger>(
     space: &Space<'_>,
@@ -162,11 +172,7 @@ fn fronted<L: Ledger>(
         steps,
     ) {
         Ok(_) => unframed(space, &state),
-        Err(DeliverError::FrameLimit) => Front::Limit,
-        Err(error) => Front::Refused {
-            address: state.address(),
-            error,
-        },
+        Err(error) => stopped(state.address(), error),
     }
 }
 

@@ -4,7 +4,7 @@ use Rattle.stack_deliver.proofs.Unread.{Fails}
 use Rattle.stack_deliver.proofs.front.unreadable.Given as goal
 
 abbrev pub invariant-loop : goal.invariant-loop
-invariant-loop g l = record {
+invariant-loop l = record {
   table : (listing_of l.entries).table ≡ (listing_of l.fn.entries).table;
   bases : (listing_of l.entries).bases ≡ (listing_of l.fn.entries).bases;
   over : (listing_of l.entries).is_over ≡ false;
