@@ -61,7 +61,7 @@ front_of space limit c interrupted = (reached_by (caller_from space) limit (star
 -- the same for a pass, which goes to the caller or ends
 abbrev pub caller_turned : Result Turn DeliverError → Option Stepped
 caller_turned (Ok Ends) = None
-caller_turned (Ok (Stops action past)) = None
+caller_turned (Ok (Stops _ _)) = None
 caller_turned (Ok (Goes next)) = Some next
 caller_turned (Err e) = None
 

@@ -1,6 +1,7 @@
 pub mod AnyPasses
 pub mod Causes
 pub mod Delivering
+pub mod FrontSample
 pub mod Fronts
 pub mod Modules
 pub mod Passes

@@ -7,6 +7,7 @@ ghost use Rattle.unwind_arch.specs.declared.x86_64.Context.{Context};
 ghost use Rattle.eh_frame.specs.Listing.{listing_of};
 ghost use Rattle.unwinding_core.specs.Finding.{table_bases};
 ghost use Rattle.stack_deliver.specs.Delivering.{line_of};
+ghost use Rattle.stack_deliver.specs.FrontSample.{after_call, bad_row, cut_entry, held_by, no_entry, nowhere};
 ghost use Rattle.stack_deliver.specs.Fronts.{ComesTo, EndsFor, front_of, input_of, IsUndescribed, IsUndescribedIn, stopped_by};
 ghost use Rattle.stack_deliver.specs.Stepping.{FindsNone, RisesWithin, step_of};
 
@@ -209,3 +210,15 @@ pub fn walk_front_into<L: Ledger>(
 {
     fronted(space, start, interrupted, limit, room, steps)
 }
+
+/// Each reason can be given, so that its cause can be met: after a call that returns to 0, to an
+/// address that no module holds, and into a module whose frame table is empty, is cut, or has a
+/// description with an unknown instruction; and where no state is allowed. The function does nothing.
+pub fn each_reason_is_given()
+    ensures outermost { ComesTo Front.Outermost nowhere 1 (after_call 0) false }
+    ensures no_module { ComesTo (Front.NoModule 0x1004) nowhere 1 (after_call 0x1005) false }
+    ensures no_description { ComesTo (Front.NoDescription 0x1004) (held_by no_entry) 1 (after_call 0x1005) false }
+    ensures unreadable { ComesTo (Front.UnreadableTable 0x1004 0 Error.UnexpectedEof) (held_by cut_entry) 1 (after_call 0x1005) false }
+    ensures refused { ComesTo (Front.Refused 0x1004 (DeliverError.Table Error.UnknownInstruction)) (held_by bad_row) 1 (after_call 0x1005) false }
+    ensures limit { ComesTo Front.Limit nowhere 0 (after_call 0x1005) false }
+{}

@@ -17,7 +17,7 @@ mod walking;
 pub use delivering::{deliver, deliver_into};
 pub use delivery::{DeliverError, Delivery, Ending, Outcome, Stepped, Trail};
 pub use eh_frame::Error;
-pub use front::{Front, walk_front_into};
+pub use front::{Front, each_reason_is_given, walk_front_into};
 pub use personality::{a_handler_is_asked_for, deliveries_are_passes, passes_ask_the_personality};
 pub use resumes::{Resumes, first_entry_counts};
 pub use room::Room;
