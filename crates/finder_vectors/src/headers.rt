@@ -101,7 +101,7 @@ fn walked(alloc: Global, kind: FrameInfoKind, expected: &[(u64, u64, u64)]) -> R
     Ok(same)
 }
 
-// The first common information entry can't be read: a header leads behind it, a scan doesn't.
+// The first common information entry can't be read: a header leads after it, a scan doesn't.
 #[test]
 fn a_header_leads_behind_what_a_scan_cannot_read(rt: HostRuntime) -> Result<(), Fail> {
     let frames = [

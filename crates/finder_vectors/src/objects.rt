@@ -44,7 +44,7 @@ const DYNAMIC: u32 = 2;
 
 const HEADER_OF_FRAMES: u32 = 0x6474_e550;
 
-// The tags 5, 3 and 3 with values, and what stands behind the end.
+// The tags 5, 3 and 3 with values, and what stands after the end.
 const TAGS: [u64; 10] = [5, 9, 3, 0x40_6000, 3, 0x40_7000, 0, 0, 3, 7];
 
 #[test]

@@ -4,9 +4,9 @@ use Rattle.std.specs.Int.{w32, cast_unsigned}
 use Rattle.std.specs.Option.{option_map_or, unwrap_or}
 use Rattle.memory_image.specs.Image.{Span}
 use Rattle.unwind_definitions.specs.Caller.{Columns}
-use Rattle.unwinding_core.specs.declared.abi.UnwindReasonCode.{UnwindReasonCode}
-use Rattle.unwinding_core.specs.declared.abi.TheConstants.UnwindReasonCode.{NO_REASON, NORMAL_STOP}
-use Rattle.unwinding_core.specs.FrameValue.{FrameValue}
+use Rattle.unwinding_frames.specs.declared.abi.UnwindReasonCode.{UnwindReasonCode}
+use Rattle.unwinding_frames.specs.declared.abi.TheConstants.UnwindReasonCode.{NO_REASON, NORMAL_STOP}
+use Rattle.unwinding_frames.specs.FrameValue.{FrameValue}
 use Rattle.unwinding_core.specs.Stopping.{StopAsked, StopAnswer, TraceAnswer}
 
 -- whether it refuses, the calls so far, and what the first and the last of them were for

@@ -222,7 +222,7 @@ fn a_frame_tells_what_was_found(rt: HostRuntime) -> Result<(), Fail> {
     let mut context = Context::default();
     context.ra = 0x40_1020;
     context.registers[7] = 0x7000;
-    // Behind a call that is the function's last instruction; at that address nothing is found.
+    // After a call that is the function's last instruction; at that address nothing is found.
     let behind = Frame::<Arch>::from_context(&image, &finder, &context, false, &mut steps);
     let Ok(Some(frame)) = behind else {
         assert!(rt; false);

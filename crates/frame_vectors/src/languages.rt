@@ -14,7 +14,7 @@ use unwinding_core::{
     UnwindAction, UnwindContext, find_eh_action,
 };
 
-// The descriptions of three functions, one behind the other: 0x401000 to 0x401020 without a language
+// The descriptions of three functions, one after the other: 0x401000 to 0x401020 without a language
 // table, and 0x401020 to 0x401050 and 0x401050 to 0x401080 with the language tables at 0x502000 and
 // 0x50200c. The cell of their personality is at 0x503000.
 pub(crate) const FRAMES: &str =
@@ -98,9 +98,9 @@ static ASKED: [(&str, u64, u64, Result<EhAction, StepError>); 35] = [
         Ok(EhAction::Cleanup(0x40_1040)),
     ),
     (LANGUAGES, THIRD, 0x40_1060, Ok(EhAction::Catch(0x40_1070))),
-    // behind the last call of a function
+    // after the last call of a function
     (LANGUAGES, SECOND, 0x40_1050, Ok(EhAction::None)),
-    // before, between and behind the call sites
+    // before, between and after the call sites
     (LANGUAGES, SECOND, 0x40_1028, Ok(EhAction::Terminate)),
     (
         LANGUAGES,
@@ -147,21 +147,21 @@ static ASKED: [(&str, u64, u64, Result<EhAction, StepError>); 35] = [
     (HANDLERS, SECOND, 0x40_106f, Ok(EhAction::None)),
     (HANDLERS, SECOND, 0x40_107c, Ok(EhAction::Terminate)),
     (NOEXCEPT, SECOND, 0x40_1028, Ok(EhAction::Terminate)),
-    // the base of landing pads is 0x402000, a word; a cleanup 0x10 behind it
+    // the base of landing pads is 0x402000, a word; a cleanup 0x10 after it
     (
         "000020400000000000 ff01 04 00201000",
         SECOND,
         SECOND,
         Ok(EhAction::Cleanup(0x40_2010)),
     ),
-    // the base is 0x40 behind the function's start
+    // the base is 0x40 after the function's start
     (
         "4240 00 ff01 04 00201000",
         SECOND,
         SECOND,
         Ok(EhAction::Cleanup(0x40_1070)),
     ),
-    // the base is in a cell behind the table
+    // the base is in a cell after the table
     (
         "80 1020500000000000 ff 01 04 00201000 0030400000000000",
         SECOND,
@@ -182,7 +182,7 @@ static ASKED: [(&str, u64, u64, Result<EhAction, StepError>); 35] = [
         SECOND,
         Ok(EhAction::Cleanup(0x40_1030)),
     ),
-    // What stands behind the deciding site isn't read: it would be a fault.
+    // What stands after the deciding site isn't read: it would be a fault.
     (
         "ffff0105 08101000 80",
         SECOND,
@@ -251,7 +251,7 @@ static UNREAD: [(&str, Error); 12] = [
     ("ffff000d ffffffffffffffff 00 ", Error::UnexpectedEof),
 ];
 
-// The same behind a signal, where the address itself is asked.
+// The same after a signal, where the address itself is asked.
 static SIGNALLED: [(u64, EhAction); 4] = [
     (0x40_1027, EhAction::Terminate),
     (0x40_1028, EhAction::Cleanup(0x40_1040)),

@@ -1,5 +1,5 @@
-// The runs of an unwinding over the worked examples: a stack of one frame without a personality, and
-// one of three with a cleanup and a handler.
+// The runs of an unwinding over the worked examples: a stack of one frame without a personality,
+// and one of three with a cleanup and a handler.
 ghost use Rattle.std.specs.Prelude.{◌≡◌};
 ghost use Rattle.frame_vectors.specs.Visiting.{visit, visited};
 
@@ -78,7 +78,8 @@ const REFUSED: Visits = Visits {
 
 impl Visits {
     fn visit(&mut self, now: u64) -> UnwindReasonCode
-        ensures { (result, visit self.new.refuses self.new.calls self.new.first self.new.last) ≡ visited (visit self.old.refuses self.old.calls self.old.first self.old.last) now }
+        ensures { (result, visit self.new.refuses self.new.calls self.new.first self.new.last) ≡
+            visited (visit self.old.refuses self.old.calls self.old.first self.old.last) now }
     {
         if self.calls == 0 {
             self.first = now;
@@ -231,8 +232,8 @@ fn backtraces_visit_frames(rt: HostRuntime) -> Result<(), Fail> {
     Ok(())
 }
 
-// The landing pad, the stack pointer, RBX and RAX of registers that are installed, and whether they are
-// the handler's.
+// The landing pad, the stack pointer, RBX and RAX of registers that are installed, and whether they
+// are the handler's.
 type Landing = (u64, u64, u64, u64, bool);
 
 fn landing(end: Unwound<Arch>) -> Option<Landing> {
@@ -312,7 +313,7 @@ fn a_raise_goes_to_its_handler(rt: HostRuntime) -> Result<(), Fail> {
     // by force the handler's landing pad is entered too, but not as the handler's
     let (_, _, by_force) = raised(alloc, Kept::Stop, 0x40_1048)?;
     assert_eq!(rt; by_force, Some((0x40_1070, 0x70e0, 0x22, 0x90_0000, false)));
-    // behind an address that no call site holds
+    // after an address that no call site holds
     let (_, _, none) = raised(alloc, Kept::Handler(0), 0x40_1040)?;
     assert_eq!(rt; none, None);
     Ok(())

@@ -12,17 +12,17 @@ use Rattle.frame_rows.specs.RowValue.{RowValue}
 use Rattle.unwind_arch.specs.declared.x86_64.Context.{Context}
 use Rattle.unwind_arch.specs.Columns.{rsp}
 use Rattle.unwind_arch.specs.Contexts.{columns_of, context_of}
-use Rattle.unwinding_core.specs.declared.abi.UnwindAction.{UnwindAction}
-use Rattle.unwinding_core.specs.declared.abi.UnwindReasonCode.{UnwindReasonCode}
-use Rattle.unwinding_core.specs.declared.abi.TheConstants.UnwindAction as actions
-use Rattle.unwinding_core.specs.declared.abi.TheConstants.UnwindReasonCode.{HANDLER_FOUND, INSTALL_CONTEXT, CONTINUE_UNWIND, FATAL_PHASE1_ERROR, FATAL_PHASE2_ERROR}
+use Rattle.unwinding_frames.specs.declared.abi.UnwindAction.{UnwindAction}
+use Rattle.unwinding_frames.specs.declared.abi.UnwindReasonCode.{UnwindReasonCode}
+use Rattle.unwinding_frames.specs.declared.abi.TheConstants.UnwindAction as actions
+use Rattle.unwinding_frames.specs.declared.abi.TheConstants.UnwindReasonCode.{HANDLER_FOUND, INSTALL_CONTEXT, CONTINUE_UNWIND, FATAL_PHASE1_ERROR, FATAL_PHASE2_ERROR}
 use Rattle.unwind_definitions.specs.Expressions.{evaluation}
-use Rattle.unwinding_core.specs.FrameValue.{FrameValue}
-use Rattle.unwinding_core.specs.OneLine as one
-use Rattle.unwinding_core.specs.Passes.{Marked, unmarked, Answering, LineEnd, RanOut, Decides, Fails, Crowded, is_code, by_personality, cleanup_actions, cleanup_end, mark_of, turn_asked, turn_seen, goes, asked}
-use Rattle.unwinding_core.specs.Passes as any
-use Rattle.unwinding_core.specs.Personalities.{Asked, Answer, searched}
-use Rattle.unwinding_core.specs.Seen.{Thrown}
+use Rattle.unwinding_frames.specs.FrameValue.{FrameValue}
+use Rattle.unwinding_frames.specs.OneLine as one
+use Rattle.unwinding_frames.specs.Passes.{Marked, unmarked, Answering, LineEnd, RanOut, Decides, Fails, Crowded, is_code, by_personality, cleanup_actions, cleanup_end, mark_of, turn_asked, turn_seen, goes, asked}
+use Rattle.unwinding_frames.specs.Passes as any
+use Rattle.unwinding_frames.specs.Personalities.{Asked, Answer, searched}
+use Rattle.unwinding_frames.specs.Seen.{Thrown}
 use Rattle.stack_deliver.specs.declared.delivery.Outcome.TheVariants.{FatalPhase1}
 use Rattle.stack_deliver.specs.declared.delivery.DeliverError.{DeliverError}
 use Rattle.stack_deliver.specs.declared.delivery.DeliverError.TheVariants.{FrameLimit, PassLimit}

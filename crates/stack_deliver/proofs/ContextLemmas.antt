@@ -54,7 +54,7 @@ sixteen (a ∷ b ∷ c ∷ d ∷ e ∷ f ∷ g ∷ h ∷ i ∷ j ∷ k ∷ l ∷
 sixteen (a ∷ b ∷ c ∷ d ∷ e ∷ f ∷ g ∷ h ∷ i ∷ j ∷ k ∷ l ∷ m ∷ n ∷ o ∷ p ∷ q ∷ qs) eq = absurd (omega arith)
 sixteen _ eq = absurd (omega arith)
 
--- a context is told by what its columns hold
+-- a context is reported by what its columns hold
 pub context_of-columns : (c : Context) (columns : Columns) → IsWhole c → ((k : ℕ) → columns k ≡ columns_of c k) → context_of columns ≡ c
 context_of-columns c columns whole same =
     let shown : columns ≡ columns_of c = λ i k. same k i in

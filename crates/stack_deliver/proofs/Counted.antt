@@ -5,7 +5,7 @@ use Rattle.std.proofs.Math.Nat.{add-mul}
 use Rattle.std.proofs.lemmas.Nat.{mul-le, pow_pos}
 use Rattle.memory_image.specs.Image.{Span}
 use Rattle.unwind_definitions.specs.LanguageSearch.{address_of_call}
-use Rattle.unwinding_core.specs.Named.{pairs_by}
+use Rattle.fde_finders.specs.Named.{pairs_by}
 use Rattle.unwind_arch.specs.declared.x86_64.Context.{Context}
 use Rattle.stack_deliver.specs.declared.space.Module.{Module}
 use Rattle.stack_deliver.specs.Modules.{SpaceValue, contains, module_at}

@@ -7,7 +7,7 @@ use Rattle.unwind_definitions.specs.Function.{Action}
 use Rattle.unwind_definitions.specs.LanguageSearch as tables
 use Rattle.unwind_definitions.specs.Caller as calls
 use Rattle.unwind_arch.specs.declared.x86_64.Context.{Context}
-use Rattle.unwinding_core.specs.Finding.{FoundFde}
+use Rattle.fde_finders.specs.Finding.{FoundFde}
 use Rattle.stack_deliver.specs.declared.delivery.Stepped.{Stepped}
 use Rattle.stack_deliver.specs.declared.delivery.Trail.{Trail}
 use Rattle.stack_deliver.specs.declared.delivery.DeliverError.{DeliverError}
@@ -23,7 +23,7 @@ use Rattle.stack_deliver.proofs.StepParts.{some_next, stepped_by, step_is, goes,
 use Rattle.stack_deliver.proofs.LineAnswers.{IsStepFault, OnStepFault, step_faults}
 use Rattle.stack_deliver.proofs.StepAnswers.{step_unmapped}
 
--- an error of a delivery, but want of memory; an unmapped word isn't mapped
+-- an error of a delivery, but out of memory; an unmapped word isn't mapped
 abbrev pub IsCause : List Span → DeliverError → Type 0
 IsCause image NoMemory = ⊥
 IsCause image (Unmapped a) = word_at image a ≡ None

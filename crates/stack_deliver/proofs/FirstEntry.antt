@@ -20,7 +20,7 @@ first_of_first : (o p q : Option ℕ) → first_of (first_of o p) q ≡ first_of
 first_of_first None p q = refl
 first_of_first (Some r) p q = refl
 
--- an entry in front, whose pad has none behind it
+-- an entry in front, whose pad has none after it
 in_front : (es : List (ℕ × ℕ)) (pad ret q : ℕ) → return_of es pad ≡ None → return_of ((pad, ret) ∷ es) q ≡ first_of (return_of es q) (said_of pad ret q)
 in_front es pad ret q none = go (pad == q) refl
   where

@@ -17,8 +17,8 @@ use Rattle.unwind_laws.specs.Listing.{listing}
 use Rattle.unwind_laws.specs.Found.{nothing_found}
 use Rattle.unwind_laws.proofs.Found.{not_found}
 use Rattle.unwind_laws.proofs.HeaderListed.{header_read, search_answers, uncovered_fails}
-use Rattle.unwinding_core.specs.Finding.{at_frame, relative_to, scanned_in}
-use Rattle.unwinding_core.specs.HeaderFinding.{at_header, by_led, by_table, found_by_header, led, led_by, or_scanned}
+use Rattle.fde_finders.specs.Finding.{at_frame, relative_to, scanned_in}
+use Rattle.fde_finders.specs.HeaderFinding.{at_header, by_led, by_table, found_by_header, led, led_by, or_scanned}
 
 -- a description that a scan finds too, and else the scan
 or_same : (bases : Bases) (frames : Input) (pc : ℕ) (r : Result Fde Fault) → scan bases frames pc ≡ r → or_scanned bases frames pc (result_ok r) ≡ scanned_in bases frames pc

@@ -10,9 +10,9 @@ use Rattle.stack_deliver.specs.declared.delivery.Stepped.{Stepped}
 use Rattle.stack_deliver.specs.declared.delivery.DeliverError.{DeliverError}
 use Rattle.stack_deliver.specs.declared.delivery.DeliverError.TheVariants.{NoMemory, Unmapped, FrameLimit, Table}
 use Rattle.unwind_definitions.specs.Expressions.{evaluation}
-use Rattle.unwinding_core.specs.Finding.{FoundFde}
+use Rattle.fde_finders.specs.Finding.{FoundFde}
 use Rattle.unwind_definitions.specs.LanguageSearch.{address_of_call}
-use Rattle.unwinding_core.specs.Named.{found_by}
+use Rattle.fde_finders.specs.Named.{found_by}
 use Rattle.unwind_arch.specs.Contexts.{columns_of}
 use Rattle.stack_deliver.specs.Modules.{SpaceValue, module_at}
 use Rattle.std.specs.Result.{result_map_both}
@@ -126,7 +126,7 @@ fault_line space zero c interrupted e fails = absurd fails
 fault_line space (suc room) c interrupted e (inl fails) = rw fails refl
 fault_line space (suc room) c interrupted e (inr later) = rw later.1 (fault_first c (line_of space room later.0.context later.0.signal) e (fault_line space room later.0.context later.0.signal e later.2))
 
--- no line is refused for want of memory
+-- no line is refused where memory runs out
 fails_memory : (space : SpaceValue) (room : ℕ) (c : Context) (interrupted : Bool) → StepFails space room c interrupted NoMemory → ⊥
 fails_memory space zero c interrupted fails = fails
 fails_memory space (suc room) c interrupted (inl fails) = go (step_of space c interrupted) fails (step_faults space c interrupted)

@@ -18,13 +18,13 @@ use Rattle.unwind_laws.proofs.Booleans as lists
 use Rattle.unwind_laws.proofs.Found.{not_found}
 use Rattle.unwind_arch.specs.declared.x86_64.Context.{Context}
 use Rattle.stack_deliver.specs.declared.space.Module.{Module}
-use Rattle.unwinding_core.specs.declared.find_fde.custom.FrameInfoKind.{FrameInfoKind}
-use Rattle.unwinding_core.specs.declared.find_fde.custom.FrameInfoKind.TheVariants.{EhFrame, EhFrameHdr}
+use Rattle.fde_finders.specs.declared.custom.FrameInfoKind.{FrameInfoKind}
+use Rattle.fde_finders.specs.declared.custom.FrameInfoKind.TheVariants.{EhFrame, EhFrameHdr}
 use Rattle.unwind_arch.specs.Contexts.{columns_of}
 use Rattle.stack_deliver.specs.Modules.{SpaceValue, AreApart, contains, module_at}
 use Rattle.stack_deliver.specs.Processes.{tables_of, module_of, process_of}
-use Rattle.unwinding_core.specs.Finding.{table_bases}
-use Rattle.unwinding_core.specs.Named.{found_by_kind}
+use Rattle.fde_finders.specs.Finding.{table_bases}
+use Rattle.fde_finders.specs.Named.{found_by_kind}
 use Rattle.stack_deliver.specs.Stepping.{frame_in, frame_of, step_of}
 use Rattle.stack_deliver.proofs.StepParts.{stepped_by, step_is}
 use Rattle.stack_deliver.specs.Delivering.{line_of}

@@ -21,11 +21,11 @@ use Rattle.unwind_laws.proofs.Walk.{one_step}
 use Rattle.unwind_laws.proofs.Booleans as lists
 use Rattle.unwind_arch.specs.declared.x86_64.Context.{Context}
 use Rattle.unwind_arch.specs.Contexts.{columns_of, context_of}
-use Rattle.unwinding_core.specs.declared.find_fde.custom.FrameInfoKind.{FrameInfoKind}
-use Rattle.unwinding_core.specs.declared.find_fde.custom.FrameInfoKind.TheVariants.{EhFrame, EhFrameHdr}
+use Rattle.fde_finders.specs.declared.custom.FrameInfoKind.{FrameInfoKind}
+use Rattle.fde_finders.specs.declared.custom.FrameInfoKind.TheVariants.{EhFrame, EhFrameHdr}
 use Rattle.unwind_definitions.specs.Expressions.{evaluation}
-use Rattle.unwinding_core.specs.Finding.{FoundFde, table_bases, scanned_in}
-use Rattle.unwinding_core.specs.Named.{found_by_kind}
+use Rattle.fde_finders.specs.Finding.{FoundFde, table_bases, scanned_in}
+use Rattle.fde_finders.specs.Named.{found_by_kind}
 use Rattle.stack_deliver.specs.declared.space.Module.{Module}
 use Rattle.stack_deliver.specs.declared.delivery.Stepped.{Stepped}
 use Rattle.stack_deliver.specs.Modules.{SpaceValue, AreApart, module_at}

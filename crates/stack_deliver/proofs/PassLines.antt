@@ -7,7 +7,7 @@ use Rattle.stack_deliver.specs.declared.delivery.Trail.{Trail}
 use Rattle.stack_deliver.specs.declared.delivery.Ending.{Ending}
 use Rattle.stack_deliver.specs.declared.delivery.DeliverError.{DeliverError}
 use Rattle.stack_deliver.specs.declared.delivery.DeliverError.TheVariants.{PassLimit}
-use Rattle.unwinding_core.specs.declared.language_table.EhAction.{EhAction}
+use Rattle.unwinding_frames.specs.declared.language_table.EhAction.{EhAction}
 use Rattle.stack_deliver.specs.declared.passes.Phase.{Phase}
 use Rattle.stack_deliver.specs.declared.passes.Stop.{Stop as CodeStop}
 use Rattle.stack_deliver.specs.declared.passes.Turn.TheVariants as code

@@ -250,7 +250,7 @@ module _ (space : SpaceValue) (apart : AreApart 0 space.modules) (laid : IsLaidO
         some : 0 < room
         some = omega arith
 
-        -- the frames behind this one
+        -- the frames after this one
         later : is_deciding (frame_in s k) ≡ false → deciding_frame k.caller calls ≡ Some f
         later asks = let e : deciding_frame s (k ∷ calls) ≡ deciding_frame k.caller calls = rw asks refl in sym e ∙ decided
 
@@ -273,7 +273,7 @@ module _ (space : SpaceValue) (apart : AreApart 0 space.modules) (laid : IsLaidO
             let kept_is : kept ≡ s.sp = at ∙ ap (λ (g : Frame). g.state.sp) same in
             abbreviated (lands_now s k calls c room places here shows whole small some pad kept_is asks stopped named landing) same
 
-        -- behind its cleanup the function goes on
+        -- after its cleanup the function goes on
         cleaned : Later k.caller calls f → (pad ret n : ℕ) → action_in s k ≡ Cleanup pad → is_deciding (frame_in s k) ≡ false → return_of resumes pad ≡ Some ret → ret ≢ 0 → IsTrue (in_body k.callee (ret - 1)) → action_at k.callee (ret - 1) ≡ NoAction → places ≡ suc n →
             PassesShow s (k ∷ calls) f (from_pass places (pass_of phase.Cleanup space room c false))
         cleaned outer pad ret n is asks found returns inside silent room_left =

@@ -8,11 +8,11 @@ use Rattle.unwind_definitions.specs.Function.{Action, NoAction, Cleanup, Catch, 
 use Rattle.unwind_definitions.specs.LanguageSearch.{address_of_call, language_action}
 use Rattle.unwind_arch.specs.declared.x86_64.Context.{Context}
 use Rattle.unwind_arch.specs.Contexts.{columns_of}
-use Rattle.unwinding_core.specs.Columns.{with_value}
-use Rattle.unwinding_core.specs.FrameValue.{FrameValue}
-use Rattle.unwinding_core.specs.declared.abi.UnwindReasonCode.{UnwindReasonCode}
-use Rattle.unwinding_core.specs.declared.abi.TheConstants.UnwindReasonCode.{CONTINUE_UNWIND, HANDLER_FOUND}
-use Rattle.unwinding_core.specs.Personalities.{Asked, Answer, landed, searched, answered_by}
+use Rattle.unwinding_frames.specs.Columns.{with_value}
+use Rattle.unwinding_frames.specs.FrameValue.{FrameValue}
+use Rattle.unwinding_frames.specs.declared.abi.UnwindReasonCode.{UnwindReasonCode}
+use Rattle.unwinding_frames.specs.declared.abi.TheConstants.UnwindReasonCode.{CONTINUE_UNWIND, HANDLER_FOUND}
+use Rattle.unwinding_frames.specs.Personalities.{Asked, Answer, landed, searched, answered_by}
 use Rattle.stack_deliver.specs.declared.delivery.DeliverError.{DeliverError}
 use Rattle.stack_deliver.specs.declared.passes.Phase.TheVariants as phase
 use Rattle.stack_deliver.specs.Passes.{or_terminate, asked_if_named, enters, stops, pad_of}

@@ -41,7 +41,7 @@ pub delivered_ending : (r : Result Ending DeliverError) (room : RoomValue) (due 
 delivered_ending (Ok ending) room due o is ends = (delivered_in room ending, is, ends)
 delivered_ending (Err x) room due o is ends = absurd ends
 
--- ---- answers that want of memory may stand for
+-- ---- answers in whose place out of memory may stand
 
 pub refused : {A : Type 0} (r answer : Result A DeliverError) (e : DeliverError) → Delivers r answer → e ≢ NoMemory → r ≡ Err e → answer ≡ Err e
 refused r answer e (inl none) other is = let same : e ≡ NoMemory = cc in absurd (other same)

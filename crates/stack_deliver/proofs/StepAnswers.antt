@@ -16,15 +16,15 @@ use Rattle.unwind_definitions.specs.Scan.{scan}
 use Rattle.unwind_definitions.specs.LanguageTable.{input_at}
 use Rattle.unwind_definitions.specs.Caller as calls
 use Rattle.unwind_arch.specs.declared.x86_64.Context.{Context}
-use Rattle.unwinding_core.specs.declared.find_fde.custom.FrameInfoKind.{FrameInfoKind}
-use Rattle.unwinding_core.specs.declared.find_fde.custom.FrameInfoKind.TheVariants.{EhFrame, EhFrameHdr}
+use Rattle.fde_finders.specs.declared.custom.FrameInfoKind.{FrameInfoKind}
+use Rattle.fde_finders.specs.declared.custom.FrameInfoKind.TheVariants.{EhFrame, EhFrameHdr}
 use Rattle.unwind_definitions.specs.Expressions.{begun, operation_limit, evaluation}
 use Rattle.unwind_definitions.specs.Expressions as expressions
 use Rattle.frame_expressions.specs.Runs.{answer_is}
 use Rattle.frame_expressions.specs.Unmapped.{unmapped_evaluation}
-use Rattle.unwinding_core.specs.Finding.{FoundFde, table_bases, found_in}
+use Rattle.fde_finders.specs.Finding.{FoundFde, table_bases, found_in}
 use Rattle.unwind_definitions.specs.LanguageSearch.{address_of_call}
-use Rattle.unwinding_core.specs.Named.{found_by_kind, found_by}
+use Rattle.fde_finders.specs.Named.{found_by_kind, found_by}
 use Rattle.stack_deliver.specs.declared.space.Module.{Module}
 use Rattle.stack_deliver.specs.declared.delivery.DeliverError.{DeliverError}
 use Rattle.stack_deliver.specs.declared.delivery.DeliverError.TheVariants.{Table, Unmapped}
@@ -33,7 +33,7 @@ use Rattle.stack_deliver.specs.Modules.{SpaceValue, module_at}
 use Rattle.std.specs.Result.{result_map_both}
 use Rattle.stack_deliver.specs.declared.delivery.Stepped.{Stepped}
 use Rattle.stack_deliver.specs.Stepping.{FrameAt, frame_with, next_with, frame_by, frame_in, frame_of, caller_by, refusal_of, step_of, FindsNone, IsUncovered, EndsAt, RowFaults, FaultsAt, ExpressionReadsUnmapped, CfaReadsUnmapped, RuleReadsUnmapped, ColumnReadsUnmapped, ReadsUnmapped, ReadIsUnmapped, GivesCaller}
-use Rattle.unwinding_core.proofs.Callers.{HasValue, first_fault_below-lowest}
+use Rattle.unwinding_frames.proofs.Callers.{HasValue, first_fault_below-lowest}
 use Rattle.stack_deliver.proofs.StepParts.{some_next, stepped_by, step_is, none_framed}
 
 -- there is no frame where nothing is found

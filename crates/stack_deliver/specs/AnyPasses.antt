@@ -9,13 +9,13 @@ use Rattle.frame_rows.specs.RowValue.{RowValue}
 use Rattle.unwind_arch.specs.declared.x86_64.Context.{Context}
 use Rattle.unwind_arch.specs.Columns.{rsp}
 use Rattle.unwind_arch.specs.Contexts.{columns_of, context_of}
-use Rattle.unwinding_core.specs.declared.abi.UnwindReasonCode.{UnwindReasonCode}
-use Rattle.unwinding_core.specs.declared.abi.TheConstants.UnwindReasonCode.{HANDLER_FOUND}
-use Rattle.unwinding_core.specs.OneLine.{by_one}
-use Rattle.unwinding_core.specs.Passes.{Marked, Undoing, Stepping, Answering, LineEnd, RanOut, Decides, Fails, Crowded, Line, Fault, Installs, Gives, is_code, less_signal, IsSearched, IsCleanup}
-use Rattle.unwinding_core.specs.Passes as any
-use Rattle.unwinding_core.specs.Personalities.{Answer, rust_answers}
-use Rattle.unwinding_core.specs.Seen.{FrameSeen, Thrown, answering}
+use Rattle.unwinding_frames.specs.declared.abi.UnwindReasonCode.{UnwindReasonCode}
+use Rattle.unwinding_frames.specs.declared.abi.TheConstants.UnwindReasonCode.{HANDLER_FOUND}
+use Rattle.unwinding_frames.specs.OneLine.{by_one}
+use Rattle.unwinding_frames.specs.Passes.{Marked, Undoing, Stepping, Answering, LineEnd, RanOut, Decides, Fails, Crowded, Line, Fault, Installs, Gives, is_code, less_signal, IsSearched, IsCleanup}
+use Rattle.unwinding_frames.specs.Passes as any
+use Rattle.unwinding_frames.specs.Personalities.{Answer, rust_answers}
+use Rattle.unwinding_frames.specs.Seen.{FrameSeen, Thrown, answering}
 use Rattle.stack_deliver.specs.declared.delivery.Stepped.{Stepped}
 use Rattle.stack_deliver.specs.declared.delivery.Trail.{Trail}
 use Rattle.stack_deliver.specs.declared.delivery.Outcome.{Outcome}

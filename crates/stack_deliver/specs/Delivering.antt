@@ -34,7 +34,7 @@ line_after c (Ok None) outer = Ok (c ∷ [])
 line_after c (Ok (Some s)) outer = with_first c (outer s.context s.signal)
 
 -- The contexts from one outwards, each the caller of the one before, where there is room for so many. The mark says whether a
--- context was interrupted where it stands, as behind a signal's frame, and not behind a call.
+-- context was interrupted where it stands, as after a signal's frame, and not after a call.
 abbrev pub line_of : SpaceValue → ℕ → Context → Bool → Result (List Context) DeliverError
 line_of space zero c interrupted = Err FrameLimit
 line_of space (suc room) c interrupted = line_after c (step_of space c interrupted) (line_of space room)

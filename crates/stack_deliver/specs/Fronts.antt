@@ -8,10 +8,10 @@ use Rattle.unwind_definitions.specs.LanguageTable.{input_at}
 use Rattle.unwind_definitions.specs.LanguageSearch.{address_of_call}
 use Rattle.unwind_arch.specs.declared.x86_64.Context.{Context}
 use Rattle.eh_frame.specs.Search.{IsUnreadable, IsUncovered}
-use Rattle.unwinding_core.specs.declared.find_fde.custom.FrameInfoKind.{FrameInfoKind}
-use Rattle.unwinding_core.specs.declared.find_fde.custom.FrameInfoKind.TheVariants.{EhFrame, EhFrameHdr}
-use Rattle.unwinding_core.specs.Finding.{table_bases, relative_to}
-use Rattle.unwinding_core.specs.HeaderFinding.{found_by_header}
+use Rattle.fde_finders.specs.declared.custom.FrameInfoKind.{FrameInfoKind}
+use Rattle.fde_finders.specs.declared.custom.FrameInfoKind.TheVariants.{EhFrame, EhFrameHdr}
+use Rattle.fde_finders.specs.Finding.{table_bases, relative_to}
+use Rattle.fde_finders.specs.HeaderFinding.{found_by_header}
 use Rattle.stack_deliver.specs.declared.delivery.Stepped.{Stepped}
 use Rattle.stack_deliver.specs.declared.delivery.DeliverError.{DeliverError}
 use Rattle.stack_deliver.specs.declared.delivery.DeliverError.TheVariants.{FrameLimit}

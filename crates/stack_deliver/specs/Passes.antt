@@ -9,7 +9,7 @@ use Rattle.unwind_definitions.specs.Delivery.{decides}
 use Rattle.unwind_definitions.specs.LanguageSearch.{personality_address, address_of_call, language_action}
 use Rattle.unwind_arch.specs.declared.x86_64.Context.{Context}
 use Rattle.unwind_arch.specs.Columns.{rax, rdx, rsp}
-use Rattle.unwinding_core.specs.Finding.{FoundFde}
+use Rattle.fde_finders.specs.Finding.{FoundFde}
 use Rattle.stack_deliver.specs.declared.delivery.Stepped.{Stepped}
 use Rattle.stack_deliver.specs.declared.delivery.Trail.{Trail}
 use Rattle.stack_deliver.specs.declared.delivery.Ending.{Ending}
@@ -51,7 +51,7 @@ stops phase.Cleanup _ = true
 abbrev pub past_arguments : Context → ℕ → Context
 past_arguments c size = record c { registers = slice_set c.registers rsp ((slice_index c.registers rsp + size) % 2 ^ 64) }
 
--- where a pass stops: the context, whether it stands behind a signal's frame, what is asked there, and the context past its
+-- where a pass stops: the context, whether it stands after a signal's frame, what is asked there, and the context past its
 -- arguments, with which a landing pad is entered
 pub record Stop : Type 0 where
   pub context : Context
@@ -114,7 +114,7 @@ line_for phase space (suc room) c interrupted = line_turn c interrupted (turn_fo
 abbrev pub pass_of : Phase → SpaceValue → ℕ → Context → Bool → Result Line DeliverError
 pass_of p = line_for (Some p)
 
--- the mark by which a pass knows the frame that the search decided for: its stack pointer, less 1 behind a signal's frame
+-- the mark by which a pass knows the frame that the search decided for: its stack pointer, less 1 after a signal's frame
 abbrev pub kept_at : Context → Bool → ℕ
 kept_at c interrupted = if interrupted then (slice_index c.registers rsp + (2 ^ 64 - 1)) % 2 ^ 64 else slice_index c.registers rsp
 

@@ -4,9 +4,9 @@ use Rattle.std.specs.Option.{option_map}
 use Rattle.frame_rows.specs.Rows.{IsRowOf}
 use Rattle.unwind_arch.specs.declared.x86_64.Context.{Context}
 use Rattle.frame_rows.specs.RowValue.{RowValue}
-use Rattle.unwinding_core.specs.declared.find_fde.FDESearchResult.{FDESearchResult}
-use Rattle.unwinding_core.specs.Answered.{answered}
-use Rattle.unwinding_core.specs.Languages.{action_of}
+use Rattle.fde_finders.specs.declared.find_fde.FDESearchResult.{FDESearchResult}
+use Rattle.fde_finders.specs.Answered.{answered}
+use Rattle.unwinding_frames.specs.Languages.{action_of}
 use Rattle.stack_deliver.specs.declared.delivery.DeliverError.{DeliverError}
 use Rattle.stack_deliver.specs.declared.delivery.Ending.{Ending}
 use Rattle.stack_deliver.specs.declared.delivery.Trail.{Trail}
@@ -90,7 +90,7 @@ abbrev pub with_cleanups : List Trail → Result Passed DeliverError → Result 
 with_cleanups front (Ok passed) = Ok (record passed { trail = front ++ passed.trail })
 with_cleanups front (Err e) = Err e
 
--- the answer of passes, and the room behind it
+-- the answer of passes, and the room after it
 abbrev pub IsPassed : Result Ending DeliverError → RoomValue → Result Passed DeliverError → Type 0
 IsPassed (Ok ending) room due = due ≡ Ok (record { trail = room.trail; ending = ending })
 IsPassed (Err e) room due = due ≡ Err e

@@ -5,12 +5,12 @@ use Rattle.unwind_definitions.specs.Function.{Action, NoAction, Cleanup, Catch, 
 use Rattle.unwind_definitions.specs.LanguageSearch.{personality_address}
 use Rattle.unwind_arch.specs.declared.x86_64.Context.{Context}
 use Rattle.unwind_arch.specs.Contexts.{columns_of}
-use Rattle.unwinding_core.specs.declared.abi.TheConstants.UnwindReasonCode.{INSTALL_CONTEXT, CONTINUE_UNWIND, FATAL_PHASE1_ERROR, FATAL_PHASE2_ERROR}
-use Rattle.unwinding_core.specs.declared.abi.TheConstants.UnwindAction.{SEARCH_PHASE, FORCE_UNWIND}
-use Rattle.unwinding_core.specs.declared.abi.UnwindReasonCode.{UnwindReasonCode}
-use Rattle.unwinding_core.specs.Actions.{shares}
-use Rattle.unwinding_core.specs.FrameValue.{FrameValue}
-use Rattle.unwinding_core.specs.Personalities.{Asked, Answer, Landing, rust_answers}
+use Rattle.unwinding_frames.specs.declared.abi.TheConstants.UnwindReasonCode.{INSTALL_CONTEXT, CONTINUE_UNWIND, FATAL_PHASE1_ERROR, FATAL_PHASE2_ERROR}
+use Rattle.unwinding_frames.specs.declared.abi.TheConstants.UnwindAction.{SEARCH_PHASE, FORCE_UNWIND}
+use Rattle.unwinding_frames.specs.declared.abi.UnwindReasonCode.{UnwindReasonCode}
+use Rattle.unwinding_frames.specs.Actions.{shares}
+use Rattle.unwinding_frames.specs.FrameValue.{FrameValue}
+use Rattle.unwinding_frames.specs.Personalities.{Asked, Answer, Landing, rust_answers}
 use Rattle.stack_deliver.specs.Passes.{asked_of, enters}
 
 -- The columns of the return address and of the two registers that a landing pad finds its arguments in, RAX and RDX.

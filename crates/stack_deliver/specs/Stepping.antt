@@ -12,14 +12,14 @@ use Rattle.unwind_definitions.specs.Caller.{Columns, StepFault, x86_64, cfa_valu
 use Rattle.unwind_definitions.specs.Caller as calls
 use Rattle.unwind_arch.specs.declared.x86_64.Context.{Context}
 use Rattle.unwind_arch.specs.Contexts.{columns_of, context_of}
-use Rattle.unwinding_core.specs.declared.find_fde.custom.FrameInfoKind.{FrameInfoKind}
-use Rattle.unwinding_core.specs.declared.find_fde.custom.FrameInfoKind.TheVariants.{EhFrame, EhFrameHdr}
+use Rattle.fde_finders.specs.declared.custom.FrameInfoKind.{FrameInfoKind}
+use Rattle.fde_finders.specs.declared.custom.FrameInfoKind.TheVariants.{EhFrame, EhFrameHdr}
 use Rattle.unwind_definitions.specs.Expressions.{HasValue, HasFault, begun, operation_limit, evaluation}
 use Rattle.std.specs.List.{AllByRecursion}
 use Rattle.unwind_definitions.specs.HeaderSearch.{AreWithinDigits}
-use Rattle.unwinding_core.specs.Finding.{FoundFde, relative_to, table_bases}
-use Rattle.unwinding_core.specs.HeaderFinding.{found_by_header}
-use Rattle.unwinding_core.specs.Named.{found_by, pairs_by}
+use Rattle.fde_finders.specs.Finding.{FoundFde, relative_to, table_bases}
+use Rattle.fde_finders.specs.HeaderFinding.{found_by_header}
+use Rattle.fde_finders.specs.Named.{found_by, pairs_by}
 use Rattle.stack_deliver.specs.declared.delivery.Stepped.{Stepped}
 use Rattle.stack_deliver.specs.declared.delivery.DeliverError.{DeliverError}
 use Rattle.stack_deliver.specs.declared.delivery.DeliverError.TheVariants.{Table, Unmapped}

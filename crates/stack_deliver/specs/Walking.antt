@@ -56,7 +56,7 @@ pub record RoomValue : Type 0 where
   pub trail : List Trail
   pub limit : ℕ
 
--- a walk's answer and the room behind it are the states that are due, or the fault
+-- a walk's answer and the room after it are the states that are due, or the fault
 abbrev pub IsWalked : {A : Type 0} → Result A DeliverError → RoomValue → Result (List Context) DeliverError → Type 0
 IsWalked (Ok done) room due = due ≡ Ok room.visited
 IsWalked (Err e) room due = due ≡ Err e
@@ -65,7 +65,7 @@ IsWalked (Err e) room due = due ≡ Err e
 abbrev pub delivered_in : RoomValue → Ending → Delivered
 delivered_in room ending = record { visited = room.visited; trail = room.trail; outcome = ending.outcome; landing = ending.landing }
 
--- a delivery's answer and the room behind it are the delivery that is due, or its fault
+-- a delivery's answer and the room after it are the delivery that is due, or its fault
 abbrev pub IsDelivered : Result Ending DeliverError → RoomValue → Result Delivered DeliverError → Type 0
 IsDelivered (Ok ending) room due = due ≡ Ok (delivered_in room ending)
 IsDelivered (Err e) room due = due ≡ Err e
@@ -88,7 +88,7 @@ pub record ShowChain (cs : List Context) (s : State) (calls : List Call) : Type 
   pub rise : StacksRise (states_of s calls)
 
 -- The same of a delivery: every module describes its part of the functions, and where a handler takes the exception, the
--- resume table says where each frame inside it goes on behind its cleanup.
+-- resume table says where each frame inside it goes on after its cleanup.
 pub record StartsValidChain (space : SpaceValue) (c : Context) (resumes : List (ℕ × ℕ)) (limit : ℕ) (functions : List Function) (s : State) (calls : List Call) : Type 0 where
   pub valid : IsValid (process_of space) (columns_of c) resumes functions s calls
   pub shorter : length calls < limit

@@ -32,7 +32,8 @@ fn delivered<L: Ledger>(
 ) -> Result<Ending, DeliverError>
     requires within { limit ≤ room.old.limit }
     requires empty { (room.old.visited ≡ []) × (room.old.trail ≡ []) }
-    ensures exact { IsDelivered result room.new (delivery_of space.now start exception resumes.now limit) }
+    ensures exact { IsDelivered result room.new
+        (delivery_of space.now start exception resumes.now limit) }
     ensures places { room.new.limit ≡ room.old.limit }
     ensures ticks { RisesWithin space.now ((limit + 2) * limit) steps.old.number steps.new.number }
 {
@@ -72,7 +73,8 @@ fn emptied<L: Ledger>(
     steps: &mut Steps<L>,
 ) -> Result<Ending, DeliverError>
     requires { limit ≤ room.old.limit }
-    ensures exact { IsDelivered result room.new (delivery_of space.now start exception resumes.now limit) }
+    ensures exact { IsDelivered result room.new
+        (delivery_of space.now start exception resumes.now limit) }
     ensures emptied { OnErr result ((room.new.visited ≡ []) × (room.new.trail ≡ [])) }
     ensures places { room.new.limit ≡ room.old.limit }
     ensures whole { length start.registers ≡ 16 }
@@ -103,12 +105,12 @@ fn without_landing(outcome: Outcome) -> Ending
 /// the room. Of a frame whose description names a personality, whichever, the language table is
 /// asked at the address of the call. The search ends at the first frame whose table asks for a
 /// handler or to end the program; a table that can't be read ends the program. The frame is kept by
-/// its stack pointer, less one where it stands behind a signal's frame.
+/// its stack pointer, less one where it stands after a signal's frame.
 ///
 /// Where a frame takes the exception, cleanup passes go from the start again. Each enters the first
-/// landing pad on its way, with RAX the exception and RDX 0. A pad of the kept frame is the landing.
-/// Any other is a cleanup: it is put on the trail, and the next pass starts at the return address
-/// that the resume table has for the pad. No memory is taken, and the class isn't read.
+/// landing pad on its way, with RAX the exception and RDX 0. A pad of the kept frame is the
+/// landing. Any other is a cleanup: it is put on the trail, and the next pass starts at the return
+/// address that the resume table has for the pad. No memory is taken, and the class isn't read.
 /// Source: Itanium C++ ABI, exception handling, levels I and II.
 ///
 /// # Errors
@@ -119,8 +121,8 @@ fn without_landing(outcome: Outcome) -> Ending
 ///   allowed state comes first.
 /// - `PassLimit` where more than `limit` cleanups would run, `NoResume` where the resume table has
 ///   no entry for a cleanup's pad.
-/// - `Unmapped` and `Table` as in a step, and where the cell that names the personality isn't wholly
-///   mapped.
+/// - `Unmapped` and `Table` as in a step, and where the cell that names the personality isn't
+///   wholly mapped.
 pub fn deliver_into<L: Ledger>(
     space: &Space<'_>,
     start: &Context,
@@ -132,19 +134,27 @@ pub fn deliver_into<L: Ledger>(
     steps: &mut Steps<L>,
 ) -> Result<Ending, DeliverError>
     requires { limit ≤ room.old.limit }
-    // The room's states and cleanups and the ending are the delivery, and an error is its first fault.
-    ensures exact { IsDelivered result room.new (delivery_of space.now start.now exception resumes.now limit) }
+    // The room's states and cleanups and the ending are the delivery, and an error is its first
+    // fault.
+    ensures exact { IsDelivered result room.new
+        (delivery_of space.now start.now exception resumes.now limit) }
     ensures emptied { OnErr result ((room.new.visited ≡ []) × (room.new.trail ≡ [])) }
     ensures places { room.new.limit ≡ room.old.limit }
-    ensures unmapped { (a : ℕ) → result ≡ Err (DeliverError.Unmapped a) → word_at space.now.image a ≡ None }
+    ensures unmapped { (a : ℕ) → result ≡ Err (DeliverError.Unmapped a) →
+        word_at space.now.image a ≡ None }
     ensures takes_no_memory { result ≢ Err DeliverError.NoMemory }
-    // Each error comes exactly for its cause, and each outcome exactly where the search or a pass meets what it says.
-    ensures refused { (error : DeliverError) → (result ≡ Err error) ↔ IsRefused space.now start.now exception resumes.now limit error }
-    ensures ended { (outcome : Outcome) → IsOkAnd result (λ ending. ending.outcome ≡ outcome) ↔ EndsBy space.now start.now exception resumes.now limit outcome }
+    // Each error comes exactly for its cause, and each outcome exactly where the search or a pass
+    // meets what it says.
+    ensures refused { (error : DeliverError) → (result ≡ Err error) ↔
+        IsRefused space.now start.now exception resumes.now limit error }
+    ensures ended { (outcome : Outcome) → IsOkAnd result (λ ending. ending.outcome ≡ outcome) ↔
+        EndsBy space.now start.now exception resumes.now limit outcome }
     // What is delivered to a valid chain is what the definition says of the chain.
-    ensures chain { (functions : List Function) (s : State) (calls : List Call) → StartsValidChain space.now start.now resumes.now limit functions s calls →
+    ensures chain { (functions : List Function) (s : State) (calls : List Call) →
+        StartsValidChain space.now start.now resumes.now limit functions s calls →
         IsOkAnd result (λ ending. ShowsDelivery (delivered_in room.new ending) exception s calls) }
-    // The search and at most one pass more than the limit, each through as many states as the limit allows.
+    // The search and at most one pass more than the limit, each through as many states as the limit
+    // allows.
     ensures ticks { RisesWithin space.now ((limit + 2) * limit) steps.old.number steps.new.number }
 {
     // It is for languages that tell their own exceptions from those of others.
@@ -171,16 +181,27 @@ pub fn deliver(
     limit: u32,
 ) -> Result<Delivery, DeliverError>
     ensures exact { Delivers result (delivery_of space.now start.now exception resumes.now limit) }
-    ensures unmapped { (a : ℕ) → result ≡ Err (DeliverError.Unmapped a) → word_at space.now.image a ≡ None }
-    // Each error but that of memory comes only for its cause, and each outcome only where the search or a pass meets what it says.
-    ensures refused { (error : DeliverError) → error ≢ DeliverError.NoMemory → result ≡ Err error → IsRefused space.now start.now exception resumes.now limit error }
-    ensures ended { (outcome : Outcome) → IsOkAnd result (λ delivery. delivery.outcome ≡ outcome) → EndsBy space.now start.now exception resumes.now limit outcome }
+    ensures unmapped { (a : ℕ) → result ≡ Err (DeliverError.Unmapped a) →
+        word_at space.now.image a ≡ None }
+    // Each error but that of memory comes only for its cause, and each outcome only where the
+    // search or a pass meets what it says.
+    ensures refused { (error : DeliverError) → error ≢ DeliverError.NoMemory → result ≡ Err error →
+        IsRefused space.now start.now exception resumes.now limit error }
+    ensures ended { (outcome : Outcome) → IsOkAnd result (λ delivery. delivery.outcome ≡ outcome) →
+        EndsBy space.now start.now exception resumes.now limit outcome }
     // For each cause nothing else comes, unless memory runs out.
-    ensures refuses { (error : DeliverError) → IsRefused space.now start.now exception resumes.now limit error → (result ≡ Err DeliverError.NoMemory) ⊎ (result ≡ Err error) }
-    ensures ends { (outcome : Outcome) → EndsBy space.now start.now exception resumes.now limit outcome → (result ≡ Err DeliverError.NoMemory) ⊎ IsOkAnd result (λ delivery. delivery.outcome ≡ outcome) }
+    ensures refuses { (error : DeliverError) →
+        IsRefused space.now start.now exception resumes.now limit error →
+        (result ≡ Err DeliverError.NoMemory) ⊎ (result ≡ Err error) }
+    ensures ends { (outcome : Outcome) →
+        EndsBy space.now start.now exception resumes.now limit outcome →
+        (result ≡ Err DeliverError.NoMemory) ⊎
+        IsOkAnd result (λ delivery. delivery.outcome ≡ outcome) }
     // What is delivered to a valid chain is what the definition says of the chain.
-    ensures chain { (functions : List Function) (s : State) (calls : List Call) → StartsValidChain space.now start.now resumes.now limit functions s calls →
-        (result ≡ Err DeliverError.NoMemory) ⊎ IsOkAnd result (λ delivery. ShowsDelivery delivery exception s calls) }
+    ensures chain { (functions : List Function) (s : State) (calls : List Call) →
+        StartsValidChain space.now start.now resumes.now limit functions s calls →
+        (result ≡ Err DeliverError.NoMemory) ⊎
+        IsOkAnd result (λ delivery. ShowsDelivery delivery exception s calls) }
 {
     let mut room = Room::new(alloc, limit)?;
     let ending = deliver_into(

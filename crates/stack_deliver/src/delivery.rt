@@ -6,7 +6,7 @@ use eh_frame::Error;
 use std::alloc::AllocError;
 use std::marker::Model;
 use unwind_arch::x86_64::Context;
-use unwinding_core::StepError;
+use unwinding_frames::StepError;
 
 /// A cleanup that ran.
 #[derive(Clone, Copy, Debug, PartialEq, Eq)]
@@ -81,7 +81,7 @@ impl From<AllocError> for DeliverError {
 }
 
 impl From<StepError> for DeliverError {
-    ghost use Rattle.unwinding_core.specs.Calling.{fault_of};
+    ghost use Rattle.unwinding_frames.specs.Calling.{fault_of};
     ghost use Rattle.stack_deliver.specs.Stepping.{refusal_of};
 
     ghost from_gives = { λ e r. r ≡ refusal_of (fault_of e) };
@@ -108,7 +108,12 @@ impl Model for Delivery {
 
     ghost Value = { Delivered };
 
-    ghost view = { λ d. record { visited = d.visited.items; trail = d.trail.items; outcome = d.outcome; landing = d.landing } };
+    ghost view = { λ d. record {
+      visited = d.visited.items;
+      trail = d.trail.items;
+      outcome = d.outcome;
+      landing = d.landing;
+    } };
 }
 
 impl Delivery {

@@ -5,7 +5,7 @@ ghost use Rattle.unwind_definitions.specs.declared.error.Error.{Error as Fault};
 ghost use Rattle.unwind_definitions.specs.Scan.{scan};
 ghost use Rattle.unwind_arch.specs.declared.x86_64.Context.{Context};
 ghost use Rattle.eh_frame.specs.Listing.{listing_of};
-ghost use Rattle.unwinding_core.specs.Finding.{table_bases};
+ghost use Rattle.fde_finders.specs.Finding.{table_bases};
 ghost use Rattle.stack_deliver.specs.Delivering.{line_of};
 ghost use Rattle.stack_deliver.specs.FrontSample.{after_call, bad_row, cut_entry, held_by, no_entry, nowhere};
 ghost use Rattle.stack_deliver.specs.Fronts.{ComesTo, EndsFor, front_of, input_of, IsUndescribed, IsUndescribedIn, stopped_by};
@@ -16,9 +16,9 @@ use crate::passes::outwards;
 use crate::room::Room;
 use crate::space::Space;
 use eh_frame::{Bases, EhFrame, Entries, Error, RowRoom};
+use fde_finders::{FrameInfo, FrameInfoKind};
 use memory_image::{Ledger, MemoryImage, Steps};
 use unwind_arch::x86_64::Context;
-use unwinding_core::{FrameInfo, FrameInfoKind};
 
 /// Why a walk goes no further than its last state.
 ///
@@ -30,8 +30,9 @@ pub enum Front {
     Outermost,
     /// No module holds the address.
     NoModule(u64),
-    /// No description is found for the address: every entry of the frame table that its module names
-    /// can be read, and none contains it; or by the header that its module names nothing is found.
+    /// No description is found for the address: every entry of the frame table that its module
+    /// names can be read, and none contains it; or by the header that its module names nothing is
+    /// found.
     NoDescription(u64),
     /// An entry of the frame table can't be read, and none before it contains the address.
     UnreadableTable {
@@ -55,11 +56,14 @@ pub enum Front {
 
 /// The entry for which the scan of a frame table for an address fails.
 fn unreadable(entries: &mut Entries<'_>, turns: usize, address: u64, error: Error) -> Front
-    requires starts { ((listing_of entries.old).offset ≡ 0) × ((listing_of entries.old).is_over ≡ false) }
+    requires starts { ((listing_of entries.old).offset ≡ 0) ×
+        ((listing_of entries.old).is_over ≡ false) }
     requires enough { turns ≡ suc (length (listing_of entries.old).table.bytes) }
-    requires fails { scan (listing_of entries.old).bases (listing_of entries.old).table address ≡ Err error }
+    requires fails { scan (listing_of entries.old).bases (listing_of entries.old).table address ≡
+        Err error }
     requires unread { error ≢ Error.NoUnwindInfoForAddress }
-    ensures { IsUndescribedIn (listing_of entries.old).bases (listing_of entries.old).table address result }
+    ensures { IsUndescribedIn (listing_of entries.old).bases (listing_of entries.old).table address
+        result }
 {
     for _ in 0..turns {
         let offset = entries.offset();
@@ -76,8 +80,10 @@ fn unreadable(entries: &mut Entries<'_>, turns: usize, address: u64, error: Erro
 
 /// Why the scan of a frame table finds no description for an address.
 fn unlisted(bytes: &[u8], table: u64, text_base: Option<u64>, address: u64) -> Front
-    requires { (e : Fault) × (scan (table_bases text_base table) (input_of table bytes.now) address ≡ Err e) }
-    ensures { IsUndescribedIn (table_bases text_base table) (input_of table bytes.now) address result }
+    requires { (e : Fault) × (scan (table_bases text_base table)
+        (input_of table bytes.now) address ≡ Err e) }
+    ensures { IsUndescribedIn (table_bases text_base table)
+        (input_of table bytes.now) address result }
 {
     let bases = Bases {
         text: text_base,
@@ -180,11 +186,11 @@ fn fronted<L: Ledger>(
 /// Walks the stack whose innermost frame has the registers `start` into a room as far as it goes,
 /// and answers why it goes no further.
 ///
-/// The room is emptied first. Then it holds the states from the start outwards: each next one is the
-/// caller of the one before, by `step`, up to the end of the stack, to the first state whose step
-/// has a fault, or to the limit. `interrupted` says whether the start stands before its instruction
-/// and not after a call. So where `walk_into` answers, these are its states; where it is refused,
-/// they are the states before its fault. No memory is taken, and nothing is refused.
+/// The room is emptied first. Then it holds the states from the start outwards: each next one is
+/// the caller of the one before, by `step`, up to the end of the stack, to the first state whose
+/// step has a fault, or to the limit. `interrupted` says whether the start stands before its
+/// instruction and not after a call. So where `walk_into` answers, these are its states; where it
+/// is refused, they are the states before its fault. No memory is taken, and nothing is refused.
 pub fn walk_front_into<L: Ledger>(
     space: &Space<'_>,
     start: &Context,
@@ -197,15 +203,19 @@ pub fn walk_front_into<L: Ledger>(
     // The states are those from the start outwards, each the caller of the one before.
     ensures states { room.new.visited ≡ front_of space.now limit start.now interrupted }
     // They are all of a line that the limit has room for, and the first of any longer one.
-    ensures whole { (states : List Context) → line_of space.now limit start.now interrupted ≡ Ok states →
+    ensures whole { (states : List Context) →
+        line_of space.now limit start.now interrupted ≡ Ok states →
         room.new.visited ≡ states }
     ensures front { (longer : ℕ) (states : List Context) → limit ≤ longer →
-        line_of space.now longer start.now interrupted ≡ Ok states → room.new.visited ≡ take limit states }
+        line_of space.now longer start.now interrupted ≡ Ok states →
+        room.new.visited ≡ take limit states }
     // Each reason is given exactly for its cause.
-    ensures why { (reason : Front) → (result ≡ reason) ↔ ComesTo reason space.now limit start.now interrupted }
+    ensures why { (reason : Front) → (result ≡ reason) ↔
+        ComesTo reason space.now limit start.now interrupted }
     ensures no_cleanup { room.new.trail ≡ [] }
     ensures places { room.new.limit ≡ room.old.limit }
-    // As many searches as the limit allows states; none is counted where each module names a frame table.
+    // As many searches as the limit allows states; none is counted where each module names a frame
+    // table.
     ensures ticks { RisesWithin space.now limit steps.old.number steps.new.number }
 {
     fronted(space, start, interrupted, limit, room, steps)
@@ -213,12 +223,16 @@ pub fn walk_front_into<L: Ledger>(
 
 /// Each reason can be given, so that its cause can be met: after a call that returns to 0, to an
 /// address that no module holds, and into a module whose frame table is empty, is cut, or has a
-/// description with an unknown instruction; and where no state is allowed. The function does nothing.
+/// description with an unknown instruction; and where no state is allowed. The function does
+/// nothing.
 pub fn each_reason_is_given()
     ensures outermost { ComesTo Front.Outermost nowhere 1 (after_call 0) false }
     ensures no_module { ComesTo (Front.NoModule 0x1004) nowhere 1 (after_call 0x1005) false }
-    ensures no_description { ComesTo (Front.NoDescription 0x1004) (held_by no_entry) 1 (after_call 0x1005) false }
-    ensures unreadable { ComesTo (Front.UnreadableTable 0x1004 0 Error.UnexpectedEof) (held_by cut_entry) 1 (after_call 0x1005) false }
-    ensures refused { ComesTo (Front.Refused 0x1004 (DeliverError.Table Error.UnknownInstruction)) (held_by bad_row) 1 (after_call 0x1005) false }
+    ensures no_description { ComesTo (Front.NoDescription 0x1004)
+        (held_by no_entry) 1 (after_call 0x1005) false }
+    ensures unreadable { ComesTo (Front.UnreadableTable 0x1004 0 Error.UnexpectedEof)
+        (held_by cut_entry) 1 (after_call 0x1005) false }
+    ensures refused { ComesTo (Front.Refused 0x1004 (DeliverError.Table Error.UnknownInstruction))
+        (held_by bad_row) 1 (after_call 0x1005) false }
     ensures limit { ComesTo Front.Limit nowhere 0 (after_call 0x1005) false }
 {}

@@ -2,8 +2,8 @@
 // cleanups on the way to it. Itanium C++ ABI, exception handling, level I, section 1.3.
 ghost use Rattle.std.specs.Prelude.{◌≡◌, ◌≤◌, ◌<◌, ◌+◌, ◌*◌, ◌++◌, ◌∷◌, Err, [], true, false, length, Some, OnOk, OnErr, IfOk};
 ghost use Rattle.std.specs.Option.{option_map};
-ghost use Rattle.unwinding_core.specs.Answered.{answered};
-ghost use Rattle.unwinding_core.specs.Languages.{action_of};
+ghost use Rattle.fde_finders.specs.Answered.{answered};
+ghost use Rattle.unwinding_frames.specs.Languages.{action_of};
 ghost use Rattle.stack_deliver.specs.Passes.{asked_of, stops, stop_of, past_arguments, turn_for, line_for, kept_at, pad_of, enters, end_by, cleanup_of, cleanup_at, resume_at, passes_of};
 ghost use Rattle.stack_deliver.specs.Fronts.{reached_by, turned_from, IsReached};
 ghost use Rattle.stack_deliver.specs.Passing.{turn_shown, stop_shown, end_shown, visits, visited_with, StaysAt, IsOutward, IsPassed};
@@ -17,9 +17,10 @@ use crate::room::Room;
 use crate::space::Space;
 use crate::stepping::{frame_at, leave};
 use eh_frame::RowRoom;
+use fde_finders::FDESearchResult;
 use memory_image::{Ledger, MemoryImage, Steps};
 use unwind_arch::x86_64::{Context, RAX, RDX, RSP};
-use unwinding_core::{EhAction, FDESearchResult};
+use unwinding_frames::{EhAction, eh_action_of, personality_of};
 
 /// What a pass over the stack is for.
 #[derive(Clone, Copy)]
@@ -77,7 +78,8 @@ impl Stop {
 
     /// The registers with which a landing pad is entered.
     fn entering(&self, exception: u64, pad: u64) -> Context
-        ensures { result ≡ enters (past_arguments self.now.state.context self.now.arguments) exception pad }
+        ensures { result ≡ enters (past_arguments self.now.state.context self.now.arguments)
+            exception pad }
     {
         let mut context = self.state.context;
         // Past the arguments that the callee removes.
@@ -100,22 +102,19 @@ enum Turn {
     Caller,
 }
 
-/// What the language of a frame asks. A language table that can't be read ends the program, but what
-/// names the personality has to be read.
+/// What the language of a frame asks. A language table that can't be read ends the program, but
+/// what names the personality has to be read.
 fn asked(
     image: &MemoryImage<'_>,
     state: &Stepped,
     found: &FDESearchResult<'_>,
 ) -> Result<EhAction, DeliverError>
-    ensures { result_map action_of result ≡ asked_of image.now state.now.context state.now.signal (answered found.now) }
+    ensures { result_map action_of result ≡ asked_of image.now state.now.context state.now.signal
+        (answered found.now) }
 {
-    match found.personality(image)? {
+    match personality_of(found, image)? {
         None => Ok(EhAction::None),
-        Some(_) => Ok(
-            found
-                .eh_action(image, state.address())
-                .unwrap_or(EhAction::Terminate),
-        ),
+        Some(_) => Ok(eh_action_of(found, image, state.address()).unwrap_or(EhAction::Terminate)),
     }
 }
 
@@ -126,7 +125,8 @@ fn stop_action(
     state: &Stepped,
     found: &FDESearchResult<'_>,
 ) -> Result<Option<EhAction>, DeliverError>
-    ensures { result_map (option_map action_of) result ≡ stop_of phase image.now state.now.context state.now.signal (answered found.now) }
+    ensures { result_map (option_map action_of) result ≡ stop_of phase image.now state.now.context
+        state.now.signal (answered found.now) }
 {
     let Some(phase) = phase else {
         return Ok(None);
@@ -139,7 +139,8 @@ fn stop_action(
     }
 }
 
-/// What a walk or a pass meets at a state. Where that is the caller, it stands in the state's place.
+/// What a walk or a pass meets at a state. Where that is the caller, it stands in the state's
+/// place.
 #[tactic(auto, unfolding(crate::specs::Passes::turn_for))]
 fn meet<'a, L: Ledger>(
     phase: Option<Phase>,
@@ -148,10 +149,12 @@ fn meet<'a, L: Ledger>(
     rows: &mut RowRoom<'a>,
     steps: &mut Steps<L>,
 ) -> Result<Turn, DeliverError>
-    ensures met { result_map (turn_shown state.new) result ≡ turn_for phase space.now state.old.context state.old.signal }
+    ensures met { result_map (turn_shown state.new) result ≡ turn_for phase space.now
+        state.old.context state.old.signal }
     ensures stays { IfOk result (λ turn. StaysAt turn state.old state.new) }
     ensures unmoved { OnErr result (state.new ≡ state.old) }
-    ensures ticks { RisesBySearch (pairs_at space.now state.old.context state.old.signal) steps.old.number steps.new.number }
+    ensures ticks { RisesBySearch (pairs_at space.now state.old.context state.old.signal)
+        steps.old.number steps.new.number }
 {
     let Some(found) = frame_at(space, state, rows, steps)? else {
         return Ok(Turn::End);
@@ -176,8 +179,8 @@ fn visit(phase: Option<Phase>, state: &Stepped, room: &mut Room)
 }
 
 /// Goes from a state outwards: a walk, which has no phase and puts each state into the room, the
-/// search, which does so too, or a cleanup pass. It answers where it stops, `None` at the end of the
-/// stack. `state` is then the last state that was met or, after `FrameLimit`, the next.
+/// search, which does so too, or a cleanup pass. It answers where it stops, `None` at the end of
+/// the stack. `state` is then the last state that was met or, after `FrameLimit`, the next.
 pub(crate) fn outwards<'a, L: Ledger>(
     phase: Option<Phase>,
     space: &Space<'a>,
@@ -189,8 +192,10 @@ pub(crate) fn outwards<'a, L: Ledger>(
 ) -> Result<Option<Stop>, DeliverError>
     requires within { limit ≤ room.old.limit }
     requires empty { visits phase ≡ true → room.old.visited ≡ [] }
-    ensures exact { IsOutward (visits phase) result room.new (line_for phase space.now limit state.old.context state.old.signal) }
-    ensures reached { IsReached (visits phase) room.new state.new (reached_by (turned_from phase space.now) limit state.old) }
+    ensures exact { IsOutward (visits phase) result room.new
+        (line_for phase space.now limit state.old.context state.old.signal) }
+    ensures reached { IsReached (visits phase) room.new state.new
+        (reached_by (turned_from phase space.now) limit state.old) }
     ensures kept { (room.new.trail ≡ room.old.trail) × (room.new.limit ≡ room.old.limit) }
     ensures stays { visits phase ≡ false → room.new ≡ room.old }
     ensures ticks { RisesWithin space.now limit steps.old.number steps.new.number }
@@ -256,7 +261,8 @@ fn cleanup<'a, L: Ledger>(
     steps: &mut Steps<L>,
 ) -> Result<Pass, DeliverError>
     requires within { limit ≤ room.old.limit }
-    ensures exact { result_map end_shown result ≡ cleanup_of space.now exception kept limit start.now }
+    ensures exact { result_map end_shown result ≡ cleanup_of space.now exception kept limit
+        start.now }
     ensures stays { room.new ≡ room.old }
     ensures ticks { RisesWithin space.now limit steps.old.number steps.new.number }
 {
@@ -271,7 +277,7 @@ fn cleanup<'a, L: Ledger>(
     }
 }
 
-/// Puts the cleanup at a landing pad on the trail, and gives the registers behind it.
+/// Puts the cleanup at a landing pad on the trail, and gives the registers after it.
 fn resume(
     pad: u64,
     entered: Context,
@@ -281,8 +287,10 @@ fn resume(
 ) -> Result<Context, DeliverError>
     requires within { limit ≤ room.old.limit }
     ensures full { limit ≤ length room.old.trail → result ≡ Err DeliverError.PassLimit }
-    ensures resumed { length room.old.trail < limit → result ≡ resume_at pad entered (return_of resumes.now pad) }
-    ensures trail { OnOk result (room.new ≡ record room.old { trail = room.old.trail ++ cleanup_at pad entered ∷ [] }) }
+    ensures resumed { length room.old.trail < limit →
+        result ≡ resume_at pad entered (return_of resumes.now pad) }
+    ensures trail { OnOk result
+        (room.new ≡ record room.old { trail = room.old.trail ++ cleanup_at pad entered ∷ [] }) }
     ensures kept { (room.new.visited ≡ room.old.visited) × (room.new.limit ≡ room.old.limit) }
 {
     if room.trail_len() >= limit as usize {
@@ -302,7 +310,7 @@ fn resume(
     }
 }
 
-/// The cleanup passes from the start on, each but the first from behind the cleanup before it, until
+/// The cleanup passes from the start on, each but the first from after the cleanup before it, until
 /// one enters the handler of the frame with the kept mark or ends the program.
 pub(crate) fn passes<'a, L: Ledger>(
     space: &Space<'a>,
@@ -317,7 +325,8 @@ pub(crate) fn passes<'a, L: Ledger>(
 ) -> Result<Ending, DeliverError>
     requires within { limit ≤ room.old.limit }
     requires empty { room.old.trail ≡ [] }
-    ensures exact { IsPassed result room.new (passes_of space.now exception kept resumes.now limit limit start.now) }
+    ensures exact { IsPassed result room.new
+        (passes_of space.now exception kept resumes.now limit limit start.now) }
     ensures kept { (room.new.visited ≡ room.old.visited) × (room.new.limit ≡ room.old.limit) }
     ensures ticks { RisesWithin space.now ((limit + 1) * limit) steps.old.number steps.new.number }
 {

@@ -6,17 +6,17 @@ ghost use Rattle.unwind_definitions.specs.Row.{Run};
 ghost use Rattle.frame_rows.specs.RowValue.{RowValue};
 ghost use Rattle.unwind_arch.specs.declared.x86_64.Context.{Context};
 ghost use Rattle.unwind_arch.specs.Contexts.{columns_of};
-ghost use Rattle.unwinding_core.specs.FrameValue.{FrameValue};
-ghost use Rattle.unwinding_core.specs.Sample as sample;
-ghost use Rattle.unwinding_core.specs.Personalities.{Asked, searched};
-ghost use Rattle.unwinding_core.specs.Seen.{Thrown};
+ghost use Rattle.unwinding_frames.specs.FrameValue.{FrameValue};
+ghost use Rattle.unwinding_frames.specs.Sample as sample;
+ghost use Rattle.unwinding_frames.specs.Personalities.{Asked, searched};
+ghost use Rattle.unwinding_frames.specs.Seen.{Thrown};
 ghost use Rattle.stack_deliver.specs.declared.delivery.DeliverError.{DeliverError};
 ghost use Rattle.stack_deliver.specs.AnyPasses.{stepping_in, rust_in, Search, search_of, IsSearchBy, IsPassBy, IsDeliveryBy};
 ghost use Rattle.stack_deliver.specs.Delivering.{Delivered, delivery_of};
 ghost use Rattle.stack_deliver.specs.Modules.{SpaceValue};
 ghost use Rattle.stack_deliver.specs.Passes.{PassEnd, stops, pad_of, cleanup_of};
 ghost use Rattle.stack_deliver.specs.Personality.{InSearch, InCleanup, IsAsked, AnswersCleanup, answer_for, code_of};
-ghost use Rattle.unwinding_core.specs.declared.abi.TheConstants.UnwindReasonCode.{CONTINUE_UNWIND, HANDLER_FOUND};
+ghost use Rattle.unwinding_frames.specs.declared.abi.TheConstants.UnwindReasonCode.{CONTINUE_UNWIND, HANDLER_FOUND};
 
 use crate::passes::Phase;
 
@@ -29,17 +29,31 @@ use crate::passes::Phase;
 /// delivery adds the size of the arguments to the stack pointer of what is installed.
 /// Source: Itanium C++ ABI, exception handling, section 2.5.
 pub fn passes_ask_the_personality()
-    ensures search { (image : List Span) (c : Context) (interrupted : Bool) (frame : FrameValue) (action : Action) (asked : Asked) → IsAsked image c interrupted frame action → InSearch asked →
+    ensures search { (image : List Span) (c : Context) (interrupted : Bool) (frame : FrameValue)
+        (action : Action) (asked : Asked) → IsAsked image c interrupted frame action →
+        InSearch asked →
         answer_for asked image frame c interrupted ≡ (searched action, columns_of c) }
-    ensures cleanup { (image : List Span) (c : Context) (interrupted : Bool) (frame : FrameValue) (action : Action) (asked : Asked) → IsAsked image c interrupted frame action → InCleanup asked → length c.registers ≡ 16 →
+    ensures cleanup { (image : List Span) (c : Context) (interrupted : Bool) (frame : FrameValue)
+        (action : Action) (asked : Asked) → IsAsked image c interrupted frame action →
+        InCleanup asked → length c.registers ≡ 16 →
         AnswersCleanup action asked.exception c (answer_for asked image frame c interrupted) }
-    // A pass stops exactly where the personality doesn't go on, and the search takes exactly where a handler is found.
-    ensures search_stops { (image : List Span) (c : Context) (interrupted : Bool) (frame : FrameValue) (action : Action) (asked : Asked) → IsAsked image c interrupted frame action → InSearch asked →
-        (stops Phase.Search action ≡ true) ↔ (code_of (answer_for asked image frame c interrupted) ≢ CONTINUE_UNWIND) }
-    ensures search_takes { (image : List Span) (c : Context) (interrupted : Bool) (frame : FrameValue) (action : Action) (asked : Asked) → IsAsked image c interrupted frame action → InSearch asked →
-        ((stops Phase.Search action ≡ true) × IsSome (pad_of action)) ↔ (code_of (answer_for asked image frame c interrupted) ≡ HANDLER_FOUND) }
-    ensures cleanup_stops { (image : List Span) (c : Context) (interrupted : Bool) (frame : FrameValue) (action : Action) (asked : Asked) → IsAsked image c interrupted frame action → InCleanup asked → length c.registers ≡ 16 →
-        (stops Phase.Cleanup action ≡ true) ↔ (code_of (answer_for asked image frame c interrupted) ≢ CONTINUE_UNWIND) }
+    // A pass stops exactly where the personality doesn't go on, and the search takes exactly where
+    // a handler is found.
+    ensures search_stops { (image : List Span) (c : Context) (interrupted : Bool)
+        (frame : FrameValue) (action : Action) (asked : Asked) →
+        IsAsked image c interrupted frame action → InSearch asked →
+        (stops Phase.Search action ≡ true) ↔
+        (code_of (answer_for asked image frame c interrupted) ≢ CONTINUE_UNWIND) }
+    ensures search_takes { (image : List Span) (c : Context) (interrupted : Bool)
+        (frame : FrameValue) (action : Action) (asked : Asked) →
+        IsAsked image c interrupted frame action → InSearch asked →
+        ((stops Phase.Search action ≡ true) × IsSome (pad_of action)) ↔
+        (code_of (answer_for asked image frame c interrupted) ≡ HANDLER_FOUND) }
+    ensures cleanup_stops { (image : List Span) (c : Context) (interrupted : Bool)
+        (frame : FrameValue) (action : Action) (asked : Asked) →
+        IsAsked image c interrupted frame action → InCleanup asked → length c.registers ≡ 16 →
+        (stops Phase.Cleanup action ≡ true) ↔
+        (code_of (answer_for asked image frame c interrupted) ≢ CONTINUE_UNWIND) }
 {}
 
 /// The premises of the laws here can be met: a frame whose function has a handler at
@@ -57,10 +71,10 @@ pub fn a_handler_is_asked_for()
 /// The definitions of a search and of a cleanup pass that the runs of `unwinding_core` go by hold,
 /// at that step and that personality, of exactly one answer, and a delivery's is that one: the
 /// states that the search visits, where it ends, and the stack pointer that it keeps; how a cleanup
-/// pass toward such a stack pointer ends; and a whole delivery, which is the search and then cleanup
-/// passes, each but the first from where the resume table sends the cleanup before it. The
-/// personality doesn't read the row of a frame, so this may be given by any function.
-/// Source: Itanium C++ ABI, exception handling, level I, section 1.3.
+/// pass toward such a stack pointer ends; and a whole delivery, which is the search and then
+/// cleanup passes, each but the first from where the resume table sends the cleanup before it. The
+/// personality doesn't read the row of a frame, so this may be given by any function. Source:
+/// Itanium C++ ABI, exception handling, level I, section 1.3.
 pub fn deliveries_are_passes()
     ensures search { (space : SpaceValue) (row : Run → RowValue) (thrown : Thrown) (limit : ℕ)
         (start : Context) (due : Result Search DeliverError) → length start.registers ≡ 16 →

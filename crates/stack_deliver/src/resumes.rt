@@ -58,5 +58,6 @@ impl Resumes {
 /// Of several entries of one pad the first one counts: what `find` answers for a table that was
 /// filled from nothing is what stands first with the pad among the entries in the order of adding.
 pub fn first_entry_counts()
-    ensures { (entries : List (ℕ × ℕ)) (pad : ℕ) → return_of (resume_table entries) pad ≡ return_of entries pad }
+    ensures { (entries : List (ℕ × ℕ)) (pad : ℕ) →
+        return_of (resume_table entries) pad ≡ return_of entries pad }
 {}

@@ -8,8 +8,8 @@ use unwind_arch::x86_64::Context;
 
 /// Place for the states that a walk or a delivery visits and for the cleanups that it runs.
 ///
-/// It is reserved once, 168 bytes for each place, and not filled: memory that no state reaches isn't
-/// touched. A walk into a room takes no more, so a sampler that keeps one allocates nothing.
+/// It is reserved once, 168 bytes for each place, and not filled: memory that no state reaches
+/// isn't touched. A walk into a room takes no more, so a sampler that keeps one allocates nothing.
 ///
 /// Contracts see the states, the cleanups, and of how many of each there are the places.
 #[derive(Drop)]
@@ -25,9 +25,11 @@ impl Model for Room {
 
     ghost Value = { RoomValue };
 
-    ghost view = { λ r. record { visited = r.visited.items; trail = r.trail.items; limit = r.limit } };
+    ghost view = { λ r. record
+        { visited = r.visited.items; trail = r.trail.items; limit = r.limit } };
 
-    ghost invariant = { λ r. (vec_capacity r.visited ≡ r.limit) × (vec_capacity r.trail ≡ r.limit) };
+    ghost invariant = { λ r. (vec_capacity r.visited ≡ r.limit) ×
+        (vec_capacity r.trail ≡ r.limit) };
 }
 
 impl Room {

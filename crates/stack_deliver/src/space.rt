@@ -4,18 +4,18 @@ ghost use Rattle.memory_image.specs.Image.{IsLaidOut};
 ghost use Rattle.stack_deliver.specs.Modules.{module_refusal, lowest_shared, module_at, with_module, modules_in, AreApart};
 ghost use Rattle.stack_deliver.specs.Modules.{last_below, first_between};
 
+use fde_finders::FrameInfo;
 use memory_image::MemoryImage;
 use std::alloc::Global;
 use std::collections::BTreeMap;
 use std::marker::Model;
-use unwinding_core::FrameInfo;
 
 /// An ELF module: its addresses are those from `start` to before `end`.
 #[derive(Clone, Copy, Debug, PartialEq, Eq)]
 pub struct Module {
     /// Its first address.
     pub start: u64,
-    /// The address behind its last.
+    /// The address after its last.
     pub end: u64,
     /// Where its frame tables lie.
     pub frame: FrameInfo,
@@ -82,8 +82,14 @@ impl<'a> Space<'a> {
     /// In this order: `Wraps` where the range is empty or reversed, `Overlap` with the lowest start
     /// of an earlier module that shares an address, `NoMemory`. The space is then as before.
     pub fn add_elf(&mut self, start: u64, end: u64, frame: FrameInfo) -> Result<(), SpaceError>
-        ensures refused { MatchOption (module_refusal self.old.modules (record { start = start; end = end; frame = frame })) (IsOkUnless result SpaceError.NoMemory) (λ error. result ≡ Err error) }
-        ensures added { OnOk result (self.new ≡ record self.old { modules = with_module (record { start = start; end = end; frame = frame }) self.old.modules }) }
+        ensures refused { MatchOption
+            (module_refusal self.old.modules (record { start = start; end = end; frame = frame }))
+            (IsOkUnless result SpaceError.NoMemory) (λ error. result ≡ Err error) }
+        ensures added { OnOk result
+            (self.new ≡ record self.old {
+              modules = with_module (record { start = start; end = end; frame = frame })
+                  self.old.modules;
+            }) }
         ensures unchanged { OnErr result (self.new ≡ self.old) }
     {
         if end <= start {

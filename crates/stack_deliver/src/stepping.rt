@@ -10,9 +10,9 @@ ghost use Rattle.unwind_definitions.specs.Row.{Run};
 ghost use Rattle.unwind_definitions.specs.Caller.{x86_64, caller_of};
 ghost use Rattle.frame_rows.specs.Rows.{IsRowOf};
 ghost use Rattle.unwind_definitions.specs.Expressions.{evaluation};
-ghost use Rattle.unwinding_core.specs.Calling.{columns_given};
+ghost use Rattle.unwinding_frames.specs.Calling.{columns_given};
 ghost use Rattle.unwind_arch.specs.Contexts.{columns_of};
-ghost use Rattle.unwinding_core.specs.Named.{found_by, pairs_by};
+ghost use Rattle.fde_finders.specs.Named.{found_by, pairs_by};
 ghost use Rattle.stack_deliver.specs.Modules.{AreApart, contains};
 ghost use Rattle.stack_deliver.specs.Processes.{process_of};
 ghost use Rattle.stack_deliver.specs.Passing.{IsFrameOf, GivesFrameAt};
@@ -23,11 +23,10 @@ ghost use Rattle.stack_deliver.specs.Walking.{IsDescribedCall, Undone};
 use crate::delivery::{DeliverError, Stepped};
 use crate::space::{Module, Space};
 use eh_frame::RowRoom;
+use fde_finders::{FDESearchResult, FrameInfo, find_named};
 use memory_image::{Ledger, MemoryImage, Steps};
 use unwind_arch::x86_64::{Arch, Context};
-use unwinding_core::{
-    FDESearchResult, FrameInfo, StepError, address_asked, find_named, step_by_row,
-};
+use unwinding_frames::{StepError, address_asked, step_by_row};
 
 impl Stepped {
     /// The address that is asked of the frame: that of its instruction, or of a byte of its call.
@@ -46,7 +45,8 @@ fn elf_frame<'a, L: Ledger>(
     rows: &mut RowRoom<'a>,
     steps: &mut Steps<L>,
 ) -> Result<Option<FDESearchResult<'a>>, DeliverError>
-    ensures frame { GivesFrameAt result rows.new (frame_by address (found_by tables image.now address)) }
+    ensures frame { GivesFrameAt result rows.new
+        (frame_by address (found_by tables image.now address)) }
     ensures ticks { RisesBySearch (pairs_by tables image.now) steps.old.number steps.new.number }
 {
     let Some(found) = find_named(image, address, tables, steps) else {
@@ -67,7 +67,8 @@ fn frame_in<'a, L: Ledger>(
     steps: &mut Steps<L>,
 ) -> Result<Option<FDESearchResult<'a>>, DeliverError>
     ensures frame { GivesFrameAt result rows.new (frame_in image.now address (Some holder)) }
-    ensures ticks { RisesBySearch (pairs_by holder.frame image.now) steps.old.number steps.new.number }
+    ensures ticks { RisesBySearch (pairs_by holder.frame image.now) steps.old.number
+        steps.new.number }
 {
     elf_frame(image, address, holder.frame, rows, steps)
 }
@@ -81,8 +82,10 @@ pub(crate) fn frame_at<'a, L: Ledger>(
     rows: &mut RowRoom<'a>,
     steps: &mut Steps<L>,
 ) -> Result<Option<FDESearchResult<'a>>, DeliverError>
-    ensures frame { GivesFrameAt result rows.new (frame_of space.now state.now.context state.now.signal) }
-    ensures ticks { RisesBySearch (pairs_at space.now state.now.context state.now.signal) steps.old.number steps.new.number }
+    ensures frame { GivesFrameAt result rows.new
+        (frame_of space.now state.now.context state.now.signal) }
+    ensures ticks { RisesBySearch (pairs_at space.now state.now.context state.now.signal)
+        steps.old.number steps.new.number }
 {
     let address = state.address();
     match space.module_at(address) {
@@ -99,22 +102,25 @@ fn caller(
     context: &Context,
     rows: &RowRoom<'_>,
 ) -> Result<Context, StepError>
-    ensures { (run : Run) → IsRowOf rows.now run → columns_given columns_of result ≡ caller_of x86_64 (evaluation image.now) image.now (columns_of context.now) run }
+    ensures { (run : Run) → IsRowOf rows.now run →
+        columns_given columns_of result ≡ caller_of x86_64 (evaluation image.now) image.now
+        (columns_of context.now) run }
 {
     let mut caller = *context;
     step_by_row::<Arch>(image, &mut caller, &rows.row())?;
     Ok(caller)
 }
 
-/// Puts the caller of the frame at a state in the state's place, by the row in `rows`. After a fault
-/// the state is as before.
+/// Puts the caller of the frame at a state in the state's place, by the row in `rows`. After a
+/// fault the state is as before.
 pub(crate) fn leave(
     image: &MemoryImage<'_>,
     state: &mut Stepped,
     found: &FDESearchResult<'_>,
     rows: &RowRoom<'_>,
 ) -> Result<(), DeliverError>
-    ensures caller { (f : FrameAt) → IsFrameOf found.now rows.now f → result_map (λ done. state.new) result ≡ caller_by image.now state.old.context f }
+    ensures caller { (f : FrameAt) → IsFrameOf found.now rows.now f →
+        result_map (λ done. state.new) result ≡ caller_by image.now state.old.context f }
     ensures stays { OnErr result (state.new ≡ state.old) }
 {
     *state = Stepped {
@@ -133,7 +139,8 @@ fn stepped<L: Ledger>(
     ensures exact { result ≡ step_of space.now context.now interrupted }
     ensures apart { AreApart 0 space.now.modules }
     ensures laid_out { IsLaidOut 0 space.now.image }
-    ensures ticks { RisesBySearch (pairs_at space.now context.now interrupted) steps.old.number steps.new.number }
+    ensures ticks { RisesBySearch (pairs_at space.now context.now interrupted) steps.old.number
+        steps.new.number }
 {
     let image = space.image();
     let mut rows = RowRoom::new();
@@ -150,7 +157,7 @@ fn stepped<L: Ledger>(
 
 /// The caller of the frame whose registers `context` holds, `None` at the end of the stack.
 ///
-/// The address asked is `ra`, less one unless the frame was `interrupted`: behind a call the
+/// The address asked is `ra`, less one unless the frame was `interrupted`: after a call the
 /// instruction that called is the one before, which may be the last of its function. The stack
 /// ends where `ra` is 0, or where the address is in no module or no description is found for it:
 /// none contains it, or an entry before can't be read. Steps are counted in the search of a
@@ -159,9 +166,9 @@ fn stepped<L: Ledger>(
 /// # Errors
 ///
 /// `Table` where the row of the description can't be read or run, an expression has no value, or a
-/// register isn't the machine's; `Unmapped` with the address of a stack slot, or of a number that an
-/// expression reads, that isn't wholly mapped. The first fault counts: those of the row, then that
-/// of the canonical frame address, and then that of the lowest register.
+/// register isn't the machine's; `Unmapped` with the address of a stack slot, or of a number that
+/// an expression reads, that isn't wholly mapped. The first fault counts: those of the row, then
+/// that of the canonical frame address, and then that of the lowest register.
 pub fn step<L: Ledger>(
     space: &Space<'_>,
     context: &Context,
@@ -169,15 +176,22 @@ pub fn step<L: Ledger>(
     steps: &mut Steps<L>,
 ) -> Result<Option<Stepped>, DeliverError>
     ensures exact { result ≡ step_of space.now context.now interrupted }
-    ensures caller { (next : Stepped) → (result ≡ Ok (Some next)) ↔ GivesCaller space.now context.now interrupted next }
+    ensures caller { (next : Stepped) → (result ≡ Ok (Some next)) ↔
+        GivesCaller space.now context.now interrupted next }
     ensures ends { (result ≡ Ok None) ↔ EndsAt space.now context.now interrupted }
-    ensures table { (e : Fault) → (result ≡ Err (DeliverError.Table e)) ↔ FaultsAt space.now context.now interrupted e }
-    ensures unmapped { (a : ℕ) → result ≡ Err (DeliverError.Unmapped a) → word_at space.now.image a ≡ None }
-    ensures reads { (a : ℕ) → (result ≡ Err (DeliverError.Unmapped a)) ↔ ReadIsUnmapped space.now context.now interrupted a }
-    ensures undone { (functions : List Function) (s : State) (call : Call) → IsDescribedCall (process_of space.now) functions s call →
-        Shows (columns_of context.now) s → IsFalse interrupted → Undone result (columns_of context.now) call.caller }
+    ensures table { (e : Fault) → (result ≡ Err (DeliverError.Table e)) ↔
+        FaultsAt space.now context.now interrupted e }
+    ensures unmapped { (a : ℕ) → result ≡ Err (DeliverError.Unmapped a) →
+        word_at space.now.image a ≡ None }
+    ensures reads { (a : ℕ) → (result ≡ Err (DeliverError.Unmapped a)) ↔
+        ReadIsUnmapped space.now context.now interrupted a }
+    ensures undone { (functions : List Function) (s : State) (call : Call) →
+        IsDescribedCall (process_of space.now) functions s call →
+        Shows (columns_of context.now) s → IsFalse interrupted →
+        Undone result (columns_of context.now) call.caller }
     // No step is counted where the module names a frame table.
-    ensures ticks { RisesBySearch (pairs_at space.now context.now interrupted) steps.old.number steps.new.number }
+    ensures ticks { RisesBySearch (pairs_at space.now context.now interrupted) steps.old.number
+        steps.new.number }
 {
     stepped(space, context, interrupted, steps)
 }

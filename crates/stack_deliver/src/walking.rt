@@ -59,10 +59,10 @@ fn walked<L: Ledger>(
 
 /// Walks the stack whose innermost frame has the registers `start` into a room.
 ///
-/// The room is emptied first. Then it holds the states from the start outwards: each next one is the
-/// caller of the one before, by `step`, until the stack ends. `interrupted` says whether the start
-/// stands before its instruction and not behind a call; so does each state behind a signal's frame.
-/// No memory is taken.
+/// The room is emptied first. Then it holds the states from the start outwards: each next one is
+/// the caller of the one before, by `step`, until the stack ends. `interrupted` says whether the
+/// start stands before its instruction and not after a call; so does each state after a signal's
+/// frame. No memory is taken.
 ///
 /// # Errors
 ///
@@ -83,14 +83,19 @@ pub fn walk_into<L: Ledger>(
     ensures no_cleanup { room.new.trail ≡ [] }
     ensures places { room.new.limit ≡ room.old.limit }
     // The limit is met exactly where more states are needed.
-    ensures frame_limit { (result ≡ Err DeliverError.FrameLimit) ↔ NeedsMore space.now limit start.now interrupted }
-    ensures step_fault { (error : DeliverError) → error ≢ DeliverError.FrameLimit → (result ≡ Err error) ↔ StepFails space.now limit start.now interrupted error }
-    ensures unmapped { (a : ℕ) → result ≡ Err (DeliverError.Unmapped a) → word_at space.now.image a ≡ None }
+    ensures frame_limit { (result ≡ Err DeliverError.FrameLimit) ↔
+        NeedsMore space.now limit start.now interrupted }
+    ensures step_fault { (error : DeliverError) → error ≢ DeliverError.FrameLimit →
+        (result ≡ Err error) ↔ StepFails space.now limit start.now interrupted error }
+    ensures unmapped { (a : ℕ) → result ≡ Err (DeliverError.Unmapped a) →
+        word_at space.now.image a ≡ None }
     ensures takes_no_memory { result ≢ Err DeliverError.NoMemory }
     // A described chain that the limit has room for is walked to its end.
-    ensures chain { (functions : List Function) (s : State) (calls : List Call) → StartsChain space.now start.now limit functions s calls → IsFalse interrupted →
+    ensures chain { (functions : List Function) (s : State) (calls : List Call) →
+        StartsChain space.now start.now limit functions s calls → IsFalse interrupted →
         IsOk result × ShowChain room.new.visited s calls }
-    // As many searches as the limit allows states; none is counted where each module names a frame table.
+    // As many searches as the limit allows states; none is counted where each module names a frame
+    // table.
     ensures ticks { RisesWithin space.now limit steps.old.number steps.new.number }
 {
     // No two of its modules share an address, as a space's type says.
@@ -147,15 +152,23 @@ pub fn walk(
 ) -> Result<Visited, DeliverError>
     ensures exact { Delivers result (line_of space.now limit start.now interrupted) }
     // The limit is met exactly where more states are needed.
-    ensures frame_limit { result ≡ Err DeliverError.FrameLimit → NeedsMore space.now limit start.now interrupted }
-    ensures needs_more { NeedsMore space.now limit start.now interrupted → (result ≡ Err DeliverError.NoMemory) ⊎ (result ≡ Err DeliverError.FrameLimit) }
-    ensures step_fault { (error : DeliverError) → error ≢ DeliverError.FrameLimit → error ≢ DeliverError.NoMemory → result ≡ Err error → StepFails space.now limit start.now interrupted error }
-    ensures step_fails { (error : DeliverError) → error ≢ DeliverError.FrameLimit → StepFails space.now limit start.now interrupted error →
+    ensures frame_limit { result ≡ Err DeliverError.FrameLimit →
+        NeedsMore space.now limit start.now interrupted }
+    ensures needs_more { NeedsMore space.now limit start.now interrupted →
+        (result ≡ Err DeliverError.NoMemory) ⊎ (result ≡ Err DeliverError.FrameLimit) }
+    ensures step_fault { (error : DeliverError) → error ≢ DeliverError.FrameLimit →
+        error ≢ DeliverError.NoMemory → result ≡ Err error →
+        StepFails space.now limit start.now interrupted error }
+    ensures step_fails { (error : DeliverError) → error ≢ DeliverError.FrameLimit →
+        StepFails space.now limit start.now interrupted error →
         (result ≡ Err DeliverError.NoMemory) ⊎ (result ≡ Err error) }
-    ensures unmapped { (a : ℕ) → result ≡ Err (DeliverError.Unmapped a) → word_at space.now.image a ≡ None }
+    ensures unmapped { (a : ℕ) → result ≡ Err (DeliverError.Unmapped a) →
+        word_at space.now.image a ≡ None }
     // A described chain that the limit has room for is walked to its end.
-    ensures chain { (functions : List Function) (s : State) (calls : List Call) → StartsChain space.now start.now limit functions s calls → IsFalse interrupted →
-        (result ≡ Err DeliverError.NoMemory) ⊎ IsOkAnd result (λ visited. ShowChain visited s calls) }
+    ensures chain { (functions : List Function) (s : State) (calls : List Call) →
+        StartsChain space.now start.now limit functions s calls → IsFalse interrupted →
+        (result ≡ Err DeliverError.NoMemory) ⊎
+        IsOkAnd result (λ visited. ShowChain visited s calls) }
 {
     let mut room = Room::new(alloc, limit)?;
     walk_into(

@@ -16,7 +16,7 @@ fn glyph(digit: u64) -> u8
     GLYPHS[digit as usize]
 }
 
-/// Puts the bytes from `start` on behind the text.
+/// Puts the bytes from `start` on after the text.
 fn put_tail(text: &mut Vec<u8>, bytes: &[u8], start: usize) -> Result<(), AllocError>
     requires { start ≤ length bytes.now }
     ensures { OnOk result (text.new.items ≡ text.old.items ++ drop start bytes.now) }
@@ -24,7 +24,7 @@ fn put_tail(text: &mut Vec<u8>, bytes: &[u8], start: usize) -> Result<(), AllocE
     text.extend_from_slice(&bytes[start..])
 }
 
-/// Puts `0x` and the hexadecimal digits of the number behind the text, without leading zeros.
+/// Puts `0x` and the hexadecimal digits of the number after the text, without leading zeros.
 pub(crate) fn put_hexadecimal(text: &mut Vec<u8>, number: u64) -> Result<(), AllocError>
     ensures { OnOk result (text.new.items ≡ text.old.items ++ hexadecimal number) }
 {
@@ -42,7 +42,7 @@ pub(crate) fn put_hexadecimal(text: &mut Vec<u8>, number: u64) -> Result<(), All
     put_tail(text, &buffer, start - 2)
 }
 
-/// Puts the decimal digits of the number behind the text, without leading zeros.
+/// Puts the decimal digits of the number after the text, without leading zeros.
 pub(crate) fn put_decimal(text: &mut Vec<u8>, number: u64) -> Result<(), AllocError>
     ensures { OnOk result (text.new.items ≡ text.old.items ++ decimal number) }
 {

@@ -6,9 +6,9 @@ use Rattle.serde_json.specs.Written.{has_float}
 use Rattle.memory_image.specs.Image.{Span}
 use Rattle.unwind_arch.specs.declared.x86_64.Context.{Context}
 use Rattle.stack_deliver.specs.declared.space.Module.{Module}
-use Rattle.unwinding_core.specs.declared.find_fde.custom.FrameInfo.{FrameInfo}
-use Rattle.unwinding_core.specs.declared.find_fde.custom.FrameInfoKind.{FrameInfoKind}
-use Rattle.unwinding_core.specs.declared.find_fde.custom.FrameInfoKind.TheVariants.{EhFrame, EhFrameHdr}
+use Rattle.fde_finders.specs.declared.custom.FrameInfo.{FrameInfo}
+use Rattle.fde_finders.specs.declared.custom.FrameInfoKind.{FrameInfoKind}
+use Rattle.fde_finders.specs.declared.custom.FrameInfoKind.TheVariants.{EhFrame, EhFrameHdr}
 use Rattle.stack_deliver.specs.Resumes.{resume_table}
 use Rattle.stack_snapshot.specs.declared.errors.Field.{Field}
 use Rattle.stack_snapshot.specs.declared.errors.Field.TheVariants as fields

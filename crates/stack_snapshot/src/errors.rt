@@ -24,7 +24,7 @@ pub enum Field {
     Resumes,
     /// The most states of a pass.
     Limit,
-    /// Whether the start stands before its instruction and not behind a call.
+    /// Whether the start stands before its instruction and not after a call.
     Interrupted,
 }
 

@@ -20,7 +20,8 @@ use std::alloc::Global;
 
 /// The bytes at a key, or the fault of the field.
 fn bytes_at(alloc: Global, value: &Value, key: &str, field: Field) -> Result<Vec<u8>, SnapshotError>
-    ensures { Gives (λ bytes. bytes.items) result (needs field (bytes_at key.now (view value.now))) }
+    ensures { Gives (λ bytes. bytes.items) result
+        (needs field (bytes_at key.now (view value.now))) }
 {
     let text = value
         .get(key)
@@ -44,7 +45,8 @@ fn region_of(alloc: Global, value: &Value) -> Result<Region, SnapshotError>
 
 /// Each item a region.
 fn region_list(alloc: Global, items: &[Value]) -> Result<Vec<Region>, SnapshotError>
-    ensures { Gives (λ regions. spans_of regions.items) result (needs Field.Regions (region_list (items_view items.now))) }
+    ensures { Gives (λ regions. spans_of regions.items) result
+        (needs Field.Regions (region_list (items_view items.now))) }
 {
     let mut regions = Vec::new(alloc);
     for item in items {
@@ -56,7 +58,8 @@ fn region_list(alloc: Global, items: &[Value]) -> Result<Vec<Region>, SnapshotEr
 /// The regions, which an image takes in their order.
 #[tactic(auto, unfolding(crate::specs::Snapshot::regions_of))]
 fn regions_of(alloc: Global, value: &Value) -> Result<Vec<Region>, SnapshotError>
-    ensures reads { Gives (λ regions. spans_of regions.items) result (needs Field.Regions (regions_of (view value.now))) }
+    ensures reads { Gives (λ regions. spans_of regions.items) result
+        (needs Field.Regions (regions_of (view value.now))) }
     ensures taken { IfOk result (λ regions. takes_regions [] (spans_of regions.items) ≡ true) }
 {
     let items = value
@@ -123,7 +126,8 @@ fn module_of(value: &Value) -> Option<Module>
 
 /// Each item a module.
 fn module_list(alloc: Global, items: &[Value]) -> Result<Vec<Module>, SnapshotError>
-    ensures { Gives (λ modules. modules.items) result (needs Field.Modules (module_list (items_view items.now))) }
+    ensures { Gives (λ modules. modules.items) result
+        (needs Field.Modules (module_list (items_view items.now))) }
 {
     let mut modules = Vec::new(alloc);
     for item in items {
@@ -135,7 +139,8 @@ fn module_list(alloc: Global, items: &[Value]) -> Result<Vec<Module>, SnapshotEr
 /// The modules, which a space takes in their order.
 #[tactic(auto, unfolding(crate::specs::Snapshot::modules_of))]
 fn modules_of(alloc: Global, value: &Value) -> Result<Vec<Module>, SnapshotError>
-    ensures reads { Gives (λ modules. modules.items) result (needs Field.Modules (modules_of (view value.now))) }
+    ensures reads { Gives (λ modules. modules.items) result
+        (needs Field.Modules (modules_of (view value.now))) }
     ensures taken { IfOk result (λ modules. takes_modules [] modules.items ≡ true) }
 {
     let items = value
@@ -210,7 +215,8 @@ fn resume_in(items: &[Value]) -> Option<(u64, u64)>
 
 /// Each item a landing pad and its return address.
 fn resume_list(alloc: Global, items: &[Value]) -> Result<Resumes, SnapshotError>
-    ensures { Gives (λ resumes. resumes) result (needs Field.Resumes (option_map resume_table (resume_list (items_view items.now)))) }
+    ensures { Gives (λ resumes. resumes) result
+        (needs Field.Resumes (option_map resume_table (resume_list (items_view items.now)))) }
 {
     let mut resumes = Resumes::new(alloc);
     for item in items {
@@ -223,7 +229,8 @@ fn resume_list(alloc: Global, items: &[Value]) -> Result<Resumes, SnapshotError>
 /// The return addresses by pad, none where the field is missing.
 #[tactic(auto, unfolding(crate::specs::Snapshot::resumes_of))]
 fn resumes_of(alloc: Global, value: &Value) -> Result<Resumes, SnapshotError>
-    ensures { Gives (λ resumes. resumes) result (needs Field.Resumes (resumes_of (view value.now))) }
+    ensures { Gives (λ resumes. resumes) result
+        (needs Field.Resumes (resumes_of (view value.now))) }
 {
     match value.get("resumes") {
         None => Ok(Resumes::new(alloc)),

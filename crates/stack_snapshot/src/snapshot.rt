@@ -8,7 +8,7 @@ use stack_deliver::{Context, Module, Resumes, Space, SpaceError};
 use std::alloc::{AllocError, Global};
 use std::marker::Model;
 
-/// Bytes that lie at an address and behind it.
+/// Bytes that lie at an address and after it.
 #[derive(Drop)]
 pub struct Region {
     pub address: u64,
@@ -37,9 +37,21 @@ impl Model for Snapshot {
 
     ghost Value = { Content };
 
-    ghost view = { λ s. record { regions = spans_of s.regions.items; modules = s.modules.items; start = s.start; exception = s.exception; class = s.class; resumes = s.resumes; limit = s.limit; interrupted = s.interrupted } };
+    ghost view = { λ s. record {
+      regions = spans_of s.regions.items;
+      modules = s.modules.items;
+      start = s.start;
+      exception
+          = s.exception;
+      class = s.class;
+      resumes = s.resumes;
+      limit = s.limit;
+      interrupted =
+          s.interrupted;
+    } };
 
-    ghost invariant = { λ s. (takes_regions [] (spans_of s.regions.items) ≡ true) × (takes_modules [] s.modules.items ≡ true) };
+    ghost invariant = { λ s. (takes_regions [] (spans_of s.regions.items) ≡ true) ×
+        (takes_modules [] s.modules.items ≡ true) };
 }
 
 impl Snapshot {
@@ -78,7 +90,7 @@ impl Snapshot {
         self.limit
     }
 
-    /// Whether the start stands before its instruction and not behind a call.
+    /// Whether the start stands before its instruction and not after a call.
     pub fn interrupted(&self) -> bool
         ensures { result ≡ self.now.interrupted }
     {
@@ -112,8 +124,10 @@ pub(crate) fn image_of_regions(
     alloc: Global,
     regions: &[Region],
 ) -> Result<Option<MemoryImage<'_>>, AllocError>
-    ensures { IfOk result (λ image. MatchOption image (takes_regions [] (spans_of regions.now) ≡ false)
-        (λ image. (takes_regions [] (spans_of regions.now) ≡ true) × (image ≡ image_of [] (spans_of regions.now)))) }
+    ensures { IfOk result (λ image. MatchOption image
+        (takes_regions [] (spans_of regions.now) ≡ false)
+        (λ image. (takes_regions [] (spans_of regions.now) ≡ true) ×
+        (image ≡ image_of [] (spans_of regions.now)))) }
 {
     let mut image = MemoryImage::new(alloc);
     for region in regions {
@@ -133,7 +147,8 @@ pub(crate) fn space_of_modules<'a>(
     modules: &[Module],
 ) -> Result<Option<Space<'a>>, AllocError>
     ensures { IfOk result (λ space. MatchOption space (takes_modules [] modules.now ≡ false)
-        (λ space. (takes_modules [] modules.now ≡ true) × (space ≡ record { image = image.entry; modules = modules_after [] modules.now }))) }
+        (λ space. (takes_modules [] modules.now ≡ true) ×
+        (space ≡ record { image = image.entry; modules = modules_after [] modules.now }))) }
 {
     let mut space = Space::new(alloc, image);
     for module in modules {

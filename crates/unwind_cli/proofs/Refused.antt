@@ -18,7 +18,7 @@ use Rattle.stack_snapshot.specs.Content.{Content}
 use Rattle.stack_report.specs.Report.{line}
 use Rattle.unwind_cli.specs.Due.{Verdict, verdict, delivery_from, walk_from, refused_due, delivery_due, walk_due, content_due, command_due, Refuses, Tells, Yields, ComesExactly}
 
--- a snapshot was read, and the command's work on it meets an error other than want of memory
+-- a snapshot was read, and the command's work on it meets an error other than out of memory
 abbrev pub IsRefused : Option Command → List ℕ → Type 0
 IsRefused command bytes = IsSome command × (length bytes ≤ 2 ^ 26) × ((s : Content) × (content_of bytes ≡ Ok s) × ((error : DeliverError) × (error ≢ NoMemory) × Refuses command s error))
 

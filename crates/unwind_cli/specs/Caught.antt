@@ -4,7 +4,7 @@ use Rattle.std.specs.Prelude.{ℕ, List, [], ◌∷◌, ◌++◌, codes, None, f
 use Rattle.memory_image.specs.Image.{Span}
 use Rattle.unwind_laws.specs.Three as three
 use Rattle.unwind_arch.specs.declared.x86_64.Context.{Context}
-use Rattle.unwinding_core.specs.declared.find_fde.custom.FrameInfoKind.TheVariants.{EhFrame, EhFrameHdr}
+use Rattle.fde_finders.specs.declared.custom.FrameInfoKind.TheVariants.{EhFrame, EhFrameHdr}
 use Rattle.stack_deliver.specs.declared.space.Module.{Module}
 use Rattle.stack_snapshot.specs.Content.{Content}
 use Rattle.stack_report.specs.Report.{line}
@@ -13,7 +13,7 @@ use Rattle.stack_report.specs.Report.{line}
 abbrev pub module_at : ℕ → ℕ → Module
 module_at start end = record { start = start; end = end; frame = record { text_base = None; kind = EhFrame 0x500000 } }
 
--- the tables, with a stack behind
+-- the tables, with a stack after
 abbrev pub regions_with : Span → List Span
 regions_with stack = record { start = 0x500000; bytes = three.frames } ∷ record { start = 0x502000; bytes = three.languages } ∷ record { start = 0x503000; bytes = three.cell } ∷ stack ∷ []
 

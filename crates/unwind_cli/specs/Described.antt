@@ -8,11 +8,11 @@ use Rattle.stack_snapshot.specs.Content.{Content, space_of}
 
 -- The tables that the snapshot's modules name, frame tables or headers of them, describe functions, and its start shows the
 -- innermost state of a chain of calls over these that is shorter than its limit. Where a handler takes the exception, its
--- resume table says where each frame inside the handler's goes on behind its cleanup.
+-- resume table says where each frame inside the handler's goes on after its cleanup.
 abbrev pub DescribesChain : Content → List Function → State → List Call → Type 0
 DescribesChain s functions start calls = StartsValidChain (space_of s) s.start s.resumes s.limit functions start calls
 
--- The start stands behind a call and shows the innermost state of such a chain. Only the modules that the chain passes have
+-- The start stands after a call and shows the innermost state of such a chain. Only the modules that the chain passes have
 -- to describe functions, which may have language tables.
 abbrev pub DescribesWalk : Content → List Function → State → List Call → Type 0
 DescribesWalk s functions start calls = IsFalse s.interrupted × StartsChain (space_of s) s.start s.limit functions start calls

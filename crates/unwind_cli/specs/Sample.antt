@@ -1,7 +1,7 @@
 -- A snapshot of one call of a function that pushes RBX: that of the stored run, and of examples/pushed_rbx.json.
 use Rattle.std.specs.Prelude.{ℕ, List, [], ◌∷◌, ◌++◌, codes, None, false}
 use Rattle.unwind_laws.specs.Pushing.{frames, stack}
-use Rattle.unwinding_core.specs.declared.find_fde.custom.FrameInfoKind.TheVariants.{EhFrame}
+use Rattle.fde_finders.specs.declared.custom.FrameInfoKind.TheVariants.{EhFrame}
 use Rattle.stack_snapshot.specs.Content.{Content}
 use Rattle.stack_report.specs.Report.{line}
 

@@ -1,4 +1,5 @@
-// Snapshots whose tables describe a chain, that of the stored run and others, and what is due for them.
+// Snapshots whose tables describe a chain, that of the stored run and others, and what is due for
+// them.
 ghost use Rattle.std.specs.Prelude.{◌≡◌, [], ◌∷◌, codes};
 ghost use Rattle.unwind_definitions.specs.State.{Shows};
 ghost use Rattle.unwind_definitions.specs.Chain.{states_of};
@@ -26,7 +27,8 @@ pub fn stored_run_is_described()
     ensures written { delivery_text (delivery_of 0 start calls) ≡ text }
 {}
 
-/// The stored run's bytes are that snapshot, so that it meets the other premise of `run`'s clauses too.
+/// The stored run's bytes are that snapshot, so that it meets the other premise of `run`'s clauses
+/// too.
 pub fn stored_run_is_read()
     ensures read { content_of json ≡ Ok snapshot }
     ensures delivered { Asks command.Deliver (codes "deliver" ∷ []) (Some json) snapshot }
@@ -42,65 +44,81 @@ pub fn stored_run_is_walked()
 /// A snapshot where a function that stores R12 into its frame is called by one that sets RBP as its
 /// frame pointer meets what `run` asks of a described chain too, and this text is then due.
 pub fn frame_pointer_is_described()
-    ensures described { DescribesChain frame_pointer.snapshot storing.functions storing.start storing.calls }
-    ensures written { delivery_text (delivery_of 0 storing.start storing.calls) ≡ frame_pointer.text }
+    ensures described { DescribesChain frame_pointer.snapshot storing.functions storing.start
+        storing.calls }
+    ensures written { delivery_text (delivery_of 0 storing.start storing.calls) ≡
+        frame_pointer.text }
 {}
 
-/// A snapshot of three functions, two of them with language tables, meets what `run` asks of a described
-/// chain too: the innermost call throws, a cleanup runs in between, and the outermost function catches.
-/// This text is then due.
+/// A snapshot of three functions, two of them with language tables, meets what `run` asks of a
+/// described chain too: the innermost call throws, a cleanup runs in between, and the outermost
+/// function catches. This text is then due.
 pub fn caught_exception_is_described()
     ensures described { DescribesChain caught.snapshot three.functions three.start three.calls }
-    ensures written { delivery_text (delivery_of three.exception three.start three.calls) ≡ caught.text }
+    ensures written { delivery_text (delivery_of three.exception three.start three.calls) ≡
+        caught.text }
 {}
 
-/// The same where the module names the header of its frame table, which lists the three descriptions.
+/// The same where the module names the header of its frame table, which lists the three
+/// descriptions.
 pub fn functions_by_a_header_are_described()
     ensures described { DescribesChain caught.by_header three.functions three.start three.calls }
     ensures walked { DescribesWalk caught.by_header three.functions three.start three.calls }
-    ensures written { delivery_text (delivery_of three.exception three.start three.calls) ≡ caught.text }
+    ensures written { delivery_text (delivery_of three.exception three.start three.calls) ≡
+        caught.text }
 {}
 
 /// The same where the functions lie in two modules.
 pub fn functions_in_two_modules_are_described()
-    ensures described { DescribesChain caught.in_two_modules three.functions three.start three.calls }
-    ensures written { delivery_text (delivery_of three.exception three.start three.calls) ≡ caught.text }
+    ensures described { DescribesChain caught.in_two_modules three.functions three.start
+        three.calls }
+    ensures written { delivery_text (delivery_of three.exception three.start three.calls) ≡
+        caught.text }
 {}
 
 /// The same where the function between calls itself twice: its cleanup runs three times.
 pub fn three_cleanups_are_described()
-    ensures described { DescribesChain caught.deep three.functions three.deep_start three.deep_calls }
-    ensures written { delivery_text (delivery_of three.exception three.deep_start three.deep_calls) ≡ caught.deep_text }
+    ensures described { DescribesChain caught.deep three.functions three.deep_start
+        three.deep_calls }
+    ensures written { delivery_text (delivery_of three.exception three.deep_start three.deep_calls)
+        ≡ caught.deep_text }
 {}
 
 /// The same where the outermost function is left at an address that no call site holds: the program
 /// ends.
 pub fn unlisted_call_is_described()
-    ensures described { DescribesChain caught.unlisted three.functions three.start three.unlisted_calls }
-    ensures written { delivery_text (delivery_of three.exception three.start three.unlisted_calls) ≡ caught.unlisted_text }
+    ensures described { DescribesChain caught.unlisted three.functions three.start
+        three.unlisted_calls }
+    ensures written { delivery_text (delivery_of three.exception three.start three.unlisted_calls) ≡
+        caught.unlisted_text }
 {}
 
 /// A chain that ends where no module is: the innermost of these functions, alone in its module.
 pub fn call_from_outside_is_described()
-    ensures described { DescribesChain caught.first (three.fa ∷ []) three.start (three.first_call ∷ []) }
-    ensures written { delivery_text (delivery_of three.exception three.start (three.first_call ∷ [])) ≡ caught.first_text }
+    ensures described { DescribesChain caught.first (three.fa ∷ []) three.start
+        (three.first_call ∷ []) }
+    ensures written { delivery_text
+        (delivery_of three.exception three.start (three.first_call ∷ [])) ≡ caught.first_text }
 {}
 
 /// What a step asks of a call that it undoes is met by that function, which pushes, sets a frame
 /// pointer and allocates.
 pub fn pushed_call_is_described()
-    ensures call { IsDescribedCall (process_of (space_of caught.first)) (three.fa ∷ []) three.start three.first_call }
+    ensures call { IsDescribedCall (process_of (space_of caught.first))
+        (three.fa ∷ []) three.start three.first_call }
     ensures shows { Shows (columns_of caught.first.start) three.start }
 {}
 
 /// And by one that allocates and stores a register.
 pub fn stored_call_is_described()
-    ensures call { IsDescribedCall (process_of (space_of frame_pointer.snapshot)) storing.functions storing.start (record { callee = storing.storing; caller = storing.caller }) }
+    ensures call { IsDescribedCall (process_of (space_of frame_pointer.snapshot)) storing.functions
+        storing.start (record { callee = storing.storing; caller = storing.caller }) }
     ensures shows { Shows (columns_of frame_pointer.snapshot.start) storing.start }
 {}
 
 /// And by a function whose module names the header of its frame table.
 pub fn listed_call_is_described()
-    ensures call { IsDescribedCall (process_of (space_of caught.by_header)) three.functions three.start three.first_call }
+    ensures call { IsDescribedCall (process_of (space_of caught.by_header)) three.functions
+        three.start three.first_call }
     ensures shows { Shows (columns_of caught.by_header.start) three.start }
 {}

@@ -72,5 +72,5 @@ const STACK: &str = "05000000000000000000000000000000";
 const MODULE: &str =
     "\"}],\"modules\":[{\"kind\":\"elf\",\"start\":\"0x401000\",\"end\":\"0x401010\",\"eh_frame\":\"0x500000\"}],\"start\":";
 
-/// A start behind a call in the function, behind its push.
+/// A start after a call in the function, after its push.
 const START: &str = "{\"rip\":\"0x401006\",\"rsp\":\"0x7000\",\"rbx\":\"0x9\"},";

@@ -4,13 +4,13 @@ use Rattle.std.specs.Prelude.{IsSome}
 use Rattle.std.proofs.lemmas.Bool.Decides.{eqb_tells}
 use Rattle.memory_image.specs.Image.{Span}
 use Rattle.unwind_definitions.specs.Caller.{Columns, StepFault}
-use Rattle.unwinding_core.specs.declared.frame.StepError.{StepError}
-use Rattle.unwinding_core.specs.Calling.{fault_of}
-use Rattle.unwinding_core.specs.Finding.{FoundFde}
-use Rattle.unwinding_core.specs.FrameValue.{FrameValue}
+use Rattle.unwinding_frames.specs.declared.frame.StepError.{StepError}
+use Rattle.unwinding_frames.specs.Calling.{fault_of}
+use Rattle.fde_finders.specs.Finding.{FoundFde}
+use Rattle.unwinding_frames.specs.FrameValue.{FrameValue}
 use Rattle.unwind_definitions.specs.LanguageSearch.{address_of_call}
-use Rattle.unwinding_core.specs.Framed.{GivesFrame}
-use Rattle.unwinding_core.specs.Seen.{FrameSeen, Finds, Shows, SeesFrame, in_column}
+use Rattle.unwinding_frames.specs.Framed.{GivesFrame}
+use Rattle.unwinding_frames.specs.Seen.{FrameSeen, Finds, Shows, SeesFrame, in_column}
 use Rattle.unwinding_core.specs.Turns.{IsSeen}
 
 shown : (a : ℕ) (answer : Option FoundFde) (result : Result (Option FrameValue) StepError) → GivesFrame a answer result → (seen : Result (Option FrameSeen) StepFault) × Shows a answer seen × IsSeen result seen

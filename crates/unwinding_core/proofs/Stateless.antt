@@ -1,9 +1,9 @@
 -- Personalities keep no state: a line that they are asked along is one whatever is handed on.
 use Rattle.std.proofs.Common.{◌≡◌, ℕ, zero, suc, Bool, true, false, cond, [], ◌∷◌, Option, Some, None, Result, Ok, Err, refl, ap, subst, ◌∙◌}
-use Rattle.unwinding_core.specs.declared.abi.UnwindReasonCode.{UnwindReasonCode}
-use Rattle.unwinding_core.specs.declared.abi.UnwindAction.{UnwindAction}
-use Rattle.unwinding_core.specs.declared.abi.TheConstants.UnwindReasonCode.{CONTINUE_UNWIND}
-use Rattle.unwinding_core.specs.Passes.{Marked, Stepping, Answering, LineEnd, Decides, Crowded, Turn, Ends, Goes, Line, IsAfter, IsLine, is_code, goes, turn_seen, turn_asked, by_personality, asked}
+use Rattle.unwinding_frames.specs.declared.abi.UnwindReasonCode.{UnwindReasonCode}
+use Rattle.unwinding_frames.specs.declared.abi.UnwindAction.{UnwindAction}
+use Rattle.unwinding_frames.specs.declared.abi.TheConstants.UnwindReasonCode.{CONTINUE_UNWIND}
+use Rattle.unwinding_frames.specs.Passes.{Marked, Stepping, Answering, LineEnd, Decides, Crowded, Turn, Ends, Goes, Line, IsAfter, IsLine, is_code, goes, turn_seen, turn_asked, by_personality, asked}
 
 abbrev without_state : {C E S : Type 0} → Turn C E S → Turn C E (Unit {0})
 without_state (Ends s end) = Ends tt end

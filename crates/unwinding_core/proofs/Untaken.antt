@@ -1,8 +1,8 @@
 -- A cleanup pass has no code of the search.
 use Rattle.std.proofs.Common.{inl, inr, ◌≡◌, ◌==◌, ℕ, pos, Bool, true, false, cond, ap, subst, Option, Some, None}
-use Rattle.unwinding_core.specs.declared.abi.UnwindReasonCode.{UnwindReasonCode}
-use Rattle.unwinding_core.specs.declared.abi.TheConstants.UnwindReasonCode.{FATAL_PHASE2_ERROR, INSTALL_CONTEXT}
-use Rattle.unwinding_core.specs.Passes.{LineEnd, RanOut, Decides, Fails, Crowded, Cause, FrameLimit, Fault, Outcome, Installs, Gives, is_code, mark_of, cleanup_end}
+use Rattle.unwinding_frames.specs.declared.abi.UnwindReasonCode.{UnwindReasonCode}
+use Rattle.unwinding_frames.specs.declared.abi.TheConstants.UnwindReasonCode.{FATAL_PHASE2_ERROR, INSTALL_CONTEXT}
+use Rattle.unwinding_frames.specs.Passes.{LineEnd, RanOut, Decides, Fails, Crowded, Cause, FrameLimit, Fault, Outcome, Installs, Gives, is_code, mark_of, cleanup_end}
 use Rattle.unwinding_core.specs.Runs.{IsUntaken}
 
 module _ (C E : Type 0) where

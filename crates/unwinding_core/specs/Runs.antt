@@ -2,15 +2,15 @@
 use Rattle.std.specs.Prelude.{◌⊎◌, ◌≡◌, ℕ, List}
 use Rattle.std.specs.Option.{option_map}
 use Rattle.unwind_definitions.specs.Caller.{Columns, StepFault, Table, Unmapped}
-use Rattle.unwinding_core.specs.declared.abi.TheConstants.UnwindReasonCode.{END_OF_STACK, FATAL_PHASE1_ERROR}
-use Rattle.unwinding_core.specs.declared.abi.exception.UnwindException.{UnwindException}
+use Rattle.unwinding_frames.specs.declared.abi.TheConstants.UnwindReasonCode.{END_OF_STACK, FATAL_PHASE1_ERROR}
+use Rattle.unwinding_frames.specs.declared.abi.exception.UnwindException.{UnwindException}
 use Rattle.unwinding_core.specs.declared.abi.unwound.Cause.{Cause as CodeCause}
 use Rattle.unwinding_core.specs.declared.abi.unwound.Cause.TheVariants as code
 use Rattle.unwinding_core.specs.declared.abi.unwound.Unwound.{Unwound}
 use Rattle.unwinding_core.specs.declared.abi.unwound.Unwound.TheVariants as run
 use Rattle.unwinding_core.specs.declared.abi.backtrace.Ended.{Ended}
-use Rattle.unwinding_core.specs.Passes.{Cause, FrameLimit, Fault, Outcome, Installs, Gives, Traced}
-use Rattle.unwinding_core.specs.Seen.{Thrown}
+use Rattle.unwinding_frames.specs.Passes.{Cause, FrameLimit, Fault, Outcome, Installs, Gives, Traced}
+use Rattle.unwinding_frames.specs.Seen.{Thrown}
 
 -- what an exception hands to personalities
 abbrev pub thrown_by : UnwindException → Thrown

@@ -3,12 +3,12 @@ use Rattle.std.specs.Prelude.{ℕ, ℤ, pos, Bool, List, Option}
 use Rattle.std.specs.Option.{option_map}
 use Rattle.memory_image.specs.Image.{Span}
 use Rattle.unwind_definitions.specs.Caller.{Columns}
-use Rattle.unwinding_core.specs.declared.abi.UnwindReasonCode.{UnwindReasonCode}
-use Rattle.unwinding_core.specs.declared.abi.UnwindAction.{UnwindAction}
-use Rattle.unwinding_core.specs.declared.abi.TheConstants.UnwindReasonCode.{NO_REASON}
-use Rattle.unwinding_core.specs.FrameValue.{FrameValue}
-use Rattle.unwinding_core.specs.Passes.{Stops, Traces}
-use Rattle.unwinding_core.specs.Seen.{FrameSeen, Thrown}
+use Rattle.unwinding_frames.specs.declared.abi.UnwindReasonCode.{UnwindReasonCode}
+use Rattle.unwinding_frames.specs.declared.abi.UnwindAction.{UnwindAction}
+use Rattle.unwinding_frames.specs.declared.abi.TheConstants.UnwindReasonCode.{NO_REASON}
+use Rattle.unwinding_frames.specs.FrameValue.{FrameValue}
+use Rattle.unwinding_frames.specs.Passes.{Stops, Traces}
+use Rattle.unwinding_frames.specs.Seen.{FrameSeen, Thrown}
 
 -- what a stop is called with
 pub record StopAsked : Type 0 where

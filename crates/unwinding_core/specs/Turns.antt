@@ -3,22 +3,22 @@ use Rattle.std.specs.Prelude.{◌≡◌, ◌==◌, if◌then◌else◌, ℕ, Lis
 use Rattle.unwind_definitions.specs.Row.{Run}
 use Rattle.unwind_definitions.specs.Caller.{Columns, StepFault}
 use Rattle.frame_rows.specs.Rows.{IsRowOf}
-use Rattle.unwinding_core.specs.declared.abi.UnwindReasonCode.{UnwindReasonCode}
-use Rattle.unwinding_core.specs.declared.frame.StepError.{StepError}
+use Rattle.unwinding_frames.specs.declared.abi.UnwindReasonCode.{UnwindReasonCode}
+use Rattle.unwinding_frames.specs.declared.frame.StepError.{StepError}
 use Rattle.unwinding_core.specs.declared.abi.passes.Phase.{Phase}
 use Rattle.unwinding_core.specs.declared.abi.passes.Phase.TheVariants as phase
 use Rattle.unwinding_core.specs.declared.abi.passes.Call.{Call}
 use Rattle.unwinding_core.specs.declared.abi.passes.Answer.{Answer}
-use Rattle.unwinding_core.specs.declared.abi.UnwindAction.{UnwindAction}
+use Rattle.unwinding_frames.specs.declared.abi.UnwindAction.{UnwindAction}
 use Rattle.unwinding_core.specs.declared.abi.passes.Turn.{Turn as CodeTurn}
 use Rattle.unwinding_core.specs.declared.abi.passes.Turn.TheVariants as code
 use Rattle.unwinding_core.specs.declared.abi.passes.LineEnd.{LineEnd as CodeEnd}
 use Rattle.unwinding_core.specs.declared.abi.passes.LineEnd.TheVariants as end
-use Rattle.unwinding_core.specs.declared.abi.TheConstants.UnwindAction as actions
-use Rattle.unwinding_core.specs.Calling.{fault_of}
-use Rattle.unwinding_core.specs.FrameValue.{FrameValue}
-use Rattle.unwinding_core.specs.Passes.{Marked, Answering, Stops, Asks, Turn, Ends, Goes, LineEnd, RanOut, Decides, Fails, Crowded, by_personality, by_force, cleanup_actions, forced_actions, both}
-use Rattle.unwinding_core.specs.Seen.{FrameSeen, Thrown}
+use Rattle.unwinding_frames.specs.declared.abi.TheConstants.UnwindAction as actions
+use Rattle.unwinding_frames.specs.Calling.{fault_of}
+use Rattle.unwinding_frames.specs.FrameValue.{FrameValue}
+use Rattle.unwinding_frames.specs.Passes.{Marked, Answering, Stops, Asks, Turn, Ends, Goes, LineEnd, RanOut, Decides, Fails, Crowded, by_personality, by_force, cleanup_actions, forced_actions, both}
+use Rattle.unwinding_frames.specs.Seen.{FrameSeen, Thrown}
 
 -- a frame, or the stack's end, as it is seen
 abbrev pub IsSeen : Result (Option FrameValue) StepError → Result (Option FrameSeen) StepFault → Type 0

@@ -40,7 +40,7 @@ const INTERRUPTED: &str =
     "frame 1 ra=0x401000 sp=0x7008 rbx=0x0 rbp=0x0 r12=0x0 r13=0x0 r14=0x0 r15=0x0";
 
 static CASES: [Case; 7] = [
-    // Behind a signal's frame the first instruction of a function is its own.
+    // After a signal's frame the first instruction of a function is its own.
     Case {
         words: &["walk"],
         input: &[
@@ -58,7 +58,7 @@ static CASES: [Case; 7] = [
             "end",
         ],
     },
-    // Behind a call it is none of a call's.
+    // After a call it is none of a call's.
     Case {
         words: &["walk"],
         input: &[

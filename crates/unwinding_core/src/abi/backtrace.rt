@@ -7,27 +7,25 @@ ghost use Rattle.memory_image.specs.Image.{Span};
 ghost use Rattle.unwind_definitions.specs.Row.{Run};
 ghost use Rattle.unwind_definitions.specs.Caller.{Columns, StepFault};
 ghost use Rattle.frame_rows.specs.Rows.{IsRowOf};
-ghost use Rattle.unwinding_core.specs.FrameValue.{FrameValue};
-ghost use Rattle.unwinding_core.specs.Calling.{machine_of};
-ghost use Rattle.unwinding_core.specs.Passes.{by_trace, run_out, turn_asked, turn_seen, IsTraced};
-ghost use Rattle.unwinding_core.specs.Seen.{FrameSeen, SeesFrame, in_column, undoing, stepping};
+ghost use Rattle.unwinding_frames.specs.FrameValue.{FrameValue};
+ghost use Rattle.unwinding_frames.specs.Calling.{machine_of};
+ghost use Rattle.unwinding_frames.specs.Passes.{by_trace, run_out, turn_asked, turn_seen, IsTraced};
+ghost use Rattle.unwinding_frames.specs.Seen.{FrameSeen, SeesFrame, in_column, undoing, stepping};
 ghost use Rattle.unwinding_core.specs.Stopping.{TraceAnswer, tracing, start_of};
 ghost use Rattle.unwinding_core.specs.Turns.{turn_shown};
 ghost use Rattle.unwinding_core.specs.Runs.{ended_shown};
 
-use crate::abi::UnwindReasonCode;
-use crate::abi::context::UnwindContext;
 use crate::abi::passes::{Turn, frame_at, past_arguments};
 use crate::abi::unwound::Cause;
-use crate::find_fde::FDEFinder;
-use crate::frame::{Frame, StepError};
+use fde_finders::FDEFinder;
 use memory_image::{Ledger, MemoryImage, Steps};
 use unwind_arch::Machine;
+use unwinding_frames::{Frame, StepError, UnwindContext, UnwindReasonCode};
 
 /// What visits the frames of a stack.
 ///
 /// Contracts see words that the value holds. They, the memory, the frame, its registers and whether
-/// it stands behind a signal's decide the answer and the words afterwards.
+/// it stands after a signal's decide the answer and the words afterwards.
 pub trait Trace<M: Machine> {
     /// The words that the value holds.
     ghost words: { Self → List ℕ };
@@ -35,11 +33,13 @@ pub trait Trace<M: Machine> {
     /// The answer, and the words afterwards.
     ghost traces: { List ℕ → List Span → Option FrameValue → Columns → Bool → TraceAnswer };
 
-    /// Visits a frame, or the end of the stack where there is none. `NO_REASON` lets the backtrace go
-    /// on.
+    /// Visits a frame, or the end of the stack where there is none. `NO_REASON` lets the backtrace
+    /// go on.
     fn trace(&mut self, unwind_ctx: &UnwindContext<'_, '_, M>) -> UnwindReasonCode
         ensures { (result, words self.new) ≡
-            traces (words self.old) unwind_ctx.now.image.now (option_map (λ f. f.now) unwind_ctx.now.frame) (M.Context.columns unwind_ctx.now.ctx.now) unwind_ctx.now.signal };
+            traces (words self.old) unwind_ctx.now.image.now (option_map
+            (λ f. f.now) unwind_ctx.now.frame)
+            (M.Context.columns unwind_ctx.now.ctx.now) unwind_ctx.now.signal };
 }
 
 /// How a backtrace ends.
@@ -59,15 +59,16 @@ fn visited<'a, M: Machine, T: Trace<M>>(
     context: &M::Context,
     signal: bool,
 ) -> UnwindReasonCode
-    ensures { (result, T.words trace.new) ≡ T.traces (T.words trace.old) image.now (option_map (λ f. f.now) frame.entry) (M.Context.columns context.now) signal }
+    ensures { (result, T.words trace.new) ≡ T.traces (T.words trace.old) image.now (option_map
+        (λ f. f.now) frame.entry) (M.Context.columns context.now) signal }
 {
     let mut registers = *context;
     let unwind_ctx = UnwindContext::new(image, frame, &mut registers, signal);
     trace.trace(&unwind_ctx)
 }
 
-/// Whether a backtrace goes on behind a frame. `hidden` is the start of the frame up to which `trace`
-/// isn't asked, `None` behind it.
+/// Whether a backtrace goes on after a frame. `hidden` is the start of the frame up to which
+/// `trace` isn't asked, `None` after it.
 fn goes_on<'a, M: Machine, T: Trace<M>>(
     image: &MemoryImage<'a>,
     frame: &Frame<'a, M>,
@@ -76,7 +77,10 @@ fn goes_on<'a, M: Machine, T: Trace<M>>(
     context: &M::Context,
     signal: bool,
 ) -> UnwindReasonCode
-    ensures { (run : Run) → (record { words = T.words trace.new; hidden = hidden.new }, Ok (result, M.Context.columns context.now)) ≡
+    ensures { (run : Run) → (
+      record { words = T.words trace.new; hidden = hidden.new },
+      Ok (result, M.Context.columns context.now),
+    ) ≡
         by_trace {E = StepFault} start_of (tracing T.traces image.now) (record { words = T.words trace.old; hidden = hidden.old }) (record { value = frame.now; run = run }) (record { context = M.Context.columns context.now; signal = signal }) }
 {
     if let Some(start) = *hidden {
@@ -102,7 +106,10 @@ fn meet_frame<'a, M: Machine, T: Trace<M>>(
     context: &M::Context,
     signal: bool,
 ) -> Result<Turn<M::Context>, StepError>
-    ensures { (run : Run) → IsRowOf frame.now.row run → turn_shown M.Context.columns (record { context = M.Context.columns context.now; signal = signal }) (record { words = T.words trace.new; hidden = hidden.new }) result ≡
+    ensures { (run : Run) → IsRowOf frame.now.row run →
+        turn_shown M.Context.columns
+        (record { context = M.Context.columns context.now; signal = signal })
+        (record { words = T.words trace.new; hidden = hidden.new }) result ≡
         turn_asked (undoing (machine_of M.SP.0 M.RA.0) image.now) (record { value = frame.now; run = run }) (record { context = M.Context.columns context.now; signal = signal })
         (by_trace start_of (tracing T.traces image.now) (record { words = T.words trace.old; hidden = hidden.old }) (record { value = frame.now; run = run }) (record { context = M.Context.columns context.now; signal = signal })) }
 {
@@ -125,8 +132,12 @@ fn meet<M: Machine, F: FDEFinder, T: Trace<M>, L: Ledger>(
     signal: bool,
     steps: &mut Steps<L>,
 ) -> Result<Turn<M::Context>, StepError>
-    ensures { (seen : Result (Option FrameSeen) StepFault) × SeesFrame (F.finds finder.now) image.now (in_column M.RA.0 (M.Context.columns context.now)) signal seen ×
-        (turn_shown M.Context.columns (record { context = M.Context.columns context.now; signal = signal }) (record { words = T.words trace.new; hidden = hidden.new }) result ≡
+    ensures { (seen : Result (Option FrameSeen) StepFault) ×
+        SeesFrame (F.finds finder.now) image.now (in_column M.RA.0 (M.Context.columns context.now))
+        signal seen ×
+        (turn_shown M.Context.columns
+        (record { context = M.Context.columns context.now; signal = signal })
+        (record { words = T.words trace.new; hidden = hidden.new }) result ≡
         turn_seen (undoing (machine_of M.SP.0 M.RA.0) image.now) (by_trace start_of (tracing T.traces image.now))
         (record { words = T.words trace.old; hidden = hidden.old }) (record { context = M.Context.columns context.now; signal = signal }) seen) }
 {
@@ -146,7 +157,9 @@ fn last_visit<M: Machine, T: Trace<M>>(
     context: &M::Context,
     signal: bool,
 ) -> Ended
-    ensures { ended_shown result (T.words trace.new) ≡ run_out (tracing T.traces image.now) (T.words trace.old) hidden (record { context = M.Context.columns context.now; signal = signal }) }
+    ensures { ended_shown result (T.words trace.new) ≡ run_out (tracing T.traces image.now)
+        (T.words trace.old) hidden
+        (record { context = M.Context.columns context.now; signal = signal }) }
 {
     let mut code = UnwindReasonCode::END_OF_STACK;
     if hidden.is_none()
@@ -160,10 +173,10 @@ fn last_visit<M: Machine, T: Trace<M>>(
 /// Visits the frames of the stack from `context` outwards, and then its end.
 ///
 /// With `hidden` the frames up to and with the one whose function starts there aren't visited. At
-/// each other frame `trace` is asked before the caller is made, and at the end of the stack once more
-/// without a frame, unless it is hidden there still. Then the code is `END_OF_STACK`. An answer of
-/// `trace` other than `NO_REASON` is `FATAL_PHASE1_ERROR`; so is a fault, and more contexts than
-/// `limit`, each with a cause.
+/// each other frame `trace` is asked before the caller is made, and at the end of the stack once
+/// more without a frame, unless it is hidden there still. Then the code is `END_OF_STACK`. An
+/// answer of `trace` other than `NO_REASON` is `FATAL_PHASE1_ERROR`; so is a fault, and more
+/// contexts than `limit`, each with a cause.
 ///
 /// Source: the GNU unwinder, `_Unwind_Backtrace`.
 pub fn _Unwind_Backtrace<M: Machine, F: FDEFinder, T: Trace<M>, L: Ledger>(
@@ -175,7 +188,9 @@ pub fn _Unwind_Backtrace<M: Machine, F: FDEFinder, T: Trace<M>, L: Ledger>(
     limit: u32,
     steps: &mut Steps<L>,
 ) -> Ended
-    ensures { IsTraced (stepping (machine_of M.SP.0 M.RA.0) (F.finds finder.now) image.now) start_of (tracing T.traces image.now) limit (M.Context.columns context.now)
+    ensures { IsTraced (stepping (machine_of M.SP.0 M.RA.0)
+        (F.finds finder.now) image.now) start_of (tracing T.traces image.now) limit
+        (M.Context.columns context.now)
         hidden (T.words trace.old) (ended_shown result (T.words trace.new)) }
 {
     let mut here = *context;

@@ -2,9 +2,9 @@
 
 ghost use Rattle.std.specs.Prelude.{◌≡◌, ◌≢◌, ◌+◌, ◌-◌, ℕ, Option};
 ghost use Rattle.std.specs.Option.{option_map_or};
-ghost use Rattle.unwinding_core.specs.Finding.{FoundFde};
+ghost use Rattle.fde_finders.specs.Finding.{FoundFde};
 
-use crate::find_fde::FDEFinder;
+use fde_finders::FDEFinder;
 use memory_image::{Ledger, MemoryImage, Steps};
 
 /// The address of the first byte of the function that a call returns to at `pc`: that of the
@@ -19,7 +19,10 @@ pub fn _Unwind_FindEnclosingFunction<F: FDEFinder, L: Ledger>(
     steps: &mut Steps<L>,
 ) -> u64
     ensures zero { pc ≡ 0 → (result ≡ 0) × (steps.new.number ≡ steps.old.number) }
-    ensures start { pc ≢ 0 → (answer : Option FoundFde) × (ticks : ℕ) × (steps.new.number ≡ steps.old.number + ticks) × F.finds finder.now image.now (pc - 1) answer ticks × (result ≡ option_map_or (λ f. f.fde.start) answer 0) }
+    ensures start { pc ≢ 0 → (answer : Option FoundFde) × (ticks : ℕ) ×
+        (steps.new.number ≡ steps.old.number + ticks) ×
+        F.finds finder.now image.now (pc - 1) answer ticks ×
+        (result ≡ option_map_or (λ f. f.fde.start) answer 0) }
 {
     if pc == 0 {
         return 0;

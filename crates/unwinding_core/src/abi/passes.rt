@@ -7,24 +7,23 @@ ghost use Rattle.std.specs.Option.{option_map};
 ghost use Rattle.unwind_definitions.specs.Row.{Run, argument_size};
 ghost use Rattle.unwind_definitions.specs.Caller.{Columns, StepFault};
 ghost use Rattle.frame_rows.specs.Rows.{IsRowOf};
-ghost use Rattle.unwinding_core.specs.Calling.{machine_of};
-ghost use Rattle.unwinding_core.specs.Columns.{with_value};
-ghost use Rattle.unwinding_core.specs.Passes.{Line, IsLine, less_signal, by_force, unmarked, turn_asked, turn_seen};
-ghost use Rattle.unwinding_core.specs.Passes.{asked};
-ghost use Rattle.unwinding_core.specs.Seen.{FrameSeen, SeesFrame, in_column, past_in_column, undoing, stepping, answering};
-ghost use Rattle.unwinding_core.specs.Languages.{given};
+ghost use Rattle.unwinding_frames.specs.Calling.{machine_of};
+ghost use Rattle.unwinding_frames.specs.Columns.{with_value};
+ghost use Rattle.unwinding_frames.specs.Passes.{Line, IsLine, less_signal, by_force, unmarked, turn_asked, turn_seen};
+ghost use Rattle.unwinding_frames.specs.Passes.{asked};
+ghost use Rattle.unwinding_frames.specs.Seen.{FrameSeen, SeesFrame, in_column, past_in_column, undoing, stepping, answering};
+ghost use Rattle.unwinding_frames.specs.Languages.{given};
 ghost use Rattle.unwinding_core.specs.Stopping.{stopping};
 ghost use Rattle.unwinding_core.specs.Turns.{IsSeen, thrown, actions_in, answer_shown, asks_in, turn_shown, end_shown};
 
-use crate::abi::context::UnwindContext;
 use crate::abi::stop::Stop;
-use crate::abi::{UnwindAction, UnwindReasonCode};
-use crate::find_fde::FDEFinder;
-use crate::frame::{Frame, StepError};
-use crate::personality::Personality;
 use eh_frame::RegisterMap;
+use fde_finders::FDEFinder;
 use memory_image::{Ledger, MemoryImage, Steps};
 use unwind_arch::Machine;
+use unwinding_frames::{
+    Frame, Personality, StepError, UnwindAction, UnwindContext, UnwindReasonCode,
+};
 
 /// What a pass over the stack is for.
 #[derive(Clone, Copy)]
@@ -60,16 +59,16 @@ pub(crate) enum Turn<C> {
     /// An answer other than to go on: it, the context that is left, and that past the frame's
     /// arguments.
     Stop(UnwindReasonCode, C, C),
-    /// The caller, and whether it stands behind a signal's frame.
+    /// The caller, and whether it stands after a signal's frame.
     Caller(C, bool),
 }
 
 /// How a pass ends.
 #[derive(Clone, Copy)]
 pub(crate) enum LineEnd<C> {
-    /// With the stack: its last context, and whether that stands behind a signal's frame.
+    /// With the stack: its last context, and whether that stands after a signal's frame.
     RanOut(C, bool),
-    /// With an answer other than to go on: the context, whether it stands behind a signal's frame,
+    /// With an answer other than to go on: the context, whether it stands after a signal's frame,
     /// the answer, the context that is left, and that past the frame's arguments.
     Decided(C, bool, UnwindReasonCode, C, C),
     /// With a fault.
@@ -78,7 +77,7 @@ pub(crate) enum LineEnd<C> {
     Crowded,
 }
 
-/// By what a later pass knows a frame: its stack pointer, less 1 behind a signal's frame.
+/// By what a later pass knows a frame: its stack pointer, less 1 after a signal's frame.
 pub(crate) fn mark<M: Machine>(context: &M::Context, signal: bool) -> u64
     ensures { result ≡ less_signal signal (in_column M.SP.0 (M.Context.columns context.now)) }
 {
@@ -92,7 +91,8 @@ pub(crate) fn mark<M: Machine>(context: &M::Context, signal: bool) -> u64
 
 /// The context past the arguments that the frame's callee removes.
 pub(crate) fn past_arguments<M: Machine>(frame: &Frame<'_, M>, context: &M::Context) -> M::Context
-    ensures { M.Context.columns result ≡ past_in_column M.SP.0 frame.now.row.saved_args_size (M.Context.columns context.now) }
+    ensures { M.Context.columns result ≡ past_in_column M.SP.0 frame.now.row.saved_args_size
+        (M.Context.columns context.now) }
 {
     let mut past = *context;
     frame.adjust_stack_for_args(&mut past);
@@ -107,7 +107,9 @@ pub(crate) fn frame_at<'a, M: Machine, F: FDEFinder, L: Ledger>(
     signal: bool,
     steps: &mut Steps<L>,
 ) -> Result<Option<Frame<'a, M>>, StepError>
-    ensures { (seen : Result (Option FrameSeen) StepFault) × SeesFrame (F.finds finder.now) image.now (in_column M.RA.0 (M.Context.columns context.now)) signal seen × IsSeen result seen }
+    ensures { (seen : Result (Option FrameSeen) StepFault) ×
+        SeesFrame (F.finds finder.now) image.now (in_column M.RA.0 (M.Context.columns context.now))
+        signal seen × IsSeen result seen }
 {
     Frame::from_context(image, finder, context, signal, steps)
 }
@@ -155,7 +157,7 @@ fn personality_answer<'a, M: Machine, P: Personality<M>>(
         call.word,
         &mut unwind_ctx,
     );
-    let left = *unwind_ctx.ctx;
+    let left = unwind_ctx.context();
     Ok(Answer { code, left })
 }
 
@@ -170,12 +172,14 @@ pub(crate) fn stop_answer<'a, M: Machine, T: Stop<M>>(
     signal: bool,
 ) -> Answer<M::Context>
     ensures { (result.code, M.Context.columns result.left, T.words stop.new) ≡
-        T.stops (T.words stop.old) (record { version = pos 1; actions = actions; class = call.exception_class }) image.now (option_map (λ f. f.now) frame.entry) (M.Context.columns context.now) signal }
+        T.stops (T.words stop.old)
+        (record { version = pos 1; actions = actions; class = call.exception_class }) image.now
+        (option_map (λ f. f.now) frame.entry) (M.Context.columns context.now) signal }
 {
     let mut left = *context;
     let mut unwind_ctx = UnwindContext::new(image, frame, &mut left, signal);
     let code = stop.stop(1, actions, call.exception_class, &mut unwind_ctx);
-    let left = *unwind_ctx.ctx;
+    let left = unwind_ctx.context();
     Answer { code, left }
 }
 
@@ -243,7 +247,10 @@ fn meet_frame<'a, M: Machine, P: Personality<M>, T: Stop<M>>(
     context: &M::Context,
     signal: bool,
 ) -> Result<Turn<M::Context>, StepError>
-    ensures { (run : Run) → IsRowOf frame.now.row run → turn_shown M.Context.columns (record { context = M.Context.columns context.now; signal = signal }) (T.words stop.new) result ≡
+    ensures { (run : Run) → IsRowOf frame.now.row run →
+        turn_shown M.Context.columns
+        (record { context = M.Context.columns context.now; signal = signal })
+        (T.words stop.new) result ≡
         turn_asked (undoing (machine_of M.SP.0 M.RA.0) image.now) (record { value = frame.now; run = run }) (record { context = M.Context.columns context.now; signal = signal })
         (asks_in call.phase (in_column M.SP.0) (answering (P.answers personality.now) image.now (thrown call)) (stopping T.stops image.now (thrown call)) (T.words stop.old) (record { value = frame.now; run = run }) (record { context = M.Context.columns context.now; signal = signal })) }
 {
@@ -268,8 +275,12 @@ fn meet<M: Machine, F: FDEFinder, P: Personality<M>, T: Stop<M>, L: Ledger>(
     signal: bool,
     steps: &mut Steps<L>,
 ) -> Result<Turn<M::Context>, StepError>
-    ensures { (seen : Result (Option FrameSeen) StepFault) × SeesFrame (F.finds finder.now) image.now (in_column M.RA.0 (M.Context.columns context.now)) signal seen ×
-        (turn_shown M.Context.columns (record { context = M.Context.columns context.now; signal = signal }) (T.words stop.new) result ≡
+    ensures { (seen : Result (Option FrameSeen) StepFault) ×
+        SeesFrame (F.finds finder.now) image.now (in_column M.RA.0 (M.Context.columns context.now))
+        signal seen ×
+        (turn_shown M.Context.columns
+        (record { context = M.Context.columns context.now; signal = signal })
+        (T.words stop.new) result ≡
         turn_seen (undoing (machine_of M.SP.0 M.RA.0) image.now) (asks_in call.phase (in_column M.SP.0) (answering (P.answers personality.now) image.now (thrown call)) (stopping T.stops image.now (thrown call)))
         (T.words stop.old) (record { context = M.Context.columns context.now; signal = signal }) seen) }
 {

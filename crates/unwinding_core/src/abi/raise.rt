@@ -4,26 +4,29 @@
 
 ghost use Rattle.std.specs.Prelude.{◌≡◌, Some, None};
 ghost use Rattle.unwind_definitions.specs.Caller.{Columns, StepFault};
-ghost use Rattle.unwinding_core.specs.Calling.{machine_of};
-ghost use Rattle.unwinding_core.specs.Passes.{Line, IsSearched, IsCleanup, IsRaised, IsForced, IsResumed, IsRethrown, cleanup_end, forced_end, RanOut, Gives};
+ghost use Rattle.unwinding_frames.specs.Calling.{machine_of};
+ghost use Rattle.unwinding_frames.specs.Passes.{Line, IsSearched, IsCleanup, IsRaised, IsForced, IsResumed, IsRethrown, cleanup_end, forced_end, RanOut, Gives};
 ghost use Rattle.unwinding_core.specs.Runs.{thrown_by, cause_shown, unwound_shown, IsUntaken};
-ghost use Rattle.unwinding_core.specs.Seen.{in_column, stepping, answering};
+ghost use Rattle.unwinding_frames.specs.Seen.{in_column, stepping, answering};
 ghost use Rattle.unwinding_core.specs.Stopping.{stopping};
 ghost use Rattle.unwinding_core.specs.Turns.{thrown, end_shown};
 
-use crate::abi::exception::{Kept, UnwindException};
 use crate::abi::passes::{Call, LineEnd, Phase, mark, pass, stop_answer};
 use crate::abi::stop::{NoStop, Stop};
 use crate::abi::unwound::{Cause, Unwound};
-use crate::abi::{UnwindAction, UnwindReasonCode};
-use crate::find_fde::FDEFinder;
-use crate::personality::Personality;
+use fde_finders::FDEFinder;
 use memory_image::{Ledger, MemoryImage, Steps};
 use unwind_arch::Machine;
+use unwinding_frames::{Kept, Personality, UnwindAction, UnwindException, UnwindReasonCode};
 
 /// What personalities are called with in a phase.
 fn call(exception: &UnwindException, phase: Phase) -> Call
-    ensures { result ≡ record { exception_class = exception.now.exception_class; word = exception.now.word; phase = phase } }
+    ensures { result ≡ record {
+      exception_class = exception.now.exception_class;
+      word = exception.now.word;
+      phase =
+          phase;
+    } }
 {
     Call {
         exception_class: exception.exception_class,
@@ -49,7 +52,8 @@ fn caused<M: Machine>(code: UnwindReasonCode, cause: Cause) -> Unwound<M>
 
 /// How a cleanup pass toward the frame with a mark ends.
 fn cleaned<M: Machine>(end: LineEnd<M::Context>, kept: u64) -> Unwound<M>
-    ensures { unwound_shown M.Context.columns result ≡ cleanup_end (in_column M.SP.0) kept (end_shown M.Context.columns end) }
+    ensures { unwound_shown M.Context.columns result ≡ cleanup_end (in_column M.SP.0) kept
+        (end_shown M.Context.columns end) }
 {
     match end {
         LineEnd::Decided(context, signal, answer, _, past)
@@ -76,7 +80,9 @@ fn search<M: Machine, F: FDEFinder, P: Personality<M>, L: Ledger>(
     steps: &mut Steps<L>,
 ) -> LineEnd<M::Context>
     ensures { (line : Line Columns StepFault (Unit {0})) ×
-        IsSearched (stepping (machine_of M.SP.0 M.RA.0) (F.finds finder.now) image.now) (answering (P.answers personality.now) image.now (thrown_by exception.now)) limit (M.Context.columns start.now) line ×
+        IsSearched (stepping (machine_of M.SP.0 M.RA.0) (F.finds finder.now) image.now)
+        (answering (P.answers personality.now) image.now (thrown_by exception.now)) limit
+        (M.Context.columns start.now) line ×
         (end_shown M.Context.columns result ≡ line.end) }
 {
     let call = call(exception, Phase::Search);
@@ -103,7 +109,9 @@ fn cleanup<M: Machine, F: FDEFinder, P: Personality<M>, L: Ledger>(
     limit: u32,
     steps: &mut Steps<L>,
 ) -> Unwound<M>
-    ensures { IsCleanup (stepping (machine_of M.SP.0 M.RA.0) (F.finds finder.now) image.now) (answering (P.answers personality.now) image.now (thrown_by exception.now)) kept limit (M.Context.columns start.now) (unwound_shown M.Context.columns result) }
+    ensures { IsCleanup (stepping (machine_of M.SP.0 M.RA.0) (F.finds finder.now) image.now)
+        (answering (P.answers personality.now) image.now (thrown_by exception.now)) kept limit
+        (M.Context.columns start.now) (unwound_shown M.Context.columns result) }
 {
     let call = call(exception, Phase::Cleanup(kept));
     let end = pass(
@@ -122,11 +130,11 @@ fn cleanup<M: Machine, F: FDEFinder, P: Personality<M>, L: Ledger>(
 /// Raises an exception: searches the stack from `context` outwards for a frame whose personality
 /// takes the exception, and then goes there by cleanup passes, of which this is the first.
 ///
-/// The exception keeps the frame that was found, for [`_Unwind_Resume`]. Where no handler is found it
-/// keeps what it kept: the end of the stack is `END_OF_STACK`, and another answer of a personality
-/// `FATAL_PHASE1_ERROR`. In the cleanup pass the end of the stack and an answer that neither goes on
-/// nor enters a landing pad are `FATAL_PHASE2_ERROR`. A fault, and more contexts in a pass than
-/// `limit`, have the code of their phase and a cause.
+/// The exception keeps the frame that was found, for [`_Unwind_Resume`]. Where no handler is found
+/// it keeps what it kept: the end of the stack is `END_OF_STACK`, and another answer of a
+/// personality `FATAL_PHASE1_ERROR`. In the cleanup pass the end of the stack and an answer that
+/// neither goes on nor enters a landing pad are `FATAL_PHASE2_ERROR`. A fault, and more contexts in
+/// a pass than `limit`, have the code of their phase and a cause.
 ///
 /// Source: Itanium C++ ABI, exception handling, section 1.3.1, `_Unwind_RaiseException`.
 pub fn _Unwind_RaiseException<M: Machine, F: FDEFinder, P: Personality<M>, L: Ledger>(
@@ -138,10 +146,13 @@ pub fn _Unwind_RaiseException<M: Machine, F: FDEFinder, P: Personality<M>, L: Le
     limit: u32,
     steps: &mut Steps<L>,
 ) -> Unwound<M>
-    ensures raised { IsRaised (stepping (machine_of M.SP.0 M.RA.0) (F.finds finder.now) image.now) (answering (P.answers personality.now) image.now (thrown_by exception.old)) limit (M.Context.columns context.now)
+    ensures raised { IsRaised (stepping (machine_of M.SP.0 M.RA.0) (F.finds finder.now) image.now)
+        (answering (P.answers personality.now) image.now (thrown_by exception.old)) limit
+        (M.Context.columns context.now)
         exception.old.kept (unwound_shown M.Context.columns result) exception.new.kept }
     ensures same { thrown_by exception.new ≡ thrown_by exception.old }
-    ensures untaken { IsUntaken (unwound_shown M.Context.columns result) → exception.new ≡ exception.old }
+    ensures untaken { IsUntaken (unwound_shown M.Context.columns result) →
+        exception.new ≡ exception.old }
 {
     match search::<M, F, P, L>(image, finder, context, exception, personality, limit, steps) {
         LineEnd::RanOut(..) => code(UnwindReasonCode::END_OF_STACK),
@@ -177,7 +188,9 @@ fn forced<M: Machine, F: FDEFinder, P: Personality<M>, T: Stop<M>, L: Ledger>(
     limit: u32,
     steps: &mut Steps<L>,
 ) -> Unwound<M>
-    ensures { IsForced (stepping (machine_of M.SP.0 M.RA.0) (F.finds finder.now) image.now) (answering (P.answers personality.now) image.now (thrown_by exception.now)) (stopping T.stops image.now (thrown_by exception.now)) limit (M.Context.columns start.now)
+    ensures { IsForced (stepping (machine_of M.SP.0 M.RA.0) (F.finds finder.now) image.now)
+        (answering (P.answers personality.now) image.now (thrown_by exception.now))
+        (stopping T.stops image.now (thrown_by exception.now)) limit (M.Context.columns start.now)
         (T.words stop.old) (unwound_shown M.Context.columns result) (T.words stop.new) }
 {
     let call = call(exception, Phase::Forced);
@@ -222,10 +235,10 @@ fn last_stop<M: Machine, T: Stop<M>>(
 ///
 /// At each frame `stop` is asked first, and then the frame's personality over the registers that
 /// `stop` left; at the end of the stack `stop` is asked once more. Any answer of it but `NO_REASON`
-/// is `FATAL_PHASE2_ERROR`; after the last `NO_REASON` the code is `END_OF_STACK`. So is an answer of a
-/// personality that neither goes on nor enters a landing pad `FATAL_PHASE2_ERROR`, and with it a cause
-/// where there is a fault or more contexts than `limit`. The exception keeps that it is unwound by
-/// force, for [`_Unwind_Resume`].
+/// is `FATAL_PHASE2_ERROR`; after the last `NO_REASON` the code is `END_OF_STACK`. So is an answer
+/// of a personality that neither goes on nor enters a landing pad `FATAL_PHASE2_ERROR`, and with it
+/// a cause where there is a fault or more contexts than `limit`. The exception keeps that it is
+/// unwound by force, for [`_Unwind_Resume`].
 ///
 /// Source: Itanium C++ ABI, exception handling, section 1.3.2, `_Unwind_ForcedUnwind`.
 pub fn _Unwind_ForcedUnwind<M: Machine, F: FDEFinder, P: Personality<M>, T: Stop<M>, L: Ledger>(
@@ -238,7 +251,9 @@ pub fn _Unwind_ForcedUnwind<M: Machine, F: FDEFinder, P: Personality<M>, T: Stop
     limit: u32,
     steps: &mut Steps<L>,
 ) -> Unwound<M>
-    ensures forced { IsForced (stepping (machine_of M.SP.0 M.RA.0) (F.finds finder.now) image.now) (answering (P.answers personality.now) image.now (thrown_by exception.old)) (stopping T.stops image.now (thrown_by exception.old)) limit (M.Context.columns context.now)
+    ensures forced { IsForced (stepping (machine_of M.SP.0 M.RA.0) (F.finds finder.now) image.now)
+        (answering (P.answers personality.now) image.now (thrown_by exception.old))
+        (stopping T.stops image.now (thrown_by exception.old)) limit (M.Context.columns context.now)
         (T.words stop.old) (unwound_shown M.Context.columns result) (T.words stop.new) }
     ensures exception { exception.new ≡ record exception.old { kept = Kept.Stop } }
 {
@@ -255,12 +270,12 @@ pub fn _Unwind_ForcedUnwind<M: Machine, F: FDEFinder, P: Personality<M>, T: Stop
     )
 }
 
-/// Goes on with an unwinding behind a cleanup, from the registers that the cleanup leaves: toward
+/// Goes on with an unwinding after a cleanup, from the registers that the cleanup leaves: toward
 /// the frame that the exception keeps, or by force.
 ///
 /// Codes and causes are those of the cleanup pass of [`_Unwind_RaiseException`], or those of
-/// [`_Unwind_ForcedUnwind`]. The exception stays as it is, and `stop` isn't asked in a pass that isn't
-/// forced.
+/// [`_Unwind_ForcedUnwind`]. The exception stays as it is, and `stop` isn't asked in a pass that
+/// isn't forced.
 ///
 /// Source: Itanium C++ ABI, exception handling, section 1.3.3, `_Unwind_Resume`.
 pub fn _Unwind_Resume<M: Machine, F: FDEFinder, P: Personality<M>, T: Stop<M>, L: Ledger>(
@@ -273,7 +288,9 @@ pub fn _Unwind_Resume<M: Machine, F: FDEFinder, P: Personality<M>, T: Stop<M>, L
     limit: u32,
     steps: &mut Steps<L>,
 ) -> Unwound<M>
-    ensures resumed { IsResumed (stepping (machine_of M.SP.0 M.RA.0) (F.finds finder.now) image.now) (answering (P.answers personality.now) image.now (thrown_by exception.old)) (stopping T.stops image.now (thrown_by exception.old)) limit (M.Context.columns context.now)
+    ensures resumed { IsResumed (stepping (machine_of M.SP.0 M.RA.0) (F.finds finder.now) image.now)
+        (answering (P.answers personality.now) image.now (thrown_by exception.old))
+        (stopping T.stops image.now (thrown_by exception.old)) limit (M.Context.columns context.now)
         exception.old.kept (T.words stop.old) (unwound_shown M.Context.columns result) (T.words stop.new) }
     ensures same { exception.new ≡ exception.old }
 {
@@ -323,7 +340,10 @@ pub fn _Unwind_Resume_or_Rethrow<
     limit: u32,
     steps: &mut Steps<L>,
 ) -> Unwound<M>
-    ensures rethrown { IsRethrown (stepping (machine_of M.SP.0 M.RA.0) (F.finds finder.now) image.now) (answering (P.answers personality.now) image.now (thrown_by exception.old)) (stopping T.stops image.now (thrown_by exception.old)) limit (M.Context.columns context.now)
+    ensures rethrown { IsRethrown (stepping (machine_of M.SP.0 M.RA.0)
+        (F.finds finder.now) image.now)
+        (answering (P.answers personality.now) image.now (thrown_by exception.old))
+        (stopping T.stops image.now (thrown_by exception.old)) limit (M.Context.columns context.now)
         exception.old.kept (T.words stop.old) (unwound_shown M.Context.columns result) exception.new.kept (T.words stop.new) }
     ensures same { thrown_by exception.new ≡ thrown_by exception.old }
 {

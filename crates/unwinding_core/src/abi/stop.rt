@@ -4,25 +4,25 @@ ghost use Rattle.std.specs.Prelude.{◌≡◌, ℕ, Bool, List, [], Option};
 ghost use Rattle.std.specs.Option.{option_map};
 ghost use Rattle.memory_image.specs.Image.{Span};
 ghost use Rattle.unwind_definitions.specs.Caller.{Columns};
-ghost use Rattle.unwinding_core.specs.FrameValue.{FrameValue};
+ghost use Rattle.unwinding_frames.specs.FrameValue.{FrameValue};
 ghost use Rattle.unwinding_core.specs.Stopping.{StopAsked, StopAnswer, never_stopped};
 
-use crate::abi::context::UnwindContext;
-use crate::abi::{UnwindAction, UnwindReasonCode};
 use unwind_arch::Machine;
+use unwinding_frames::{UnwindAction, UnwindContext, UnwindReasonCode};
 
 /// What is asked at each frame of a forced unwinding whether that is to stop, and once more at the
 /// end of the stack.
 ///
-/// Contracts see words that the value holds. They, the arguments of the call, the memory, the frame,
-/// its registers and whether it stands behind a signal's decide the answer, the registers that are
-/// left, and the words afterwards.
+/// Contracts see words that the value holds. They, the arguments of the call, the memory, the
+/// frame, its registers and whether it stands after a signal's decide the answer, the registers
+/// that are left, and the words afterwards.
 pub trait Stop<M: Machine> {
     /// The words that the value holds.
     ghost words: { Self → List ℕ };
 
     /// The answer, the registers that are left, and the words afterwards.
-    ghost stops: { List ℕ → StopAsked → List Span → Option FrameValue → Columns → Bool → StopAnswer };
+    ghost stops: { List ℕ → StopAsked → List Span → Option FrameValue → Columns → Bool →
+        StopAnswer };
 
     /// Asks whether a forced unwinding is to stop at a frame: `NO_REASON` lets it go on. `version`
     /// is that of the interface, 1; `actions` are `FORCE_UNWIND` and `CLEANUP_PHASE`, and
@@ -37,7 +37,8 @@ pub trait Stop<M: Machine> {
     ) -> UnwindReasonCode
         ensures answer { (result, M.Context.columns unwind_ctx.new.ctx.now, words self.new) ≡
             stops (words self.old) (record { version = version; actions = actions; class = exception_class })
-            unwind_ctx.old.image.now (option_map (λ f. f.now) unwind_ctx.old.frame) (M.Context.columns unwind_ctx.old.ctx.now) unwind_ctx.old.signal }
+            unwind_ctx.old.image.now (option_map (λ f. f.now) unwind_ctx.old.frame)
+            (M.Context.columns unwind_ctx.old.ctx.now) unwind_ctx.old.signal }
         ensures image { unwind_ctx.new.image ≡ unwind_ctx.old.image }
         ensures frame { unwind_ctx.new.frame ≡ unwind_ctx.old.frame }
         ensures reference { unwind_ctx.new.ctx.ghost_name ≡ unwind_ctx.old.ctx.ghost_name }
@@ -60,7 +61,7 @@ impl<M: Machine> Stop<M> for NoStop {
         exception_class: u64,
         unwind_ctx: &mut UnwindContext<'_, '_, M>,
     ) -> UnwindReasonCode {
-        let _ = (version, actions, exception_class, unwind_ctx.signal);
+        let _ = (version, actions, exception_class, unwind_ctx.context());
         UnwindReasonCode::NO_REASON
     }
 }

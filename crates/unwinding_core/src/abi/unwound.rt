@@ -1,9 +1,8 @@
 //! How a run of an unwinding ends.
 
-use crate::abi::UnwindReasonCode;
-use crate::frame::StepError;
 use eh_frame::Error;
 use unwind_arch::Machine;
+use unwinding_frames::{StepError, UnwindReasonCode};
 
 /// Why a run couldn't go on, where no answer of a personality is the reason.
 #[derive(Clone, Copy, Debug, PartialEq, Eq)]
@@ -18,8 +17,8 @@ pub enum Cause {
 
 impl From<StepError> for Cause {
     ghost use Rattle.std.specs.Prelude.{◌≡◌};
-    ghost use Rattle.unwinding_core.specs.Calling.{fault_of};
-    ghost use Rattle.unwinding_core.specs.Passes.{Fault};
+    ghost use Rattle.unwinding_frames.specs.Calling.{fault_of};
+    ghost use Rattle.unwinding_frames.specs.Passes.{Fault};
     ghost use Rattle.unwinding_core.specs.Runs.{cause_shown};
 
     ghost from_gives = { λ e r. cause_shown r ≡ Fault (fault_of e) };

@@ -1,6 +1,6 @@
 use Rattle.std.proofs.Common.{refl}
-use Rattle.unwinding_core.specs.Answered.{answered}
-use Rattle.unwinding_core.specs.Named.{found_by}
+use Rattle.fde_finders.specs.Answered.{answered}
+use Rattle.fde_finders.specs.Named.{found_by}
 use Rattle.stack_deliver.proofs.StepParts.{frame_found}
 use Rattle.stack_deliver.proofs.stepping.elf_frame.Goals as goal
 

@@ -1,5 +1,5 @@
 use Rattle.std.proofs.Common.{arith}
-use Rattle.unwinding_core.specs.Answered.{answered}
+use Rattle.fde_finders.specs.Answered.{answered}
 use Rattle.stack_deliver.proofs.StepParts.{caller_left}
 use Rattle.stack_deliver.proofs.stepping.leave.Goals as goal
 

@@ -1,7 +1,7 @@
 use Rattle.std.proofs.Common.{◌-◌}
-use Rattle.unwinding_core.specs.Calling.{machine_of}
-use Rattle.unwinding_core.specs.Passes.{unmarked, by_trace}
-use Rattle.unwinding_core.specs.Seen.{stepping}
+use Rattle.unwinding_frames.specs.Calling.{machine_of}
+use Rattle.unwinding_frames.specs.Passes.{unmarked, by_trace}
+use Rattle.unwinding_frames.specs.Seen.{stepping}
 use Rattle.unwinding_core.specs.Stopping.{tracing, start_of}
 use Rattle.unwinding_core.proofs.Lines.{Reaches}
 use Rattle.unwinding_core.proofs.abi.backtrace._Unwind_Backtrace.Given as goal

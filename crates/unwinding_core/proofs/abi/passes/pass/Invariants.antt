@@ -1,7 +1,7 @@
 use Rattle.std.proofs.Common.{◌-◌}
-use Rattle.unwinding_core.specs.Calling.{machine_of}
-use Rattle.unwinding_core.specs.Passes.{unmarked}
-use Rattle.unwinding_core.specs.Seen.{in_column, stepping, answering}
+use Rattle.unwinding_frames.specs.Calling.{machine_of}
+use Rattle.unwinding_frames.specs.Passes.{unmarked}
+use Rattle.unwinding_frames.specs.Seen.{in_column, stepping, answering}
 use Rattle.unwinding_core.specs.Stopping.{stopping}
 use Rattle.unwinding_core.specs.Turns.{thrown, asks_in}
 use Rattle.unwinding_core.proofs.Lines.{Reaches}

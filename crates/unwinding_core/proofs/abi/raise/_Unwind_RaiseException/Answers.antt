@@ -1,6 +1,6 @@
 use Rattle.std.proofs.Common.{refl}
 use Rattle.unwinding_core.proofs.Untaken.{cleanup_is_taken}
-use Rattle.unwinding_core.specs.Seen.{in_column}
+use Rattle.unwinding_frames.specs.Seen.{in_column}
 use Rattle.unwinding_core.proofs.abi.raise._Unwind_RaiseException.Goals as goal
 
 pub returns-in-Decided-clause-raised : goal.returns-in-Decided-clause-raised

@@ -1,8 +1,8 @@
 use Rattle.std.proofs.Common.{[], ◌∙◌, ap}
-use Rattle.unwinding_core.specs.Calling.{machine_of}
-use Rattle.unwinding_core.specs.Passes.{unmarked, cleanup_actions, cleanup_end}
+use Rattle.unwinding_frames.specs.Calling.{machine_of}
+use Rattle.unwinding_frames.specs.Passes.{unmarked, cleanup_actions, cleanup_end}
 use Rattle.unwinding_core.specs.Runs.{thrown_by}
-use Rattle.unwinding_core.specs.Seen.{in_column, stepping, answering}
+use Rattle.unwinding_frames.specs.Seen.{in_column, stepping, answering}
 use Rattle.unwinding_core.proofs.Stateless.{stateless}
 use Rattle.unwinding_core.proofs.abi.raise.cleanup.Goals as goal
 

@@ -1,9 +1,9 @@
 use Rattle.std.proofs.Common.{[], ◌∙◌}
-use Rattle.unwinding_core.specs.declared.abi.TheConstants.UnwindAction as actions
-use Rattle.unwinding_core.specs.Calling.{machine_of}
-use Rattle.unwinding_core.specs.Passes.{unmarked}
+use Rattle.unwinding_frames.specs.declared.abi.TheConstants.UnwindAction as actions
+use Rattle.unwinding_frames.specs.Calling.{machine_of}
+use Rattle.unwinding_frames.specs.Passes.{unmarked}
 use Rattle.unwinding_core.specs.Runs.{thrown_by}
-use Rattle.unwinding_core.specs.Seen.{stepping, answering}
+use Rattle.unwinding_frames.specs.Seen.{stepping, answering}
 use Rattle.unwinding_core.proofs.Stateless.{stateless}
 use Rattle.unwinding_core.proofs.abi.raise.search.Goals as goal
 

@@ -1,0 +1,8 @@
+-- A finder's answer as that of the definitions.
+use Rattle.encoded_pointers.specs.Pointers.{bases_of}
+use Rattle.eh_frame.specs.Views.{fde_of, table_of}
+use Rattle.fde_finders.specs.declared.find_fde.FDESearchResult.{FDESearchResult}
+use Rattle.fde_finders.specs.Finding.{FoundFde}
+
+abbrev pub answered : FDESearchResult → FoundFde
+answered r = record { fde = fde_of r.fde; bases = bases_of r.bases; table = table_of r.eh_frame }

@@ -1,0 +1,16 @@
+pub mod Answered
+pub mod Covering
+pub mod Finding
+pub mod GlobalCovering
+pub mod Globally
+pub mod HeaderCovering
+pub mod HeaderFinding
+pub mod InTurn
+pub mod Named
+pub mod PhdrBytes
+pub mod Placed
+pub mod ProgramHeaders
+pub mod Registered
+pub mod RegistryCovering
+pub mod Sought
+pub mod TurnCovering

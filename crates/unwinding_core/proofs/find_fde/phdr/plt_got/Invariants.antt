@@ -1,6 +1,0 @@
-use Rattle.std.proofs.Common.{◌≡◌, drop}
-use Rattle.unwinding_core.specs.ProgramHeaders.{plt_got}
-use Rattle.unwinding_core.proofs.find_fde.phdr.plt_got.Given as goal
-
-abbrev pub invariant-loop-i : goal.invariant-loop-i
-invariant-loop-i l = plt_got l.entries ≡ plt_got (drop l.i l.entries)

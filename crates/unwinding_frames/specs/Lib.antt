@@ -1,0 +1,12 @@
+pub mod Actions
+pub mod Calling
+pub mod Columns
+pub mod Dummy
+pub mod FrameValue
+pub mod Framed
+pub mod Languages
+pub mod OneLine
+pub mod Passes
+pub mod Personalities
+pub mod Sample
+pub mod Seen

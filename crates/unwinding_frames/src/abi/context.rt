@@ -1,0 +1,176 @@
+//! What a personality sees of a frame and may change, and the calls that read and write it.
+//!
+//! Itanium C++ ABI, exception handling, section 1.5.
+
+ghost use Rattle.std.specs.Prelude.{◌≡◌, ◌≢◌, ℕ, pos, Some, Ok, OnSome, IfNone, is_some, if◌then◌else◌};
+ghost use Rattle.std.specs.Option.{option_map_or};
+ghost use Rattle.unwind_definitions.specs.LanguageSearch.{language_address};
+ghost use Rattle.unwinding_frames.specs.Calling.{value_given};
+ghost use Rattle.unwinding_frames.specs.Columns.{column_at};
+
+use crate::frame::{Frame, StepError};
+use memory_image::MemoryImage;
+use unwind_arch::{Machine, Register, RegisterMap};
+
+/// A frame as a personality sees it: the memory, what is known of its function, its registers, and
+/// whether it stands at the instruction of its return address, as after a signal.
+///
+/// Contracts see these four.
+#[derive(Drop)]
+pub struct UnwindContext<'c, 'a, M: Machine> {
+    pub(crate) image: &'c MemoryImage<'a>,
+    pub(crate) frame: Option<&'c Frame<'a, M>>,
+    pub(crate) ctx: &'c mut M::Context,
+    pub(crate) signal: bool,
+}
+
+impl<'c, 'a, M: Machine> UnwindContext<'c, 'a, M> {
+    /// A frame of the stack, or what stands at its end where `frame` is `None`.
+    pub fn new(
+        image: &'c MemoryImage<'a>,
+        frame: Option<&'c Frame<'a, M>>,
+        ctx: &'c mut M::Context,
+        signal: bool,
+    ) -> UnwindContext<'c, 'a, M>
+        ensures image { result.image ≡ image.entry }
+        ensures frame { result.frame ≡ frame.entry }
+        ensures context { result.ctx.now ≡ ctx.old }
+        ensures reference { result.ctx.ghost_name ≡ ctx.entry.ghost_name }
+        ensures signal { result.signal ≡ signal }
+    {
+        UnwindContext {
+            image,
+            frame,
+            ctx,
+            signal,
+        }
+    }
+
+    /// The registers.
+    pub fn context(&self) -> M::Context
+        ensures { result ≡ self.now.ctx.now }
+    {
+        *self.ctx
+    }
+}
+
+/// The register of a column. `None` exactly where the machine doesn't have it; no number outside 0
+/// to 65535 is one.
+pub fn _Unwind_GetGR<M: Machine>(ctx: &UnwindContext<'_, '_, M>, index: i32) -> Option<u64>
+    ensures { result ≡ column_at (M.Context.columns ctx.now.ctx.now) index }
+{
+    let column = u16::try_from(index).ok()?;
+    ctx.ctx.get(Register(column))
+}
+
+/// Writes the register of a column. `None`, and nothing is written, exactly where the machine
+/// doesn't have it.
+pub fn _Unwind_SetGR<M: Machine>(
+    ctx: &mut UnwindContext<'_, '_, M>,
+    index: i32,
+    value: u64,
+) -> Option<()>
+    ensures found { is_some result ≡ is_some (column_at (M.Context.columns ctx.old.ctx.now) index) }
+    ensures holds { OnSome result
+        (column_at (M.Context.columns ctx.new.ctx.now) index ≡ Some value) }
+    ensures others { OnSome result ((k : ℕ) → pos k ≢ index →
+        M.Context.columns ctx.new.ctx.now k ≡ M.Context.columns ctx.old.ctx.now k) }
+    ensures unchanged { IfNone result (ctx.new.ctx.now ≡ ctx.old.ctx.now) }
+    ensures image { ctx.new.image ≡ ctx.old.image }
+    ensures frame { ctx.new.frame ≡ ctx.old.frame }
+    ensures reference { ctx.new.ctx.ghost_name ≡ ctx.old.ctx.ghost_name }
+    ensures signal { ctx.new.signal ≡ ctx.old.signal }
+{
+    let column = u16::try_from(index).ok()?;
+    ctx.ctx.set(Register(column), value)
+}
+
+/// The stack pointer, which is the canonical frame address of the frame's callee.
+pub fn _Unwind_GetCFA<M: Machine>(ctx: &UnwindContext<'_, '_, M>) -> u64
+    ensures { M.Context.columns ctx.now.ctx.now M.SP.0 ≡ Some result }
+{
+    ctx.ctx.get(M::SP).unwrap_or(0)
+}
+
+/// The return address.
+pub fn _Unwind_GetIP<M: Machine>(ctx: &UnwindContext<'_, '_, M>) -> u64
+    ensures { M.Context.columns ctx.now.ctx.now M.RA.0 ≡ Some result }
+{
+    ctx.ctx.get(M::RA).unwrap_or(0)
+}
+
+/// Writes the return address, by which the frame goes on.
+pub fn _Unwind_SetIP<M: Machine>(ctx: &mut UnwindContext<'_, '_, M>, value: u64)
+    ensures holds { M.Context.columns ctx.new.ctx.now M.RA.0 ≡ Some value }
+    ensures others { (k : ℕ) → k ≢ M.RA.0 →
+        M.Context.columns ctx.new.ctx.now k ≡ M.Context.columns ctx.old.ctx.now k }
+    ensures image { ctx.new.image ≡ ctx.old.image }
+    ensures frame { ctx.new.frame ≡ ctx.old.frame }
+    ensures reference { ctx.new.ctx.ghost_name ≡ ctx.old.ctx.ghost_name }
+    ensures signal { ctx.new.signal ≡ ctx.old.signal }
+{
+    ctx.ctx.set(M::RA, value);
+}
+
+/// The return address. `ip_before_insn` becomes 1 where the frame stands before the instruction
+/// there, and 0 where it stands after a call.
+pub fn _Unwind_GetIPInfo<M: Machine>(
+    ctx: &UnwindContext<'_, '_, M>,
+    ip_before_insn: &mut i32,
+) -> u64
+    ensures ip { M.Context.columns ctx.now.ctx.now M.RA.0 ≡ Some result }
+    ensures before { ip_before_insn.new ≡ (if ctx.now.signal then pos 1 else pos 0) }
+{
+    *ip_before_insn = if ctx.signal { 1 } else { 0 };
+    _Unwind_GetIP(ctx)
+}
+
+/// The address of the first byte of the frame's function, 0 without a frame.
+pub fn _Unwind_GetRegionStart<M: Machine>(ctx: &UnwindContext<'_, '_, M>) -> u64
+    ensures { result ≡ option_map_or (λ f. f.now.found.fde.start) ctx.now.frame 0 }
+{
+    match ctx.frame {
+        None => 0,
+        Some(frame) => frame.initial_address(),
+    }
+}
+
+/// The address of the language table of the frame's function, 0 where it has none or without a
+/// frame.
+///
+/// # Errors
+///
+/// Those of [`Frame::lsda`].
+pub fn _Unwind_GetLanguageSpecificData<M: Machine>(
+    ctx: &UnwindContext<'_, '_, M>,
+) -> Result<u64, StepError>
+    ensures { value_given result ≡ option_map_or
+        (λ f. language_address ctx.now.image.now f.now.found.fde) ctx.now.frame (Ok 0) }
+{
+    match ctx.frame {
+        None => Ok(0),
+        Some(frame) => frame.lsda(ctx.image),
+    }
+}
+
+/// What pointers of the frame's description that are relative to the text count from, `None` where
+/// that isn't known; 0 without a frame.
+pub fn _Unwind_GetTextRelBase<M: Machine>(ctx: &UnwindContext<'_, '_, M>) -> Option<u64>
+    ensures { result ≡ option_map_or (λ f. f.now.found.bases.text) ctx.now.frame (Some 0) }
+{
+    match ctx.frame {
+        None => Some(0),
+        Some(frame) => frame.bases().text,
+    }
+}
+
+/// What pointers of the frame's description that are relative to the data count from, `None` where
+/// that isn't known; 0 without a frame.
+pub fn _Unwind_GetDataRelBase<M: Machine>(ctx: &UnwindContext<'_, '_, M>) -> Option<u64>
+    ensures { result ≡ option_map_or (λ f. f.now.found.bases.data_base) ctx.now.frame (Some 0) }
+{
+    match ctx.frame {
+        None => Some(0),
+        Some(frame) => frame.bases().data_base,
+    }
+}

@@ -1,0 +1,27 @@
+//! A frame of a stack: how its caller's registers follow, and what its language asks.
+//!
+//! A [`Frame`] is made of the description that a finder answers and of the row at an address, for any
+//! machine of `unwind_arch`, and gives the registers of its caller. Where frame after frame is left,
+//! [`step_by_row`] puts the caller in place of each. A frame's language table says what it asks of an
+//! exception ([`find_eh_action`]), and a [`Personality`] answers it. In `specs` stand the passes over
+//! a stack, by any step and any personality.
+#![tactic(auto)]
+
+pub mod abi;
+mod frame;
+mod language_table;
+mod personality;
+mod personality_dummy;
+
+pub use abi::context::{
+    _Unwind_GetCFA, _Unwind_GetDataRelBase, _Unwind_GetGR, _Unwind_GetIP, _Unwind_GetIPInfo,
+    _Unwind_GetLanguageSpecificData, _Unwind_GetRegionStart, _Unwind_GetTextRelBase, _Unwind_SetGR,
+    _Unwind_SetIP, UnwindContext,
+};
+pub use abi::exception::{_Unwind_DeleteException, Kept, UnwindException};
+pub use abi::laws::lines_are_one;
+pub use abi::{UnwindAction, UnwindReasonCode};
+pub use frame::{Frame, StepError, address_asked, lsda_of, personality_of, step_by_row};
+pub use language_table::{EhAction, eh_action_of, find_eh_action};
+pub use personality::{Personality, RustPersonality};
+pub use personality_dummy::DummyPersonality;
