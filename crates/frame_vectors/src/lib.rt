@@ -7,6 +7,8 @@ mod asserting;
 #[cfg(test)]
 mod frames;
 #[cfg(test)]
+mod fronts;
+#[cfg(test)]
 mod languages;
 #[cfg(test)]
 mod resumes;

@@ -8,6 +8,7 @@ pub mod ContextLemmas
 pub mod DeliverFaults
 pub mod DeliveryAnswers
 pub mod FirstEntry
+pub mod FrontAnswers
 pub mod LineAnswers
 pub mod HeaderFinds
 pub mod LineShows
@@ -17,9 +18,11 @@ pub mod OutcomeAnswers
 pub mod PassLines
 pub mod PassesShow
 pub mod PersonalityAsks
+pub mod Reaching
 pub mod Results
 pub mod Returns
 pub mod StepAnswers
 pub mod StepParts
 pub mod StepUndone
 pub mod Turns
+pub mod Unread

@@ -1,6 +1,8 @@
 pub mod AnyPasses
 pub mod Causes
 pub mod Delivering
+pub mod FrontSample
+pub mod Fronts
 pub mod Modules
 pub mod Passes
 pub mod Passing

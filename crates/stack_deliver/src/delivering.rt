@@ -38,12 +38,12 @@ fn delivered<L: Ledger>(
     ensures ticks { RisesWithin space.now ((limit + 2) * limit) steps.old.number steps.new.number }
 {
     let mut rows = RowRoom::new();
-    let state = Stepped {
+    let mut state = Stepped {
         context: start,
         signal: false,
     };
     let phase = Some(Phase::Search);
-    let Some(stop) = outwards(phase, space, state, limit, room, &mut rows, steps)? else {
+    let Some(stop) = outwards(phase, space, &mut state, limit, room, &mut rows, steps)? else {
         return Ok(without_landing(Outcome::EndOfStack));
     };
     if stop.pad().is_none() {

@@ -1,10 +1,11 @@
 // The passes over a stack: the search for a frame whose language takes the exception, and then the
 // cleanups on the way to it. Itanium C++ ABI, exception handling, level I, section 1.3.
-ghost use Rattle.std.specs.Prelude.{◌≡◌, ◌≤◌, ◌<◌, ◌+◌, ◌*◌, ◌++◌, ◌∷◌, Err, [], true, false, length, Some, OnOk, IfOk};
+ghost use Rattle.std.specs.Prelude.{◌≡◌, ◌≤◌, ◌<◌, ◌+◌, ◌*◌, ◌++◌, ◌∷◌, Err, [], true, false, length, Some, OnOk, OnErr, IfOk};
 ghost use Rattle.std.specs.Option.{option_map};
 ghost use Rattle.fde_finders.specs.Answered.{answered};
 ghost use Rattle.unwinding_frames.specs.Languages.{action_of};
 ghost use Rattle.stack_deliver.specs.Passes.{asked_of, stops, stop_of, past_arguments, turn_for, line_for, kept_at, pad_of, enters, end_by, cleanup_of, cleanup_at, resume_at, passes_of};
+ghost use Rattle.stack_deliver.specs.Fronts.{reached_by, turned_from, IsReached};
 ghost use Rattle.stack_deliver.specs.Passing.{turn_shown, stop_shown, end_shown, visits, visited_with, StaysAt, IsOutward, IsPassed};
 ghost use Rattle.stack_deliver.specs.Results.{result_map};
 ghost use Rattle.stack_deliver.specs.Resumes.{return_of};
@@ -151,6 +152,7 @@ fn meet<'a, L: Ledger>(
     ensures met { result_map (turn_shown state.new) result ≡ turn_for phase space.now
         state.old.context state.old.signal }
     ensures stays { IfOk result (λ turn. StaysAt turn state.old state.new) }
+    ensures unmoved { OnErr result (state.new ≡ state.old) }
     ensures ticks { RisesBySearch (pairs_at space.now state.old.context state.old.signal)
         steps.old.number steps.new.number }
 {
@@ -178,11 +180,11 @@ fn visit(phase: Option<Phase>, state: &Stepped, room: &mut Room)
 
 /// Goes from a state outwards: a walk, which has no phase and puts each state into the room, the
 /// search, which does so too, or a cleanup pass. It answers where it stops, `None` at the end of
-/// the stack.
+/// the stack. `state` is then the last state that was met or, after `FrameLimit`, the next.
 pub(crate) fn outwards<'a, L: Ledger>(
     phase: Option<Phase>,
     space: &Space<'a>,
-    start: Stepped,
+    state: &mut Stepped,
     limit: u32,
     room: &mut Room,
     rows: &mut RowRoom<'a>,
@@ -191,19 +193,20 @@ pub(crate) fn outwards<'a, L: Ledger>(
     requires within { limit ≤ room.old.limit }
     requires empty { visits phase ≡ true → room.old.visited ≡ [] }
     ensures exact { IsOutward (visits phase) result room.new
-        (line_for phase space.now limit start.context start.signal) }
+        (line_for phase space.now limit state.old.context state.old.signal) }
+    ensures reached { IsReached (visits phase) room.new state.new
+        (reached_by (turned_from phase space.now) limit state.old) }
     ensures kept { (room.new.trail ≡ room.old.trail) × (room.new.limit ≡ room.old.limit) }
     ensures stays { visits phase ≡ false → room.new ≡ room.old }
     ensures ticks { RisesWithin space.now limit steps.old.number steps.new.number }
 {
-    let mut state = start;
     for _ in 0..limit {
-        visit(phase, &state, room);
-        match meet(phase, space, &mut state, rows, steps)? {
+        visit(phase, state, room);
+        match meet(phase, space, state, rows, steps)? {
             Turn::End => return Ok(None),
             Turn::Stop(action, arguments) => {
                 return Ok(Some(Stop {
-                    state,
+                    state: *state,
                     action,
                     arguments,
                 }));
@@ -263,11 +266,12 @@ fn cleanup<'a, L: Ledger>(
     ensures stays { room.new ≡ room.old }
     ensures ticks { RisesWithin space.now limit steps.old.number steps.new.number }
 {
-    let start = Stepped {
+    let mut state = Stepped {
         context: *start,
         signal: false,
     };
-    match outwards(Some(Phase::Cleanup), space, start, limit, room, rows, steps)? {
+    let phase = Some(Phase::Cleanup);
+    match outwards(phase, space, &mut state, limit, room, rows, steps)? {
         None => Ok(Pass::Finished(FATAL)),
         Some(stop) => Ok(ended(&stop, exception, kept)),
     }

@@ -1,5 +1,5 @@
 // From a frame to its caller, by the frame tables of the module that holds it.
-ghost use Rattle.std.specs.Prelude.{◌≡◌, ◌↔◌, ℕ, List, Some, None, Ok, Err, IsTrue, IsFalse};
+ghost use Rattle.std.specs.Prelude.{◌≡◌, ◌↔◌, ℕ, List, Some, None, Ok, Err, IsTrue, IsFalse, OnErr};
 ghost use Rattle.memory_image.specs.Image.{word_at, IsLaidOut};
 ghost use Rattle.unwind_definitions.specs.declared.error.Error.{Error as Fault};
 ghost use Rattle.unwind_definitions.specs.State.{State, Shows};
@@ -112,15 +112,16 @@ fn caller(
 }
 
 /// Puts the caller of the frame at a state in the state's place, by the row in `rows`. After a
-/// fault the state is unspecified.
+/// fault the state is as before.
 pub(crate) fn leave(
     image: &MemoryImage<'_>,
     state: &mut Stepped,
     found: &FDESearchResult<'_>,
     rows: &RowRoom<'_>,
 ) -> Result<(), DeliverError>
-    ensures { (f : FrameAt) → IsFrameOf found.now rows.now f →
+    ensures caller { (f : FrameAt) → IsFrameOf found.now rows.now f →
         result_map (λ done. state.new) result ≡ caller_by image.now state.old.context f }
+    ensures stays { OnErr result (state.new ≡ state.old) }
 {
     *state = Stepped {
         context: caller(image, &state.context, rows)?,

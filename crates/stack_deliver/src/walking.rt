@@ -36,11 +36,19 @@ fn walked<L: Ledger>(
     ensures ticks { RisesWithin space.now limit steps.old.number steps.new.number }
 {
     room.clear();
-    let start = Stepped {
+    let mut state = Stepped {
         context: *start,
         signal: interrupted,
     };
-    match outwards(None, space, start, limit, room, &mut RowRoom::new(), steps) {
+    match outwards(
+        None,
+        space,
+        &mut state,
+        limit,
+        room,
+        &mut RowRoom::new(),
+        steps,
+    ) {
         Ok(_) => Ok(()),
         Err(error) => {
             room.clear();

@@ -3,6 +3,8 @@ use Rattle.std.proofs.lemmas.Result.{err_from_is_err_and}
 use Rattle.stack_deliver.specs.Passes.{line_for}
 use Rattle.stack_deliver.specs.Passing.{visits}
 use Rattle.stack_deliver.proofs.PassLines.{no_contexts, start_visited, more_visited, unvisited, visited_count, visited_keeps, line_faults, line_ends, line_stops, line_goes}
+use Rattle.stack_deliver.specs.Fronts.{reached_by, turned_from}
+use Rattle.stack_deliver.proofs.Reaching.{none_met, reached_here, reached_next, reached_limit, turned_faults, turned_ends, turned_stops, turned_goes, stands}
 use Rattle.stack_deliver.proofs.Counted.{rises_none, rises_by_one, rises_up_to}
 use Rattle.stack_deliver.proofs.passes.outwards.Goals as goal
 
@@ -10,7 +12,7 @@ pub loop-init : goal.loop-init
 loop-init g c =
     let same : c.args.limit - 0 ≡ c.args.limit = omega arith in
     record {
-      line = ([], rw same (no_contexts (line_for c.args.phase c.args.space.now c.args.limit c.args.start.context c.args.start.signal)), start_visited (visits c.args.phase) c.args.room.now c.requires.empty);
+      line = ([], rw same (no_contexts (line_for c.args.phase c.args.space.now c.args.limit c.args.state.now.context c.args.state.now.signal)), start_visited (visits c.args.phase) c.args.room.now c.requires.empty, rw same (none_met (reached_by (turned_from c.args.phase c.args.space.now) c.args.limit c.args.state.now)));
       visited = λ visited. ap length (c.requires.empty visited);
       stays = λ unvisited. refl;
       trail = refl;
@@ -56,6 +58,7 @@ loop-preserved g c =
         line.0 ++ c.loop.state.context ∷ [],
         line_goes c.args.phase c.args.space.now _ _ c.loop.state line.0 _ turns line.1 c.meet.new.state (sym (rw c.in-Caller.is at c.in_ok-meet.ensures.met)),
         rw c.visit.ensures (more_visited (visits c.args.phase) c.loop.room c.loop.state.context line.0 line.2),
+        reached_next (turned_from c.args.phase c.args.space.now) _ _ c.loop.state line.0 _ turns line.3 c.meet.new.state (turned_goes c.args.phase c.args.space.now c.loop.state c.meet.new.state (sym (rw c.in-Caller.is at c.in_ok-meet.ensures.met))),
       );
       visited = rw c.visit.ensures (visited_count (visits c.args.phase) c.loop.room c.loop.state.context c.loop.counter c.loop.invariant.visited);
       stays = λ is. rw c.visit.ensures (unvisited (visits c.args.phase) c.loop.room c.loop.state.context is ∙ c.loop.invariant.stays is);
@@ -75,3 +78,38 @@ returns-in-End-clause-ticks g c = rises_up_to c.args.space.now (c.loop.counter +
 pub returns-in-Stop-clause-ticks : goal.returns-in-Stop-clause-ticks
 returns-in-Stop-clause-ticks g c = rises_up_to c.args.space.now (c.loop.counter + 1) c.args.limit _ _ (omega arith)
     (rises_by_one c.args.space.now c.loop.state.context c.loop.state.signal c.loop.counter _ _ _ c.loop.invariant.ticks c.in_ok-meet.ensures.ticks)
+
+pub returns-in_err-meet-clause-reached : goal.returns-in_err-meet-clause-reached
+returns-in_err-meet-clause-reached g c =
+    let turns : c.args.limit - c.loop.counter ≡ suc (c.args.limit - (c.loop.counter + 1)) = omega arith in
+    let line = c.loop.invariant.line in
+    let here = turned_faults c.args.phase c.args.space.now c.loop.state c.in_err-meet.field-0.0 (sym c.in_err-meet.ensures.met) in
+    stands (visits c.args.phase) _ _ c.loop.state _ _
+    (rw c.visit.ensures (more_visited (visits c.args.phase) c.loop.room c.loop.state.context line.0 line.2))
+    c.in_err-meet.ensures.unmoved
+    (reached_here (turned_from c.args.phase c.args.space.now) _ _ c.loop.state line.0 _ turns line.3 here)
+
+pub returns-in-End-clause-reached : goal.returns-in-End-clause-reached
+returns-in-End-clause-reached g c =
+    let turns : c.args.limit - c.loop.counter ≡ suc (c.args.limit - (c.loop.counter + 1)) = omega arith in
+    let line = c.loop.invariant.line in
+    let here = turned_ends c.args.phase c.args.space.now c.loop.state (sym (rw c.in-End.is at c.in_ok-meet.ensures.met)) in
+    stands (visits c.args.phase) _ _ c.loop.state _ _
+    (rw c.visit.ensures (more_visited (visits c.args.phase) c.loop.room c.loop.state.context line.0 line.2))
+    (rw c.in-End.is at c.in_ok-meet.ensures.stays)
+    (reached_here (turned_from c.args.phase c.args.space.now) _ _ c.loop.state line.0 _ turns line.3 here)
+
+pub returns-in-Stop-clause-reached : goal.returns-in-Stop-clause-reached
+returns-in-Stop-clause-reached g c =
+    let turns : c.args.limit - c.loop.counter ≡ suc (c.args.limit - (c.loop.counter + 1)) = omega arith in
+    let line = c.loop.invariant.line in
+    let here = turned_stops c.args.phase c.args.space.now c.loop.state _ _ (sym (rw c.in-Stop.is at c.in_ok-meet.ensures.met)) in
+    stands (visits c.args.phase) _ _ c.loop.state _ _
+    (rw c.visit.ensures (more_visited (visits c.args.phase) c.loop.room c.loop.state.context line.0 line.2))
+    (rw c.in-Stop.is at c.in_ok-meet.ensures.stays)
+    (reached_here (turned_from c.args.phase c.args.space.now) _ _ c.loop.state line.0 _ turns line.3 here)
+
+pub returns-clause-reached : goal.returns-clause-reached
+returns-clause-reached g c =
+    let line = c.loop.invariant.line in
+    reached_limit (turned_from c.args.phase c.args.space.now) (visits c.args.phase) _ c.loop.state line.0 _ _ (omega arith) line.2 line.3

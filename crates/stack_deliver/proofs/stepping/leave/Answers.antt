@@ -3,5 +3,5 @@ use Rattle.fde_finders.specs.Answered.{answered}
 use Rattle.stack_deliver.proofs.StepParts.{caller_left}
 use Rattle.stack_deliver.proofs.stepping.leave.Goals as goal
 
-pub returns : goal.returns
-returns c f is = rw c.is_signal_trampoline.ensures (caller_left c.args.image.now c.args.state.now.context c.in_ok-caller.field-0 (answered c.args.found.now) f is.0 (omega arith) (c.in_ok-caller.ensures f.run is.1))
+pub returns-clause-caller : goal.returns-clause-caller
+returns-clause-caller c f is = rw c.is_signal_trampoline.ensures (caller_left c.args.image.now c.args.state.now.context c.in_ok-caller.field-0 (answered c.args.found.now) f is.0 (omega arith) (c.in_ok-caller.ensures f.run is.1))

@@ -1,0 +1,24 @@
+use Rattle.std.proofs.Common.{◌≡◌, ◌≢◌, sym, ◌∙◌}
+use Rattle.stack_deliver.proofs.FrontAnswers.{walk_states, walk_ends, walk_ends_for, walk_stops}
+use Rattle.stack_deliver.proofs.front.fronted.Goals as goal
+
+pub unframed-requires : goal.unframed-requires
+unframed-requires g c =
+    walk_ends c.args.space.now c.args.limit c.args.start.now c.args.interrupted c.outwards.new.room c.outwards.new.state c.outwards.ensures.reached c.outwards.result c.outwards.ensures.exact c.in-Ok.field-0 c.in-Ok.is
+
+pub returns-in-Ok-clause-states : goal.returns-in-Ok-clause-states
+returns-in-Ok-clause-states g c =
+    walk_states c.args.space.now c.args.limit c.args.start.now c.args.interrupted c.outwards.new.room c.outwards.new.state c.outwards.ensures.reached
+
+pub returns-in-Ok-clause-why : goal.returns-in-Ok-clause-why
+returns-in-Ok-clause-why g c =
+    walk_ends_for c.args.space.now c.args.limit c.args.start.now c.args.interrupted c.outwards.new.room c.outwards.new.state c.outwards.ensures.reached c.outwards.result c.outwards.ensures.exact c.in-Ok.field-0 c.in-Ok.is
+    c.unframed.result c.unframed.ensures
+
+pub returns-in-Err-clause-states : goal.returns-in-Err-clause-states
+returns-in-Err-clause-states g c =
+    walk_states c.args.space.now c.args.limit c.args.start.now c.args.interrupted c.outwards.new.room c.outwards.new.state c.outwards.ensures.reached
+
+pub returns-in-Err-clause-why : goal.returns-in-Err-clause-why
+returns-in-Err-clause-why g c =
+    rw c.stopped.ensures (walk_stops c.args.space.now c.args.limit c.args.start.now c.args.interrupted c.outwards.new.room c.outwards.new.state c.outwards.ensures.reached c.outwards.result c.outwards.ensures.exact c.in-Err.error c.in-Err.is c.address.result c.address.ensures)
