@@ -18,3 +18,4 @@ mod Keeping
 mod Collecting
 mod Preparing
 mod Exactly
+mod SampleIndex

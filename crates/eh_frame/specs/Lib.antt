@@ -6,3 +6,4 @@ pub mod Headers
 pub mod Listing
 pub mod Listed
 pub mod Index
+pub mod PreparedSample

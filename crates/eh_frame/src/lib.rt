@@ -24,6 +24,7 @@ mod entries;
 mod fde;
 mod header;
 mod header_search;
+mod laws;
 mod listing;
 mod prepared;
 
@@ -38,6 +39,7 @@ pub use frame_rows::{
     CfaRule, Register, RegisterMap, RegisterRule, Registers, Row, RowRef, RowRoom,
 };
 pub use header::{EhFrameHdr, HdrTable};
+pub use laws::table_of_a_push_is_prepared;
 pub use listing::Entries;
 pub use prepared::{Found, Prepared};
 pub use unwind_definitions::Error;

@@ -1,0 +1,14 @@
+//! A frame table and its index, byte for byte.
+
+ghost use Rattle.unwind_definitions.specs.Module.{no_bases};
+ghost use Rattle.eh_frame.specs.Index.{CannotBePrepared, IsFoundAt, IsPreparedFrom};
+ghost use Rattle.eh_frame.specs.PreparedSample as sample;
+
+/// The table of one function of 16 bytes that pushes RBX has an index with a row at its start and
+/// one after the push, and none that is to keep a single row. The function is found at its last
+/// byte.
+pub fn table_of_a_push_is_prepared()
+    ensures prepared { IsPreparedFrom no_bases sample.table sample.index }
+    ensures limited { CannotBePrepared no_bases sample.table 1 3 }
+    ensures found { IsFoundAt sample.index.functions 0x40100f 0 sample.fde }
+{}
