@@ -117,7 +117,8 @@ IsUncovered image (Some m) a = FindsNone image m.frame.text_base m.frame.kind a
 abbrev pub EndsAt : SpaceValue → Context → Bool → Type 0
 EndsAt space c interrupted = (c.ra ≡ 0) ⊎ ((c.ra ≢ 0) × IsUncovered space.image (module_at space.modules (address_of_call c.ra interrupted)) (address_of_call c.ra interrupted))
 
--- a row can't be read or run, or its CFA or a rule of it, the first with a fault, asks for a column that the machine doesn't have
+-- a row can't be read or run, or its CFA or a rule of it, the first with a fault, has no value: it asks for a column that the machine
+-- doesn't have, or is by an expression without a value
 abbrev pub RowFaults : List Span → Context → Result Run Fault → Fault → Type 0
 RowFaults image c (Ok run) e = caller_of x86_64 (evaluation image) image (columns_of c) run ≡ Err (calls.Table e)
 RowFaults image c (Err f) e = f ≡ e
