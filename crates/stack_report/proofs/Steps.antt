@@ -1,11 +1,11 @@
 -- One digit more.
-use Rattle.std.proofs.Common.{◌≡◌, ℕ, zero, suc, ◌+◌, ◌-◌, ◌*◌, ◌/◌, ◌%◌, ◌^◌, ◌<◌, ◌≤◌, ◌==◌, List, [], ◌∷◌, false, refl, ◌∙◌, ap, arith, length, drop, length-set}
+use Rattle.std.proofs.Common.{◌≡◌, ℕ, zero, suc, ◌+◌, ◌-◌, ◌*◌, ◌/◌, ◌%◌, ◌^◌, ◌<◌, ◌≤◌, ◌==◌, List, [], ◌∷◌, false, refl, ◌∙◌, ap, sym, ◌++◌, append_assoc, arith, length, drop, length-set}
 use Rattle.std.proofs.Math.ListN.{set}
 use Rattle.std.proofs.lemmas.List.{drop-set}
 use Rattle.std.proofs.Math.Nat.{pow-suc}
 use Rattle.std.proofs.lemmas.Bool.Decides.{nat_tests}
 use Rattle.std.specs.Fmt.{digits, digit_glyph}
-use Rattle.stack_report.specs.Digits.{digits_before}
+use Rattle.stack_report.specs.Digits.{digits_before, digits_of}
 
 pub first_digit : (base n : ℕ) → digits_before 63 base (n / base) (digit_glyph false (n % base) ∷ []) ≡ digits base false n
 unfolding digits
@@ -56,3 +56,17 @@ prefixed buffer start whole low high e =
     let second : drop (start - 1) (set buffer (start - 1) 120) ≡ 120 ∷ drop (start - 1 + 1) buffer = drop-set buffer (start - 1) 120 (omega arith) in
     let back : start - 1 + 1 ≡ start = omega arith in
     first ∙ ap (λ xs. 48 ∷ xs) (ap (λ i. drop i (set buffer (start - 1) 120)) place ∙ (second ∙ ap (λ xs. 120 ∷ xs) (ap (λ i. drop i buffer) back ∙ e)))
+
+-- ---- as many digits as there are places
+
+-- one digit more stands where the others are to come before it
+pub digit_placed : (k left n : ℕ) (g : ℕ) (buffer whole : List ℕ) → left ≡ suc k → k < length buffer → g ≡ digit_glyph false (n % 16) →
+    digits_of left n ++ drop left buffer ≡ whole → digits_of k (n / 16) ++ drop k (set buffer k g) ≡ whole
+digit_placed k left n g buffer whole more inside is placed =
+    let before : (digits_of k (n / 16) ++ digit_glyph false (n % 16) ∷ []) ++ drop (suc k) buffer ≡ whole = rw more at placed in
+    let next : k + 1 ≡ suc k = omega arith in
+    rw (drop-set, is, next) (sym (append_assoc (digits_of k (n / 16)) (digit_glyph false (n % 16) ∷ []) (drop (suc k) buffer)) ∙ before)
+
+-- a mark and digits that were put one after the other
+pub marked : (old mark one two buffer written : List ℕ) → one ≡ old ++ mark → two ≡ one ++ buffer → buffer ≡ written → two ≡ old ++ (mark ++ written)
+marked old mark one two buffer written first second same = rw (second, first, ← same) (append_assoc old mark buffer)

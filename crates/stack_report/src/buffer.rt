@@ -1,10 +1,13 @@
 // Lines of text.
 ghost use Rattle.std.specs.Prelude.{◌≡◌, ◌++◌, ◌∷◌, [], IfOk, OnOk};
 ghost use Rattle.std.specs.Fmt.{decimal};
-ghost use Rattle.stack_report.specs.Digits.{hexadecimal};
+ghost use Rattle.stack_report.specs.Digits.{hexadecimal, word};
+ghost use Rattle.stack_report.specs.Refusals.{refusal_text};
 ghost use Rattle.stack_report.specs.Report.{line};
 
-use crate::digits::{put_decimal, put_hexadecimal};
+use crate::digits::{put_decimal, put_hexadecimal, put_word};
+use crate::refusal::put_refusal;
+use stack_deliver::DeliverError;
 use std::alloc::{AllocError, Global};
 use std::marker::Model;
 
@@ -40,14 +43,14 @@ impl Report {
     }
 
     /// Puts a text last.
-    pub(crate) fn put(&mut self, text: &str) -> Result<(), AllocError>
+    pub fn put(&mut self, text: &str) -> Result<(), AllocError>
         ensures { OnOk result (self.new ≡ self.old ++ text.now) }
     {
         self.bytes.extend_from_slice(text.as_bytes())
     }
 
     /// Puts a label and a hexadecimal number last.
-    pub(crate) fn put_field(&mut self, label: &str, number: u64) -> Result<(), AllocError>
+    pub fn put_field(&mut self, label: &str, number: u64) -> Result<(), AllocError>
         ensures { OnOk result (self.new ≡ self.old ++ label.now ++ hexadecimal number) }
     {
         self.put(label)?;
@@ -55,15 +58,36 @@ impl Report {
     }
 
     /// Puts a label and a decimal number last.
-    pub(crate) fn put_count(&mut self, label: &str, count: usize) -> Result<(), AllocError>
+    pub fn put_count(&mut self, label: &str, count: usize) -> Result<(), AllocError>
         ensures { OnOk result (self.new ≡ self.old ++ label.now ++ decimal count) }
     {
         self.put(label)?;
         put_decimal(&mut self.bytes, count as u64)
     }
 
+    /// Puts bytes last.
+    pub fn put_bytes(&mut self, bytes: &[u8]) -> Result<(), AllocError>
+        ensures { OnOk result (self.new ≡ self.old ++ bytes.now) }
+    {
+        self.bytes.extend_from_slice(bytes)
+    }
+
+    /// Puts `0x` and sixteen hexadecimal digits last.
+    pub fn put_word(&mut self, number: u64) -> Result<(), AllocError>
+        ensures { OnOk result (self.new ≡ self.old ++ word number) }
+    {
+        put_word(&mut self.bytes, number)
+    }
+
+    /// Puts why a step, a walk or a delivery was refused last.
+    pub fn put_refusal(&mut self, error: DeliverError) -> Result<(), AllocError>
+        ensures { OnOk result (self.new ≡ self.old ++ refusal_text error) }
+    {
+        put_refusal(self, error)
+    }
+
     /// Ends the line.
-    pub(crate) fn end_line(&mut self) -> Result<(), AllocError>
+    pub fn end_line(&mut self) -> Result<(), AllocError>
         ensures { OnOk result (self.new ≡ self.old ++ 10 ∷ []) }
     {
         self.put("\n")

@@ -1,7 +1,7 @@
 // Numbers as text.
 ghost use Rattle.std.specs.Prelude.{◌≡◌, ◌<◌, ◌≤◌, ◌++◌, length, drop, false, OnOk};
 ghost use Rattle.std.specs.Fmt.{decimal, digit_glyph};
-ghost use Rattle.stack_report.specs.Digits.{hexadecimal};
+ghost use Rattle.stack_report.specs.Digits.{hexadecimal, word};
 
 use std::alloc::AllocError;
 
@@ -56,4 +56,18 @@ pub(crate) fn put_decimal(text: &mut Vec<u8>, number: u64) -> Result<(), AllocEr
         rest /= 10;
     }
     put_tail(text, &buffer, start)
+}
+
+/// Puts `0x` and the sixteen hexadecimal digits of the number after the text.
+pub(crate) fn put_word(text: &mut Vec<u8>, number: u64) -> Result<(), AllocError>
+    ensures { OnOk result (text.new.items ≡ text.old.items ++ word number) }
+{
+    let mut buffer = [0u8; 16];
+    let mut rest = number;
+    for place in 0..16usize {
+        buffer[15 - place] = glyph(rest % 16);
+        rest /= 16;
+    }
+    text.extend_from_slice(b"0x")?;
+    put_tail(text, &buffer, 0)
 }

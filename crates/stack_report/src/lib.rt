@@ -11,5 +11,5 @@ mod walk;
 
 pub use buffer::{Report, labelled_line_of, line_of};
 pub use delivery::report_of;
-pub use refusal::refused_line;
+pub use refusal::{error_name, refused_line};
 pub use walk::walk_report_of;

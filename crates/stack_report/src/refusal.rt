@@ -6,7 +6,8 @@ use crate::buffer::Report;
 use stack_deliver::{DeliverError, Error};
 use std::alloc::{AllocError, Global};
 
-fn error_name(error: Error) -> &'static str
+/// The name of an error.
+pub fn error_name(error: Error) -> &'static str
     ensures { result.now ≡ error_name error }
 {
     match error {
@@ -45,7 +46,7 @@ fn put_named(report: &mut Report, label: &str, name: &str) -> Result<(), AllocEr
     report.put(name)
 }
 
-fn put_refusal(report: &mut Report, error: DeliverError) -> Result<(), AllocError>
+pub(crate) fn put_refusal(report: &mut Report, error: DeliverError) -> Result<(), AllocError>
     ensures { OnOk result (report.new ≡ report.old ++ refusal_text error) }
 {
     match error {

@@ -3,6 +3,8 @@ use Rattle.std.specs.Prelude.{◌≡◌, List, ℕ, Option, Some, None, Result, 
 use Rattle.std.specs.Str.{is_utf8}
 use Rattle.serde_json.specs.Data.{Data}
 use Rattle.serde_json.specs.Read.{read}
+use Rattle.serde_json.specs.View.{view}
+use Rattle.serde_json.specs.declared.value.Value.{Value}
 use Rattle.stack_snapshot.specs.declared.errors.Field.{Field}
 use Rattle.stack_snapshot.specs.declared.errors.SnapshotError.{SnapshotError}
 use Rattle.stack_snapshot.specs.declared.errors.SnapshotError.TheVariants.{NoMemory, NotJson, Bad}
@@ -34,3 +36,10 @@ content_by (Some value) = content_with (snapshot_of value)
 -- the snapshot that bytes say, or why they say none
 abbrev pub content_of : List ℕ → Result Content SnapshotError
 content_of bytes = content_by (value_of bytes)
+
+-- a value is that of the bytes, or they have none, unless memory ran out
+abbrev pub ReadsValue : Result Value SnapshotError → List ℕ → Type 0
+ReadsValue (Ok value) bytes = value_of bytes ≡ Some (view value)
+ReadsValue (Err NotJson) bytes = value_of bytes ≡ None
+ReadsValue (Err NoMemory) bytes = Unit {0}
+ReadsValue (Err (Bad field)) bytes = ⊥

@@ -5,3 +5,4 @@ pub mod Snapshot
 pub mod Answers
 pub mod Owned
 pub mod Names
+pub mod Origins

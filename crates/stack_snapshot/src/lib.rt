@@ -5,9 +5,11 @@
 
 mod errors;
 mod fields;
+mod origins;
 mod reading;
 mod snapshot;
 
 pub use errors::{Field, SnapshotError};
-pub use reading::read_snapshot;
+pub use origins::{Origin, Origins};
+pub use reading::{read_named_snapshot, read_snapshot};
 pub use snapshot::Snapshot;

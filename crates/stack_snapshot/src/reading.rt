@@ -1,16 +1,18 @@
 // From JSON to a snapshot.
-ghost use Rattle.std.specs.Prelude.{◌≡◌, ◌<◌, [], true, length, IfOk, Err, ◌⊎◌, is_some, option_map};
+ghost use Rattle.std.specs.Prelude.{◌≡◌, ◌≢◌, ◌<◌, [], true, length, IfOk, Err, ◌⊎◌, is_some, option_map};
 ghost use Rattle.serde_json.specs.Find.{get};
 ghost use Rattle.serde_json.specs.View.{view, items_view};
 ghost use Rattle.stack_snapshot.specs.Snapshot.{needs, region_of, region_list, regions_of, text_base_of, frame_kind_of, frame_info_of, elf_of, module_of, module_list, modules_of, registers_in, register_names, start_of, resume_in, resume_of, resume_list, resumes_of, limit_of, interrupted_of, whole_numbers, snapshot_of};
 ghost use Rattle.stack_deliver.specs.Resumes.{resume_table};
 ghost use Rattle.stack_snapshot.specs.Fields.{bytes_at};
-ghost use Rattle.stack_snapshot.specs.Answers.{Gives, content_of};
+ghost use Rattle.stack_snapshot.specs.Answers.{Gives, ReadsValue, content_of, value_of};
+ghost use Rattle.stack_snapshot.specs.Origins.{origins_by, snapshot_in};
 ghost use Rattle.stack_snapshot.specs.Content.{takes_regions, takes_modules};
 ghost use Rattle.stack_snapshot.specs.Owned.{span_of, spans_of};
 
 use crate::errors::{Field, SnapshotError};
 use crate::fields::{as_word, has_float, number_at, word_at, word_or_zero_at};
+use crate::origins::{Origins, origins_of};
 use crate::snapshot::{Region, Snapshot, image_of_regions, space_of_modules};
 use hex::FromHexError;
 use memory_image::MemoryImage;
@@ -303,6 +305,22 @@ fn snapshot_of(alloc: Global, value: &Value) -> Result<Snapshot, SnapshotError>
     })
 }
 
+/// The value of some bytes as a JSON text.
+fn value_in(alloc: Global, bytes: &[u8]) -> Result<Value, SnapshotError>
+    ensures reads { ReadsValue result bytes.now }
+    ensures some { result ≢ Err SnapshotError.NotJson → 0 < length bytes.now }
+{
+    match Value::from_slice(alloc, bytes) {
+        Ok(value) => Ok(value),
+        Err(error) => {
+            if error.is_memory() {
+                return Err(SnapshotError::NoMemory);
+            }
+            Err(SnapshotError::NotJson)
+        }
+    }
+}
+
 /// Reads a snapshot.
 ///
 /// # Errors
@@ -313,14 +331,25 @@ pub fn read_snapshot(alloc: Global, bytes: &[u8]) -> Result<Snapshot, SnapshotEr
     ensures reads { (result ≡ Err SnapshotError.NoMemory) ⊎ (result ≡ content_of bytes.now) }
     ensures memory { result ≡ Err SnapshotError.NoMemory → 0 < length bytes.now }
 {
-    let value = match Value::from_slice(alloc, bytes) {
-        Ok(value) => value,
-        Err(error) => {
-            if error.is_memory() {
-                return Err(SnapshotError::NoMemory);
-            }
-            return Err(SnapshotError::NotJson);
-        }
-    };
+    let value = value_in(alloc, bytes)?;
     snapshot_of(alloc, &value)
+}
+
+/// Reads a snapshot, and from which files its modules come.
+///
+/// # Errors
+///
+/// As [`read_snapshot`].
+pub fn read_named_snapshot(
+    alloc: Global,
+    bytes: &[u8],
+) -> Result<(Snapshot, Origins), SnapshotError>
+    ensures reads { (result ≡ Err SnapshotError.NoMemory) ⊎
+        (snapshot_in result ≡ content_of bytes.now) }
+    ensures origins { IfOk result (λ both. both.1 ≡ origins_by (value_of bytes.now)) }
+{
+    let value = value_in(alloc, bytes)?;
+    let snapshot = snapshot_of(alloc, &value)?;
+    let origins = origins_of(alloc, &value)?;
+    Ok((snapshot, origins))
 }
