@@ -1,0 +1,17 @@
+pub mod SpelledLemmas
+pub mod States
+pub mod ChainLaw
+pub mod Functions
+pub mod Resumed
+pub mod Readers
+pub mod Entries
+pub mod FrameList
+pub mod Rows
+pub mod Languages
+pub mod Described
+pub mod Headers
+pub mod Held
+pub mod Valid
+pub mod Loops
+pub mod MadeValid
+pub mod Delivered

@@ -1,0 +1,10 @@
+pub mod Outlines
+pub mod Code
+pub mod Spelled
+pub mod Calls
+pub mod Tables
+pub mod Memory
+pub mod ValidCase
+pub mod Shown
+pub mod Made
+pub mod Caught
