@@ -18,6 +18,7 @@ ghost use Rattle.stack_report.specs.Report.{delivery_text, walk_text};
 ghost use Rattle.unwind_cli.specs.Sample.{json, snapshot, text, walked};
 ghost use Rattle.stack_snapshot.specs.Answers.{content_of};
 ghost use Rattle.unwind_cli.specs.FramePointer as frame_pointer;
+ghost use Rattle.unwind_cli.specs.Allocated as allocated;
 ghost use Rattle.unwind_cli.specs.Caught as caught;
 
 /// The snapshot of the stored run meets what `run` asks of a described chain, and the text that is
@@ -114,6 +115,15 @@ pub fn stored_call_is_described()
     ensures call { IsDescribedCall (process_of (space_of frame_pointer.snapshot)) storing.functions
         storing.start (record { callee = storing.storing; caller = storing.caller }) }
     ensures shows { Shows (columns_of frame_pointer.snapshot.start) storing.start }
+{}
+
+/// And where that function is alone in its module and its frame table, and returns into itself: the
+/// caller is at the same return address, 32 bytes further up, with the R12 that was stored.
+pub fn allocated_call_is_described()
+    ensures call { IsDescribedCall (process_of (space_of allocated.snapshot)) (storing.storing ∷ [])
+        allocated.start allocated.call }
+    ensures shows { Shows (columns_of allocated.snapshot.start) allocated.start }
+    ensures caller { allocated.call.caller ≡ record allocated.start { sp = 0x7020; r12 = 0xc12 } }
 {}
 
 /// And by a function whose module names the header of its frame table.
