@@ -9,7 +9,7 @@ use Rattle.std.proofs.lemmas.List.Sums.{sum_by-cons}
 use Rattle.unwind_definitions.specs.Instructions.{Offset, Instruction, Nop, Advance, Write, Cfa, CfaOffset, Program, instruction_of}
 use Rattle.unwind_definitions.specs.Entries.{AreEntries, entry_at}
 use Rattle.unwind_definitions.specs.Module.{no_bases}
-use Rattle.unwind_definitions.specs.Row.{Run, row, row_of, up_to}
+use Rattle.unwind_definitions.specs.Row.{RowInstructions, row, row_of, up_to}
 use Rattle.frame_rows.specs.KeptRows.{AreKeptOf}
 use Rattle.frame_rows.specs.Rows.{GivesRow, IsRowOf}
 use Rattle.eh_frame.specs.Index.{CannotBePrepared, IsPreparedFrom, common_program, own_program, rows_due, rules_due}
@@ -39,10 +39,10 @@ own_is : own_program no_bases fde ≡ program_of own
 unfolding instruction_of
 own_is = refl
 
-abbrev at_start : Run
+abbrev at_start : RowInstructions
 at_start = record { common = common; own = [] }
 
-abbrev in_body : Run
+abbrev in_body : RowInstructions
 in_body = record { common = common; own = own }
 
 is_row_at_start : IsRowOf row_at_start at_start

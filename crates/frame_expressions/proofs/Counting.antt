@@ -6,7 +6,7 @@ use Rattle.memory_image.specs.Image.{Span, number_at}
 use Rattle.unwind_definitions.specs.declared.error.Error.{Error as Fault}
 use Rattle.unwind_definitions.specs.declared.error.Error.TheVariants.{StackFull, PopWithEmptyStack, DivisionByZero, BadBranch, UnsupportedRegister, TooManyOperations}
 use Rattle.unwind_definitions.specs.Input.{Input}
-use Rattle.unwind_definitions.specs.Caller.{Columns, StepFault, Table, Unmapped, held, fault_in}
+use Rattle.unwind_definitions.specs.Caller.{Columns, StepFault, Table, Unmapped, column_or_fault, fault_in}
 use Rattle.unwind_definitions.specs.Operations.{Operation, Nop, Pop, Swap, Rotate, Push, PushColumn, Pick, Load, Change, Combine, Divide, Skip, Branch, operation}
 use Rattle.unwind_definitions.specs.Expressions.{Configuration, push, pick, popped, swapped, rotated, changed, combined, divided, goes_on, within, moved, branched, loaded, loaded_or_fault, pushed_column, done, done_where_read, step, rest_at, last_of, is_at_end, top_of, fault_at, HasFault, IsEndless}
 use Rattle.frame_expressions.proofs.Within.{operation_counts_none}
@@ -110,7 +110,7 @@ loaded_tells image next n (a ∷ stack) = go (number_at image a n)
     go None = tt
     go (Some v) = tt
 
-pushed_column_tells : (next n : ℕ) (stack : List ℕ) (v : Option ℕ) → TellsNone (pushed_column next n stack (held v))
+pushed_column_tells : (next n : ℕ) (stack : List ℕ) (v : Option ℕ) → TellsNone (pushed_column next n stack (column_or_fault v))
 pushed_column_tells next n stack None = register_apart
 pushed_column_tells next n stack (Some v) = goes_on_tells next _ (push_counts _ stack)
 

@@ -9,7 +9,7 @@ use Rattle.unwind_definitions.specs.declared.error.Error.TheVariants.{UnknownOpe
 use Rattle.unwind_definitions.specs.Faults.{◌>>=◌}
 use Rattle.unwind_definitions.specs.Input.{Input, Reads, number, sleb}
 use Rattle.unwind_definitions.specs.Instructions.{column}
-use Rattle.unwind_definitions.specs.Caller.{Columns, StepFault, Table, Unmapped, held, fault_in}
+use Rattle.unwind_definitions.specs.Caller.{Columns, StepFault, Table, Unmapped, column_or_fault, fault_in}
 use Rattle.unwind_definitions.specs.Operations.{Operation, Nop, Pop, Swap, Rotate, Push, PushColumn, Pick, Load, Change, Combine, Divide, Skip, Branch, says, with_operand, pushes_column, loads, unknown, constant, rearrangement, arithmetic, decision, extension, operation_of, operation}
 use Rattle.unwind_definitions.specs.Expressions.{Configuration, goes_on, within, moved, branched, loaded, loaded_or_fault, pushed_column, done, done_where_read, step, rest_at, last_of, is_at_end, top_of, fault_at, HasFault, begun, operation_limit, evaluation}
 use Rattle.frame_expressions.specs.Runs.{answer_is}
@@ -186,7 +186,7 @@ loaded_missing image next n (a ∷ stack) h = go (number_at image a n) refl
     go None e = more_unmapped image a n 8 h e
     go (Some v) e = tt
 
-pushed_column_missing : (image : List Span) (next n : ℕ) (stack : List ℕ) (v : Option ℕ) → Missing image (pushed_column next n stack (held v))
+pushed_column_missing : (image : List Span) (next n : ℕ) (stack : List ℕ) (v : Option ℕ) → Missing image (pushed_column next n stack (column_or_fault v))
 pushed_column_missing image next n stack None = tt
 pushed_column_missing image next n stack (Some v) = goes_on_missing image next _
 

@@ -3,7 +3,7 @@
 ghost use Rattle.std.specs.Prelude.{◌≡◌, ℕ, List, Result, ◌≤◌, ◌<◌, ◌^◌, length, IfOk, not, ◌==◌};
 ghost use Rattle.memory_image.specs.Image.{number_at};
 ghost use Rattle.unwind_definitions.specs.declared.error.Error.{Error as Fault};
-ghost use Rattle.unwind_definitions.specs.Caller.{held};
+ghost use Rattle.unwind_definitions.specs.Caller.{column_or_fault};
 ghost use Rattle.unwind_definitions.specs.Expressions.{done, goes_on, moved, branched, loaded, pushed_column};
 ghost use Rattle.frame_expressions.specs.Decoded.{meaning};
 ghost use Rattle.frame_expressions.specs.Answers.{GoesOn, Leaves};
@@ -71,7 +71,7 @@ fn push_register<R: RegisterMap<Word = u64>>(
     registers: &R,
 ) -> Result<u64, EvalError>
     ensures does { GoesOn result stack.new
-        (pushed_column next offset stack.old (held (R.columns registers.now register.0))) }
+        (pushed_column next offset stack.old (column_or_fault (R.columns registers.now register.0))) }
     ensures within { IfOk result (λ n. n ≡ next) }
 {
     match registers.get(register) {

@@ -6,7 +6,7 @@ use Rattle.std.proofs.lemmas.List.{append-nil, map-append, length-map}
 use Rattle.std.specs.declared.alloc.AllocError.{AllocError}
 use Rattle.unwind_definitions.specs.declared.error.Error.{Error as Fault}
 use Rattle.unwind_definitions.specs.Instructions.{Program}
-use Rattle.unwind_definitions.specs.Row.{Run, location, from_common, row}
+use Rattle.unwind_definitions.specs.Row.{RowInstructions, location, from_common, row}
 use Rattle.frame_rows.specs.RowValue.{RowValue}
 use Rattle.frame_rows.specs.Rows.{GivesRow, IsLast}
 use Rattle.frame_rows.specs.Running.{push, outcome}
@@ -20,14 +20,14 @@ use Rattle.frame_rows.proofs.StretchSteps.{location_pushed}
 use Rattle.frame_rows.proofs.Together.{common_fine, common_bad, common_stops, own_run, own_stops, row_made}
 
 -- a row has as many rules as are due
-pub as_many_rules : (answer : Result RowValue Fault) (due : Result Run Fault) → GivesRow answer due → Ascends answer → answer_rule_count answer ≡ rule_count_of due
+pub as_many_rules : (answer : Result RowValue Fault) (due : Result RowInstructions Fault) → GivesRow answer due → Ascends answer → answer_rule_count answer ≡ rule_count_of due
 as_many_rules (Ok r) due gives asc = count_ruled gives.0 r.rules asc gives.2.rules ∙ ap rule_count_of (sym gives.1)
 as_many_rules (Err e) due gives asc = ap rule_count_of (sym gives)
 
 abbrev keeps : ℕ → Result RowValue Fault → Kept
 keeps location answer = record { location = location; answer = answer }
 
-module _ (due : ℕ → Result Run Fault) where
+module _ (due : ℕ → Result RowInstructions Fault) where
   rows_push : (done : List Kept) (here end : ℕ) (answer : Result RowValue Fault) → AreRows due here done → ((pc : ℕ) → here ≤ pc → pc < end → GivesRow answer (due pc)) → AreRows due end (done ++ record { location = here; answer = answer } ∷ [])
   rows_push [] here end answer rows gives = (gives, tt)
   rows_push (k ∷ []) here end answer rows gives = (rows.0, rows_push [] here end answer tt gives)
@@ -41,11 +41,11 @@ module _ (due : ℕ → Result Run Fault) where
   count_one l = omega arith
 
 module _ (start end : ℕ) (common own : Program) (old : KeptRows) where
-  abbrev pub due_at : ℕ → Result Run Fault
+  abbrev pub due_at : ℕ → Result RowInstructions Fault
   due_at pc = row start pc common own
 
   -- so many locations are done, and from one on so many instructions are left
-  pub record IsAdding (here : ℕ) (now : Run) (q : Program) (table : KeptRows) : Type 0 where
+  pub record IsAdding (here : ℕ) (now : RowInstructions) (q : Program) (table : KeptRows) : Type 0 where
     pub done : List Kept
     pub stands : here ≡ location start now.own
     pub below : here < end
@@ -55,7 +55,7 @@ module _ (start end : ℕ) (common own : Program) (old : KeptRows) where
     pub kept : table.rows ≡ old.rows ++ done
     pub counted : table.rule_count ≡ old.rule_count + rule_count_at due_at (map location_of done)
 
-  pub begin : (run : Run) → start < end → outcome 0 None (from_common []) common ≡ Ok run → IsAdding start (from_common common.instructions) own old
+  pub begin : (run : RowInstructions) → start < end → outcome 0 None (from_common []) common ≡ Ok run → IsAdding start (from_common common.instructions) own old
   begin run some ran = record {
     done = [];
     stands = refl;
@@ -69,8 +69,8 @@ module _ (start end : ℕ) (common own : Program) (old : KeptRows) where
 
   -- ---- what is due on a stretch
 
-  module _ (run : Run) (ran : outcome 0 None (from_common []) common ≡ Ok run) (here : ℕ) (now : Run) (q : Program) (table : KeptRows) (a : IsAdding here now q table) where
-    given : (pc : ℕ) (last : Run) (answer : Result RowValue Fault) → here ≤ pc → outcome start (Some pc) now q ≡ Ok last → IsLast last answer → GivesRow answer (due_at pc)
+  module _ (run : RowInstructions) (ran : outcome 0 None (from_common []) common ≡ Ok run) (here : ℕ) (now : RowInstructions) (q : Program) (table : KeptRows) (a : IsAdding here now q table) where
+    given : (pc : ℕ) (last : RowInstructions) (answer : Result RowValue Fault) → here ≤ pc → outcome start (Some pc) now q ≡ Ok last → IsLast last answer → GivesRow answer (due_at pc)
     given pc last answer le is ends =
         let whole = a.stays pc le ∙ is in
         row_made start pc common own run last answer ran whole (subst (λ r. IsLast r answer) (sym (own_run start pc common own last whole)) ends)
@@ -86,7 +86,7 @@ module _ (start end : ℕ) (common own : Program) (old : KeptRows) where
 
   -- ---- one more row
 
-  module _ (here : ℕ) (now : Run) (q : Program) (table : KeptRows) (a : IsAdding here now q table) (limits : RowLimits) (answer : Result RowValue Fault) (many : answer_rule_count answer ≡ rule_count_of (due_at here)) where
+  module _ (here : ℕ) (now : RowInstructions) (q : Program) (table : KeptRows) (a : IsAdding here now q table) (limits : RowLimits) (answer : Result RowValue Fault) (many : answer_rule_count answer ≡ rule_count_of (due_at here)) where
     abbrev one : List Kept
     one = record { location = here; answer = answer } ∷ []
 
@@ -162,7 +162,7 @@ module _ (start end : ℕ) (common own : Program) (old : KeptRows) where
 
   -- ---- what a stretch ends with is kept
 
-  module _ (run : Run) (ran : outcome 0 None (from_common []) common ≡ Ok run) (here : ℕ) (now : Run) (q : Program) (table : KeptRows) (a : IsAdding here now q table) (limits : RowLimits) (m : Machine) (rest : Program) (new : KeptRows) where
+  module _ (run : RowInstructions) (ran : outcome 0 None (from_common []) common ≡ Ok run) (here : ℕ) (now : RowInstructions) (q : Program) (table : KeptRows) (a : IsAdding here now q table) (limits : RowLimits) (m : Machine) (rest : Program) (new : KeptRows) where
     here_at : (answer : Result RowValue Fault) (bound : ℕ) → here < bound → ((pc : ℕ) → here ≤ pc → pc < bound → GivesRow answer (due_at pc)) → Ascends answer → answer_rule_count answer ≡ rule_count_of (due_at here)
     here_at answer bound below gives asc = as_many_rules answer (due_at here) (gives here (omega arith) below) asc
 

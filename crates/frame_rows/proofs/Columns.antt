@@ -10,7 +10,7 @@ use Rattle.std.proofs.lemmas.List.Folds.{list_any-append}
 use Rattle.std.proofs.lemmas.Map.Made.{length-from_same_keys, is_member-filter}
 use Rattle.std.proofs.lemmas.Bool.{eqb-true, eqb-false, ltb-true, ltb-false, lt-leb, le-leb}
 use Rattle.unwind_definitions.specs.Instructions.{Rule, Instruction, Nop, Remember, Restore, Advance, SetLocation, Write, Reset, Cfa, CfaColumn, CfaOffset, CfaExpression, Arguments}
-use Rattle.unwind_definitions.specs.Row.{Run, last_word, cut_of, Cut, says_of, initial_rule, rule_of, column_named, distinct, ruled_columns, is_crowded}
+use Rattle.unwind_definitions.specs.Row.{RowInstructions, last_said, cut_of, Cut, says_of, initial_rule, rule_of, column_named, distinct, ruled_columns, has_too_many_rules}
 use Rattle.frame_rows.specs.Rules.{rule_in, AscendsFrom, is_room}
 
 -- ---- a column that no instruction names has no rule
@@ -20,15 +20,15 @@ names is c = is_member nat_eq (filter_map column_named is) c
 
 -- what a cut keeps, and what it keeps after the first restore, says nothing of a column
 record Silent (initial : Option Rule) (c : ℕ) (kept : Cut) : Type 0 where
-  now : last_word (says_of initial c) kept.kept ≡ None
-  later : last_word (says_of initial c) (unwrap_or kept.behind []) ≡ None
+  now : last_said (says_of initial c) kept.kept ≡ None
+  later : last_said (says_of initial c) (unwrap_or kept.behind []) ≡ None
 
 or_false : (a b : Bool) → (a || b) ≡ false → (a ≡ false) × (b ≡ false)
 or_false false b e = (refl, e)
 or_false true b e = absurd cc
 
 module _ (initial : Option Rule) (c : ℕ) where
-  chosen : (behind : Option (List Instruction)) (kept : List Instruction) → last_word (says_of initial c) kept ≡ None → last_word (says_of initial c) (unwrap_or behind []) ≡ None → last_word (says_of initial c) (unwrap_or behind kept) ≡ None
+  chosen : (behind : Option (List Instruction)) (kept : List Instruction) → last_said (says_of initial c) kept ≡ None → last_said (says_of initial c) (unwrap_or behind []) ≡ None → last_said (says_of initial c) (unwrap_or behind kept) ≡ None
   chosen None kept now later = now
   chosen (Some b) kept now later = later
 
@@ -60,7 +60,7 @@ module _ (initial : Option Rule) (c : ℕ) where
   silent (CfaExpression n ∷ is) e = let ih = silent is e in record { now = rw ih.now refl; later = ih.later }
   silent (Arguments n ∷ is) e = let ih = silent is e in record { now = rw ih.now refl; later = ih.later }
 
-unnamed : (run : Run) (c : ℕ) → names (run.common ++ run.own) c ≡ false → rule_of run c ≡ None
+unnamed : (run : RowInstructions) (c : ℕ) → names (run.common ++ run.own) c ≡ false → rule_of run c ≡ None
 unnamed run c e =
     let apart : (names run.common c || names run.own c) ≡ false =
     sym (list_any-append (nat_eq c) (filter_map column_named run.common) (filter_map column_named run.own)) ∙ ap (λ ns. list_any (nat_eq c) ns) (sym (filter_map-append column_named run.common run.own)) ∙ e in
@@ -147,7 +147,7 @@ member_columns (e ∷ es) q = rw (nat_eq_equiv.symm q e.0) (go (nat_eq e.0 q) (m
 
 -- ---- the count
 
-member_ruled : (run : Run) (q : ℕ) → is_member nat_eq (ruled_columns run) q ≡ is_some (rule_of run q)
+member_ruled : (run : RowInstructions) (q : ℕ) → is_member nat_eq (ruled_columns run) q ≡ is_some (rule_of run q)
 member_ruled run q =
     is_member-filter nat_eq_equiv (λ c. is_some (rule_of run c)) q (λ x e. ap (λ k. is_some (rule_of run k)) (eqb-true q x e)) (distinct (filter_map column_named (run.common ++ run.own)))
     ∙ ap (λ b. b && is_some (rule_of run q)) (same_members (filter_map column_named (run.common ++ run.own)) q)
@@ -158,7 +158,7 @@ member_ruled run q =
     go false e = rw (e, unnamed run q e) refl
 
 -- As many columns have a rule as there are entries that say the rules.
-pub count_ruled : (run : Run) (es : List (ℕ × Rule)) → AscendsFrom 0 es → ((c : ℕ) → rule_in es c ≡ rule_of run c) → length es ≡ length (ruled_columns run)
+pub count_ruled : (run : RowInstructions) (es : List (ℕ × Rule)) → AscendsFrom 0 es → ((c : ℕ) → rule_in es c ≡ rule_of run c) → length es ≡ length (ruled_columns run)
 count_ruled run es asc says =
     sym (length_columns es)
     ∙ length-from_same_keys nat_eq_equiv (columns es) (ruled_columns run) (distinct_columns 0 es asc)
@@ -177,7 +177,7 @@ full false n m e = rw e (opposite m)
         go false e = sym (le-leb 32 m (ltb-false m 32 e))
 
 -- A rule for a column is one too many exactly where there is no room.
-pub crowded_is : (run : Run) (es : List (ℕ × Rule)) (c : ℕ) (rule : Rule) → AscendsFrom 0 es → ((c : ℕ) → rule_in es c ≡ rule_of run c) → is_crowded run c (Some rule) ≡ not (is_room c es)
+pub crowded_is : (run : RowInstructions) (es : List (ℕ × Rule)) (c : ℕ) (rule : Rule) → AscendsFrom 0 es → ((c : ℕ) → rule_in es c ≡ rule_of run c) → has_too_many_rules run c (Some rule) ≡ not (is_room c es)
 crowded_is run es c rule asc says =
     ap (λ o. not (is_some o) && nat_le 32 (length (ruled_columns run))) (sym (says c))
     ∙ sym (full (is_some (rule_in es c)) (length es) (length (ruled_columns run)) (count_ruled run es asc says))

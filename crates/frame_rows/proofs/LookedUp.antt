@@ -4,7 +4,7 @@ use Rattle.std.specs.Prelude.{slice_range}
 use Rattle.std.proofs.lemmas.List.{take-map, drop-map, get_or-take, get_or-drop}
 use Rattle.std.proofs.Math.ListN.{get_or-map}
 use Rattle.unwind_definitions.specs.declared.error.Error.{Error as Fault}
-use Rattle.unwind_definitions.specs.Row.{Run}
+use Rattle.unwind_definitions.specs.Row.{RowInstructions}
 use Rattle.frame_rows.specs.RowValue.{RowValue}
 use Rattle.frame_rows.specs.Rows.{GivesRow}
 use Rattle.frame_rows.specs.KeptRows.{Kept, AreRows, first_location, location_of}
@@ -45,7 +45,7 @@ module _ (rules : List (Column × RegisterRule)) where
       record { before = kept_in rules x ∷ h.before; here = h.here; later = h.later; all = ap (λ l. kept_in rules x ∷ l) h.all; at_or_before = h.at_or_before; after = h.after; answers = h.answers }
 
 -- what holds at an address is what is due there
-pub due_there : (due : ℕ → Result Run Fault) (end pc : ℕ) (kept : List Kept) (answer : Result RowValue Fault) → AreRows due end kept → pc < end → HoldsAt kept pc answer → GivesRow answer (due pc)
+pub due_there : (due : ℕ → Result RowInstructions Fault) (end pc : ℕ) (kept : List Kept) (answer : Result RowValue Fault) → AreRows due end kept → pc < end → HoldsAt kept pc answer → GivesRow answer (due pc)
 due_there due end pc kept answer rows below h =
     let all = subst (AreRows due end) h.all rows in
     subst (λ a. GivesRow a (due pc)) (sym h.answers) (go h.before all)

@@ -3,7 +3,7 @@ use Rattle.std.proofs.Common.{◌≡◌, ℕ, ◌+◌, Bool, false, List, [], �
 use Rattle.std.specs.Option.{option_or, option_map, unwrap_or}
 use Rattle.std.proofs.lemmas.List.{append-nil}
 use Rattle.unwind_definitions.specs.Instructions.{Rule, Instruction, Nop, Remember, Restore, Advance, SetLocation, Write, Reset, Cfa, CfaColumn, CfaOffset, CfaExpression, Arguments}
-use Rattle.unwind_definitions.specs.Row.{Run, last_word, cut, cut_of, Cut, says_of, initial_rule, rule_of, cfa_rule, cfa_of, cfa_from, whole_cfa, cfa_column, cfa_offset, arguments, argument_size, CfaRule, ColumnAndOffset, ByExpression, location, remembers, is_open}
+use Rattle.unwind_definitions.specs.Row.{RowInstructions, last_said, cut, cut_of, Cut, says_of, initial_rule, rule_of, cfa_rule, cfa_of, cfa_from, whole_cfa, cfa_column, cfa_offset, arguments, argument_size, CfaRule, ColumnAndOffset, ByExpression, location, remembers, is_open}
 use Rattle.frame_rows.specs.Running.{push, IsClosed, IsOpenSince}
 
 or_none : {A : Type 0} (o : Option A) → option_or None o ≡ option_or o None
@@ -14,9 +14,9 @@ or_or : {A : Type 0} (a b c : Option A) → option_or (option_or a b) c ≡ opti
 or_or None b c = refl
 or_or (Some x) b c = refl
 
-pub last_word-push : {A : Type 0} (says : Instruction → Option A) (is : List Instruction) (i : Instruction) → last_word says (is ++ i ∷ []) ≡ option_or (says i) (last_word says is)
-last_word-push says [] i = or_none (says i)
-last_word-push says (k ∷ is) i = ap (λ o. option_or o (says k)) (last_word-push says is i) ∙ or_or (says i) (last_word says is) (says k)
+pub last_said-push : {A : Type 0} (says : Instruction → Option A) (is : List Instruction) (i : Instruction) → last_said says (is ++ i ∷ []) ≡ option_or (says i) (last_said says is)
+last_said-push says [] i = or_none (says i)
+last_said-push says (k ∷ is) i = ap (λ o. option_or o (says k)) (last_said-push says is i) ∙ or_or (says i) (last_said says is) (says k)
 
 -- an instruction that neither remembers nor restores
 pub record IsPlain (i : Instruction) : Type 0 where
@@ -54,31 +54,31 @@ pub kept_push : (is : List Instruction) (i : Instruction) → IsPlain i → cut 
 kept_push is i plain = ap (λ (c : Cut). c.kept) (cut_push is i plain)
 
 -- the rule of a column after one more instruction
-pub rule_push : (run : Run) (i : Instruction) (c : ℕ) → IsPlain i → rule_of (push run i) c ≡ unwrap_or (says_of (initial_rule run c) c i) (rule_of run c)
+pub rule_push : (run : RowInstructions) (i : Instruction) (c : ℕ) → IsPlain i → rule_of (push run i) c ≡ unwrap_or (says_of (initial_rule run c) c i) (rule_of run c)
 rule_push run i c plain =
-    ap (λ (is : List Instruction). unwrap_or (last_word (says_of (initial_rule run c) c) is) (initial_rule run c)) (kept_push run.own i plain)
-    ∙ ap (λ o. unwrap_or o (initial_rule run c)) (last_word-push (says_of (initial_rule run c) c) (cut run.own) i)
-    ∙ nested (says_of (initial_rule run c) c i) (last_word (says_of (initial_rule run c) c) (cut run.own)) (initial_rule run c)
+    ap (λ (is : List Instruction). unwrap_or (last_said (says_of (initial_rule run c) c) is) (initial_rule run c)) (kept_push run.own i plain)
+    ∙ ap (λ o. unwrap_or o (initial_rule run c)) (last_said-push (says_of (initial_rule run c) c) (cut run.own) i)
+    ∙ nested (says_of (initial_rule run c) c i) (last_said (says_of (initial_rule run c) c) (cut run.own)) (initial_rule run c)
   where
     nested : (a b : Option (Option Rule)) (d : Option Rule) → unwrap_or (option_or a b) d ≡ unwrap_or a (unwrap_or b d)
     nested None b d = refl
     nested (Some x) b d = refl
 
-abbrev all_of : Run → List Instruction
+abbrev all_of : RowInstructions → List Instruction
 all_of run = cut run.common ++ cut run.own
 
-all_push : (run : Run) (i : Instruction) → IsPlain i → all_of (push run i) ≡ all_of run ++ i ∷ []
+all_push : (run : RowInstructions) (i : Instruction) → IsPlain i → all_of (push run i) ≡ all_of run ++ i ∷ []
 all_push run i plain = ap (λ (is : List Instruction). cut run.common ++ is) (kept_push run.own i plain) ∙ sym (append_assoc (cut run.common) (cut run.own) (i ∷ []))
 
-words_push : (run : Run) (i : Instruction) → IsPlain i → cfa_rule (push run i) ≡
-    cfa_from (option_or (whole_cfa i) (last_word whole_cfa (all_of run))) (option_or (cfa_column i) (last_word cfa_column (all_of run))) (option_or (cfa_offset i) (last_word cfa_offset (all_of run)))
+words_push : (run : RowInstructions) (i : Instruction) → IsPlain i → cfa_rule (push run i) ≡
+    cfa_from (option_or (whole_cfa i) (last_said whole_cfa (all_of run))) (option_or (cfa_column i) (last_said cfa_column (all_of run))) (option_or (cfa_offset i) (last_said cfa_offset (all_of run)))
 words_push run i plain = ap cfa_of (all_push run i plain)
-    ∙ rw (last_word-push whole_cfa (all_of run) i, last_word-push cfa_column (all_of run) i, last_word-push cfa_offset (all_of run) i) refl
+    ∙ rw (last_said-push whole_cfa (all_of run) i, last_said-push cfa_column (all_of run) i, last_said-push cfa_offset (all_of run) i) refl
 
-pub cfa_whole : (run : Run) (c n : ℕ) → cfa_rule (push run (Cfa c n)) ≡ Some (ColumnAndOffset c n)
+pub cfa_whole : (run : RowInstructions) (c n : ℕ) → cfa_rule (push run (Cfa c n)) ≡ Some (ColumnAndOffset c n)
 cfa_whole run c n = words_push run (Cfa c n) (record { alone = λ is. refl; still = refl })
 
-pub cfa_by_expression : (run : Run) (b : List ℕ) → cfa_rule (push run (CfaExpression b)) ≡ Some (ByExpression b)
+pub cfa_by_expression : (run : RowInstructions) (b : List ℕ) → cfa_rule (push run (CfaExpression b)) ≡ Some (ByExpression b)
 cfa_by_expression run b = words_push run (CfaExpression b) (record { alone = λ is. refl; still = refl })
 
 partial_offset : (w : Option CfaRule) (col off : Option ℕ) (c m n : ℕ) → cfa_from w col off ≡ Some (ColumnAndOffset c m) → cfa_from w col (Some n) ≡ Some (ColumnAndOffset c n)
@@ -92,25 +92,25 @@ partial_column (Some (ByExpression b)) col off c m q e = absurd cc
 partial_column (Some (ColumnAndOffset c0 n0)) col off c m q e = let same : unwrap_or off n0 ≡ m = cc in rw same refl
 
 -- a new offset, and a new column
-pub cfa_new_offset : (run : Run) (c m n : ℕ) → cfa_rule run ≡ Some (ColumnAndOffset c m) → cfa_rule (push run (CfaOffset n)) ≡ Some (ColumnAndOffset c n)
+pub cfa_new_offset : (run : RowInstructions) (c m n : ℕ) → cfa_rule run ≡ Some (ColumnAndOffset c m) → cfa_rule (push run (CfaOffset n)) ≡ Some (ColumnAndOffset c n)
 cfa_new_offset run c m n e = words_push run (CfaOffset n) (record { alone = λ is. refl; still = refl })
-    ∙ partial_offset (last_word whole_cfa (all_of run)) (last_word cfa_column (all_of run)) (last_word cfa_offset (all_of run)) c m n e
+    ∙ partial_offset (last_said whole_cfa (all_of run)) (last_said cfa_column (all_of run)) (last_said cfa_offset (all_of run)) c m n e
 
-pub cfa_new_column : (run : Run) (c m q : ℕ) → cfa_rule run ≡ Some (ColumnAndOffset c m) → cfa_rule (push run (CfaColumn q)) ≡ Some (ColumnAndOffset q m)
+pub cfa_new_column : (run : RowInstructions) (c m q : ℕ) → cfa_rule run ≡ Some (ColumnAndOffset c m) → cfa_rule (push run (CfaColumn q)) ≡ Some (ColumnAndOffset q m)
 cfa_new_column run c m q e = words_push run (CfaColumn q) (record { alone = λ is. refl; still = refl })
-    ∙ partial_column (last_word whole_cfa (all_of run)) (last_word cfa_column (all_of run)) (last_word cfa_offset (all_of run)) c m q e
+    ∙ partial_column (last_said whole_cfa (all_of run)) (last_said cfa_column (all_of run)) (last_said cfa_offset (all_of run)) c m q e
 
 -- an instruction that says nothing of the CFA
-pub cfa_same : (run : Run) (i : Instruction) → IsPlain i → whole_cfa i ≡ None → cfa_column i ≡ None → cfa_offset i ≡ None → cfa_rule (push run i) ≡ cfa_rule run
+pub cfa_same : (run : RowInstructions) (i : Instruction) → IsPlain i → whole_cfa i ≡ None → cfa_column i ≡ None → cfa_offset i ≡ None → cfa_rule (push run i) ≡ cfa_rule run
 cfa_same run i plain a b d = words_push run i plain ∙ rw (a, b, d) refl
 
-pub arguments_same : (run : Run) (i : Instruction) → IsPlain i → arguments i ≡ None → argument_size (push run i) ≡ argument_size run
-arguments_same run i plain none = ap (λ (is : List Instruction). unwrap_or (last_word arguments is) 0) (all_push run i plain)
-    ∙ rw (last_word-push arguments (all_of run) i, none) refl
+pub arguments_same : (run : RowInstructions) (i : Instruction) → IsPlain i → arguments i ≡ None → argument_size (push run i) ≡ argument_size run
+arguments_same run i plain none = ap (λ (is : List Instruction). unwrap_or (last_said arguments is) 0) (all_push run i plain)
+    ∙ rw (last_said-push arguments (all_of run) i, none) refl
 
-pub arguments_new : (run : Run) (n : ℕ) → argument_size (push run (Arguments n)) ≡ n
-arguments_new run n = ap (λ (is : List Instruction). unwrap_or (last_word arguments is) 0) (all_push run (Arguments n) (record { alone = λ is. refl; still = refl }))
-    ∙ rw (last_word-push arguments (all_of run) (Arguments n)) refl
+pub arguments_new : (run : RowInstructions) (n : ℕ) → argument_size (push run (Arguments n)) ≡ n
+arguments_new run n = ap (λ (is : List Instruction). unwrap_or (last_said arguments is) 0) (all_push run (Arguments n) (record { alone = λ is. refl; still = refl }))
+    ∙ rw (last_said-push arguments (all_of run) (Arguments n)) refl
 
 -- where one instruction leads
 abbrev pub lead : ℕ → Instruction → ℕ
@@ -149,7 +149,7 @@ location-push start (Arguments n ∷ is) i = location-push start is i
 
 -- whether a state is open after one more instruction
 pub open-push : (is : List Instruction) (i : Instruction) → is_open (is ++ i ∷ []) ≡ unwrap_or (remembers i) (is_open is)
-open-push is i = ap (λ o. unwrap_or o false) (last_word-push remembers is i) ∙ go (remembers i) (last_word remembers is)
+open-push is i = ap (λ o. unwrap_or o false) (last_said-push remembers is i) ∙ go (remembers i) (last_said remembers is)
   where
     go : (a b : Option Bool) → unwrap_or (option_or a b) false ≡ unwrap_or a (unwrap_or b false)
     go None b = refl

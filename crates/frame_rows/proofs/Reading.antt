@@ -7,7 +7,7 @@ use Rattle.std.proofs.Math.Dec.{eqb-zero-suc, eqb-suc-suc}
 use Rattle.unwind_definitions.specs.declared.error.Error.{Error as Fault}
 use Rattle.unwind_definitions.specs.Input.{Input}
 use Rattle.unwind_definitions.specs.Instructions.{Instruction, Nop, Remember, Restore, Advance, SetLocation, Write, Reset, Cfa, CfaColumn, CfaOffset, CfaExpression, Arguments, Coding, instruction, Program, program_from, after}
-use Rattle.unwind_definitions.specs.Row.{Run, fault_of, first_fault, location, up_to, or_else}
+use Rattle.unwind_definitions.specs.Row.{RowInstructions, fault_of, first_fault, location, up_to, or_else}
 use Rattle.frame_rows.specs.Running.{push, stops, part, outcome}
 use Rattle.frame_rows.proofs.Pushed.{lead, location-push}
 
@@ -30,49 +30,49 @@ part_is at None i is = refl
 part_is at (Some pc) i is = up_to_is at pc i is
 
 -- what a part of a program makes of what ran before it
-abbrev rest_of : ℕ → Run → Program → List Instruction → Result Run Fault
+abbrev rest_of : ℕ → RowInstructions → Program → List Instruction → Result RowInstructions Fault
 rest_of start run p is = or_else (option_or (first_fault start run is) (cond (length is == length p.instructions) p.fault None)) (Ok (record run { own = run.own ++ is }))
 
-abbrev ended : Run → Result Run Fault
+abbrev ended : RowInstructions → Result RowInstructions Fault
 ended run = Ok run
 
-same_run : (run : Run) → ended (record run { own = run.own ++ [] }) ≡ Ok run
+same_run : (run : RowInstructions) → ended (record run { own = run.own ++ [] }) ≡ Ok run
 same_run run = ap (λ (o : List Instruction). ended (record run { own = o })) (append-nil run.own)
 
 -- nothing is reached, and something is there
-stopped : (start : ℕ) (run : Run) (i : Instruction) (p : Program) → rest_of start run (record { instructions = i ∷ p.instructions; fault = p.fault }) [] ≡ Ok run
+stopped : (start : ℕ) (run : RowInstructions) (i : Instruction) (p : Program) → rest_of start run (record { instructions = i ∷ p.instructions; fault = p.fault }) [] ≡ Ok run
 stopped start run i p = ap (λ b. or_else (cond b p.fault None) (ended (record run { own = run.own ++ [] }))) (eqb-zero-suc (length p.instructions)) ∙ same_run run
 
-parts : (o f pf : Option Fault) (b b' : Bool) (x y : Result Run Fault) → b ≡ b' → x ≡ y → or_else (option_or (option_or o f) (cond b pf None)) x ≡ or_else o (or_else (option_or f (cond b' pf None)) y)
+parts : (o f pf : Option Fault) (b b' : Bool) (x y : Result RowInstructions Fault) → b ≡ b' → x ≡ y → or_else (option_or (option_or o f) (cond b pf None)) x ≡ or_else o (or_else (option_or f (cond b' pf None)) y)
 parts None f pf b b' x y e h = rw (e, h) refl
 parts (Some d) f pf b b' x y e h = refl
 
 -- one instruction is reached, and what follows it
-further : (start : ℕ) (run : Run) (i : Instruction) (p : Program) (is : List Instruction) →
+further : (start : ℕ) (run : RowInstructions) (i : Instruction) (p : Program) (is : List Instruction) →
     rest_of start run (record { instructions = i ∷ p.instructions; fault = p.fault }) (i ∷ is) ≡ or_else (fault_of start run i) (rest_of start (push run i) p is)
 further start run i p is = parts (fault_of start run i) (first_fault start (push run i) is) p.fault _ _ _ _ (eqb-suc-suc (length is) (length p.instructions))
     (ap (λ (o : List Instruction). ended (record run { own = o })) (sym (append_assoc run.own (i ∷ []) is)))
 
 module _ (start : ℕ) (pc : Option ℕ) where
-  outcome_is : (run : Run) (p : Program) → outcome start pc run p ≡ rest_of start run p (part (location start run.own) pc p.instructions)
+  outcome_is : (run : RowInstructions) (p : Program) → outcome start pc run p ≡ rest_of start run p (part (location start run.own) pc p.instructions)
   unfolding outcome
   outcome_is run p = refl
 
-  pub nothing : (run : Run) → outcome start pc run (record { instructions = []; fault = None }) ≡ Ok run
+  pub nothing : (run : RowInstructions) → outcome start pc run (record { instructions = []; fault = None }) ≡ Ok run
   nothing run = outcome_is run (record { instructions = []; fault = None }) ∙ none pc
     where
       none : (o : Option ℕ) → rest_of start run (record { instructions = []; fault = None }) (part (location start run.own) o []) ≡ Ok run
       none None = same_run run
       none (Some a) = same_run run
 
-  pub unread : (run : Run) (e : Fault) → outcome start pc run (record { instructions = []; fault = Some e }) ≡ Err e
+  pub unread : (run : RowInstructions) (e : Fault) → outcome start pc run (record { instructions = []; fault = Some e }) ≡ Err e
   unread run e = outcome_is run (record { instructions = []; fault = Some e }) ∙ none pc
     where
       none : (o : Option ℕ) → rest_of start run (record { instructions = []; fault = Some e }) (part (location start run.own) o []) ≡ Err e
       none None = refl
       none (Some a) = refl
 
-  pub one : (run : Run) (i : Instruction) (p : Program) (b : Bool) → stops (location start run.own) pc i ≡ b →
+  pub one : (run : RowInstructions) (i : Instruction) (p : Program) (b : Bool) → stops (location start run.own) pc i ≡ b →
       outcome start pc run (record { instructions = i ∷ p.instructions; fault = p.fault }) ≡ cond b (Ok run) (or_else (fault_of start run i) (outcome start pc (push run i) p))
   one run i p b is =
       outcome_is run (record { instructions = i ∷ p.instructions; fault = p.fault })
@@ -86,7 +86,7 @@ module _ (start : ℕ) (pc : Option ℕ) where
           ∙ ap (λ at. or_else (fault_of start run i) (rest_of start (push run i) p (part at pc p.instructions))) (sym (location-push start run.own i))
           ∙ ap (or_else (fault_of start run i)) (sym (outcome_is (push run i) p))
 
-  module _ (coding : Coding) (run : Run) (c : Input) where
+  module _ (coding : Coding) (run : RowInstructions) (c : Input) where
     pub at_end : (n : ℕ) → n ≡ 0 → outcome start pc run (program_from n coding c) ≡ Ok run
     at_end n e = ap (λ n. outcome start pc run (program_from n coding c)) e ∙ nothing run
 

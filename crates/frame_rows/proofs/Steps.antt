@@ -4,7 +4,7 @@ use Rattle.std.specs.Prelude.{is_some, ◌==◌}
 use Rattle.std.specs.Option.{option_map, unwrap_or}
 use Rattle.std.proofs.lemmas.Bool.{eqb-true}
 use Rattle.unwind_definitions.specs.Instructions.{Rule, Instruction, Nop, Remember, Restore, Advance, SetLocation, Write, Reset, Arguments}
-use Rattle.unwind_definitions.specs.Row.{Run, rule_of, cfa_rule, cfa_of, arguments, cut, says_of, initial_rule, last_word, is_open}
+use Rattle.unwind_definitions.specs.Row.{RowInstructions, rule_of, cfa_rule, cfa_of, arguments, cut, says_of, initial_rule, last_said, is_open}
 use Rattle.frame_rows.specs.Rules.{rule_in, cfa_meaning, with_rule}
 use Rattle.frame_rows.specs.Running.{push, IsStateOf, IsClosed, IsRemembered, Represents}
 use Rattle.frame_rows.specs.declared.machine.RowState.{RowState}
@@ -12,11 +12,11 @@ use Rattle.frame_rows.specs.declared.machine.Machine.{Machine}
 use Rattle.frame_rows.proofs.Pushed.{IsPlain, rule_push, cfa_same, arguments_same, arguments_new, lead, location-push, open-push, closed_plain, open_plain, open_remember, cut_remember, cut_restore, closed_restore}
 
 -- what is remembered stays
-kept_memory : (run : Run) (i : Instruction) → IsPlain i → (r : Option RowState) → IsRemembered r run → IsRemembered r (push run i)
+kept_memory : (run : RowInstructions) (i : Instruction) → IsPlain i → (r : Option RowState) → IsRemembered r run → IsRemembered r (push run i)
 kept_memory run i plain None closed = closed_plain run.own i plain closed
 kept_memory run i plain (Some s) (before, opened, state) = (before, open_plain before run.own i plain opened, state)
 
-module _ (start : ℕ) (m : Machine) (run : Run) (rep : Represents start m run) where
+module _ (start : ℕ) (m : Machine) (run : RowInstructions) (rep : Represents start m run) where
   -- an instruction that neither remembers nor restores
   pub step_plain : (t : Machine) (i : Instruction) → IsPlain i → t.location ≡ lead m.location i → t.remembered ≡ m.remembered → t.initial ≡ m.initial → IsStateOf t.state (push run i) → Represents start t (push run i)
   step_plain t i plain here memory initial state = record {
@@ -116,8 +116,8 @@ module _ (start : ℕ) (m : Machine) (run : Run) (rep : Represents start m run) 
         here = here ∙ rep.here ∙ sym (location-push start run.own Remember);
         state = subst (λ s. IsStateOf s (push run Remember)) (sym state) (record {
           cfa = rep.state.cfa ∙ sym (ap (λ is. cfa_of (cut run.common ++ is)) same);
-          rules = λ c. rep.state.rules c ∙ sym (ap (λ is. unwrap_or (last_word (says_of (initial_rule run c) c) is) (initial_rule run c)) same);
-          arguments = rep.state.arguments ∙ sym (ap (λ is. unwrap_or (last_word arguments (cut run.common ++ is)) 0) same);
+          rules = λ c. rep.state.rules c ∙ sym (ap (λ is. unwrap_or (last_said (says_of (initial_rule run c) c) is) (initial_rule run c)) same);
+          arguments = rep.state.arguments ∙ sym (ap (λ is. unwrap_or (last_said arguments (cut run.common ++ is)) 0) same);
         });
         opened = ap is_some memory ∙ sym (open-push run.own Remember);
         remembered = subst (λ r. IsRemembered r (push run Remember)) (sym memory) (run.own, open_remember run.own closed, rep.state);
@@ -133,8 +133,8 @@ module _ (start : ℕ) (m : Machine) (run : Run) (rep : Represents start m run) 
         here = here ∙ rep.here ∙ sym (location-push start run.own Restore);
         state = subst (λ s. IsStateOf s (push run Restore)) (sym state) (record {
           cfa = r.2.cfa ∙ sym (ap (λ is. cfa_of (cut run.common ++ is)) same);
-          rules = λ c. r.2.rules c ∙ sym (ap (λ is. unwrap_or (last_word (says_of (initial_rule run c) c) is) (initial_rule run c)) same);
-          arguments = r.2.arguments ∙ sym (ap (λ is. unwrap_or (last_word arguments (cut run.common ++ is)) 0) same);
+          rules = λ c. r.2.rules c ∙ sym (ap (λ is. unwrap_or (last_said (says_of (initial_rule run c) c) is) (initial_rule run c)) same);
+          arguments = r.2.arguments ∙ sym (ap (λ is. unwrap_or (last_said arguments (cut run.common ++ is)) 0) same);
         });
         opened = ap is_some memory ∙ sym (open-push run.own Restore);
         remembered = subst (λ r. IsRemembered r (push run Restore)) (sym memory) (closed_restore r.0 run.own r.1);

@@ -5,7 +5,7 @@ use Rattle.std.proofs.lemmas.Bool.{le-ltb, lt-ltb, le-leb, lt-leb, ltb-false}
 use Rattle.unwind_definitions.specs.declared.error.Error.{Error as Fault}
 use Rattle.unwind_definitions.specs.declared.error.Error.TheVariants.{AddressOverflow, LocationGoesBack}
 use Rattle.unwind_definitions.specs.Instructions.{Instruction, Nop, Remember, Restore, Advance, SetLocation, Write, Reset, Cfa, CfaColumn, CfaOffset, CfaExpression, Arguments, Program}
-use Rattle.unwind_definitions.specs.Row.{Run, fault_of, fault_where, location, or_else}
+use Rattle.unwind_definitions.specs.Row.{RowInstructions, fault_of, fault_where, location, or_else}
 use Rattle.frame_rows.specs.Running.{push, stops, outcome, Represents}
 use Rattle.frame_rows.specs.KeptRows.{locations_after, then_location}
 use Rattle.frame_rows.specs.Stretches.{IsStill, IsLastStretch, IsStretch, IsFaultyStretch}
@@ -35,7 +35,7 @@ still_stops here pc (CfaOffset n) still le = refl
 still_stops here pc (CfaExpression b) still le = refl
 still_stops here pc (Arguments n) still le = refl
 
-still_leads : (start : ℕ) (run : Run) (i : Instruction) → IsStill (location start run.own) i → fault_of start run i ≡ None → location (location start run.own) (i ∷ []) ≡ location start run.own
+still_leads : (start : ℕ) (run : RowInstructions) (i : Instruction) → IsStill (location start run.own) i → fault_of start run i ≡ None → location (location start run.own) (i ∷ []) ≡ location start run.own
 still_leads start run (Advance n) (inl none) fine = omega arith
 still_leads start run (Advance n) (inr over) fine =
     let crowded : fault_of start run (Advance n) ≡ Some AddressOverflow = ap (λ b. fault_where b AddressOverflow) (le-leb (2 ^ 64) (location start run.own + n) over) in
@@ -58,7 +58,7 @@ still_leads start run (CfaOffset n) still fine = refl
 still_leads start run (CfaExpression b) still fine = refl
 still_leads start run (Arguments n) still fine = refl
 
-pub location_pushed : (start : ℕ) (run : Run) (i : Instruction) → location start (push run i).own ≡ location (location start run.own) (i ∷ [])
+pub location_pushed : (start : ℕ) (run : RowInstructions) (i : Instruction) → location start (push run i).own ≡ location (location start run.own) (i ∷ [])
 location_pushed start run i = location-push start run.own i ∙ sym (location_one (location start run.own) i)
 
 -- ---- an instruction that leads on
@@ -91,14 +91,14 @@ module _ (here next : ℕ) (i : Instruction) (is : location here (i ∷ []) ≡ 
     | inr set ↦ ap (stops here (Some pc)) set ∙ rw (le-ltb pc next past) refl
   ]
 
-leads_fine : (start next : ℕ) (run : Run) (i : Instruction) → location (location start run.own) (i ∷ []) ≡ next → location start run.own < next → next < 2 ^ 64 → fault_of start run i ≡ None
+leads_fine : (start next : ℕ) (run : RowInstructions) (i : Instruction) → location (location start run.own) (i ∷ []) ≡ next → location start run.own < next → next < 2 ^ 64 → fault_of start run i ≡ None
 leads_fine start next run i is ahead fits = elim (leads_by (location start run.own) next i is ahead) [
   | inl raised ↦ let same = raised.2 in ap (fault_of start run) raised.1 ∙ ap (λ b. fault_where b AddressOverflow) (lt-leb (2 ^ 64) (location start run.own + raised.0) (omega arith))
   | inr set ↦ ap (fault_of start run) set ∙ ap (λ b. fault_where b LocationGoesBack) (le-ltb next (location start run.own) (omega arith))
 ]
 
 -- a machine whose location is raised or set has run it
-pub led_on : (start next : ℕ) (m t : Machine) (run : Run) (i : Instruction) → Represents start m run → location (location start run.own) (i ∷ []) ≡ next → location start run.own < next →
+pub led_on : (start next : ℕ) (m t : Machine) (run : RowInstructions) (i : Instruction) → Represents start m run → location (location start run.own) (i ∷ []) ≡ next → location start run.own < next →
     t.location ≡ next → t.state ≡ m.state → t.remembered ≡ m.remembered → t.initial ≡ m.initial → Represents start t (push run i)
 led_on start next m t run i rep is ahead there state memory initial = elim (leads_by (location start run.own) next i is ahead) [
   | inl raised ↦ let same = raised.2 in let h = rep.here in subst (λ i. Represents start t (push run i)) (sym raised.1) (step_advance start m run rep raised.0 t (omega arith) state memory initial)
@@ -110,7 +110,7 @@ led_on start next m t run i rep is ahead there state memory initial = elim (lead
 not_further : (end here next : ℕ) (rest : List ℕ) → next ≡ here → then_location end here next rest ≡ rest
 not_further end here next rest same = rw (le-ltb here next (omega arith)) refl
 
-module _ (start end : ℕ) (run : Run) (i : Instruction) (is : List Instruction) where
+module _ (start end : ℕ) (run : RowInstructions) (i : Instruction) (is : List Instruction) where
   no_locations : (e : Fault) → fault_of start run i ≡ Some e → locations_after start end run (i ∷ is) ≡ []
   no_locations e bad = rw bad refl
 
@@ -120,12 +120,12 @@ module _ (start end : ℕ) (run : Run) (i : Instruction) (is : List Instruction)
 -- ---- a stretch underway
 
 -- what is left after some instructions gives what all give, from here on
-pub record IsUnderway (start : ℕ) (run : Run) (p : Program) (now : Run) (q : Program) : Type 0 where
+pub record IsUnderway (start : ℕ) (run : RowInstructions) (p : Program) (now : RowInstructions) (q : Program) : Type 0 where
   pub here : location start now.own ≡ location start run.own
   pub stays : (pc : ℕ) → location start run.own ≤ pc → outcome start (Some pc) run p ≡ outcome start (Some pc) now q
   pub same : (end : ℕ) → locations_after start end run p.instructions ≡ locations_after start end now q.instructions
 
-pub begun : (start : ℕ) (run : Run) (p : Program) → IsUnderway start run p run p
+pub begun : (start : ℕ) (run : RowInstructions) (p : Program) → IsUnderway start run p run p
 begun start run p = record { here = refl; stays = λ pc le. refl; same = λ end. refl }
 
 abbrev first_then : Instruction → Program → Program
@@ -134,7 +134,7 @@ first_then i r = record { instructions = i ∷ r.instructions; fault = r.fault }
 abbrev ended_by : Option Fault → Program
 ended_by fault = record { instructions = []; fault = fault }
 
-module _ (start : ℕ) (run : Run) (p : Program) (now : Run) (q : Program) (u : IsUnderway start run p now q) where
+module _ (start : ℕ) (run : RowInstructions) (p : Program) (now : RowInstructions) (q : Program) (u : IsUnderway start run p now q) where
   -- an instruction is read
   module _ (i : Instruction) (r : Program) (reads : q ≡ record { instructions = i ∷ r.instructions; fault = r.fault }) where
     goes : (pc : ℕ) (b : Bool) → location start run.own ≤ pc → stops (location start now.own) (Some pc) i ≡ b → outcome start (Some pc) run p ≡ cond b (Ok now) (or_else (fault_of start now i) (outcome start (Some pc) (push now i) r))

@@ -2,7 +2,7 @@
 use Rattle.std.specs.Prelude.{◌≡◌, ℕ, ◌+◌, ◌<◌, ◌≤◌, ◌⊎◌, Bool, true, false, List, [], ◌∷◌, ◌++◌, length, map, Result, Ok, Err, is_some, nat_lt, if◌then◌else◌}
 use Rattle.unwind_definitions.specs.declared.error.Error.{Error as Fault}
 use Rattle.unwind_definitions.specs.Instructions.{Instruction, Program}
-use Rattle.unwind_definitions.specs.Row.{Run, location, fault_of, common_fault, from_common, ruled_columns, row}
+use Rattle.unwind_definitions.specs.Row.{RowInstructions, location, fault_of, common_fault, from_common, ruled_columns, row}
 use Rattle.frame_rows.specs.RowValue.{RowValue}
 use Rattle.frame_rows.specs.Rows.{GivesRow}
 use Rattle.frame_rows.specs.Rules.{AscendsFrom}
@@ -26,7 +26,7 @@ abbrev pub then_location : ℕ → ℕ → ℕ → List ℕ → List ℕ
 then_location end here next rest = if nat_lt here next then (if nat_lt next end then next ∷ rest else []) else rest
 
 -- The locations below an end to which instructions lead after others, up to the first that can't follow.
-abbrev pub locations_after : ℕ → ℕ → Run → List Instruction → List ℕ
+abbrev pub locations_after : ℕ → ℕ → RowInstructions → List Instruction → List ℕ
 locations_after start end run [] = []
 locations_after start end run (i ∷ is) = if is_some (fault_of start run i) then [] else
     then_location end (location start run.own) (location (location start run.own) (i ∷ [])) (locations_after start end (record run { own = run.own ++ i ∷ [] }) is)
@@ -38,12 +38,12 @@ reached_locations start end common own = start ∷ (if is_some (common_fault com
 -- ---- rows
 
 -- how many columns have a rule
-abbrev pub rule_count_of : Result Run Fault → ℕ
+abbrev pub rule_count_of : Result RowInstructions Fault → ℕ
 rule_count_of (Ok run) = length (ruled_columns run)
 rule_count_of (Err e) = 0
 
 -- the same over several locations
-abbrev pub rule_count_at : (ℕ → Result Run Fault) → List ℕ → ℕ
+abbrev pub rule_count_at : (ℕ → Result RowInstructions Fault) → List ℕ → ℕ
 rule_count_at due [] = 0
 rule_count_at due (l ∷ ls) = rule_count_of (due l) + rule_count_at due ls
 
@@ -52,7 +52,7 @@ first_location end [] = end
 first_location end (k ∷ ks) = k.location
 
 -- each holds from its location on, up to the next one's, and the last up to an end
-abbrev pub AreRows : (ℕ → Result Run Fault) → ℕ → List Kept → Type 0
+abbrev pub AreRows : (ℕ → Result RowInstructions Fault) → ℕ → List Kept → Type 0
 AreRows due end [] = Unit {0}
 AreRows due end (k ∷ ks) = ((pc : ℕ) → k.location ≤ pc → pc < first_location end ks → GivesRow k.answer (due pc)) × AreRows due end ks
 

@@ -2,7 +2,7 @@
 use Rattle.std.specs.Prelude.{◌≡◌, ℕ, ◌+◌, ◌^◌, ◌<◌, ◌≤◌, ◌⊎◌, [], ◌∷◌, Option, Some, None, Result, Ok, Err}
 use Rattle.unwind_definitions.specs.declared.error.Error.{Error as Fault}
 use Rattle.unwind_definitions.specs.Instructions.{Instruction, Advance, SetLocation, Coding, Program, program_from}
-use Rattle.unwind_definitions.specs.Row.{Run, location}
+use Rattle.unwind_definitions.specs.Row.{RowInstructions, location}
 use Rattle.encoded_pointers.specs.View.{at}
 use Rattle.frame_rows.specs.Decoded.{meaning}
 use Rattle.frame_rows.specs.Running.{Represents, outcome, push}
@@ -33,15 +33,15 @@ LeadsOn here i None = IsStill here i
 LeadsOn here i (Some next) = (location here (i ∷ []) ≡ next) × (here < next) × (next < 2 ^ 64)
 
 -- nothing leads on: from here on the same instructions have run
-pub record IsLastStretch (start : ℕ) (run : Run) (p : Program) (new : Machine) : Type 0 where
-  pub now : Run
+pub record IsLastStretch (start : ℕ) (run : RowInstructions) (p : Program) (new : Machine) : Type 0 where
+  pub now : RowInstructions
   pub represents : Represents start new now
   pub stays : (pc : ℕ) → location start run.own ≤ pc → outcome start (Some pc) run p ≡ Ok now
   pub no_more : (end : ℕ) → locations_after start end run p.instructions ≡ []
 
 -- an instruction leads on, which hasn't run yet
-pub record IsStretch (start : ℕ) (run : Run) (p : Program) (next : ℕ) (new : Machine) (rest : Program) : Type 0 where
-  pub now : Run
+pub record IsStretch (start : ℕ) (run : RowInstructions) (p : Program) (next : ℕ) (new : Machine) (rest : Program) : Type 0 where
+  pub now : RowInstructions
   pub by : Instruction
   pub represents : Represents start new now
   pub leads : location (location start now.own) (by ∷ []) ≡ next
@@ -53,12 +53,12 @@ pub record IsStretch (start : ℕ) (run : Run) (p : Program) (next : ℕ) (new :
   pub more : (end : ℕ) → locations_after start end run p.instructions ≡ then_location end (location start run.own) next (locations_after start end (push now by) rest.instructions)
 
 -- a fault from here on
-pub record IsFaultyStretch (start : ℕ) (run : Run) (p : Program) (fault : Fault) : Type 0 where
+pub record IsFaultyStretch (start : ℕ) (run : RowInstructions) (p : Program) (fault : Fault) : Type 0 where
   pub stays : (pc : ℕ) → location start run.own ≤ pc → outcome start (Some pc) run p ≡ Err fault
   pub no_more : (end : ℕ) → locations_after start end run p.instructions ≡ []
 
 -- what running up to the next location gives
-abbrev pub EndsStretch : ℕ → Run → Program → Result (Option ℕ) Fault → Machine → Program → Type 0
+abbrev pub EndsStretch : ℕ → RowInstructions → Program → Result (Option ℕ) Fault → Machine → Program → Type 0
 EndsStretch start run p (Ok None) new rest = IsLastStretch start run p new
 EndsStretch start run p (Ok (Some next)) new rest = IsStretch start run p next new rest
 EndsStretch start run p (Err e) new rest = IsFaultyStretch start run p e

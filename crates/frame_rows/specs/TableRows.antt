@@ -7,7 +7,7 @@ use Rattle.frame_rows.specs.Rules.{entry_of, cfa_meaning, AscendsFrom}
 use Rattle.frame_rows.specs.RowValue.{RowValue}
 use Rattle.frame_rows.specs.Rows.{IsLast}
 use Rattle.frame_rows.specs.Running.{Represents}
-use Rattle.unwind_definitions.specs.Row.{Run}
+use Rattle.unwind_definitions.specs.Row.{RowInstructions}
 use Rattle.frame_rows.specs.declared.machine.Machine.{Machine}
 use Rattle.frame_rows.specs.KeptRows.{Kept, KeptRows, answer_rule_count, first_location, AreTooMany, Ascends}
 use Rattle.unwind_arch.specs.declared.register.Register.{Register as Column}
@@ -68,5 +68,5 @@ pub record IsKept (limits : RowLimits) (location : ℕ) (answer : Result RowValu
   pub ascends : Ascends answer
 
 abbrev pub Keeps : RowLimits → ℕ → Result (Option ℕ) Fault → Machine → KeptRows → Result Bool AllocError → KeptRows → Type 0
-Keeps limits location (Ok next) machine old r new = (answer : Result RowValue Fault) × ((start : ℕ) (run : Run) → Represents start machine run → IsLast run answer) × IsKept limits location answer old r new
+Keeps limits location (Ok next) machine old r new = (answer : Result RowValue Fault) × ((start : ℕ) (run : RowInstructions) → Represents start machine run → IsLast run answer) × IsKept limits location answer old r new
 Keeps limits location (Err e) machine old r new = IsKept limits location (Err e) old r new

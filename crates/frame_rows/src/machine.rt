@@ -49,7 +49,7 @@ pub(crate) struct Machine<'a> {
 impl<'a> Machine<'a> {
     ghost use Rattle.std.specs.Prelude.{[], ◌∷◌, ◌<◌, List};
     ghost use Rattle.unwind_definitions.specs.Instructions.{Instruction, Advance, SetLocation, Write, Reset, Remember, Restore, CfaColumn, CfaOffset};
-    ghost use Rattle.unwind_definitions.specs.Row.{Run, from_common, location as location_after};
+    ghost use Rattle.unwind_definitions.specs.Row.{RowInstructions, from_common, location as location_after};
     ghost use Rattle.frame_rows.specs.Rules.{rule_meaning, rule_in};
     ghost use Rattle.frame_rows.specs.Decoded.{meaning};
     ghost use Rattle.frame_rows.specs.Running.{Represents, Follows, stops, initial_rules, push};
@@ -144,7 +144,8 @@ impl<'a> Machine<'a> {
 
     /// Moves to the location that an instruction leads on to.
     pub(crate) fn go_on(&mut self, location: u64)
-        ensures { (start : ℕ) (run : Run) (i : Instruction) → Represents start self.old run →
+        ensures { (start : ℕ) (run : RowInstructions) (i : Instruction) →
+            Represents start self.old run →
             location_after (location_after start run.own) (i ∷ []) ≡ location →
             location_after start run.own < location → Represents start self.new (push run i) }
     {
@@ -153,7 +154,7 @@ impl<'a> Machine<'a> {
 
     // Raises the location.
     fn advance(&mut self, delta: u128) -> Result<(), Error>
-        ensures { (start : ℕ) (run : Run) → Represents start self.old run →
+        ensures { (start : ℕ) (run : RowInstructions) → Represents start self.old run →
             Follows start run (Advance delta) result self.new }
     {
         if delta > (u64::MAX - self.location) as u128 {
@@ -165,7 +166,7 @@ impl<'a> Machine<'a> {
 
     // Sets the location.
     fn set_location(&mut self, address: u64) -> Result<(), Error>
-        ensures { (start : ℕ) (run : Run) → Represents start self.old run →
+        ensures { (start : ℕ) (run : RowInstructions) → Represents start self.old run →
             Follows start run (SetLocation address) result self.new }
     {
         if address < self.location {
@@ -176,7 +177,7 @@ impl<'a> Machine<'a> {
     }
 
     fn set_rule(&mut self, register: Register, rule: RegisterRule<'a>) -> Result<(), Error>
-        ensures { (start : ℕ) (run : Run) → Represents start self.old run →
+        ensures { (start : ℕ) (run : RowInstructions) → Represents start self.old run →
             Follows start run (Write register.0 (rule_meaning rule.entry)) result self.new }
     {
         self.state.rules.set(register, rule)
@@ -189,7 +190,7 @@ impl<'a> Machine<'a> {
     }
 
     fn restore_initial_rule(&mut self, register: Register) -> Result<(), Error>
-        ensures { (start : ℕ) (run : Run) → Represents start self.old run →
+        ensures { (start : ℕ) (run : RowInstructions) → Represents start self.old run →
             Follows start run (Reset register.0) result self.new }
     {
         match self.initial_rule(register) {
@@ -205,7 +206,7 @@ impl<'a> Machine<'a> {
     // instruction.
     #[inline(never)]
     fn remember_state(&mut self) -> Result<(), Error>
-        ensures { (start : ℕ) (run : Run) → Represents start self.old run →
+        ensures { (start : ℕ) (run : RowInstructions) → Represents start self.old run →
             Follows start run Remember result self.new }
     {
         match self.remembered {
@@ -219,7 +220,7 @@ impl<'a> Machine<'a> {
 
     #[inline(never)]
     fn restore_state(&mut self) -> Result<(), Error>
-        ensures { (start : ℕ) (run : Run) → Represents start self.old run →
+        ensures { (start : ℕ) (run : RowInstructions) → Represents start self.old run →
             Follows start run Restore result self.new }
     {
         match self.remembered.take() {
@@ -232,7 +233,7 @@ impl<'a> Machine<'a> {
     }
 
     fn set_cfa_register(&mut self, register: Register) -> Result<(), Error>
-        ensures { (start : ℕ) (run : Run) → Represents start self.old run →
+        ensures { (start : ℕ) (run : RowInstructions) → Represents start self.old run →
             Follows start run (CfaColumn register.0) result self.new }
     {
         let (_, offset) = register_and_offset(self.state.cfa)?;
@@ -241,7 +242,7 @@ impl<'a> Machine<'a> {
     }
 
     fn set_cfa_offset(&mut self, offset: u64) -> Result<(), Error>
-        ensures { (start : ℕ) (run : Run) → Represents start self.old run →
+        ensures { (start : ℕ) (run : RowInstructions) → Represents start self.old run →
             Follows start run (CfaOffset offset) result self.new }
     {
         let (register, _) = register_and_offset(self.state.cfa)?;
@@ -251,7 +252,7 @@ impl<'a> Machine<'a> {
 
     /// Runs one instruction. After a fault the machine is unspecified.
     pub(crate) fn run(&mut self, instruction: CallFrameInstruction<'a>) -> Result<(), Error>
-        ensures { (start : ℕ) (run : Run) → Represents start self.old run →
+        ensures { (start : ℕ) (run : RowInstructions) → Represents start self.old run →
             Follows start run (meaning instruction.entry) result self.new }
     {
         match instruction {
@@ -283,7 +284,7 @@ impl<'a> Machine<'a> {
 
     /// Puts the row that the programs end with in place of another.
     pub(crate) fn put_row(&self, row: &mut Row<'a>) -> Result<(), Error>
-        ensures { (start : ℕ) (run : Run) → Represents start self.now run →
+        ensures { (start : ℕ) (run : RowInstructions) → Represents start self.now run →
             IsLast run (made result row.new) }
     {
         match self.state.cfa {
@@ -297,7 +298,8 @@ impl<'a> Machine<'a> {
 
     /// The row that the programs end with so far, lent.
     pub(crate) fn row(&self) -> Result<RowRef<'_, 'a>, Error>
-        ensures { (start : ℕ) (run : Run) → Represents start self.now run → IsLast run result }
+        ensures { (start : ℕ) (run : RowInstructions) → Represents start self.now run →
+            IsLast run result }
     {
         match self.state.cfa {
             Some(cfa) => Ok(RowRef::new(
@@ -311,7 +313,8 @@ impl<'a> Machine<'a> {
 
     /// The row that the programs end with.
     pub(crate) fn into_row(self) -> Result<Row<'a>, Error>
-        ensures { (start : ℕ) (run : Run) → Represents start self.entry run → IsLast run result }
+        ensures { (start : ℕ) (run : RowInstructions) → Represents start self.entry run →
+            IsLast run result }
     {
         let Machine {
             location: _,

@@ -3,7 +3,7 @@
 
 ghost use Rattle.std.specs.Prelude.{ℕ};
 ghost use Rattle.unwind_definitions.specs.Instructions.{program};
-ghost use Rattle.unwind_definitions.specs.Row.{Run, row};
+ghost use Rattle.unwind_definitions.specs.Row.{RowInstructions, row};
 ghost use Rattle.encoded_pointers.specs.View.{at};
 ghost use Rattle.frame_rows.specs.Decoded.{coding_in};
 ghost use Rattle.frame_rows.specs.Rows.{GivesRow};
@@ -78,7 +78,7 @@ fn run_program<'a>(
     coding: Coding,
     pc: Option<u64>,
 ) -> Result<(), Error>
-    ensures { (start : ℕ) (run : Run) → Represents start machine.old run →
+    ensures { (start : ℕ) (run : RowInstructions) → Represents start machine.old run →
         let coding = coding_in coding.entry in
         Ends start result machine.new (outcome start pc run (program coding (at bytes.entry))) }
 {

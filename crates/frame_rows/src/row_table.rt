@@ -2,7 +2,7 @@
 
 ghost use Rattle.std.specs.Prelude.{◌≡◌, ◌<◌, ◌≤◌, [], length, map, slice_range, slice_index_or, ℕ, Result};
 ghost use Rattle.unwind_definitions.specs.declared.error.Error.{Error as Fault};
-ghost use Rattle.unwind_definitions.specs.Row.{Run};
+ghost use Rattle.unwind_definitions.specs.Row.{RowInstructions};
 ghost use Rattle.frame_rows.specs.declared.row_table.TableRow.{TableRow};
 ghost use Rattle.frame_rows.specs.KeptRows.{AreRows, Kept, location_of, answer_rule_count, Ascends};
 ghost use Rattle.frame_rows.specs.Rules.{entry_of, AscendsFrom};
@@ -99,7 +99,7 @@ impl<'a> RowTable<'a> {
         requires within { end ≤ length self.now.rows }
         requires begun { (d : Kept) → location_of (slice_index_or self.now.rows first d) ≤ pc }
         ensures last { HoldsAt (slice_range self.now.rows first end) pc result }
-        ensures due { (due : ℕ → Result Run Fault) (bound : ℕ) →
+        ensures due { (due : ℕ → Result RowInstructions Fault) (bound : ℕ) →
             AreRows due bound (slice_range self.now.rows first end) →
             pc < bound → GivesRow result (due pc) }
     {

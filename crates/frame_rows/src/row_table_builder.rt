@@ -2,7 +2,7 @@
 
 ghost use Rattle.std.specs.Prelude.{◌≡◌, ◌<◌, ℕ, [], None, Ok, length};
 ghost use Rattle.unwind_definitions.specs.Instructions.{program, Program};
-ghost use Rattle.unwind_definitions.specs.Row.{Run, from_common};
+ghost use Rattle.unwind_definitions.specs.Row.{RowInstructions, from_common};
 ghost use Rattle.encoded_pointers.specs.View.{at};
 ghost use Rattle.frame_rows.specs.Decoded.{coding_in};
 ghost use Rattle.frame_rows.specs.KeptRows.{Adds};
@@ -89,7 +89,7 @@ impl<'a> RowTableBuilder<'a> {
         end: u64,
     ) -> Result<bool, AllocError>
         requires { start < end }
-        ensures rows { (common : Program) (run : Run) →
+        ensures rows { (common : Program) (run : RowInstructions) →
             outcome 0 None (from_common []) common ≡ Ok run →
             Represents start self.old.machine (from_common common.instructions) →
             Adds self.old.limits start end common (program (coding_in coding.entry) (at own.entry))

@@ -2,7 +2,7 @@
 
 ghost use Rattle.std.specs.Prelude.{◌≡◌, ◌<◌, ℕ, IfOk, IfSome};
 ghost use Rattle.unwind_definitions.specs.Instructions.{Coding as Operands, program};
-ghost use Rattle.unwind_definitions.specs.Row.{Run};
+ghost use Rattle.unwind_definitions.specs.Row.{RowInstructions};
 ghost use Rattle.encoded_pointers.specs.View.{at};
 ghost use Rattle.frame_rows.specs.Decoded.{coding_in};
 ghost use Rattle.frame_rows.specs.Running.{Represents};
@@ -55,7 +55,7 @@ pub(crate) fn run_stretch<'a>(
     instructions: &mut Instructions<'a>,
     coding: Coding,
 ) -> Result<Option<u64>, Error>
-    ensures ends { (start : ℕ) (run : Run) → Represents start machine.old run →
+    ensures ends { (start : ℕ) (run : RowInstructions) → Represents start machine.old run →
         let coding = coding_in coding.entry in
         EndsStretch start run (left_of coding instructions.old) result machine.new
         (left_of coding instructions.new) }

@@ -6,7 +6,7 @@ use Rattle.std.proofs.lemmas.Bool.{leb-true, ltb-true, le-leb, lt-leb, lt-ltb, l
 use Rattle.unwind_definitions.specs.Pointers.{Bases}
 use Rattle.unwind_definitions.specs.Entries.{coding_of}
 use Rattle.unwind_definitions.specs.Instructions.{Offset, Instruction, Nop, Remember, Restore, Advance, SetLocation, Write, Reset, Cfa, CfaColumn, CfaOffset, CfaExpression, Arguments, Program, program, instruction_of}
-use Rattle.unwind_definitions.specs.Row.{Run, up_to, location, fault_of, first_fault, row, row_at, rule_of}
+use Rattle.unwind_definitions.specs.Row.{RowInstructions, up_to, location, fault_of, first_fault, row, row_at, rule_of}
 use Rattle.unwind_definitions.specs.State.{column_of}
 use Rattle.unwind_definitions.specs.Prologue.{steps_of, distance}
 use Rattle.unwind_definitions.specs.Function.{in_body}
@@ -85,13 +85,13 @@ abbrev LeadBy : ℕ → List Instruction → Type 0
 LeadBy d is = (at : ℕ) → location at is ≡ at + d
 
 module _ (start : ℕ) where
-  advances : (run : Run) (n d : ℕ) → LeadBy d run.own → start + d + n < 2 ^ 64 → fault_of start run (Advance n) ≡ fault_of 0 run (Advance n)
+  advances : (run : RowInstructions) (n d : ℕ) → LeadBy d run.own → start + d + n < 2 ^ 64 → fault_of start run (Advance n) ≡ fault_of 0 run (Advance n)
   advances run n d leads lt =
       let here : leb (2 ^ 64) (location start run.own + n) ≡ false = rw (leads start) (lt-leb (2 ^ 64) ((start + d) + n) (omega arith)) in
       let there : leb (2 ^ 64) (location 0 run.own + n) ≡ false = rw (leads 0) (lt-leb (2 ^ 64) ((0 + d) + n) (omega arith)) in
       rw (here, there) refl
 
-  first_fault-moved : (run : Run) (is : List Instruction) (d : ℕ) → LeadBy d run.own → only_advances is ≡ true → start + d + length_of is < 2 ^ 64 → first_fault start run is ≡ first_fault 0 run is
+  first_fault-moved : (run : RowInstructions) (is : List Instruction) (d : ℕ) → LeadBy d run.own → only_advances is ≡ true → start + d + length_of is < 2 ^ 64 → first_fault start run is ≡ first_fault 0 run is
   first_fault-moved run [] d leads plain lt = refl
   first_fault-moved run (Advance n ∷ is) d leads plain lt =
       let ih = first_fault-moved (record run { own = run.own ++ Advance n ∷ [] }) is (d + n) (λ at. location-after at run.own (Advance n ∷ []) ∙ ap (λ (x : ℕ). x + n) (leads at) ∙ further at) plain (omega arith) in
@@ -146,7 +146,7 @@ own_is bases SetsFrameAndPushes Catches q start = refl
 -- ---- the row between two ends of steps
 
 -- What is so of a program's instructions, and of those that are reached from its start at low.
-pub record HasSteady (kind : Kind) (low high : ℕ) (run : Run) : Type 0 where
+pub record HasSteady (kind : Kind) (low high : ℕ) (run : RowInstructions) : Type 0 where
   pub steady : is_steady 0 low high (own_of kind).instructions ≡ true
   pub plain : only_advances (own_of kind).instructions ≡ true
   pub short : length_of (own_of kind).instructions ≤ 64
@@ -155,7 +155,7 @@ pub record HasSteady (kind : Kind) (low high : ℕ) (run : Run) : Type 0 where
   pub row : row 0 low common (own_of kind) ≡ Ok run
   pub inside : high ≤ 64
 
-row_between : (bases : Bases) (kind : Kind) (handling : Handling) (q start low high pc : ℕ) (run : Run) → HasSteady kind low high run → start < 2 ^ 31 → start + low ≤ pc → pc < start + high → row_at bases (fde_at kind handling q start) pc ≡ Ok run
+row_between : (bases : Bases) (kind : Kind) (handling : Handling) (q start low high pc : ℕ) (run : RowInstructions) → HasSteady kind low high run → start < 2 ^ 31 → start + low ≤ pc → pc < start + high → row_at bases (fde_at kind handling q start) pc ≡ Ok run
 unfolding row_at
 row_between bases kind handling q start low high pc run has lt from below =
     let offset : ℕ = pc - start in
@@ -170,13 +170,13 @@ row_between bases kind handling q start low high pc run has lt from below =
     rw (le-leb start pc (omega arith), lt-ltb pc (start + 64) (omega (arith, has.inside)), common_is bases handling, own_is bases kind handling q start, reached, faults) has.row
 
 -- of a prologue, the row where the steps that end by an offset have run
-prologue_between : (bases : Bases) (kind : Kind) (handling : Handling) (q start low high pc : ℕ) (run : Run) → HasSteady kind low high run → none_ends low high (prologue_of kind) ≡ true → IsPrologueRow (ended_by low (prologue_of kind)) run →
+prologue_between : (bases : Bases) (kind : Kind) (handling : Handling) (q start low high pc : ℕ) (run : RowInstructions) → HasSteady kind low high run → none_ends low high (prologue_of kind) ≡ true → IsPrologueRow (ended_by low (prologue_of kind)) run →
     start < 2 ^ 31 → start + low ≤ pc → pc < start + high → HasRow bases (fde_at kind handling q start) pc (IsPrologueRow (ended_by (pc - start) (prologue_of kind)))
 prologue_between bases kind handling q start low high pc run has none is lt from below =
     let steps : ended_by (pc - start) (prologue_of kind) ≡ ended_by low (prologue_of kind) = same_ended (prologue_of kind) low high (pc - start) (omega arith) (omega arith) none in
     (run, row_between bases kind handling q start low high pc run has lt from below, rw steps is)
 
-abbrev run_pushes_0 : Run
+abbrev run_pushes_0 : RowInstructions
 run_pushes_0 = record { common = common.instructions; own = [] }
 
 steady_pushes_0 : HasSteady Pushes 0 1 run_pushes_0
@@ -191,7 +191,7 @@ prologue_pushes_0 = record {
   arguments = refl;
 }
 
-abbrev run_pushes_1 : Run
+abbrev run_pushes_1 : RowInstructions
 run_pushes_1 = record { common = common.instructions; own = Advance 1 ∷ CfaOffset 16 ∷ Write 3 (Offset (2 ^ 64 - 16)) ∷ Nop ∷ Nop ∷ Nop ∷ Nop ∷ Nop ∷ Nop ∷ [] }
 
 steady_pushes_1 : HasSteady Pushes 1 64 run_pushes_1
@@ -215,7 +215,7 @@ body_pushes = record {
   arguments = refl;
 }
 
-abbrev run_allocates_0 : Run
+abbrev run_allocates_0 : RowInstructions
 run_allocates_0 = record { common = common.instructions; own = [] }
 
 steady_allocates_0 : HasSteady PushesAndAllocates 0 1 run_allocates_0
@@ -230,7 +230,7 @@ prologue_allocates_0 = record {
   arguments = refl;
 }
 
-abbrev run_allocates_1 : Run
+abbrev run_allocates_1 : RowInstructions
 run_allocates_1 = record { common = common.instructions; own = Advance 1 ∷ CfaOffset 16 ∷ Write 3 (Offset (2 ^ 64 - 16)) ∷ [] }
 
 steady_allocates_1 : HasSteady PushesAndAllocates 1 5 run_allocates_1
@@ -245,7 +245,7 @@ prologue_allocates_1 = record {
   arguments = refl;
 }
 
-abbrev run_allocates_5 : Run
+abbrev run_allocates_5 : RowInstructions
 run_allocates_5 = record { common = common.instructions; own = Advance 1 ∷ CfaOffset 16 ∷ Write 3 (Offset (2 ^ 64 - 16)) ∷ Advance 4 ∷ CfaOffset 32 ∷ Nop ∷ Nop ∷ Nop ∷ [] }
 
 steady_allocates_5 : HasSteady PushesAndAllocates 5 64 run_allocates_5
@@ -269,7 +269,7 @@ body_allocates = record {
   arguments = refl;
 }
 
-abbrev run_sets_0 : Run
+abbrev run_sets_0 : RowInstructions
 run_sets_0 = record { common = common.instructions; own = [] }
 
 steady_sets_0 : HasSteady SetsFrame 0 1 run_sets_0
@@ -284,7 +284,7 @@ prologue_sets_0 = record {
   arguments = refl;
 }
 
-abbrev run_sets_1 : Run
+abbrev run_sets_1 : RowInstructions
 run_sets_1 = record { common = common.instructions; own = Advance 1 ∷ CfaOffset 16 ∷ Write 6 (Offset (2 ^ 64 - 16)) ∷ [] }
 
 steady_sets_1 : HasSteady SetsFrame 1 4 run_sets_1
@@ -299,7 +299,7 @@ prologue_sets_1 = record {
   arguments = refl;
 }
 
-abbrev run_sets_4 : Run
+abbrev run_sets_4 : RowInstructions
 run_sets_4 = record { common = common.instructions; own = Advance 1 ∷ CfaOffset 16 ∷ Write 6 (Offset (2 ^ 64 - 16)) ∷ Advance 3 ∷ CfaColumn 6 ∷ Nop ∷ Nop ∷ Nop ∷ [] }
 
 steady_sets_4 : HasSteady SetsFrame 4 64 run_sets_4
@@ -323,7 +323,7 @@ body_sets = record {
   arguments = refl;
 }
 
-abbrev run_sets_and_pushes_0 : Run
+abbrev run_sets_and_pushes_0 : RowInstructions
 run_sets_and_pushes_0 = record { common = common.instructions; own = [] }
 
 steady_sets_and_pushes_0 : HasSteady SetsFrameAndPushes 0 1 run_sets_and_pushes_0
@@ -338,7 +338,7 @@ prologue_sets_and_pushes_0 = record {
   arguments = refl;
 }
 
-abbrev run_sets_and_pushes_1 : Run
+abbrev run_sets_and_pushes_1 : RowInstructions
 run_sets_and_pushes_1 = record { common = common.instructions; own = Advance 1 ∷ CfaOffset 16 ∷ Write 6 (Offset (2 ^ 64 - 16)) ∷ [] }
 
 steady_sets_and_pushes_1 : HasSteady SetsFrameAndPushes 1 4 run_sets_and_pushes_1
@@ -353,7 +353,7 @@ prologue_sets_and_pushes_1 = record {
   arguments = refl;
 }
 
-abbrev run_sets_and_pushes_4 : Run
+abbrev run_sets_and_pushes_4 : RowInstructions
 run_sets_and_pushes_4 = record { common = common.instructions; own = Advance 1 ∷ CfaOffset 16 ∷ Write 6 (Offset (2 ^ 64 - 16)) ∷ Advance 3 ∷ CfaColumn 6 ∷ [] }
 
 steady_sets_and_pushes_4 : HasSteady SetsFrameAndPushes 4 5 run_sets_and_pushes_4
@@ -368,7 +368,7 @@ prologue_sets_and_pushes_4 = record {
   arguments = refl;
 }
 
-abbrev run_sets_and_pushes_5 : Run
+abbrev run_sets_and_pushes_5 : RowInstructions
 run_sets_and_pushes_5 = record { common = common.instructions; own = Advance 1 ∷ CfaOffset 16 ∷ Write 6 (Offset (2 ^ 64 - 16)) ∷ Advance 3 ∷ CfaColumn 6 ∷ Advance 1 ∷ Write 3 (Offset (2 ^ 64 - 24)) ∷ [] }
 
 steady_sets_and_pushes_5 : HasSteady SetsFrameAndPushes 5 9 run_sets_and_pushes_5
@@ -383,7 +383,7 @@ prologue_sets_and_pushes_5 = record {
   arguments = refl;
 }
 
-abbrev run_sets_and_pushes_9 : Run
+abbrev run_sets_and_pushes_9 : RowInstructions
 run_sets_and_pushes_9 = record { common = common.instructions; own = Advance 1 ∷ CfaOffset 16 ∷ Write 6 (Offset (2 ^ 64 - 16)) ∷ Advance 3 ∷ CfaColumn 6 ∷ Advance 1 ∷ Write 3 (Offset (2 ^ 64 - 24)) ∷ [] }
 
 steady_sets_and_pushes_9 : HasSteady SetsFrameAndPushes 9 64 run_sets_and_pushes_9

@@ -4,7 +4,7 @@ use Rattle.std.specs.Prelude.{pos, ◌⊎◌, ◌↔◌, is_some, if◌then◌el
 use Rattle.std.specs.Option.{option_map_or}
 use Rattle.std.specs.Result.{result_map_both}
 use Rattle.std.proofs.Math.ListN.{length-set}
-use Rattle.unwind_definitions.specs.Row.{Run, argument_size}
+use Rattle.unwind_definitions.specs.Row.{RowInstructions, argument_size}
 use Rattle.unwind_definitions.specs.Caller.{Columns, StepFault, x86_64, caller_of}
 use Rattle.unwind_definitions.specs.Function.{Action, NoAction, Cleanup, Catch, Filter, Terminate}
 use Rattle.unwind_definitions.specs.LanguageSearch.{personality_address, address_of_call, language_action}
@@ -53,7 +53,7 @@ enters_whole c exception pad whole = length-set (set c.registers 0 exception) 1 
 past_whole : (c : Context) (size : ℕ) → IsWhole c → IsWhole (past_arguments c size)
 past_whole c size whole = length-set c.registers rsp ((slice_index c.registers rsp + size) % 2 ^ 64) ∙ whole
 
-module _ (space : SpaceValue) (row : Run → RowValue) (thrown : Thrown) where
+module _ (space : SpaceValue) (row : RowInstructions → RowValue) (thrown : Thrown) where
   abbrev p : Answering Context FrameAt DeliverError
   p = rust_in space row thrown
 

@@ -2,7 +2,7 @@
 use Rattle.std.proofs.Common.{inl, inr, ◌≡◌, ◌≢◌, ℕ, zero, suc, Bool, true, false, List, Option, Some, None, Result, Ok, Err, refl, ap, subst, ◌∙◌, cond, eqb}
 use Rattle.memory_image.specs.Image.{Span, word_at}
 use Rattle.unwind_definitions.specs.declared.error.Error.{Error as Fault}
-use Rattle.unwind_definitions.specs.Row.{Run, row_at}
+use Rattle.unwind_definitions.specs.Row.{RowInstructions, row_at}
 use Rattle.unwind_definitions.specs.Caller as calls
 use Rattle.unwind_arch.specs.declared.x86_64.Context.{Context}
 use Rattle.stack_deliver.specs.declared.space.Module.{Module}
@@ -37,7 +37,7 @@ faults_by : (a : ℕ) (o : Option FoundFde) → OnStepFault (frame_by a o)
 faults_by a None = tt
 faults_by a (Some found) = go (row_at found.bases found.fde a)
   where
-    go : (r : Result Run Fault) → OnStepFault (result_map_both (frame_with found) Table r)
+    go : (r : Result RowInstructions Fault) → OnStepFault (result_map_both (frame_with found) Table r)
     go (Ok run) = tt
     go (Err f) = tt
 

@@ -10,7 +10,7 @@ use Rattle.unwind_definitions.specs.declared.error.Error.TheVariants.{NoCfaRegis
 use Rattle.unwind_definitions.specs.Input.{Input}
 use Rattle.unwind_definitions.specs.Instructions as rules
 use Rattle.unwind_definitions.specs.Pointers as pointers
-use Rattle.unwind_definitions.specs.Row.{Run, CfaRule, ColumnAndOffset, ByExpression, cfa_rule, rule_of, row_at}
+use Rattle.unwind_definitions.specs.Row.{RowInstructions, CfaRule, ColumnAndOffset, ByExpression, cfa_rule, rule_of, row_at}
 use Rattle.unwind_definitions.specs.Entries.{Fde}
 use Rattle.unwind_definitions.specs.Scan.{scan}
 use Rattle.unwind_definitions.specs.LanguageTable.{input_at}
@@ -41,7 +41,7 @@ none_found : (a : ℕ) (o : Option FoundFde) → frame_by a o ≡ Ok None → o 
 none_found a None e = refl
 none_found a (Some found) e = absurd (never (row_at found.bases found.fde a) e)
   where
-    never : (r : Result Run Fault) → result_map_both (frame_with found) Table r ≡ Ok None → ⊥
+    never : (r : Result RowInstructions Fault) → result_map_both (frame_with found) Table r ≡ Ok None → ⊥
     never (Ok run) h = absurd cc
     never (Err x) h = absurd cc
 
@@ -205,7 +205,7 @@ lowest (suc n) f e is = go (λ at. lowest n f e at) (calls.first_fault_below n f
     go below None first (Ok v) at same = absurd cc
     go below None first (Err x) at same = let this : x ≡ e = cc in record { column = n; small = omega arith; fault = at ∙ ap Err this; before = λ k less. none_below n f first k less }
 
-module _ (image : List Span) (columns : calls.Columns) (run : Run) (b : ℕ) where
+module _ (image : List Span) (columns : calls.Columns) (run : RowInstructions) (b : ℕ) where
   abbrev value : ℕ → ℕ → Result (Option ℕ) calls.StepFault
   value cfa = calls.column_value calls.x86_64 (evaluation image) image columns cfa run
 
@@ -282,7 +282,7 @@ by_row : (a : ℕ) (o : Option FoundFde) (e : DeliverError) → frame_by a o ≡
 by_row a None e is = absurd cc
 by_row a (Some found) e is = go (row_at found.bases found.fde a) refl is
   where
-    go : (r : Result Run Fault) → row_at found.bases found.fde a ≡ r → result_map_both (frame_with found) Table r ≡ Err e →
+    go : (r : Result RowInstructions Fault) → row_at found.bases found.fde a ≡ r → result_map_both (frame_with found) Table r ≡ Err e →
         (g : FoundFde) × (x : Fault) × (Some found ≡ Some g) × (row_at g.bases g.fde a ≡ Err x) × (e ≡ Table x)
     go (Ok run) row h = absurd cc
     go (Err x) row h = (found, x, refl, row, cc)
@@ -292,7 +292,7 @@ with_row : (a : ℕ) (o : Option FoundFde) (f : FrameAt) → frame_by a o ≡ Ok
 with_row a None f is = absurd cc
 with_row a (Some found) f is = go (row_at found.bases found.fde a) refl is
   where
-    go : (r : Result Run Fault) → row_at found.bases found.fde a ≡ r → result_map_both (frame_with found) Table r ≡ Ok (Some f) →
+    go : (r : Result RowInstructions Fault) → row_at found.bases found.fde a ≡ r → result_map_both (frame_with found) Table r ≡ Ok (Some f) →
         (Some found ≡ Some f.found) × (row_at f.found.bases f.found.fde a ≡ Ok f.run)
     go (Ok run) row h =
         let same : record { found = found; run = run } ≡ f = cc in
@@ -424,10 +424,10 @@ module _ (space : SpaceValue) (c : Context) (interrupted : Bool) where
   pub table_step : (e : Fault) → FaultsAt space c interrupted e → step_of space c interrupted ≡ Err (Table e)
   table_step e faults = go (row_at faults.found.bases faults.found.fde at_call) refl faults.fault
     where
-      by : (r : Result Run Fault) → row_at faults.found.bases faults.found.fde at_call ≡ r → here ≡ result_map_both (frame_with faults.found) Table r
+      by : (r : Result RowInstructions Fault) → row_at faults.found.bases faults.found.fde at_call ≡ r → here ≡ result_map_both (frame_with faults.found) Table r
       by r row = held_frame (result_map_both (frame_with faults.found) Table r) record { returns = faults.returns; holder = faults.holder; holds = faults.holds; framed = rw (faults.finds, row) refl }
 
-      go : (r : Result Run Fault) → row_at faults.found.bases faults.found.fde at_call ≡ r → RowFaults space.image c r e → step_of space c interrupted ≡ Err (Table e)
+      go : (r : Result RowInstructions Fault) → row_at faults.found.bases faults.found.fde at_call ≡ r → RowFaults space.image c r e → step_of space c interrupted ≡ Err (Table e)
       go (Ok run) row fault = step_is space c interrupted ∙ ap (stepped_by space.image c) (by (Ok run) row) ∙ rw fault refl
       go (Err x) row fault = step_is space c interrupted ∙ ap (stepped_by space.image c) (by (Err x) row) ∙ rw fault refl
 

@@ -1,7 +1,7 @@
 -- A step as the frame and its caller, and a turn by what is asked there.
 use Rattle.std.proofs.Common.{◌≡◌, ℕ, Bool, List, Option, Some, None, Result, Ok, Err, refl}
 use Rattle.memory_image.specs.Image.{Span}
-use Rattle.unwind_definitions.specs.Row.{Run, row_at}
+use Rattle.unwind_definitions.specs.Row.{RowInstructions, row_at}
 use Rattle.unwind_definitions.specs.Caller.{x86_64, caller_of}
 use Rattle.unwind_definitions.specs.Function.{Action}
 use Rattle.unwind_arch.specs.declared.x86_64.Context.{Context}
@@ -41,7 +41,7 @@ none_framed image c (Ok (Some f)) e = absurd (never (callers f) e)
 none_framed image c (Err x) e = absurd cc
 
 -- what is found, with its row, is the frame
-pub frame_found : (a : ℕ) (o : Option FoundFde) (found : FoundFde) (run : Run) → Some found ≡ o → row_at found.bases found.fde a ≡ Ok run → frame_by a o ≡ Ok (Some (record { found = found; run = run }))
+pub frame_found : (a : ℕ) (o : Option FoundFde) (found : FoundFde) (run : RowInstructions) → Some found ≡ o → row_at found.bases found.fde a ≡ Ok run → frame_by a o ≡ Ok (Some (record { found = found; run = run }))
 frame_found a o found run is row = rw (← is, row) refl
 
 -- a caller's columns are those of the context that holds them

@@ -3,7 +3,7 @@
 use Rattle.std.specs.Prelude.{◌≡◌, ℕ, zero, suc, true, false, List, [], Option, Some, None, Result, Ok, Err, map, slice_index, if◌then◌else◌}
 use Rattle.std.specs.Option.{option_map_or}
 use Rattle.std.specs.Result.{result_map_both}
-use Rattle.unwind_definitions.specs.Row.{Run, argument_size}
+use Rattle.unwind_definitions.specs.Row.{RowInstructions, argument_size}
 use Rattle.unwind_definitions.specs.Caller.{Columns, StepFault}
 use Rattle.frame_rows.specs.RowValue.{RowValue}
 use Rattle.unwind_arch.specs.declared.x86_64.Context.{Context}
@@ -55,7 +55,7 @@ stepping_in space = by_one (sees_in space) (undoing_in space)
 -- ---- the personality of Rust at its frames
 
 -- a frame as personalities see it; its row, which the personality of Rust doesn't read, is given by any function
-abbrev pub seen_with : (Run → RowValue) → FrameAt → FrameSeen
+abbrev pub seen_with : (RowInstructions → RowValue) → FrameAt → FrameSeen
 seen_with row f = record { value = record { found = f.found; row = row f.run }; run = f.run }
 
 abbrev pub at_columns : Marked Context → Marked Columns
@@ -69,7 +69,7 @@ answer_left (code, columns) = (code, context_of columns)
 abbrev pub rust : SpaceValue → Thrown → Answering Columns FrameSeen StepFault
 rust space thrown = answering (rust_answers landing_columns) space.image thrown
 
-abbrev pub rust_in : SpaceValue → (Run → RowValue) → Thrown → Answering Context FrameAt DeliverError
+abbrev pub rust_in : SpaceValue → (RowInstructions → RowValue) → Thrown → Answering Context FrameAt DeliverError
 rust_in space row thrown = record {
   named = λ f. result_map_both (λ routine. routine) refusal_of ((rust space thrown).named (seen_with row f));
   answers = λ routine actions f x. answer_left ((rust space thrown).answers routine actions (seen_with row f) (at_columns x));

@@ -4,7 +4,7 @@ use Rattle.memory_image.specs.Image.{Span, word_at}
 use Rattle.unwind_definitions.specs.declared.error.Error.{Error as Fault}
 use Rattle.unwind_definitions.specs.LanguageTable.{input_at}
 use Rattle.unwind_definitions.specs.LanguageSearch.{address_of_call}
-use Rattle.unwind_definitions.specs.Row.{Run, CfaRule, ColumnAndOffset, ByExpression, cfa_rule, rule_of, row_at}
+use Rattle.unwind_definitions.specs.Row.{RowInstructions, CfaRule, ColumnAndOffset, ByExpression, cfa_rule, rule_of, row_at}
 use Rattle.unwind_definitions.specs.Instructions.{Rule, Offset, Expression, ValExpression}
 use Rattle.unwind_definitions.specs.Scan.{scan}
 use Rattle.std.specs.Result.{result_map_both}
@@ -36,9 +36,9 @@ refusal_of (calls.Unmapped a) = Unmapped a
 -- a description, and its row at the address asked
 pub record FrameAt : Type 0 where
   pub found : FoundFde
-  pub run : Run
+  pub run : RowInstructions
 
-abbrev pub frame_with : FoundFde → Run → Option FrameAt
+abbrev pub frame_with : FoundFde → RowInstructions → Option FrameAt
 frame_with found run = Some (record { found = found; run = run })
 
 -- by the row at an address of the description that is found for it, if one is
@@ -119,7 +119,7 @@ EndsAt space c interrupted = (c.ra ≡ 0) ⊎ ((c.ra ≢ 0) × IsUncovered space
 
 -- a row can't be read or run, or its CFA or a rule of it, the first with a fault, has no value: it asks for a column that the machine
 -- doesn't have, or is by an expression without a value
-abbrev pub RowFaults : List Span → Context → Result Run Fault → Fault → Type 0
+abbrev pub RowFaults : List Span → Context → Result RowInstructions Fault → Fault → Type 0
 RowFaults image c (Ok run) e = caller_of x86_64 (evaluation image) image (columns_of c) run ≡ Err (calls.Table e)
 RowFaults image c (Err f) e = f ≡ e
 
@@ -156,7 +156,7 @@ RuleReadsUnmapped image columns cfa (ValExpression expression) a =
 RuleReadsUnmapped image columns cfa _ a = ⊥
 
 -- the CFA has a value, and the rule of the lowest column that has none reads such a word
-pub record ColumnReadsUnmapped (image : List Span) (columns : Columns) (run : Run) (frame_address : CfaRule) (a : ℕ) : Type 0 where
+pub record ColumnReadsUnmapped (image : List Span) (columns : Columns) (run : RowInstructions) (frame_address : CfaRule) (a : ℕ) : Type 0 where
   pub cfa : ℕ
   pub finds_cfa : cfa_value (evaluation image) columns frame_address ≡ Ok cfa
   pub column : ℕ
@@ -168,7 +168,7 @@ pub record ColumnReadsUnmapped (image : List Span) (columns : Columns) (run : Ru
 
 -- A row reads at an address for its CFA or, where that has a value, for the lowest column that has none, and what it reads there
 -- isn't wholly mapped.
-pub record ReadsUnmapped (image : List Span) (columns : Columns) (run : Run) (a : ℕ) : Type 0 where
+pub record ReadsUnmapped (image : List Span) (columns : Columns) (run : RowInstructions) (a : ℕ) : Type 0 where
   pub rule : CfaRule
   pub ruled : cfa_rule run ≡ Some rule
   pub reads : CfaReadsUnmapped image columns rule a ⊎ ColumnReadsUnmapped image columns run rule a
@@ -180,7 +180,7 @@ pub record ReadIsUnmapped (space : SpaceValue) (c : Context) (interrupted : Bool
   pub holds : module_at space.modules (address_of_call c.ra interrupted) ≡ Some holder
   pub found : FoundFde
   pub finds : found_by holder.frame space.image (address_of_call c.ra interrupted) ≡ Some found
-  pub run : Run
+  pub run : RowInstructions
   pub row : row_at found.bases found.fde (address_of_call c.ra interrupted) ≡ Ok run
   pub reads : ReadsUnmapped space.image (columns_of c) run a
 
@@ -192,7 +192,7 @@ pub record GivesCaller (space : SpaceValue) (c : Context) (interrupted : Bool) (
   pub holds : module_at space.modules (address_of_call c.ra interrupted) ≡ Some holder
   pub found : FoundFde
   pub finds : found_by holder.frame space.image (address_of_call c.ra interrupted) ≡ Some found
-  pub run : Run
+  pub run : RowInstructions
   pub row : row_at found.bases found.fde (address_of_call c.ra interrupted) ≡ Ok run
   pub columns : Columns
   pub caller : caller_of x86_64 (evaluation space.image) space.image (columns_of c) run ≡ Ok columns

@@ -2,7 +2,7 @@
 ghost use Rattle.std.specs.Prelude.{◌≡◌, ◌≢◌, ◌↔◌, ℕ, Bool, true, false, List, Result, length, IsSome};
 ghost use Rattle.memory_image.specs.Image.{Span};
 ghost use Rattle.unwind_definitions.specs.Function.{Action, Catch};
-ghost use Rattle.unwind_definitions.specs.Row.{Run};
+ghost use Rattle.unwind_definitions.specs.Row.{RowInstructions};
 ghost use Rattle.frame_rows.specs.RowValue.{RowValue};
 ghost use Rattle.unwind_arch.specs.declared.x86_64.Context.{Context};
 ghost use Rattle.unwind_arch.specs.Contexts.{columns_of};
@@ -76,15 +76,18 @@ pub fn a_handler_is_asked_for()
 /// personality doesn't read the row of a frame, so this may be given by any function. Source:
 /// Itanium C++ ABI, exception handling, level I, section 1.3.
 pub fn deliveries_are_passes()
-    ensures search { (space : SpaceValue) (row : Run → RowValue) (thrown : Thrown) (limit : ℕ)
+    ensures search { (space : SpaceValue) (row : RowInstructions → RowValue) (thrown : Thrown)
+        (limit : ℕ)
         (start : Context) (due : Result Search DeliverError) → length start.registers ≡ 16 →
         IsSearchBy (stepping_in space) (rust_in space row thrown) limit start due
         ↔ (due ≡ search_of space limit start) }
-    ensures cleanup { (space : SpaceValue) (row : Run → RowValue) (thrown : Thrown) (limit kept : ℕ)
+    ensures cleanup { (space : SpaceValue) (row : RowInstructions → RowValue) (thrown : Thrown)
+        (limit kept : ℕ)
         (start : Context) (due : Result PassEnd DeliverError) → length start.registers ≡ 16 →
         IsPassBy (stepping_in space) (rust_in space row thrown) limit kept start due
         ↔ (due ≡ cleanup_of space thrown.word kept limit start) }
-    ensures delivery { (space : SpaceValue) (row : Run → RowValue) (thrown : Thrown) (limit : ℕ)
+    ensures delivery { (space : SpaceValue) (row : RowInstructions → RowValue) (thrown : Thrown)
+        (limit : ℕ)
         (resumes : List (ℕ × ℕ)) (start : Context) (due : Result Delivered DeliverError) →
         length start.registers ≡ 16 →
         IsDeliveryBy (stepping_in space) (rust_in space row thrown) limit resumes start due

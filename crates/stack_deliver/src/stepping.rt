@@ -6,7 +6,7 @@ ghost use Rattle.unwind_definitions.specs.State.{State, Shows};
 ghost use Rattle.unwind_definitions.specs.Function.{Function};
 ghost use Rattle.unwind_definitions.specs.Chain.{Call};
 ghost use Rattle.unwind_definitions.specs.LanguageSearch.{address_of_call};
-ghost use Rattle.unwind_definitions.specs.Row.{Run};
+ghost use Rattle.unwind_definitions.specs.Row.{RowInstructions};
 ghost use Rattle.unwind_definitions.specs.Caller.{x86_64, caller_of};
 ghost use Rattle.frame_rows.specs.Rows.{IsRowOf};
 ghost use Rattle.unwind_definitions.specs.Expressions.{evaluation};
@@ -102,7 +102,7 @@ fn caller(
     context: &Context,
     rows: &RowRoom<'_>,
 ) -> Result<Context, StepError>
-    ensures { (run : Run) → IsRowOf rows.now run →
+    ensures { (run : RowInstructions) → IsRowOf rows.now run →
         columns_given columns_of result ≡ caller_of x86_64 (evaluation image.now) image.now
         (columns_of context.now) run }
 {

@@ -4,7 +4,7 @@ use Rattle.std.specs.Option.{option_map_or, option_or}
 use Rattle.memory_image.specs.Image.{Span, word_at}
 use Rattle.unwind_definitions.specs.Faults.{Fault, UnsupportedRegister, NoCfaRegister}
 use Rattle.unwind_definitions.specs.Instructions.{Rule, Undefined, SameValue, Offset, ValOffset, InRegister, Expression, ValExpression}
-use Rattle.unwind_definitions.specs.Row.{Run, CfaRule, ColumnAndOffset, ByExpression, rule_of, cfa_rule}
+use Rattle.unwind_definitions.specs.Row.{RowInstructions, CfaRule, ColumnAndOffset, ByExpression, rule_of, cfa_rule}
 
 -- what the columns of a machine hold; None where there is no such column
 abbrev pub Columns : Type 0
@@ -33,9 +33,9 @@ abbrev pub word_or_fault : List Span → ℕ → Result ℕ StepFault
 word_or_fault image a = option_map_or Ok (word_at image a) (Err (Unmapped a))
 
 -- what a column holds, which the machine has to have
-abbrev pub held : Option ℕ → Result ℕ StepFault
-held None = Err (Table UnsupportedRegister)
-held (Some v) = Ok v
+abbrev pub column_or_fault : Option ℕ → Result ℕ StepFault
+column_or_fault None = Err (Table UnsupportedRegister)
+column_or_fault (Some v) = Ok v
 
 -- the value of an expression, from the words on its stack and the columns
 abbrev pub Evaluates : Type 0
@@ -48,25 +48,25 @@ then_word image (Err e) = Err e
 -- the value that a rule gives a column, from the CFA and the callee's columns
 abbrev pub rule_value : Evaluates → List Span → Columns → ℕ → ℕ → Rule → Result ℕ StepFault
 rule_value evaluates image columns cfa c Undefined = Ok 0
-rule_value evaluates image columns cfa c SameValue = held (columns c)
+rule_value evaluates image columns cfa c SameValue = column_or_fault (columns c)
 rule_value evaluates image columns cfa c (Offset n) = word_or_fault image (cfa +w n)
 rule_value evaluates image columns cfa c (ValOffset n) = Ok (cfa +w n)
-rule_value evaluates image columns cfa c (InRegister q) = held (columns q)
+rule_value evaluates image columns cfa c (InRegister q) = column_or_fault (columns q)
 rule_value evaluates image columns cfa c (Expression bytes) = then_word image (evaluates bytes (cfa ∷ []) columns)
 rule_value evaluates image columns cfa c (ValExpression bytes) = evaluates bytes (cfa ∷ []) columns
 
 -- a value for a column, which the machine has to have; that shows once the value is found
-abbrev pub placed : Option ℕ → Result ℕ StepFault → Result (Option ℕ) StepFault
-placed old (Err e) = Err e
-placed None (Ok v) = Err (Table UnsupportedRegister)
-placed (Some old) (Ok v) = Ok (Some v)
+abbrev pub value_for_column : Option ℕ → Result ℕ StepFault → Result (Option ℕ) StepFault
+value_for_column old (Err e) = Err e
+value_for_column None (Ok v) = Err (Table UnsupportedRegister)
+value_for_column (Some old) (Ok v) = Ok (Some v)
 
 abbrev pub offset_from : ℕ → Result ℕ StepFault → Result ℕ StepFault
 offset_from n (Ok v) = Ok (v +w n)
 offset_from n (Err e) = Err e
 
 abbrev pub cfa_value : Evaluates → Columns → CfaRule → Result ℕ StepFault
-cfa_value evaluates columns (ColumnAndOffset c n) = offset_from n (held (columns c))
+cfa_value evaluates columns (ColumnAndOffset c n) = offset_from n (column_or_fault (columns c))
 cfa_value evaluates columns (ByExpression bytes) = evaluates bytes [] columns
 
 -- what a column without a rule holds in the caller: the stack pointer the CFA, the return address 0, others what they held
@@ -74,8 +74,8 @@ abbrev pub unruled : Machine → Columns → ℕ → ℕ → Option ℕ
 unruled machine columns cfa c = if c == machine.stack_pointer then Some cfa else (if c == machine.return_address then Some 0 else columns c)
 
 -- what a column holds in the caller
-abbrev pub column_value : Machine → Evaluates → List Span → Columns → ℕ → Run → ℕ → Result (Option ℕ) StepFault
-column_value machine evaluates image columns cfa run c = option_map_or (λ rule. placed (columns c) (rule_value evaluates image columns cfa c rule)) (rule_of run c) (Ok (unruled machine columns cfa c))
+abbrev pub column_value : Machine → Evaluates → List Span → Columns → ℕ → RowInstructions → ℕ → Result (Option ℕ) StepFault
+column_value machine evaluates image columns cfa run c = option_map_or (λ rule. value_for_column (columns c) (rule_value evaluates image columns cfa c rule)) (rule_of run c) (Ok (unruled machine columns cfa c))
 
 abbrev pub fault_in : {A : Type 0} → Result A StepFault → Option StepFault
 fault_in (Ok v) = None
@@ -98,11 +98,11 @@ unless_fault (Some e) columns = Err e
 abbrev pub column_limit : ℕ
 column_limit = 2 ^ 16
 
-abbrev pub caller_with : Machine → Evaluates → List Span → Columns → Run → Result ℕ StepFault → Result Columns StepFault
+abbrev pub caller_with : Machine → Evaluates → List Span → Columns → RowInstructions → Result ℕ StepFault → Result Columns StepFault
 caller_with machine evaluates image columns run (Err e) = Err e
 caller_with machine evaluates image columns run (Ok cfa) =
     unless_fault (first_fault_below column_limit (column_value machine evaluates image columns cfa run)) (λ c. value_in (column_value machine evaluates image columns cfa run c))
 
 -- The caller's columns, or the first fault: that of the CFA, or else of the lowest column.
-abbrev pub caller_of : Machine → Evaluates → List Span → Columns → Run → Result Columns StepFault
+abbrev pub caller_of : Machine → Evaluates → List Span → Columns → RowInstructions → Result Columns StepFault
 caller_of machine evaluates image columns run = option_map_or (λ rule. caller_with machine evaluates image columns run (cfa_value evaluates columns rule)) (cfa_rule run) (Err (Table NoCfaRegister))

@@ -7,7 +7,7 @@ use Rattle.unwind_definitions.specs.Membership.{is_among}
 use Rattle.unwind_definitions.specs.Pointers.{Bases}
 use Rattle.unwind_definitions.specs.Instructions.{Rule, Offset, SameValue, Undefined}
 use Rattle.unwind_definitions.specs.Entries.{Fde}
-use Rattle.unwind_definitions.specs.Row.{Run, CfaRule, ColumnAndOffset, rule_of, cfa_rule, argument_size, row_at}
+use Rattle.unwind_definitions.specs.Row.{RowInstructions, CfaRule, ColumnAndOffset, rule_of, cfa_rule, argument_size, row_at}
 use Rattle.unwind_definitions.specs.State.{CalleeSaved, RBP, column_of}
 use Rattle.unwind_definitions.specs.Prologue.{Step, PrologueStep, steps_of, depth, frame_depth, distance}
 use Rattle.unwind_definitions.specs.Function.{Function, in_body, first_body}
@@ -33,7 +33,7 @@ abbrev pub may_have_rule : ℕ → Bool
 may_have_rule c = is_among (3 ∷ 6 ∷ 12 ∷ 13 ∷ 14 ∷ 15 ∷ 16 ∷ []) c
 
 -- the row of a frame whose prologue has run
-pub record IsBodyRow (steps : List Step) (run : Run) : Type 0 where
+pub record IsBodyRow (steps : List Step) (run : RowInstructions) : Type 0 where
   pub cfa : cfa_rule run ≡ Some (cfa_after steps)
   pub ret : rule_of run 16 ≡ Some (Offset (negative 8))
   pub saved : (r : CalleeSaved) → FindsRegister (distance r steps) (rule_of run (column_of r))
@@ -45,7 +45,7 @@ abbrev pub MayFindLate : CalleeSaved → List Step → Option Rule → Type 0
 MayFindLate r steps rule = FindsRegister (distance r steps) rule ⊎ ((rule ≡ None) × (r ≡ RBP → frame_depth steps ≡ None))
 
 -- the row of a frame that has run these steps of its prologue
-pub record IsPrologueRow (steps : List Step) (run : Run) : Type 0 where
+pub record IsPrologueRow (steps : List Step) (run : RowInstructions) : Type 0 where
   pub cfa : cfa_rule run ≡ Some (cfa_after steps)
   pub ret : rule_of run 16 ≡ Some (Offset (negative 8))
   pub saved : (r : CalleeSaved) → MayFindLate r steps (rule_of run (column_of r))
@@ -53,7 +53,7 @@ pub record IsPrologueRow (steps : List Step) (run : Run) : Type 0 where
   pub arguments : argument_size run ≡ 0
 
 -- the row of an outermost frame, which has no caller to return to
-pub record IsOutermostRow (run : Run) : Type 0 where
+pub record IsOutermostRow (run : RowInstructions) : Type 0 where
   pub cfa : cfa_rule run ≡ Some (ColumnAndOffset 7 8)
   pub ret : rule_of run 16 ≡ Some Undefined
   pub saved : (r : CalleeSaved) → IsUnchanged (rule_of run (column_of r))
@@ -65,8 +65,8 @@ abbrev pub ended_by : ℕ → List PrologueStep → List Step
 ended_by offset prologue = steps_of (filter (λ (p : PrologueStep). nat_le p.end offset) prologue)
 
 -- a description has a row at an address, of which something holds
-abbrev pub HasRow : Bases → Fde → ℕ → (Run → Type 0) → Type 0
-HasRow bases fde pc P = (run : Run) × (row_at bases fde pc ≡ Ok run) × P run
+abbrev pub HasRow : Bases → Fde → ℕ → (RowInstructions → Type 0) → Type 0
+HasRow bases fde pc P = (run : RowInstructions) × (row_at bases fde pc ≡ Ok run) × P run
 
 -- The rows of a function: at each address of its body; from its start to its first body range, where the steps that
 -- have ended count; and of an outermost function in its body. At its other addresses, as in an epilogue, rows are free.

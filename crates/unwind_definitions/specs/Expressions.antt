@@ -4,7 +4,7 @@ use Rattle.std.specs.Option.{option_map_or}
 use Rattle.memory_image.specs.Image.{Span, number_at}
 use Rattle.unwind_definitions.specs.Faults.{Fault, StackFull, PopWithEmptyStack, DivisionByZero, BadBranch, TooManyOperations, ◌>>=◌}
 use Rattle.unwind_definitions.specs.Input.{Input}
-use Rattle.unwind_definitions.specs.Caller.{Columns, Evaluates, StepFault, Table, Unmapped, held, fault_in, ◌+w◌}
+use Rattle.unwind_definitions.specs.Caller.{Columns, Evaluates, StepFault, Table, Unmapped, column_or_fault, fault_in, ◌+w◌}
 use Rattle.unwind_definitions.specs.Operations.{Operation, Nop, Pop, Swap, Rotate, Push, PushColumn, Pick, Load, Change, Combine, Divide, Skip, Branch, operation}
 
 -- ---- what an operation does to a stack, which holds 64 words at most; its top comes first
@@ -95,7 +95,7 @@ done image columns expression next stack Pop = goes_on next (popped stack)
 done image columns expression next stack Swap = goes_on next (swapped stack)
 done image columns expression next stack Rotate = goes_on next (rotated stack)
 done image columns expression next stack (Push a) = goes_on next (push a stack)
-done image columns expression next stack (PushColumn r n) = pushed_column next n stack (held (columns r))
+done image columns expression next stack (PushColumn r n) = pushed_column next n stack (column_or_fault (columns r))
 done image columns expression next stack (Pick n) = goes_on next (pick n stack)
 done image columns expression next stack (Load n) = loaded image next n stack
 done image columns expression next stack (Change f) = goes_on next (changed f stack)

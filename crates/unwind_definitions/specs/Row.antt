@@ -9,9 +9,9 @@ use Rattle.unwind_definitions.specs.Instructions.{Rule, Instruction, Remember, R
 use Rattle.unwind_definitions.specs.Entries.{Fde, coding_of}
 
 -- What the last instruction says that says something.
-abbrev pub last_word : {A : Type 0} → (Instruction → Option A) → List Instruction → Option A
-last_word says [] = None
-last_word says (i ∷ is) = option_or (last_word says is) (says i)
+abbrev pub last_said : {A : Type 0} → (Instruction → Option A) → List Instruction → Option A
+last_said says [] = None
+last_said says (i ∷ is) = option_or (last_said says is) (says i)
 
 -- The instructions from a location on, up to the one that would lead past an address. One that leads past all addresses, or back, isn't left out: it is a fault.
 abbrev pub up_to : ℕ → ℕ → List Instruction → List Instruction
@@ -78,24 +78,24 @@ cfa_from (Some (ColumnAndOffset c n)) column offset = Some (ColumnAndOffset (unw
 cfa_from (Some (ByExpression bytes)) column offset = Some (ByExpression bytes)
 
 abbrev pub cfa_of : List Instruction → Option CfaRule
-cfa_of is = cfa_from (last_word whole_cfa is) (last_word cfa_column is) (last_word cfa_offset is)
+cfa_of is = cfa_from (last_said whole_cfa is) (last_said cfa_column is) (last_said cfa_offset is)
 
 -- the two programs of a description: the one of its CIE, and its own up to an address
-pub record Run : Type 0 where
+pub record RowInstructions : Type 0 where
   pub common : List Instruction
   pub own : List Instruction
 
-abbrev pub initial_rule : Run → ℕ → Option Rule
-initial_rule run column = unwrap_or (last_word (says_of None column) (cut run.common)) None
+abbrev pub initial_rule : RowInstructions → ℕ → Option Rule
+initial_rule run column = unwrap_or (last_said (says_of None column) (cut run.common)) None
 
-abbrev pub rule_of : Run → ℕ → Option Rule
-rule_of run column = unwrap_or (last_word (says_of (initial_rule run column) column) (cut run.own)) (initial_rule run column)
+abbrev pub rule_of : RowInstructions → ℕ → Option Rule
+rule_of run column = unwrap_or (last_said (says_of (initial_rule run column) column) (cut run.own)) (initial_rule run column)
 
-abbrev pub cfa_rule : Run → Option CfaRule
+abbrev pub cfa_rule : RowInstructions → Option CfaRule
 cfa_rule run = cfa_of (cut run.common ++ cut run.own)
 
-abbrev pub argument_size : Run → ℕ
-argument_size run = unwrap_or (last_word arguments (cut run.common ++ cut run.own)) 0
+abbrev pub argument_size : RowInstructions → ℕ
+argument_size run = unwrap_or (last_said arguments (cut run.common ++ cut run.own)) 0
 
 -- the columns that have a rule, each once
 abbrev pub column_named : Instruction → Option ℕ
@@ -107,7 +107,7 @@ abbrev pub distinct : List ℕ → List ℕ
 distinct [] = []
 distinct (x ∷ xs) = x ∷ filter (λ y. not (y == x)) (distinct xs)
 
-abbrev pub ruled_columns : Run → List ℕ
+abbrev pub ruled_columns : RowInstructions → List ℕ
 ruled_columns run = filter (λ c. is_some (rule_of run c)) (distinct (filter_map column_named (run.common ++ run.own)))
 
 abbrev pub remembers : Instruction → Option Bool
@@ -117,7 +117,7 @@ remembers _ = None
 
 -- whether a state is remembered after instructions
 abbrev pub is_open : List Instruction → Bool
-is_open is = unwrap_or (last_word remembers is) false
+is_open is = unwrap_or (last_said remembers is) false
 
 abbrev pub has_column : Option CfaRule → Bool
 has_column (Some (ColumnAndOffset c n)) = true
@@ -127,15 +127,15 @@ abbrev pub fault_where : Bool → Fault → Option Fault
 fault_where b e = if b then Some e else None
 
 -- a rule for a 33rd column
-abbrev pub is_crowded : Run → ℕ → Option Rule → Bool
-is_crowded run column rule = is_some rule && (not (is_some (rule_of run column)) && nat_le 32 (length (ruled_columns run)))
+abbrev pub has_too_many_rules : RowInstructions → ℕ → Option Rule → Bool
+has_too_many_rules run column rule = is_some rule && (not (is_some (rule_of run column)) && nat_le 32 (length (ruled_columns run)))
 
 -- Whether an instruction can't follow those that ran before it, in a program that began at a location.
-abbrev pub fault_of : ℕ → Run → Instruction → Option Fault
+abbrev pub fault_of : ℕ → RowInstructions → Instruction → Option Fault
 fault_of start run (Advance n) = fault_where (nat_le (2 ^ 64) (location start run.own + n)) AddressOverflow
 fault_of start run (SetLocation a) = fault_where (nat_lt a (location start run.own)) LocationGoesBack
-fault_of start run (Write c rule) = fault_where (is_crowded run c (Some rule)) TooManyRegisterRules
-fault_of start run (Reset c) = fault_where (is_crowded run c (initial_rule run c)) TooManyRegisterRules
+fault_of start run (Write c rule) = fault_where (has_too_many_rules run c (Some rule)) TooManyRegisterRules
+fault_of start run (Reset c) = fault_where (has_too_many_rules run c (initial_rule run c)) TooManyRegisterRules
 fault_of start run (CfaColumn c) = fault_where (not (has_column (cfa_rule run))) NoCfaRegister
 fault_of start run (CfaOffset n) = fault_where (not (has_column (cfa_rule run))) NoCfaRegister
 fault_of start run Remember = fault_where (is_open run.own) StackFull
@@ -143,11 +143,11 @@ fault_of start run Restore = fault_where (not (is_open run.own)) PopWithEmptySta
 fault_of start run _ = None
 
 -- the first fault in reading order, of instructions after others
-abbrev pub first_fault : ℕ → Run → List Instruction → Option Fault
+abbrev pub first_fault : ℕ → RowInstructions → List Instruction → Option Fault
 first_fault start run [] = None
 first_fault start run (i ∷ is) = option_or (fault_of start run i) (first_fault start (record run { own = run.own ++ i ∷ [] }) is)
 
-abbrev pub from_common : List Instruction → Run
+abbrev pub from_common : List Instruction → RowInstructions
 from_common common = record { common = common; own = [] }
 
 -- the fault of the CIE's program, which runs whole from location 0
@@ -163,13 +163,13 @@ or_else None r = r
 or_else (Some e) r = Err e
 
 -- the row of two programs, the CIE's, which runs whole, and one that begins at a location, of which this is reached
-abbrev pub row_of : ℕ → Program → Program → List Instruction → Result Run Fault
-row_of start common own reached = let run : Run = record { common = common.instructions; own = reached } in
+abbrev pub row_of : ℕ → Program → Program → List Instruction → Result RowInstructions Fault
+row_of start common own reached = let run : RowInstructions = record { common = common.instructions; own = reached } in
     or_else (common_fault common) (or_else (own_fault start common.instructions own reached)
     (if is_some (cfa_rule run) then Ok run else Err NoCfaRegister))
 
 -- the row of two programs at an address
-abbrev pub row : ℕ → ℕ → Program → Program → Result Run Fault
+abbrev pub row : ℕ → ℕ → Program → Program → Result RowInstructions Fault
 row start pc common own = row_of start common own (up_to start pc own.instructions)
 
 -- the range of a description contains an address
@@ -177,7 +177,7 @@ abbrev pub covers_pc : Fde → ℕ → Bool
 covers_pc fde pc = nat_le fde.start pc && nat_lt pc (fde.start + fde.size)
 
 -- the row of a description at an address of its range
-unfoldable pub row_at : Bases → Fde → ℕ → Result Run Fault
+unfoldable pub row_at : Bases → Fde → ℕ → Result RowInstructions Fault
 row_at bases fde pc = if covers_pc fde pc
     then row fde.start pc (program (coding_of bases fde.cie) fde.cie.program) (program (coding_of bases fde.cie) fde.program)
     else Err NoUnwindInfoForAddress

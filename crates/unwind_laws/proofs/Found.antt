@@ -8,7 +8,7 @@ use Rattle.memory_image.specs.Image.{Span}
 use Rattle.unwind_definitions.specs.declared.error.Error.{Error as Fault}
 use Rattle.unwind_definitions.specs.declared.error.Error.TheVariants.{NoUnwindInfoForAddress}
 use Rattle.unwind_definitions.specs.Entries.{Fde}
-use Rattle.unwind_definitions.specs.Row.{Run, covers_pc, row_at, argument_size}
+use Rattle.unwind_definitions.specs.Row.{RowInstructions, covers_pc, row_at, argument_size}
 use Rattle.unwind_definitions.specs.Scan.{fdes_of, first_covering, scan}
 use Rattle.unwind_definitions.specs.Caller.{Evaluates, Columns}
 use Rattle.unwind_definitions.specs.State.{State, IsState, Shows}
@@ -113,7 +113,7 @@ pub record Known (p : Process) (m : Module) (frame a : ℕ) (s : State) (c : Cal
 
 -- a row that undoes the call, and has no argument size
 pub record RowUndoes (p : Process) (evaluates : Evaluates) (m : Module) (frame : ℕ) (fde : Fde) (a : ℕ) (columns : Columns) (t : State) : Type 0 where
-  pub run : Run
+  pub run : RowInstructions
   pub has_row : row_at (bases_of m frame) fde a ≡ Ok run
   pub no_arguments : argument_size run ≡ 0
   pub undoes : Undoes evaluates p.image run t columns

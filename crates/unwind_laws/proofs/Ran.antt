@@ -7,7 +7,7 @@ use Rattle.std.proofs.lemmas.Bool.{eqb-true}
 use Rattle.unwind_definitions.specs.declared.error.Error.{Error as Fault}
 use Rattle.unwind_definitions.specs.declared.error.Error.TheVariants.{NoCfaRegister, StackFull, PopWithEmptyStack}
 use Rattle.unwind_definitions.specs.Instructions.{Rule, Instruction, Nop, Remember, Restore, Advance, SetLocation, Write, Reset, Cfa, CfaColumn, CfaOffset, CfaExpression, Arguments}
-use Rattle.unwind_definitions.specs.Row.{Run, CfaRule, ColumnAndOffset, ByExpression, rule_of, initial_rule, cfa_rule, cfa_of, arguments, says_of, remembers, is_open, has_column, fault_of, fault_where, first_fault, from_common, cut, last_word}
+use Rattle.unwind_definitions.specs.Row.{RowInstructions, CfaRule, ColumnAndOffset, ByExpression, rule_of, initial_rule, cfa_rule, cfa_of, arguments, says_of, remembers, is_open, has_column, fault_of, fault_where, first_fault, from_common, cut, last_said}
 use Rattle.unwind_laws.specs.Reached.{push}
 use Rattle.unwind_laws.specs.Running.{Running, Memory, nothing, with_cfa_column, with_cfa_offset, row_after, restored_from, run_one, run_all, fresh, after_common, after_both, SaysRow, HasNoFault}
 use Rattle.unwind_laws.proofs.Push.{IsPlain, rule_push, cfa_whole, cfa_partial, cfa_same, cfa_by_column, cfa_by_expression, arguments_push}
@@ -51,7 +51,7 @@ with_column (Some (ColumnAndOffset c n)) e = record { column = c; offset = n; is
 with_column (Some (ByExpression b)) e = absurd cc
 
 -- what is known of a row, before an instruction that meets no fault
-module _ (start : ℕ) (initial : ℕ → Option Rule) (run : Run) (same : (c : ℕ) → initial c ≡ initial_rule run c) (now : Running) (says : SaysRow now run) where
+module _ (start : ℕ) (initial : ℕ → Option Rule) (run : RowInstructions) (same : (c : ℕ) → initial c ≡ initial_rule run c) (now : Running) (says : SaysRow now run) where
   rules_are : (i : Instruction) → IsPlain i → (c : ℕ) → (row_after initial i now).rules c ≡ rule_of (push run i) c
   rules_are i plain c =
       rules_after initial i now c
@@ -96,17 +96,17 @@ module _ (start : ℕ) (initial : ℕ → Option Rule) (run : Run) (same : (c : 
   says_after (Arguments n) plain other fine = no_cfa (Arguments n) plain refl (cfa_same run (Arguments n) plain refl refl refl) refl
 
 -- ---- with the remembered row
-abbrev SavedSays : Option Running → Run → Type 0
+abbrev SavedSays : Option Running → RowInstructions → Type 0
 SavedSays saved run = MatchOption saved (is_open run.own ≡ false) (λ r. (is_open run.own ≡ true) × SaysRow r (push run Restore))
 
-pub record Stands (m : Memory) (run : Run) : Type 0 where
+pub record Stands (m : Memory) (run : RowInstructions) : Type 0 where
   pub now : SaysRow m.now run
   pub saved : SavedSays m.saved run
 
-moved : (r : Running) (a b : Run) → SaysRow r a → SaysSame b a → SaysRow r b
+moved : (r : Running) (a b : RowInstructions) → SaysRow r a → SaysSame b a → SaysRow r b
 moved r a b says same = record { rules = λ c. says.rules c ∙ sym (same.rules c); cfa = says.cfa ∙ sym same.cfa; size = says.size ∙ sym same.arguments_are }
 
-saved_after : (saved : Option Running) (run : Run) (i : Instruction) → remembers i ≡ None → SavedSays saved run → SavedSays saved (push run i)
+saved_after : (saved : Option Running) (run : RowInstructions) (i : Instruction) → remembers i ≡ None → SavedSays saved run → SavedSays saved (push run i)
 saved_after None run i other says = open_push run.own i ∙ ap (λ o. unwrap_or o (is_open run.own)) other ∙ says
 saved_after (Some r) run i other says = (open_push run.own i ∙ ap (λ o. unwrap_or o (is_open run.own)) other ∙ says.0, moved r (push run Restore) (push (push run i) Restore) says.1 (plain_restores run i other says.0))
 
@@ -119,19 +119,19 @@ opened_of true e = refl
 opened_of false e = absurd cc
 
 module _ (start : ℕ) (initial : ℕ → Option Rule) where
-  plain_step : (run : Run) (m : Memory) (i : Instruction) → IsPlain i → remembers i ≡ None → fault_of start run i ≡ None → ((c : ℕ) → initial c ≡ initial_rule run c) → Stands m run → Stands (record m { now = row_after initial i m.now }) (push run i)
+  plain_step : (run : RowInstructions) (m : Memory) (i : Instruction) → IsPlain i → remembers i ≡ None → fault_of start run i ≡ None → ((c : ℕ) → initial c ≡ initial_rule run c) → Stands m run → Stands (record m { now = row_after initial i m.now }) (push run i)
   plain_step run m i plain other fine same st = record { now = says_after start initial run same m.now st.now i plain other fine; saved = saved_after m.saved run i other st.saved }
 
-  remember_step : (run : Run) (m : Memory) → fault_of start run Remember ≡ None → Stands m run → Stands (record { now = m.now; saved = Some m.now }) (push run Remember)
+  remember_step : (run : RowInstructions) (m : Memory) → fault_of start run Remember ≡ None → Stands m run → Stands (record { now = m.now; saved = Some m.now }) (push run Remember)
   remember_step run m fine st =
       let closed = closed_of (is_open run.own) fine in
       record { now = moved m.now run (push run Remember) st.now (remember_same run); saved = (open_push run.own Remember, moved m.now run (push (push run Remember) Restore) st.now (remember_restores run closed)) }
 
-  restore_step : (run : Run) (now : Running) (saved : Option Running) → fault_of start run Restore ≡ None → SavedSays saved run → Stands (record { now = restored_from now saved; saved = None }) (push run Restore)
+  restore_step : (run : RowInstructions) (now : Running) (saved : Option Running) → fault_of start run Restore ≡ None → SavedSays saved run → Stands (record { now = restored_from now saved; saved = None }) (push run Restore)
   restore_step run now None fine says = let opened = opened_of (is_open run.own) fine in absurd cc
   restore_step run now (Some r) fine says = record { now = says.1; saved = open_push run.own Restore }
 
-  one_step : (run : Run) (m : Memory) (i : Instruction) → fault_of start run i ≡ None → ((c : ℕ) → initial c ≡ initial_rule run c) → Stands m run → Stands (run_one initial i m) (push run i)
+  one_step : (run : RowInstructions) (m : Memory) (i : Instruction) → fault_of start run i ≡ None → ((c : ℕ) → initial c ≡ initial_rule run c) → Stands m run → Stands (run_one initial i m) (push run i)
   one_step run m Remember fine same st = remember_step run m fine st
   one_step run m Restore fine same st = restore_step run m.now m.saved fine st.saved
   one_step run m Nop fine same st = plain_step run m Nop (record { alone = refl }) refl fine same st
@@ -149,7 +149,7 @@ module _ (start : ℕ) (initial : ℕ → Option Rule) where
   neither None b e = (refl, e)
   neither (Some x) b e = absurd cc
 
-  all_steps : (is : List Instruction) (run : Run) (m : Memory) → first_fault start run is ≡ None → ((c : ℕ) → initial c ≡ initial_rule run c) → Stands m run → Stands (run_all initial is m) (record run { own = run.own ++ is })
+  all_steps : (is : List Instruction) (run : RowInstructions) (m : Memory) → first_fault start run is ≡ None → ((c : ℕ) → initial c ≡ initial_rule run c) → Stands m run → Stands (run_all initial is m) (record run { own = run.own ++ is })
   all_steps [] run m fine same st = subst (λ (o : List Instruction). Stands m (record run { own = o })) (sym (append-nil run.own)) st
   all_steps (i ∷ is) run m fine same st =
       let both = neither (fault_of start run i) (first_fault start (push run i) is) fine in
@@ -164,7 +164,7 @@ begins : (common : List Instruction) → SaysRow (after_common common) (record {
 begins common says = record {
   rules = says.rules;
   cfa = says.cfa ∙ sym (ap cfa_of (append-nil (cut common)));
-  size = says.size ∙ sym (ap (λ (is : List Instruction). unwrap_or (last_word arguments is) 0) (append-nil (cut common)));
+  size = says.size ∙ sym (ap (λ (is : List Instruction). unwrap_or (last_said arguments is) 0) (append-nil (cut common)));
 }
 
 -- Running both programs says what the row says.

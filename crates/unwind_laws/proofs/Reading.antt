@@ -8,7 +8,7 @@ use Rattle.unwind_definitions.specs.declared.error.Error.{Error as Fault}
 use Rattle.unwind_definitions.specs.Faults.{◌>>=◌}
 use Rattle.unwind_definitions.specs.Input.{Input}
 use Rattle.unwind_definitions.specs.Instructions.{Instruction, Nop, Remember, Restore, Advance, SetLocation, Write, Reset, Cfa, CfaColumn, CfaOffset, CfaExpression, Arguments, Coding, instruction, Program, program, program_from, after}
-use Rattle.unwind_definitions.specs.Row.{Run, fault_of, first_fault, location, up_to, or_else, from_common, common_fault, own_fault, row}
+use Rattle.unwind_definitions.specs.Row.{RowInstructions, fault_of, first_fault, location, up_to, or_else, from_common, common_fault, own_fault, row}
 use Rattle.unwind_laws.specs.Reached.{passes_limit, push, act, reached, common_reached, own_reached, row_reached}
 
 same_number : (n : ℕ) → eqb n n ≡ true
@@ -21,10 +21,10 @@ part None at is = is
 part (Some pc) at is = up_to at pc is
 
 -- what the part of a program that is reached makes of what ran before it
-abbrev pub rest_of : ℕ → Run → Program → List Instruction → Result Run Fault
+abbrev pub rest_of : ℕ → RowInstructions → Program → List Instruction → Result RowInstructions Fault
 rest_of start run p is = or_else (option_or (first_fault start run is) (if length is == length p.instructions then p.fault else None)) (Ok (record run { own = run.own ++ is }))
 
-abbrev pub whole_rest : ℕ → Option ℕ → Run → Program → Result Run Fault
+abbrev pub whole_rest : ℕ → Option ℕ → RowInstructions → Program → Result RowInstructions Fault
 whole_rest start limit run p = rest_of start run p (part limit (location start run.own) p.instructions)
 
 -- where one instruction leads
@@ -81,27 +81,27 @@ part_nil : (limit : Option ℕ) (at : ℕ) → part limit at [] ≡ []
 part_nil None at = refl
 part_nil (Some pc) at = refl
 
-abbrev ended : Run → Result Run Fault
+abbrev ended : RowInstructions → Result RowInstructions Fault
 ended run = Ok run
 
-same_run : (run : Run) → ended (record run { own = run.own ++ [] }) ≡ Ok run
+same_run : (run : RowInstructions) → ended (record run { own = run.own ++ [] }) ≡ Ok run
 same_run run = ap (λ (o : List Instruction). ended (record run { own = o })) (append-nil run.own)
 
 -- nothing is reached, and something is there
-stopped : (start : ℕ) (run : Run) (i : Instruction) (p : Program) → rest_of start run (record { instructions = i ∷ p.instructions; fault = p.fault }) [] ≡ Ok run
+stopped : (start : ℕ) (run : RowInstructions) (i : Instruction) (p : Program) → rest_of start run (record { instructions = i ∷ p.instructions; fault = p.fault }) [] ≡ Ok run
 stopped start run i p = ap (λ b. or_else (cond b p.fault None) (Ok (record run { own = run.own ++ [] }))) (eqb-zero-suc (length p.instructions)) ∙ same_run run
 
-parts : (o f pf : Option Fault) (b b' : Bool) (x y : Result Run Fault) → b ≡ b' → x ≡ y → or_else (option_or (option_or o f) (cond b pf None)) x ≡ or_else o (or_else (option_or f (cond b' pf None)) y)
+parts : (o f pf : Option Fault) (b b' : Bool) (x y : Result RowInstructions Fault) → b ≡ b' → x ≡ y → or_else (option_or (option_or o f) (cond b pf None)) x ≡ or_else o (or_else (option_or f (cond b' pf None)) y)
 parts None f pf b b' x y e h = rw (e, h) refl
 parts (Some d) f pf b b' x y e h = refl
 
 -- one instruction is reached, and what follows it
-further : (start : ℕ) (run : Run) (i : Instruction) (p : Program) (is : List Instruction) →
+further : (start : ℕ) (run : RowInstructions) (i : Instruction) (p : Program) (is : List Instruction) →
     rest_of start run (record { instructions = i ∷ p.instructions; fault = p.fault }) (i ∷ is) ≡ or_else (fault_of start run i) (rest_of start (push run i) p is)
 further start run i p is = parts (fault_of start run i) (first_fault start (push run i) is) p.fault _ _ _ _ (eqb-suc-suc (length is) (length p.instructions))
     (ap (λ (o : List Instruction). ended (record run { own = o })) (sym (append_assoc run.own (i ∷ []) is)))
 
-one : (start : ℕ) (limit : Option ℕ) (run : Run) (i : Instruction) (p : Program) → whole_rest start limit run (record { instructions = i ∷ p.instructions; fault = p.fault }) ≡ act start limit run i (whole_rest start limit (push run i) p)
+one : (start : ℕ) (limit : Option ℕ) (run : RowInstructions) (i : Instruction) (p : Program) → whole_rest start limit run (record { instructions = i ∷ p.instructions; fault = p.fault }) ≡ act start limit run i (whole_rest start limit (push run i) p)
 one start limit run i p = ap (rest_of start run (record { instructions = i ∷ p.instructions; fault = p.fault })) (part_is limit (location start run.own) i p.instructions) ∙ go (passes_limit (location start run.own) limit i)
   where
     go : (b : Bool) → rest_of start run (record { instructions = i ∷ p.instructions; fault = p.fault }) (cond b [] (i ∷ part limit (lead (location start run.own) i) p.instructions)) ≡
@@ -110,13 +110,13 @@ one start limit run i p = ap (rest_of start run (record { instructions = i ∷ p
     go false = further start run i p (part limit (lead (location start run.own) i) p.instructions)
         ∙ ap (λ at. or_else (fault_of start run i) (rest_of start (push run i) p (part limit at p.instructions))) (sym (location-push start run.own i))
 
-nothing : (start : ℕ) (limit : Option ℕ) (run : Run) → whole_rest start limit run (record { instructions = []; fault = None }) ≡ Ok run
+nothing : (start : ℕ) (limit : Option ℕ) (run : RowInstructions) → whole_rest start limit run (record { instructions = []; fault = None }) ≡ Ok run
 nothing start limit run = ap (rest_of start run (record { instructions = []; fault = None })) (part_nil limit (location start run.own)) ∙ same_run run
 
-unread : (start : ℕ) (limit : Option ℕ) (run : Run) (e : Fault) → whole_rest start limit run (record { instructions = []; fault = Some e }) ≡ Err e
+unread : (start : ℕ) (limit : Option ℕ) (run : RowInstructions) (e : Fault) → whole_rest start limit run (record { instructions = []; fault = Some e }) ≡ Err e
 unread start limit run e = ap (rest_of start run (record { instructions = []; fault = Some e })) (part_nil limit (location start run.own))
 
-cases : (turns : ℕ) (coding : Coding) (start : ℕ) (limit : Option ℕ) (run : Run) → ((run : Run) (c : Input) → reached turns coding start limit run c ≡ whole_rest start limit run (program_from turns coding c)) →
+cases : (turns : ℕ) (coding : Coding) (start : ℕ) (limit : Option ℕ) (run : RowInstructions) → ((run : RowInstructions) (c : Input) → reached turns coding start limit run c ≡ whole_rest start limit run (program_from turns coding c)) →
     (b : Bool) (r : Result (Instruction × Input) Fault) → cond b (Ok run) (r >>= λ x. act start limit run x.0 (reached turns coding start limit (push run x.0) x.1)) ≡
     whole_rest start limit run (cond b (record { instructions = []; fault = None }) (after r (program_from turns coding)))
 cases turns coding start limit run ih true r = sym (nothing start limit run)
@@ -124,12 +124,12 @@ cases turns coding start limit run ih false (Ok x) = ap (act start limit run x.0
 cases turns coding start limit run ih false (Err e) = sym (unread start limit run e)
 
 -- what is reached of what is left of a program, after what ran
-pub reached_is : (turns : ℕ) (coding : Coding) (start : ℕ) (limit : Option ℕ) (run : Run) (c : Input) → reached turns coding start limit run c ≡ whole_rest start limit run (program_from turns coding c)
+pub reached_is : (turns : ℕ) (coding : Coding) (start : ℕ) (limit : Option ℕ) (run : RowInstructions) (c : Input) → reached turns coding start limit run c ≡ whole_rest start limit run (program_from turns coding c)
 unfolding reached
 reached_is zero coding start limit run c = sym (nothing start limit run)
 reached_is (suc turns) coding start limit run c = cases turns coding start limit run (reached_is turns coding start limit) (length c.bytes == 0) (instruction coding c)
 
-then_run : (o : Option Fault) (x : Run) (f : Run → Result Run Fault) → (or_else o (ended x) >>= f) ≡ or_else o (f x)
+then_run : (o : Option Fault) (x : RowInstructions) (f : RowInstructions → Result RowInstructions Fault) → (or_else o (ended x) >>= f) ≡ or_else o (f x)
 then_run None x f = refl
 then_run (Some e) x f = refl
 
@@ -143,11 +143,11 @@ row_is_read coding start pc common own =
     let cp : Program = program coding common in
     let op : Program = program coding own in
     let first = reached_is (length common.bytes) coding 0 None (from_common []) common ∙ whole_common cp in
-    let second : (before : Run) → own_reached coding start pc before own ≡ whole_rest start (Some pc) (from_common before.own) op =
+    let second : (before : RowInstructions) → own_reached coding start pc before own ≡ whole_rest start (Some pc) (from_common before.own) op =
     λ before. reached_is (length own.bytes) coding start (Some pc) (from_common before.own) own in
-    let rest : Run → Result Run Fault = λ before. own_reached coding start pc before own >>= λ run. row_reached run in
-    let at_end : Run = record { common = []; own = cp.instructions } in
+    let rest : RowInstructions → Result RowInstructions Fault = λ before. own_reached coding start pc before own >>= λ run. row_reached run in
+    let at_end : RowInstructions = record { common = []; own = cp.instructions } in
     let is : List Instruction = up_to start pc op.instructions in
-    let run : Run = record { common = cp.instructions; own = is } in
+    let run : RowInstructions = record { common = cp.instructions; own = is } in
     ap (λ r. r >>= rest) first ∙ then_run (common_fault cp) at_end rest
     ∙ ap (or_else (common_fault cp)) (ap (λ r. r >>= λ x. row_reached x) (second at_end) ∙ then_run (own_fault start cp.instructions op is) run (λ x. row_reached x))

@@ -2,12 +2,12 @@
 use Rattle.std.proofs.Common.{◌≡◌, ℕ, Bool, true, false, List, [], ◌∷◌, ◌++◌, Option, Some, None, refl, sym, ap, ◌∙◌, append_assoc}
 use Rattle.std.specs.Option.{option_or, unwrap_or}
 use Rattle.unwind_definitions.specs.Instructions.{Instruction, Nop, Remember, Restore, Advance, SetLocation, Write, Reset, Cfa, CfaColumn, CfaOffset, CfaExpression, Arguments}
-use Rattle.unwind_definitions.specs.Row.{Run, last_word, remembers, is_open, cut, cut_of, Cut, rule_of, cfa_rule, cfa_of, argument_size, arguments, initial_rule, says_of}
-use Rattle.unwind_laws.proofs.Push.{last_word-push}
+use Rattle.unwind_definitions.specs.Row.{RowInstructions, last_said, remembers, is_open, cut, cut_of, Cut, rule_of, cfa_rule, cfa_of, argument_size, arguments, initial_rule, says_of}
+use Rattle.unwind_laws.proofs.Push.{last_said-push}
 use Rattle.unwind_laws.specs.Reached.{push}
 
 abbrev says : List Instruction → Option Bool
-says is = last_word remembers is
+says is = last_said remembers is
 
 abbrev join : Instruction → Cut → Cut
 join Remember c = record { kept = unwrap_or c.behind c.kept; behind = c.behind }
@@ -158,37 +158,37 @@ open_says own e = go (says own) refl e
 -- ---- for a run
 
 -- what a restore would leave
-abbrev pub restored : Run → Run
+abbrev pub restored : RowInstructions → RowInstructions
 restored run = push run Restore
 
 -- two runs that say the same of every column, of the CFA and of the arguments
-pub record SaysSame (a b : Run) : Type 0 where
+pub record SaysSame (a b : RowInstructions) : Type 0 where
   pub rules : (c : ℕ) → rule_of a c ≡ rule_of b c
   pub cfa : cfa_rule a ≡ cfa_rule b
   pub arguments_are : argument_size a ≡ argument_size b
 
 says_same : (common xs ys : List Instruction) → cut xs ≡ cut ys → SaysSame (record { common = common; own = xs }) (record { common = common; own = ys })
 says_same common xs ys e = record {
-  rules = λ c. let i = initial_rule (record { common = common; own = xs }) c in ap (λ (l : List Instruction). unwrap_or (last_word (says_of i c) l) i) e;
+  rules = λ c. let i = initial_rule (record { common = common; own = xs }) c in ap (λ (l : List Instruction). unwrap_or (last_said (says_of i c) l) i) e;
   cfa = ap (λ (l : List Instruction). cfa_of (cut common ++ l)) e;
-  arguments_are = ap (λ (l : List Instruction). unwrap_or (last_word arguments (cut common ++ l)) 0) e;
+  arguments_are = ap (λ (l : List Instruction). unwrap_or (last_said arguments (cut common ++ l)) 0) e;
 }
 
 -- A state is remembered: all stays, and what a restore would leave is what there is.
-pub remember_same : (run : Run) → SaysSame (push run Remember) run
+pub remember_same : (run : RowInstructions) → SaysSame (push run Remember) run
 remember_same run = says_same run.common (run.own ++ Remember ∷ []) run.own (ap (λ (c : Cut). c.kept) (remember_kept run.own))
 
-pub remember_restores : (run : Run) → is_open run.own ≡ false → SaysSame (restored (push run Remember)) run
+pub remember_restores : (run : RowInstructions) → is_open run.own ≡ false → SaysSame (restored (push run Remember)) run
 remember_restores run closed = says_same run.common ((run.own ++ Remember ∷ []) ++ Restore ∷ []) run.own (ap cut (append_assoc run.own (Remember ∷ []) (Restore ∷ [])) ∙ remembered_kept run.own closed)
 
 -- After it, what a restore would leave stays.
-pub plain_restores : (run : Run) (i : Instruction) → remembers i ≡ None → is_open run.own ≡ true → SaysSame (restored (push run i)) (restored run)
+pub plain_restores : (run : RowInstructions) (i : Instruction) → remembers i ≡ None → is_open run.own ≡ true → SaysSame (restored (push run i)) (restored run)
 plain_restores run i plain opened = says_same run.common ((run.own ++ i ∷ []) ++ Restore ∷ []) (run.own ++ Restore ∷ [])
     (ap cut (append_assoc run.own (i ∷ []) (Restore ∷ [])) ∙ ap (λ (c : Cut). c.kept) (open_cut run.own i plain (open_says run.own opened)))
 
 -- whether a state is remembered after one more instruction
 pub open_push : (own : List Instruction) (i : Instruction) → is_open (own ++ i ∷ []) ≡ unwrap_or (remembers i) (is_open own)
-open_push own i = ap (λ o. unwrap_or o false) (last_word-push remembers own i) ∙ go (remembers i)
+open_push own i = ap (λ o. unwrap_or o false) (last_said-push remembers own i) ∙ go (remembers i)
   where
     go : (o : Option Bool) → unwrap_or (option_or o (says own)) false ≡ unwrap_or o (is_open own)
     go None = refl

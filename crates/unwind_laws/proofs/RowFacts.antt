@@ -6,7 +6,7 @@ use Rattle.std.proofs.lemmas.Bool.{leb-true, le-leb, lt-leb, eqb-true}
 use Rattle.unwind_definitions.specs.State.{CalleeSaved, RBX, RBP, R12, R13, R14, R15, State, IsState, value_of}
 use Rattle.unwind_definitions.specs.Prologue.{PrologueStep}
 use Rattle.unwind_definitions.specs.Instructions.{Rule, Instruction, Nop, Remember, Restore, Advance, SetLocation, Write, Reset, Cfa, CfaColumn, CfaOffset, CfaExpression, Arguments}
-use Rattle.unwind_definitions.specs.Row.{Run, last_word, says_of, cut, initial_rule, rule_of}
+use Rattle.unwind_definitions.specs.Row.{RowInstructions, last_said, says_of, cut, initial_rule, rule_of}
 use Rattle.unwind_definitions.specs.DescribedRows.{may_have_rule, ended_by}
 use Rattle.unwind_laws.proofs.Booleans.{both_true}
 
@@ -32,7 +32,7 @@ differ k c fol unf = go (k == c) refl
     go true e = let same : k ≡ c = eqb-true k c e in let fol' : may_have_rule c ≡ true = rw same at fol in absurd cc
     go false e = refl
 
-silent : (initial : Option Rule) (c : ℕ) (is : List Instruction) → may_have_rule c ≡ false → names_ruled is ≡ true → last_word (says_of initial c) is ≡ None
+silent : (initial : Option Rule) (c : ℕ) (is : List Instruction) → may_have_rule c ≡ false → names_ruled is ≡ true → last_said (says_of initial c) is ≡ None
 silent initial c [] unf all = refl
 silent initial c (Write k r ∷ is) unf all = let both = both_true (may_have_rule k) (names_ruled is) all in rw (silent initial c is unf both.1, differ k c both.0 unf) refl
 silent initial c (Reset k ∷ is) unf all = let both = both_true (may_have_rule k) (names_ruled is) all in rw (silent initial c is unf both.1, differ k c both.0 unf) refl
@@ -48,7 +48,7 @@ silent initial c (CfaExpression n ∷ is) unf all = rw (silent initial c is unf 
 silent initial c (Arguments n ∷ is) unf all = rw (silent initial c is unf all) refl
 
 -- a column that isn't followed has no rule where each rule is of one that is
-pub unnamed : (run : Run) → names_ruled (cut run.common) ≡ true → names_ruled (cut run.own) ≡ true → (c : ℕ) → may_have_rule c ≡ false → rule_of run c ≡ None
+pub unnamed : (run : RowInstructions) → names_ruled (cut run.common) ≡ true → names_ruled (cut run.own) ≡ true → (c : ℕ) → may_have_rule c ≡ false → rule_of run c ≡ None
 unnamed run common own c unf =
     let first : initial_rule run c ≡ None = ap (λ o. unwrap_or o None) (silent None c (cut run.common) unf common) in
     ap (λ o. unwrap_or o (initial_rule run c)) (silent (initial_rule run c) c (cut run.own) unf own) ∙ first

@@ -6,8 +6,8 @@ use Rattle.std.proofs.lemmas.Bool.{eqb-true, ltb-true, ltb-false}
 use Rattle.std.proofs.lemmas.Bool.Decides.{nat_tests}
 use Rattle.memory_image.specs.Image.{Span}
 use Rattle.unwind_definitions.specs.Instructions.{Rule}
-use Rattle.unwind_definitions.specs.Row.{Run}
-use Rattle.unwind_definitions.specs.Caller.{Columns, Machine, StepFault, Evaluates, rule_value, placed, unruled, column_value, value_in, fault_in, first_fault_below, unless_fault, column_limit, caller_with}
+use Rattle.unwind_definitions.specs.Row.{RowInstructions}
+use Rattle.unwind_definitions.specs.Caller.{Columns, Machine, StepFault, Evaluates, rule_value, value_for_column, unruled, column_value, value_in, fault_in, first_fault_below, unless_fault, column_limit, caller_with}
 use Rattle.unwind_laws.specs.Undoes.{rule_in, ColumnsAscend, AreRules, with_column, then_columns, ruled}
 use Rattle.unwind_laws.proofs.Faultless.{HasValue, no_fault_below, first_fault_at}
 
@@ -32,11 +32,11 @@ nothing_below (r ∷ rules) low c up lt =
 module _ (machine : Machine) (evaluates : Evaluates) (image : List Span) (old : Columns) (cfa : ℕ) where
   -- what a rule gives a column, and what a column has without one
   abbrev value_by : Option Rule → ℕ → Result (Option ℕ) StepFault
-  value_by rule c = option_map_or (λ r. placed (old c) (rule_value evaluates image old cfa c r)) rule (Ok (unruled machine old cfa c))
+  value_by rule c = option_map_or (λ r. value_for_column (old c) (rule_value evaluates image old cfa c r)) rule (Ok (unruled machine old cfa c))
 
   -- the columns that are to come: those of the rules by them, the others as they are
   abbrev by_rules : List (ℕ × Rule) → Columns → ℕ → Option ℕ
-  by_rules rules new c = option_map_or (λ r. value_in (placed (old c) (rule_value evaluates image old cfa c r))) (rule_in rules c) (new c)
+  by_rules rules new c = option_map_or (λ r. value_in (value_for_column (old c) (rule_value evaluates image old cfa c r))) (rule_in rules c) (new c)
 
   abbrev some_fault : StepFault → Option StepFault
   some_fault e = Some e
@@ -44,12 +44,12 @@ module _ (machine : Machine) (evaluates : Evaluates) (image : List Span) (old : 
   -- the first fault of the rules, in their order
   abbrev rules_fault : List (ℕ × Rule) → Option StepFault
   rules_fault [] = None
-  rules_fault (r ∷ rules) = option_or (fault_in (placed (old r.0) (rule_value evaluates image old cfa r.0 r.1))) (rules_fault rules)
+  rules_fault (r ∷ rules) = option_or (fault_in (value_for_column (old r.0) (rule_value evaluates image old cfa r.0 r.1))) (rules_fault rules)
 
   abbrev ok : Columns → Result Columns StepFault
   ok columns = Ok columns
 
-  set_first : (rules : List (ℕ × Rule)) (r : ℕ × Rule) (new : Columns) (v : Option ℕ) → rule_in rules r.0 ≡ None → placed (old r.0) (rule_value evaluates image old cfa r.0 r.1) ≡ Ok v →
+  set_first : (rules : List (ℕ × Rule)) (r : ℕ × Rule) (new : Columns) (v : Option ℕ) → rule_in rules r.0 ≡ None → value_for_column (old r.0) (rule_value evaluates image old cfa r.0 r.1) ≡ Ok v →
       (c : ℕ) → by_rules rules (with_column new r.0 v) c ≡ by_rules (r ∷ rules) new c
   set_first rules r new v none is c = go (r.0 == c) refl
     where
@@ -63,9 +63,9 @@ module _ (machine : Machine) (evaluates : Evaluates) (image : List Span) (old : 
   -- rule by rule comes to the first fault of a rule, or to the columns by all of them
   ruled_is : (rules : List (ℕ × Rule)) (low : ℕ) (new : Columns) → ColumnsAscend low rules → ruled evaluates image old cfa rules new ≡ unless_fault (rules_fault rules) (λ c. by_rules rules new c)
   ruled_is [] low new up = refl
-  ruled_is (r ∷ rules) low new up = go (placed (old r.0) (rule_value evaluates image old cfa r.0 r.1)) refl (λ v. ruled_is rules (r.0 + 1) (with_column new r.0 v) up.2)
+  ruled_is (r ∷ rules) low new up = go (value_for_column (old r.0) (rule_value evaluates image old cfa r.0 r.1)) refl (λ v. ruled_is rules (r.0 + 1) (with_column new r.0 v) up.2)
     where
-      go : (p : Result (Option ℕ) StepFault) → placed (old r.0) (rule_value evaluates image old cfa r.0 r.1) ≡ p →
+      go : (p : Result (Option ℕ) StepFault) → value_for_column (old r.0) (rule_value evaluates image old cfa r.0 r.1) ≡ p →
           ((v : Option ℕ) → ruled evaluates image old cfa rules (with_column new r.0 v) ≡ unless_fault (rules_fault rules) (λ c. by_rules rules (with_column new r.0 v) c)) →
           then_columns p (λ v. ruled evaluates image old cfa rules (with_column new r.0 v)) ≡ unless_fault (option_or (fault_in p) (rules_fault rules)) (λ c. by_rules (r ∷ rules) new c)
       go (Err e) is ih = refl
@@ -108,12 +108,12 @@ module _ (machine : Machine) (evaluates : Evaluates) (image : List Span) (old : 
       has : (c : ℕ) → (c < low) ⊎ (low ≤ c) → HasValue (value c)
       has c (inl lt) = is.below c lt
       has c (inr le) = (unruled machine old cfa c, is.behind c le)
-  first_is value low (r ∷ rules) up is = go (placed (old r.0) (rule_value evaluates image old cfa r.0 r.1)) refl (first_is value (r.0 + 1) rules up.2)
+  first_is value low (r ∷ rules) up is = go (value_for_column (old r.0) (rule_value evaluates image old cfa r.0 r.1)) refl (first_is value (r.0 + 1) rules up.2)
     where
       self : (r.0 == r.0) ≡ true
       self = grind (arith, nat_tests)
 
-      at : value r.0 ≡ placed (old r.0) (rule_value evaluates image old cfa r.0 r.1)
+      at : value r.0 ≡ value_for_column (old r.0) (rule_value evaluates image old cfa r.0 r.1)
       at = is.behind r.0 up.0 ∙ rw self refl
 
       early : (c : ℕ) → c < r.0 → (c < low) ⊎ (low ≤ c) → HasValue (value c)
@@ -122,20 +122,20 @@ module _ (machine : Machine) (evaluates : Evaluates) (image : List Span) (old : 
           let none : rule_in (r ∷ rules) c ≡ None = nothing_below (r ∷ rules) r.0 c (omega arith, up.1, up.2) lt in
           (unruled machine old cfa c, is.behind c le ∙ ap (λ o. value_by o c) none)
 
-      go : (p : Result (Option ℕ) StepFault) → placed (old r.0) (rule_value evaluates image old cfa r.0 r.1) ≡ p → (IsBy value (r.0 + 1) rules → first_fault_below column_limit value ≡ rules_fault rules) →
+      go : (p : Result (Option ℕ) StepFault) → value_for_column (old r.0) (rule_value evaluates image old cfa r.0 r.1) ≡ p → (IsBy value (r.0 + 1) rules → first_fault_below column_limit value ≡ rules_fault rules) →
           first_fault_below column_limit value ≡ option_or (fault_in p) (rules_fault rules)
       go (Err e) p ih = first_fault_at column_limit r.0 value e up.1 (λ c lt. early c lt (order c low)) (at ∙ p)
       go (Ok v) p ih = ih (rest_by value low r rules up is (v, at ∙ p))
 
-  by_each : (run : Run) (rules : List (ℕ × Rule)) → AreRules run rules → (c : ℕ) → column_value machine evaluates image old cfa run c ≡ value_by (rule_in rules c) c
+  by_each : (run : RowInstructions) (rules : List (ℕ × Rule)) → AreRules run rules → (c : ℕ) → column_value machine evaluates image old cfa run c ≡ value_by (rule_in rules c) c
   by_each run rules are c = ap (λ o. value_by o c) (sym (are.each c))
 
-  value_in_by : (o : Option Rule) (c : ℕ) → value_in (value_by o c) ≡ option_map_or (λ r. value_in (placed (old c) (rule_value evaluates image old cfa c r))) o (unruled machine old cfa c)
+  value_in_by : (o : Option Rule) (c : ℕ) → value_in (value_by o c) ≡ option_map_or (λ r. value_in (value_for_column (old c) (rule_value evaluates image old cfa c r))) o (unruled machine old cfa c)
   value_in_by None c = refl
   value_in_by (Some r) c = refl
 
   -- The caller by a row is what its rules give one after another, by ascending column, from the columns without rules.
-  pub caller_is_ruled : (run : Run) (rules : List (ℕ × Rule)) → AreRules run rules → caller_with machine evaluates image old run (Ok cfa) ≡ ruled evaluates image old cfa rules (unruled machine old cfa)
+  pub caller_is_ruled : (run : RowInstructions) (rules : List (ℕ × Rule)) → AreRules run rules → caller_with machine evaluates image old run (Ok cfa) ≡ ruled evaluates image old cfa rules (unruled machine old cfa)
   caller_is_ruled run rules are =
       let is : IsBy (column_value machine evaluates image old cfa run) 0 rules = record { below = λ c lt. absurd (omega arith); behind = λ c le. by_each run rules are c } in
       ap (λ o. unless_fault o (λ c. value_in (column_value machine evaluates image old cfa run c))) (first_is (column_value machine evaluates image old cfa run) 0 rules are.ascend is)

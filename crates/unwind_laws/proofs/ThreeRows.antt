@@ -4,7 +4,7 @@ use Rattle.std.specs.Prelude.{IsTrue}
 use Rattle.std.proofs.lemmas.Bool.{leb-true, ltb-true, cases_lt}
 use Rattle.unwind_definitions.specs.Pointers.{Bases}
 use Rattle.unwind_definitions.specs.Instructions.{Offset, Instruction, Nop, Advance, Write, Cfa, CfaColumn, CfaOffset, instruction_of}
-use Rattle.unwind_definitions.specs.Row.{Run, row_at, rule_of}
+use Rattle.unwind_definitions.specs.Row.{RowInstructions, row_at, rule_of}
 use Rattle.unwind_definitions.specs.State.{column_of}
 use Rattle.unwind_definitions.specs.Prologue.{steps_of, distance}
 use Rattle.unwind_definitions.specs.Function.{in_body}
@@ -17,7 +17,7 @@ use Rattle.unwind_laws.proofs.Steady.{same_row_at}
 abbrev common : List Instruction
 common = Cfa 7 8 ∷ Write 16 (Offset (2 ^ 64 - 8)) ∷ Nop ∷ Nop ∷ []
 
-abbrev own_a0 : Run
+abbrev own_a0 : RowInstructions
 own_a0 = record { common = common; own = [] }
 
 row_a0 : (bases : Bases) → HasRow bases fde_a 0x401000 (IsPrologueRow (ended_by 0 fa.prologue))
@@ -34,7 +34,7 @@ row_a0 bases = (
   },
 )
 
-abbrev own_a1 : Run
+abbrev own_a1 : RowInstructions
 own_a1 = record { common = common; own = Advance 1 ∷ CfaOffset 16 ∷ Write 6 (Offset (2 ^ 64 - 16)) ∷ [] }
 
 row_a1 : (bases : Bases) → HasRow bases fde_a 0x401001 (IsPrologueRow (ended_by 1 fa.prologue))
@@ -51,7 +51,7 @@ row_a1 bases = (
   },
 )
 
-abbrev own_a4 : Run
+abbrev own_a4 : RowInstructions
 own_a4 = record { common = common; own = Advance 1 ∷ CfaOffset 16 ∷ Write 6 (Offset (2 ^ 64 - 16)) ∷ Advance 3 ∷ CfaColumn 6 ∷ [] }
 
 row_a4 : (bases : Bases) → HasRow bases fde_a 0x401004 (IsPrologueRow (ended_by 4 fa.prologue))
@@ -68,7 +68,7 @@ row_a4 bases = (
   },
 )
 
-abbrev own_a5 : Run
+abbrev own_a5 : RowInstructions
 own_a5 = record { common = common; own = Advance 1 ∷ CfaOffset 16 ∷ Write 6 (Offset (2 ^ 64 - 16)) ∷ Advance 3 ∷ CfaColumn 6 ∷ [] }
 
 row_a5 : (bases : Bases) → HasRow bases fde_a 0x401005 (IsPrologueRow (ended_by 5 fa.prologue))
@@ -85,7 +85,7 @@ row_a5 bases = (
   },
 )
 
-abbrev own_a9 : Run
+abbrev own_a9 : RowInstructions
 own_a9 = record { common = common; own = Advance 1 ∷ CfaOffset 16 ∷ Write 6 (Offset (2 ^ 64 - 16)) ∷ Advance 3 ∷ CfaColumn 6 ∷ Advance 5 ∷ Write 3 (Offset (2 ^ 64 - 24)) ∷ [] }
 
 row_a9 : (bases : Bases) → HasRow bases fde_a 0x401009 (IsBodyRow (steps_of fa.prologue))
@@ -145,7 +145,7 @@ rows_a bases = record {
   outermost = λ outer pc h. absurd cc;
 }
 
-abbrev own_b0 : Run
+abbrev own_b0 : RowInstructions
 own_b0 = record { common = common; own = [] }
 
 row_b0 : (bases : Bases) → HasRow bases fde_b 0x401020 (IsPrologueRow (ended_by 0 fb.prologue))
@@ -162,7 +162,7 @@ row_b0 bases = (
   },
 )
 
-abbrev own_b1 : Run
+abbrev own_b1 : RowInstructions
 own_b1 = record { common = common; own = Advance 1 ∷ CfaOffset 16 ∷ Write 3 (Offset (2 ^ 64 - 16)) ∷ Nop ∷ Nop ∷ [] }
 
 row_b1 : (bases : Bases) → HasRow bases fde_b 0x401021 (IsBodyRow (steps_of fb.prologue))
@@ -201,7 +201,7 @@ rows_b bases = record {
   outermost = λ outer pc h. absurd cc;
 }
 
-abbrev own_c0 : Run
+abbrev own_c0 : RowInstructions
 own_c0 = record { common = common; own = [] }
 
 row_c0 : (bases : Bases) → HasRow bases fde_c 0x401050 (IsPrologueRow (ended_by 0 fc.prologue))
@@ -218,7 +218,7 @@ row_c0 bases = (
   },
 )
 
-abbrev own_c2 : Run
+abbrev own_c2 : RowInstructions
 own_c2 = record { common = common; own = Advance 2 ∷ CfaOffset 16 ∷ [] }
 
 row_c2 : (bases : Bases) → HasRow bases fde_c 0x401052 (IsPrologueRow (ended_by 2 fc.prologue))
@@ -235,7 +235,7 @@ row_c2 bases = (
   },
 )
 
-abbrev own_c3 : Run
+abbrev own_c3 : RowInstructions
 own_c3 = record { common = common; own = Advance 2 ∷ CfaOffset 16 ∷ Advance 1 ∷ CfaOffset 24 ∷ [] }
 
 row_c3 : (bases : Bases) → HasRow bases fde_c 0x401053 (IsPrologueRow (ended_by 3 fc.prologue))
@@ -252,7 +252,7 @@ row_c3 bases = (
   },
 )
 
-abbrev own_c7 : Run
+abbrev own_c7 : RowInstructions
 own_c7 = record { common = common; own = Advance 2 ∷ CfaOffset 16 ∷ Advance 1 ∷ CfaOffset 24 ∷ Advance 4 ∷ CfaOffset 32 ∷ Write 3 (Offset (2 ^ 64 - 24)) ∷ Write 14 (Offset (2 ^ 64 - 16)) ∷ Nop ∷ Nop ∷ [] }
 
 row_c7 : (bases : Bases) → HasRow bases fde_c 0x401057 (IsBodyRow (steps_of fc.prologue))

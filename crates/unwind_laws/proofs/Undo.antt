@@ -8,7 +8,7 @@ use Rattle.std.proofs.lemmas.Bool.Decides.{nat_tests}
 use Rattle.std.proofs.lemmas.List.Sums.{sum_by_push, sum_by-cons}
 use Rattle.memory_image.specs.Image.{Span, word_at}
 use Rattle.unwind_definitions.specs.Instructions.{Offset}
-use Rattle.unwind_definitions.specs.Row.{Run, CfaRule, ColumnAndOffset, rule_of, cfa_rule}
+use Rattle.unwind_definitions.specs.Row.{RowInstructions, CfaRule, ColumnAndOffset, rule_of, cfa_rule}
 use Rattle.unwind_definitions.specs.Caller.{◌+w◌, Columns, Evaluates, StepFault, x86_64, cfa_value, column_value, caller_of, unless_fault, value_in, unruled, column_limit}
 use Rattle.unwind_definitions.specs.State.{CalleeSaved, RBX, RBP, R12, R13, R14, R15, State, value_of, column_of, is_same, IsState, Shows, is_followed}
 use Rattle.unwind_definitions.specs.Prologue.{Followed, RDI, RSI, XMM, Step, Push, Allocate, SetFrame, Store, room_of, saves_from, frame_depth_from, distance_in, distance, depth, frame_depth, SystemV, EachMayFollow}
@@ -175,7 +175,7 @@ which c = go (3 == c) (6 == c) (12 == c) (13 == c) (14 == c) (15 == c) (16 == c)
     go false false false false false false false a b d e f g h = Other (rw (a, b, d, e, f, g, h) refl)
 
 -- What a row has to give for a caller's state: a CFA, the return address and the registers, and no other rule.
-pub record Gives (evaluates : Evaluates) (image : List Span) (run : Run) (t : State) (columns : Columns) : Type 0 where
+pub record Gives (evaluates : Evaluates) (image : List Span) (run : RowInstructions) (t : State) (columns : Columns) : Type 0 where
   pub rule : CfaRule
   pub has_cfa : cfa_rule run ≡ Some rule
   pub is_cfa : cfa_value evaluates columns rule ≡ Ok t.sp
@@ -183,7 +183,7 @@ pub record Gives (evaluates : Evaluates) (image : List Span) (run : Run) (t : St
   pub saved : (r : CalleeSaved) → column_value x86_64 evaluates image columns t.sp run (column_of r) ≡ Ok (Some (value_of r t))
   pub others : (c : ℕ) → may_have_rule c ≡ false → rule_of run c ≡ None
 
-module _ (evaluates : Evaluates) (image : List Span) (run : Run) (t : State) (columns : Columns) (gives : Gives evaluates image run t columns) where
+module _ (evaluates : Evaluates) (image : List Span) (run : RowInstructions) (t : State) (columns : Columns) (gives : Gives evaluates image run t columns) where
   abbrev value : ℕ → Result (Option ℕ) StepFault
   value c = column_value x86_64 evaluates image columns t.sp run c
 
@@ -215,14 +215,14 @@ module _ (evaluates : Evaluates) (image : List Span) (run : Run) (t : State) (co
   }
 
 -- a saved register's rule finds it
-found_at : (evaluates : Evaluates) (image : List Span) (columns : Columns) (run : Run) (t s : State) (r : CalleeSaved) (d : ℕ) → rule_of run (column_of r) ≡ Some (Offset (negative d)) → IsSlot image t.sp t r d →
+found_at : (evaluates : Evaluates) (image : List Span) (columns : Columns) (run : RowInstructions) (t s : State) (r : CalleeSaved) (d : ℕ) → rule_of run (column_of r) ≡ Some (Offset (negative d)) → IsSlot image t.sp t r d →
     t.sp < 2 ^ 64 → columns (column_of r) ≡ Some (value_of r s) → column_value x86_64 evaluates image columns t.sp run (column_of r) ≡ Ok (Some (value_of r t))
 found_at evaluates image columns run t s r d at slot lt old =
     let place : t.sp +w negative d ≡ t.sp - d = less t.sp d slot.within lt in
     rw (at, place, slot.word, old) refl
 
 -- an unchanged register holds what it held
-unchanged : (evaluates : Evaluates) (image : List Span) (columns : Columns) (cfa : ℕ) (run : Run) (r : CalleeSaved) (v : ℕ) → IsUnchanged (rule_of run (column_of r)) → columns (column_of r) ≡ Some v →
+unchanged : (evaluates : Evaluates) (image : List Span) (columns : Columns) (cfa : ℕ) (run : RowInstructions) (r : CalleeSaved) (v : ℕ) → IsUnchanged (rule_of run (column_of r)) → columns (column_of r) ≡ Some v →
     column_value x86_64 evaluates image columns cfa run (column_of r) ≡ Ok (Some v)
 unchanged evaluates image columns cfa run r v (inl none) old = rw none (ap holds (unruled_saved columns cfa r ∙ old))
 unchanged evaluates image columns cfa run r v (inr same) old = rw (same, old) refl
@@ -255,18 +255,18 @@ module _ (evaluates : Evaluates) (image : List Span) (steps : List Step) (s t : 
   slot : (r : CalleeSaved) (e : ℕ) → distance r steps ≡ Some e → IsSlot image t.sp t r e
   slot r e found = slot_of image t t.sp r e steps 8 (t.sp - 8) at lies entered.leaves found
 
-  return_value : (run : Run) → rule_of run 16 ≡ Some (Offset (negative 8)) → column_value x86_64 evaluates image columns t.sp run 16 ≡ Ok (Some t.ra)
+  return_value : (run : RowInstructions) → rule_of run 16 ≡ Some (Offset (negative 8)) → column_value x86_64 evaluates image columns t.sp run 16 ≡ Ok (Some t.ra)
   return_value run ret =
       let h = entered.room in let e : t.sp +w negative 8 ≡ t.sp - 8 = less t.sp 8 h words.sp in
       rw (ret, e, entered.returns refl, shows.ra) refl
 
-  finds : (run : Run) (r : CalleeSaved) (d : Option ℕ) → distance r steps ≡ d → FindsRegister d (rule_of run (column_of r)) →
+  finds : (run : RowInstructions) (r : CalleeSaved) (d : Option ℕ) → distance r steps ≡ d → FindsRegister d (rule_of run (column_of r)) →
       column_value x86_64 evaluates image columns t.sp run (column_of r) ≡ Ok (Some (value_of r t))
   finds run r None e kept = unchanged evaluates image columns t.sp run r (value_of r t) kept (shows.saved r ∙ ap some (entered.keeps r e))
   finds run r (Some d) e at_d = found_at evaluates image columns run t s r d at_d (slot r d e) words.sp (shows.saved r)
 
   -- The row of a frame whose prologue has run has a caller, which shows the caller's state, and keeps the other columns.
-  pub body_undone : (run : Run) → IsBodyRow steps run → Undoes evaluates image run t columns
+  pub body_undone : (run : RowInstructions) → IsBodyRow steps run → Undoes evaluates image run t columns
   body_undone run fits = undone evaluates image run t columns (record {
     rule = cfa_after steps;
     has_cfa = fits.cfa;
@@ -277,7 +277,7 @@ module _ (evaluates : Evaluates) (image : List Span) (steps : List Step) (s t : 
   })
 
   -- the same inside the prologue, where registers still hold what the caller had
-  pub prologue_undone : (run : Run) → IsPrologueRow steps run → ((r : CalleeSaved) → (r ≡ RBP → frame_depth steps ≡ None) → value_of r s ≡ value_of r t) → Undoes evaluates image run t columns
+  pub prologue_undone : (run : RowInstructions) → IsPrologueRow steps run → ((r : CalleeSaved) → (r ≡ RBP → frame_depth steps ≡ None) → value_of r s ≡ value_of r t) → Undoes evaluates image run t columns
   prologue_undone run fits intact = undone evaluates image run t columns (record {
     rule = cfa_after steps;
     has_cfa = fits.cfa;
@@ -291,7 +291,7 @@ module _ (evaluates : Evaluates) (image : List Span) (steps : List Step) (s t : 
   })
 
 -- the row of an outermost frame
-pub outermost_undone : (evaluates : Evaluates) (image : List Span) (run : Run) (s t : State) (columns : Columns) → IsOutermostRow run → IsEntered image true [] t s → IsState t → Shows columns s → t.ra ≡ 0 →
+pub outermost_undone : (evaluates : Evaluates) (image : List Span) (run : RowInstructions) (s t : State) (columns : Columns) → IsOutermostRow run → IsEntered image true [] t s → IsState t → Shows columns s → t.ra ≡ 0 →
     Undoes evaluates image run t columns
 outermost_undone evaluates image run s t columns fits entered words shows ends =
     let h : 8 ≤ t.sp = entered.room in

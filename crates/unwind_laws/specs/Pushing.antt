@@ -5,7 +5,7 @@ use Rattle.unwind_definitions.specs.Input.{Input}
 use Rattle.unwind_definitions.specs.Pointers.{Bases}
 use Rattle.unwind_definitions.specs.Instructions.{Instruction, Nop, Advance, Write, Cfa, CfaOffset, Offset}
 use Rattle.unwind_definitions.specs.Entries.{Cie, Fde, Entry, ACie, AFde}
-use Rattle.unwind_definitions.specs.Row.{Run}
+use Rattle.unwind_definitions.specs.Row.{RowInstructions}
 use Rattle.unwind_definitions.specs.State.{State, RBX}
 use Rattle.unwind_definitions.specs.Prologue.{Followed, Push}
 use Rattle.unwind_definitions.specs.Function.{Function}
@@ -56,10 +56,10 @@ entries = ACie cie ∷ AFde fde ∷ []
 abbrev pub common : List Instruction
 common = Cfa 7 8 ∷ Write 16 (Offset (2 ^ 64 - 8)) ∷ Nop ∷ Nop ∷ []
 
-abbrev pub start_run : Run
+abbrev pub start_run : RowInstructions
 start_run = record { common = common; own = [] }
 
-abbrev pub body_run : Run
+abbrev pub body_run : RowInstructions
 body_run = record { common = common; own = Advance 1 ∷ CfaOffset 16 ∷ Write 3 (Offset (2 ^ 64 - 16)) ∷ Nop ∷ Nop ∷ [] }
 
 abbrev pub function : Function

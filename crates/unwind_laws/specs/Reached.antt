@@ -5,7 +5,7 @@ use Rattle.unwind_definitions.specs.declared.error.Error.TheVariants.{NoCfaRegis
 use Rattle.unwind_definitions.specs.Faults.{◌>>=◌}
 use Rattle.unwind_definitions.specs.Input.{Input}
 use Rattle.unwind_definitions.specs.Instructions.{Instruction, Advance, SetLocation, Coding, instruction, program}
-use Rattle.unwind_definitions.specs.Row.{Run, fault_of, location, from_common, or_else, cfa_rule, row}
+use Rattle.unwind_definitions.specs.Row.{RowInstructions, fault_of, location, from_common, or_else, cfa_rule, row}
 
 -- whether an instruction at a location leads past an address
 abbrev pub passes : ℕ → ℕ → Instruction → Bool
@@ -19,28 +19,28 @@ passes_limit at None i = false
 passes_limit at (Some pc) i = passes at pc i
 
 -- the instructions so far, with one more
-abbrev pub push : Run → Instruction → Run
+abbrev pub push : RowInstructions → Instruction → RowInstructions
 push run i = record run { own = run.own ++ i ∷ [] }
 
 -- one instruction, and what follows it
-abbrev pub act : ℕ → Option ℕ → Run → Instruction → Result Run Fault → Result Run Fault
+abbrev pub act : ℕ → Option ℕ → RowInstructions → Instruction → Result RowInstructions Fault → Result RowInstructions Fault
 act start limit run i later = if passes_limit (location start run.own) limit i then Ok run else or_else (fault_of start run i) later
 
 -- at most so many instructions of what is left of a program that began at a location, after those that ran
-unfoldable pub reached : ℕ → Coding → ℕ → Option ℕ → Run → Input → Result Run Fault
+unfoldable pub reached : ℕ → Coding → ℕ → Option ℕ → RowInstructions → Input → Result RowInstructions Fault
 reached zero coding start limit run c = Ok run
 reached (suc turns) coding start limit run c = if length c.bytes == 0 then Ok run else (instruction coding c >>= λ r. act start limit run r.0 (reached turns coding start limit (push run r.0) r.1))
 
 -- the whole of a common program
-abbrev pub common_reached : Coding → Input → Result Run Fault
+abbrev pub common_reached : Coding → Input → Result RowInstructions Fault
 common_reached coding c = reached (length c.bytes) coding 0 None (from_common []) c
 
 -- a description's program after it, up to an address
-abbrev pub own_reached : Coding → ℕ → ℕ → Run → Input → Result Run Fault
+abbrev pub own_reached : Coding → ℕ → ℕ → RowInstructions → Input → Result RowInstructions Fault
 own_reached coding start pc common c = reached (length c.bytes) coding start (Some pc) (from_common common.own) c
 
 -- the row of what was reached
-abbrev pub row_reached : Run → Result Run Fault
+abbrev pub row_reached : RowInstructions → Result RowInstructions Fault
 row_reached run = if is_some (cfa_rule run) then Ok run else Err NoCfaRegister
 
 -- Reading gives the row of the two whole programs.

@@ -6,7 +6,7 @@ use Rattle.unwind_definitions.specs.Input.{Input}
 use Rattle.unwind_definitions.specs.Pointers.{Bases}
 use Rattle.unwind_definitions.specs.Instructions.{Instruction, Nop, Remember, Restore, Advance, Write, Cfa, CfaOffset, Offset, Undefined}
 use Rattle.unwind_definitions.specs.Entries.{Cie, Fde, Entry, ACie, AFde}
-use Rattle.unwind_definitions.specs.Row.{Run}
+use Rattle.unwind_definitions.specs.Row.{RowInstructions}
 use Rattle.unwind_definitions.specs.State.{State, RBX, R14}
 use Rattle.unwind_definitions.specs.Prologue.{Followed, Push, Allocate, PrologueStep}
 use Rattle.unwind_definitions.specs.Function.{Function}
@@ -77,7 +77,7 @@ entries = ACie cie ∷ AFde callee_fde ∷ AFde outermost_fde ∷ AFde foreign_f
 abbrev pub common : List Instruction
 common = Cfa 7 8 ∷ Write 16 (Offset (2 ^ 64 - 8)) ∷ Nop ∷ Nop ∷ []
 
-abbrev pub run_of : List Instruction → Run
+abbrev pub run_of : List Instruction → RowInstructions
 run_of own = record { common = common; own = own }
 
 -- the program up to each address where it has another row

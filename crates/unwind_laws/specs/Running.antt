@@ -2,7 +2,7 @@
 -- may be remembered. DWARF 5 section 6.4.2.
 use Rattle.std.specs.Prelude.{◌≡◌, ℕ, List, [], ◌∷◌, Option, Some, None, ◌==◌, if◌then◌else◌}
 use Rattle.unwind_definitions.specs.Instructions.{Rule, Instruction, Remember, Restore, Write, Reset, Cfa, CfaColumn, CfaOffset, CfaExpression, Arguments}
-use Rattle.unwind_definitions.specs.Row.{Run, CfaRule, ColumnAndOffset, ByExpression, rule_of, cfa_rule, argument_size, first_fault, from_common}
+use Rattle.unwind_definitions.specs.Row.{RowInstructions, CfaRule, ColumnAndOffset, ByExpression, rule_of, cfa_rule, argument_size, first_fault, from_common}
 
 -- a row of the table that a program makes
 pub record Running : Type 0 where
@@ -71,7 +71,7 @@ abbrev pub after_both : List Instruction → List Instruction → Running
 after_both common own = (run_all (after_common common).rules own (fresh (after_common common))).now
 
 -- a row says what the definition without a changing state says
-pub record SaysRow (r : Running) (run : Run) : Type 0 where
+pub record SaysRow (r : Running) (run : RowInstructions) : Type 0 where
   pub rules : (c : ℕ) → r.rules c ≡ rule_of run c
   pub cfa : r.cfa ≡ cfa_rule run
   pub size : r.arguments ≡ argument_size run

@@ -6,7 +6,7 @@ use Rattle.unwind_definitions.specs.Input.{Input}
 use Rattle.unwind_definitions.specs.Pointers.{Bases}
 use Rattle.unwind_definitions.specs.Instructions.{Instruction, Nop, Advance, Write, Cfa, CfaColumn, CfaOffset, Offset}
 use Rattle.unwind_definitions.specs.Entries.{Cie, Fde, Entry, ACie, AFde}
-use Rattle.unwind_definitions.specs.Row.{Run}
+use Rattle.unwind_definitions.specs.Row.{RowInstructions}
 use Rattle.unwind_definitions.specs.State.{State, RBX, RBP, R12}
 use Rattle.unwind_definitions.specs.Prologue.{Followed, Push, Allocate, SetFrame, Store}
 use Rattle.unwind_definitions.specs.Function.{Function}
@@ -71,7 +71,7 @@ entries = ACie cie ∷ AFde storing_fde ∷ AFde framed_fde ∷ []
 abbrev pub common : List Instruction
 common = Cfa 7 8 ∷ Write 16 (Offset (2 ^ 64 - 8)) ∷ Nop ∷ Nop ∷ []
 
-abbrev pub run_of : List Instruction → Run
+abbrev pub run_of : List Instruction → RowInstructions
 run_of own = record { common = common; own = own }
 
 -- the first program up to each address where it has another row

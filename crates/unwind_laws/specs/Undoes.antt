@@ -2,12 +2,12 @@
 use Rattle.std.specs.Prelude.{◌≡◌, ℕ, ◌+◌, ◌<◌, ◌≤◌, List, [], ◌∷◌, Option, Some, None, Result, Ok, Err, ◌==◌, if◌then◌else◌}
 use Rattle.memory_image.specs.Image.{Span}
 use Rattle.unwind_definitions.specs.Instructions.{Rule}
-use Rattle.unwind_definitions.specs.Row.{Run, rule_of}
-use Rattle.unwind_definitions.specs.Caller.{Columns, x86_64, StepFault, Evaluates, rule_value, placed, caller_of, column_limit}
+use Rattle.unwind_definitions.specs.Row.{RowInstructions, rule_of}
+use Rattle.unwind_definitions.specs.Caller.{Columns, x86_64, StepFault, Evaluates, rule_value, value_for_column, caller_of, column_limit}
 use Rattle.unwind_definitions.specs.State.{State, Shows, KeepsOthers}
 
 -- By a row there is a caller, whatever expressions give. It shows a state, and keeps the columns that no state has.
-pub record Undoes (evaluates : Evaluates) (image : List Span) (run : Run) (t : State) (columns : Columns) : Type 0 where
+pub record Undoes (evaluates : Evaluates) (image : List Span) (run : RowInstructions) (t : State) (columns : Columns) : Type 0 where
   pub caller : Columns
   pub is_caller : caller_of x86_64 evaluates image columns run ≡ Ok caller
   pub shows : Shows caller t
@@ -26,7 +26,7 @@ ColumnsAscend low [] = Unit {0}
 ColumnsAscend low (r ∷ rules) = (low ≤ r.0) × (r.0 < column_limit) × ColumnsAscend (r.0 + 1) rules
 
 -- the list has the rules of a row, the lowest column first
-pub record AreRules (run : Run) (rules : List (ℕ × Rule)) : Type 0 where
+pub record AreRules (run : RowInstructions) (rules : List (ℕ × Rule)) : Type 0 where
   pub ascend : ColumnsAscend 0 rules
   pub each : (c : ℕ) → rule_in rules c ≡ rule_of run c
 
@@ -41,4 +41,4 @@ then_columns (Err e) next = Err e
 -- one rule after another, up to the first fault: each gives its column a value from the old columns
 abbrev pub ruled : Evaluates → List Span → Columns → ℕ → List (ℕ × Rule) → Columns → Result Columns StepFault
 ruled evaluates image old cfa [] new = Ok new
-ruled evaluates image old cfa (r ∷ rules) new = then_columns (placed (old r.0) (rule_value evaluates image old cfa r.0 r.1)) (λ v. ruled evaluates image old cfa rules (with_column new r.0 v))
+ruled evaluates image old cfa (r ∷ rules) new = then_columns (value_for_column (old r.0) (rule_value evaluates image old cfa r.0 r.1)) (λ v. ruled evaluates image old cfa rules (with_column new r.0 v))

@@ -2,7 +2,7 @@
 use Rattle.std.specs.Prelude.{◌≡◌, ◌≢◌, ℕ, ◌-◌, ◌<◌, false, List, [], ◌∷◌, Some, Ok, IsTrue}
 use Rattle.std.specs.List.{Contains}
 use Rattle.unwind_definitions.specs.Entries.{Fde}
-use Rattle.unwind_definitions.specs.Row.{Run, row_at, argument_size}
+use Rattle.unwind_definitions.specs.Row.{RowInstructions, row_at, argument_size}
 use Rattle.unwind_definitions.specs.Scan.{scan}
 use Rattle.unwind_definitions.specs.Caller.{Columns, Evaluates}
 use Rattle.unwind_definitions.specs.State.{State, IsState, Shows}
@@ -35,7 +35,7 @@ module _ (p : Process) where
     pub no_signal : fde.cie.letters.signal ≡ false
     pub read : FdeRead (bases_of home frame) fde
     pub describes : DescribesFunction p.image (bases_of home frame) f fde
-    pub run : Run
+    pub run : RowInstructions
     pub has_row : row_at (bases_of home frame) fde a ≡ Ok run
     pub no_arguments : argument_size run ≡ 0
 

@@ -6,7 +6,7 @@ ghost use Rattle.unwind_definitions.specs.Input.{Input};
 ghost use Rattle.unwind_definitions.specs.Pointers.{Bases};
 ghost use Rattle.unwind_definitions.specs.Instructions.{Coding, Rule, Instruction};
 ghost use Rattle.unwind_definitions.specs.Entries.{Fde};
-ghost use Rattle.unwind_definitions.specs.Row.{Run};
+ghost use Rattle.unwind_definitions.specs.Row.{RowInstructions};
 ghost use Rattle.unwind_definitions.specs.Caller.{Columns, Evaluates, Machine, caller_with, unruled};
 ghost use Rattle.unwind_definitions.specs.State.{CalleeSaved, RBP, State, value_of, IsState, Shows};
 ghost use Rattle.unwind_definitions.specs.Prologue.{SystemV, Step, PrologueStep, frame_depth, EachMayFollow};
@@ -28,7 +28,8 @@ pub fn reading_gives_row()
 /// The row of a frame whose prologue has run gives its caller: the caller's state, and every
 /// other column as it was.
 pub fn body_row_undoes()
-    ensures { (evaluates : Evaluates) (image : List Span) (steps : List Step) (run : Run)
+    ensures { (evaluates : Evaluates) (image : List Span) (steps : List Step)
+        (run : RowInstructions)
         (s t : State) (columns : Columns) →
         IsBodyRow steps run → EachMayFollow SystemV [] steps → IsEntered image false steps t s →
         IsState t → Shows columns s → Undoes evaluates image run t columns }
@@ -37,7 +38,8 @@ pub fn body_row_undoes()
 /// The same inside a prologue, where save records may come late, as long as every register but a
 /// set RBP holds what the caller had.
 pub fn prologue_row_undoes()
-    ensures { (evaluates : Evaluates) (image : List Span) (steps : List Step) (run : Run)
+    ensures { (evaluates : Evaluates) (image : List Span) (steps : List Step)
+        (run : RowInstructions)
         (s t : State) (columns : Columns) →
         IsPrologueRow steps run → EachMayFollow SystemV [] steps → IsEntered image false steps t s →
         IsState t → Shows columns s →
@@ -47,7 +49,7 @@ pub fn prologue_row_undoes()
 
 /// The row of an outermost frame gives a state with the return address 0.
 pub fn outermost_row_undoes()
-    ensures { (evaluates : Evaluates) (image : List Span) (run : Run) (s t : State)
+    ensures { (evaluates : Evaluates) (image : List Span) (run : RowInstructions) (s t : State)
         (columns : Columns) →
         IsOutermostRow run → IsEntered image true [] t s → IsState t → Shows columns s → t.ra ≡ 0 →
         Undoes evaluates image run t columns }
@@ -66,7 +68,7 @@ pub fn interrupted_row_undoes()
 /// first fault, to the columns that have none.
 pub fn caller_is_by_rules()
     ensures { (machine : Machine) (evaluates : Evaluates) (image : List Span) (columns : Columns)
-        (cfa : ℕ) (run : Run) (rules : List (ℕ × Rule)) → AreRules run rules →
+        (cfa : ℕ) (run : RowInstructions) (rules : List (ℕ × Rule)) → AreRules run rules →
         caller_with machine evaluates image columns run (Ok cfa) ≡ ruled evaluates image columns cfa
         rules (unruled machine columns cfa) }
 {}

@@ -1,6 +1,6 @@
 -- What the code of a pass answers, in the words of the definitions.
 use Rattle.std.specs.Prelude.{◌≡◌, ◌==◌, if◌then◌else◌, ℕ, List, Option, Some, None, Result, Ok, Err}
-use Rattle.unwind_definitions.specs.Row.{Run}
+use Rattle.unwind_definitions.specs.Row.{RowInstructions}
 use Rattle.unwind_definitions.specs.Caller.{Columns, StepFault}
 use Rattle.frame_rows.specs.Rows.{IsRowOf}
 use Rattle.unwinding_frames.specs.declared.abi.UnwindReasonCode.{UnwindReasonCode}
@@ -23,7 +23,7 @@ use Rattle.unwinding_frames.specs.Seen.{FrameSeen, Thrown}
 -- a frame, or the stack's end, as it is seen
 abbrev pub IsSeen : Result (Option FrameValue) StepError → Result (Option FrameSeen) StepFault → Type 0
 IsSeen (Ok None) seen = seen ≡ Ok None
-IsSeen (Ok (Some frame)) seen = (run : Run) × (seen ≡ Ok (Some (record { value = frame; run = run }))) × IsRowOf frame.row run
+IsSeen (Ok (Some frame)) seen = (run : RowInstructions) × (seen ≡ Ok (Some (record { value = frame; run = run }))) × IsRowOf frame.row run
 IsSeen (Err e) seen = seen ≡ Err (fault_of e)
 
 -- an answer and the registers that are left

@@ -7,8 +7,8 @@ use Rattle.std.proofs.lemmas.Bool.Decides.{nat_tests, eqb_tells}
 use Rattle.memory_image.specs.Image.{Span}
 use Rattle.unwind_definitions.specs.declared.error.Error.TheVariants.{UnsupportedRegister}
 use Rattle.unwind_definitions.specs.Instructions.{Rule}
-use Rattle.unwind_definitions.specs.Row.{Run, CfaRule, rule_of, cfa_rule}
-use Rattle.unwind_definitions.specs.Caller.{Columns, Machine, Evaluates, StepFault, Table, rule_value, placed, unruled, column_value, first_fault_below, fault_in, value_in, column_limit, cfa_value, caller_with, caller_of}
+use Rattle.unwind_definitions.specs.Row.{RowInstructions, CfaRule, rule_of, cfa_rule}
+use Rattle.unwind_definitions.specs.Caller.{Columns, Machine, Evaluates, StepFault, Table, rule_value, value_for_column, unruled, column_value, first_fault_below, fault_in, value_in, column_limit, cfa_value, caller_with, caller_of}
 use Rattle.frame_rows.specs.Rules.{rule_in, AscendsFrom}
 use Rattle.unwinding_frames.specs.Calling.{and_then, applied, written_to}
 
@@ -59,7 +59,7 @@ some_column : (o : Option ℕ) → is_some o ≡ true → (v : ℕ) × (o ≡ So
 some_column (Some v) e = (v, refl)
 some_column None e = absurd cc
 
-module _ (machine : Machine) (evaluates : Evaluates) (image : List Span) (old : Columns) (cfa : ℕ) (run : Run) where
+module _ (machine : Machine) (evaluates : Evaluates) (image : List Span) (old : Columns) (cfa : ℕ) (run : RowInstructions) where
   abbrev value : ℕ → Result (Option ℕ) StepFault
   value k = column_value machine evaluates image old cfa run k
 
@@ -81,7 +81,7 @@ module _ (machine : Machine) (evaluates : Evaluates) (image : List Span) (old : 
       rw (none, kept) refl
 
   -- what the first rule left gives its column
-  first_value : (low : ℕ) (p : ℕ × Rule) (ps : List (ℕ × Rule)) (now : Columns) → Stands low (p ∷ ps) now → value p.0 ≡ placed (old p.0) (rule_value evaluates image old cfa p.0 p.1)
+  first_value : (low : ℕ) (p : ℕ × Rule) (ps : List (ℕ × Rule)) (now : Columns) → Stands low (p ∷ ps) now → value p.0 ≡ value_for_column (old p.0) (rule_value evaluates image old cfa p.0 p.1)
   first_value low p ps now stands =
       let here : eqb p.0 p.0 ≡ true = grind (arith, nat_tests) in
       let first : rule_in (p ∷ ps) p.0 ≡ Some p.1 = rw here refl in
@@ -156,7 +156,7 @@ begun-same machine old cfa k sp ra = elim (eqb_tells k machine.stack_pointer) as
 ]
 
 -- a row's rules stand before the first is applied
-pub begun-stands : (machine : Machine) (evaluates : Evaluates) (image : List Span) (old : Columns) (cfa : ℕ) (run : Run) (rules : List (ℕ × Rule)) → is_some (old machine.stack_pointer) ≡ true → is_some (old machine.return_address) ≡ true →
+pub begun-stands : (machine : Machine) (evaluates : Evaluates) (image : List Span) (old : Columns) (cfa : ℕ) (run : RowInstructions) (rules : List (ℕ × Rule)) → is_some (old machine.stack_pointer) ≡ true → is_some (old machine.return_address) ≡ true →
     AscendsFrom 0 rules → ((k : ℕ) → rule_in rules k ≡ rule_of run k) → Stands machine evaluates image old cfa run 0 rules (unruled machine old cfa)
 begun-stands machine evaluates image old cfa run rules sp ra up each = record {
   same = λ k. begun-same machine old cfa k sp ra;
@@ -166,7 +166,7 @@ begun-stands machine evaluates image old cfa run rules sp ra up each = record {
 }
 
 -- A row's rules, applied to the columns with its CFA, give the caller by the row.
-pub row_caller : (machine : Machine) (evaluates : Evaluates) (image : List Span) (old : Columns) (cfa : ℕ) (run : Run) (rule : CfaRule) (rules : List (ℕ × Rule)) → is_some (old machine.stack_pointer) ≡ true → is_some (old machine.return_address) ≡ true →
+pub row_caller : (machine : Machine) (evaluates : Evaluates) (image : List Span) (old : Columns) (cfa : ℕ) (run : RowInstructions) (rule : CfaRule) (rules : List (ℕ × Rule)) → is_some (old machine.stack_pointer) ≡ true → is_some (old machine.return_address) ≡ true →
     cfa_rule run ≡ Some rule → cfa_value evaluates old rule ≡ Ok cfa → AscendsFrom 0 rules → ((k : ℕ) → rule_in rules k ≡ rule_of run k) →
     applied evaluates image old cfa rules (unruled machine old cfa) ≡ caller_of machine evaluates image old run
 row_caller machine evaluates image old cfa run rule rules sp ra ruled gives up each =

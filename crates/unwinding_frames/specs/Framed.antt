@@ -1,7 +1,7 @@
 -- A frame: a description that was found for an address, and its row there.
 use Rattle.std.specs.Prelude.{◌≡◌, ℕ, Option, Some, None, Result, Ok, Err}
 use Rattle.unwind_definitions.specs.declared.error.Error.{Error as Fault}
-use Rattle.unwind_definitions.specs.Row.{Run, row_at}
+use Rattle.unwind_definitions.specs.Row.{RowInstructions, row_at}
 use Rattle.frame_rows.specs.Rows.{IsRowOf}
 use Rattle.unwinding_frames.specs.declared.frame.StepError.{StepError}
 use Rattle.unwinding_frames.specs.declared.frame.StepError.TheVariants.{Table}
@@ -10,7 +10,7 @@ use Rattle.unwinding_frames.specs.FrameValue.{FrameValue}
 
 -- a frame of the description with its row at an address, or the row's fault
 abbrev pub GivesRowOf : Result FrameValue Fault → FoundFde → ℕ → Type 0
-GivesRowOf (Ok frame) found a = (frame.found ≡ found) × ((run : Run) × (row_at found.bases found.fde a ≡ Ok run) × IsRowOf frame.row run)
+GivesRowOf (Ok frame) found a = (frame.found ≡ found) × ((run : RowInstructions) × (row_at found.bases found.fde a ≡ Ok run) × IsRowOf frame.row run)
 GivesRowOf (Err fault) found a = row_at found.bases found.fde a ≡ Err fault
 
 -- no frame where nothing is found, else that of the description that is found

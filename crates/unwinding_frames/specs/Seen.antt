@@ -3,7 +3,7 @@ use Rattle.std.specs.Prelude.{◌≡◌, ℕ, ◌+◌, ◌%◌, ◌^◌, ◌==�
 use Rattle.std.specs.Option.{unwrap_or}
 use Rattle.memory_image.specs.Image.{Span}
 use Rattle.unwind_definitions.specs.declared.error.Error.{Error as Fault}
-use Rattle.unwind_definitions.specs.Row.{Run, row_at, argument_size}
+use Rattle.unwind_definitions.specs.Row.{RowInstructions, row_at, argument_size}
 use Rattle.unwind_definitions.specs.Caller.{Columns, Machine, StepFault, Table, caller_of}
 use Rattle.unwind_definitions.specs.LanguageSearch.{personality_address}
 use Rattle.frame_rows.specs.Rows.{IsRowOf}
@@ -18,7 +18,7 @@ use Rattle.unwinding_frames.specs.Passes.{Marked, Undoing, Stepping, Answering}
 -- a frame, and its row as the definitions say it
 pub record FrameSeen : Type 0 where
   pub value : FrameValue
-  pub run : Run
+  pub run : RowInstructions
 
 -- what a finder's answer shows: no frame without a description, else that of the description with its row at the address, or the
 -- row's fault

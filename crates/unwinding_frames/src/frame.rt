@@ -3,9 +3,9 @@
 
 ghost use Rattle.std.specs.Prelude.{◌≡◌, ◌≢◌, ◌+◌, ◌%◌, ◌^◌, ℕ, Option, Some, None, Ok, IfOk, map, IfSome, IsTrue};
 ghost use Rattle.std.specs.Option.{unwrap_or};
-ghost use Rattle.unwind_definitions.specs.Row.{Run, covers_pc};
+ghost use Rattle.unwind_definitions.specs.Row.{RowInstructions, covers_pc};
 ghost use Rattle.unwind_definitions.specs.LanguageSearch.{address_of_call, language_address, personality_address, target};
-ghost use Rattle.unwind_definitions.specs.Caller.{caller_of, rule_value, cfa_value, word_or_fault, held, unruled};
+ghost use Rattle.unwind_definitions.specs.Caller.{caller_of, rule_value, cfa_value, word_or_fault, column_or_fault, unruled};
 ghost use Rattle.frame_rows.specs.Rules.{rule_meaning, cfa_meaning, entry_of};
 ghost use Rattle.frame_rows.specs.Left.{left};
 ghost use Rattle.frame_rows.specs.Rows.{IsRowOf};
@@ -166,7 +166,7 @@ impl<'a, M: Machine> Frame<'a, M> {
         image: &MemoryImage<'a>,
         context: &M::Context,
     ) -> Result<M::Context, StepError>
-        ensures caller { (run : Run) → IsRowOf self.now.row run →
+        ensures caller { (run : RowInstructions) → IsRowOf self.now.row run →
             columns_given M.Context.columns result ≡ caller_of (machine_of M.SP.0 M.RA.0)
             (evaluation image.now) image.now (M.Context.columns context.now) run }
     {
@@ -314,7 +314,7 @@ pub fn step_by_row<M: Machine>(
     context: &mut M::Context,
     row: &RowRef<'_, '_>,
 ) -> Result<(), StepError>
-    ensures caller { (run : Run) → IsRowOf row.now run →
+    ensures caller { (run : RowInstructions) → IsRowOf row.now run →
         columns_given M.Context.columns (written_in result context.new) ≡ caller_of
         (machine_of M.SP.0 M.RA.0)
         (evaluation image.now) image.now (M.Context.columns context.old) run }
@@ -347,7 +347,7 @@ pub(crate) fn target(image: &MemoryImage<'_>, pointer: Pointer) -> Result<u64, S
 
 /// What a column holds, which the machine has to have.
 fn value_of<M: Machine>(context: &M::Context, register: Register) -> Result<u64, StepError>
-    ensures { value_given result ≡ held (M.Context.columns context.now register.0) }
+    ensures { value_given result ≡ column_or_fault (M.Context.columns context.now register.0) }
 {
     match context.get(register) {
         Some(value) => Ok(value),

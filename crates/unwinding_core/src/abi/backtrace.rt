@@ -4,7 +4,7 @@
 ghost use Rattle.std.specs.Prelude.{◌≡◌, ℕ, Bool, List, Option, Some, None, Ok, Result};
 ghost use Rattle.std.specs.Option.{option_map};
 ghost use Rattle.memory_image.specs.Image.{Span};
-ghost use Rattle.unwind_definitions.specs.Row.{Run};
+ghost use Rattle.unwind_definitions.specs.Row.{RowInstructions};
 ghost use Rattle.unwind_definitions.specs.Caller.{Columns, StepFault};
 ghost use Rattle.frame_rows.specs.Rows.{IsRowOf};
 ghost use Rattle.unwinding_frames.specs.FrameValue.{FrameValue};
@@ -77,7 +77,7 @@ fn goes_on<'a, M: Machine, T: Trace<M>>(
     context: &M::Context,
     signal: bool,
 ) -> UnwindReasonCode
-    ensures { (run : Run) → (
+    ensures { (run : RowInstructions) → (
       record { words = T.words trace.new; hidden = hidden.new },
       Ok (result, M.Context.columns context.now),
     ) ≡
@@ -106,7 +106,7 @@ fn meet_frame<'a, M: Machine, T: Trace<M>>(
     context: &M::Context,
     signal: bool,
 ) -> Result<Turn<M::Context>, StepError>
-    ensures { (run : Run) → IsRowOf frame.now.row run →
+    ensures { (run : RowInstructions) → IsRowOf frame.now.row run →
         turn_shown M.Context.columns
         (record { context = M.Context.columns context.now; signal = signal })
         (record { words = T.words trace.new; hidden = hidden.new }) result ≡

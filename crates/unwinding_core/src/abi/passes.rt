@@ -4,7 +4,7 @@
 
 ghost use Rattle.std.specs.Prelude.{◌≡◌, ◌%◌, ◌+◌, ◌^◌, pos, ℕ, List, Option, Result};
 ghost use Rattle.std.specs.Option.{option_map};
-ghost use Rattle.unwind_definitions.specs.Row.{Run, argument_size};
+ghost use Rattle.unwind_definitions.specs.Row.{RowInstructions, argument_size};
 ghost use Rattle.unwind_definitions.specs.Caller.{Columns, StepFault};
 ghost use Rattle.frame_rows.specs.Rows.{IsRowOf};
 ghost use Rattle.unwinding_frames.specs.Calling.{machine_of};
@@ -140,7 +140,7 @@ fn personality_answer<'a, M: Machine, P: Personality<M>>(
     context: &M::Context,
     signal: bool,
 ) -> Result<Answer<M::Context>, StepError>
-    ensures { (run : Run) → given (answer_shown M.Context.columns) result ≡
+    ensures { (run : RowInstructions) → given (answer_shown M.Context.columns) result ≡
         asked (answering (P.answers personality.now) image.now (thrown call)) actions (record { value = frame.now; run = run }) (record { context = M.Context.columns context.now; signal = signal }) }
 {
     let mut left = *context;
@@ -194,7 +194,8 @@ fn forced_answer<'a, M: Machine, P: Personality<M>, T: Stop<M>>(
     context: &M::Context,
     signal: bool,
 ) -> Result<Answer<M::Context>, StepError>
-    ensures { (run : Run) → (T.words stop.new, given (answer_shown M.Context.columns) result) ≡
+    ensures { (run : RowInstructions) →
+        (T.words stop.new, given (answer_shown M.Context.columns) result) ≡
         by_force (answering (P.answers personality.now) image.now (thrown call)) (stopping T.stops image.now (thrown call)) (T.words stop.old) (record { value = frame.now; run = run }) (record { context = M.Context.columns context.now; signal = signal }) }
 {
     let actions = Phase::Forced.actions(0);
@@ -227,7 +228,8 @@ fn frame_answer<'a, M: Machine, P: Personality<M>, T: Stop<M>>(
     context: &M::Context,
     signal: bool,
 ) -> Result<Answer<M::Context>, StepError>
-    ensures { (run : Run) → (T.words stop.new, given (answer_shown M.Context.columns) result) ≡
+    ensures { (run : RowInstructions) →
+        (T.words stop.new, given (answer_shown M.Context.columns) result) ≡
         asks_in call.phase (in_column M.SP.0) (answering (P.answers personality.now) image.now (thrown call)) (stopping T.stops image.now (thrown call)) (T.words stop.old) (record { value = frame.now; run = run }) (record { context = M.Context.columns context.now; signal = signal }) }
 {
     if let Phase::Forced = call.phase {
@@ -247,7 +249,7 @@ fn meet_frame<'a, M: Machine, P: Personality<M>, T: Stop<M>>(
     context: &M::Context,
     signal: bool,
 ) -> Result<Turn<M::Context>, StepError>
-    ensures { (run : Run) → IsRowOf frame.now.row run →
+    ensures { (run : RowInstructions) → IsRowOf frame.now.row run →
         turn_shown M.Context.columns
         (record { context = M.Context.columns context.now; signal = signal })
         (T.words stop.new) result ≡

@@ -2,7 +2,7 @@ use Rattle.std.proofs.Common.{◌≡◌, ℕ, ◌-◌, ◌+◌, suc, true, false
 use Rattle.std.proofs.lemmas.Result.{err_from_is_err_and}
 use Rattle.unwind_definitions.specs.Input.{Input}
 use Rattle.unwind_definitions.specs.Instructions.{Coding, program, program_from}
-use Rattle.unwind_definitions.specs.Row.{Run, location}
+use Rattle.unwind_definitions.specs.Row.{RowInstructions, location}
 use Rattle.std.specs.Prelude.{Option}
 use Rattle.encoded_pointers.specs.View.{at}
 use Rattle.frame_rows.specs.Decoded.{coding_in, meaning}
@@ -11,7 +11,7 @@ use Rattle.frame_rows.proofs.Reading.{at_end, at_empty, at_fault, at_stop, at_ba
 use Rattle.frame_rows.proofs.program.run_program.Goals as goal
 
 -- what the whole program gives, by what is left
-from_left : (start : ℕ) (pc : Option ℕ) (run now : Run) (coding : Coding) (bytes input : Input) (n k : ℕ) → n ≡ length bytes.bytes →
+from_left : (start : ℕ) (pc : Option ℕ) (run now : RowInstructions) (coding : Coding) (bytes input : Input) (n k : ℕ) → n ≡ length bytes.bytes →
     outcome start pc now (program_from k coding input) ≡ outcome start pc run (program_from n coding bytes) →
     outcome start pc run (program coding bytes) ≡ outcome start pc now (program_from k coding input)
 from_left start pc run now coding bytes input n k len same = ap (λ n. outcome start pc run (program_from n coding bytes)) (sym len) ∙ sym same

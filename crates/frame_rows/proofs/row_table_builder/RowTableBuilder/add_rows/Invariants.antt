@@ -1,6 +1,6 @@
 use Rattle.std.proofs.Common.{◌≡◌, [], None, Ok}
 use Rattle.unwind_definitions.specs.Instructions.{program, Program}
-use Rattle.unwind_definitions.specs.Row.{Run, from_common}
+use Rattle.unwind_definitions.specs.Row.{RowInstructions, from_common}
 use Rattle.encoded_pointers.specs.View.{at}
 use Rattle.frame_rows.specs.Decoded.{coding_in}
 use Rattle.frame_rows.specs.Running.{Represents, outcome}
@@ -10,9 +10,9 @@ use Rattle.frame_rows.proofs.row_table_builder.RowTableBuilder.add_rows.Given as
 
 -- rows are kept up to a location, from which on the machine runs
 abbrev pub invariant-loop-next : goal.invariant-loop-next
-invariant-loop-next l = (l.self.limits ≡ l.fn.self.limits) × ((common : Program) (run : Run) →
+invariant-loop-next l = (l.self.limits ≡ l.fn.self.limits) × ((common : Program) (run : RowInstructions) →
     outcome 0 None (from_common []) common ≡ Ok run → Represents l.start l.fn.self.machine (from_common common.instructions) →
-    (now : Run) × Represents l.start l.self.machine now ×
+    (now : RowInstructions) × Represents l.start l.self.machine now ×
     IsAdding l.start l.end common (program (coding_in l.coding) (at l.own)) l.fn.self.table l.location now (left_of (coding_in l.coding) l.instructions) l.self.table)
 
 abbrev pub decreases-loop-next : goal.decreases-loop-next
