@@ -96,7 +96,7 @@ module _ (space : SpaceValue) (c : Context) (interrupted : Bool) where
 
 -- ---- a slot that isn't mapped
 
-held_mapped : (o : Option ℕ) (a : ℕ) → calls.held o ≡ Err (calls.Unmapped a) → ⊥
+held_mapped : (o : Option ℕ) (a : ℕ) → calls.column_or_fault o ≡ Err (calls.Unmapped a) → ⊥
 held_mapped None a e = absurd cc
 held_mapped (Some v) a e = absurd cc
 
@@ -165,7 +165,7 @@ rule_word image columns cfa b (rules.Expression bytes) (inl reads) = reads_word 
 rule_word image columns cfa b (rules.Expression bytes) (inr gives) = gives.1
 rule_word image columns cfa b (rules.ValExpression bytes) reads = reads_word image columns bytes (cfa ∷ []) b reads
 
-unmapped_placed : (old : Option ℕ) (r : Result ℕ calls.StepFault) (b : ℕ) → calls.placed old r ≡ Err (calls.Unmapped b) → r ≡ Err (calls.Unmapped b)
+unmapped_placed : (old : Option ℕ) (r : Result ℕ calls.StepFault) (b : ℕ) → calls.value_for_column old r ≡ Err (calls.Unmapped b) → r ≡ Err (calls.Unmapped b)
 unmapped_placed old (Err x) b e = cc
 unmapped_placed None (Ok v) b e = absurd cc
 unmapped_placed (Some w) (Ok v) b e = absurd cc
@@ -215,14 +215,14 @@ module _ (image : List Span) (columns : calls.Columns) (run : RowInstructions) (
   unmapped_column : (cfa k : ℕ) → value cfa k ≡ Err (calls.Unmapped b) → Ruled cfa (rule_of run k)
   unmapped_column cfa k e = go (rule_of run k) e
     where
-      go : (o : Option rules.Rule) → option_map_or (λ rule. calls.placed (columns k) (calls.rule_value (evaluation image) image columns cfa k rule)) o (Ok (calls.unruled calls.x86_64 columns cfa k)) ≡ Err (calls.Unmapped b) → Ruled cfa o
+      go : (o : Option rules.Rule) → option_map_or (λ rule. calls.value_for_column (columns k) (calls.rule_value (evaluation image) image columns cfa k rule)) o (Ok (calls.unruled calls.x86_64 columns cfa k)) ≡ Err (calls.Unmapped b) → Ruled cfa o
       go None e = absurd cc
       go (Some rule) e = (rule, refl, unmapped_rule image columns cfa k b rule (unmapped_placed (columns k) (calls.rule_value (evaluation image) image columns cfa k rule) b e))
 
   unmapped_cfa : (rule : CfaRule) → calls.cfa_value (evaluation image) columns rule ≡ Err (calls.Unmapped b) → CfaReadsUnmapped image columns rule b
   unmapped_cfa (ColumnAndOffset k n) e = absurd (go (columns k) e)
     where
-      go : (o : Option ℕ) → calls.offset_from n (calls.held o) ≡ Err (calls.Unmapped b) → ⊥
+      go : (o : Option ℕ) → calls.offset_from n (calls.column_or_fault o) ≡ Err (calls.Unmapped b) → ⊥
       go None e = absurd cc
       go (Some v) e = absurd cc
   unmapped_cfa (ByExpression bytes) e = expression_reads image columns bytes [] b e
