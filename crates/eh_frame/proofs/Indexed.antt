@@ -13,7 +13,7 @@ use Rattle.unwind_definitions.specs.Entries.{Fde}
 use Rattle.unwind_definitions.specs.Row.{row, row_at, covers_pc}
 use Rattle.unwind_definitions.specs.Scan.{fdes_of, first_covering, scan}
 use Rattle.frame_rows.specs.KeptRows.{Kept, AreRows}
-use Rattle.eh_frame.specs.Index.{AscendApart, Described, Index, IsFoundAt, IsPreparedFrom, IsRowedBy, common_program, described_fde, described_in, end_of, own_program, range_of}
+use Rattle.eh_frame.specs.Index.{AscendApart, Described, HasRows, Index, IsFoundAt, IsPreparedFrom, IsRowedBy, common_program, described_fde, described_in, end_of, own_program, range_of}
 use Rattle.eh_frame.specs.Listed.{has_bytes, nonempty}
 use Rattle.eh_frame.specs.Views.{fde_of}
 use Rattle.eh_frame.specs.declared.prepared.AddressRange.{AddressRange}
@@ -186,3 +186,11 @@ rows_there bases rows [] f i all lt is = absurd (omega arith)
 rows_there bases rows (g ∷ fs) f zero all lt is =
     subst (λ (f : PreparedFunction). AreRows (λ pc. row (fde_of f.fde).start pc (common_program bases (fde_of f.fde)) (own_program bases (fde_of f.fde))) (end_of (fde_of f.fde)) (slice_range rows f.first_row f.end_row)) (sym is) all.0.rows
 rows_there bases rows (g ∷ fs) f (suc i) all lt is = rows_there bases rows fs f i all.1 (omega arith) is
+
+-- an index with a function has a row
+pub some_row : (rows : List Kept) (fs : List PreparedFunction) → 0 < length fs → AllByRecursion (HasRows rows) fs → 0 < length rows
+some_row rows [] some all = absurd (omega arith)
+some_row rows (f ∷ fs) some all =
+    let from = all.0.some in
+    let to = all.0.within in
+    omega arith

@@ -23,6 +23,7 @@ mod cie;
 mod entries;
 mod fde;
 mod header;
+mod header_lists;
 mod header_search;
 mod laws;
 mod listing;
@@ -39,7 +40,7 @@ pub use frame_rows::{
     CfaRule, Register, RegisterMap, RegisterRule, Registers, Row, RowRef, RowRoom,
 };
 pub use header::{EhFrameHdr, HdrTable};
-pub use laws::table_of_a_push_is_prepared;
+pub use laws::{index_answers_as_a_scan, table_of_a_push_is_prepared};
 pub use listing::Entries;
 pub use prepared::{Found, Prepared};
 pub use unwind_definitions::Error;
