@@ -16,6 +16,7 @@ use Rattle.frame_rows.specs.KeptRows.{Kept, AreRows}
 use Rattle.eh_frame.specs.Index.{AscendApart, Described, HasRows, Index, IsFoundAt, IsPreparedFrom, IsRowedBy, common_program, described_fde, described_in, end_of, own_program, range_of}
 use Rattle.eh_frame.specs.Listed.{has_bytes, nonempty}
 use Rattle.eh_frame.specs.Views.{fde_of}
+use Rattle.encoded_pointers.specs.Readers.{Answers}
 use Rattle.eh_frame.specs.declared.prepared.AddressRange.{AddressRange}
 use Rattle.eh_frame.specs.declared.prepared.PreparedFunction.{PreparedFunction}
 use Rattle.eh_frame.proofs.Ascending.{covered}
@@ -194,3 +195,14 @@ some_row rows (f ∷ fs) some all =
     let from = all.0.some in
     let to = all.0.within in
     omega arith
+
+-- the description at an index, in the list of descriptions
+pub fde_listed : (fs : List Described) (i : ℕ) (fde d : Fde) → i < length fs → ((e : Described) → (get_or fs i e).fde ≡ fde) → get_or (map described_fde fs) i d ≡ fde
+fde_listed [] i fde d lt is = absurd (omega arith)
+fde_listed (f ∷ fs) zero fde d lt is = is f
+fde_listed (f ∷ fs) (suc i) fde d lt is = fde_listed fs i fde d (omega arith) is
+
+-- a result that isn't its view's
+pub answer_same : (r : Result (ℕ × ℕ) Fault) (due : Result (ℕ × ℕ) Fault) → Answers (λ p. p) r due → due ≡ r
+answer_same (Ok p) due is = is
+answer_same (Err e) due is = is

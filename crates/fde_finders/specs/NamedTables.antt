@@ -3,7 +3,7 @@ use Rattle.std.specs.Option.{option_map}
 use Rattle.encoded_pointers.specs.Pointers.{bases_of}
 use Rattle.eh_frame.specs.Views.{table_of}
 use Rattle.eh_frame.specs.Headers.{pairs_of}
-use Rattle.fde_finders.specs.declared.named_table.NamedTable.{NamedTable}
+use Rattle.fde_finders.specs.declared.naming.NamedTable.{NamedTable}
 use Rattle.fde_finders.specs.FrameTables.{FrameTable}
 
 abbrev pub named_of : NamedTable → FrameTable

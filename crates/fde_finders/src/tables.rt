@@ -15,7 +15,7 @@ ghost use Rattle.fde_finders.specs.NamedTables.{named_of};
 ghost use Rattle.fde_finders.specs.HeaderFinding.{by_table, found_by_header, led_address, listed, pairs_by_header, pairs_in};
 
 use crate::find_fde::FDESearchResult;
-use crate::named_table::NamedTable;
+use crate::naming::NamedTable;
 use eh_frame::{Bases, EhFrame, EhFrameHdr, Fde, HdrTable, Pointer};
 use memory_image::{Ledger, MemoryImage, Steps};
 

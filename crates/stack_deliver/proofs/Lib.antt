@@ -26,3 +26,5 @@ pub mod StepParts
 pub mod StepUndone
 pub mod Turns
 pub mod Unread
+mod Holding
+mod Making

@@ -78,7 +78,7 @@ Leaves left (Some t) after = LeavesBy left t.index after
 -- tables are made for modules, one after another
 abbrev pub AreMade : List Span → Left → List Held → List (Option PreparedTable) → Left → Type 0
 AreMade image left [] [] after = after ≡ left
-AreMade image left (h ∷ hs) (o ∷ made) after = MakesTable image left h o × ((next : Left) × Leaves left o next × AreMade image next hs made after)
+AreMade image left (h ∷ hs) (o ∷ made) after = (next : Left) × MakesTable image left h o × Leaves left o next × AreMade image next hs made after
 AreMade image left [] (o ∷ made) after = ⊥
 AreMade image left (h ∷ hs) [] after = ⊥
 

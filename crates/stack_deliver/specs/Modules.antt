@@ -13,6 +13,9 @@ pub record Added : Type 0 where
   pub holder : Module
   pub index : Option Index
 
+abbrev pub unprepared : Module → Added
+unprepared m = record { holder = m; index = None }
+
 -- memory by address, the modules in it by ascending start, and the same modules in the order in which they were added, with their
 -- indexes
 pub record SpaceValue : Type 0 where

@@ -144,15 +144,17 @@ pub(crate) fn tables_for<'a>(
 pub(crate) fn keep<'a>(added: &mut [Held<'a>], made: Vec<Option<PreparedTable<'a>>>) -> u32
     requires each { length made.items ≡ length added.old }
     requires few { count_by is_some made.items < 2 ^ 32 }
-    ensures tables { added.new ≡ with_tables added.old made.items }
-    ensures count { result ≡ count_by is_some made.items }
+    ensures tables { added.new ≡ with_tables added.old made.entry.items }
+    ensures count { result ≡ count_by is_some made.entry.items }
 {
+    let mut place = 0;
     let mut count = 0;
-    for (place, table) in made.into_iter().enumerate() {
+    for table in made {
         if table.is_some() {
             added[place].table = table;
             count += 1;
         }
+        place += 1;
     }
     count
 }

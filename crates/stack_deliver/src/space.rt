@@ -3,7 +3,7 @@ ghost use Rattle.std.specs.Prelude.{◌≡◌, ◌<◌, ◌∷◌, ◌++◌, [],
 ghost use Rattle.std.specs.List.{Contains};
 ghost use Rattle.std.specs.Option.{option_map};
 ghost use Rattle.memory_image.specs.Image.{IsLaidOut};
-ghost use Rattle.stack_deliver.specs.Modules.{module_refusal, lowest_shared, module_at, module_of, with_module, modules_in, AreApart};
+ghost use Rattle.stack_deliver.specs.Modules.{module_refusal, lowest_shared, module_at, module_of, unprepared, with_module, modules_in, AreApart};
 ghost use Rattle.stack_deliver.specs.Modules.{last_below, first_between};
 
 use crate::prepared::{Left, MOST, PreparedTable, keep, tables_for};
@@ -118,10 +118,11 @@ impl<'a> Space<'a> {
             (module_refusal self.old.modules (record { start = start; end = end; frame = frame }))
             (IsOkUnless result SpaceError.NoMemory) (λ error. result ≡ Err error) }
         ensures added { OnOk result
-            (let module = record { start = start; end = end; frame = frame } in
-            self.new ≡ record self.old {
-              modules = with_module module self.old.modules;
-              added = self.old.added ++ record { holder = module; index = None } ∷ [];
+            (self.new ≡ record self.old {
+              modules = with_module (record { start = start; end = end; frame = frame })
+                  self.old.modules;
+              added = self.old.added
+                  ++ unprepared (record { start = start; end = end; frame = frame }) ∷ [];
             }) }
         ensures unchanged { OnErr result (self.new ≡ self.old) }
     {
@@ -209,8 +210,14 @@ impl<'a> Space<'a> {
         ensures table { IfSome result (λ held. IsHeld self.now.image held.now) }
     {
         match last_below(&self.modules, address) {
-            Some((_, extent)) if address < extent.end => Some(&self.added[extent.place]),
-            _ => None,
+            Some((_, extent)) => {
+                if address < extent.end {
+                    Some(&self.added[extent.place])
+                } else {
+                    None
+                }
+            }
+            None => None,
         }
     }
 
