@@ -8,4 +8,5 @@ pub use compressed_function::CompressedFunctionEntry;
 pub use format::{
     CompactUnwindInfoHeader, CompressedPage, Opcode, PageEntry, RegularFunctionEntry, RegularPage,
 };
+pub use crate::num_display::{BinNum, HexNum};
 pub use unaligned::{U16, U32};
