@@ -83,13 +83,13 @@ pub record StandsInEpilog (image : List Span) (m : PeModule) (function : Runtime
   pub codes : List (List ℕ)
   pub terminator : List ℕ
   pub rest : List ℕ
-  pub behind : List ℕ
-  pub mapped : memory_of image m.base (s.ra - m.base) ≡ Some ((joined codes ++ (terminator ++ rest)) ++ behind)
+  pub beyond : List ℕ
+  pub mapped : memory_of image m.base (s.ra - m.base) ≡ Some ((joined codes ++ (terminator ++ rest)) ++ beyond)
   pub up_to_end : length (joined codes ++ (terminator ++ rest)) ≡ f.end - s.ra
   pub spelled : AreSpelled (frame_register_of d.first.header) true codes todo
   pub ends : IsTerminator terminator
   -- the epilog's first byte; where epilog operations tell of epilogs, they list this one with its whole size
   pub from : ℕ
   pub begins : f.start ≤ from
-  pub behind_first : from ≤ s.ra
+  pub begun : from ≤ s.ra
   pub listed : (leading_epilogs (operations_in d.first) ≡ []) ⊎ Lists (f.end - from) ((s.ra - from) + length (joined codes ++ terminator)) (leading_epilogs (operations_in d.first))

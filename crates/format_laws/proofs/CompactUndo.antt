@@ -69,7 +69,7 @@ some v = Some v
 with_other : (columns : Columns) (c k v : ℕ) → eqb c k ≡ false → with_column columns k v c ≡ columns c
 with_other columns c k v e = ap (λ b. cond b (Some v) (columns c)) e
 
--- what a read register is in the columns behind it
+-- what a read register is in the columns after it
 with_saved : (t : State) (columns : Columns) (r q : CalleeSaved) (v : ℕ) → columns (column_of r) ≡ Some v →
     with_column columns (column_of q) (value_of q t) (column_of r) ≡ Some (cond (is_same r q) (value_of r t) v)
 with_saved t columns r q v old = ap (λ b. cond b (Some (value_of q t)) (columns (column_of r))) (column_eq r q) ∙ go (is_same r q) refl

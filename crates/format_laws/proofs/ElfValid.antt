@@ -1,4 +1,4 @@
--- The frame table with late save records describes its function, and a state stands behind two of its pushes.
+-- The frame table with late save records describes its function, and a state stands after two of its pushes.
 use Rattle.std.proofs.Common.{◌≡◌, ◌≢◌, ℕ, zero, suc, ◌-◌, ◌<◌, ◌≤◌, true, leb, ltb, [], ◌∷◌, None, Ok, refl, ◌∙◌, arith, inl, inr, lit<, lit≤}
 use Rattle.std.specs.List.{AllPairs}
 use Rattle.std.proofs.lemmas.Bool.{leb-true, ltb-true, cases_lt}

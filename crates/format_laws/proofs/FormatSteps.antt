@@ -18,7 +18,7 @@ use Rattle.macho_unwind_info.proofs.Covering.{inside, outside}
 use Rattle.macho_unwind_info.proofs.LookupLemmas.{lookup_of-is}
 use Rattle.format_definitions.specs.CompactStep.{MachoModule, stepped_by, found_in, macho_step}
 use Rattle.format_definitions.specs.FormatModules.{FormatModule, Elf, Macho, Pe, in_format, convention_of, part_of, MachoCoversNot, DescribesFormat, IsUncoveredBy, LiesInFormat, IsFormatChain}
-use Rattle.format_laws.specs.FormatUndone.{FormatUndone, columns_behind, CanUndo, IsFormatWalk}
+use Rattle.format_laws.specs.FormatUndone.{FormatUndone, columns_after, CanUndo, IsFormatWalk}
 use Rattle.format_laws.proofs.MachoSteps.{macho_undone}
 use Rattle.format_laws.proofs.PeSteps.{body_call_undone}
 
@@ -62,10 +62,10 @@ module _ (image : List Span) (modules : List FormatModule) where
   pub call_undone : (functions : List Function) (a : ℕ) (s : State) (c : Call) (columns : Columns) → (can : CanUndo image modules functions a s c) → Shows columns s → FormatUndone image can.lies.home columns a c
   call_undone functions a s c columns can shows = undone_in functions a s c columns can shows can.lies.home can.lies.inside can.lies.is_function can.lies.describes
 
-  shown_behind : (home : FormatModule) (columns : Columns) (a : ℕ) (c : Call) (u : FormatUndone image home columns a c) → Shows (columns_behind image home columns a c u) c.caller
-  shown_behind (Elf m) columns a c u = u.undoes.shows
-  shown_behind (Macho m) columns a c u = u.shows
-  shown_behind (Pe m) columns a c u = u.shows
+  shown_after : (home : FormatModule) (columns : Columns) (a : ℕ) (c : Call) (u : FormatUndone image home columns a c) → Shows (columns_after image home columns a c u) c.caller
+  shown_after (Elf m) columns a c u = u.undoes.shows
+  shown_after (Macho m) columns a c u = u.shows
+  shown_after (Pe m) columns a c u = u.shows
 
   state_in : (functions : List Function) (s : State) (calls : List Call) → IsChain image (IsUncoveredBy image modules) functions s calls → IsState s
   state_in functions s [] chain = chain.state
@@ -88,7 +88,7 @@ module _ (image : List Span) (modules : List FormatModule) where
         shows,
         link.called.returns,
         rises image c.callee.outermost (steps_of c.callee.prologue) c.caller s link.called.entered,
-        (lie.0, step, walked functions c.caller calls (columns_behind image lie.0.home columns (s.ra - 1) c step) chain.1 lie.1 (shown_behind lie.0.home columns (s.ra - 1) c step)),
+        (lie.0, step, walked functions c.caller calls (columns_after image lie.0.home columns (s.ra - 1) c step) chain.1 lie.1 (shown_after lie.0.home columns (s.ra - 1) c step)),
       )
 
   -- A described chain is walked, from columns that show its start.

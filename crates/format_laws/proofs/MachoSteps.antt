@@ -71,7 +71,7 @@ small_kind word kind = go (eqb kind 0) (eqb kind 1) (eqb kind 2) (eqb kind 3) (e
 
 -- ---- descriptions in frame data
 
--- nothing stands behind a table's end
+-- nothing stands after a table's end
 past_end : (bases : Bases) (image : List Span) (table offset : ℕ) → length (table_at image table) < offset → entry_at bases (input_at image table) offset ≡ Ok None
 unfolding entry_at
 past_end bases image table offset lt =

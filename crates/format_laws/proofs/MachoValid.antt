@@ -177,7 +177,7 @@ pub framed_step : GivesState (macho_step image sample_module 0x200f (columns_of 
 unfolding word_at lookup_of halved boundary_of
 framed_step = record { caller = _; answered = refl; shows = record { ra = refl; sp = refl; saved = by_register (λ q. _ ≡ Some (value_of q framed_caller)) refl refl refl refl refl refl } }
 
--- the same where an entry behind it names an opcode that isn't there
+-- the same where an entry after it names an opcode that isn't there
 pub damaged_step : GivesState (macho_step damaged_image sample_module 0x100f (columns_of frameless_state)) frameless_caller
 unfolding word_at lookup_of halved boundary_of
 damaged_step = record { caller = _; answered = refl; shows = record { ra = refl; sp = refl; saved = by_register (λ q. _ ≡ Some (value_of q frameless_caller)) refl refl refl refl refl refl } }

@@ -264,7 +264,7 @@ module _ (image : List Span) (m : PeModule) (function : RuntimeFunction) (f : Fu
       let done : EpilogDone st.todo = by_place st.todo st.left st.stands st.values in
       let a : ℕ = s.ra - m.base in
       let memory : Image = memory_of image m.base in
-      let starts = d.start in let ends = d.end in let from = st.begins in let at = st.behind_first in
+      let starts = d.start in let ends = d.end in let from = st.begins in let at = st.begun in
       let some : 0 < length st.terminator = terminator_length st.terminator st.ends in
       let long = length-append (joined st.codes) (st.terminator ++ st.rest) in
       let long' = length-append st.terminator st.rest in
@@ -275,8 +275,8 @@ module _ (image : List Span) (m : PeModule) (function : RuntimeFunction) (f : Fu
       let is_due_here : is_due function.end_address a (leading_epilogs (operations_in d.first)) ≡ true =
       due function.end_address a (f.end - st.from) ((s.ra - st.from) + length (joined st.codes ++ st.terminator)) (leading_epilogs (operations_in d.first)) st.listed (omega arith) (omega arith) in
       let not_past : ltb function.end_address a ≡ false = le-ltb function.end_address a (omega arith) in
-      let enough : ltb (length (bytes ++ st.behind)) (function.end_address - a) ≡ false = le-ltb (length (bytes ++ st.behind)) (function.end_address - a) (omega (arith, length-append bytes st.behind, length_is)) in
-      let taken : take (function.end_address - a) (bytes ++ st.behind) ≡ bytes = ap (λ n. take n (bytes ++ st.behind)) (sym length_is) ∙ take_all bytes st.behind in
+      let enough : ltb (length (bytes ++ st.beyond)) (function.end_address - a) ≡ false = le-ltb (length (bytes ++ st.beyond)) (function.end_address - a) (omega (arith, length-append bytes st.beyond, length_is)) in
+      let taken : take (function.end_address - a) (bytes ++ st.beyond) ≡ bytes = ap (λ n. take n (bytes ++ st.beyond)) (sym length_is) ∙ take_all bytes st.beyond in
       let found : List FunctionEpilogInstruction → Result (Option (List FunctionEpilogInstruction)) FrameFault = λ instructions. Ok (Some instructions) in
       let answer : Sequence → Result (Option (List FunctionEpilogInstruction)) FrameFault = λ r. Ok (epilog_or_none r) in
       let tested_is : epilog_in register function.end_address a (memory a) ≡ Ok (Some st.todo) =

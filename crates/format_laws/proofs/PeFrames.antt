@@ -92,7 +92,7 @@ pub map_reverse : {A B : Type 0} (f : A → B) (xs : List A) → map f (reverse 
 map_reverse f [] = refl
 map_reverse f (x ∷ xs) = ap (map f) (reverse_onto xs x []) ∙ map_append f (reverse xs) (x ∷ []) ∙ ap (λ l. l ++ f x ∷ []) (map_reverse f xs) ∙ sym (reverse_onto (map f xs) (f x) [])
 
--- those behind the offset are passed, up to the first that isn't
+-- those after the offset are passed, up to the first that isn't
 pass_over : (o : ℕ) (xs : List PrologueStep) (ys : List Placed) → AllByRecursion (λ (p : PrologueStep). o < p.end) xs → from_place o (map placed xs ++ ys) ≡ from_place o ys
 unfolding from_place
 pass_over o [] ys all = refl
@@ -175,7 +175,7 @@ append_nil : {A : Type 0} (xs : List A) → xs ++ [] ≡ xs
 append_nil [] = refl
 append_nil (x ∷ xs) = ap (λ ys. x ∷ ys) (append_nil xs)
 
--- a state behind steps of a prologue stands behind all those that chained records tell of
+-- a state after steps of a prologue stands after all those that chained records tell of
 pub record Own (inherited own done later : List PrologueStep) : Type 0 where
   pub rest : List PrologueStep
   pub done_is : done ≡ inherited ++ rest

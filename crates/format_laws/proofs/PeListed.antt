@@ -113,21 +113,21 @@ stands_before = record {
   codes = (0x5b ∷ []) ∷ [];
   terminator = 0xc3 ∷ [];
   rest = replicate 286 0x90;
-  behind = [];
+  beyond = [];
   mapped = refl;
   up_to_end = refl;
   spelled = (pop no_rex 0x5b refl, tt, tt);
   ends = ret no_rex;
   from = 0x1400012e0;
   begins = lit≤ tt;
-  behind_first = lit≤ tt;
+  begun = lit≤ tt;
   listed = inr (other {epilog = record { size_or_offset_low = 0x20; single_or_offset_high = 1 }} refl (0, lit< tt, refl) refl (λ e. absurd cc));
 }
 
--- behind it, at the return
-stands_behind : StandsInEpilog epilog_image module_of_one epilog_record epilog_function described epilog_caller epilog_state
+-- after it, at the return
+stands_after : StandsInEpilog epilog_image module_of_one epilog_record epilog_function described epilog_caller epilog_state
 unfolding described word_at leading_epilogs operations_of
-stands_behind = record {
+stands_after = record {
   room = lit≤ tt;
   returns = refl;
   leaves = (lit≤ tt, refl, tt);
@@ -141,14 +141,14 @@ stands_behind = record {
   codes = [];
   terminator = 0xc3 ∷ [];
   rest = replicate 286 0x90;
-  behind = [];
+  beyond = [];
   mapped = refl;
   up_to_end = refl;
   spelled = tt;
   ends = ret no_rex;
   from = 0x1400012e0;
   begins = lit≤ tt;
-  behind_first = lit≤ tt;
+  begun = lit≤ tt;
   listed = inr (other {epilog = record { size_or_offset_low = 0x20; single_or_offset_high = 1 }} refl (0, lit< tt, refl) refl (λ e. absurd cc));
 }
 
@@ -157,13 +157,13 @@ pub stand_in_described : (d : DescribesPe epilog_image module_of_one (epilog_fun
     × StandsInEpilog epilog_image module_of_one r.function epilog_function r.describes epilog_caller epilog_start
     × StandsInEpilog epilog_image module_of_one r.function epilog_function r.describes epilog_caller epilog_state
 unfolding module_described has_record described
-stand_in_described = (module_described, has_record, stands_before, stands_behind)
+stand_in_described = (module_described, has_record, stands_before, stands_after)
 
--- the steps, computed; behind the pop the pushed word may even be unmapped
+-- the steps, computed; after the pop the pushed word may even be unmapped
 pub computed_before : GivesState (pe_step epilog_image module_of_one 0x12e0 (columns_of epilog_start)) epilog_caller
 unfolding word_at chain_of operations_of behind_epilogs leading_epilogs any_lists parsed sequence_from from_place linked run epilog_run lookup_of halved boundary_of
 computed_before = record { caller = _; answered = refl; shows = record { ra = refl; sp = refl; saved = by_register (λ q. _ ≡ Some (value_of q epilog_caller)) refl refl refl refl refl refl } }
 
-pub computed_behind : GivesState (pe_step short_epilog_image module_of_one 0x12e1 (columns_of epilog_state)) epilog_caller
+pub computed_after : GivesState (pe_step short_epilog_image module_of_one 0x12e1 (columns_of epilog_state)) epilog_caller
 unfolding word_at chain_of operations_of behind_epilogs leading_epilogs any_lists parsed sequence_from from_place linked run epilog_run lookup_of halved boundary_of
-computed_behind = record { caller = _; answered = refl; shows = record { ra = refl; sp = refl; saved = by_register (λ q. _ ≡ Some (value_of q epilog_caller)) refl refl refl refl refl refl } }
+computed_after = record { caller = _; answered = refl; shows = record { ra = refl; sp = refl; saved = by_register (λ q. _ ≡ Some (value_of q epilog_caller)) refl refl refl refl refl refl } }

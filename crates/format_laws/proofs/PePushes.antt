@@ -1,4 +1,4 @@
--- The function that pushes three registers: its module is described, and a state stands behind two pushes.
+-- The function that pushes three registers: its module is described, and a state stands after two pushes.
 use Rattle.std.proofs.Common.{◌≡◌, ◌≢◌, ℕ, zero, suc, ◌-◌, Bool, true, false, leb, ltb, [], ◌∷◌, Some, None, refl, arith, inl, lit<, lit≤}
 use Rattle.std.specs.Prelude.{IsTrue}
 use Rattle.std.specs.List.{AllPairs}

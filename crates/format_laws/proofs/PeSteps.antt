@@ -136,14 +136,14 @@ end_of_later : (low : ℕ) (p : PrologueStep) (later : List PrologueStep) → As
 end_of_later low p [] ascends = omega arith
 end_of_later low p (q ∷ later) ascends = let ih = end_of_later p.end q later ascends.1 in let a = ascends.1.0 in omega arith
 
-last_behind : (xs : List PrologueStep) (p : PrologueStep) (later : List PrologueStep) → last_end (xs ++ p ∷ later) ≡ last_end (p ∷ later)
-last_behind [] p later = refl
-last_behind (x ∷ []) p later = refl
-last_behind (x ∷ y ∷ xs) p later = last_behind (y ∷ xs) p later
+last_after : (xs : List PrologueStep) (p : PrologueStep) (later : List PrologueStep) → last_end (xs ++ p ∷ later) ≡ last_end (p ∷ later)
+last_after [] p later = refl
+last_after (x ∷ []) p later = refl
+last_after (x ∷ y ∷ xs) p later = last_after (y ∷ xs) p later
 
-ascends_behind : (low : ℕ) (xs ys : List PrologueStep) → Ascend low (ends_of (xs ++ ys)) → (l : ℕ) × Ascend l (ends_of ys)
-ascends_behind low [] ys h = (low, h)
-ascends_behind low (x ∷ xs) ys h = ascends_behind x.end xs ys h.1
+ascends_after : (low : ℕ) (xs ys : List PrologueStep) → Ascend low (ends_of (xs ++ ys)) → (l : ℕ) × Ascend l (ends_of ys)
+ascends_after low [] ys h = (low, h)
+ascends_after low (x ∷ xs) ys h = ascends_after x.end xs ys h.1
 
 stands_inside : (image : List Span) (m : PeModule) (function : RuntimeFunction) (f : Function) (d : DescribesRecord image m function f) → IsFunction Windows f → (done later : List PrologueStep) (t s : State) → StandsAfter image f done later t s → (f.start ≤ s.ra) × (s.ra < f.end)
 stands_inside image m function f d is done later t s st = (let h = st.behind in omega arith, go later st.steps st.below)
@@ -155,9 +155,9 @@ stands_inside image m function f d is done later t s st = (let h = st.behind in 
     go [] steps below = let h = ends.1 in omega (arith, below)
     go (p ∷ later) steps below =
         let own = own_part f s.ra d.inherited d.own done (p ∷ later) (sym d.prologue ∙ steps) d.inherited_ends (let h = st.behind in omega arith) below in
-        let ascends = ascends_behind 0 own.rest (p ∷ later) (subst (λ l. Ascend 0 (ends_of l)) own.own_is d.own_ends) in
+        let ascends = ascends_after 0 own.rest (p ∷ later) (subst (λ l. Ascend 0 (ends_of l)) own.own_is d.own_ends) in
         let last = end_of_later ascends.0 p later ascends.1 in
-        let same = ap last_end steps ∙ last_behind done p later in
+        let same = ap last_end steps ∙ last_after done p later in
         let low = ends.0 in let high = ends.1 in
         omega (arith, below, same)
 
@@ -186,7 +186,7 @@ module _ (image : List Span) (m : PeModule) (functions : List Function) (d : Des
   pub body_call_undone : Contains functions f → (a : ℕ) → IsTrue (in_body f a) → IsEntered image f.outermost (steps_of f.prologue) t s → CallUndone (pe_step image m (a - m.base) columns) columns t
   body_call_undone has a inside entered = body_call_undone_by (all_contains (λ (g : Function). HasRecord image m d.table g ⊎ DescribesLeaf m d.table g) functions f d.each has) a inside entered
 
-  -- a state that stands behind some of the steps of a prologue
+  -- a state that stands after some of the steps of a prologue
   pub prologue_call_undone : (r : HasRecord image m d.table f) (done later : List PrologueStep) → StandsAfter image f done later t s → IsInNoEpilog (memory_of image m.base) r.function r.describes.first (s.ra - m.base) →
       CallUndone (pe_step image m (s.ra - m.base) columns) columns t
   prologue_call_undone r done later st quiet =
@@ -201,7 +201,7 @@ module _ (image : List Span) (m : PeModule) (functions : List Function) (d : Des
       let up = st.up_to_end in
       let long = length-append (joined st.codes) (st.terminator ++ st.rest) in
       let long' = length-append st.terminator st.rest in
-      let low = st.begins in let here = st.behind_first in
+      let low = st.begins in let here = st.begun in
       let inside : s.ra < f.end = omega arith in
       call_undone image m d.bytes d.table (Some r.function) (s.ra - m.base) columns s t d.mapped d.reads (found_by_record r s.ra (omega arith) inside) shows
       (in_epilog_undone image m r.function f r.describes is t s words (registers_in columns) (shows_registers columns s shows) st)

@@ -164,7 +164,7 @@ module _ (image : List Span) (t s : State) (regs : Registers) (words : IsState t
         stores_first (inl at) leaves = stores_back image t frame is_frame (reverse ss) (stack_after start fs) regs (all_reverse (IsSlot image t frame is_frame (stack_after start fs)) ss (slots_of image t frame is_frame (stack_after start fs) ss stores leaves)) at
         stores_first (inr nil) leaves = subst (λ l. StoresBack image t frame is_frame (reverse l) regs) (sym nil) (record { after = regs; is = refl; sp = refl; bp = refl; values = λ r. refl; scratch = λ n h. refl })
 
-  -- with a `Set`, behind which are stores alone
+  -- with a `Set`, after which are stores alone
   module _ (m : ℕ) (small : m ≤ 2 ^ 64) where
     abbrev based_frame : FrameBase
     based_frame = Some (5, m)

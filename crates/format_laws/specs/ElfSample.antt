@@ -58,7 +58,7 @@ pushed_all = Advance 2 ∷ CfaOffset 16 ∷ Advance 2 ∷ CfaOffset 24 ∷ Advan
 abbrev pub function : Function
 function = record { start = 0x402000; end = 0x402020; prologue = pushes_done ++ pushes_later; bodies = record { from = 0x402005; to = 0x402020 } ∷ []; sites = None; outermost = false }
 
--- stopped behind the second push, of which the table doesn't yet tell
+-- stopped after the second push, of which the table doesn't yet tell
 abbrev pub state : State
 state = record { ra = 0x402004; sp = 0x7000; rbx = 9; rbp = 0; r12 = 0; r13 = 0; r14 = 0x14; r15 = 0x15 }
 

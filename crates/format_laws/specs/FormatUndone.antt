@@ -24,10 +24,10 @@ module _ (image : List Span) where
   FormatUndone (Pe m) columns a c = CallUndone (pe_step image m (a - m.base) columns) columns c.caller
 
   -- the caller's columns
-  abbrev pub columns_behind : (home : FormatModule) (columns : Columns) (a : ℕ) (c : Call) → FormatUndone home columns a c → Columns
-  columns_behind (Elf m) columns a c u = u.undoes.caller
-  columns_behind (Macho m) columns a c u = u.caller
-  columns_behind (Pe m) columns a c u = u.caller
+  abbrev pub columns_after : (home : FormatModule) (columns : Columns) (a : ℕ) (c : Call) → FormatUndone home columns a c → Columns
+  columns_after (Elf m) columns a c u = u.undoes.caller
+  columns_after (Macho m) columns a c u = u.caller
+  columns_after (Pe m) columns a c u = u.caller
 
   module _ (modules : List FormatModule) where
     -- what is asked of a call whose step is taken, at an address in the body of its function
@@ -45,4 +45,4 @@ module _ (image : List Span) where
     IsFormatWalk functions columns s [] = Shows columns s × IsEnd image (IsUncoveredBy image modules) functions s
     IsFormatWalk functions columns s (c ∷ calls) = Shows columns s × (s.ra ≢ 0) × (s.sp < c.caller.sp)
         × ((lies : LiesInFormat image modules functions c.callee) × (step : FormatUndone lies.home columns (s.ra - 1) c)
-        × IsFormatWalk functions (columns_behind lies.home columns (s.ra - 1) c step) c.caller calls)
+        × IsFormatWalk functions (columns_after lies.home columns (s.ra - 1) c step) c.caller calls)

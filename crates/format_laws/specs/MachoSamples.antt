@@ -78,6 +78,6 @@ indirect_caller = record { ra = 7; sp = 0x9038; rbx = 1; rbp = 6; r12 = 2; r13 =
 
 -- ---- a function that frame data describes
 
--- the description stands 24 bytes behind the frame data's start
+-- the description stands 24 bytes after the frame data's start
 abbrev pub dwarf_word : ℕ
 dwarf_word = 0x04000018

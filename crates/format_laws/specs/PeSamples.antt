@@ -55,7 +55,7 @@ pushes_later = record { step = Push (Followed RBX); end = 5 } ∷ []
 abbrev pub pushes_function : Function
 pushes_function = record { start = 0x140001000; end = 0x140001020; prologue = pushes_done ++ pushes_later; bodies = record { from = 0x140001005; to = 0x140001020 } ∷ []; sites = None; outermost = false }
 
--- stopped behind the second push
+-- stopped after the second push
 abbrev pub pushes_state : State
 pushes_state = record { ra = 0x140001004; sp = 0x7000; rbx = 9; rbp = 0; r12 = 0; r13 = 0; r14 = 0x14; r15 = 0x15 }
 
@@ -92,7 +92,7 @@ epilog_function = record {
   outermost = false;
 }
 
--- before the pop, where RBX holds another value, and behind it
+-- before the pop, where RBX holds another value, and after it
 abbrev pub epilog_start : State
 epilog_start = record { ra = 0x1400012e0; sp = 0x6ff8; rbx = 7; rbp = 0; r12 = 0; r13 = 0; r14 = 0; r15 = 0 }
 
@@ -148,7 +148,7 @@ room_function = record {
   outermost = false;
 }
 
--- a leaf behind it
+-- a leaf after it
 abbrev pub leaf_function : Function
 leaf_function = record { start = 0x140001100; end = 0x140001110; prologue = []; bodies = record { from = 0x140001100; to = 0x140001110 } ∷ []; sites = None; outermost = false }
 
@@ -168,18 +168,18 @@ abbrev pub chained_first : List ℕ
 chained_first = 0x18 ∷ 0x69 ∷ 40 ∷ 0 ∷ 0 ∷ 0 ∷ 0x13 ∷ 0x64 ∷ 3 ∷ 0 ∷ 0x0e ∷ 0x34 ∷ 2 ∷ 0 ∷ 0x09 ∷ 0x03 ∷ 0x04 ∷ 0x72 ∷ []
 
 -- the record that it goes on with stands at 0x2040
-abbrev pub chained_behind : List ℕ
-chained_behind = 0x00 ∷ 0x10 ∷ 0 ∷ 0 ∷ 0x00 ∷ 0x11 ∷ 0 ∷ 0 ∷ 0x40 ∷ 0x20 ∷ 0 ∷ 0 ∷ []
+abbrev pub chained_trailer : List ℕ
+chained_trailer = 0x00 ∷ 0x10 ∷ 0 ∷ 0 ∷ 0x00 ∷ 0x11 ∷ 0 ∷ 0 ∷ 0x40 ∷ 0x20 ∷ 0 ∷ 0 ∷ []
 
 abbrev pub chained_image : List Span
 chained_image = record { start = 0x7fa8; bytes = windows.stack } ∷
     record { start = 0x140001000; bytes = replicate 256 0x90 } ∷
     record { start = 0x140002000; bytes = table_bytes 0x00 0x11 } ∷
-    record { start = 0x140002010; bytes = 0x21 ∷ 0x18 ∷ 9 ∷ 0x25 ∷ (chained_first ++ 0 ∷ 0 ∷ chained_behind) } ∷
+    record { start = 0x140002010; bytes = 0x21 ∷ 0x18 ∷ 9 ∷ 0x25 ∷ (chained_first ++ 0 ∷ 0 ∷ chained_trailer) } ∷
     record { start = 0x140002040; bytes = 0x01 ∷ 0x02 ∷ 2 ∷ 0x25 ∷ 0x02 ∷ 0x50 ∷ 0x01 ∷ 0x70 ∷ [] } ∷ []
 
 abbrev pub chained_info : Info
-chained_info = record { header = header 0x21 0x18 9 0x25; slots = chained_first; behind = chained_behind }
+chained_info = record { header = header 0x21 0x18 9 0x25; slots = chained_first; behind = chained_trailer }
 
 abbrev pub inherited_info : Info
 inherited_info = record { header = header 0x01 0x02 2 0x25; slots = 0x02 ∷ 0x50 ∷ 0x01 ∷ 0x70 ∷ []; behind = [] }

@@ -10,9 +10,11 @@ ghost use Rattle.format_definitions.specs.CompactStep.{MachoModule, macho_step};
 ghost use Rattle.format_definitions.specs.FormatModules.{FormatModule, MachoCoversNot, IsFormatChain};
 ghost use Rattle.format_laws.specs.FormatUndone.{FormatUndone, CanUndo, IsFormatWalk};
 
-/// A call of a function is undone by the module that the function lies in, of whatever format it is.
+/// A call of a function is undone by the module that the function lies in, of whatever format it
+/// is.
 pub fn format_call_is_undone()
-    ensures { (image : List Span) (modules : List FormatModule) (functions : List Function) (a : ℕ) (s : State) (c : Call) (columns : Columns)
+    ensures { (image : List Span) (modules : List FormatModule) (functions : List Function)
+        (a : ℕ) (s : State) (c : Call) (columns : Columns)
         → (can : CanUndo image modules functions a s c)
         → Shows columns s
         → FormatUndone image can.lies.home columns a c }
@@ -21,7 +23,8 @@ pub fn format_call_is_undone()
 /// A described chain through such modules is walked call by call, from columns that show its start;
 /// stack pointers strictly rise.
 pub fn format_chain_is_walked()
-    ensures { (image : List Span) (modules : List FormatModule) (functions : List Function) (s : State) (calls : List Call) (columns : Columns)
+    ensures { (image : List Span) (modules : List FormatModule) (functions : List Function)
+        (s : State) (calls : List Call) (columns : Columns)
         → IsFormatChain image modules functions s calls
         → Shows columns s
         → IsFormatWalk image modules functions columns s calls }

@@ -2,8 +2,8 @@
 //! empty bodies: what stands in a contract here is proved.
 //!
 //! `pe` says that the step in a described PE module undoes a call, from wherever the function is
-//! stopped, and `macho` that the step in a described Mach-O module does, from a body. `chains`
-//! says that chains through modules of all three formats are walked, and `samples` shows modules and
+//! stopped, and `macho` that the step in a described Mach-O module does, from a body. `chains` says
+//! that chains through modules of all three formats are walked, and `samples` shows modules and
 //! states that meet these laws.
 #![tactic(auto)]
 

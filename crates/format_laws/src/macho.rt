@@ -14,10 +14,11 @@ ghost use Rattle.format_definitions.specs.MachoModules.{IsOpcodeOf, DescribesMac
 ghost use Rattle.format_laws.specs.CompactUndone.{OpcodeUndoes, MachoUndone};
 
 /// A state that was entered by a function, and any address of its body: the opcode of a described
-/// function gives the caller's state, and keeps every column that no state has, whatever expressions
-/// would give. Of an outermost function the caller's return address is 0.
+/// function gives the caller's state, and keeps every column that no state has, whatever
+/// expressions would give. Of an outermost function the caller's return address is 0.
 pub fn opcode_is_undone()
-    ensures { (image : List Span) (frames : Option ℕ) (f : Function) (word : ℕ) (t s : State) (columns : Columns) (a : ℕ)
+    ensures { (image : List Span) (frames : Option ℕ) (f : Function) (word : ℕ) (t s : State)
+        (columns : Columns) (a : ℕ)
         → IsOpcodeOf image frames f (opcode_of word)
         → IsFunction SystemV f
         → IsState t
@@ -30,7 +31,8 @@ pub fn opcode_is_undone()
 
 /// The same of the step in a described module, which looks the address up.
 pub fn macho_body_is_undone()
-    ensures { (image : List Span) (m : MachoModule) (functions : List Function) (f : Function) (t s : State) (columns : Columns) (a : ℕ)
+    ensures { (image : List Span) (m : MachoModule) (functions : List Function) (f : Function)
+        (t s : State) (columns : Columns) (a : ℕ)
         → DescribesMacho image m functions
         → Contains functions f
         → IsFunction SystemV f

@@ -16,10 +16,11 @@ ghost use Rattle.format_definitions.specs.PeEpilogs.{StandsInEpilog};
 ghost use Rattle.format_laws.specs.PeUndone.{CallUndone};
 
 /// A state that was entered by a described function, and any address of the function's body: the
-/// step from there gives the caller's state, and keeps every column but those of RSI and RDI that no
-/// state has.
+/// step from there gives the caller's state, and keeps every column but those of RSI and RDI that
+/// no state has.
 pub fn pe_body_is_undone()
-    ensures { (image : List Span) (m : PeModule) (functions : List Function) (f : Function) (t s : State) (columns : Columns) (a : ℕ)
+    ensures { (image : List Span) (m : PeModule) (functions : List Function) (f : Function)
+        (t s : State) (columns : Columns) (a : ℕ)
         → DescribesPe image m functions
         → Contains functions f
         → IsFunction Windows f
@@ -30,10 +31,11 @@ pub fn pe_body_is_undone()
         → CallUndone (pe_step image m (a - m.base) columns) columns t }
 {}
 
-/// The same of a state that stands behind any number of the steps of a function's prologue, where its
-/// address isn't in an epilog.
+/// The same of a state that stands after any number of the steps of a function's prologue, where
+/// its address isn't in an epilog.
 pub fn pe_prologue_is_undone()
-    ensures { (image : List Span) (m : PeModule) (functions : List Function) (f : Function) (t s : State) (columns : Columns) (done later : List PrologueStep)
+    ensures { (image : List Span) (m : PeModule) (functions : List Function) (f : Function)
+        (t s : State) (columns : Columns) (done later : List PrologueStep)
         → (d : DescribesPe image m functions)
         → (r : HasRecord image m d.table f)
         → IsFunction Windows f
@@ -46,7 +48,8 @@ pub fn pe_prologue_is_undone()
 
 /// The same of a state that stands anywhere in an epilog.
 pub fn pe_epilog_is_undone()
-    ensures { (image : List Span) (m : PeModule) (functions : List Function) (f : Function) (t s : State) (columns : Columns)
+    ensures { (image : List Span) (m : PeModule) (functions : List Function) (f : Function)
+        (t s : State) (columns : Columns)
         → (d : DescribesPe image m functions)
         → (r : HasRecord image m d.table f)
         → IsFunction Windows f
@@ -58,7 +61,8 @@ pub fn pe_epilog_is_undone()
 
 /// The same at any address of a leaf.
 pub fn pe_leaf_is_undone()
-    ensures { (image : List Span) (m : PeModule) (functions : List Function) (f : Function) (t s : State) (columns : Columns) (a : ℕ)
+    ensures { (image : List Span) (m : PeModule) (functions : List Function) (f : Function)
+        (t s : State) (columns : Columns) (a : ℕ)
         → (d : DescribesPe image m functions)
         → DescribesLeaf m d.table f
         → IsFunction Windows f

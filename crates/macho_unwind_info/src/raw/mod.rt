@@ -4,9 +4,9 @@ mod format;
 mod impls;
 mod unaligned;
 
+pub use crate::num_display::{BinNum, HexNum};
 pub use compressed_function::CompressedFunctionEntry;
 pub use format::{
     CompactUnwindInfoHeader, CompressedPage, Opcode, PageEntry, RegularFunctionEntry, RegularPage,
 };
-pub use crate::num_display::{BinNum, HexNum};
 pub use unaligned::{U16, U32};

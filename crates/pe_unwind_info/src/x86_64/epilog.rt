@@ -37,6 +37,11 @@ impl Default for FunctionEpilogInstruction {
     }
 }
 
+// instructions that change nothing, to make a list of
+const BLANK: [FunctionEpilogInstruction; FUNCTION_EPILOG_LIMIT] = [FunctionEpilogInstruction::AddSP(
+    0,
+); FUNCTION_EPILOG_LIMIT];
+
 /// Why bytes aren't those of an epilog.
 #[derive(Debug, Drop, Error)]
 pub enum InstructionParseError {
@@ -238,7 +243,7 @@ fn parse_instruction(
 fn no_instructions() -> ArrayVec<FunctionEpilogInstruction, FUNCTION_EPILOG_LIMIT>
     ensures { result.items ≡ [] }
 {
-    let mut instructions = ArrayVec::from([FunctionEpilogInstruction::AddSP(0); FUNCTION_EPILOG_LIMIT]);
+    let mut instructions = ArrayVec::from(BLANK);
     instructions.clear();
     instructions
 }

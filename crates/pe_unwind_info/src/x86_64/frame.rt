@@ -370,7 +370,8 @@ impl<'a> FunctionTableEntries<'a> {
             → Gives (M.post memory_at_rva) (option_map (λ bytes. bytes.now)) rva given
             → given ≡ memory rva)
             → frame_end result (registers_of (S.registers state.new) (S.xmm_registers state.new))
-            ≡ framed memory (S.stack state.old) address (lookup_of (functions_of (table_bytes self.now)) address)
+            ≡ framed memory (S.stack state.old) address
+            (lookup_of (functions_of (table_bytes self.now)) address)
             (registers_of (S.registers state.old) (S.xmm_registers state.old)) }
         ensures stack { S.stack state.new ≡ S.stack state.old }
     {

@@ -68,7 +68,8 @@ pub fn lookup_is_determined()
 /// In a table whose functions are nonempty, ascend and share no address, a look-up answers the
 /// record that holds the address, and none where none does.
 pub fn lookup_finds_the_holder()
-    ensures found { (functions : List RuntimeFunction) (low high address : ℕ) (function : RuntimeFunction)
+    ensures found { (functions : List RuntimeFunction) (low high address : ℕ)
+        (function : RuntimeFunction)
         → AreOrdered low high functions
         → Contains functions function
         → Holds function address
@@ -81,7 +82,8 @@ pub fn lookup_finds_the_holder()
 
 /// What a search by halving answers is a look-up's answer.
 pub fn lookup_of_is_a_lookup()
-    ensures { (functions : Option (List RuntimeFunction)) (address : ℕ) → IsLookup functions address (lookup_of functions address) }
+    ensures { (functions : Option (List RuntimeFunction)) (address : ℕ)
+        → IsLookup functions address (lookup_of functions address) }
 {}
 
 /// A view of the function table, the contents of the section `.pdata`: records of 12 bytes that

@@ -17,15 +17,19 @@ ghost use Rattle.pe_unwind_info.specs.declared.x86_64.registers.Register.{Regist
 /// the frame there is one run over the operations of its records, the first one's from the offset
 /// of the address on, and then the popped return address.
 pub fn frame_is_one_run()
-    ensures { (memory : Image) (stack : Stack) (address : ℕ) (function : RuntimeFunction) (regs : Registers) (first : Info) (chained : List Info)
+    ensures { (memory : Image) (stack : Stack) (address : ℕ) (function : RuntimeFunction)
+        (regs : Registers) (first : Info) (chained : List Info)
         → info_in function.unwind_info_address (memory function.unwind_info_address) ≡ Ok first
         → chain_of memory 32 (chained_of first) ≡ Ok chained
-        → tested (is_due function.end_address address (leading_epilogs (operations_in first))) memory (frame_register_of first.header) function.end_address address ≡ Ok None
+        → tested (is_due function.end_address address (leading_epilogs (operations_in first)))
+        memory (frame_register_of first.header) function.end_address address ≡ Ok None
         → framed memory stack address (Some function) regs
-        ≡ then_ends (run_headed stack (operations_at (address - function.begin_address) first chained) regs) (pop_return stack) }
+        ≡ then_ends (run_headed stack (operations_at (address - function.begin_address) first
+        chained) regs) (pop_return stack) }
 {}
 
 /// What is read of bytes as an epilog is what the grammar says.
 pub fn epilogs_are_read_by_the_grammar()
-    ensures { (frame : Option Register) (bytes : List ℕ) → IsSequence frame bytes (sequence_of frame bytes) }
+    ensures { (frame : Option Register) (bytes : List ℕ)
+        → IsSequence frame bytes (sequence_of frame bytes) }
 {}

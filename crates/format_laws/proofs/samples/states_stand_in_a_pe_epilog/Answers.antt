@@ -1,4 +1,4 @@
-use Rattle.format_laws.proofs.PeListed.{is_function, stand_in_described, caller_fits, computed_before, computed_behind}
+use Rattle.format_laws.proofs.PeListed.{is_function, stand_in_described, caller_fits, computed_before, computed_after}
 use Rattle.format_laws.proofs.samples.states_stand_in_a_pe_epilog.Goals as goal
 
 pub returns-clause-function : goal.returns-clause-function
@@ -13,5 +13,5 @@ returns-clause-caller c = caller_fits
 pub returns-clause-before : goal.returns-clause-before
 returns-clause-before c = computed_before
 
-pub returns-clause-behind : goal.returns-clause-behind
-returns-clause-behind c = computed_behind
+pub returns-clause-after : goal.returns-clause-after
+returns-clause-after c = computed_after
