@@ -9,6 +9,7 @@ use Rattle.unwind_definitions.specs.Instructions.{Program, program}
 use Rattle.unwind_definitions.specs.Pointers.{Bases}
 use Rattle.unwind_definitions.specs.Entries.{Fde, Entry, AreEntries, coding_of}
 use Rattle.unwind_definitions.specs.Row.{covers_pc}
+use Rattle.frame_rows.specs.RowValue.{RowValue}
 use Rattle.frame_rows.specs.KeptRows.{Kept, KeptRows, AreKeptOf, kept_rule_count, location_of, reached_locations}
 use Rattle.eh_frame.specs.Listed.{HasUnreadable, SharesAddress, nonempty}
 use Rattle.eh_frame.specs.Views.{fde_of}
@@ -125,6 +126,25 @@ FindsIndex functions pc None = AllByRecursion (λ d. covers_pc d.fde pc ≡ fals
 abbrev pub scan_answer : Option Found → Result Fde Fault
 scan_answer (Some found) = Ok (fde_of found.fde)
 scan_answer None = Err NoUnwindInfoForAddress
+
+-- what an index shows at an address: the description that contains it, and its row or fault there
+pub record ShownFrame : Type 0 where
+  pub fde : Fde
+  pub row : Result RowValue Fault
+
+-- what is shown is of one of the index's descriptions, which contains the address, or none does
+pub record IsShownFrom (functions : List Described) (pc : ℕ) (fde : Fde) : Type 0 where
+  pub index : ℕ
+  pub found : IsFoundAt functions pc index fde
+
+abbrev pub ShowsFrame : List Described → ℕ → Option ShownFrame → Type 0
+ShowsFrame functions pc (Some frame) = IsShownFrom functions pc frame.fde
+ShowsFrame functions pc None = AllByRecursion (λ d. covers_pc d.fde pc ≡ false) functions
+
+-- what a scan answers for the same address
+abbrev pub shown_answer : Option ShownFrame → Result Fde Fault
+shown_answer (Some frame) = Ok frame.fde
+shown_answer None = Err NoUnwindInfoForAddress
 
 -- ---- how an index stands in the code
 

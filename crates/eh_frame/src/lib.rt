@@ -41,7 +41,7 @@ pub use frame_rows::{
 pub use header::{EhFrameHdr, HdrTable};
 pub use laws::table_of_a_push_is_prepared;
 pub use listing::Entries;
-pub use prepared::{Found, Prepared};
+pub use prepared::{Found, Prepared, PreparedFrame};
 pub use unwind_definitions::Error;
 
 #[cfg(test)]
