@@ -12,7 +12,13 @@ pub(crate) fn print_report(rt: &HostRuntime) -> Result<()> {
     let snapshot = read_snapshot(rt.alloc(), &text)?;
     let space = snapshot.space(rt.alloc())?;
     let start = snapshot.start();
-    let visited = walk(rt.alloc(), &space, &start, snapshot.interrupted(), snapshot.limit())?;
+    let visited = walk(
+        rt.alloc(),
+        &space,
+        &start,
+        snapshot.interrupted(),
+        snapshot.limit(),
+    )?;
     let report = walk_report_of(rt.alloc(), &visited)?;
     print!(rt; "{}", str::from_utf8(report.bytes())?)?;
     // end

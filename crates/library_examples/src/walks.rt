@@ -19,8 +19,19 @@ pub(crate) fn print_walk(rt: &HostRuntime) -> Result<()> {
     image.add(0x50_0000, &eh_frame)?;
     let mut space = Space::new(rt.alloc(), image);
     let kind = FrameInfoKind::EhFrame(0x50_0000);
-    space.add_elf(0x40_1000, 0x40_1010, FrameInfo { text_base: None, kind })?;
-    let start = Context { ra: 0x40_1006, registers, ..Context::default() };
+    space.add_elf(
+        0x40_1000,
+        0x40_1010,
+        FrameInfo {
+            text_base: None,
+            kind,
+        },
+    )?;
+    let start = Context {
+        ra: 0x40_1006,
+        registers,
+        ..Context::default()
+    };
     let visited = walk(rt.alloc(), &space, &start, true, 1_000)?;
     for i in 0..visited.len() {
         if let Some(context) = visited.get(i) {
