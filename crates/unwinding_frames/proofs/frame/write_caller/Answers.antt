@@ -4,7 +4,7 @@ use Rattle.unwind_definitions.specs.Caller.{cfa_value}
 use Rattle.unwind_definitions.specs.Expressions.{evaluation}
 use Rattle.unwinding_frames.specs.Calling.{machine_of}
 use Rattle.unwinding_frames.proofs.Callers.{row_caller}
-use Rattle.unwinding_frames.proofs.frame.step_by_row.Goals as goal
+use Rattle.unwinding_frames.proofs.frame.write_caller.Goals as goal
 
 pub returns : goal.returns
 returns g c = record {
@@ -14,7 +14,7 @@ returns g c = record {
       let row = c.args.row.now in
       let gives : cfa_value (evaluation c.args.image.now) (columns old) row.cfa ≡ Ok c.in_ok-cfa.cfa =
       ap (λ (r : CfaRule). cfa_value (evaluation c.args.image.now) (columns old) r) (sym c.cfa.ensures) ∙ sym c.in_ok-cfa.ensures in
-      c.apply.ensures ∙ rw (c.registers.ensures.rules, c.begin.ensures)
+      c.apply.ensures ∙ rw (c.registers.ensures.rules, c.begin.ensures, c.requires)
       (row_caller (machine_of g.M.Machine.SP.0 g.M.Machine.RA.0) (evaluation c.args.image.now) c.args.image.now (columns old) c.in_ok-cfa.cfa run row.cfa row.rules
       (g.met.M.Machine.has_sp old) (g.met.M.Machine.has_ra old) is.cfa gives c.registers.ensures.ascending is.rules);
 }

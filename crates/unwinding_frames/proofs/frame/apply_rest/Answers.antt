@@ -5,7 +5,7 @@ use Rattle.frame_rows.specs.Left.{left}
 use Rattle.unwind_definitions.specs.Expressions.{evaluation}
 use Rattle.unwinding_frames.specs.Calling.{applied, fault_of}
 use Rattle.unwinding_frames.proofs.Faults.{and_then_fault}
-use Rattle.unwinding_frames.proofs.frame.apply.Goals as goal
+use Rattle.unwinding_frames.proofs.frame.apply_rest.Goals as goal
 
 pub returns-in_err-apply_rule : goal.returns-in_err-apply_rule
 returns-in_err-apply_rule g c =
