@@ -37,9 +37,11 @@ mod augmentation;
 mod cie;
 mod entries;
 mod fde;
+mod fde_list;
 mod header;
 mod header_search;
 mod laws;
+mod listed_fde;
 mod listing;
 mod prepared;
 
