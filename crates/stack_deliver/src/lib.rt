@@ -44,6 +44,7 @@ mod resumes;
 mod room;
 mod space;
 mod stepping;
+mod stops;
 mod walking;
 
 pub use delivering::{deliver, deliver_into};
@@ -56,5 +57,6 @@ pub use resumes::{Resumes, first_entry_counts};
 pub use room::Room;
 pub use space::{Module, Space, SpaceError};
 pub use stepping::step;
+pub use stops::{stops_after_each_step_are_described, walks_from_stops_are_described};
 pub use unwind_arch::x86_64::Context;
 pub use walking::{Visited, walk, walk_into};
