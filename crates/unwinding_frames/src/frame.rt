@@ -323,16 +323,21 @@ pub fn step_by_row<M: Machine>(
         (evaluation image.now) image.now (M.Context.columns context.old) run }
 {
     let callee = *context;
-    write_caller::<M>(image, &callee, row, context)
+    // What a frame saves stands on the stack, at its stack pointer or above.
+    let stack = Window::new(image, stack_pointer::<M>(&callee));
+    write_caller::<M>(&stack, &callee, row, context)
 }
 
 /// Makes a copy of a frame's registers those of the frame's caller, by the frame's row.
+///
+/// A saved register that lies in the window is read without a search. Who leaves one frame after
+/// another keeps a window over the stack for all of them.
 ///
 /// # Errors
 ///
 /// Those of [`Frame::unwind`]. After one the copy's registers are unspecified.
 pub fn write_caller<M: Machine>(
-    image: &MemoryImage<'_>,
+    stack: &Window<'_, '_>,
     context: &M::Context,
     row: &RowRef<'_, '_>,
     caller: &mut M::Context,
@@ -341,11 +346,11 @@ pub fn write_caller<M: Machine>(
     ensures caller { (run : RowInstructions) → IsRowOf row.now run →
         columns_given M.Context.columns (written_in result caller.new) ≡ caller_of
         (machine_of M.SP.0 M.RA.0)
-        (evaluation image.now) image.now (M.Context.columns context.now) run }
+        (evaluation stack.now) stack.now (M.Context.columns context.now) run }
 {
-    let cfa = cfa::<M>(image, context, row.cfa())?;
+    let cfa = cfa::<M>(stack.image(), context, row.cfa())?;
     begin::<M>(caller, cfa);
-    apply::<M>(image, context, cfa, row.registers(), caller)
+    apply::<M>(stack, context, cfa, row.registers(), caller)
 }
 
 /// The stack pointer.
@@ -466,22 +471,20 @@ fn apply_rule<M: Machine>(
 /// Writes the values that a row's rules give their columns. After a fault the registers are
 /// unspecified.
 fn apply<M: Machine>(
-    image: &MemoryImage<'_>,
+    stack: &Window<'_, '_>,
     context: &M::Context,
     cfa: u64,
     rules: Registers<'_, '_>,
     caller: &mut M::Context,
 ) -> Result<(), StepError>
     ensures { columns_given M.Context.columns (written_in result caller.new) ≡ applied
-        (evaluation image.now) image.now (M.Context.columns context.now) cfa
+        (evaluation stack.now) stack.now (M.Context.columns context.now) cfa
         (map entry_of (left rules.entry)) (M.Context.columns caller.old) }
 {
-    // What a frame saves stands on the stack, at its stack pointer or above.
-    let stack = Window::new(image, stack_pointer::<M>(context));
     let mut rest = rules;
-    match apply_saved::<M>(&stack, cfa, &mut rest, caller) {
+    match apply_saved::<M>(stack, cfa, &mut rest, caller) {
         None => Ok(()),
-        Some(first) => apply_from::<M>(image, context, cfa, first, rest, caller),
+        Some(first) => apply_from::<M>(stack.image(), context, cfa, first, rest, caller),
     }
 }
 

@@ -28,3 +28,4 @@ pub use frame::{
 pub use language_table::{EhAction, eh_action_of, find_eh_action};
 pub use personality::{Personality, RustPersonality};
 pub use personality_dummy::DummyPersonality;
+pub use window::Window;

@@ -12,7 +12,7 @@ use std::marker::Model;
 ///
 /// Contracts see the image.
 #[derive(Drop)]
-pub(crate) struct Window<'i, 'a> {
+pub struct Window<'i, 'a> {
     image: &'i MemoryImage<'a>,
     start: u64,
     // from the place to the end of its region
@@ -35,7 +35,7 @@ impl<'i, 'a> Model for Window<'i, 'a> {
 
 impl<'i, 'a> Window<'i, 'a> {
     /// The image, looked up at an address.
-    pub(crate) fn new(image: &'i MemoryImage<'a>, address: u64) -> Window<'i, 'a>
+    pub fn new(image: &'i MemoryImage<'a>, address: u64) -> Window<'i, 'a>
         ensures { result ≡ image.now }
     {
         let bytes = bytes_from(image, address);
@@ -47,9 +47,25 @@ impl<'i, 'a> Window<'i, 'a> {
         }
     }
 
+    /// The image.
+    pub fn image(&self) -> &'i MemoryImage<'a>
+        ensures { result.now ≡ self.now }
+    {
+        self.image
+    }
+
+    /// Looks an address up, unless the word that stands there is in the window.
+    pub fn seek(&mut self, address: u64)
+        ensures { self.new ≡ self.old }
+    {
+        if address.wrapping_sub(self.start) as usize >= self.places {
+            *self = Window::new(self.image, address);
+        }
+    }
+
     /// The little-endian number of the eight bytes from the address on, which all lie where the image
     /// was looked up or after it. `None` where they don't.
-    pub(crate) fn read_u64(&self, address: u64) -> Option<u64>
+    pub fn read_u64(&self, address: u64) -> Option<u64>
         ensures { IfSome result (λ word. word_at self.now address ≡ Some word) }
     {
         let offset = address.wrapping_sub(self.start) as usize;

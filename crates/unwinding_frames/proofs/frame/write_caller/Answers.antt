@@ -12,9 +12,9 @@ returns g c = record {
       let columns = g.M.Context.RegisterMap.columns in
       let old = c.args.context.now in
       let row = c.args.row.now in
-      let gives : cfa_value (evaluation c.args.image.now) (columns old) row.cfa ≡ Ok c.in_ok-cfa.cfa =
-      ap (λ (r : CfaRule). cfa_value (evaluation c.args.image.now) (columns old) r) (sym c.cfa.ensures) ∙ sym c.in_ok-cfa.ensures in
+      let gives : cfa_value (evaluation c.args.stack.now) (columns old) row.cfa ≡ Ok c.in_ok-cfa.cfa =
+      rw (sym c.image.ensures) (ap (λ (r : CfaRule). cfa_value (evaluation c.image.result.now) (columns old) r) (sym c.cfa.ensures) ∙ sym c.in_ok-cfa.ensures) in
       c.apply.ensures ∙ rw (c.registers.ensures.rules, c.begin.ensures, c.requires)
-      (row_caller (machine_of g.M.Machine.SP.0 g.M.Machine.RA.0) (evaluation c.args.image.now) c.args.image.now (columns old) c.in_ok-cfa.cfa run row.cfa row.rules
+      (row_caller (machine_of g.M.Machine.SP.0 g.M.Machine.RA.0) (evaluation c.args.stack.now) c.args.stack.now (columns old) c.in_ok-cfa.cfa run row.cfa row.rules
       (g.met.M.Machine.has_sp old) (g.met.M.Machine.has_ra old) is.cfa gives c.registers.ensures.ascending is.rules);
 }
