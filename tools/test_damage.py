@@ -1,4 +1,6 @@
 """Tests of damage.py: that a run is repeated by its number, and what a run may end with."""
+from __future__ import annotations
+
 import unittest
 
 from damage import MEMORY, Run, fault_of, run_of, shipped_texts
@@ -8,7 +10,7 @@ FIRST, LAST = b"frame 0 " + STATE % 0x401006, b"frame 1 " + STATE % 0
 LANDING = b"landing " + STATE[:-1] % 0x401070 + b" rax=0x900000 rdx=0x0\n"
 
 
-def fault(word: str, status: int, output: bytes, limit: object = 2) -> "str | None":
+def fault(word: str, status: int, output: bytes, limit: object = 2) -> str | None:
     """What is wrong with such a run."""
     return fault_of(Run("name", word, b"", limit, MEMORY), status, output, b"")
 
