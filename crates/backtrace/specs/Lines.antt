@@ -1,5 +1,5 @@
 -- The lines of a backtrace.
-use Rattle.std.specs.Prelude.{ℕ, ◌+◌, ◌-◌, ◌%◌, ◌^◌, ◌==◌, ◌&&◌, ◌||◌, Bool, List, [], ◌∷◌, ◌++◌, Option, Some, None, codes, nat_lt, is_some, if◌then◌else◌}
+use Rattle.std.specs.Prelude.{ℕ, ◌+◌, ◌-◌, ◌%◌, ◌^◌, ◌==◌, ◌&&◌, Bool, List, [], ◌∷◌, ◌++◌, Option, Some, None, codes, nat_lt, is_some, if◌then◌else◌}
 use Rattle.std.specs.Option.{option_to_list}
 use Rattle.std.specs.Fmt.{decimal}
 use Rattle.unwind_definitions.specs.State.{State}
@@ -41,8 +41,11 @@ pub record FormValue : Type 0 where
   pub origins : List OriginValue
 
 -- the frame's number, in two places at least
+abbrev pub gap_text : ℕ → List ℕ
+gap_text i = if nat_lt i 10 then codes "  " else codes " "
+
 abbrev pub number_text : ℕ → List ℕ
-number_text i = codes "#" ++ decimal i ++ (if nat_lt i 10 then codes "  " else codes " ")
+number_text i = codes "#" ++ decimal i ++ gap_text i
 
 -- the stack pointer and the registers that calls keep
 unfoldable pub kept_text : State → List ℕ
@@ -51,10 +54,10 @@ kept_text s = codes " sp=" ++ hexadecimal s.sp ++ codes " rbx=" ++ hexadecimal s
 
 -- an address of the frame's instruction: its own where the thread was interrupted there, else a byte of the call before it
 abbrev pub inside_of : FormValue → ℕ → Context → ℕ
-inside_of form i c = address_of_call c.ra (form.interrupted && i == 0)
+inside_of form i c = address_of_call c.ra (form.interrupted && (i == 0))
 
 abbrev pub guess_text : FormValue → ℕ → List ℕ
-guess_text form i = if form.called && i == 1 then codes " (return address on the stack)" else []
+guess_text form i = if form.called && (i == 1) then codes " (return address on the stack)" else []
 
 abbrev pub registers_text : FormValue → Context → List ℕ
 registers_text form c = if form.registers then kept_text (state_of c) else []
@@ -64,7 +67,7 @@ frame_line form i c = line (number_text i ++ place_text form.origins c.ra (insid
 
 -- the state outside of the outermost frame, whose return address is 0, is no frame
 abbrev pub frame_text : FormValue → ℕ → Context → List ℕ
-frame_text form i c = if c.ra == 0 && nat_lt 0 i then [] else frame_line form i c
+frame_text form i c = if (c.ra == 0) && nat_lt 0 i then [] else frame_line form i c
 
 -- a line for each frame, with its number from i on
 abbrev pub frame_lines : FormValue → ℕ → List Context → List ℕ

@@ -21,7 +21,7 @@ returned image c = option_and_then (returned_unless_zero c) (word_at image (slic
 
 -- a context was interrupted at the address 0, or in no module
 abbrev pub is_nowhere : SpaceValue → Context → Bool → Bool
-is_nowhere space c interrupted = interrupted && (c.ra == 0 || is_none (module_at space.modules c.ra))
+is_nowhere space c interrupted = interrupted && ((c.ra == 0) || is_none (module_at space.modules c.ra))
 
 abbrev pub IsNowhere : SpaceValue → Context → Bool → Type 0
 IsNowhere space c interrupted = IsTrue interrupted × ((c.ra ≡ 0) ⊎ (module_at space.modules c.ra ≡ None))

@@ -2,7 +2,7 @@
 ghost use Rattle.std.specs.Prelude.{◌≡◌, ◌≤◌, ◌++◌, IfOk, OnOk};
 ghost use Rattle.std.specs.Option.{option_copied};
 ghost use Rattle.stack_deliver.specs.Shown.{state_of};
-ghost use Rattle.backtrace.specs.Lines.{backtrace_text, bad_line, end_line, frame_line, frame_lines, frame_text, guess_text, inside_of, kept_text, number_text, origin_text, place_text, registers_text, states_of, usage_line, why_text};
+ghost use Rattle.backtrace.specs.Lines.{backtrace_text, bad_line, end_line, frame_line, frame_lines, frame_text, gap_text, guess_text, inside_of, kept_text, number_text, origin_text, place_text, registers_text, states_of, usage_line, why_text};
 
 use crate::tracing::Trace;
 use stack_deliver::{Context, DeliverError, Error, Front};
@@ -62,12 +62,19 @@ fn put_place(
     put_origin(report, origins.at(inside), address)
 }
 
+/// What is between a frame's number and its place.
+fn gap_after(index: usize) -> &'static str
+    ensures { result.now ≡ gap_text index }
+{
+    if index < 10 { "  " } else { " " }
+}
+
 /// Puts the frame's number, in two places at least.
 fn put_number(report: &mut Report, index: usize) -> Result<(), AllocError>
     ensures { OnOk result (report.new ≡ report.old ++ number_text index) }
 {
     report.put_count("#", index)?;
-    report.put(if index < 10 { "  " } else { " " })
+    report.put(gap_after(index))
 }
 
 /// Puts the stack pointer and the registers that calls keep.
