@@ -13,7 +13,8 @@ use Rattle.frame_rows.specs.RowValue.{RowValue}
 use Rattle.frame_rows.specs.KeptRows.{Kept, KeptRows, AreKeptOf, kept_rule_count, location_of, reached_locations}
 use Rattle.eh_frame.specs.Listed.{HasUnreadable, SharesAddress, nonempty}
 use Rattle.eh_frame.specs.Views.{fde_of}
-use Rattle.eh_frame.specs.declared.prepared.AddressRange.{AddressRange}
+use Rattle.eh_frame.specs.FdeLists.{IsListedIn, fde_in}
+use Rattle.eh_frame.specs.declared.cie.Cie.{Cie as CodeCie}
 use Rattle.eh_frame.specs.declared.prepared.Found.{Found}
 use Rattle.eh_frame.specs.declared.prepared.PreparedFunction.{PreparedFunction}
 
@@ -148,23 +149,24 @@ shown_answer None = Err NoUnwindInfoForAddress
 
 -- ---- how an index stands in the code
 
-abbrev pub described_in : List Kept → PreparedFunction → Described
-described_in rows f = record { fde = fde_of f.fde; kept = slice_range rows f.first_row f.end_row }
+abbrev pub described_in : List CodeCie → List Kept → PreparedFunction → Described
+described_in cies rows f = record { fde = fde_in cies f.fde; kept = slice_range rows f.first_row f.end_row }
 
-abbrev pub range_of : PreparedFunction → AddressRange
-range_of f = record { start = (fde_of f.fde).start; end = end_of (fde_of f.fde) }
+abbrev pub start_of : PreparedFunction → ℕ
+start_of f = f.fde.initial_address
 
 -- a function has rows, from its start on
-pub record HasRows (rows : List Kept) (f : PreparedFunction) : Type 0 where
+pub record HasRows (cies : List CodeCie) (rows : List Kept) (f : PreparedFunction) : Type 0 where
+  pub listed : IsListedIn cies f.fde
   pub some : f.first_row < f.end_row
   pub within : f.end_row ≤ length rows
-  pub begun : (d : Kept) → location_of (slice_index_or rows f.first_row d) ≤ (fde_of f.fde).start
+  pub begun : (d : Kept) → location_of (slice_index_or rows f.first_row d) ≤ f.fde.initial_address
 
-pub record IsIndex (ranges : List AddressRange) (functions : List PreparedFunction) (rows : KeptRows) : Type 0 where
-  pub ranges_are : ranges ≡ map range_of functions
+pub record IsIndex (cies : List CodeCie) (starts : List ℕ) (functions : List PreparedFunction) (rows : KeptRows) : Type 0 where
+  pub starts_are : starts ≡ map start_of functions
   pub some : 0 < length functions
-  pub apart : AscendApart described_fde 0 (map (described_in rows.rows) functions)
-  pub rowed : AllByRecursion (HasRows rows.rows) functions
+  pub apart : AscendApart described_fde 0 (map (described_in cies rows.rows) functions)
+  pub rowed : AllByRecursion (HasRows cies rows.rows) functions
   pub rows_fit : length rows.rows < 2 ^ 32
   pub rules_fit : rows.rule_count < 2 ^ 32
 

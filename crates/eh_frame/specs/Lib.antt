@@ -6,5 +6,6 @@ pub mod Headers
 pub mod HeaderLists
 pub mod Listing
 pub mod Listed
+pub mod FdeLists
 pub mod Index
 pub mod PreparedSample

@@ -24,6 +24,9 @@ pub mod Returns
 pub mod StepAnswers
 pub mod StepParts
 pub mod StepUndone
+pub mod StoppedUndone
+pub mod StoppedWalk
+pub mod StopSamples
 pub mod Turns
 pub mod Unread
 mod Holding

@@ -14,4 +14,6 @@ pub mod Results
 pub mod Resumes
 pub mod Shown
 pub mod Stepping
+pub mod Stopped
+pub mod StopSample
 pub mod Walking
