@@ -9,14 +9,15 @@ use Rattle.stack_deliver.specs.declared.delivery.DeliverError.{DeliverError}
 use Rattle.stack_deliver.specs.declared.delivery.DeliverError.TheVariants.{NoMemory}
 use Rattle.stack_snapshot.specs.declared.errors.SnapshotError.{SnapshotError}
 use Rattle.stack_snapshot.specs.declared.errors.SnapshotError.TheVariants as faults
-use Rattle.unwind_cli.specs.declared.status.Status.{Status}
-use Rattle.unwind_cli.specs.declared.status.Status.TheVariants.{ReadFault, WriteFault, TooLong, Refused, Memory}
+use Rattle.command_ends.specs.declared.status.Status.{Status}
+use Rattle.command_ends.specs.declared.status.Status.TheVariants.{ReadFault, WriteFault, TooLong, Refused, Memory}
 use Rattle.unwind_cli.specs.declared.words.Command.{Command}
 use Rattle.unwind_cli.specs.declared.words.Command.TheVariants.{Deliver, Walk}
 use Rattle.stack_snapshot.specs.Answers.{content_of}
 use Rattle.stack_snapshot.specs.Content.{Content}
 use Rattle.stack_report.specs.Report.{line}
-use Rattle.unwind_cli.specs.Due.{Verdict, verdict, delivery_from, walk_from, refused_due, delivery_due, walk_due, content_due, command_due, Refuses, Tells, Yields, ComesExactly}
+use Rattle.command_ends.specs.Verdicts.{Verdict, verdict, Tells, Yields, ComesExactly}
+use Rattle.unwind_cli.specs.Due.{delivery_from, walk_from, refused_due, delivery_due, walk_due, content_due, command_due, Refuses}
 
 -- a snapshot was read, and the command's work on it meets an error other than out of memory
 abbrev pub IsRefused : Option Command → List ℕ → Type 0
