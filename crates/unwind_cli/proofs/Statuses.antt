@@ -10,8 +10,8 @@ use Rattle.stack_deliver.specs.declared.delivery.DeliverError.TheVariants.{NoMem
 use Rattle.stack_snapshot.specs.declared.errors.Field.{Field}
 use Rattle.stack_snapshot.specs.declared.errors.SnapshotError.{SnapshotError}
 use Rattle.stack_snapshot.specs.declared.errors.SnapshotError.TheVariants as faults
-use Rattle.unwind_cli.specs.declared.status.Status.{Status}
-use Rattle.unwind_cli.specs.declared.status.Status.TheVariants.{Done, ReadFault, WriteFault, TooLong, NotJson, BadSnapshot, Refused, Memory}
+use Rattle.command_ends.specs.declared.status.Status.{Status}
+use Rattle.command_ends.specs.declared.status.Status.TheVariants.{Done, ReadFault, WriteFault, TooLong, NotJson, BadSnapshot, Refused, Memory}
 use Rattle.unwind_cli.specs.declared.words.Task.{Task}
 use Rattle.unwind_cli.specs.declared.words.Task.TheVariants.{Deliver, Walk}
 use Rattle.unwind_cli.specs.declared.words.Command.{Command}
@@ -20,7 +20,8 @@ use Rattle.unwind_cli.specs.Commands.{task_in}
 use Rattle.stack_snapshot.specs.Answers.{content_of}
 use Rattle.stack_snapshot.specs.Content.{Content}
 use Rattle.stack_report.specs.Report.{line}
-use Rattle.unwind_cli.specs.Due.{Verdict, verdict, delivery_from, walk_from, refused_due, delivery_due, walk_due, snapshot_due, content_due, bytes_due, command_due, Refuses, Tells, Yields, ComesExactly}
+use Rattle.command_ends.specs.Verdicts.{Verdict, verdict, Tells, Yields, ComesExactly}
+use Rattle.unwind_cli.specs.Due.{delivery_from, walk_from, refused_due, delivery_due, walk_due, snapshot_due, content_due, bytes_due, command_due, Refuses}
 
 -- ---- what is answered
 
