@@ -1,5 +1,5 @@
 -- The snapshot of a generated chain is taken, and describes the chain.
-use Rattle.std.proofs.Common.{◌≡◌, ℕ, zero, suc, ◌+◌, ◌<◌, ◌≤◌, ◌^◌, true, List, [], ◌∷◌, length, Some, Ok, refl, sym, ap, subst, ◌∙◌, arith}
+use Rattle.std.proofs.Common.{◌≡◌, ℕ, zero, suc, ◌+◌, ◌<◌, ◌≤◌, ◌^◌, true, List, [], ◌∷◌, length, Some, Result, Ok, Err, refl, sym, ap, subst, ◌∙◌, arith}
 use Rattle.std.proofs.lemmas.Bool.{le-leb, lt-leb}
 use Rattle.memory_image.specs.Image.{Span}
 use Rattle.unwind_definitions.specs.State.{CalleeSaved, RBX, RBP, R12, R13, R14, R15, column_of, value_of, State, Shows}
@@ -22,7 +22,8 @@ use Rattle.generated_chains.specs.Made as made
 use Rattle.stack_snapshot.specs.declared.errors.Field.{Field}
 use Rattle.stack_snapshot.specs.Content.{Content, space_of, takes_regions, takes_modules}
 use Rattle.stack_snapshot.specs.Described.{DescribesChain}
-use Rattle.stack_snapshot.specs.Parts.{assembled}
+use Rattle.stack_snapshot.specs.declared.parts.SnapshotParts.{SnapshotParts}
+use Rattle.stack_snapshot.specs.Parts.{content_in, assembled}
 use Rattle.generated_cases.specs.Case.{case_of, content_with, context_in, context_at, module_over}
 use Rattle.generated_cases.proofs.Taken.{AreTaken, laid_out_taken}
 use Rattle.generated_cases.proofs.AscendingResumes.{ascending_resumes}
@@ -51,6 +52,12 @@ length-calls : (seed : ℕ) (os : List Outline) → length (calls_of seed os) �
 length-calls seed [] = refl
 length-calls seed (o ∷ os) = ap suc (length-calls seed os)
 
+abbrev ok : Content → Result Content Field
+ok s = Ok s
+
+ok_same : (s t : Content) → ok s ≡ Ok t → s ≡ t
+ok_same s t e = cc
+
 module _ (c : Chain) (count seed : ℕ) (some : 0 < count) (few : count ≤ 100000) (is_made : made.IsMade c seed (outlines seed count)) (valid : made.IsValidChain c seed count) where
   abbrev os : List Outline
   os = outlines seed count
@@ -64,6 +71,16 @@ module _ (c : Chain) (count seed : ℕ) (some : 0 < count) (few : count ≤ 1000
   -- a snapshot takes the parts
   pub case_assembled : assembled (content_with c count) ≡ Ok (content_with c count)
   case_assembled = rw (taken.taken, takes_module, le-leb 1 (count + 1) (omega arith), le-leb (count + 1) 1048576 (omega arith)) refl
+
+  -- what is made of them is that snapshot
+  pub parts_made : (p : SnapshotParts) (s : Content) → content_in p ≡ content_with c count → assembled (content_in p) ≡ Ok s → s ≡ content_with c count
+  parts_made p s are is =
+      let both : ok s ≡ Ok (content_with c count) = sym is ∙ ap assembled are ∙ case_assembled in
+      ok_same s (content_with c count) both
+
+  -- and none of them is faulty
+  pub parts_taken : (p : SnapshotParts) (field : Field) → content_in p ≡ content_with c count → assembled (content_in p) ≡ Err field → ⊥
+  parts_taken p field are is = let both : ok (content_with c count) ≡ Err field = sym case_assembled ∙ sym (ap assembled are) ∙ is in cc
 
   resumes_made : resume_table c.resumes.items ≡ resumes_of os
   resumes_made = ap resume_table is_made.resumes ∙ ascending_resumes os (numbered seed 0 count)
