@@ -99,9 +99,9 @@ long_cause (Some (OnSnapshot task)) bytes probes is =
 long_cause (Some (Generate count seed)) bytes probes is = absurd cc
 
 long_due : (o : Option Command) (bytes : List ℕ) (probes : ℕ) → IsTooLong (task_in o) bytes → (command_due o bytes probes).status ≡ TooLong
-long_due None bytes probes is = absurd (let some : IsSome {A = Task} None = is.0 in cc)
+long_due None bytes probes is = absurd (let some : IsSome {T = Task} None = is.0 in cc)
 long_due (Some (OnSnapshot task)) bytes probes is = rw (lt-ltb (2 ^ 26) (length bytes) is.1) refl
-long_due (Some (Generate count seed)) bytes probes is = absurd (let some : IsSome {A = Task} None = is.0 in cc)
+long_due (Some (Generate count seed)) bytes probes is = absurd (let some : IsSome {T = Task} None = is.0 in cc)
 
 -- ---- no JSON text
 
@@ -115,9 +115,9 @@ unread_cause (Some (OnSnapshot task)) bytes probes is =
 unread_cause (Some (Generate count seed)) bytes probes is = absurd cc
 
 unread_due : (o : Option Command) (bytes : List ℕ) (probes : ℕ) → IsUnread (task_in o) bytes → (command_due o bytes probes).status ≡ NotJson
-unread_due None bytes probes is = absurd (let some : IsSome {A = Task} None = is.0 in cc)
+unread_due None bytes probes is = absurd (let some : IsSome {T = Task} None = is.0 in cc)
 unread_due (Some (OnSnapshot task)) bytes probes is = rw (le-ltb (2 ^ 26) (length bytes) is.1, is.2) refl
-unread_due (Some (Generate count seed)) bytes probes is = absurd (let some : IsSome {A = Task} None = is.0 in cc)
+unread_due (Some (Generate count seed)) bytes probes is = absurd (let some : IsSome {T = Task} None = is.0 in cc)
 
 -- ---- a faulty field
 
@@ -131,9 +131,9 @@ faulty_cause (Some (OnSnapshot task)) bytes probes is =
 faulty_cause (Some (Generate count seed)) bytes probes is = absurd cc
 
 faulty_due : (o : Option Command) (bytes : List ℕ) (probes : ℕ) → IsFaulty (task_in o) bytes → (command_due o bytes probes).status ≡ BadSnapshot
-faulty_due None bytes probes is = absurd (let some : IsSome {A = Task} None = is.0 in cc)
+faulty_due None bytes probes is = absurd (let some : IsSome {T = Task} None = is.0 in cc)
 faulty_due (Some (OnSnapshot task)) bytes probes is = let f = is.2 in rw (le-ltb (2 ^ 26) (length bytes) is.1, f.1) refl
-faulty_due (Some (Generate count seed)) bytes probes is = absurd (let some : IsSome {A = Task} None = is.0 in cc)
+faulty_due (Some (Generate count seed)) bytes probes is = absurd (let some : IsSome {T = Task} None = is.0 in cc)
 
 -- ---- a task that is refused
 
