@@ -1,5 +1,5 @@
 -- The snapshot of a generated chain is taken, and describes the chain.
-use Rattle.std.proofs.Common.{◌≡◌, ℕ, zero, suc, ◌+◌, ◌<◌, ◌≤◌, ◌^◌, true, List, [], ◌∷◌, length, Some, Result, Ok, Err, refl, sym, ap, subst, ◌∙◌, arith}
+use Rattle.std.proofs.Common.{◌≡◌, ℕ, zero, suc, ◌+◌, ◌<◌, ◌≤◌, ◌^◌, true, List, [], ◌∷◌, length, Some, Result, Ok, refl, sym, ap, subst, ◌∙◌, arith}
 use Rattle.std.proofs.lemmas.Bool.{le-leb, lt-leb}
 use Rattle.memory_image.specs.Image.{Span}
 use Rattle.unwind_definitions.specs.State.{CalleeSaved, RBX, RBP, R12, R13, R14, R15, column_of, value_of, State, Shows}
@@ -13,7 +13,7 @@ use Rattle.stack_deliver.specs.Resumes.{resume_table}
 use Rattle.generated_chains.specs.declared.outline.Outline.{Outline}
 use Rattle.generated_chains.specs.declared.stack.Registers.{Registers}
 use Rattle.generated_chains.specs.declared.chain.Chain.{Chain}
-use Rattle.generated_chains.specs.Outlines.{outlines, outlines_from, AreNumbered}
+use Rattle.generated_chains.specs.Outlines.{following, outlines, outlines_from, AreNumbered}
 use Rattle.generated_chains.specs.Code.{functions_of}
 use Rattle.generated_chains.specs.Calls.{state_of, calls_of, resumes_of}
 use Rattle.generated_chains.specs.Memory.{by_header, image_of}
@@ -42,11 +42,11 @@ shows r = record { ra = refl; sp = refl; saved = saved }
 
 numbered : (x index outer : ℕ) → AreNumbered index (outlines_from x index outer)
 numbered x index zero = tt
-numbered x index (suc outer) = (refl, numbered _ (index + 1) outer)
+numbered x index (suc outer) = (refl, numbered (following x) (index + 1) outer)
 
 length-outlines : (x index outer : ℕ) → length (outlines_from x index outer) ≡ outer
 length-outlines x index zero = refl
-length-outlines x index (suc outer) = ap suc (length-outlines _ (index + 1) outer)
+length-outlines x index (suc outer) = ap suc (length-outlines (following x) (index + 1) outer)
 
 length-calls : (seed : ℕ) (os : List Outline) → length (calls_of seed os) ≡ length os
 length-calls seed [] = refl
@@ -77,10 +77,6 @@ module _ (c : Chain) (count seed : ℕ) (some : 0 < count) (few : count ≤ 1000
   parts_made p s are is =
       let both : ok s ≡ Ok (content_with c count) = sym is ∙ ap assembled are ∙ case_assembled in
       ok_same s (content_with c count) both
-
-  -- and none of them is faulty
-  pub parts_taken : (p : SnapshotParts) (field : Field) → content_in p ≡ content_with c count → assembled (content_in p) ≡ Err field → ⊥
-  parts_taken p field are is = let both : ok (content_with c count) ≡ Err field = sym case_assembled ∙ sym (ap assembled are) ∙ is in cc
 
   resumes_made : resume_table c.resumes.items ≡ resumes_of os
   resumes_made = ap resume_table is_made.resumes ∙ ascending_resumes os (numbered seed 0 count)
