@@ -1,14 +1,21 @@
--- What is counted of a delivery that the outermost function catches.
+-- The delivery over a generated chain, and what is counted of it.
 use Rattle.std.proofs.Common.{◌≡◌, ℕ, ◌-◌, ◌/◌, List, length, Option, refl, sym, ap, ◌∙◌}
 use Rattle.std.proofs.lemmas.List.{length-map}
+use Rattle.unwind_definitions.specs.State.{State}
+use Rattle.unwind_definitions.specs.Function.{Function}
+use Rattle.unwind_definitions.specs.Chain.{Call}
 use Rattle.unwind_definitions.specs.Delivery as described
 use Rattle.unwind_arch.specs.declared.x86_64.Context.{Context}
 use Rattle.stack_deliver.specs.declared.delivery.Trail.{Trail}
 use Rattle.stack_deliver.specs.declared.delivery.Outcome.{Outcome}
 use Rattle.stack_deliver.specs.declared.delivery.Outcome.TheVariants.{Installed, EndOfStack, FatalPhase1, FatalPhase2}
+use Rattle.stack_deliver.specs.Modules.{SpaceValue}
+use Rattle.stack_deliver.specs.Walking.{StartsValidChain}
 use Rattle.stack_deliver.specs.Delivering.{Delivered}
 use Rattle.stack_deliver.specs.Shown.{state_of, pair_of, outcome_of, delivery_shown}
 use Rattle.generated_chains.specs.Caught.{IsCaught}
+use Rattle.stack_snapshot.specs.Content.{Content, space_of}
+use Rattle.stack_snapshot.specs.Described.{DescribesChain}
 
 installed : (o : Outcome) → outcome_of o ≡ described.Installed → o ≡ Installed
 installed Installed e = refl
@@ -27,3 +34,9 @@ caught_counts d e count shows is = record {
   cleanups = sym (length-map d.trail pair_of) ∙ ap (λ (x : described.Delivery). length x.trail) shows ∙ is.cleanups;
   outcome = installed d.outcome (ap (λ (x : described.Delivery). x.outcome) shows ∙ is.outcome);
 }
+
+-- a delivery starts as its snapshot says, over a space of the same memory and modules
+pub starts_chain : (s : Content) (space : SpaceValue) (start : Context) (resumes : List (ℕ × ℕ)) (limit : ℕ) (functions : List Function) (state : State) (calls : List Call)
+    → space.image ≡ (space_of s).image → space.modules ≡ (space_of s).modules → start ≡ s.start → resumes ≡ s.resumes → limit ≡ s.limit
+    → DescribesChain s functions state calls → StartsValidChain space start resumes limit functions state calls
+starts_chain s space start resumes limit functions state calls image modules at by most described = rw (image, modules, at, by, most) described
