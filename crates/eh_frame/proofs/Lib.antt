@@ -15,6 +15,7 @@ mod HeaderParts
 mod Ascending
 mod Indexed
 mod Keeping
+mod ListingFdes
 mod Collecting
 mod Preparing
 mod Exactly

@@ -5,5 +5,6 @@ pub mod Shared
 pub mod Headers
 pub mod Listing
 pub mod Listed
+pub mod FdeLists
 pub mod Index
 pub mod PreparedSample

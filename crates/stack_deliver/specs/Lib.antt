@@ -12,4 +12,6 @@ pub mod Results
 pub mod Resumes
 pub mod Shown
 pub mod Stepping
+pub mod Stopped
+pub mod StopSample
 pub mod Walking

@@ -105,7 +105,7 @@ impl<'a> Space<'a> {
     }
 
     /// The module that contains the address.
-    pub(crate) fn module_at(&self, address: u64) -> Option<Module>
+    pub fn module_at(&self, address: u64) -> Option<Module>
         ensures { result ≡ module_at self.now.modules address }
     {
         match last_below(&self.modules, address) {
@@ -121,7 +121,7 @@ impl<'a> Space<'a> {
     }
 
     /// The memory that the modules lie in.
-    pub(crate) fn image(&self) -> &MemoryImage<'a>
+    pub fn image(&self) -> &MemoryImage<'a>
         ensures image { result.now ≡ self.now.image }
         ensures apart { AreApart 0 self.now.modules }
         ensures laid_out { IsLaidOut 0 self.now.image }

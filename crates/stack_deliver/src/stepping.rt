@@ -19,6 +19,7 @@ ghost use Rattle.stack_deliver.specs.Passing.{IsFrameOf, GivesFrameAt};
 ghost use Rattle.stack_deliver.specs.Results.{result_map};
 ghost use Rattle.stack_deliver.specs.Stepping.{FrameAt, frame_by, frame_in, frame_of, caller_by, step_of, pairs_at, GivesCaller, EndsAt, FaultsAt, RisesBySearch, ReadIsUnmapped};
 ghost use Rattle.stack_deliver.specs.Walking.{IsDescribedCall, Undone};
+ghost use Rattle.stack_deliver.specs.Stopped.{IsDescribedStop};
 
 use crate::delivery::{DeliverError, Stepped};
 use crate::space::{Module, Space};
@@ -188,6 +189,11 @@ pub fn step<L: Ledger>(
     ensures undone { (functions : List Function) (s : State) (call : Call) →
         IsDescribedCall (process_of space.now) functions s call →
         Shows (columns_of context.now) s → IsFalse interrupted →
+        Undone result (columns_of context.now) call.caller }
+    // The same where the function was stopped at any instruction of its prologue or its body.
+    ensures stopped { (functions : List Function) (s : State) (call : Call) →
+        IsDescribedStop (process_of space.now) functions s call →
+        Shows (columns_of context.now) s → IsTrue interrupted →
         Undone result (columns_of context.now) call.caller }
     // No step is counted where the module names a frame table.
     ensures ticks { RisesBySearch (pairs_at space.now context.now interrupted) steps.old.number

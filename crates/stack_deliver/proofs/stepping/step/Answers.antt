@@ -1,10 +1,11 @@
-use Rattle.std.proofs.Common.{◌≡◌, false, sym, subst, ◌∙◌, Result, Option}
+use Rattle.std.proofs.Common.{◌≡◌, true, false, sym, subst, ◌∙◌, Result, Option}
 use Rattle.stack_deliver.specs.declared.delivery.DeliverError.{DeliverError}
 use Rattle.stack_deliver.specs.declared.delivery.Stepped.{Stepped}
 use Rattle.unwind_arch.specs.Contexts.{columns_of}
 use Rattle.stack_deliver.specs.Walking.{Undone}
 use Rattle.stack_deliver.specs.Stepping.{step_of}
 use Rattle.stack_deliver.proofs.MetFrames.{step_undone}
+use Rattle.stack_deliver.proofs.StoppedUndone.{stopped_undone}
 use Rattle.stack_deliver.proofs.StepAnswers.{step_ends, ends_step, step_unmapped, step_read, read_step, step_table, table_step, step_caller, caller_step}
 use Rattle.stack_deliver.proofs.stepping.step.Goals as goal
 
@@ -12,6 +13,11 @@ pub returns-clause-undone : goal.returns-clause-undone
 returns-clause-undone g c functions s call is shows called =
     let at : step_of c.args.space.now c.args.context.now false ≡ c.stepped.result = sym (rw called at c.stepped.ensures.exact) in
     subst (λ (r : Result (Option Stepped) DeliverError). Undone r (columns_of c.args.context.now) call.caller) at (step_undone c.args.space.now c.args.context.now functions s call c.stepped.ensures.apart c.stepped.ensures.laid_out is shows)
+
+pub returns-clause-stopped : goal.returns-clause-stopped
+returns-clause-stopped g c functions s call is shows marked =
+    let at : step_of c.args.space.now c.args.context.now true ≡ c.stepped.result = sym (rw marked at c.stepped.ensures.exact) in
+    subst (λ (r : Result (Option Stepped) DeliverError). Undone r (columns_of c.args.context.now) call.caller) at (stopped_undone c.args.space.now c.args.context.now s call c.stepped.ensures.apart c.stepped.ensures.laid_out is.returns shows functions is)
 
 pub returns-clause-ends : goal.returns-clause-ends
 returns-clause-ends g c = (λ e. step_ends c.args.space.now c.args.context.now c.args.interrupted (sym c.stepped.ensures.exact ∙ e), λ ends. c.stepped.ensures.exact ∙ ends_step c.args.space.now c.args.context.now c.args.interrupted ends)
