@@ -70,7 +70,8 @@ pub(crate) struct Machine<'a> {
 
 impl<'a> Machine<'a> {
     ghost use Rattle.std.specs.Prelude.{[], ◌∷◌, ◌<◌, List};
-    ghost use Rattle.unwind_definitions.specs.Instructions.{Instruction, Advance, SetLocation, Write, Reset, Remember, Restore, CfaColumn, CfaOffset};
+    ghost use Rattle.unwind_definitions.specs.Instructions.{Instruction, Advance, SetLocation, Write, Reset};
+    ghost use Rattle.unwind_definitions.specs.Instructions.{Remember, Restore, CfaColumn, CfaOffset};
     ghost use Rattle.unwind_definitions.specs.Row.{RowInstructions, from_common, location as location_after};
     ghost use Rattle.frame_rows.specs.Rules.{rule_meaning, rule_in};
     ghost use Rattle.frame_rows.specs.Decoded.{meaning};
@@ -166,6 +167,7 @@ impl<'a> Machine<'a> {
     }
 
     /// Where an instruction leads on from the location. One that is a fault there doesn't.
+    #[inline(always)]
     pub(crate) fn leads_on(&self, instruction: CallFrameInstruction<'a>) -> Option<u64>
         ensures { LeadsOn self.now.location (meaning instruction.entry) result }
     {
@@ -289,6 +291,7 @@ impl<'a> Machine<'a> {
     }
 
     /// Runs one instruction. After a fault the machine is unspecified.
+    #[inline(always)]
     pub(crate) fn run(&mut self, instruction: CallFrameInstruction<'a>) -> Result<(), Error>
         ensures { (start : ℕ) (run : RowInstructions) → Represents start self.old run →
             Follows start run (meaning instruction.entry) result self.new }

@@ -47,7 +47,8 @@ pub(crate) fn run_programs<'a>(
     pc: u64,
 ) -> Result<(), Error>
     ensures { let coding = coding_in coding.entry in
-        MakesRow start result machine.new (row start pc (program coding (at common.entry)) (program coding (at own.entry))) }
+        MakesRow start result machine.new (row start pc
+        (program coding (at common.entry)) (program coding (at own.entry))) }
 {
     begin_own(machine, common, coding, start)?;
     run_program(machine, own, coding, Some(pc))

@@ -16,3 +16,5 @@ mod resumes;
 mod rooms;
 #[cfg(test)]
 mod runs;
+#[cfg(test)]
+mod stops;

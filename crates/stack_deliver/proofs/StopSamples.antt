@@ -1,5 +1,5 @@
 -- Stops after each step of a function's prologue and in its body are described, and so are walks from two stops.
-use Rattle.std.proofs.Common.{◌≡◌, ◌≢◌, ℕ, zero, suc, ◌-◌, ◌<◌, ◌≤◌, true, false, leb, ltb, List, [], ◌∷◌, Some, None, Ok, refl, subst, ◌∙◌, arith, inl, inr, lit<, lit≤}
+use Rattle.std.proofs.Common.{◌≡◌, ◌≢◌, ℕ, zero, suc, ◌-◌, ◌<◌, ◌≤◌, true, false, leb, ltb, List, [], ◌∷◌, Some, None, Ok, refl, ◌∙◌, arith, inl, inr, lit<, lit≤}
 use Rattle.std.specs.Prelude.{IsTrue}
 use Rattle.std.specs.List.{AllPairs, Contains}
 use Rattle.std.proofs.lemmas.Bool.{leb-true, ltb-true, cases_lt}
@@ -14,7 +14,7 @@ use Rattle.unwind_definitions.specs.Function.{in_body, IsFunction}
 use Rattle.unwind_definitions.specs.DescribedRows.{HasRow, IsBodyRow, IsPrologueRow, MayFindLate, FindsRegister, ended_by, DescribesRows}
 use Rattle.unwind_definitions.specs.LanguageTable.{input_at}
 use Rattle.unwind_definitions.specs.FrameTable.{DescribesFunction, DescribesFrames}
-use Rattle.unwind_definitions.specs.Module.{Module, in_module, DescriptionsApart, DescribesModule, CoversNot}
+use Rattle.unwind_definitions.specs.Module.{Module, in_module, DescriptionsApart, DescribesModule}
 use Rattle.unwind_definitions.specs.Stopped.{StandsAfter}
 use Rattle.unwind_definitions.specs.Valid.{LiesDescribed}
 use Rattle.unwind_laws.specs.Pushing as pushing

@@ -1,5 +1,5 @@
 -- The walk from a state that was stopped in a described function, over the chain that its caller begins.
-use Rattle.std.proofs.Common.{◌≡◌, ℕ, zero, suc, ◌+◌, ◌<◌, true, false, List, [], ◌∷◌, length, Ok, refl, arith, inl, inr}
+use Rattle.std.proofs.Common.{◌≡◌, ℕ, zero, suc, ◌<◌, true, false, List, [], ◌∷◌, length, Ok, refl, arith, inl, inr}
 use Rattle.std.specs.Prelude.{◌⊎◌}
 use Rattle.memory_image.specs.Image.{Span, IsLaidOut}
 use Rattle.unwind_definitions.specs.State.{State}
@@ -15,7 +15,7 @@ use Rattle.stack_deliver.specs.Processes.{process_of}
 use Rattle.stack_deliver.specs.Stepping.{step_of}
 use Rattle.stack_deliver.specs.Delivering.{line_of}
 use Rattle.stack_deliver.specs.Walking.{Undone, ShowChain}
-use Rattle.stack_deliver.specs.Stopped.{StandsInPrologue, StandsInBody, IsDescribedStop, StartsStopped}
+use Rattle.stack_deliver.specs.Stopped.{StandsInPrologue, StandsInBody, StartsStopped}
 use Rattle.stack_deliver.proofs.LineShows.{line_shows}
 use Rattle.stack_deliver.proofs.StoppedUndone.{stopped_undone}
 

@@ -1,7 +1,7 @@
 -- A function with a step of each kind, its frame table, and states that were stopped after each of its steps and in its body.
 use Rattle.std.specs.Prelude.{ℕ, ◌-◌, ◌^◌, false, List, [], ◌∷◌, None}
 use Rattle.memory_image.specs.Image.{Span}
-use Rattle.unwind_definitions.specs.Instructions.{Instruction, Nop, Advance, Write, Cfa, CfaColumn, CfaOffset, Offset}
+use Rattle.unwind_definitions.specs.Instructions.{Instruction, Nop, Advance, Write, CfaColumn, CfaOffset, Offset}
 use Rattle.unwind_definitions.specs.Entries.{Fde, Entry, ACie, AFde}
 use Rattle.unwind_definitions.specs.State.{State, RBX, RBP, R12}
 use Rattle.unwind_definitions.specs.Prologue.{Followed, Push, Allocate, SetFrame, Store}

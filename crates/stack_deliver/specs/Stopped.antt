@@ -1,5 +1,5 @@
 -- A program that was stopped anywhere in a function, where it stands and not in a call: its state, and its caller.
-use Rattle.std.specs.Prelude.{◌≢◌, ◌⊎◌, ℕ, ◌+◌, ◌<◌, List, ◌∷◌, length, IsTrue, IsFalse}
+use Rattle.std.specs.Prelude.{◌≢◌, ◌⊎◌, ℕ, ◌+◌, ◌<◌, List, length, IsTrue, IsFalse}
 use Rattle.std.specs.List.{Contains}
 use Rattle.memory_image.specs.Image.{Span}
 use Rattle.unwind_definitions.specs.State.{State, Shows, IsState}
