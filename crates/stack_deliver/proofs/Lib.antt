@@ -31,3 +31,5 @@ pub mod Turns
 pub mod Unread
 mod Holding
 mod Making
+mod IndexFinds
+pub mod SameAnswers
