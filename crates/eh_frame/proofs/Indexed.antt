@@ -221,3 +221,8 @@ pair_there (f ∷ fs) (suc i) frame p d lt is = pair_there fs i frame p d (omega
 pub answer_same : (r : Result (ℕ × ℕ) Fault) (due : Result (ℕ × ℕ) Fault) → Answers (λ p. p) r due → due ≡ r
 answer_same (Ok p) due is = is
 answer_same (Err e) due is = is
+
+-- a list that has an index has an item
+pub an_item : (fs : List Described) (i : ℕ) → i < length fs → Described
+an_item [] i lt = absurd (omega arith)
+an_item (f ∷ fs) i lt = f
