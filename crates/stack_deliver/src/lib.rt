@@ -1,6 +1,38 @@
 //! Delivers an exception over a stack that lies in an image of memory: the modules that the image
 //! holds, the step from a frame to its caller, the states that are visited, the cleanups that run,
 //! and the landing at the handler.
+//!
+//! The frames of a stack, from memory that is at hand:
+//!
+//! ```rust
+//! use memory_image::MemoryImage;
+//! use stack_deliver::{Context, FrameInfo, FrameInfoKind, Space, walk};
+//!
+//! let mut image = MemoryImage::new(rt.alloc());
+//! image.add(0x7000, &stack)?;
+//! image.add(0x50_0000, &eh_frame)?;
+//! let mut space = Space::new(rt.alloc(), image);
+//! let kind = FrameInfoKind::EhFrame(0x50_0000);
+//! space.add_elf(
+//!     0x40_1000,
+//!     0x40_1010,
+//!     FrameInfo {
+//!         text_base: None,
+//!         kind,
+//!     },
+//! )?;
+//! let start = Context {
+//!     ra: 0x40_1006,
+//!     registers,
+//!     ..Context::default()
+//! };
+//! let visited = walk(rt.alloc(), &space, &start, true, 1_000)?;
+//! for i in 0..visited.len() {
+//!     if let Some(context) = visited.get(i) {
+//!         println!(rt; "{:#x}", context.ra)?;
+//!     }
+//! }
+//! ```
 #![tactic(auto)]
 
 mod delivering;
@@ -8,6 +40,7 @@ mod delivery;
 mod front;
 mod passes;
 mod personality;
+mod prepared;
 mod resumes;
 mod room;
 mod space;

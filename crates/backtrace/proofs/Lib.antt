@@ -1,0 +1,3 @@
+pub mod Backtraces
+pub mod Written
+pub mod Returning

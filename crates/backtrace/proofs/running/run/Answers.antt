@@ -1,0 +1,41 @@
+use Rattle.std.proofs.Common.{inl, inr, ◌≡◌, ◌≢◌, ℕ, List, Option, refl, sym, subst, ◌∙◌}
+use Rattle.std.specs.Io.KnownBytes.{Appends}
+use Rattle.command_ends.specs.declared.status.Status.TheVariants.{Done, WriteFault}
+use Rattle.command_ends.specs.Verdicts.{Verdict, verdict, IsReadyOrFailed, Tells}
+use Rattle.command_ends.proofs.VerdictLemmas.{if_some_weaker, of_some}
+use Rattle.backtrace.specs.Due.{IsBacktrace, due_of, text_of}
+use Rattle.backtrace.proofs.Backtraces.{ready_with, if_some_both, asked_due, asked_backtrace}
+use Rattle.backtrace.proofs.running.run.Goals as goal
+
+pub returns-clause-told : goal.returns-clause-told
+returns-clause-told g c =
+    let a = c.decide-answer.result in
+    let words = c.args.words.now in
+    let P : List ℕ → Type 0 = λ bytes. IsReadyOrFailed (due_of words bytes a.text) a.status a.text in
+    let Q : List ℕ → Type 0 = λ bytes. IsBacktrace words bytes a.text in
+    let R : List ℕ → Type 0 = λ bytes. (text : List ℕ) → IsBacktrace words bytes text → Tells (due_of words bytes text) c.tell.result (g.O.Sink.holds c.args.output.now) (g.O.Sink.holds c.tell.new.output) in
+    if_some_both (g.I.Source.left c.args.input.now) (a.status ≡ Done) P Q R
+    (λ bytes ready done text is. c.tell.ensures.told (due_of words bytes text) (ready_with words bytes a.text text a.status ready done is) c.decide-answer.ensures.silent c.decide-answer.ensures.kind.0)
+    c.decide-answer.ensures.answer c.decide-answer.ensures.backtrace
+
+pub returns-clause-done : goal.returns-clause-done
+returns-clause-done g c = λ is.
+    let a = c.decide-answer.result in
+    let words = c.args.words.now in
+    let before : Option (List ℕ) = g.O.Sink.holds c.args.output.now in
+    let after : Option (List ℕ) = g.O.Sink.holds c.tell.new.output in
+    let Q : List ℕ → Type 0 = λ bytes. IsBacktrace words bytes a.text in
+    let R : List ℕ → Type 0 = λ bytes. (text : List ℕ) × IsBacktrace words bytes text × Appends before after text in
+    elim c.tell.ensures.done [
+      inl w ↦ if_some_weaker (g.I.Source.left c.args.input.now) Q R (λ bytes backtrace. (a.text, backtrace, w.1)) (c.decide-answer.ensures.backtrace (sym w.0 ∙ is))
+    | inr w ↦ absurd cc
+    ]
+
+pub returns-clause-traced : goal.returns-clause-traced
+returns-clause-traced g c = λ o s origins t asks is.
+    let words = c.args.words.now in
+    let P : Verdict → Type 0 = λ due. Tells due c.tell.result (g.O.Sink.holds c.args.output.now) (g.O.Sink.holds c.tell.new.output) in
+    let R : List ℕ → Type 0 = λ bytes. (text : List ℕ) → IsBacktrace words bytes text → P (due_of words bytes text) in
+    let text = text_of o s origins t in
+    subst P (asked_due o words (g.I.Source.left c.args.input.now) s origins text asks)
+    (of_some (g.I.Source.left c.args.input.now) asks.bytes R asks.source_is (returns-clause-told g c) text (asked_backtrace o words (g.I.Source.left c.args.input.now) s origins t asks is))

@@ -1,0 +1,5 @@
+pub mod Options
+pub mod Tracing
+pub mod Lines
+pub mod Due
+pub mod Sample

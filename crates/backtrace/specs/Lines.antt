@@ -1,0 +1,110 @@
+-- The lines of a backtrace.
+use Rattle.std.specs.Prelude.{ℕ, ◌+◌, ◌-◌, ◌%◌, ◌^◌, ◌==◌, ◌&&◌, Bool, List, [], ◌∷◌, ◌++◌, Option, Some, None, codes, nat_lt, is_some, if◌then◌else◌}
+use Rattle.std.specs.Option.{option_to_list}
+use Rattle.std.specs.Fmt.{decimal}
+use Rattle.unwind_definitions.specs.State.{State}
+use Rattle.unwind_definitions.specs.LanguageSearch.{address_of_call}
+use Rattle.unwind_arch.specs.declared.x86_64.Context.{Context}
+use Rattle.stack_deliver.specs.declared.front.Front.{Front}
+use Rattle.stack_deliver.specs.declared.front.Front.TheVariants.{Outermost, NoModule, NoDescription, UnreadableTable, Refused, Limit}
+use Rattle.stack_deliver.specs.Shown.{state_of}
+use Rattle.stack_snapshot.specs.Origins.{OriginValue, origin_at, file_name}
+use Rattle.stack_snapshot.specs.declared.errors.Field.{Field}
+use Rattle.stack_snapshot.specs.Names.{field_name}
+use Rattle.stack_report.specs.Digits.{hexadecimal, word}
+use Rattle.stack_report.specs.Refusals.{error_name, refusal_text}
+use Rattle.stack_report.specs.Report.{line}
+use Rattle.backtrace.specs.Tracing.{TraceValue}
+
+-- ---- where an address lies
+
+-- the address in a file: what was added to the file's addresses is taken off
+abbrev pub offset_in : OriginValue → ℕ → ℕ
+offset_in o a = (a + (2 ^ 64 - o.bias)) % 2 ^ 64
+
+abbrev pub origin_text : Option OriginValue → ℕ → List ℕ
+origin_text None a = []
+origin_text (Some o) a = codes " in " ++ file_name o.path ++ codes "+" ++ hexadecimal (offset_in o a)
+
+-- an address, and its file and place in it, by the module that holds another address of the same instruction
+unfoldable pub place_text : List OriginValue → ℕ → ℕ → List ℕ
+place_text origins a inside = word a ++ origin_text (origin_at origins inside) a
+
+-- ---- frames
+
+-- What the lines say beside the states: registers too, whether the first state was interrupted, whether the second was read
+-- from the stack, and from which files the modules come.
+pub record FormValue : Type 0 where
+  pub registers : Bool
+  pub interrupted : Bool
+  pub called : Bool
+  pub origins : List OriginValue
+
+-- the frame's number, in two places at least
+abbrev pub gap_text : ℕ → List ℕ
+gap_text i = if nat_lt i 10 then codes "  " else codes " "
+
+abbrev pub number_text : ℕ → List ℕ
+number_text i = codes "#" ++ decimal i ++ gap_text i
+
+-- the stack pointer and the registers that calls keep
+unfoldable pub kept_text : State → List ℕ
+kept_text s = codes " sp=" ++ hexadecimal s.sp ++ codes " rbx=" ++ hexadecimal s.rbx ++ codes " rbp=" ++ hexadecimal s.rbp
+    ++ codes " r12=" ++ hexadecimal s.r12 ++ codes " r13=" ++ hexadecimal s.r13 ++ codes " r14=" ++ hexadecimal s.r14 ++ codes " r15=" ++ hexadecimal s.r15
+
+-- an address of the frame's instruction: its own where the thread was interrupted there, else a byte of the call before it
+abbrev pub inside_of : FormValue → ℕ → Context → ℕ
+inside_of form i c = address_of_call c.ra (form.interrupted && (i == 0))
+
+abbrev pub guess_text : FormValue → ℕ → List ℕ
+guess_text form i = if form.called && (i == 1) then codes " (return address on the stack)" else []
+
+abbrev pub registers_text : FormValue → Context → List ℕ
+registers_text form c = if form.registers then kept_text (state_of c) else []
+
+unfoldable pub frame_line : FormValue → ℕ → Context → List ℕ
+frame_line form i c = line (number_text i ++ place_text form.origins c.ra (inside_of form i c) ++ guess_text form i ++ registers_text form c)
+
+-- the state outside of the outermost frame, whose return address is 0, is no frame
+abbrev pub frame_text : FormValue → ℕ → Context → List ℕ
+frame_text form i c = if (c.ra == 0) && nat_lt 0 i then [] else frame_line form i c
+
+-- a line for each frame, with its number from i on
+abbrev pub frame_lines : FormValue → ℕ → List Context → List ℕ
+frame_lines form i [] = []
+frame_lines form i (c ∷ cs) = frame_text form i c ++ frame_lines form (i + 1) cs
+
+-- ---- why there are no more
+
+-- why a walk goes no further
+abbrev pub why_text : List OriginValue → Front → List ℕ
+why_text origins Outermost = codes "the outermost frame, which returns to 0"
+why_text origins (NoModule a) = codes "no module holds " ++ word a
+why_text origins (NoDescription a) = codes "no description of " ++ place_text origins a a
+why_text origins (UnreadableTable a offset e) = codes "no description of " ++ place_text origins a a ++ codes ", since the entry at " ++ hexadecimal offset ++ codes " of its frame table can't be read: " ++ error_name e
+why_text origins (Refused a e) = codes "no caller of " ++ place_text origins a a ++ codes ": " ++ refusal_text e
+why_text origins Limit = codes "more frames than the limit"
+
+abbrev pub end_line : List OriginValue → Front → List ℕ
+end_line origins why = line (codes "end: " ++ why_text origins why)
+
+-- ---- the whole text
+
+-- all states, from the start outwards
+abbrev pub states_of : TraceValue → List Context
+states_of t = option_to_list t.first ++ t.states
+
+abbrev pub form_of : Bool → Bool → List OriginValue → TraceValue → FormValue
+form_of registers interrupted origins t = record { registers = registers; interrupted = interrupted; called = is_some t.first; origins = origins }
+
+-- What is written of a trace: by whether registers are asked for, whether its start was interrupted, and the modules' files.
+unfoldable pub backtrace_text : Bool → Bool → List OriginValue → TraceValue → List ℕ
+backtrace_text registers interrupted origins t = frame_lines (form_of registers interrupted origins t) 0 (states_of t) ++ end_line origins t.why
+
+-- ---- the lines in its place
+
+abbrev pub bad_line : Field → List ℕ
+bad_line field = line (codes "bad snapshot: " ++ field_name field)
+
+abbrev pub usage_line : List ℕ
+usage_line = line (codes "usage: backtrace [--registers]")

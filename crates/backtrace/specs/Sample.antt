@@ -1,0 +1,52 @@
+-- A thread that was interrupted at the address 0, with the return address of the call that led there on its stack.
+use Rattle.std.specs.Prelude.{ℕ, true, false, List, [], ◌∷◌, ◌++◌, replicate, Some, None, codes}
+use Rattle.unwind_definitions.specs.State.{State}
+use Rattle.unwind_definitions.specs.Function.{Function}
+use Rattle.unwind_arch.specs.declared.x86_64.Context.{Context}
+use Rattle.stack_deliver.specs.declared.front.Front.TheVariants.{NoModule}
+use Rattle.stack_snapshot.specs.Content.{Content}
+use Rattle.stack_report.specs.Report.{line}
+use Rattle.backtrace.specs.Tracing.{TraceValue}
+
+-- a return address, a stack pointer, and no other register
+abbrev pub context : ℕ → ℕ → Context
+context ra sp = record { registers = 0 ∷ 0 ∷ 0 ∷ 0 ∷ 0 ∷ 0 ∷ 0 ∷ sp ∷ 0 ∷ 0 ∷ 0 ∷ 0 ∷ 0 ∷ 0 ∷ 0 ∷ 0 ∷ []; ra = ra; mcxsr = 0; fcw = 0 }
+
+abbrev pub state : ℕ → ℕ → State
+state ra sp = record { ra = ra; sp = sp; rbx = 0; rbp = 0; r12 = 0; r13 = 0; r14 = 0; r15 = 0 }
+
+abbrev pub snapshot : Content
+snapshot = record {
+  regions = record { start = 0x7000; bytes = 0x05 ∷ 0x10 ∷ 0 ∷ 0 ∷ 0 ∷ 0 ∷ 0 ∷ 0 ∷ [] } ∷ [];
+  modules = [];
+  start = context 0 0x7000;
+  exception = 0;
+  class = 0;
+  resumes = [];
+  limit = 2;
+  interrupted = true;
+}
+
+-- its caller is in no module either
+abbrev pub trace : TraceValue
+trace = record { first = Some (context 0 0x7000); states = context 0x1005 0x7008 ∷ []; why = NoModule 0x1004 }
+
+abbrev pub text : List ℕ
+text = line (codes "#0  0x0000000000000000")
+    ++ line (codes "#1  0x0000000000001005 (return address on the stack)")
+    ++ line (codes "end: no module holds 0x0000000000001004")
+
+-- the snapshot's text
+abbrev pub json : List ℕ
+json = codes "{\"regions\":[{\"address\":\"0x7000\",\"bytes\":\"0510000000000000\"}],\"modules\":[],\"start\":{\"rip\":\"0x0\",\"rsp\":\"0x7000\"},\"limit\":2,\"interrupted\":true}"
+
+-- ---- the same as a call of a function without a prologue
+
+abbrev pub callee : State
+callee = state 0 0x7000
+
+abbrev pub caller : State
+caller = state 0x1005 0x7008
+
+abbrev pub entry : Function
+entry = record { start = 0; end = 0x10; prologue = []; bodies = record { from = 4; to = 0x10 } ∷ []; sites = None; outermost = false }

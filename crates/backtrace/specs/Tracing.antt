@@ -1,0 +1,51 @@
+-- The states of a stack as far as they are known, and why there are no more.
+use Rattle.std.specs.Prelude.{◌≡◌, ℕ, ◌+◌, ◌-◌, ◌%◌, ◌^◌, ◌⊎◌, ◌==◌, ◌&&◌, ◌||◌, Bool, true, false, List, Option, Some, None, slice_index, slice_set, is_none, option_and_then, IsTrue, if◌then◌else◌}
+use Rattle.memory_image.specs.Image.{Span, word_at}
+use Rattle.unwind_arch.specs.declared.x86_64.Context.{Context}
+use Rattle.unwind_arch.specs.Columns as column
+use Rattle.stack_deliver.specs.declared.front.Front.{Front}
+use Rattle.stack_deliver.specs.Modules.{SpaceValue, module_at}
+use Rattle.stack_deliver.specs.Fronts.{ComesTo, front_of}
+
+-- the registers after a return to an address: it is popped, and every other register stays
+abbrev pub returned_to : Context → ℕ → Context
+returned_to c a = record c { registers = slice_set c.registers column.rsp ((slice_index c.registers column.rsp + 8) % 2 ^ 64); ra = a }
+
+-- no frame is at the address 0
+abbrev pub returned_unless_zero : Context → ℕ → Option Context
+returned_unless_zero c a = if a == 0 then None else Some (returned_to c a)
+
+-- the caller of a context where the word at the stack pointer is the return address
+abbrev pub returned : List Span → Context → Option Context
+returned image c = option_and_then (returned_unless_zero c) (word_at image (slice_index c.registers column.rsp))
+
+-- a context was interrupted at the address 0, or in no module
+abbrev pub is_nowhere : SpaceValue → Context → Bool → Bool
+is_nowhere space c interrupted = interrupted && ((c.ra == 0) || is_none (module_at space.modules c.ra))
+
+abbrev pub IsNowhere : SpaceValue → Context → Bool → Type 0
+IsNowhere space c interrupted = IsTrue interrupted × ((c.ra ≡ 0) ⊎ (module_at space.modules c.ra ≡ None))
+
+-- the caller of a context that was interrupted there
+abbrev pub called_from : SpaceValue → Context → Bool → Option Context
+called_from space c interrupted = if is_nowhere space c interrupted then returned space.image c else None
+
+-- the start, where its caller was read from the stack; the states from there on, or from the start; and why there are no more
+pub record TraceValue : Type 0 where
+  pub first : Option Context
+  pub states : List Context
+  pub why : Front
+
+-- the states are those of a walk of at most so many, which ends for this reason
+pub record IsFrontOf (space : SpaceValue) (limit : ℕ) (c : Context) (interrupted : Bool) (t : TraceValue) : Type 0 where
+  pub states : t.states ≡ front_of space limit c interrupted
+  pub why : ComesTo t.why space limit c interrupted
+
+-- by the caller that was read from the stack, if one was
+abbrev pub IsTraceFrom : Option Context → SpaceValue → Context → Bool → ℕ → TraceValue → Type 0
+IsTraceFrom None space c interrupted limit t = (t.first ≡ None) × IsFrontOf space limit c interrupted t
+IsTraceFrom (Some caller) space c interrupted limit t = (t.first ≡ Some c) × IsFrontOf space (limit - 1) caller false t
+
+-- From a context outwards at most so many states, each the caller of the one before, and why there are no more.
+abbrev pub IsTrace : SpaceValue → Context → Bool → ℕ → TraceValue → Type 0
+IsTrace space c interrupted limit t = IsTraceFrom (called_from space c interrupted) space c interrupted limit t

@@ -1,0 +1,299 @@
+// The lines of a backtrace.
+ghost use Rattle.std.specs.Prelude.{◌≡◌, ◌≤◌, ◌++◌, IfOk, OnOk};
+ghost use Rattle.std.specs.Option.{option_copied};
+ghost use Rattle.stack_deliver.specs.Shown.{state_of};
+ghost use Rattle.backtrace.specs.Lines.{backtrace_text, bad_line, end_line, frame_line, frame_lines, frame_text, gap_text, guess_text, inside_of, kept_text, number_text, origin_text, place_text, registers_text, states_of, usage_line, why_text};
+
+use crate::tracing::Trace;
+use stack_deliver::{Context, DeliverError, Error, Front};
+use stack_report::{Report, error_name, labelled_line_of, line_of};
+use stack_snapshot::{Field, Origin, Origins};
+use std::alloc::{AllocError, Global};
+use std::marker::Model;
+use unwind_arch::x86_64::{RBP, RBX, RSP};
+
+/// What the lines say beside the states.
+#[derive(Drop)]
+struct Form<'a> {
+    /// Whether they have registers too.
+    registers: bool,
+    /// Whether the first state was interrupted, and doesn't stand after a call.
+    interrupted: bool,
+    /// Whether the second state was read from the stack.
+    called: bool,
+    /// From which files the modules come.
+    origins: &'a Origins,
+}
+
+impl<'a> Model for Form<'a> {
+    ghost use Rattle.backtrace.specs.Lines.{FormValue};
+
+    ghost Value = { FormValue };
+
+    ghost view = { λ f. record
+        { registers = f.registers; interrupted = f.interrupted; called = f.called; origins = f.origins.now } };
+}
+
+/// Puts an address's file, and its place in it.
+fn put_origin(report: &mut Report, origin: Option<&Origin>, address: u64) -> Result<(), AllocError>
+    ensures { OnOk result (report.new ≡ report.old ++ origin_text (option_copied origin) address) }
+{
+    match origin {
+        Some(origin) => {
+            report.put(" in ")?;
+            report.put_bytes(origin.name())?;
+            report.put_field("+", address.wrapping_sub(origin.bias()))
+        }
+        None => Ok(()),
+    }
+}
+
+/// Puts an address, and where it lies in a file. The file is that of the module that holds `inside`.
+#[tactic(auto, unfolding(crate::specs::Lines::place_text))]
+fn put_place(
+    report: &mut Report,
+    origins: &Origins,
+    address: u64,
+    inside: u64,
+) -> Result<(), AllocError>
+    ensures { OnOk result (report.new ≡ report.old ++ place_text origins.now address inside) }
+{
+    report.put_word(address)?;
+    put_origin(report, origins.at(inside), address)
+}
+
+/// What is between a frame's number and its place.
+fn gap_after(index: usize) -> &'static str
+    ensures { result.now ≡ gap_text index }
+{
+    if index < 10 { "  " } else { " " }
+}
+
+/// Puts the frame's number, in two places at least.
+fn put_number(report: &mut Report, index: usize) -> Result<(), AllocError>
+    ensures { OnOk result (report.new ≡ report.old ++ number_text index) }
+{
+    report.put_count("#", index)?;
+    report.put(gap_after(index))
+}
+
+/// Puts the stack pointer and the registers that calls keep.
+#[tactic(auto, unfolding(crate::specs::Lines::kept_text))]
+fn put_kept(report: &mut Report, state: &Context) -> Result<(), AllocError>
+    ensures { OnOk result (report.new ≡ report.old ++ kept_text (state_of state.now)) }
+{
+    report.put_field(" sp=", state.registers[RSP])?;
+    report.put_field(" rbx=", state.registers[RBX])?;
+    report.put_field(" rbp=", state.registers[RBP])?;
+    report.put_field(" r12=", state.registers[12])?;
+    report.put_field(" r13=", state.registers[13])?;
+    report.put_field(" r14=", state.registers[14])?;
+    report.put_field(" r15=", state.registers[15])
+}
+
+/// Puts that the frame was read from the stack, where it was.
+fn put_guess(report: &mut Report, form: &Form<'_>, index: usize) -> Result<(), AllocError>
+    ensures { OnOk result (report.new ≡ report.old ++ guess_text form.now index) }
+{
+    if form.called && index == 1 {
+        report.put(" (return address on the stack)")
+    } else {
+        Ok(())
+    }
+}
+
+/// Puts the frame's registers, where they are asked for.
+fn put_registers(report: &mut Report, form: &Form<'_>, state: &Context) -> Result<(), AllocError>
+    ensures { OnOk result (report.new ≡ report.old ++ registers_text form.now state.now) }
+{
+    if form.registers {
+        put_kept(report, state)
+    } else {
+        Ok(())
+    }
+}
+
+/// An address of the frame's instruction: its own where the thread was interrupted there, else a
+/// byte of the call before it.
+fn inside_of(form: &Form<'_>, index: usize, state: &Context) -> u64
+    ensures { result ≡ inside_of form.now index state.now }
+{
+    if form.interrupted && index == 0 {
+        state.ra
+    } else {
+        state.ra.wrapping_sub(1)
+    }
+}
+
+/// Puts the line of a frame.
+#[tactic(auto, unfolding(crate::specs::Lines::frame_line))]
+fn put_frame(
+    report: &mut Report,
+    form: &Form<'_>,
+    index: usize,
+    state: &Context,
+) -> Result<(), AllocError>
+    ensures { OnOk result (report.new ≡ report.old ++ frame_line form.now index state.now) }
+{
+    let inside = inside_of(form, index, state);
+    put_number(report, index)?;
+    put_place(report, form.origins, state.ra, inside)?;
+    put_guess(report, form, index)?;
+    put_registers(report, form, state)?;
+    report.end_line()
+}
+
+/// Puts the line of a state, unless it is outside of the outermost frame.
+fn put_state(
+    report: &mut Report,
+    form: &Form<'_>,
+    index: usize,
+    state: &Context,
+) -> Result<(), AllocError>
+    ensures { OnOk result (report.new ≡ report.old ++ frame_text form.now index state.now) }
+{
+    if state.ra == 0 && 0 < index {
+        Ok(())
+    } else {
+        put_frame(report, form, index, state)
+    }
+}
+
+/// Puts the lines of the states of a walk, the first of which has this number.
+fn put_walked(
+    report: &mut Report,
+    form: &Form<'_>,
+    first: usize,
+    trace: &Trace,
+) -> Result<(), AllocError>
+    requires { first ≤ 1 }
+    ensures { OnOk result (report.new ≡ report.old ++ frame_lines form.now first trace.now.states) }
+{
+    for place in 0..trace.walked_len() {
+        let state = trace.walked(place).unwrap();
+        put_state(report, form, first + place, &state)?;
+    }
+    Ok(())
+}
+
+/// Puts the lines of all states.
+fn put_states(report: &mut Report, form: &Form<'_>, trace: &Trace) -> Result<(), AllocError>
+    ensures { OnOk result (report.new ≡ report.old ++ frame_lines form.now 0 (states_of trace.now)) }
+{
+    match trace.first() {
+        Some(start) => {
+            put_state(report, form, 0, &start)?;
+            put_walked(report, form, 1, trace)
+        }
+        None => put_walked(report, form, 0, trace),
+    }
+}
+
+/// Puts why no description of an address is found in a frame table.
+fn put_unreadable(
+    report: &mut Report,
+    origins: &Origins,
+    address: u64,
+    offset: u64,
+    error: Error,
+) -> Result<(), AllocError>
+    ensures { OnOk result (report.new ≡ report.old ++
+        why_text origins.now (Front.UnreadableTable address offset error)) }
+{
+    report.put("no description of ")?;
+    put_place(report, origins, address, address)?;
+    report.put_field(", since the entry at ", offset)?;
+    report.put(" of its frame table can't be read: ")?;
+    report.put(error_name(error))
+}
+
+/// Puts why a frame has no caller.
+fn put_refused(
+    report: &mut Report,
+    origins: &Origins,
+    address: u64,
+    error: DeliverError,
+) -> Result<(), AllocError>
+    ensures { OnOk result (report.new ≡ report.old ++
+        why_text origins.now (Front.Refused address error)) }
+{
+    report.put("no caller of ")?;
+    put_place(report, origins, address, address)?;
+    report.put(": ")?;
+    report.put_refusal(error)
+}
+
+/// Puts why a walk goes no further.
+fn put_why(report: &mut Report, origins: &Origins, why: Front) -> Result<(), AllocError>
+    ensures { OnOk result (report.new ≡ report.old ++ why_text origins.now why) }
+{
+    match why {
+        Front::Outermost => report.put("the outermost frame, which returns to 0"),
+        Front::NoModule(address) => {
+            report.put("no module holds ")?;
+            report.put_word(address)
+        }
+        Front::NoDescription(address) => {
+            report.put("no description of ")?;
+            put_place(report, origins, address, address)
+        }
+        Front::UnreadableTable {
+            address,
+            offset,
+            error,
+        } => put_unreadable(report, origins, address, offset, error),
+        Front::Refused { address, error } => put_refused(report, origins, address, error),
+        Front::Limit => report.put("more frames than the limit"),
+    }
+}
+
+/// Puts the last line.
+fn put_end(report: &mut Report, origins: &Origins, why: Front) -> Result<(), AllocError>
+    ensures { OnOk result (report.new ≡ report.old ++ end_line origins.now why) }
+{
+    report.put("end: ")?;
+    put_why(report, origins, why)?;
+    report.end_line()
+}
+
+/// The lines of a trace: one for each frame, and one that says why there are no more.
+///
+/// # Errors
+///
+/// `AllocError` where memory ran out.
+#[tactic(auto, unfolding(crate::specs::Lines::backtrace_text))]
+pub fn backtrace_of(
+    alloc: Global,
+    registers: bool,
+    interrupted: bool,
+    origins: &Origins,
+    trace: &Trace,
+) -> Result<Report, AllocError>
+    ensures { IfOk result
+        (λ report. report ≡ backtrace_text registers interrupted origins.now trace.now) }
+{
+    let form = Form {
+        registers,
+        interrupted,
+        called: trace.first().is_some(),
+        origins,
+    };
+    let mut report = Report::new(alloc);
+    put_states(&mut report, &form, trace)?;
+    put_end(&mut report, origins, trace.why())?;
+    Ok(report)
+}
+
+/// Says which field of a snapshot is faulty.
+pub fn bad_line(alloc: Global, field: Field) -> Result<Report, AllocError>
+    ensures { IfOk result (λ report. report ≡ bad_line field) }
+{
+    labelled_line_of(alloc, "bad snapshot: ", field.name())
+}
+
+/// Says which words there are.
+pub fn usage_line(alloc: Global) -> Result<Report, AllocError>
+    ensures { IfOk result (λ report. report ≡ usage_line) }
+{
+    line_of(alloc, "usage: backtrace [--registers]")
+}

@@ -1,0 +1,156 @@
+// The states of a stopped thread's stack, and why there are no more.
+ghost use Rattle.std.specs.Prelude.{◌≡◌, ◌≢◌, List, [], false, IfOk, IsSome, IsSomeAnd, slice_get, length};
+ghost use Rattle.unwind_definitions.specs.State.{State, IsState, Shows, KeepsOthers};
+ghost use Rattle.unwind_definitions.specs.Entered.{IsEntered};
+ghost use Rattle.unwind_definitions.specs.Function.{Function};
+ghost use Rattle.unwind_definitions.specs.Prologue.{PrologueStep};
+ghost use Rattle.unwind_definitions.specs.Stopped.{StandsAfter};
+ghost use Rattle.unwind_arch.specs.Contexts.{columns_of};
+ghost use Rattle.stack_deliver.specs.Stepping.{EndsAt};
+ghost use Rattle.backtrace.specs.Tracing.{IsNowhere, IsTrace, called_from, is_nowhere, returned};
+
+use memory_image::{MemoryImage, NoLedger, Steps};
+use stack_deliver::{Context, Front, Room, Space, walk_front_into};
+use std::alloc::{AllocError, Global};
+use std::marker::Model;
+use unwind_arch::x86_64::RSP;
+
+/// The registers of the caller where a call has pushed its return address and nothing else was done
+/// since. `None` where the word at the stack pointer isn't mapped, or is 0.
+fn returned(image: &MemoryImage<'_>, callee: &Context) -> Option<Context>
+    ensures { result ≡ returned image.now callee.now }
+{
+    let stack = callee.registers[RSP];
+    let address = image.read_u64(stack)?;
+    if address == 0 {
+        return None;
+    }
+    let mut caller = *callee;
+    caller.registers[RSP] = stack.wrapping_add(8);
+    caller.ra = address;
+    Some(caller)
+}
+
+/// Whether a start is interrupted where nothing is known of its instruction: at the address 0, or in
+/// no module.
+fn is_nowhere(space: &Space<'_>, start: &Context, interrupted: bool) -> bool
+    ensures { result ≡ is_nowhere space.now start.now interrupted }
+{
+    interrupted && (start.ra == 0 || space.module_at(start.ra).is_none())
+}
+
+/// The caller of a thread that was interrupted in no module, as after a call through a null or a wild
+/// pointer: its return address is the word at the stack pointer.
+///
+/// `None` where the thread stands after a call or in a module, and where that word isn't mapped or
+/// is 0. No stack of another kind is guessed at.
+pub fn called_from(space: &Space<'_>, start: &Context, interrupted: bool) -> Option<Context>
+    ensures exact { result ≡ called_from space.now start.now interrupted }
+    // It is the caller where the state was entered by a call, and has done nothing since.
+    ensures entered { (t s : State) → IsNowhere space.now start.now interrupted →
+        IsEntered space.now.image false [] t s → IsState t → t.ra ≢ 0 →
+        Shows (columns_of start.now) s →
+        IsSomeAnd result (λ caller. Shows (columns_of caller) t ×
+        KeepsOthers (columns_of start.now) (columns_of caller)) }
+    // So it is where a function is interrupted before the first step of its prologue.
+    ensures stands { (f : Function) (later : List PrologueStep) (t s : State) →
+        IsNowhere space.now start.now interrupted →
+        StandsAfter space.now.image f [] later t s → IsState t → t.ra ≢ 0 →
+        Shows (columns_of start.now) s →
+        IsSomeAnd result (λ caller. Shows (columns_of caller) t ×
+        KeepsOthers (columns_of start.now) (columns_of caller)) }
+    // By the modules alone the stack would end at such a start.
+    ensures ends { IsSome result → EndsAt space.now start.now interrupted }
+{
+    if is_nowhere(space, start, interrupted) {
+        returned(space.image(), start)
+    } else {
+        None
+    }
+}
+
+/// The states of a stack as far as they are known, and why there are no more.
+///
+/// Contracts see the start where its caller was read from the stack, the states of the walk from
+/// there on or from the start, and the reason of the walk's end.
+#[derive(Drop)]
+pub struct Trace {
+    first: Option<Context>,
+    room: Room,
+    why: Front,
+}
+
+impl Model for Trace {
+    ghost use Rattle.backtrace.specs.Tracing.{TraceValue};
+
+    ghost Value = { TraceValue };
+
+    ghost view = { λ t. record { first = t.first; states = t.room.visited; why = t.why } };
+}
+
+impl Trace {
+    /// The start, where the walk begins at its caller, whose return address was read from the stack.
+    pub fn first(&self) -> Option<Context>
+        ensures { result ≡ self.now.first }
+    {
+        self.first
+    }
+
+    /// How many states the walk came to.
+    pub fn walked_len(&self) -> usize
+        ensures { result ≡ length self.now.states }
+    {
+        self.room.visited_len()
+    }
+
+    /// The state of the walk at this place.
+    pub fn walked(&self, i: usize) -> Option<Context>
+        ensures { result ≡ slice_get self.now.states i }
+    {
+        self.room.visited(i)
+    }
+
+    /// Why the walk goes no further.
+    pub fn why(&self) -> Front
+        ensures { result ≡ self.now.why }
+    {
+        self.why
+    }
+}
+
+/// Traces the stack whose innermost frame has the registers `start`, at most so many states.
+///
+/// # Errors
+///
+/// `AllocError` where there is no memory for so many states.
+pub fn trace_stack(
+    alloc: Global,
+    space: &Space<'_>,
+    start: &Context,
+    interrupted: bool,
+    limit: u32,
+) -> Result<Trace, AllocError>
+    ensures { IfOk result (λ trace. IsTrace space.now start.now interrupted limit trace) }
+{
+    let mut room = Room::new(alloc, limit)?;
+    let mut steps = Steps::new(NoLedger);
+    match called_from(space, start, interrupted) {
+        Some(caller) => {
+            let most = limit.saturating_sub(1);
+            let why = walk_front_into(space, &caller, false, most, &mut room, &mut steps);
+            Ok(Trace {
+                first: Some(*start),
+                room,
+                why,
+            })
+        }
+        None => {
+            let why = walk_front_into(space, start, interrupted, limit, &mut room, &mut steps);
+            Ok(Trace {
+                first: None,
+                room,
+                why,
+            })
+        }
+    }
+}
