@@ -29,3 +29,5 @@ pub mod StoppedWalk
 pub mod StopSamples
 pub mod Turns
 pub mod Unread
+mod Holding
+mod Making
