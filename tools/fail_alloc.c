@@ -95,6 +95,17 @@ ssize_t write(int file, const void *from, size_t size)
     return real(file, from, size);
 }
 
+/* the names by which Rattle's library calls them */
+ssize_t __read(int file, void *into, size_t size)
+{
+    return read(file, into, size);
+}
+
+ssize_t __write(int file, const void *from, size_t size)
+{
+    return write(file, from, size);
+}
+
 __attribute__((destructor)) static void tell(void)
 {
     const char *path = getenv("FAIL_COUNT");

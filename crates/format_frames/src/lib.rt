@@ -19,3 +19,6 @@ pub use error::FrameError;
 pub use machine::Stepped;
 pub use macho::{MachoModule, macho_step};
 pub use pe::{PeModule, pe_step};
+
+#[cfg(test)]
+mod tests;

@@ -33,7 +33,7 @@ use Rattle.macho_unwind_info.specs.Permutation.{permutation}
 use Rattle.macho_unwind_info.specs.X86_64.{register_of, fields_of, with_registers, opcode_of_kind, opcode_of}
 use Rattle.macho_unwind_info.proofs.Covering.{each}
 use Rattle.macho_unwind_info.proofs.LookupLemmas.{lookup_of-is}
-use Rattle.format_definitions.specs.CompactStep.{fields_up, registers_back, then_on, half_or_fault, by_cfa, frame_bases, MachoModule, Stepped, stepped_with, by_row, by_description, compact_step, answered_by, stepped_by, found_in as answered_in, macho_step}
+use Rattle.format_definitions.specs.CompactStep.{fields_up, registers_back, then_on, half_or_fault, by_cfa, frame_bases, MachoModule, stepped_with, by_row, by_description, compact_step, answered_by, stepped_by, found_in as answered_in, macho_step}
 use Rattle.format_definitions.specs.MachoModules.{IsIndirect, IsDwarf, IsOpcodeOf, HasListed, DescribesMacho}
 use Rattle.format_laws.specs.CompactUndone.{OpcodeUndoes, MachoUndone}
 use Rattle.format_laws.proofs.CompactUndo.{Called, frameless_undone, frame_based_undone}
