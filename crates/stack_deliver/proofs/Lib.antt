@@ -29,3 +29,4 @@ pub mod StoppedWalk
 pub mod StopSamples
 pub mod Turns
 pub mod Unread
+pub mod SameSpaces
