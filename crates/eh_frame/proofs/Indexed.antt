@@ -1,5 +1,5 @@
 -- What stands at an index, and that a scan answers the same.
-use Rattle.std.proofs.Common.{◌≡◌, ◌⊎◌, ℕ, zero, suc, ◌<◌, ◌≤◌, Bool, true, false, List, [], ◌∷◌, length, map, get_or, Option, Some, None, Result, Ok, Err, refl, sym, ap, ◌∙◌, subst, inl, inr, arith}
+use Rattle.std.proofs.Common.{◌≡◌, ◌⊎◌, ℕ, zero, suc, ◌+◌, ◌%◌, ◌^◌, ◌<◌, ◌≤◌, Bool, true, false, List, [], ◌∷◌, length, map, get_or, Option, Some, None, Result, Ok, Err, refl, sym, ap, ◌∙◌, subst, inl, inr, arith}
 use Rattle.std.specs.Prelude.{slice_range}
 use Rattle.std.specs.Option.{option_map_or}
 use Rattle.std.specs.List.{AllByRecursion, Contains, filter}
@@ -13,8 +13,10 @@ use Rattle.unwind_definitions.specs.Entries.{Cie, Fde}
 use Rattle.unwind_definitions.specs.Row.{row, row_at, covers_pc}
 use Rattle.unwind_definitions.specs.Scan.{fdes_of, first_covering, scan}
 use Rattle.frame_rows.specs.KeptRows.{Kept, AreRows}
-use Rattle.eh_frame.specs.Index.{AscendApart, Described, Index, IsFoundAt, IsPreparedFrom, IsRowedBy, common_program, described_fde, described_in, end_of, own_program, start_of}
+use Rattle.eh_frame.specs.Index.{AscendApart, Described, HasRows, Index, IsFoundAt, IsPreparedFrom, IsRowedBy, common_program, described_fde, described_in, end_of, own_program, start_of}
 use Rattle.eh_frame.specs.Listed.{has_bytes, nonempty}
+use Rattle.encoded_pointers.specs.Readers.{Answers}
+use Rattle.unwind_definitions.specs.Module.{pair_of}
 use Rattle.eh_frame.specs.FdeLists.{cie_in, fde_in, fde_with}
 use Rattle.eh_frame.specs.Views.{cie_of}
 use Rattle.eh_frame.specs.declared.cie.Cie.{Cie as CodeCie}
@@ -197,3 +199,30 @@ rows_there bases cies rows [] f i all lt is = absurd (omega arith)
 rows_there bases cies rows (g ∷ fs) f zero all lt is =
     subst (λ (f : PreparedFunction). AreRows (λ pc. row (fde_in cies f.fde).start pc (common_program bases (fde_in cies f.fde)) (own_program bases (fde_in cies f.fde))) (end_of (fde_in cies f.fde)) (slice_range rows f.first_row f.end_row)) (sym is) all.0.rows
 rows_there bases cies rows (g ∷ fs) f (suc i) all lt is = rows_there bases cies rows fs f i all.1 (omega arith) is
+
+-- an index with a function has a row
+pub some_row : (cies : List CodeCie) (rows : List Kept) (fs : List PreparedFunction) → 0 < length fs → AllByRecursion (HasRows cies rows) fs → 0 < length rows
+some_row cies rows [] some all = absurd (omega arith)
+some_row cies rows (f ∷ fs) some all =
+    let from = all.0.some in
+    let to = all.0.within in
+    omega arith
+
+abbrev pub pair_at_place : ℕ → ℕ × ℕ → ℕ × ℕ
+pair_at_place frame p = (p.0, (frame + p.1) % 2 ^ 64)
+
+-- the pair of the description at an index
+pub pair_there : (fs : List Described) (i frame : ℕ) (p : ℕ × ℕ) (d : Fde) → i < length fs → ((e : Described) → (p.0 ≡ (get_or fs i e).fde.start) × (p.1 ≡ (get_or fs i e).fde.offset)) → pair_at_place frame p ≡ pair_of frame (get_or (map described_fde fs) i d)
+pair_there [] i frame p d lt is = absurd (omega arith)
+pair_there (f ∷ fs) zero frame p d lt is = let at = is f in ap (λ (s : ℕ). (s, (frame + p.1) % 2 ^ 64)) at.0 ∙ ap (λ (o : ℕ). (f.fde.start, (frame + o) % 2 ^ 64)) at.1
+pair_there (f ∷ fs) (suc i) frame p d lt is = pair_there fs i frame p d (omega arith) is
+
+-- a result that is its own view
+pub answer_same : (r : Result (ℕ × ℕ) Fault) (due : Result (ℕ × ℕ) Fault) → Answers (λ p. p) r due → due ≡ r
+answer_same (Ok p) due is = is
+answer_same (Err e) due is = is
+
+-- a list that has an index has an item
+pub an_item : (fs : List Described) (i : ℕ) → i < length fs → Described
+an_item [] i lt = absurd (omega arith)
+an_item (f ∷ fs) i lt = f

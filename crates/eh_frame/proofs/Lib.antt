@@ -13,7 +13,7 @@ mod PastEnd
 mod Named
 mod HeaderParts
 mod Ascending
-mod Indexed
+pub mod Indexed
 mod Keeping
 mod ListingFdes
 mod Collecting

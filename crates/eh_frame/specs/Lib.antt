@@ -3,6 +3,7 @@ pub mod Views
 pub mod Search
 pub mod Shared
 pub mod Headers
+pub mod HeaderLists
 pub mod Listing
 pub mod Listed
 pub mod FdeLists

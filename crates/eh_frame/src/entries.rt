@@ -60,6 +60,13 @@ impl<'a> EhFrame<'a> {
         EhFrame { bytes, address }
     }
 
+    /// The address of the table's first byte.
+    pub fn address(&self) -> u64
+        ensures { result ≡ (table_of self.now).base }
+    {
+        self.address
+    }
+
     /// The entries of the table, from its first byte on. `bases` is what their pointers may be
     /// relative to.
     pub fn entries(&self, bases: &Bases) -> Entries<'a>

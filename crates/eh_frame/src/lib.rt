@@ -39,6 +39,7 @@ mod entries;
 mod fde;
 mod fde_list;
 mod header;
+mod header_lists;
 mod header_search;
 mod laws;
 mod listed_fde;
@@ -56,7 +57,7 @@ pub use frame_rows::{
     CfaRule, Register, RegisterMap, RegisterRule, Registers, Row, RowRef, RowRoom,
 };
 pub use header::{EhFrameHdr, HdrTable};
-pub use laws::table_of_a_push_is_prepared;
+pub use laws::{index_answers_as_a_scan, table_of_a_push_is_prepared};
 pub use listing::Entries;
 pub use prepared::{Found, Prepared, PreparedFrame};
 pub use unwind_definitions::Error;

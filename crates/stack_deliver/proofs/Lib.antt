@@ -29,4 +29,6 @@ pub mod StoppedWalk
 pub mod StopSamples
 pub mod Turns
 pub mod Unread
+mod Holding
+mod Making
 pub mod SameSpaces

@@ -3,10 +3,12 @@ pub mod Causes
 pub mod Delivering
 pub mod FrontSample
 pub mod Fronts
+pub mod Held
 pub mod Modules
 pub mod Passes
 pub mod Passing
 pub mod Personality
+pub mod Preparing
 pub mod Processes
 pub mod Results
 pub mod Resumes

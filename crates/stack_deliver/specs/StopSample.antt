@@ -12,7 +12,8 @@ use Rattle.unwind_laws.specs.Pushing as pushing
 use Rattle.unwind_laws.specs.Storing.{cie, state}
 use Rattle.unwind_arch.specs.declared.x86_64.Context.{Context}
 use Rattle.fde_finders.specs.declared.custom.FrameInfoKind.TheVariants.{EhFrame}
-use Rattle.stack_deliver.specs.Modules.{SpaceValue}
+use Rattle.stack_deliver.specs.Modules.{SpaceValue, unprepared}
+use Rattle.stack_deliver.specs.declared.space.Module.{Module as LoadedModule}
 
 abbrev pub frames : List ℕ
 frames = 0x14 ∷ 0x00 ∷ 0x00 ∷ 0x00 ∷ 0x00 ∷ 0x00 ∷ 0x00 ∷ 0x00 ∷ 0x01 ∷ 0x7a ∷ 0x52 ∷ 0x00 ∷ 0x01 ∷ 0x78 ∷ 0x10 ∷ 0x01 ∷ 0x1b ∷ 0x0c ∷ 0x07 ∷ 0x08 ∷ 0x90 ∷ 0x01 ∷ 0x00 ∷ 0x00 ∷
@@ -90,8 +91,11 @@ in_body_of_it = state 0x401012 0x6ff0 1 0x7020 2
 
 -- ---- a function that pushes RBX, stopped before it does and in its body
 
+abbrev pub pushing_module : LoadedModule
+pushing_module = record { start = 0x401000; end = 0x401010; frame = record { text_base = None; kind = EhFrame 0x500000 } }
+
 abbrev pub pushing_space : SpaceValue
-pushing_space = record { image = pushing.image; modules = record { start = 0x401000; end = 0x401010; frame = record { text_base = None; kind = EhFrame 0x500000 } } ∷ [] }
+pushing_space = record { image = pushing.image; modules = pushing_module ∷ []; added = unprepared pushing_module ∷ [] }
 
 -- RBX is 9, and RSP 0x7000
 abbrev pub stopped_at : ℕ → Context

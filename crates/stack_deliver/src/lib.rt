@@ -40,6 +40,7 @@ mod delivery;
 mod front;
 mod passes;
 mod personality;
+mod prepared;
 mod resumes;
 mod room;
 mod space;

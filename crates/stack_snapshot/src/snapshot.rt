@@ -1,5 +1,6 @@
 // A snapshot: memory by regions, the modules in it, and a delivery to make.
-ghost use Rattle.std.specs.Prelude.{◌≡◌, IfOk, MatchOption, true, false, []};
+ghost use Rattle.std.specs.Prelude.{◌≡◌, IfOk, MatchOption, map, true, false, []};
+ghost use Rattle.stack_deliver.specs.Modules.{unprepared};
 ghost use Rattle.stack_snapshot.specs.Answers.{Gives};
 ghost use Rattle.stack_snapshot.specs.Content.{image_of, modules_after, space_of, takes_regions, takes_modules};
 ghost use Rattle.stack_snapshot.specs.Owned.{spans_of};
@@ -151,7 +152,11 @@ fn space_of_modules<'a>(
 ) -> Result<Option<Space<'a>>, AllocError>
     ensures { IfOk result (λ space. MatchOption space (takes_modules [] modules.now ≡ false)
         (λ space. (takes_modules [] modules.now ≡ true) ×
-        (space ≡ record { image = image.entry; modules = modules_after [] modules.now }))) }
+        (space ≡ record {
+          image = image.entry;
+          modules = modules_after [] modules.now;
+          added = map unprepared modules.now;
+        }))) }
 {
     let mut space = Space::new(alloc, image);
     for module in modules {
