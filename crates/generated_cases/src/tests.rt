@@ -85,6 +85,9 @@ fn probes_are_the_count_of_a_ledger(rt: HostRuntime) -> Result<(), Fail> {
     )?;
     let summary = deliver_case(alloc, 1000, 7)?;
     assert_eq!(rt; summary.probes, steps.ledger().count);
-    assert_eq!(rt; (summary.functions, summary.frames, summary.cleanups), (1000, 1000, 249));
+    assert_eq!(rt;
+        (summary.functions, summary.frames, summary.cleanups),
+        (1000, 1000, 249)
+    );
     Ok(())
 }
