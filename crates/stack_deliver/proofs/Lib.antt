@@ -31,4 +31,6 @@ pub mod Turns
 pub mod Unread
 mod Holding
 mod Making
+mod IndexFinds
+pub mod SameAnswers
 pub mod SameSpaces

@@ -16,4 +16,5 @@ pub mod Shown
 pub mod Stepping
 pub mod Stopped
 pub mod StopSample
+pub mod Ticking
 pub mod Walking

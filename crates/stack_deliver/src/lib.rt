@@ -38,6 +38,7 @@
 mod delivering;
 mod delivery;
 mod front;
+mod laws;
 mod passes;
 mod personality;
 mod prepared;
@@ -52,6 +53,7 @@ pub use delivering::{deliver, deliver_into};
 pub use delivery::{DeliverError, Delivery, Ending, Outcome, Stepped, Trail};
 pub use eh_frame::Error;
 pub use fde_finders::{FrameInfo, FrameInfoKind};
+pub use laws::answers_stay_as_modules_are_prepared;
 pub use front::{Front, each_reason_is_given, walk_front_into};
 pub use personality::{a_handler_is_asked_for, deliveries_are_passes, passes_ask_the_personality};
 pub use resumes::{Resumes, first_entry_counts};

@@ -5,7 +5,7 @@ ghost use Rattle.unwind_definitions.specs.State.{State};
 ghost use Rattle.unwind_definitions.specs.Function.{Function};
 ghost use Rattle.unwind_definitions.specs.Chain.{Call};
 ghost use Rattle.stack_deliver.specs.Delivering.{Delivers, NeedsMore, line_of};
-ghost use Rattle.stack_deliver.specs.Stepping.{RisesWithin};
+ghost use Rattle.stack_deliver.specs.Ticking.{RisesWithin};
 ghost use Rattle.stack_deliver.specs.Walking.{IsWalked, StepFails, StartsChain, ShowChain};
 ghost use Rattle.stack_deliver.specs.Stopped.{StartsStopped};
 
@@ -101,7 +101,7 @@ pub fn walk_into<L: Ledger>(
         StartsStopped space.now start.now limit functions s call calls → IsTrue interrupted →
         IsOk result × ShowChain room.new.visited s (call ∷ calls) }
     // As many searches as the limit allows states; none is counted where each module names a frame
-    // table.
+    // table and none is prepared.
     ensures ticks { RisesWithin space.now limit steps.old.number steps.new.number }
 {
     // No two of its modules share an address, as a space's type says.

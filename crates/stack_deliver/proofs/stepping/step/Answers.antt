@@ -4,6 +4,7 @@ use Rattle.stack_deliver.specs.declared.delivery.Stepped.{Stepped}
 use Rattle.unwind_arch.specs.Contexts.{columns_of}
 use Rattle.stack_deliver.specs.Walking.{Undone}
 use Rattle.stack_deliver.specs.Stepping.{step_of}
+use Rattle.stack_deliver.proofs.Counted.{index_is_searched, scan_is_free, ticks_rise}
 use Rattle.stack_deliver.proofs.MetFrames.{step_undone}
 use Rattle.stack_deliver.proofs.StoppedUndone.{stopped_undone}
 use Rattle.stack_deliver.proofs.StepAnswers.{step_ends, ends_step, step_unmapped, step_read, read_step, step_table, table_step, step_caller, caller_step}
@@ -33,3 +34,12 @@ returns-clause-reads g c a = (λ is. step_read c.args.space.now c.args.context.n
 
 pub returns-clause-caller : goal.returns-clause-caller
 returns-clause-caller g c next = (λ is. step_caller c.args.space.now c.args.context.now c.args.interrupted next (sym c.stepped.ensures.exact ∙ is), λ at. c.stepped.ensures.exact ∙ caller_step c.args.space.now c.args.context.now c.args.interrupted next at)
+
+pub returns-clause-ticks : goal.returns-clause-ticks
+returns-clause-ticks g c = ticks_rise c.args.space.now c.args.context.now c.args.interrupted c.args.steps.now.number c.stepped.new.steps.number c.stepped.ensures.ticks
+
+pub returns-clause-prepared : goal.returns-clause-prepared
+returns-clause-prepared g c some long = index_is_searched c.args.space.now c.args.context.now c.args.interrupted c.args.steps.now.number c.stepped.new.steps.number c.stepped.ensures.ticks some long
+
+pub returns-clause-scanned : goal.returns-clause-scanned
+returns-clause-scanned g c at = scan_is_free c.args.space.now c.args.context.now c.args.interrupted c.args.steps.now.number c.stepped.new.steps.number c.stepped.ensures.ticks at

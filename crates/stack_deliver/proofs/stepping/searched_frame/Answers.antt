@@ -2,7 +2,7 @@ use Rattle.std.proofs.Common.{refl}
 use Rattle.fde_finders.specs.Answered.{answered}
 use Rattle.fde_finders.specs.Named.{found_by}
 use Rattle.stack_deliver.proofs.StepParts.{frame_found}
-use Rattle.stack_deliver.proofs.stepping.elf_frame.Goals as goal
+use Rattle.stack_deliver.proofs.stepping.searched_frame.Goals as goal
 
 pub returns-in-Ok-clause-frame : goal.returns-in-Ok-clause-frame
 returns-in-Ok-clause-frame g c =
