@@ -33,4 +33,3 @@ mod Holding
 mod Making
 mod IndexFinds
 pub mod SameAnswers
-pub mod SameSpaces
