@@ -3,10 +3,10 @@
 
     compare_stepped.py UNWIND_CLI FILE..
 
-FILE is what gdb's command `stepped` writes (tools/stepped.py). For each FILE a line of a table is printed: how
-many states it has in prologues, in bodies, in epilogues and in other places, of how many of these the caller was exact, and of
-how many the whole walk; and then a line for each function and offset where one wasn't. The status is 1 if a
-state in a prologue or in a body had another caller.
+FILE is what gdb's command `stepped` writes (tools/stepped.py). For each FILE a line of a table is printed: of each
+place that tools/code_places.py tells, how many instructions and states FILE has there, of how many states the caller
+was exact, and of how many the whole walk; and then a line for each kind of state where one wasn't. The status is 1
+if a state in a prologue or in a body had another caller.
 """
 from __future__ import annotations
 

@@ -15,7 +15,6 @@ from __future__ import annotations
 
 import json
 import os
-import re
 import sys
 import tempfile
 from collections import Counter
@@ -26,6 +25,7 @@ import gdb
 
 sys.path.insert(0, os.path.dirname(os.path.abspath(__file__)))
 
+from code_places import code_places  # noqa: E402
 from snapshot import REGISTERS  # noqa: E402
 from snapshot_file import Object, Region, read_snapshot, region_object, regions_of  # noqa: E402
 
@@ -35,15 +35,6 @@ RED_ZONE = 128
 # Of an instruction in a loop so many states are written.
 MOST_AT_ONE_PLACE = 8
 SYSTEM_CALL = b"\x0f\x05"
-
-LINE = re.compile(r"^(?:=> )?\s*0x([0-9a-f]+) <\+\d+>:\t(.*)$")
-KEPT_NAMES = "|".join(KEPT)
-# What a prologue does, and what undoes it, in gdb's AT&T spelling.
-STEP = re.compile(
-    rf"^(push +%|mov +%rsp,%rbp$|sub +\$0x[0-9a-f]+,%rsp$|mov +%({KEPT_NAMES}),-?(0x[0-9a-f]+)?\(%r[sb]p\)$)"
-)
-UNDOING = re.compile(r"^(pop +%|leave|add +\$0x[0-9a-f]+,%rsp$|lea +-?(0x[0-9a-f]+)?\(%rbp\),%rsp$|mov +%rbp,%rsp$)")
-TRANSFER = re.compile(r"^(call|jmp|j[a-z]+ |ret|bnd|repz ret|syscall)")
 
 
 @dataclass(frozen=True)
@@ -61,45 +52,8 @@ class Caller:
         }
 
 
-# ---- where an instruction stands in its function
-
-
-def instructions_of(address: int) -> list[tuple[int, str]]:
-    """The function's instructions, by address."""
-    lines = gdb.execute(f"disassemble {address:#x}", to_string=True).splitlines()
-    return [(int(match.group(1), 16), match.group(2).strip()) for match in map(LINE.match, lines) if match]
-
-
-def last_step(instructions: list[str]) -> int | None:
-    """The place of the prologue's last step, -1 where there is no step, and None where a jump stands before it."""
-    last, jumps = -1, False
-    for place, text in enumerate(instructions):
-        if UNDOING.match(text) or text.startswith(("call", "ret", "repz ret", "jmp", "bnd", "syscall")):
-            break
-        if STEP.match(text):
-            last = None if jumps else place
-        jumps = jumps or TRANSFER.match(text) is not None
-    return last
-
-
-def undone_places(instructions: list[str], begin: int) -> set[int]:
-    """The places at which a step has been undone: those after the first that undoes one, up to where the function is left."""
-    found: set[int] = set()
-    for end, text in enumerate(instructions):
-        if not text.startswith(("ret", "repz ret", "jmp")):
-            continue
-        start = end
-        while start > begin + 1 and not TRANSFER.match(instructions[start - 1]):
-            start -= 1
-        undoing = [place for place in range(start, end) if UNDOING.match(instructions[place])]
-        if undoing:
-            found.update(range(undoing[0] + 1, end + 1))
-    return found
-
-
 class Places:
-    """Which of prologue, body and epilogue the addresses of functions stand in, or `other`: in a function whose
-    steps don't all come first, since a path that needs no frame jumps over them."""
+    """Where in their functions addresses stand."""
 
     def __init__(self) -> None:
         self.known: dict[int, str] = {}
@@ -107,17 +61,10 @@ class Places:
 
     def add(self, address: int) -> None:
         """Adds the function that holds an address."""
-        listed = instructions_of(address)
-        texts = [text for _, text in listed]
-        last = last_step(texts)
-        name = gdb.execute(f"info symbol {listed[0][0]:#x}", to_string=True).split()[0]
-        self.functions.update({at: name for at, _ in listed})
-        if last is None:
-            self.known.update({at: "other" for at, _ in listed})
-            return
-        undone = undone_places(texts, last)
-        for place, (at, _) in enumerate(listed):
-            self.known[at] = "prologue" if place <= last else "epilogue" if place in undone else "body"
+        found = code_places(gdb.execute(f"disassemble {address:#x}", to_string=True))
+        name = gdb.execute(f"info symbol {min(found):#x}", to_string=True).split()[0]
+        self.known.update(found)
+        self.functions.update(dict.fromkeys(found, name))
 
     def at(self, address: int) -> tuple[str, str]:
         """The function of an address, and the place in it."""

@@ -1,5 +1,5 @@
 -- A snapshot has one backtrace, and what is due is by it.
-use Rattle.std.proofs.Common.{inl, inr, ◌≡◌, ℕ, ◌^◌, ◌≤◌, Bool, true, false, List, length, Option, Some, None, Result, Ok, Err, refl, sym, ap, ◌∙◌, ltb}
+use Rattle.std.proofs.Common.{inl, inr, ◌≡◌, ℕ, ◌-◌, ◌^◌, ◌≤◌, Bool, true, false, List, length, Option, Some, None, Result, Ok, Err, refl, sym, ap, ◌∙◌, ltb}
 use Rattle.std.specs.Prelude.{◌⊎◌, IfSome, codes, if◌then◌else◌}
 use Rattle.std.proofs.lemmas.Bool.{le-ltb}
 use Rattle.unwind_arch.specs.declared.x86_64.Context.{Context}
@@ -23,7 +23,7 @@ use Rattle.backtrace.specs.Due.{IsTraceOf, IsBacktraceOf, IsBacktraceBy, IsBackt
 -- ---- one trace
 
 same_parts : (t u : TraceValue) → t.first ≡ u.first → t.states ≡ u.states → t.why ≡ u.why → t ≡ u
-same_parts t u first states why = λ i. record { first = first i; states = states i; why = why i }
+same_parts t u a b c = λ i. record { first = a i; states = b i; why = c i }
 
 one_from : (o : Option Context) (space : SpaceValue) (c : Context) (interrupted : Bool) (limit : ℕ) (t u : TraceValue) → IsTraceFrom o space c interrupted limit t → IsTraceFrom o space c interrupted limit u → t ≡ u
 one_from None space c interrupted limit t u is other =

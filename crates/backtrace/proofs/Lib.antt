@@ -1,3 +1,2 @@
 pub mod Backtraces
 pub mod Written
-pub mod Returning

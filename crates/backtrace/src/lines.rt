@@ -1,6 +1,5 @@
 // The lines of a backtrace.
-ghost use Rattle.std.specs.Prelude.{◌≡◌, ◌≤◌, ◌++◌, IfOk, OnOk};
-ghost use Rattle.std.specs.Option.{option_copied};
+ghost use Rattle.std.specs.Prelude.{◌≡◌, ◌≤◌, ◌++◌, IfOk, OnOk, Some};
 ghost use Rattle.stack_deliver.specs.Shown.{state_of};
 ghost use Rattle.backtrace.specs.Lines.{backtrace_text, bad_line, end_line, frame_line, frame_lines, frame_text, gap_text, guess_text, inside_of, kept_text, number_text, origin_text, place_text, registers_text, states_of, usage_line, why_text};
 
@@ -35,17 +34,12 @@ impl<'a> Model for Form<'a> {
 }
 
 /// Puts an address's file, and its place in it.
-fn put_origin(report: &mut Report, origin: Option<&Origin>, address: u64) -> Result<(), AllocError>
-    ensures { OnOk result (report.new ≡ report.old ++ origin_text (option_copied origin) address) }
+fn put_origin(report: &mut Report, origin: &Origin, address: u64) -> Result<(), AllocError>
+    ensures { OnOk result (report.new ≡ report.old ++ origin_text (Some origin.now) address) }
 {
-    match origin {
-        Some(origin) => {
-            report.put(" in ")?;
-            report.put_bytes(origin.name())?;
-            report.put_field("+", address.wrapping_sub(origin.bias()))
-        }
-        None => Ok(()),
-    }
+    report.put(" in ")?;
+    report.put_bytes(origin.name())?;
+    report.put_field("+", address.wrapping_sub(origin.bias()))
 }
 
 /// Puts an address, and where it lies in a file. The file is that of the module that holds `inside`.
@@ -59,7 +53,10 @@ fn put_place(
     ensures { OnOk result (report.new ≡ report.old ++ place_text origins.now address inside) }
 {
     report.put_word(address)?;
-    put_origin(report, origins.at(inside), address)
+    match origins.at(inside) {
+        Some(origin) => put_origin(report, origin, address),
+        None => Ok(()),
+    }
 }
 
 /// What is between a frame's number and its place.

@@ -11,6 +11,8 @@ mod fronts;
 #[cfg(test)]
 mod languages;
 #[cfg(test)]
+mod prepared;
+#[cfg(test)]
 mod resumes;
 #[cfg(test)]
 mod rooms;

@@ -23,12 +23,12 @@ module _ (s : SpaceValue) (added : List Added) where
 
   pub line_same : (limit : ℕ) (c : Context) (interrupted : Bool) → line_of other limit c interrupted ≡ line_of s limit c interrupted
   line_same zero c interrupted = refl
-  line_same (suc room) c interrupted = ap (λ (r : Result (Option Stepped) DeliverError). line_after c r (line_of other room)) (step_same c interrupted) ∙ go (step_of s c interrupted)
+  line_same (suc room) c interrupted = ap (λ (r : Result (Option Stepped) DeliverError). line_after c r (line_of other room)) (step_same c interrupted) ∙ go (step_of s c interrupted) (line_same room)
     where
-      go : (r : Result (Option Stepped) DeliverError) → line_after c r (line_of other room) ≡ line_after c r (line_of s room)
-      go (Err e) = refl
-      go (Ok None) = refl
-      go (Ok (Some n)) = ap (with_first c) (line_same room n.context n.signal)
+      go : (r : Result (Option Stepped) DeliverError) → ((d : Context) (marked : Bool) → line_of other room d marked ≡ line_of s room d marked) → line_after c r (line_of other room) ≡ line_after c r (line_of s room)
+      go (Err e) outer = refl
+      go (Ok None) outer = refl
+      go (Ok (Some n)) outer = ap (with_first c) (outer n.context n.signal)
 
   turn_same : (p : Option Phase) (c : Context) (interrupted : Bool) → turn_for p other c interrupted ≡ turn_for p s c interrupted
   unfolding turn_for frame_of
@@ -36,13 +36,13 @@ module _ (s : SpaceValue) (added : List Added) where
 
   pass_same : (p : Option Phase) (limit : ℕ) (c : Context) (interrupted : Bool) → line_for p other limit c interrupted ≡ line_for p s limit c interrupted
   pass_same p zero c interrupted = refl
-  pass_same p (suc room) c interrupted = ap (λ (r : Result Turn DeliverError). line_turn c interrupted r (line_for p other room)) (turn_same p c interrupted) ∙ go (turn_for p s c interrupted)
+  pass_same p (suc room) c interrupted = ap (λ (r : Result Turn DeliverError). line_turn c interrupted r (line_for p other room)) (turn_same p c interrupted) ∙ go (turn_for p s c interrupted) (pass_same p room)
     where
-      go : (r : Result Turn DeliverError) → line_turn c interrupted r (line_for p other room) ≡ line_turn c interrupted r (line_for p s room)
-      go (Err e) = refl
-      go (Ok Ends) = refl
-      go (Ok (Stops action past)) = refl
-      go (Ok (Goes next)) = ap (with_context c) (pass_same p room next.context next.signal)
+      go : (r : Result Turn DeliverError) → ((d : Context) (marked : Bool) → line_for p other room d marked ≡ line_for p s room d marked) → line_turn c interrupted r (line_for p other room) ≡ line_turn c interrupted r (line_for p s room)
+      go (Err e) outer = refl
+      go (Ok Ends) outer = refl
+      go (Ok (Stops action past)) outer = refl
+      go (Ok (Goes next)) outer = ap (with_context c) (outer next.context next.signal)
 
   module _ (exception kept : ℕ) (resumes : List (ℕ × ℕ)) (limit : ℕ) where
     cleanup_same : (c : Context) → cleanup_of other exception kept limit c ≡ cleanup_of s exception kept limit c
@@ -50,16 +50,16 @@ module _ (s : SpaceValue) (added : List Added) where
 
     passes_same : (places : ℕ) (c : Context) → passes_of other exception kept resumes limit places c ≡ passes_of s exception kept resumes limit places c
     passes_same zero c = ap (λ (r : Result PassEnd DeliverError). followed r (λ pad entered. Err PassLimit)) (cleanup_same c)
-    passes_same (suc places) c = ap (λ (r : Result PassEnd DeliverError). followed r (λ pad entered. resumed (cleanup_at pad entered) (resume_at pad entered (return_of resumes pad)) (passes_of other exception kept resumes limit places))) (cleanup_same c) ∙ go (cleanup_of s exception kept limit c)
+    passes_same (suc places) c = ap (λ (r : Result PassEnd DeliverError). followed r (λ pad entered. resumed (cleanup_at pad entered) (resume_at pad entered (return_of resumes pad)) (passes_of other exception kept resumes limit places))) (cleanup_same c) ∙ go (cleanup_of s exception kept limit c) (passes_same places)
       where
-        again : (t : Trail) (r : Result Context DeliverError) → resumed t r (passes_of other exception kept resumes limit places) ≡ resumed t r (passes_of s exception kept resumes limit places)
-        again t (Ok c) = ap (with_cleanup t) (passes_same places c)
-        again t (Err e) = refl
+        again : (t : Trail) (r : Result Context DeliverError) → ((d : Context) → passes_of other exception kept resumes limit places d ≡ passes_of s exception kept resumes limit places d) → resumed t r (passes_of other exception kept resumes limit places) ≡ resumed t r (passes_of s exception kept resumes limit places)
+        again t (Ok c) later = ap (with_cleanup t) (later c)
+        again t (Err e) later = refl
 
-        go : (r : Result PassEnd DeliverError) → followed r (λ pad entered. resumed (cleanup_at pad entered) (resume_at pad entered (return_of resumes pad)) (passes_of other exception kept resumes limit places)) ≡ followed r (λ pad entered. resumed (cleanup_at pad entered) (resume_at pad entered (return_of resumes pad)) (passes_of s exception kept resumes limit places))
-        go (Ok (Finishes ending)) = refl
-        go (Ok (Elsewhere pad entered)) = again (cleanup_at pad entered) (resume_at pad entered (return_of resumes pad))
-        go (Err e) = refl
+        go : (r : Result PassEnd DeliverError) → ((d : Context) → passes_of other exception kept resumes limit places d ≡ passes_of s exception kept resumes limit places d) → followed r (λ pad entered. resumed (cleanup_at pad entered) (resume_at pad entered (return_of resumes pad)) (passes_of other exception kept resumes limit places)) ≡ followed r (λ pad entered. resumed (cleanup_at pad entered) (resume_at pad entered (return_of resumes pad)) (passes_of s exception kept resumes limit places))
+        go (Ok (Finishes ending)) later = refl
+        go (Ok (Elsewhere pad entered)) later = again (cleanup_at pad entered) (resume_at pad entered (return_of resumes pad)) later
+        go (Err e) later = refl
 
   pub delivery_same : (c : Context) (exception : ℕ) (resumes : List (ℕ × ℕ)) (limit : ℕ) → delivery_of other c exception resumes limit ≡ delivery_of s c exception resumes limit
   unfolding delivery_of

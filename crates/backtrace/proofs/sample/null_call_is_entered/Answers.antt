@@ -22,7 +22,7 @@ shown R14 = refl
 shown R15 = refl
 
 pub returns-clause-nowhere : goal.returns-clause-nowhere
-returns-clause-nowhere c = (tt, inl refl)
+returns-clause-nowhere c = (refl, inl refl)
 
 pub returns-clause-entered : goal.returns-clause-entered
 unfolding word_at
