@@ -18,7 +18,7 @@ use crate::stepping::{FoundFrame, frame_at, leave};
 use eh_frame::RowRoom;
 use memory_image::{Ledger, MemoryImage, Steps};
 use unwind_arch::x86_64::{Context, RAX, RDX, RSP};
-use unwinding_frames::{EhAction, eh_action_of, personality_of};
+use unwinding_frames::{EhAction, Window, eh_action_of, personality_of};
 
 /// What a pass over the stack is for.
 #[derive(Clone, Copy)]
@@ -144,10 +144,13 @@ fn stop_action(
 fn meet<'a, L: Ledger>(
     phase: Option<Phase>,
     space: &Space<'a>,
+    stack: &mut Window<'_, 'a>,
     state: &mut Stepped,
     rows: &mut RowRoom<'a>,
     steps: &mut Steps<L>,
 ) -> Result<Turn, DeliverError>
+    requires { stack.old ≡ space.now.image }
+    ensures same { stack.new ≡ stack.old }
     ensures met { result_map (turn_shown state.new) result ≡ turn_for phase space.now
         state.old.context state.old.signal }
     ensures stays { IfOk result (λ turn. StaysAt turn state.old state.new) }
@@ -162,7 +165,7 @@ fn meet<'a, L: Ledger>(
     if let Some(action) = stop_action(phase, image, state, &frame)? {
         return Ok(Turn::Stop(action, frame.arguments(rows)));
     }
-    leave(image, state, &frame, rows)?;
+    leave(stack, state, &frame, rows)?;
     Ok(Turn::Caller)
 }
 
@@ -199,9 +202,10 @@ pub(crate) fn outwards<'a, L: Ledger>(
     ensures stays { visits phase ≡ false → room.new ≡ room.old }
     ensures ticks { RisesWithin space.now limit steps.old.number steps.new.number }
 {
+    let mut stack = Window::new(space.image(), state.context.registers[RSP]);
     for _ in 0..limit {
         visit(phase, state, room);
-        match meet(phase, space, state, rows, steps)? {
+        match meet(phase, space, &mut stack, state, rows, steps)? {
             Turn::End => return Ok(None),
             Turn::Stop(action, arguments) => {
                 return Ok(Some(Stop {

@@ -8,9 +8,8 @@ ghost use Rattle.unwind_definitions.specs.Chain.{Call};
 ghost use Rattle.unwind_definitions.specs.LanguageSearch.{address_of_call};
 ghost use Rattle.unwind_definitions.specs.Row.{RowInstructions, argument_size};
 ghost use Rattle.unwind_definitions.specs.Caller.{x86_64, caller_of};
-ghost use Rattle.frame_rows.specs.Rows.{IsRowOf};
 ghost use Rattle.unwind_definitions.specs.Expressions.{evaluation};
-ghost use Rattle.unwinding_frames.specs.Calling.{columns_given};
+ghost use Rattle.unwinding_frames.specs.Calling.{columns_given, written_in};
 ghost use Rattle.unwind_arch.specs.Contexts.{columns_of};
 ghost use Rattle.eh_frame.specs.Index.{AreFewSteps};
 ghost use Rattle.fde_finders.specs.declared.custom.FrameInfo.{FrameInfo as Tables};
@@ -31,11 +30,11 @@ ghost use Rattle.stack_deliver.specs.Stopped.{IsDescribedStop};
 use crate::delivery::{DeliverError, Stepped};
 use crate::prepared::PreparedTable;
 use crate::space::{Held, Space};
-use eh_frame::{PreparedFrame, RowRef, RowRoom};
+use eh_frame::{PreparedFrame, RowRoom};
 use fde_finders::{FDESearchResult, FrameInfo, find_named};
 use memory_image::{Ledger, MemoryImage, Steps};
-use unwind_arch::x86_64::{Arch, Context};
-use unwinding_frames::{StepError, address_asked, step_by_row};
+use unwind_arch::x86_64::{Arch, Context, RSP};
+use unwinding_frames::{StepError, Window, address_asked, write_caller};
 
 impl Stepped {
     /// The address that is asked of the frame: that of its instruction, or of a byte of its call.
@@ -96,21 +95,24 @@ impl<'f, 'a> FoundFrame<'f, 'a> {
         }
     }
 
-    /// The registers of its caller. `rows` is the room for rows in which it was found.
-    fn caller(
+    /// Makes a copy of its registers those of its caller. `rows` is the room for rows in which it
+    /// was found. After a fault the copy is unspecified.
+    fn write_caller(
         &self,
-        image: &MemoryImage<'_>,
+        stack: &Window<'_, '_>,
         context: &Context,
         rows: &RowRoom<'_>,
-    ) -> Result<Context, StepError>
+        caller: &mut Context,
+    ) -> Result<(), StepError>
+        requires { caller.old ≡ context.now }
         ensures { (f : FrameAt) → IsFrameOf self.now rows.now f →
-            columns_given columns_of result ≡ caller_of x86_64 (evaluation image.now) image.now
-            (columns_of context.now) f.run }
+            columns_given columns_of (written_in result caller.new) ≡ caller_of x86_64
+            (evaluation stack.now) stack.now (columns_of context.now) f.run }
     {
         match self {
-            FoundFrame::Searched(_) => caller(image, context, &rows.row()),
+            FoundFrame::Searched(_) => write_caller::<Arch>(stack, context, &rows.row(), caller),
             FoundFrame::Prepared(_, frame) => match frame.row() {
-                Ok(row) => caller(image, context, row),
+                Ok(row) => write_caller::<Arch>(stack, context, row, caller),
                 Err(fault) => Err(StepError::Table(fault)),
             },
         }
@@ -201,38 +203,34 @@ pub(crate) fn frame_at<'f, 'a, L: Ledger>(
     }
 }
 
-/// The registers of a frame's caller, by the frame's row.
-fn caller(
-    image: &MemoryImage<'_>,
-    context: &Context,
-    row: &RowRef<'_, '_>,
-) -> Result<Context, StepError>
-    ensures { (run : RowInstructions) → IsRowOf row.now run →
-        columns_given columns_of result ≡ caller_of x86_64 (evaluation image.now) image.now
-        (columns_of context.now) run }
-{
-    let mut caller = *context;
-    step_by_row::<Arch>(image, &mut caller, row)?;
-    Ok(caller)
-}
-
 /// Puts the caller of the frame at a state in the state's place. After a fault the state is as
-/// before. `rows` is the room for rows in which the frame was found.
+/// before. `stack` is a window over the image, and `rows` the room for rows in which the frame was
+/// found.
 pub(crate) fn leave(
-    image: &MemoryImage<'_>,
+    stack: &mut Window<'_, '_>,
     state: &mut Stepped,
     frame: &FoundFrame<'_, '_>,
     rows: &RowRoom<'_>,
 ) -> Result<(), DeliverError>
     ensures caller { (f : FrameAt) → IsFrameOf frame.now rows.now f →
-        result_map (λ done. state.new) result ≡ caller_by image.now state.old.context f }
+        result_map (λ done. state.new) result ≡ caller_by stack.old state.old.context f }
     ensures stays { OnErr result (state.new ≡ state.old) }
+    ensures same { stack.new ≡ stack.old }
 {
-    *state = Stepped {
-        context: frame.caller(image, &state.context, rows)?,
-        signal: frame.is_signal_trampoline(),
-    };
-    Ok(())
+    let callee = state.context;
+    stack.seek(callee.registers[RSP]);
+    match frame.write_caller(stack, &callee, rows, &mut state.context) {
+        Ok(()) => {
+            // A look at them tells the proof that there are sixteen registers.
+            let _ = state.context.registers[RSP];
+            state.signal = frame.is_signal_trampoline();
+            Ok(())
+        }
+        Err(fault) => {
+            state.context = callee;
+            Err(DeliverError::from(fault))
+        }
+    }
 }
 
 fn stepped<L: Ledger>(
@@ -247,6 +245,7 @@ fn stepped<L: Ledger>(
     ensures ticks { TicksAt space.now context.now interrupted steps.old.number steps.new.number }
 {
     let image = space.image();
+    let mut stack = Window::new(image, context.registers[RSP]);
     let mut rows = RowRoom::new();
     let mut state = Stepped {
         context: *context,
@@ -255,7 +254,7 @@ fn stepped<L: Ledger>(
     let Some(frame) = frame_at(space, &state, &mut rows, steps)? else {
         return Ok(None);
     };
-    leave(image, &mut state, &frame, &rows)?;
+    leave(&mut stack, &mut state, &frame, &rows)?;
     Ok(Some(state))
 }
 

@@ -17,6 +17,7 @@ loop-init g c =
       stays = λ unvisited. refl;
       trail = refl;
       places = refl;
+      window = c.new-stack.ensures ∙ c.image.ensures.image;
       ticks = rises_none c.args.space.now c.args.steps.now.number;
     }
 
@@ -64,6 +65,7 @@ loop-preserved g c =
       stays = λ is. rw c.visit.ensures (unvisited (visits c.args.phase) c.loop.room c.loop.state.context is ∙ c.loop.invariant.stays is);
       trail = rw c.visit.ensures (keeps.0 ∙ c.loop.invariant.trail);
       places = rw c.visit.ensures (keeps.1 ∙ c.loop.invariant.places);
+      window = c.in_ok-meet.ensures.same ∙ c.loop.invariant.window;
       ticks = rises_by_one c.args.space.now c.loop.state.context c.loop.state.signal c.loop.counter _ _ _ c.loop.invariant.ticks c.in_ok-meet.ensures.ticks;
     }
 
