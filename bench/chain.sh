@@ -58,9 +58,10 @@ ratio() {
 measure() {
     word=$1
     header=$2
+    # whichever of these the compiler keeps as a function
     case $word in
-        walk) alone=stack_deliver::walking::walk_into peer_alone=gimli_walk::passes::walk ;;
-        deliver) alone=stack_deliver::delivering::deliver_into peer_alone=gimli_walk::passes::deliver ;;
+        walk) alone='walking::walk_into walking::walked passes::outwards' ;;
+        deliver) alone='delivering::deliver_into delivering::emptied delivering::delivered passes::passes passes::outwards' ;;
     esac
     printf '%s, by the %s\n' "$word" "$([ -n "$header" ] && echo 'header table' || echo 'frame table')"
     printf '%8s %14s %8s %7s %8s %14s %8s %8s %9s %9s %12s %12s\n' frames proved a-frame alone growth \
@@ -72,8 +73,8 @@ measure() {
         proved_whole=$(instructions "$proved" "$word")
         peer_whole=$(instructions "$peer" "$word")
         cmp "$work/unwind_cli.report" "$work/gimli_walk.report"
-        proved_alone=$(inclusive "$alone")
-        gimli_alone=$(python3 "$here/inclusive.py" "$work/gimli_walk.counts" "$peer_alone")
+        proved_alone=$(inclusive $alone)
+        gimli_alone=$(python3 "$here/inclusive.py" "$work/gimli_walk.counts" "gimli_walk::passes::$word")
         if [ -n "$before" ]; then
             more=$((count - before))
             proved_frame=$(((proved_whole - proved_before) / more))
@@ -83,7 +84,7 @@ measure() {
             proved_frame=- peer_frame=- growth=-
         fi
         json=$(inclusive serde_json::)
-        prepare=$(inclusive stack_deliver::space::Space::prepare)
+        prepare=$(inclusive Space::prepare prepared::tables_for Prepared::build)
         printf '%8d %14d %8s %7d %8s %14d %8s %8d %9d %9d %12d %12d (%s)\n' "$count" "$proved_whole" \
             "$proved_frame" "$((proved_alone / count))" "$growth" "$peer_whole" "$peer_frame" \
             "$((gimli_alone / count))" "$(peak "$proved" "$word")" "$(peak "$peer" "$word")" \
