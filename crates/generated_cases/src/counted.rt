@@ -20,7 +20,8 @@ pub fn deliver_case(alloc: Global, count: u32, seed: u64) -> Result<Summary, All
     ensures { IfOk result (λ summary. SumsUp summary count) }
 {
     let snapshot = make_case(alloc, count, seed)?;
-    let space = snapshot.space(alloc)?;
+    let mut space = snapshot.space(alloc)?;
+    space.prepare()?;
     let mut room = Room::new(alloc, snapshot.limit())?;
     let mut steps = Steps::new(Counted { count: 0 });
     let start = snapshot.start();

@@ -69,7 +69,8 @@ fn generated_case_is_walked(rt: HostRuntime) -> Result<(), Fail> {
 fn probes_are_the_count_of_a_ledger(rt: HostRuntime) -> Result<(), Fail> {
     let alloc = rt.alloc();
     let snapshot = make_case(alloc, 1000, 7)?;
-    let space = snapshot.space(alloc)?;
+    let mut space = snapshot.space(alloc)?;
+    assert_eq!(rt; space.prepare()?, 1);
     let mut room = Room::new(alloc, 1001)?;
     let mut steps = Steps::new(Counted { count: 0 });
     deliver_into(
@@ -84,6 +85,9 @@ fn probes_are_the_count_of_a_ledger(rt: HostRuntime) -> Result<(), Fail> {
     )?;
     let summary = deliver_case(alloc, 1000, 7)?;
     assert_eq!(rt; summary.probes, steps.ledger().count);
-    assert_eq!(rt; (summary.functions, summary.frames, summary.cleanups), (1000, 1000, 249));
+    assert_eq!(rt;
+        (summary.functions, summary.frames, summary.cleanups),
+        (1000, 1000, 249)
+    );
     Ok(())
 }

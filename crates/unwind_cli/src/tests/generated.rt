@@ -26,9 +26,19 @@ fn generated_chains_are_summed_up(rt: HostRuntime) -> Result<(), Fail> {
     expect_summary(&rt, alloc, "1", "0", &one)?;
     let seven = ["functions 7", "frames 7", "cleanups 1", "outcome installed"];
     expect_summary(&rt, alloc, "007", "07", &seven)?;
-    let thousand = ["functions 1000", "frames 1000", "cleanups 249", "outcome installed"];
+    let thousand = [
+        "functions 1000",
+        "frames 1000",
+        "cleanups 249",
+        "outcome installed",
+    ];
     expect_summary(&rt, alloc, "1000", "7", &thousand)?;
-    let most = ["functions 100000", "frames 100000", "cleanups 24999", "outcome installed"];
+    let most = [
+        "functions 100000",
+        "frames 100000",
+        "cleanups 24999",
+        "outcome installed",
+    ];
     expect_summary(&rt, alloc, "100000", "18446744073709551615", &most)?;
     Ok(())
 }
