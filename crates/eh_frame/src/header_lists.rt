@@ -30,7 +30,12 @@ impl<'a> Prepared<'a> {
         let mut steps = Steps::new(NoLedger);
         for index in 0..self.len() {
             let (start, offset) = self.place(index);
-            if !is_pair(table.entry(index, &mut steps), start, frames.address(), offset) {
+            if !is_pair(
+                table.entry(index, &mut steps),
+                start,
+                frames.address(),
+                offset,
+            ) {
                 return false;
             }
         }

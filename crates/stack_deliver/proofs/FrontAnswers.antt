@@ -1,5 +1,5 @@
 -- How far a walk comes, and why, by its line.
-use Rattle.std.proofs.Common.{inl, inr, ◌≡◌, ◌≢◌, ℕ, zero, suc, ◌≤◌, Bool, true, false, List, [], ◌∷◌, Option, Some, None, Result, Ok, Err, refl, sym, ap, subst, ◌∙◌, arith, take}
+use Rattle.std.proofs.Common.{inl, inr, ◌≡◌, ◌≢◌, ℕ, zero, suc, ◌≤◌, Bool, true, List, [], ◌∷◌, Option, Some, None, Result, Ok, Err, refl, sym, ap, subst, ◌∙◌, arith, take}
 use Rattle.std.specs.Prelude.{◌⊎◌}
 use Rattle.memory_image.specs.Image.{Span}
 use Rattle.unwind_definitions.specs.declared.error.Error.{Error as Fault}
@@ -19,7 +19,7 @@ use Rattle.stack_deliver.specs.declared.front.Front.{Front}
 use Rattle.stack_deliver.specs.declared.front.Front.TheVariants.{Outermost, NoModule, NoDescription, UnreadableTable, Refused, Limit}
 use Rattle.stack_deliver.specs.declared.space.Module.{Module}
 use Rattle.stack_deliver.specs.Modules.{SpaceValue, module_at}
-use Rattle.stack_deliver.specs.Stepping.{step_of, FindsNone, IsUncovered as HasNone, EndsAt}
+use Rattle.stack_deliver.specs.Stepping.{step_of, FindsNone, EndsAt}
 use Rattle.stack_deliver.specs.Delivering.{with_first, line_after, line_of, NeedsMore}
 use Rattle.stack_deliver.specs.Fronts.{reached_after, reached_by, caller_in, caller_from, turned_from, IsReached, started, front_of, IsUnreadableAt, IsUndescribedIn, IsUnlisted, IsUndescribed, IsUnheld, IsUnknown, EndsFor, stopped_by, Meets, ComesTo}
 use Rattle.stack_deliver.specs.declared.passes.Stop.{Stop as CodeStop}

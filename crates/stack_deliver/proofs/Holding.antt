@@ -1,17 +1,16 @@
 -- Modules by start and in the order of adding: where an address is found, and what one more module changes.
-use Rattle.std.proofs.Common.{◌≡◌, ◌≢◌, ◌⊎◌, inl, inr, ℕ, zero, suc, ◌+◌, ◌<◌, ◌≤◌, Bool, true, false, ◌&&◌, ◌==◌, List, [], ◌∷◌, ◌++◌, length, map, get_or, Option, Some, None, refl, sym, ap, ◌∙◌, subst, arith, leb, ltb}
+use Rattle.std.proofs.Common.{◌≡◌, ◌⊎◌, inl, inr, ℕ, zero, suc, ◌<◌, ◌≤◌, Bool, true, false, ◌==◌, List, [], ◌∷◌, ◌++◌, length, map, get_or, Some, None, refl, sym, ap, ◌∙◌, subst, arith, leb, ltb}
 use Rattle.std.specs.Prelude.{slice_get}
 use Rattle.std.specs.List.{AllByRecursion, Contains, filter}
 use Rattle.std.specs.BTreeMap.{insert_entry}
 use Rattle.std.specs.Ordering.{nat_cmp}
 use Rattle.std.proofs.lemmas.Bool.Decides.{nat_tests, leb_tells}
-use Rattle.unwind_laws.proofs.Booleans.{both_true, here_or_later, none_in_nil, later, first, all_contains}
-use Rattle.memory_image.specs.Image.{Span}
+use Rattle.unwind_laws.proofs.Booleans.{both_true, here_or_later, none_in_nil, later, first}
 use Rattle.stack_deliver.specs.declared.space.Extent.{Extent}
 use Rattle.stack_deliver.specs.declared.space.Held.{Held}
 use Rattle.stack_deliver.specs.declared.space.Module.{Module}
 use Rattle.stack_deliver.specs.Modules.{contains, module_at, module_of, modules_in, AreApart, lowest_shared}
-use Rattle.stack_deliver.specs.Held.{added_of, holder_of, entry_at, IsHeld, StandsAt, StandsBack}
+use Rattle.stack_deliver.specs.Held.{added_of, holder_of, entry_at, StandsAt, StandsBack}
 use Rattle.stack_deliver.specs.Preparing.{index_at}
 use Rattle.stack_deliver.proofs.Apart.{ShareNone, share_none, apart_from}
 

@@ -9,7 +9,6 @@ use Rattle.memory_image.specs.Image.{Span, IsLaidOut}
 use Rattle.unwind_definitions.specs.declared.error.Error.{Error as Fault}
 use Rattle.unwind_definitions.specs.declared.error.Error.TheVariants.{NoUnwindInfoForAddress}
 use Rattle.unwind_definitions.specs.Faults.{◌>>=◌}
-use Rattle.unwind_definitions.specs.Input.{Input}
 use Rattle.unwind_definitions.specs.LanguageTable.{input_at}
 use Rattle.unwind_definitions.specs.Pointers.{Bases}
 use Rattle.unwind_definitions.specs.Entries.{Fde}
@@ -30,7 +29,7 @@ use Rattle.fde_finders.specs.declared.custom.FrameInfo.{FrameInfo}
 use Rattle.fde_finders.specs.declared.custom.FrameInfoKind.{FrameInfoKind}
 use Rattle.fde_finders.specs.declared.custom.FrameInfoKind.TheVariants.{EhFrame, EhFrameHdr}
 use Rattle.fde_finders.specs.Finding.{FoundFde, at_frame, found_in, relative_to, scanned_in, table_bases}
-use Rattle.fde_finders.specs.FrameTables.{FrameTable, led_table, table_by_header, table_by_kind}
+use Rattle.fde_finders.specs.FrameTables.{FrameTable, led_table, table_by_kind}
 use Rattle.fde_finders.specs.HeaderFinding.{Led, at_header, by_led, by_table, found_by_header, led, or_scanned}
 use Rattle.fde_finders.specs.Named.{found_by_kind}
 use Rattle.fde_finders.specs.Named as named

@@ -1,5 +1,5 @@
 -- Tables that are made for modules: what they leave, and what the modules are with them.
-use Rattle.std.proofs.Common.{◌≡◌, ℕ, zero, suc, ◌+◌, ◌-◌, ◌<◌, ◌≤◌, Bool, true, false, cond, List, [], ◌∷◌, ◌++◌, length, map, get_or, set, take, drop, Option, Some, None, refl, sym, ap, ◌∙◌, subst, arith}
+use Rattle.std.proofs.Common.{◌≡◌, ℕ, zero, suc, ◌+◌, ◌-◌, ◌<◌, ◌≤◌, true, false, cond, List, [], ◌∷◌, ◌++◌, length, map, get_or, set, take, drop, Option, Some, None, refl, sym, ap, ◌∙◌, subst, arith}
 use Rattle.std.specs.Prelude.{is_some, slice_get}
 use Rattle.std.proofs.lemmas.List.{map-append}
 use Rattle.std.specs.BTreeMap.{insert_entry}
@@ -14,8 +14,8 @@ use Rattle.stack_deliver.specs.declared.prepared.PreparedTable.{PreparedTable}
 use Rattle.stack_deliver.specs.declared.space.Extent.{Extent}
 use Rattle.stack_deliver.specs.declared.space.Held.{Held}
 use Rattle.stack_deliver.specs.Modules.{Added, AreApart, lowest_shared, module_of, modules_in}
-use Rattle.stack_deliver.specs.Held.{added_of, holder_of, index_in, kept_table, IsHeld, IsTable, IsTableOf, IsSpace, StandsAt, AreMade, MakesTable, Leaves, with_table, with_tables}
-use Rattle.stack_deliver.specs.Preparing.{Make, BecomesBy, Becomes, IsIndexOf, index_of, rows_of, rules_of, rows_left, rules_left, with_index, with_indexes}
+use Rattle.stack_deliver.specs.Held.{added_of, holder_of, index_in, kept_table, IsHeld, IsTable, IsSpace, StandsAt, AreMade, MakesTable, Leaves, with_table, with_tables}
+use Rattle.stack_deliver.specs.Preparing.{Make, BecomesBy, index_of, rows_of, rules_of, rows_left, rules_left, with_indexes}
 use Rattle.stack_deliver.proofs.Holding.{all_pushed, stand_pushed}
 
 abbrev pub index_made : Option PreparedTable → Option Index
@@ -111,7 +111,7 @@ module _ (image : List Span) where
       let rules = rules_after left o are.0 are.2 in (
         one_becomes left h o are.0 are.1 are.2,
         subst (λ (n : ℕ). Make image n (left.rules - rules_of (index_made o)) (map added_of hs) (map index_made made) after.rows after.rules) rows
-        (subst (λ (n : ℕ). Make image are.0.rows n (map added_of hs) (map index_made made) after.rows after.rules) rules ih),
+            (subst (λ (n : ℕ). Make image are.0.rows n (map added_of hs) (map index_made made) after.rows after.rules) rules ih),
       )
 
   -- ---- the modules with their tables

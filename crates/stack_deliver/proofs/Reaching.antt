@@ -1,5 +1,5 @@
 -- How far the way outwards comes, turn by turn.
-use Rattle.std.proofs.Common.{◌≡◌, ℕ, zero, suc, Bool, true, false, List, [], ◌∷◌, ◌++◌, Option, Some, None, Result, Ok, Err, refl, sym, ap, subst, ◌∙◌, append_assoc, append-nil}
+use Rattle.std.proofs.Common.{◌≡◌, ℕ, zero, suc, Bool, List, [], ◌∷◌, ◌++◌, Option, Some, None, Result, Ok, Err, refl, sym, ap, subst, ◌∙◌, append_assoc, append-nil}
 use Rattle.unwind_definitions.specs.Function.{Action}
 use Rattle.unwind_arch.specs.declared.x86_64.Context.{Context}
 use Rattle.stack_deliver.specs.declared.delivery.Stepped.{Stepped}
@@ -9,7 +9,7 @@ use Rattle.stack_deliver.specs.Modules.{SpaceValue}
 use Rattle.stack_deliver.specs.Results.{◌>>=◌, result_map}
 use Rattle.stack_deliver.specs.Stepping.{FrameAt, frame_of, caller_by, caller_at, step_of}
 use Rattle.stack_deliver.specs.Walking.{RoomValue}
-use Rattle.stack_deliver.specs.Passes.{Turn, Ends, Stops, Goes, turn_in, turn_for}
+use Rattle.stack_deliver.specs.Passes.{Ends, Stops, Goes, turn_in, turn_for}
 use Rattle.stack_deliver.specs.Passing.{AreVisited}
 use Rattle.stack_deliver.specs.Fronts.{Reached, reached_after, reached_by, caller_in, caller_from, caller_turned, turned_from, IsReached}
 

@@ -7,7 +7,7 @@ use Rattle.stack_deliver.specs.declared.delivery.Stepped.{Stepped}
 use Rattle.stack_deliver.specs.declared.delivery.Trail.{Trail}
 use Rattle.stack_deliver.specs.declared.passes.Phase.{Phase}
 use Rattle.stack_deliver.specs.declared.passes.Phase.TheVariants as phase
-use Rattle.stack_deliver.specs.Delivering.{Delivered, delivered_at, delivered_by, delivered_to, delivery_of, line_after, line_of, with_first}
+use Rattle.stack_deliver.specs.Delivering.{delivered_at, delivered_by, delivered_to, delivery_of, line_after, line_of, with_first}
 use Rattle.stack_deliver.specs.Modules.{Added, SpaceValue}
 use Rattle.stack_deliver.specs.Passes.{Ends, Stops, Goes, Elsewhere, Finishes, Line, Passed, PassEnd, Stop, Turn, cleanup_at, cleanup_of, end_of, followed, kept_at, line_for, line_turn, pad_of, pass_of, passes_of, resume_at, resumed, turn_for, with_cleanup, with_context}
 use Rattle.stack_deliver.specs.Resumes.{return_of}

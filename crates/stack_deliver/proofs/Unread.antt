@@ -1,5 +1,5 @@
 -- The entry of a frame table that a scan can't read.
-use Rattle.std.proofs.Common.{◌≡◌, ◌≢◌, ℕ, zero, suc, Bool, true, false, List, [], ◌∷◌, Option, Some, None, Result, Ok, Err, refl, sym, ap, subst, ◌∙◌, cond, length}
+use Rattle.std.proofs.Common.{◌≡◌, ◌≢◌, ℕ, suc, Bool, true, false, List, [], ◌∷◌, Option, Some, None, Result, Ok, Err, refl, sym, ap, subst, ◌∙◌, cond, length}
 use Rattle.std.specs.Result.{is_err}
 use Rattle.encoded_pointers.specs.Readers.{Answers}
 use Rattle.unwind_definitions.specs.declared.error.Error.{Error as Fault}
@@ -9,7 +9,7 @@ use Rattle.unwind_definitions.specs.Pointers.{Bases}
 use Rattle.unwind_definitions.specs.Entries.{Fde, Entry, ACie, AFde, Found, entry_at, AreEntries}
 use Rattle.unwind_definitions.specs.Row.{covers_pc}
 use Rattle.unwind_definitions.specs.Scan.{fdes_of, first_covering, found_or, scan_from, scan}
-use Rattle.eh_frame.specs.Search.{Precede, IsUnreadable, IsUncovered}
+use Rattle.eh_frame.specs.Search.{Precede}
 use Rattle.eh_frame.specs.Listing.{Listing, upcoming, entry_in, behind}
 use Rattle.stack_deliver.specs.Fronts.{IsUnreadableAt}
 

@@ -1,5 +1,5 @@
 -- From a frame to its caller, by the frame table of the module that holds it.
-use Rattle.std.specs.Prelude.{◌≡◌, ◌≢◌, ◌⊎◌, ℕ, ◌+◌, ◌*◌, ◌%◌, ◌^◌, ◌<◌, ◌≤◌, ◌==◌, Bool, Option, Some, None, Result, Ok, Err, List, [], ◌∷◌, if◌then◌else◌}
+use Rattle.std.specs.Prelude.{◌≡◌, ◌≢◌, ◌⊎◌, ℕ, ◌+◌, ◌%◌, ◌^◌, ◌<◌, ◌==◌, Bool, Option, Some, None, Result, Ok, Err, List, [], ◌∷◌, if◌then◌else◌}
 use Rattle.memory_image.specs.Image.{Span, word_at}
 use Rattle.unwind_definitions.specs.declared.error.Error.{Error as Fault}
 use Rattle.unwind_definitions.specs.LanguageTable.{input_at}
@@ -15,11 +15,9 @@ use Rattle.unwind_arch.specs.Contexts.{columns_of, context_of}
 use Rattle.fde_finders.specs.declared.custom.FrameInfoKind.{FrameInfoKind}
 use Rattle.fde_finders.specs.declared.custom.FrameInfoKind.TheVariants.{EhFrame, EhFrameHdr}
 use Rattle.unwind_definitions.specs.Expressions.{HasValue, HasFault, begun, operation_limit, evaluation}
-use Rattle.std.specs.List.{AllByRecursion}
-use Rattle.unwind_definitions.specs.HeaderSearch.{AreWithinDigits}
 use Rattle.fde_finders.specs.Finding.{FoundFde, relative_to, table_bases}
 use Rattle.fde_finders.specs.HeaderFinding.{found_by_header}
-use Rattle.fde_finders.specs.Named.{found_by, pairs_by}
+use Rattle.fde_finders.specs.Named.{found_by}
 use Rattle.stack_deliver.specs.declared.delivery.Stepped.{Stepped}
 use Rattle.stack_deliver.specs.declared.delivery.DeliverError.{DeliverError}
 use Rattle.stack_deliver.specs.declared.delivery.DeliverError.TheVariants.{Table, Unmapped}

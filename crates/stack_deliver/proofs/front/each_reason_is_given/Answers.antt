@@ -1,10 +1,10 @@
-use Rattle.std.proofs.Common.{inl, inr, ◌≡◌, ◌≢◌, ℕ, false, [], Ok, None, refl}
+use Rattle.std.proofs.Common.{inl, inr, ◌≢◌, ℕ, false, [], refl}
 use Rattle.unwind_definitions.specs.declared.error.Error.TheVariants.{NoUnwindInfoForAddress, UnexpectedEof}
 use Rattle.unwind_definitions.specs.Entries.{entry_at}
 use Rattle.unwind_definitions.specs.Instructions.{instruction_of}
 use Rattle.unwind_definitions.specs.Row.{row_at}
 use Rattle.unwind_definitions.specs.Scan.{scan}
-use Rattle.stack_deliver.specs.FrontSample.{after_call, bad_row, cut_entry, held_by, no_entry, nowhere}
+use Rattle.stack_deliver.specs.FrontSample.{after_call, cut_entry, held_by, no_entry, nowhere}
 use Rattle.stack_deliver.specs.Stepping.{step_of, frame_of}
 use Rattle.stack_deliver.proofs.StepAnswers.{ends_step}
 use Rattle.stack_deliver.proofs.front.each_reason_is_given.Goals as goal

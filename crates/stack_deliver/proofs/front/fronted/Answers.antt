@@ -1,4 +1,3 @@
-use Rattle.std.proofs.Common.{◌≡◌, ◌≢◌, sym, ◌∙◌}
 use Rattle.stack_deliver.proofs.FrontAnswers.{walk_states, walk_ends, walk_ends_for, walk_stops}
 use Rattle.stack_deliver.proofs.front.fronted.Goals as goal
 

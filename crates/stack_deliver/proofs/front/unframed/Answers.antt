@@ -1,4 +1,4 @@
-use Rattle.std.proofs.Common.{◌≡◌, ◌≢◌, sym, ◌∙◌}
+use Rattle.std.proofs.Common.{sym, ◌∙◌}
 use Rattle.stack_deliver.proofs.FrontAnswers.{held_finds_none}
 use Rattle.stack_deliver.proofs.front.unframed.Goals as goal
 

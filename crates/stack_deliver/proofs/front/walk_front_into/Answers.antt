@@ -1,4 +1,4 @@
-use Rattle.std.proofs.Common.{sym, subst, ◌∙◌}
+use Rattle.std.proofs.Common.{subst, ◌∙◌}
 use Rattle.stack_deliver.specs.declared.front.Front.{Front}
 use Rattle.stack_deliver.specs.Fronts.{started, ComesTo}
 use Rattle.stack_deliver.proofs.FrontAnswers.{line_front, line_whole, one_front}

@@ -1,4 +1,4 @@
-use Rattle.std.proofs.Common.{sym, ◌∙◌, not, ap}
+use Rattle.std.proofs.Common.{sym, ◌∙◌, not}
 use Rattle.std.specs.Ordering.{nat_cmp, is_lt}
 use Rattle.stack_deliver.proofs.Apart.{last_in, none_in, up_to_test}
 use Rattle.stack_deliver.proofs.Holding.{last_stands}

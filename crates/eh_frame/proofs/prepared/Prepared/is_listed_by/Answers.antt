@@ -21,7 +21,7 @@ returns-then-not-is_pair-clause-unlisted c e lists =
     let read = answer_same c.entry.result (pair_at (pairs_of c.args.table.now) i) c.entry.ensures.reads in
     let due = lists.each i d (omega arith) in
     c.is_pair.ensures.other c.if-not-is_pair.true
-        (sym read ∙ due ∙ sym (ap (λ (q : ℕ × ℕ). Ok q) (pair_there functions i base p d within c.place-start.ensures)) ∙ ap (λ (a : ℕ). Ok (pair_at_place a p)) (sym c.address.ensures))
+    (sym read ∙ due ∙ sym (ap (λ (q : ℕ × ℕ). Ok q) (pair_there functions i base p d within c.place-start.ensures)) ∙ ap (λ (a : ℕ). Ok (pair_at_place a p)) (sym c.address.ensures))
 
 pub loop-index-preserved : goal.loop-index-preserved
 loop-index-preserved c k d lt =

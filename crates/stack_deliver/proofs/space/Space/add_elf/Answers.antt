@@ -1,11 +1,11 @@
-use Rattle.std.proofs.Common.{◌≡◌, ◌<◌, ℕ, ◌++◌, ◌∷◌, [], List, None, length, map, refl, sym, ap, subst, ◌∙◌, arith}
+use Rattle.std.proofs.Common.{◌≡◌, ◌++◌, ◌∷◌, [], List, None, map, refl, sym, ap, subst, ◌∙◌, arith}
 use Rattle.std.proofs.lemmas.List.{map-append}
 use Rattle.memory_image.specs.Image.{Span}
 use Rattle.stack_deliver.specs.declared.space.Extent.{Extent}
 use Rattle.stack_deliver.specs.declared.space.Held.{Held}
 use Rattle.stack_deliver.specs.declared.space.Module.{Module}
 use Rattle.stack_deliver.specs.Held.{IsSpace, added_of}
-use Rattle.stack_deliver.specs.Modules.{Added, SpaceValue, module_of, modules_in, unprepared, with_module}
+use Rattle.stack_deliver.specs.Modules.{Added, SpaceValue, modules_in, with_module}
 use Rattle.stack_deliver.proofs.Apart.{module_inserted}
 use Rattle.stack_deliver.proofs.Making.{space_pushed}
 use Rattle.stack_deliver.proofs.space.Space.add_elf.Goals as goal
@@ -38,5 +38,5 @@ returns-in-Ok-clause-added c =
     let inserted = module_inserted es c.insert.new.self.entries c.args.start x c.lowest_shared.result c.self.invariant.apart c.if-end-start.false c.lowest_shared.ensures c.in_default.is c.in-Ok.ensures.entries in
     let items : c.push_reserved.new.self.items ≡ hs ++ h ∷ [] = c.push_reserved.ensures.items ∙ ap (λ (l : List Held). l ++ h ∷ []) c.reserve.ensures.items in
     rw (← c.self.view_is)
-        (ap (λ (ms : List Module). beside c.self.inside.image ms (map added_of c.push_reserved.new.self.items)) inserted.added
-        ∙ ap (beside c.self.inside.image (with_module m (modules_in es))) (ap (map added_of) items ∙ map-append added_of hs (h ∷ [])))
+    (ap (λ (ms : List Module). beside c.self.inside.image ms (map added_of c.push_reserved.new.self.items)) inserted.added
+    ∙ ap (beside c.self.inside.image (with_module m (modules_in es))) (ap (map added_of) items ∙ map-append added_of hs (h ∷ [])))

@@ -1,5 +1,4 @@
-use Rattle.std.proofs.Common.{◌≡◌, ℕ, Bool, true, List, Option, Some, sym, ap, ◌∙◌, arith}
-use Rattle.std.specs.List.{AllByRecursion}
+use Rattle.std.proofs.Common.{◌≡◌, ℕ, true, Option, Some, sym, ap, ◌∙◌, arith}
 use Rattle.unwind_laws.proofs.Booleans.{all_contains}
 use Rattle.stack_deliver.specs.declared.space.Extent.{Extent}
 use Rattle.stack_deliver.specs.declared.space.Module.{Module}

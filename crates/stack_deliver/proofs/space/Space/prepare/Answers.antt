@@ -1,4 +1,4 @@
-use Rattle.std.proofs.Common.{◌≡◌, ℕ, ◌-◌, ◌++◌, List, length, map, take, drop, sym, ap, subst, ◌∙◌, arith}
+use Rattle.std.proofs.Common.{◌≡◌, ◌++◌, List, length, map, take, drop, sym, ap, subst, ◌∙◌, arith}
 use Rattle.memory_image.specs.Image.{Span}
 use Rattle.stack_deliver.specs.declared.space.Held.{Held}
 use Rattle.stack_deliver.specs.declared.space.Module.{Module}
