@@ -31,29 +31,29 @@ pub struct MachoModule {
 // the function of an address, so far from the module's base, in its section of compact unwinding
 fn function_at(
     image: &MemoryImage<'_>,
-    holder: &MachoModule,
+    module: &MachoModule,
     rva: u32,
 ) -> Result<Option<Function>, macho_unwind_info::Error>
-    ensures { result ≡ function_at image.now (macho_module holder.now) rva }
+    ensures { result ≡ function_at image.now (macho_module module.now) rva }
 {
-    UnwindInfo::parse(bytes_at(image, holder.unwind_info))?.lookup(rva)
+    UnwindInfo::parse(bytes_at(image, module.unwind_info))?.lookup(rva)
 }
 
 // the caller of the frame at an address of a function of the module
 fn caller_in<'a>(
     image: &MemoryImage<'a>,
-    holder: &MachoModule,
+    module: &MachoModule,
     function: &Function,
     address: u64,
     context: &Context,
     rows: &mut RowRoom<'a>,
 ) -> Result<Stepped, FrameError>
-    ensures { caller_given result ≡ caller_due image.now (macho_module holder.now) address
+    ensures { caller_given result ≡ caller_due image.now (macho_module module.now) address
         (columns_of context.now) function.now }
 {
-    let start = holder.base.wrapping_add(u64::from(function.start_address));
+    let start = module.base.wrapping_add(u64::from(function.start_address));
     let opcode = OpcodeX86_64::parse(function.opcode);
-    match compact_step(image, holder.frames, start, address, context, &opcode, rows)? {
+    match compact_step(image, module.frames, start, address, context, &opcode, rows)? {
         Some(stepped) => Ok(stepped),
         None => Err(FrameError::CompactForm),
     }
@@ -72,19 +72,19 @@ fn caller_in<'a>(
 /// - `Unmapped` and `Table` as [`compact_step`] has them.
 pub fn macho_step<'a>(
     image: &MemoryImage<'a>,
-    holder: &MachoModule,
+    module: &MachoModule,
     address: u64,
     context: &Context,
     rows: &mut RowRoom<'a>,
 ) -> Result<Option<Stepped>, FrameError>
-    requires from { holder.now.base ≤ address }
-    requires near { address - holder.now.base < 2 ^ 32 }
-    ensures { macho_given result ≡ macho_due (macho_step image.now (macho_module holder.now)
-        (address - holder.now.base) (columns_of context.now)) }
+    requires from { module.now.base ≤ address }
+    requires near { address - module.now.base < 2 ^ 32 }
+    ensures { macho_given result ≡ macho_due (macho_step image.now (macho_module module.now)
+        (address - module.now.base) (columns_of context.now)) }
 {
-    match function_at(image, holder, (address - holder.base) as u32)? {
+    match function_at(image, module, (address - module.base) as u32)? {
         Some(function) => {
-            let stepped = caller_in(image, holder, &function, address, context, rows)?;
+            let stepped = caller_in(image, module, &function, address, context, rows)?;
             Ok(Some(stepped))
         }
         None => Ok(None),

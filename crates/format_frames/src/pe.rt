@@ -41,23 +41,23 @@ impl PeModule {
 }
 
 // a fault of a frame, which stands so far from the module's base, as why it has no caller
-fn refusal(holder: &PeModule, rva: u32, fault: FrameFault) -> FrameError
-    ensures { result ≡ frame_refusal (pe_module holder.now) rva fault }
+fn refusal(module: &PeModule, rva: u32, fault: FrameFault) -> FrameError
+    ensures { result ≡ frame_refusal (pe_module module.now) rva fault }
 {
     match fault {
-        FrameFault::Memory(record_rva) => FrameError::PeInfo(holder.address(record_rva)),
-        FrameFault::Info(record_rva) => FrameError::PeInfo(holder.address(record_rva)),
-        FrameFault::EpilogBytes => FrameError::PeInfo(holder.address(rva)),
+        FrameFault::Memory(record_rva) => FrameError::PeInfo(module.address(record_rva)),
+        FrameFault::Info(record_rva) => FrameError::PeInfo(module.address(record_rva)),
+        FrameFault::EpilogBytes => FrameError::PeInfo(module.address(rva)),
         FrameFault::Stack(address) => FrameError::Unmapped(address),
         FrameFault::ChainLimit => FrameError::ChainLimit,
     }
 }
 
 // the bytes of the function table, where one region has them all
-fn table<'a>(image: &MemoryImage<'a>, holder: &PeModule) -> Option<&'a [u8]>
-    ensures { option_map (λ bytes. bytes.now) result ≡ table_of image.now (pe_module holder.now) }
+fn table<'a>(image: &MemoryImage<'a>, module: &PeModule) -> Option<&'a [u8]>
+    ensures { option_map (λ bytes. bytes.now) result ≡ table_of image.now (pe_module module.now) }
 {
-    bytes_at(image, holder.address(holder.table_rva)).get(..holder.table_size as usize)
+    bytes_at(image, module.address(module.table_rva)).get(..module.table_size as usize)
 }
 
 // the caller by a function table, of the frame that stands so far from the module's base
@@ -102,23 +102,23 @@ fn caller_by(
 /// word of the stack that isn't wholly mapped.
 pub fn pe_step(
     image: &MemoryImage<'_>,
-    holder: &PeModule,
+    module: &PeModule,
     address: u64,
     context: &Context,
 ) -> Result<Context, FrameError>
-    requires from { holder.now.base ≤ address }
-    requires near { address - holder.now.base < 2 ^ 32 }
-    ensures { pe_given result ≡ pe_due (pe_module holder.now) (address - holder.now.base)
-        (pe_step image.now (pe_module holder.now) (address - holder.now.base)
+    requires from { module.now.base ≤ address }
+    requires near { address - module.now.base < 2 ^ 32 }
+    ensures { pe_given result ≡ pe_due (pe_module module.now) (address - module.now.base)
+        (pe_step image.now (pe_module module.now) (address - module.now.base)
         (columns_of context.now)) }
 {
-    let rva = (address - holder.base) as u32;
-    let Some(bytes) = table(image, holder) else {
-        return Err(FrameError::PeInfo(holder.address(holder.table_rva)));
+    let rva = (address - module.base) as u32;
+    let Some(bytes) = table(image, module) else {
+        return Err(FrameError::PeInfo(module.address(module.table_rva)));
     };
     let functions = FunctionTableEntries::parse(bytes);
-    match caller_by(image, holder.base, &functions, rva, context) {
+    match caller_by(image, module.base, &functions, rva, context) {
         Ok(caller) => Ok(caller),
-        Err(fault) => Err(refusal(holder, rva, fault)),
+        Err(fault) => Err(refusal(module, rva, fault)),
     }
 }
