@@ -39,4 +39,7 @@ caught_counts d e count shows is = record {
 pub starts_chain : (s : Content) (space : SpaceValue) (start : Context) (resumes : List (ℕ × ℕ)) (limit : ℕ) (functions : List Function) (state : State) (calls : List Call)
     → space.image ≡ (space_of s).image → space.modules ≡ (space_of s).modules → start ≡ s.start → resumes ≡ s.resumes → limit ≡ s.limit
     → DescribesChain s functions state calls → StartsValidChain space start resumes limit functions state calls
-starts_chain s space start resumes limit functions state calls image modules at by most described = rw (image, modules, at, by, most) described
+starts_chain s space start resumes limit functions state calls image modules at by most described = record {
+  valid = rw (image, modules, at, by) described.valid;
+  shorter = rw most described.shorter;
+}

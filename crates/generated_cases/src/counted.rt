@@ -25,7 +25,7 @@ pub fn deliver_case(alloc: Global, count: u32, seed: u64) -> Result<Summary, All
     let mut room = Room::new(alloc, snapshot.limit())?;
     let mut steps = Steps::new(Counted { count: 0 });
     let start = snapshot.start();
-    let Ok(ending) = deliver_into(
+    match deliver_into(
         &space,
         &start,
         snapshot.exception(),
@@ -34,14 +34,14 @@ pub fn deliver_case(alloc: Global, count: u32, seed: u64) -> Result<Summary, All
         snapshot.limit(),
         &mut room,
         &mut steps,
-    ) else {
-        unreachable!()
-    };
-    Ok(Summary {
-        functions: count,
-        frames: room.visited_len(),
-        cleanups: room.trail_len(),
-        outcome: ending.outcome,
-        probes: steps.ledger().count,
-    })
+    ) {
+        Ok(ending) => Ok(Summary {
+            functions: count,
+            frames: room.visited_len(),
+            cleanups: room.trail_len(),
+            outcome: ending.outcome,
+            probes: steps.ledger().count,
+        }),
+        Err(_) => unreachable!(),
+    }
 }

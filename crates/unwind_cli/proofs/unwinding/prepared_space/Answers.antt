@@ -3,7 +3,7 @@ use Rattle.stack_deliver.specs.Delivering.{line_of, delivery_of}
 use Rattle.stack_deliver.specs.Modules.{SpaceValue}
 use Rattle.stack_deliver.specs.Preparing.{with_indexes}
 use Rattle.stack_deliver.proofs.SameAnswers.{delivery_same, line_same}
-use Rattle.unwind_cli.proofs.running.prepared_space.Goals as goal
+use Rattle.unwind_cli.proofs.unwinding.prepared_space.Goals as goal
 
 pub returns-clause-delivery : goal.returns-clause-delivery
 returns-clause-delivery c = λ start exception resumes limit.

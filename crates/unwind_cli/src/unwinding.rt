@@ -1,0 +1,64 @@
+// What is delivered and walked of a snapshot, over indexes of its frame tables.
+ghost use Rattle.std.specs.Prelude.{◌≡◌, ℕ, Bool, List, IfOk};
+ghost use Rattle.unwind_arch.specs.declared.x86_64.Context.{Context};
+ghost use Rattle.stack_deliver.specs.Delivering.{Delivers, line_of, delivery_of};
+ghost use Rattle.stack_snapshot.specs.Content.{space_of};
+ghost use Rattle.unwind_cli.specs.Due.{delivery_from, walk_from};
+
+use stack_deliver::{DeliverError, Delivery, Space, Visited, deliver, walk};
+use stack_snapshot::Snapshot;
+use std::alloc::{AllocError, Global};
+
+/// The space of a snapshot, in which its modules are prepared where they can be. Nothing is
+/// answered otherwise over it.
+fn prepared_space(alloc: Global, snapshot: &Snapshot) -> Result<Space<'_>, AllocError>
+    ensures delivery { IfOk result (λ space. (c : Context) (exception : ℕ) (resumes : List (ℕ × ℕ))
+        (limit : ℕ) → delivery_of space c exception resumes limit ≡
+        delivery_of (space_of snapshot.now) c exception resumes limit) }
+    ensures walk { IfOk result (λ space. (limit : ℕ) (c : Context) (interrupted : Bool) →
+        line_of space limit c interrupted ≡ line_of (space_of snapshot.now) limit c interrupted) }
+{
+    let mut space = snapshot.space(alloc)?;
+    space.prepare()?;
+    Ok(space)
+}
+
+/// What is delivered of a snapshot.
+///
+/// # Errors
+///
+/// `NoMemory` where memory ran out; else those of `deliver`.
+pub fn deliver_snapshot(alloc: Global, snapshot: &Snapshot) -> Result<Delivery, DeliverError>
+    ensures { Delivers result (delivery_from snapshot.now) }
+{
+    let space = prepared_space(alloc, snapshot)?;
+    let start = snapshot.start();
+    deliver(
+        alloc,
+        &space,
+        &start,
+        snapshot.exception(),
+        snapshot.class(),
+        snapshot.resumes(),
+        snapshot.limit(),
+    )
+}
+
+/// The states of a snapshot's stack.
+///
+/// # Errors
+///
+/// `NoMemory` where memory ran out; else those of `walk`.
+pub fn walk_snapshot(alloc: Global, snapshot: &Snapshot) -> Result<Visited, DeliverError>
+    ensures { Delivers result (walk_from snapshot.now) }
+{
+    let space = prepared_space(alloc, snapshot)?;
+    let start = snapshot.start();
+    walk(
+        alloc,
+        &space,
+        &start,
+        snapshot.interrupted(),
+        snapshot.limit(),
+    )
+}
