@@ -15,3 +15,6 @@ pub frames_more : (form : FormValue) (first : ℕ) (states : List Context) (i : 
 frames_more form first states i s text more is e =
     let next : first + (i + 1) ≡ first + i + 1 = omega arith in
     rw (e, drop_get states i s is, next) (append_assoc text (frame_text form (first + i) s) (frame_lines form (first + i + 1) (drop (i + 1) states)))
+
+pub two_pieces : (t₀ t₁ t₂ a b : List ℕ) → t₁ ≡ t₀ ++ a → t₂ ≡ t₁ ++ b → t₂ ≡ t₀ ++ (a ++ b)
+two_pieces t₀ t₁ t₂ a b first second = second ∙ rw first (append_assoc t₀ a b)

@@ -3,6 +3,7 @@ use Rattle.std.specs.Prelude.{ℕ, ◌+◌, ◌-◌, ◌%◌, ◌^◌, ◌==◌,
 use Rattle.std.specs.Option.{option_to_list}
 use Rattle.std.specs.Fmt.{decimal}
 use Rattle.unwind_definitions.specs.State.{State}
+use Rattle.unwind_definitions.specs.declared.error.Error.{Error}
 use Rattle.unwind_definitions.specs.LanguageSearch.{address_of_call}
 use Rattle.unwind_arch.specs.declared.x86_64.Context.{Context}
 use Rattle.stack_deliver.specs.declared.front.Front.{Front}
@@ -62,8 +63,11 @@ guess_text form i = if form.called && (i == 1) then codes " (return address on t
 abbrev pub registers_text : FormValue → Context → List ℕ
 registers_text form c = if form.registers then kept_text (state_of c) else []
 
+unfoldable pub rest_text : FormValue → ℕ → Context → List ℕ
+rest_text form i c = guess_text form i ++ registers_text form c
+
 unfoldable pub frame_line : FormValue → ℕ → Context → List ℕ
-frame_line form i c = line (number_text i ++ place_text form.origins c.ra (inside_of form i c) ++ guess_text form i ++ registers_text form c)
+frame_line form i c = line (number_text i ++ place_text form.origins c.ra (inside_of form i c) ++ rest_text form i c)
 
 -- the state outside of the outermost frame, whose return address is 0, is no frame
 abbrev pub frame_text : FormValue → ℕ → Context → List ℕ
@@ -76,14 +80,27 @@ frame_lines form i (c ∷ cs) = frame_text form i c ++ frame_lines form (i + 1) 
 
 -- ---- why there are no more
 
+unfoldable pub no_module_text : ℕ → List ℕ
+no_module_text a = codes "no module holds " ++ word a
+
+unfoldable pub undescribed_text : List OriginValue → ℕ → List ℕ
+undescribed_text origins a = codes "no description of " ++ place_text origins a a
+
+-- so many bytes of a frame table stand before an entry that can't be read
+unfoldable pub unread_text : ℕ → Error → List ℕ
+unread_text offset e = codes ", since the entry at " ++ hexadecimal offset ++ codes " of its frame table can't be read: " ++ error_name e
+
+unfoldable pub limit_text : List ℕ
+limit_text = codes "more frames than the limit"
+
 -- why a walk goes no further
 abbrev pub why_text : List OriginValue → Front → List ℕ
 why_text origins Outermost = codes "the outermost frame, which returns to 0"
-why_text origins (NoModule a) = codes "no module holds " ++ word a
-why_text origins (NoDescription a) = codes "no description of " ++ place_text origins a a
-why_text origins (UnreadableTable a offset e) = codes "no description of " ++ place_text origins a a ++ codes ", since the entry at " ++ hexadecimal offset ++ codes " of its frame table can't be read: " ++ error_name e
+why_text origins (NoModule a) = no_module_text a
+why_text origins (NoDescription a) = undescribed_text origins a
+why_text origins (UnreadableTable a offset e) = undescribed_text origins a ++ unread_text offset e
 why_text origins (Refused a e) = codes "no caller of " ++ place_text origins a a ++ codes ": " ++ refusal_text e
-why_text origins Limit = codes "more frames than the limit"
+why_text origins Limit = limit_text
 
 abbrev pub end_line : List OriginValue → Front → List ℕ
 end_line origins why = line (codes "end: " ++ why_text origins why)

@@ -1,7 +1,7 @@
 // The lines of a backtrace.
 ghost use Rattle.std.specs.Prelude.{◌≡◌, ◌≤◌, ◌++◌, IfOk, OnOk, Some};
 ghost use Rattle.stack_deliver.specs.Shown.{state_of};
-ghost use Rattle.backtrace.specs.Lines.{backtrace_text, bad_line, end_line, frame_line, frame_lines, frame_text, gap_text, guess_text, inside_of, kept_text, number_text, origin_text, place_text, registers_text, states_of, usage_line, why_text};
+ghost use Rattle.backtrace.specs.Lines.{backtrace_text, bad_line, end_line, frame_line, frame_lines, frame_text, gap_text, guess_text, inside_of, kept_text, limit_text, no_module_text, number_text, origin_text, place_text, registers_text, rest_text, states_of, undescribed_text, unread_text, usage_line, why_text};
 
 use crate::tracing::Trace;
 use stack_deliver::{Context, DeliverError, Error, Front};
@@ -122,6 +122,34 @@ fn inside_of(form: &Form<'_>, index: usize, state: &Context) -> u64
     }
 }
 
+/// Puts where a frame stands.
+fn put_instruction(
+    report: &mut Report,
+    form: &Form<'_>,
+    index: usize,
+    state: &Context,
+) -> Result<(), AllocError>
+    ensures { OnOk result (report.new ≡ report.old ++
+        place_text form.now.origins state.now.ra (inside_of form.now index state.now)) }
+{
+    let inside = inside_of(form, index, state);
+    put_place(report, form.origins, state.ra, inside)
+}
+
+/// Puts what a frame's line has after its place.
+#[tactic(auto, unfolding(crate::specs::Lines::rest_text))]
+fn put_rest(
+    report: &mut Report,
+    form: &Form<'_>,
+    index: usize,
+    state: &Context,
+) -> Result<(), AllocError>
+    ensures { OnOk result (report.new ≡ report.old ++ rest_text form.now index state.now) }
+{
+    put_guess(report, form, index)?;
+    put_registers(report, form, state)
+}
+
 /// Puts the line of a frame.
 #[tactic(auto, unfolding(crate::specs::Lines::frame_line))]
 fn put_frame(
@@ -132,11 +160,9 @@ fn put_frame(
 ) -> Result<(), AllocError>
     ensures { OnOk result (report.new ≡ report.old ++ frame_line form.now index state.now) }
 {
-    let inside = inside_of(form, index, state);
     put_number(report, index)?;
-    put_place(report, form.origins, state.ra, inside)?;
-    put_guess(report, form, index)?;
-    put_registers(report, form, state)?;
+    put_instruction(report, form, index, state)?;
+    put_rest(report, form, index, state)?;
     report.end_line()
 }
 
@@ -186,24 +212,6 @@ fn put_states(report: &mut Report, form: &Form<'_>, trace: &Trace) -> Result<(),
     }
 }
 
-/// Puts why no description of an address is found in a frame table.
-fn put_unreadable(
-    report: &mut Report,
-    origins: &Origins,
-    address: u64,
-    offset: u64,
-    error: Error,
-) -> Result<(), AllocError>
-    ensures { OnOk result (report.new ≡ report.old ++
-        why_text origins.now (Front.UnreadableTable address offset error)) }
-{
-    report.put("no description of ")?;
-    put_place(report, origins, address, address)?;
-    report.put_field(", since the entry at ", offset)?;
-    report.put(" of its frame table can't be read: ")?;
-    report.put(error_name(error))
-}
-
 /// Puts why a frame has no caller.
 fn put_refused(
     report: &mut Report,
@@ -220,27 +228,60 @@ fn put_refused(
     report.put_refusal(error)
 }
 
+/// Puts that no module holds an address.
+#[tactic(auto, unfolding(crate::specs::Lines::no_module_text))]
+fn put_no_module(report: &mut Report, address: u64) -> Result<(), AllocError>
+    ensures { OnOk result (report.new ≡ report.old ++ no_module_text address) }
+{
+    report.put("no module holds ")?;
+    report.put_word(address)
+}
+
+/// Puts that there are more frames.
+#[tactic(auto, unfolding(crate::specs::Lines::limit_text))]
+fn put_limit(report: &mut Report) -> Result<(), AllocError>
+    ensures { OnOk result (report.new ≡ report.old ++ limit_text) }
+{
+    report.put("more frames than the limit")
+}
+
+/// Puts that no description of an address is found.
+#[tactic(auto, unfolding(crate::specs::Lines::undescribed_text))]
+fn put_undescribed(report: &mut Report, origins: &Origins, address: u64) -> Result<(), AllocError>
+    ensures { OnOk result (report.new ≡ report.old ++ undescribed_text origins.now address) }
+{
+    report.put("no description of ")?;
+    put_place(report, origins, address, address)
+}
+
+/// Puts why an entry of a frame table can't be read.
+#[tactic(auto, unfolding(crate::specs::Lines::unread_text))]
+fn put_unread(report: &mut Report, offset: u64, error: Error) -> Result<(), AllocError>
+    ensures { OnOk result (report.new ≡ report.old ++ unread_text offset error) }
+{
+    report.put_field(", since the entry at ", offset)?;
+    report.put(" of its frame table can't be read: ")?;
+    report.put(error_name(error))
+}
+
 /// Puts why a walk goes no further.
 fn put_why(report: &mut Report, origins: &Origins, why: Front) -> Result<(), AllocError>
     ensures { OnOk result (report.new ≡ report.old ++ why_text origins.now why) }
 {
     match why {
         Front::Outermost => report.put("the outermost frame, which returns to 0"),
-        Front::NoModule(address) => {
-            report.put("no module holds ")?;
-            report.put_word(address)
-        }
-        Front::NoDescription(address) => {
-            report.put("no description of ")?;
-            put_place(report, origins, address, address)
-        }
+        Front::NoModule(address) => put_no_module(report, address),
+        Front::NoDescription(address) => put_undescribed(report, origins, address),
         Front::UnreadableTable {
             address,
             offset,
             error,
-        } => put_unreadable(report, origins, address, offset, error),
+        } => {
+            put_undescribed(report, origins, address)?;
+            put_unread(report, offset, error)
+        }
         Front::Refused { address, error } => put_refused(report, origins, address, error),
-        Front::Limit => report.put("more frames than the limit"),
+        Front::Limit => put_limit(report),
     }
 }
 

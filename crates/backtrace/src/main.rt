@@ -16,31 +16,34 @@ use std::env;
 use std::io::ErrorKind;
 use std::process::ExitCode;
 
-/// The words after the program's name, none where they aren't all UTF-8.
-fn words_of(rt: &HostRuntime) -> Result<Option<Words>, AllocError> {
+/// The words after the program's name. For words that aren't all UTF-8 an empty one stands, which
+/// names no option.
+fn words_of(rt: &HostRuntime) -> Result<Words, AllocError> {
     let mut words = Words::new(rt.alloc());
     match env::args(rt) {
         Ok(list) => {
             for word in list.skip(1) {
                 words.push(word.as_str())?;
             }
-            Ok(Some(words))
+            Ok(words)
         }
         Err(error) => match error.kind() {
             ErrorKind::OutOfMemory => Err(AllocError),
-            _ => Ok(None),
+            _ => {
+                words.push("")?;
+                Ok(words)
+            }
         },
     }
 }
 
 fn main(rt: HostRuntime) -> ExitCode {
     let status = match words_of(&rt) {
-        Ok(Some(words)) => {
+        Ok(words) => {
             let mut input = StdinSource::new(rt.stdin());
             let mut output = StdoutSink::new(rt.stdout());
             run(rt.alloc(), &words, &mut input, &mut output)
         }
-        Ok(None) => Status::Usage,
         Err(AllocError) => Status::Memory,
     };
     ExitCode::from(status.number())

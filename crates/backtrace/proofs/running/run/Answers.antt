@@ -11,24 +11,28 @@ pub returns-clause-told : goal.returns-clause-told
 returns-clause-told g c =
     let a = c.decide-answer.result in
     let words = c.args.words.now in
+    let same : c.bytes.result.now ≡ a.text = c.bytes.ensures in
     let P : List ℕ → Type 0 = λ bytes. IsReadyOrFailed (due_of words bytes a.text) a.status a.text in
     let Q : List ℕ → Type 0 = λ bytes. IsBacktrace words bytes a.text in
     let R : List ℕ → Type 0 = λ bytes. (text : List ℕ) → IsBacktrace words bytes text → Tells (due_of words bytes text) c.tell.result (g.O.Sink.holds c.args.output.now) (g.O.Sink.holds c.tell.new.output) in
     if_some_both (g.I.Source.left c.args.input.now) (a.status ≡ Done) P Q R
-    (λ bytes ready done text is. c.tell.ensures.told (due_of words bytes text) (ready_with words bytes a.text text a.status ready done is) c.decide-answer.ensures.silent c.decide-answer.ensures.kind.0)
+    (λ bytes ready done text is.
+    let held : List ℕ → Type 0 = λ t. IsReadyOrFailed (due_of words bytes text) a.status t in
+    c.tell.ensures.told (due_of words bytes text) (subst held (sym same) (ready_with words bytes a.text text a.status ready done is)) (λ silent. same ∙ c.decide-answer.ensures.silent silent) c.decide-answer.ensures.kind.0)
     c.decide-answer.ensures.answer c.decide-answer.ensures.backtrace
 
 pub returns-clause-done : goal.returns-clause-done
 returns-clause-done g c = λ is.
     let a = c.decide-answer.result in
     let words = c.args.words.now in
+    let same : c.bytes.result.now ≡ a.text = c.bytes.ensures in
     let before : Option (List ℕ) = g.O.Sink.holds c.args.output.now in
     let after : Option (List ℕ) = g.O.Sink.holds c.tell.new.output in
     let Q : List ℕ → Type 0 = λ bytes. IsBacktrace words bytes a.text in
     let R : List ℕ → Type 0 = λ bytes. (text : List ℕ) × IsBacktrace words bytes text × Appends before after text in
     elim c.tell.ensures.done [
-      inl w ↦ if_some_weaker (g.I.Source.left c.args.input.now) Q R (λ bytes backtrace. (a.text, backtrace, w.1)) (c.decide-answer.ensures.backtrace (sym w.0 ∙ is))
-    | inr w ↦ absurd cc
+      | inl w ↦ if_some_weaker (g.I.Source.left c.args.input.now) Q R (λ bytes backtrace. (a.text, backtrace, subst (λ (t : List ℕ). Appends before after t) same w.1)) (c.decide-answer.ensures.backtrace (sym w.0 ∙ is))
+      | inr w ↦ absurd cc
     ]
 
 pub returns-clause-traced : goal.returns-clause-traced

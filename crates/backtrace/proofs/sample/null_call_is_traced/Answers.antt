@@ -12,7 +12,7 @@ use Rattle.stack_snapshot.specs.Content.{space_of}
 use Rattle.stack_snapshot.specs.Origins.{origins_of}
 use Rattle.stack_snapshot.specs.Snapshot.{regions_of, modules_of, start_of, resumes_of, limit_of, interrupted_of, whole_numbers, snapshot_of}
 use Rattle.stack_report.specs.Digits.{hexadecimal, word}
-use Rattle.backtrace.specs.Lines.{backtrace_text, frame_line, place_text, kept_text}
+use Rattle.backtrace.specs.Lines.{backtrace_text, frame_line, no_module_text, place_text, rest_text}
 use Rattle.backtrace.specs.Sample.{context, json, snapshot}
 use Rattle.backtrace.proofs.sample.null_call_is_traced.Goals as goal
 
@@ -34,5 +34,5 @@ returns-clause-traced c = (
 )
 
 pub returns-clause-written : goal.returns-clause-written
-unfolding digits hexadecimal word backtrace_text frame_line place_text kept_text
+unfolding digits hexadecimal word backtrace_text frame_line no_module_text place_text rest_text
 returns-clause-written c = refl
