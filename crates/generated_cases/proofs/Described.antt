@@ -1,12 +1,9 @@
 -- The snapshot of a generated chain is taken, and describes the chain.
-use Rattle.std.proofs.Common.{◌≡◌, ℕ, zero, suc, ◌+◌, ◌<◌, ◌≤◌, ◌^◌, true, List, [], ◌∷◌, length, Some, Result, Ok, refl, sym, ap, subst, ◌∙◌, arith}
+use Rattle.std.proofs.Common.{◌≡◌, ℕ, zero, suc, ◌+◌, ◌<◌, ◌≤◌, true, List, [], ◌∷◌, length, Some, Result, Ok, refl, sym, ap, subst, ◌∙◌, arith}
 use Rattle.std.proofs.lemmas.Bool.{le-leb, lt-leb}
-use Rattle.memory_image.specs.Image.{Span}
 use Rattle.unwind_definitions.specs.State.{CalleeSaved, RBX, RBP, R12, R13, R14, R15, column_of, value_of, State, Shows}
 use Rattle.unwind_definitions.specs.Module.{Process}
-use Rattle.unwind_definitions.specs.Chain.{Call}
 use Rattle.unwind_definitions.specs.Valid.{IsValid}
-use Rattle.unwind_arch.specs.declared.x86_64.Context.{Context}
 use Rattle.unwind_arch.specs.Contexts.{columns_of}
 use Rattle.stack_deliver.specs.Processes.{process_of}
 use Rattle.stack_deliver.specs.Resumes.{resume_table}
@@ -20,7 +17,7 @@ use Rattle.generated_chains.specs.Memory.{by_header, image_of}
 use Rattle.generated_chains.specs.Shown.{state_in}
 use Rattle.generated_chains.specs.Made as made
 use Rattle.stack_snapshot.specs.declared.errors.Field.{Field}
-use Rattle.stack_snapshot.specs.Content.{Content, space_of, takes_regions, takes_modules}
+use Rattle.stack_snapshot.specs.Content.{Content, space_of, takes_modules}
 use Rattle.stack_snapshot.specs.Described.{DescribesChain}
 use Rattle.stack_snapshot.specs.declared.parts.SnapshotParts.{SnapshotParts}
 use Rattle.stack_snapshot.specs.Parts.{content_in, assembled}

@@ -1,6 +1,5 @@
 -- Snapshots of valid processes are described ones.
 use Rattle.std.proofs.Common.{◌≡◌, ℕ, ◌<◌, List, [], ◌∷◌, length, Some, refl}
-use Rattle.std.specs.Prelude.{IsTrue}
 use Rattle.unwind_definitions.specs.Caller.{Columns}
 use Rattle.unwind_definitions.specs.State.{State, IsState, Shows, column_of, value_of}
 use Rattle.unwind_definitions.specs.Prologue.{SystemV}

@@ -1,4 +1,4 @@
-use Rattle.std.proofs.Common.{◌≡◌, ℕ, ◌∙◌, refl, sym, ap, subst}
+use Rattle.std.proofs.Common.{ℕ, ◌∙◌, refl, sym, ap, subst}
 use Rattle.unwind_definitions.specs.Delivery.{delivery_of}
 use Rattle.generated_chains.specs.Caught.{IsCaught}
 use Rattle.generated_chains.specs.Outlines.{outlines}

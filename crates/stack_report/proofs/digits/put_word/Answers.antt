@@ -1,4 +1,4 @@
-use Rattle.std.proofs.Common.{◌≡◌, ◌-◌, ◌+◌, ◌++◌, ℕ, List, suc, arith, length-set}
+use Rattle.std.proofs.Common.{◌≡◌, ◌-◌, ◌+◌, suc, arith, length-set}
 use Rattle.std.specs.Prelude.{codes}
 use Rattle.std.proofs.lemmas.Result.{on_ok_weaker}
 use Rattle.stack_report.specs.Digits.{word, digits_of}

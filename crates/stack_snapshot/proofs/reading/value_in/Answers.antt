@@ -1,4 +1,3 @@
-use Rattle.std.proofs.Common.{inr}
 use Rattle.stack_snapshot.proofs.Json.{text_is_there, no_value, value_of_text}
 use Rattle.stack_snapshot.proofs.reading.value_in.Goals as goal
 

@@ -1,4 +1,3 @@
-use Rattle.std.proofs.Common.{[], ◌∷◌, refl}
 use Rattle.unwind_laws.specs.Three as three
 use Rattle.unwind_laws.proofs.ThreeValid.{header_valid}
 use Rattle.unwind_cli.proofs.Samples.{first_described, shows_start}

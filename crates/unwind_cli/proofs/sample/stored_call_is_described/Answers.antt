@@ -1,4 +1,4 @@
-use Rattle.std.proofs.Common.{[], ◌∷◌, refl}
+use Rattle.std.proofs.Common.{[], ◌∷◌}
 use Rattle.unwind_laws.specs.Storing as storing
 use Rattle.unwind_laws.proofs.StoringValid.{pointed_valid}
 use Rattle.unwind_cli.proofs.Samples.{first_described, shows_stored}

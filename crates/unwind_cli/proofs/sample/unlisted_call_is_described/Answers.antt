@@ -1,4 +1,4 @@
-use Rattle.std.proofs.Common.{[], ◌∷◌, refl, arith}
+use Rattle.std.proofs.Common.{refl, arith}
 use Rattle.std.specs.Fmt.{digits}
 use Rattle.unwind_laws.specs.Three as three
 use Rattle.unwind_laws.proofs.ThreeValid.{unlisted_valid}
