@@ -2,7 +2,7 @@
 # Instructions of a search for the description of an address among 10, 1,000 and 100,000, by the
 # header's table and by a scan, by callgrind. In a copy of the crates it adds a program that makes
 # both tables and searches COUNT addresses, proves and builds it, and runs it with two counts: a search
-# is told between them, so that the making of the tables isn't in it.
+# is counted between them, so that the making of the tables isn't in it.
 #
 #     bench/header_search.sh
 #
@@ -12,11 +12,7 @@ set -euo pipefail
 top=$(cd "$(dirname "$0")/.." && pwd)
 copy=$(mktemp -d)
 trap 'rm -rf "$copy"' EXIT
-mkdir "$copy/crates"
-for crate in memory_image unwind_definitions encoded_pointers frame_rows eh_frame; do
-    cp -r "$top/crates/$crate" "$copy/crates"
-    grep "^$crate:" "$top/crates.txt" >>"$copy/crates.txt"
-done
+cp -r "$top/crates" "$top/crates.txt" "$copy"
 [ ! -e "$top/HANDLES" ] || cp "$top/HANDLES" "$copy"
 
 echo 'header_search: memory_image eh_frame anyhow' >>"$copy/crates.txt"

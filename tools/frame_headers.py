@@ -1,15 +1,15 @@
 #!/usr/bin/env python3
 """Compares what the crate `eh_frame` reads in the headers of real linkers with what readelf and
-objdump tell.
+objdump say.
 
     tools/frame_headers.py
 
 Compiles one C++ program by gcc and clang and links it by ld, gold and lld. Of each result objdump
-tells where .eh_frame_hdr and .eh_frame lie, and readelf the start, the end and the place of each
+says where .eh_frame_hdr and .eh_frame lie, and readelf the start, the end and the place of each
 description. Checked is first, by reading the bytes as the LSB's section on .eh_frame_hdr says, that
 the header leads to .eh_frame and lists just these descriptions, by ascending start. Then the bytes go
 as tests into a copy of the crates, where `rt try --test` runs them: the crate's search of the header's
-table finds each description at its first and its last address, and none behind it but the next one's,
+table finds each description at its first and its last address, and after it none but the next one's,
 in no more counted steps than the number of entries has binary digits.
 
 Wants gcc, clang, ld, gold, lld, readelf, objdump and rt; a linker that isn't there is passed over.
@@ -64,7 +64,7 @@ def described(path):
 
 
 def compare(path):
-    """How many entries the header has, where it says what readelf says."""
+    """How many entries the header has, where they are those that readelf says."""
     header_at, header = section(path, ".eh_frame_hdr")
     frames_at, _ = section(path, ".eh_frame")
     assert header[:4] == bytes([1, 0x1B, 0x03, 0x3B]), header[:4].hex()
@@ -77,9 +77,7 @@ def compare(path):
     return count
 
 
-CRATES = ["memory_image", "unwind_definitions", "encoded_pointers", "frame_rows", "eh_frame"]
-
-HEAD = """//! Headers that linkers wrote, and what readelf tells of them.
+HEAD = """//! Headers that linkers wrote, and what readelf says of them.
 #![tactic(auto)]
 
 #[cfg(test)]
@@ -145,10 +143,9 @@ def try_tests(folder, made):
     """Runs the crate on the results; its output where that fails."""
     top = Path(__file__).resolve().parent.parent
     copy = Path(folder, "copy")
-    for crate in CRATES:
-        shutil.copytree(top / "crates" / crate, copy / "crates" / crate)
-    lines = [line for line in (top / "crates.txt").read_text().splitlines() if line.split(":")[0] in CRATES]
-    (copy / "crates.txt").write_text("\n".join(lines + ["linked: memory_image eh_frame", ""]))
+    shutil.copytree(top / "crates", copy / "crates", ignore=shutil.ignore_patterns("out"))
+    listed = (top / "crates.txt").read_text()
+    (copy / "crates.txt").write_text(listed + "linked: memory_image eh_frame\n")
     shutil.copy(top / "HANDLES", copy / "HANDLES")
     source = copy / "crates" / "linked" / "src"
     source.mkdir(parents=True)
@@ -156,7 +153,7 @@ def try_tests(folder, made):
     done = subprocess.run(["rt", "try", "--test"], cwd=source.parent, capture_output=True, text=True)
     if done.returncode:
         sys.exit(done.stdout + done.stderr)
-    print(f"{len(made)} headers are searched as readelf tells")
+    print(f"{len(made)} headers are searched as readelf says")
 
 
 def main():
@@ -171,7 +168,7 @@ def main():
             except (FileNotFoundError, subprocess.CalledProcessError):
                 print(f"{compiler} with {linker}: not here")
                 continue
-            print(f"{compiler} with {linker}: {compare(path)} entries, as readelf tells")
+            print(f"{compiler} with {linker}: {compare(path)} entries, as readelf says")
             made.append(path)
         try_tests(folder, made)
 

@@ -74,54 +74,57 @@ module _ {X : Type 0} (fde : X → Fde) where
 -- ---- the search
 
 module _ (fs : List Described) (pc : ℕ) where
-  -- the range just below an index starts at or before the address, and this is its end; or there is none below
-  abbrev pub EndsBelow : ℕ → ℕ → Type 0
-  EndsBelow zero end = end ≡ 0
-  EndsBelow (suc i) end = (d : Described) → ((get_or fs i d).fde.start ≤ pc) × (end ≡ end_of (get_or fs i d).fde)
+  -- the range just below an index, if there is one, starts at or before the address
+  abbrev pub StartsBelow : ℕ → Type 0
+  StartsBelow zero = Unit {0}
+  StartsBelow (suc i) = (d : Described) → (get_or fs i d).fde.start ≤ pc
 
-  pub record IsBetween (low high end : ℕ) : Type 0 where
+  pub record IsBetween (low high : ℕ) : Type 0 where
     pub ordered : low ≤ high
     pub within : high ≤ length fs
-    pub below : EndsBelow low end
+    pub below : StartsBelow low
     pub after : (d : Described) → high < length fs → pc < (get_or fs high d).fde.start
 
-  pub begun : (n : ℕ) → n ≡ length fs → IsBetween 0 n 0
-  begun n is = record { ordered = omega arith; within = omega arith; below = refl; after = λ d lt. absurd (omega arith) }
+  pub begun : (n : ℕ) → n ≡ length fs → IsBetween 0 n
+  begun n is = record { ordered = omega arith; within = omega arith; below = tt; after = λ d lt. absurd (omega arith) }
 
-  pub raised : (low high middle start end old : ℕ) → IsBetween low high old → middle < high → ((d : Described) → (start ≡ (get_or fs middle d).fde.start) × (end ≡ end_of (get_or fs middle d).fde)) → start ≤ pc → IsBetween (middle + 1) high end
-  raised low high middle start end old s lt range le =
+  pub raised : (low high middle start : ℕ) → IsBetween low high → middle < high → ((d : Described) → start ≡ (get_or fs middle d).fde.start) → start ≤ pc → IsBetween (middle + 1) high
+  raised low high middle start s lt at le =
       let more : middle + 1 ≡ suc middle = omega arith in
-      let there : EndsBelow (suc middle) end = λ d. let r = range d in let a = r.0 in (omega arith, r.1) in
-      record { ordered = omega arith; within = s.within; below = subst (λ n. EndsBelow n end) (sym more) there; after = s.after }
+      let there : StartsBelow (suc middle) = λ d. let a = at d in omega arith in
+      record { ordered = omega arith; within = s.within; below = subst (λ n. StartsBelow n) (sym more) there; after = s.after }
 
-  pub lowered : (low high middle start end old : ℕ) → IsBetween low high old → low ≤ middle → middle < high → ((d : Described) → (start ≡ (get_or fs middle d).fde.start) × (end ≡ end_of (get_or fs middle d).fde)) → pc < start → IsBetween low middle old
-  lowered low high middle start end old s ge lt range above =
-      let w = s.within in record { ordered = ge; within = omega arith; below = s.below; after = λ d below. let r = range d in let a = r.0 in omega arith }
+  pub lowered : (low high middle start : ℕ) → IsBetween low high → low ≤ middle → middle < high → ((d : Described) → start ≡ (get_or fs middle d).fde.start) → pc < start → IsBetween low middle
+  lowered low high middle start s ge lt at above =
+      let w = s.within in record { ordered = ge; within = omega arith; below = s.below; after = λ d below. let a = at d in omega arith }
 
-  pub some_below : (low high end : ℕ) → IsBetween low high end → pc < end → 0 < low
-  some_below zero high end s inside = let e : end ≡ 0 = s.below in absurd (omega arith)
-  some_below (suc i) high end s inside = omega arith
-
-  pub ended_inside : (low high end : ℕ) → IsBetween low high end → pc < end → FindsIndex fs pc (Some (low - 1))
-  ended_inside zero high end s inside = let e : end ≡ 0 = s.below in absurd (omega arith)
-  ended_inside (suc i) high end s inside =
+  pub ended_inside : (low high end : ℕ) → IsBetween low high → 0 < low → ((d : Described) → end ≡ end_of (get_or fs (low - 1) d).fde) → pc < end → FindsIndex fs pc (Some (low - 1))
+  ended_inside zero high end s some at inside = absurd (omega arith)
+  ended_inside (suc i) high end s some at inside =
       let o = s.ordered in let w = s.within in
-      let at : suc i - 1 ≡ i = omega arith in
-      subst (λ n. FindsIndex fs pc (Some n)) (sym at) (omega arith, λ d. let b = s.below d in let from = b.0 in let to = b.1 in covers_is (get_or fs i d).fde pc from (omega arith))
+      let one : suc i - 1 ≡ i = omega arith in
+      let there = subst (λ n. (d : Described) → end ≡ end_of (get_or fs n d).fde) one at in
+      subst (λ n. FindsIndex fs pc (Some n)) (sym one) (omega arith, λ d. let from = s.below d in let to = there d in covers_is (get_or fs i d).fde pc from (omega arith))
 
-  pub ended_outside : (low high end : ℕ) → AscendApart described_fde 0 fs → IsBetween low high end → high ≤ low → end ≤ pc → FindsIndex fs pc None
-  ended_outside zero high end apart s le outside =
+  pub ended_first : (high : ℕ) → AscendApart described_fde 0 fs → IsBetween 0 high → high ≤ 0 → FindsIndex fs pc None
+  ended_first high apart s le =
       let at : high ≡ 0 = omega arith in
       all_after described_fde fs 0 pc apart (subst (λ n. (d : Described) → n < length fs → pc < (get_or fs n d).fde.start) at s.after)
-  ended_outside (suc i) high end apart s le outside = some_item fs refl
+
+  pub ended_outside : (low high end : ℕ) → AscendApart described_fde 0 fs → IsBetween low high → high ≤ low → 0 < low → ((d : Described) → end ≡ end_of (get_or fs (low - 1) d).fde) → end ≤ pc → FindsIndex fs pc None
+  ended_outside zero high end apart s le some at outside = absurd (omega arith)
+  ended_outside (suc i) high end apart s le some at outside = some_item fs refl
     where
       next : high ≡ i + 1
       next = let o = s.ordered in omega arith
 
+      one : suc i - 1 ≡ i
+      one = omega arith
+
       some_item : (gs : List Described) → gs ≡ fs → AllByRecursion (λ d. covers_pc d.fde pc ≡ false) fs
       some_item [] is = let n = ap length is in let o = s.ordered in let w = s.within in absurd (omega arith)
       some_item (g ∷ gs) is =
-          let b = s.below g in let to = b.1 in let o = s.ordered in let w = s.within in
+          let to = subst (λ n. (d : Described) → end ≡ end_of (get_or fs n d).fde) one at g in let o = s.ordered in let w = s.within in
           none_contain described_fde fs 0 pc i g apart (omega arith) (omega arith) (λ d lt. subst (λ n. n < length fs → pc < (get_or fs n d).fde.start) next (s.after d) lt)
 
 -- ---- the steps

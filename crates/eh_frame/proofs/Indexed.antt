@@ -1,5 +1,5 @@
 -- What stands at an index, and that a scan answers the same.
-use Rattle.std.proofs.Common.{◌≡◌, ◌⊎◌, ℕ, zero, suc, ◌<◌, ◌≤◌, Bool, true, false, List, [], ◌∷◌, length, map, get_or, Option, Some, None, Result, Ok, Err, refl, sym, ap, ◌∙◌, subst, inl, inr, arith}
+use Rattle.std.proofs.Common.{◌≡◌, ◌⊎◌, ℕ, zero, suc, ◌+◌, ◌%◌, ◌^◌, ◌<◌, ◌≤◌, Bool, true, false, List, [], ◌∷◌, length, map, get_or, Option, Some, None, Result, Ok, Err, refl, sym, ap, ◌∙◌, subst, inl, inr, arith}
 use Rattle.std.specs.Prelude.{slice_range}
 use Rattle.std.specs.Option.{option_map_or}
 use Rattle.std.specs.List.{AllByRecursion, Contains, filter}
@@ -9,14 +9,17 @@ use Rattle.unwind_definitions.specs.declared.error.Error.{Error as Fault}
 use Rattle.unwind_definitions.specs.declared.error.Error.TheVariants.{NoUnwindInfoForAddress}
 use Rattle.unwind_definitions.specs.Input.{Input}
 use Rattle.unwind_definitions.specs.Pointers.{Bases}
-use Rattle.unwind_definitions.specs.Entries.{Fde}
+use Rattle.unwind_definitions.specs.Entries.{Cie, Fde}
 use Rattle.unwind_definitions.specs.Row.{row, row_at, covers_pc}
 use Rattle.unwind_definitions.specs.Scan.{fdes_of, first_covering, scan}
 use Rattle.frame_rows.specs.KeptRows.{Kept, AreRows}
-use Rattle.eh_frame.specs.Index.{AscendApart, Described, Index, IsFoundAt, IsPreparedFrom, IsRowedBy, common_program, described_fde, described_in, end_of, own_program, range_of}
+use Rattle.eh_frame.specs.Index.{AscendApart, Described, HasRows, Index, IsFoundAt, IsPreparedFrom, IsRowedBy, common_program, described_fde, described_in, end_of, own_program, start_of}
 use Rattle.eh_frame.specs.Listed.{has_bytes, nonempty}
-use Rattle.eh_frame.specs.Views.{fde_of}
-use Rattle.eh_frame.specs.declared.prepared.AddressRange.{AddressRange}
+use Rattle.encoded_pointers.specs.Readers.{Answers}
+use Rattle.unwind_definitions.specs.Module.{pair_of}
+use Rattle.eh_frame.specs.FdeLists.{cie_in, fde_in, fde_with}
+use Rattle.eh_frame.specs.Views.{cie_of}
+use Rattle.eh_frame.specs.declared.cie.Cie.{Cie as CodeCie}
 use Rattle.eh_frame.specs.declared.prepared.PreparedFunction.{PreparedFunction}
 use Rattle.eh_frame.proofs.Ascending.{covered}
 use Rattle.eh_frame.proofs.Searching.{scan_listed}
@@ -28,17 +31,27 @@ all_at P [] i x all lt is = absurd (omega arith)
 all_at P (y ∷ ys) zero x all lt is = subst P (sym is) all.0
 all_at P (y ∷ ys) (suc i) x all lt is = all_at P ys i x all.1 (omega arith) is
 
-module _ (rows : List Kept) where
-  pub range_there : (fs : List PreparedFunction) (i : ℕ) (r : AddressRange) (d : Described) → i < length fs → r ≡ get_or (map range_of fs) i r →
-      (r.start ≡ (get_or (map (described_in rows) fs) i d).fde.start) × (r.end ≡ end_of (get_or (map (described_in rows) fs) i d).fde)
-  range_there [] i r d lt is = absurd (omega arith)
-  range_there (f ∷ fs) zero r d lt is = (ap (λ (r : AddressRange). r.start) is, ap (λ (r : AddressRange). r.end) is)
-  range_there (f ∷ fs) (suc i) r d lt is = range_there fs i r d (omega arith) is
+module _ (cies : List CodeCie) (rows : List Kept) where
+  pub start_there : (fs : List PreparedFunction) (i n : ℕ) (d : Described) → i < length fs → n ≡ get_or (map start_of fs) i n → n ≡ (get_or (map (described_in cies rows) fs) i d).fde.start
+  start_there [] i n d lt is = absurd (omega arith)
+  start_there (f ∷ fs) zero n d lt is = is
+  start_there (f ∷ fs) (suc i) n d lt is = start_there fs i n d (omega arith) is
 
-  pub function_there : (fs : List PreparedFunction) (i : ℕ) (f : PreparedFunction) (d : Described) → i < length fs → f ≡ get_or fs i f → get_or (map (described_in rows) fs) i d ≡ described_in rows f
+  pub function_there : (fs : List PreparedFunction) (i : ℕ) (f : PreparedFunction) (d : Described) → i < length fs → f ≡ get_or fs i f → get_or (map (described_in cies rows) fs) i d ≡ described_in cies rows f
   function_there [] i f d lt is = absurd (omega arith)
-  function_there (g ∷ fs) zero f d lt is = ap (described_in rows) (sym is)
+  function_there (g ∷ fs) zero f d lt is = ap (described_in cies rows) (sym is)
   function_there (g ∷ fs) (suc i) f d lt is = function_there fs i f d (omega arith) is
+
+-- the common information entry at an index
+pub cie_there : (cies : List CodeCie) (i : ℕ) (cie : CodeCie) → i < length cies → cie ≡ get_or cies i cie → cie_in cies i ≡ cie_of cie
+cie_there [] i cie lt is = absurd (omega arith)
+cie_there (c ∷ cies) zero cie lt is = ap cie_of (sym is)
+cie_there (c ∷ cies) (suc i) cie lt is = cie_there cies i cie (omega arith) is
+
+-- a description at an index, with its common information entry
+pub fde_there : (cies : List CodeCie) (rows : List Kept) (fs : List PreparedFunction) (i : ℕ) (f : PreparedFunction) (cie : CodeCie) (d : Described) → i < length fs → f ≡ get_or fs i f →
+    f.fde.cie < length cies → cie ≡ get_or cies f.fde.cie cie → (get_or (map (described_in cies rows) fs) i d).fde ≡ fde_with (cie_of cie) f.fde
+fde_there cies rows fs i f cie d lt is below at = ap (λ (e : Described). e.fde) (function_there cies rows fs i f d lt is) ∙ ap (λ (c : Cie). fde_with c f.fde) (cie_there cies f.fde.cie cie below at)
 
 -- ---- what lists contain
 
@@ -180,9 +193,36 @@ unfolding row_at
 row_at_is bases fde pc covers = rw covers refl
 
 -- the rows of a found function
-pub rows_there : (bases : Bases) (rows : List Kept) (fs : List PreparedFunction) (f : PreparedFunction) (i : ℕ) → AllByRecursion (IsRowedBy bases) (map (described_in rows) fs) → i < length fs → f ≡ get_or fs i f →
-    AreRows (λ pc. row (fde_of f.fde).start pc (common_program bases (fde_of f.fde)) (own_program bases (fde_of f.fde))) (end_of (fde_of f.fde)) (slice_range rows f.first_row f.end_row)
-rows_there bases rows [] f i all lt is = absurd (omega arith)
-rows_there bases rows (g ∷ fs) f zero all lt is =
-    subst (λ (f : PreparedFunction). AreRows (λ pc. row (fde_of f.fde).start pc (common_program bases (fde_of f.fde)) (own_program bases (fde_of f.fde))) (end_of (fde_of f.fde)) (slice_range rows f.first_row f.end_row)) (sym is) all.0.rows
-rows_there bases rows (g ∷ fs) f (suc i) all lt is = rows_there bases rows fs f i all.1 (omega arith) is
+pub rows_there : (bases : Bases) (cies : List CodeCie) (rows : List Kept) (fs : List PreparedFunction) (f : PreparedFunction) (i : ℕ) → AllByRecursion (IsRowedBy bases) (map (described_in cies rows) fs) → i < length fs → f ≡ get_or fs i f →
+    AreRows (λ pc. row (fde_in cies f.fde).start pc (common_program bases (fde_in cies f.fde)) (own_program bases (fde_in cies f.fde))) (end_of (fde_in cies f.fde)) (slice_range rows f.first_row f.end_row)
+rows_there bases cies rows [] f i all lt is = absurd (omega arith)
+rows_there bases cies rows (g ∷ fs) f zero all lt is =
+    subst (λ (f : PreparedFunction). AreRows (λ pc. row (fde_in cies f.fde).start pc (common_program bases (fde_in cies f.fde)) (own_program bases (fde_in cies f.fde))) (end_of (fde_in cies f.fde)) (slice_range rows f.first_row f.end_row)) (sym is) all.0.rows
+rows_there bases cies rows (g ∷ fs) f (suc i) all lt is = rows_there bases cies rows fs f i all.1 (omega arith) is
+
+-- an index with a function has a row
+pub some_row : (cies : List CodeCie) (rows : List Kept) (fs : List PreparedFunction) → 0 < length fs → AllByRecursion (HasRows cies rows) fs → 0 < length rows
+some_row cies rows [] some all = absurd (omega arith)
+some_row cies rows (f ∷ fs) some all =
+    let from = all.0.some in
+    let to = all.0.within in
+    omega arith
+
+abbrev pub pair_at_place : ℕ → ℕ × ℕ → ℕ × ℕ
+pair_at_place frame p = (p.0, (frame + p.1) % 2 ^ 64)
+
+-- the pair of the description at an index
+pub pair_there : (fs : List Described) (i frame : ℕ) (p : ℕ × ℕ) (d : Fde) → i < length fs → ((e : Described) → (p.0 ≡ (get_or fs i e).fde.start) × (p.1 ≡ (get_or fs i e).fde.offset)) → pair_at_place frame p ≡ pair_of frame (get_or (map described_fde fs) i d)
+pair_there [] i frame p d lt is = absurd (omega arith)
+pair_there (f ∷ fs) zero frame p d lt is = let at = is f in ap (λ (s : ℕ). (s, (frame + p.1) % 2 ^ 64)) at.0 ∙ ap (λ (o : ℕ). (f.fde.start, (frame + o) % 2 ^ 64)) at.1
+pair_there (f ∷ fs) (suc i) frame p d lt is = pair_there fs i frame p d (omega arith) is
+
+-- a result that is its own view
+pub answer_same : (r : Result (ℕ × ℕ) Fault) (due : Result (ℕ × ℕ) Fault) → Answers (λ p. p) r due → due ≡ r
+answer_same (Ok p) due is = is
+answer_same (Err e) due is = is
+
+-- a list that has an index has an item
+pub an_item : (fs : List Described) (i : ℕ) → i < length fs → Described
+an_item [] i lt = absurd (omega arith)
+an_item (f ∷ fs) i lt = f

@@ -9,19 +9,19 @@ use Rattle.unwind_definitions.specs.Pointers.{Bases}
 use Rattle.unwind_definitions.specs.Entries.{Fde}
 use Rattle.frame_rows.specs.KeptRows.{AreKeptOf, AreTooMany, IsAdded, Kept, KeptRows, kept_rule_count, location_of, reached_locations}
 use Rattle.frame_rows.specs.declared.row_table.RowLimits.{RowLimits}
-use Rattle.eh_frame.specs.Index.{AreKept, AscendApart, Described, HasRows, IsIndex, IsRowedBy, KeepsRows, common_program, described_fde, described_in, end_of, own_program, range_of, rows_due, rules_due}
-use Rattle.eh_frame.specs.Views.{fde_of}
-use Rattle.eh_frame.specs.declared.fde.Fde.{Fde as CodeFde}
-use Rattle.eh_frame.specs.declared.prepared.AddressRange.{AddressRange}
+use Rattle.eh_frame.specs.Index.{AreKept, AscendApart, Described, HasRows, IsIndex, IsRowedBy, KeepsRows, common_program, described_fde, described_in, end_of, own_program, start_of, rows_due, rules_due}
+use Rattle.eh_frame.specs.FdeLists.{IsListedIn, fde_in}
+use Rattle.eh_frame.specs.declared.cie.Cie.{Cie as CodeCie}
+use Rattle.eh_frame.specs.declared.listed_fde.ListedFde.{ListedFde}
 use Rattle.eh_frame.specs.declared.prepared.PreparedFunction.{PreparedFunction}
 
 -- ---- lists
 
-all_push : {X : Type 0} (P : X → Type 0) (xs : List X) (x : X) → AllByRecursion P xs → P x → AllByRecursion P (xs ++ x ∷ [])
+pub all_push : {X : Type 0} (P : X → Type 0) (xs : List X) (x : X) → AllByRecursion P xs → P x → AllByRecursion P (xs ++ x ∷ [])
 all_push P [] x all one = (one, tt)
 all_push P (y ∷ ys) x all one = (all.0, all_push P ys x all.1 one)
 
-all_also : {X : Type 0} (P Q : X → Type 0) (xs : List X) → AllByRecursion P xs → ((x : X) → P x → Q x) → AllByRecursion Q xs
+pub all_also : {X : Type 0} (P Q : X → Type 0) (xs : List X) → AllByRecursion P xs → ((x : X) → P x → Q x) → AllByRecursion Q xs
 all_also P Q [] all step = tt
 all_also P Q (x ∷ xs) all step = (step x all.0, all_also P Q xs all.1 step)
 
@@ -62,26 +62,26 @@ has_size f low (y ∷ ys) (suc i) x apart lt is = has_size f (end_of (f y)) ys i
 
 -- ---- rows that are kept so far
 
-module _ (bases : Bases) (fdes : List Fde) (limits : RowLimits) where
-  pub record IsKeeping (i : ℕ) (rows : KeptRows) (ranges : List AddressRange) (functions : List PreparedFunction) : Type 0 where
-    pub ranges_are : ranges ≡ map range_of functions
-    pub each : map described_fde (map (described_in rows.rows) functions) ≡ take i fdes
-    pub rowed : AllByRecursion (HasRows rows.rows) functions
-    pub kept : AllByRecursion (IsRowedBy bases) (map (described_in rows.rows) functions)
+module _ (bases : Bases) (fdes : List Fde) (limits : RowLimits) (cies : List CodeCie) where
+  pub record IsKeeping (i : ℕ) (rows : KeptRows) (starts : List ℕ) (functions : List PreparedFunction) : Type 0 where
+    pub starts_are : starts ≡ map start_of functions
+    pub each : map described_fde (map (described_in cies rows.rows) functions) ≡ take i fdes
+    pub rowed : AllByRecursion (HasRows cies rows.rows) functions
+    pub kept : AllByRecursion (IsRowedBy bases) (map (described_in cies rows.rows) functions)
     pub row_count : length rows.rows ≡ sum_by (rows_due bases) (take i fdes)
     pub rule_count : rows.rule_count ≡ sum_by (rules_due bases) (take i fdes)
     pub rows_fit : length rows.rows ≤ limits.rows
     pub rules_fit : rows.rule_count ≤ limits.rules
 
   pub begun : IsKeeping 0 (record { rows = []; rule_count = 0 }) [] []
-  begun = record { ranges_are = refl; each = refl; rowed = tt; kept = tt; row_count = refl; rule_count = refl; rows_fit = omega arith; rules_fit = omega arith }
+  begun = record { starts_are = refl; each = refl; rowed = tt; kept = tt; row_count = refl; rule_count = refl; rows_fit = omega arith; rules_fit = omega arith }
 
   abbrev pub Added : Fde → KeptRows → KeptRows → Type 0
   Added fde old new = IsAdded limits fde.start (end_of fde) (common_program bases fde) (own_program bases fde) old new
 
-  module _ (i : ℕ) (rows : KeptRows) (ranges : List AddressRange) (functions : List PreparedFunction) (k : IsKeeping i rows ranges functions) (code : CodeFde) (lt : i < length fdes) (is : fde_of code ≡ get_or fdes i (fde_of code)) where
+  module _ (i : ℕ) (rows : KeptRows) (starts : List ℕ) (functions : List PreparedFunction) (k : IsKeeping i rows starts functions) (code : ListedFde) (lt : i < length fdes) (is : fde_in cies code ≡ get_or fdes i (fde_in cies code)) (listed : IsListedIn cies code) where
     abbrev fde : Fde
-    fde = fde_of code
+    fde = fde_in cies code
 
     one_more : take (i + 1) fdes ≡ take i fdes ++ fde ∷ []
     one_more = take_more fdes i fde lt ∙ ap (λ (x : Fde). take i fdes ++ x ∷ []) (sym is)
@@ -91,22 +91,23 @@ module _ (bases : Bases) (fdes : List Fde) (limits : RowLimits) where
       function = record { fde = code; first_row = length rows.rows; end_row = length new.rows }
 
       -- what was there before
-      same_before : (fs : List PreparedFunction) → AllByRecursion (HasRows rows.rows) fs → map (described_in new.rows) fs ≡ map (described_in rows.rows) fs
+      same_before : (fs : List PreparedFunction) → AllByRecursion (HasRows cies rows.rows) fs → map (described_in cies new.rows) fs ≡ map (described_in cies rows.rows) fs
       same_before [] all = refl
       same_before (f ∷ fs) all =
           let a = adds in let o = all.0.some in
-          ap (λ (l : List Described). described_in new.rows f ∷ l) (same_before fs all.1)
-          ∙ ap (λ (ks : List Kept). let d : Described = record { fde = fde_of f.fde; kept = ks } in d ∷ map (described_in rows.rows) fs)
+          ap (λ (l : List Described). described_in cies new.rows f ∷ l) (same_before fs all.1)
+          ∙ ap (λ (ks : List Kept). let d : Described = record { fde = fde_in cies f.fde; kept = ks } in d ∷ map (described_in cies rows.rows) fs)
           (ap (λ (l : List Kept). slice_range l f.first_row f.end_row) a.rows ∙ part_stays rows.rows a.kept f.first_row f.end_row (omega arith) all.0.within)
 
-      rowed_before : (f : PreparedFunction) → HasRows rows.rows f → HasRows new.rows f
+      rowed_before : (f : PreparedFunction) → HasRows cies rows.rows f → HasRows cies new.rows f
       rowed_before f has =
           let a = adds in let n = ap length a.rows in let m = length-append rows.rows a.kept in
           let w = has.within in let s = has.some in
           record {
+            listed = has.listed;
             some = has.some;
             within = omega arith;
-            begun = λ d. subst (λ (q : Kept). q.location ≤ (fde_of f.fde).start) (sym (ap (λ (l : List Kept). get_or l f.first_row d) a.rows ∙ before_stays rows.rows a.kept f.first_row d (omega arith))) (has.begun d);
+            begun = λ d. subst (λ (q : Kept). q.location ≤ f.fde.initial_address) (sym (ap (λ (l : List Kept). get_or l f.first_row d) a.rows ∙ before_stays rows.rows a.kept f.first_row d (omega arith))) (has.begun d);
           }
 
       -- what is added
@@ -121,28 +122,29 @@ module _ (bases : Bases) (fdes : List Fde) (limits : RowLimits) where
       unfolding rules_due
       rules_one = (adds).rule_count
 
-      rowed_one : HasRows new.rows function
+      rowed_one : HasRows cies new.rows function
       rowed_one =
           let a = adds in let n = ap length a.rows in let m = length-append rows.rows a.kept in
           let o = ap length a.of.locations in let l = length-map a.kept location_of in
           record {
+            listed = listed;
             some = omega arith;
             within = omega arith;
             begun = λ d. let at : (get_or new.rows (length rows.rows) d).location ≡ fde.start =
                 ap (λ (l : List Kept). (get_or l (length rows.rows) d).location) a.rows ∙ added_first rows.rows a.kept d fde.start _ a.of.locations in omega arith;
           }
 
-      pub further : IsKeeping (i + 1) new (ranges ++ range_of function ∷ []) (functions ++ function ∷ [])
+      pub further : IsKeeping (i + 1) new (starts ++ start_of function ∷ []) (functions ++ function ∷ [])
       further =
           let same = same_before functions k.rowed in
           let a = adds in
           record {
-            ranges_are = ap (λ (l : List AddressRange). l ++ range_of function ∷ []) k.ranges_are ∙ sym (map-append range_of functions (function ∷ []));
-            each = ap (map described_fde) (map-append (described_in new.rows) functions (function ∷ [])) ∙ map-append described_fde (map (described_in new.rows) functions) (described_in new.rows function ∷ [])
+            starts_are = ap (λ (l : List ℕ). l ++ start_of function ∷ []) k.starts_are ∙ sym (map-append start_of functions (function ∷ []));
+            each = ap (map described_fde) (map-append (described_in cies new.rows) functions (function ∷ [])) ∙ map-append described_fde (map (described_in cies new.rows) functions) (described_in cies new.rows function ∷ [])
                 ∙ ap (λ (l : List Described). map described_fde l ++ fde ∷ []) same ∙ ap (λ (l : List Fde). l ++ fde ∷ []) k.each ∙ sym one_more;
-            rowed = all_push (HasRows new.rows) functions function (all_also (HasRows rows.rows) (HasRows new.rows) functions k.rowed (rowed_before)) (rowed_one);
-            kept = subst (AllByRecursion (IsRowedBy bases)) (sym (map-append (described_in new.rows) functions (function ∷ [])))
-                (all_push (IsRowedBy bases) (map (described_in new.rows) functions) (described_in new.rows function) (subst (AllByRecursion (IsRowedBy bases)) (sym same) (k.kept))
+            rowed = all_push (HasRows cies new.rows) functions function (all_also (HasRows cies rows.rows) (HasRows cies new.rows) functions k.rowed (rowed_before)) (rowed_one);
+            kept = subst (AllByRecursion (IsRowedBy bases)) (sym (map-append (described_in cies new.rows) functions (function ∷ [])))
+                (all_push (IsRowedBy bases) (map (described_in cies new.rows) functions) (described_in cies new.rows function) (subst (AllByRecursion (IsRowedBy bases)) (sym same) (k.kept))
                 (subst (λ (ks : List Kept). AreKeptOf fde.start (end_of fde) (common_program bases fde) (own_program bases fde) ks) (sym (kept_one)) (adds).of));
             row_count = let b = adds in let n = ap length b.rows in let m = length-append rows.rows b.kept in let c = k.row_count in let o = count_one in
                 let s = ap (sum_by (rows_due bases)) one_more in let t = sum_by_push (rows_due bases) (take i fdes) fde in omega arith;
@@ -163,25 +165,25 @@ module _ (bases : Bases) (fdes : List Fde) (limits : RowLimits) where
         elim more [ inl rows ↦ inl (omega arith) | inr rules ↦ inr (omega arith) ]
 
   -- all are kept
-  module _ (i : ℕ) (rows : KeptRows) (ranges : List AddressRange) (functions : List PreparedFunction) (k : IsKeeping i rows ranges functions) (all : i ≡ length fdes) where
+  module _ (i : ℕ) (rows : KeptRows) (starts : List ℕ) (functions : List PreparedFunction) (k : IsKeeping i rows starts functions) (all : i ≡ length fdes) where
     whole : take i fdes ≡ fdes
     whole = ap (λ n. take n fdes) all ∙ take-length fdes
 
-    pub is_index : {X : Type 0} (f : X → Fde) (xs : List X) → fdes ≡ map f xs → 0 < length xs → AscendApart f 0 xs → limits.rows < 4294967296 → limits.rules < 4294967296 → IsIndex ranges functions rows
+    pub is_index : {X : Type 0} (f : X → Fde) (xs : List X) → fdes ≡ map f xs → 0 < length xs → AscendApart f 0 xs → limits.rows < 4294967296 → limits.rules < 4294967296 → IsIndex cies starts functions rows
     is_index f xs same some apart rows_few rules_few =
         let r = k.rows_fit in let s = k.rules_fit in
-        let n = ap length k.each in let m = length-map (map (described_in rows.rows) functions) described_fde in let o = length-map functions (described_in rows.rows) in
+        let n = ap length k.each in let m = length-map (map (described_in cies rows.rows) functions) described_fde in let o = length-map functions (described_in cies rows.rows) in
         let w = ap length whole in let p = ap length same in let q = length-map xs f in
         record {
-          ranges_are = k.ranges_are;
+          starts_are = k.starts_are;
           some = omega arith;
-          apart = same_apart f described_fde 0 xs (map (described_in rows.rows) functions) (k.each ∙ whole ∙ same) apart;
+          apart = same_apart f described_fde 0 xs (map (described_in cies rows.rows) functions) (k.each ∙ whole ∙ same) apart;
           rowed = k.rowed;
           rows_fit = omega arith;
           rules_fit = omega arith;
         }
 
-    pub are_kept : AreKept fdes limits.rows limits.rules bases (record { functions = map (described_in rows.rows) functions; row_count = length rows.rows; rule_count = rows.rule_count })
+    pub are_kept : AreKept fdes limits.rows limits.rules bases (record { functions = map (described_in cies rows.rows) functions; row_count = length rows.rows; rule_count = rows.rule_count })
     are_kept = record {
       each = k.each ∙ whole;
       rowed = k.kept;

@@ -13,8 +13,9 @@ mod PastEnd
 mod Named
 mod HeaderParts
 mod Ascending
-mod Indexed
+pub mod Indexed
 mod Keeping
+mod ListingFdes
 mod Collecting
 mod Preparing
 mod Exactly

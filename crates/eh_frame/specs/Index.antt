@@ -9,10 +9,12 @@ use Rattle.unwind_definitions.specs.Instructions.{Program, program}
 use Rattle.unwind_definitions.specs.Pointers.{Bases}
 use Rattle.unwind_definitions.specs.Entries.{Fde, Entry, AreEntries, coding_of}
 use Rattle.unwind_definitions.specs.Row.{covers_pc}
+use Rattle.frame_rows.specs.RowValue.{RowValue}
 use Rattle.frame_rows.specs.KeptRows.{Kept, KeptRows, AreKeptOf, kept_rule_count, location_of, reached_locations}
 use Rattle.eh_frame.specs.Listed.{HasUnreadable, SharesAddress, nonempty}
 use Rattle.eh_frame.specs.Views.{fde_of}
-use Rattle.eh_frame.specs.declared.prepared.AddressRange.{AddressRange}
+use Rattle.eh_frame.specs.FdeLists.{IsListedIn, fde_in}
+use Rattle.eh_frame.specs.declared.cie.Cie.{Cie as CodeCie}
 use Rattle.eh_frame.specs.declared.prepared.Found.{Found}
 use Rattle.eh_frame.specs.declared.prepared.PreparedFunction.{PreparedFunction}
 
@@ -126,25 +128,45 @@ abbrev pub scan_answer : Option Found → Result Fde Fault
 scan_answer (Some found) = Ok (fde_of found.fde)
 scan_answer None = Err NoUnwindInfoForAddress
 
+-- what an index shows at an address: the description that contains it, and its row or fault there
+pub record ShownFrame : Type 0 where
+  pub fde : Fde
+  pub row : Result RowValue Fault
+
+-- what is shown is of one of the index's descriptions, which contains the address, or none does
+pub record IsShownFrom (functions : List Described) (pc : ℕ) (fde : Fde) : Type 0 where
+  pub index : ℕ
+  pub found : IsFoundAt functions pc index fde
+
+abbrev pub ShowsFrame : List Described → ℕ → Option ShownFrame → Type 0
+ShowsFrame functions pc (Some frame) = IsShownFrom functions pc frame.fde
+ShowsFrame functions pc None = AllByRecursion (λ d. covers_pc d.fde pc ≡ false) functions
+
+-- what a scan answers for the same address
+abbrev pub shown_answer : Option ShownFrame → Result Fde Fault
+shown_answer (Some frame) = Ok frame.fde
+shown_answer None = Err NoUnwindInfoForAddress
+
 -- ---- how an index stands in the code
 
-abbrev pub described_in : List Kept → PreparedFunction → Described
-described_in rows f = record { fde = fde_of f.fde; kept = slice_range rows f.first_row f.end_row }
+abbrev pub described_in : List CodeCie → List Kept → PreparedFunction → Described
+described_in cies rows f = record { fde = fde_in cies f.fde; kept = slice_range rows f.first_row f.end_row }
 
-abbrev pub range_of : PreparedFunction → AddressRange
-range_of f = record { start = (fde_of f.fde).start; end = end_of (fde_of f.fde) }
+abbrev pub start_of : PreparedFunction → ℕ
+start_of f = f.fde.initial_address
 
 -- a function has rows, from its start on
-pub record HasRows (rows : List Kept) (f : PreparedFunction) : Type 0 where
+pub record HasRows (cies : List CodeCie) (rows : List Kept) (f : PreparedFunction) : Type 0 where
+  pub listed : IsListedIn cies f.fde
   pub some : f.first_row < f.end_row
   pub within : f.end_row ≤ length rows
-  pub begun : (d : Kept) → location_of (slice_index_or rows f.first_row d) ≤ (fde_of f.fde).start
+  pub begun : (d : Kept) → location_of (slice_index_or rows f.first_row d) ≤ f.fde.initial_address
 
-pub record IsIndex (ranges : List AddressRange) (functions : List PreparedFunction) (rows : KeptRows) : Type 0 where
-  pub ranges_are : ranges ≡ map range_of functions
+pub record IsIndex (cies : List CodeCie) (starts : List ℕ) (functions : List PreparedFunction) (rows : KeptRows) : Type 0 where
+  pub starts_are : starts ≡ map start_of functions
   pub some : 0 < length functions
-  pub apart : AscendApart described_fde 0 (map (described_in rows.rows) functions)
-  pub rowed : AllByRecursion (HasRows rows.rows) functions
+  pub apart : AscendApart described_fde 0 (map (described_in cies rows.rows) functions)
+  pub rowed : AllByRecursion (HasRows cies rows.rows) functions
   pub rows_fit : length rows.rows < 2 ^ 32
   pub rules_fit : rows.rule_count < 2 ^ 32
 

@@ -3,7 +3,9 @@ pub mod Views
 pub mod Search
 pub mod Shared
 pub mod Headers
+pub mod HeaderLists
 pub mod Listing
 pub mod Listed
+pub mod FdeLists
 pub mod Index
 pub mod PreparedSample

@@ -32,7 +32,3 @@ pub record IsWhole (bases : Bases) (table : Input) (fdes : List Fde) : Type 0 wh
   pub entries : List Entry
   pub are : AreEntries bases table 0 entries
   pub nonempty : fdes ≡ nonempty entries
-
-abbrev pub ListsNonempty : Bases → Input → Option (List Fde) → Type 0
-ListsNonempty bases table (Some fdes) = IsWhole bases table fdes
-ListsNonempty bases table None = HasUnreadable bases table

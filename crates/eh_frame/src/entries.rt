@@ -1,10 +1,12 @@
 //! The entries of a frame table, one after another.
 
-ghost use Rattle.std.specs.Prelude.{◌≡◌, ◌≢◌, ◌↔◌, ◌++◌, ◌∷◌, [], IfErr, IfOk, IfSome, IsTrue, OnOk, Result, Some, false, map};
+ghost use Rattle.std.specs.Prelude.{◌≡◌, ◌≢◌, ◌↔◌, ◌++◌, ◌∷◌, [], IfErr, IfOk, IfSome, IsTrue, OnOk, Result};
+ghost use Rattle.std.specs.Prelude.{Some, false, map};
 ghost use Rattle.std.specs.Result.{IsErrOf};
 ghost use Rattle.std.specs.Option.{option_map, option_map_or};
 ghost use Rattle.unwind_definitions.specs.Input.{skip};
-ghost use Rattle.unwind_definitions.specs.Entries.{Fde as Described, body, length_behind, cie_at, cie_in, entry_in, entry_at};
+ghost use Rattle.unwind_definitions.specs.Entries.{Fde as Described, body, length_behind, cie_at, cie_in};
+ghost use Rattle.unwind_definitions.specs.Entries.{entry_in, entry_at};
 ghost use Rattle.unwind_definitions.specs.Row.{covers_pc};
 ghost use Rattle.unwind_definitions.specs.Scan.{found_or, scan};
 ghost use Rattle.unwind_definitions.specs.HeaderSearch.{fde_at, fde_at_address, fde_in};
@@ -14,11 +16,12 @@ ghost use Rattle.eh_frame.specs.Search.{IsFirst, IsUncovered, IsUnreadable};
 ghost use Rattle.encoded_pointers.specs.View.{at};
 ghost use Rattle.encoded_pointers.specs.Pointers.{bases_of};
 ghost use Rattle.eh_frame.specs.Listing.{listing_of};
-ghost use Rattle.eh_frame.specs.Listed.{ListsNonempty, nonempty};
+ghost use Rattle.eh_frame.specs.FdeLists.{ListsFdes};
 ghost use Rattle.eh_frame.specs.Views.{cie_of, fde_of, entry_of, found_of, table_of};
 
 use crate::cie::Cie;
 use crate::fde::Fde;
+use crate::fde_list::FdeList;
 use crate::listing::Entries;
 use encoded_pointers::{Bases, Cursor};
 use std::alloc::{AllocError, Global};
@@ -55,6 +58,13 @@ impl<'a> EhFrame<'a> {
         ensures { table_of result ≡ record { base = address; offset = 0; bytes = bytes.now } }
     {
         EhFrame { bytes, address }
+    }
+
+    /// The address of the table's first byte.
+    pub fn address(&self) -> u64
+        ensures { result ≡ (table_of self.now).base }
+    {
+        self.address
     }
 
     /// The entries of the table, from its first byte on. `bases` is what their pointers may be
@@ -123,18 +133,32 @@ impl<'a> EhFrame<'a> {
         &self,
         alloc: Global,
         bases: &Bases,
-    ) -> Result<Option<Vec<Fde<'a>>>, AllocError>
-        ensures { IfOk result (λ fdes. ListsNonempty (bases_of bases.now) (table_of self.now)
-            (option_map (λ v. map fde_of v.items) fdes)) }
+    ) -> Result<Option<FdeList<'a>>, AllocError>
+        ensures { IfOk result (λ list.
+            ListsFdes (bases_of bases.now) (table_of self.now) list) }
     {
-        let mut fdes = Vec::new(alloc);
-        let mut entries = self.entries(bases);
+        let mut list = FdeList::new(alloc);
+        let mut offset = 0;
         loop {
-            match entries.next() {
+            let known = list.index_of(self.named_by(offset));
+            match self.entry_at(offset, &list.cie(known), bases) {
                 Err(_) => return Ok(None),
-                Ok(None) => return Ok(Some(fdes)),
-                Ok(Some(entry)) => entry.push_nonempty(&mut fdes)?,
+                Ok(None) => return Ok(Some(list)),
+                Ok(Some(found)) => {
+                    list.push(&found.entry, known)?;
+                    offset = found.next;
+                }
             }
+        }
+    }
+
+    // The offset of the common information entry that the entry at an offset names, if it names one
+    // and is of ordinary length.
+    fn named_by(&self, offset: u64) -> u64 {
+        let mut input = self.from(offset.saturating_add(4));
+        match input.read_u32() {
+            Ok(distance) => offset.saturating_add(4).saturating_sub(distance as u64),
+            Err(_) => 0,
         }
     }
 
@@ -255,18 +279,6 @@ impl<'a> Entry<'a> {
             Entry::Cie(cie) => *cie,
             Entry::Fde(fde) => fde.cie(),
         }
-    }
-
-    // Adds the entry to descriptions, where it is one whose range isn't empty.
-    fn push_nonempty(&self, fdes: &mut Vec<Fde<'a>>) -> Result<(), AllocError>
-        ensures { OnOk result (map fde_of fdes.new.items
-            ≡ map fde_of fdes.old.items ++ nonempty (entry_of self.now ∷ [])) }
-    {
-        match self {
-            Entry::Fde(fde) if fde.len() > 0 => fdes.push(*fde)?,
-            _ => {}
-        }
-        Ok(())
     }
 
     // The entry, where it is a description that contains an address.

@@ -10,11 +10,11 @@ ghost use Rattle.eh_frame.specs.Letters.{byte_of, letters_of};
 
 use crate::cie::Cie;
 use crate::entries::EhFrame;
+use crate::listed_fde::ListedFde;
 use encoded_pointers::{
     Bases, Cursor, DwEhPe, Pointer, parse_direct_pointer, parse_encoded_pointer, read_value,
 };
-use frame_rows::{Row, RowRoom, RowTableBuilder};
-use std::alloc::AllocError;
+use frame_rows::{Row, RowRoom};
 use unwind_definitions::Error;
 
 /// A frame description entry (FDE): the addresses of a function, and the program of its rows.
@@ -39,8 +39,7 @@ impl<'a> Fde<'a> {
     ghost use Rattle.unwind_definitions.specs.Row.{covers_pc, row_at};
     ghost use Rattle.eh_frame.specs.Views.{cie_of, fde_of};
     ghost use Rattle.frame_rows.specs.Rows.{GivesRow, made};
-    ghost use Rattle.frame_rows.specs.KeptRows.{Adds};
-    ghost use Rattle.eh_frame.specs.Index.{common_program, end_of, own_program};
+    ghost use Rattle.eh_frame.specs.FdeLists.{IsTold, fde_with};
 
     // What stands after the first four bytes of the entry at `offset`, which names `cie`.
     pub(crate) fn read(
@@ -119,32 +118,35 @@ impl<'a> Fde<'a> {
         self.len
     }
 
-    // The address after the function's last byte.
-    pub(crate) fn end(&self) -> u64
-        ensures { result ≡ end_of (fde_of self.now) }
+    // The same as it stands in a list, whose common information entry stands at an index of another.
+    pub(crate) fn listed(&self, cie: usize) -> ListedFde<'a>
+        ensures fde { fde_with (fde_of self.now).cie result ≡ fde_of self.now }
+        ensures told { IsTold (fde_of self.now).cie result }
+        ensures cie { result.cie ≡ cie }
     {
-        self.initial_address + self.len
+        ListedFde {
+            cie,
+            offset: self.offset,
+            initial_address: self.initial_address,
+            len: self.len,
+            lsda: self.lsda,
+            program: self.program,
+        }
     }
 
-    // Adds the function's rows to those of others. `false` where they would be too many.
-    pub(crate) fn add_rows(
-        &self,
-        bases: &Bases,
-        rows: &mut RowTableBuilder<'a>,
-    ) -> Result<bool, AllocError>
-        requires { 0 < (fde_of self.now).size }
-        ensures rows { let fde = fde_of self.now in let bases = bases_of bases.now in
-            Adds rows.old.limits fde.start (end_of fde) (common_program bases fde)
-            (own_program bases fde) rows.old.table result rows.new.table }
-        ensures limits { rows.new.limits ≡ rows.old.limits }
+    // A description of a list, with its common information entry.
+    pub(crate) fn with_cie(cie: Cie<'a>, listed: &ListedFde<'a>) -> Fde<'a>
+        requires { IsTold (cie_of cie) listed.now }
+        ensures { fde_of result ≡ fde_with (cie_of cie.entry) listed.now }
     {
-        rows.add(
-            self.cie.instructions(),
-            self.instructions(),
-            self.cie.coding(bases),
-            self.initial_address,
-            self.end(),
-        )
+        Fde {
+            offset: listed.offset,
+            cie,
+            initial_address: listed.initial_address,
+            len: listed.len,
+            lsda: listed.lsda,
+            program: listed.program,
+        }
     }
 
     /// Whether the function's frame is one that a signal's delivery made, which its common

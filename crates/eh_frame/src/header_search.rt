@@ -1,7 +1,10 @@
 //! The search of a header's table for an address.
 
 ghost use Rattle.std.specs.Prelude.{◌≡◌, ◌≢◌, ◌+◌, ◌⊎◌, ℕ, IfErr, IfOk};
-ghost use Rattle.unwind_definitions.specs.HeaderSearch.{AreWithinDigits, IsNamed, IsNamedElsewhere, IsTableAnswer, IsUnreadableNamed, IsUnreadablePair, StartsAbove, boundary_in, containing, found_by, table_answer};
+ghost use Rattle.unwind_definitions.specs.HeaderSearch.{AreWithinDigits, IsNamed, IsNamedElsewhere};
+ghost use Rattle.unwind_definitions.specs.HeaderSearch.{IsTableAnswer, IsUnreadableNamed, IsUnreadablePair};
+ghost use Rattle.unwind_definitions.specs.HeaderSearch.{StartsAbove, boundary_in, containing, found_by};
+ghost use Rattle.unwind_definitions.specs.HeaderSearch.{table_answer};
 ghost use Rattle.encoded_pointers.specs.Readers.{Answers};
 ghost use Rattle.encoded_pointers.specs.Pointers.{bases_of};
 ghost use Rattle.eh_frame.specs.Views.{fde_of, table_of};

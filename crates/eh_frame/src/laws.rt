@@ -1,7 +1,12 @@
 //! A frame table and its index, byte for byte.
 
+ghost use Rattle.std.specs.Prelude.{◌≡◌, ℕ, Ok};
+ghost use Rattle.unwind_definitions.specs.Entries.{Fde};
+ghost use Rattle.unwind_definitions.specs.Input.{Input};
 ghost use Rattle.unwind_definitions.specs.Module.{no_bases};
-ghost use Rattle.eh_frame.specs.Index.{CannotBePrepared, IsFoundAt, IsPreparedFrom};
+ghost use Rattle.unwind_definitions.specs.Pointers.{Bases};
+ghost use Rattle.unwind_definitions.specs.Scan.{scan};
+ghost use Rattle.eh_frame.specs.Index.{CannotBePrepared, Index, IsFoundAt, IsPreparedFrom};
 ghost use Rattle.eh_frame.specs.PreparedSample as sample;
 
 /// The table of one function of 16 bytes that pushes RBX has an index with a row at its start and
@@ -11,4 +16,11 @@ pub fn table_of_a_push_is_prepared()
     ensures prepared { IsPreparedFrom no_bases sample.table sample.index }
     ensures limited { CannotBePrepared no_bases sample.table 1 3 }
     ensures found { IsFoundAt sample.index.functions 0x40100f 0 sample.fde }
+{}
+
+/// A description of an index that contains an address is what a scan of the table answers for it.
+pub fn index_answers_as_a_scan()
+    ensures { (bases : Bases) (table : Input) (index : Index) (pc i : ℕ) (fde : Fde) →
+        IsPreparedFrom bases table index → IsFoundAt index.functions pc i fde →
+        scan bases table pc ≡ Ok fde }
 {}

@@ -16,15 +16,33 @@
 //! every instruction of DWARF 5, and `DW_CFA_GNU_args_size`.
 //!
 //! Source: LSB, section on `.eh_frame`; DWARF 5 section 6.4.
+//!
+//! The row at an address, by the bytes of a section that was loaded at 0x500000:
+//!
+//! ```rust
+//! use eh_frame::{Bases, EhFrame};
+//!
+//! let table = EhFrame::new(section, 0x50_0000);
+//! let bases = Bases::default();
+//! let fde = table.fde_for_address(&bases, 0x40_1005)?;
+//! let row = fde.unwind_info_for_address(&table, &bases, 0x40_1005)?;
+//! println!(rt; "{:?}", row.cfa())?;
+//! for (register, rule) in row.registers() {
+//!     println!(rt; "{register:?} {rule:?}")?;
+//! }
+//! ```
 #![tactic(auto)]
 
 mod augmentation;
 mod cie;
 mod entries;
 mod fde;
+mod fde_list;
 mod header;
+mod header_lists;
 mod header_search;
 mod laws;
+mod listed_fde;
 mod listing;
 mod prepared;
 
@@ -39,9 +57,9 @@ pub use frame_rows::{
     CfaRule, Register, RegisterMap, RegisterRule, Registers, Row, RowRef, RowRoom,
 };
 pub use header::{EhFrameHdr, HdrTable};
-pub use laws::table_of_a_push_is_prepared;
+pub use laws::{index_answers_as_a_scan, table_of_a_push_is_prepared};
 pub use listing::Entries;
-pub use prepared::{Found, Prepared};
+pub use prepared::{Found, Prepared, PreparedFrame};
 pub use unwind_definitions::Error;
 
 #[cfg(test)]

@@ -1,12 +1,14 @@
 pub mod Answered
 pub mod Covering
 pub mod Finding
+pub mod FrameTables
 pub mod GlobalCovering
 pub mod Globally
 pub mod HeaderCovering
 pub mod HeaderFinding
 pub mod InTurn
 pub mod Named
+pub mod NamedTables
 pub mod PhdrBytes
 pub mod Placed
 pub mod ProgramHeaders

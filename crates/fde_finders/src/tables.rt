@@ -10,9 +10,12 @@ ghost use Rattle.eh_frame.specs.Views.{fde_of, table_of};
 ghost use Rattle.eh_frame.specs.Headers.{header_of, pairs_of};
 ghost use Rattle.fde_finders.specs.Answered.{answered};
 ghost use Rattle.fde_finders.specs.Finding.{found_in, relative_to, scanned_by, scanned_in};
+ghost use Rattle.fde_finders.specs.FrameTables.{table_by_header};
+ghost use Rattle.fde_finders.specs.NamedTables.{named_of};
 ghost use Rattle.fde_finders.specs.HeaderFinding.{by_table, found_by_header, led_address, listed, pairs_by_header, pairs_in};
 
 use crate::find_fde::FDESearchResult;
+use crate::naming::NamedTable;
 use eh_frame::{Bases, EhFrame, EhFrameHdr, Fde, HdrTable, Pointer};
 use memory_image::{Ledger, MemoryImage, Steps};
 
@@ -71,6 +74,19 @@ pub(crate) fn search_header<'a, L: Ledger>(
     ensures ticks { (taken : ℕ) × (steps.new.number ≡ steps.old.number + taken)
         × AreWithinDigits (pairs_by_header (bases_of known.now) image.now header) taken }
 {
+    let named = table_by_header(image, known, header)?;
+    search_table(named.pairs, named.frames, named.bases, pc, steps)
+}
+
+/// The frame table that the header at an address leads to. `None` where the header can't be read,
+/// or the frame table's address isn't mapped.
+pub(crate) fn table_by_header<'a>(
+    image: &MemoryImage<'a>,
+    known: &Bases,
+    header: u64,
+) -> Option<NamedTable<'a>>
+    ensures { option_map named_of result ≡ table_by_header (bases_of known.now) image.now header }
+{
     let bases = Bases {
         hdr: Some(header),
         ..*known
@@ -78,11 +94,14 @@ pub(crate) fn search_header<'a, L: Ledger>(
     let bytes = image.from(header).unwrap_or(&[]);
     let parsed = EhFrameHdr::parse(bytes, header, &bases).ok()?;
     let table = target(image, parsed.eh_frame_ptr())?;
-    let bases = Bases {
-        frame: Some(table),
-        ..bases
-    };
-    search_table(parsed.table(), frames_at(image, table), bases, pc, steps)
+    Some(NamedTable {
+        frames: frames_at(image, table),
+        bases: Bases {
+            frame: Some(table),
+            ..bases
+        },
+        pairs: parsed.table(),
+    })
 }
 
 // The description that a header's table finds, or that of a scan.
@@ -129,7 +148,7 @@ fn listed<'a, L: Ledger>(
 }
 
 // The frame table at an address, which ends with its region, and is empty where nothing is mapped.
-fn frames_at<'a>(image: &MemoryImage<'a>, table: u64) -> EhFrame<'a>
+pub(crate) fn frames_at<'a>(image: &MemoryImage<'a>, table: u64) -> EhFrame<'a>
     ensures { table_of result ≡ input_at image.now table }
 {
     EhFrame::new(image.from(table).unwrap_or(&[]), table)

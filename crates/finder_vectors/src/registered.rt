@@ -51,10 +51,8 @@ fn object(begin: u64, multiple: bool) -> Object {
 #[test]
 fn tables_are_registered_and_removed(rt: HostRuntime) -> Result<(), Fail> {
     let frames = hex::decode(rt.alloc(), ONE)?;
-    let list = hex::decode(rt.alloc(), LIST)?;
     let mut image = MemoryImage::new(rt.alloc());
     image.add(0x50_0000, &frames)?;
-    image.add(0x50_5000, &list)?;
     let mut registry = Registry::new(rt.alloc());
     registry.register_frame(0x50_0000)?;
     registry.register_frame_info(0x50_0000)?;
@@ -70,17 +68,33 @@ fn tables_are_registered_and_removed(rt: HostRuntime) -> Result<(), Fail> {
     registry.register_frame_table(0)?;
     registry.register_frame_info_table(0)?;
     assert_eq!(rt; registry.deregister_frame_info(0), None);
+    Ok(())
+}
+
+// Each registration is the first of a new registry, and is taken from it by another of the calls.
+#[test]
+fn each_registration_is_found(rt: HostRuntime) -> Result<(), Fail> {
+    let frames = hex::decode(rt.alloc(), ONE)?;
+    let list = hex::decode(rt.alloc(), LIST)?;
+    let mut image = MemoryImage::new(rt.alloc());
+    image.add(0x50_0000, &frames)?;
+    image.add(0x50_5000, &list)?;
+    let mut registry = Registry::new(rt.alloc());
     registry.register_frame_info_bases(0x50_0000, 0, 0)?;
     assert_eq!(rt; start(&registry, &image, 0x40_1005), Some(0x40_1000));
     assert_eq!(rt; start(&registry, &image, 0x40_1010), None);
+    let table = Some(object(0x50_0000, false));
     assert_eq!(rt; registry.deregister_frame_info_bases(0x50_0000), table);
+    let listed = Some(object(0x50_5000, true));
+    let mut registry = Registry::new(rt.alloc());
     registry.register_frame_info_table_bases(0x50_5000, 0, 0)?;
     assert_eq!(rt; start(&registry, &image, 0x40_1005), Some(0x40_1000));
-    let listed = Some(object(0x50_5000, true));
     assert_eq!(rt; registry.deregister_frame_info(0x50_5000), listed);
+    let mut registry = Registry::new(rt.alloc());
     registry.register_frame_info_table(0x50_5000)?;
     assert_eq!(rt; start(&registry, &image, 0x40_1005), Some(0x40_1000));
     assert_eq!(rt; registry.deregister_frame(0x50_5000), listed);
+    let mut registry = Registry::new(rt.alloc());
     registry.register_frame_table(0x50_5000)?;
     assert_eq!(rt; start(&registry, &image, 0x40_1005), Some(0x40_1000));
     Ok(())

@@ -2,13 +2,14 @@
 use Rattle.std.proofs.Common.{◌≡◌, ℕ, cond, List, [], length, Option, Some, None, Result, Ok, Err, refl, sym, ap, subst, ◌∙◌}
 use Rattle.std.specs.Prelude.{is_some}
 use Rattle.std.specs.Option.{option_or}
+use Rattle.std.specs.Result.{result_err}
 use Rattle.std.proofs.lemmas.Bool.{eq-eqb}
 use Rattle.unwind_definitions.specs.declared.error.Error.{Error as Fault}
 use Rattle.unwind_definitions.specs.declared.error.Error.TheVariants.{NoCfaRegister}
 use Rattle.unwind_definitions.specs.Instructions.{Instruction, Program}
 use Rattle.unwind_definitions.specs.Row.{RowInstructions, first_fault, up_to, or_else, common_fault, own_fault, from_common, row, cfa_rule}
 use Rattle.frame_rows.specs.declared.machine.Machine.{Machine}
-use Rattle.frame_rows.specs.Running.{Represents, outcome, Ends, MakesRow}
+use Rattle.frame_rows.specs.Running.{Represents, outcome, Ends, MakesRow, RunsCommon, IsEndOf, whole}
 use Rattle.frame_rows.specs.RowValue.{RowValue}
 use Rattle.frame_rows.specs.Rows.{GivesRow, IsLast}
 
@@ -26,15 +27,21 @@ value_is None a b is = cc
 value_is (Some d) a b is = absurd cc
 
 -- what the first program ends with
-abbrev pub whole : List Instruction → RowInstructions
-whole instructions = record { common = []; own = instructions }
-
 common_is : (common : Program) → outcome 0 None (from_common []) common ≡ or_else (common_fault common) (Ok (whole common.instructions))
 unfolding outcome
 common_is common = ap (λ b. or_else (option_or (first_fault 0 (from_common []) common.instructions) (cond b common.fault None)) (Ok (whole common.instructions))) (eq-eqb (length common.instructions) (length common.instructions) refl)
 
 pub common_run : (common : Program) (run : RowInstructions) → outcome 0 None (from_common []) common ≡ Ok run → whole common.instructions ≡ run
 common_run common run is = value_is (common_fault common) (whole common.instructions) run (sym (common_is common) ∙ is)
+
+-- what the first program leaves
+pub common_ran : (common : Program) (r : Result (Unit {0}) Fault) (m : Machine) → Ends 0 r m (outcome 0 None (from_common []) common) → RunsCommon r m common
+common_ran common (Ok done) m ends = (ends.0, ends.1, subst (λ run. Represents 0 m run) (sym (common_run common ends.0 ends.1)) ends.2)
+common_ran common (Err e) m ends = ends
+
+pub common_ended : (common : Program) (r : Result (Unit {0}) Fault) (m : Machine) → RunsCommon r m common → IsEndOf m.state (result_err r) common
+common_ended common (Ok done) m ran = (ran.0, ran.1, ran.2.state)
+common_ended common (Err e) m ran = ran
 
 no_fault : {A : Type 0} (o : Option Fault) (a b : A) → or_else o (Ok a) ≡ Ok b → o ≡ None
 no_fault None a b is = refl

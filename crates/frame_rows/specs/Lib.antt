@@ -7,3 +7,4 @@ pub mod Left
 pub mod KeptRows
 pub mod Stretches
 pub mod TableRows
+pub mod Begun

@@ -77,6 +77,20 @@ abbrev pub Ends : ℕ → Result (Unit {0}) Fault → Machine → Result RowInst
 Ends start (Ok done) new due = (run : RowInstructions) × (due ≡ Ok run) × Represents start new run
 Ends start (Err e) new due = due ≡ Err e
 
+-- what a common information entry's program alone makes
+abbrev pub whole : List Instruction → RowInstructions
+whole instructions = record { common = []; own = instructions }
+
+-- a common information entry's program has run whole
+abbrev pub RunsCommon : Result (Unit {0}) Fault → Machine → Program → Type 0
+RunsCommon (Ok done) new common = (run : RowInstructions) × (outcome 0 None (from_common []) common ≡ Ok run) × Represents 0 new (whole common.instructions)
+RunsCommon (Err e) new common = outcome 0 None (from_common []) common ≡ Err e
+
+-- a row, or a fault, is what a common information entry's program ended with
+abbrev pub IsEndOf : RowState → Option Fault → Program → Type 0
+IsEndOf state None common = (run : RowInstructions) × (outcome 0 None (from_common []) common ≡ Ok run) × IsStateOf state (whole common.instructions)
+IsEndOf state (Some e) common = outcome 0 None (from_common []) common ≡ Err e
+
 -- a common information entry's program has run whole, and a description's own is to run
 abbrev pub Begins : ℕ → Result (Unit {0}) Fault → Machine → Program → Type 0
 Begins start (Ok done) new common = (run : RowInstructions) × (outcome 0 None (from_common []) common ≡ Ok run) × Represents start new (from_common common.instructions)

@@ -4,7 +4,8 @@ ghost use Rattle.std.specs.Prelude.{◌≡◌, ◌*◌};
 ghost use Rattle.unwind_definitions.specs.Instructions.{instruction, Advance, Write};
 ghost use Rattle.encoded_pointers.specs.Readers.{GivesOr};
 ghost use Rattle.encoded_pointers.specs.View.{at};
-ghost use Rattle.frame_rows.specs.Decoded.{meaning, coding_in, unsigned_offset, signed_offset, block, operation_read, cfa_read, offset_read, rule_read, state_read};
+ghost use Rattle.frame_rows.specs.Decoded.{meaning, coding_in, unsigned_offset, signed_offset, block};
+ghost use Rattle.frame_rows.specs.Decoded.{operation_read, cfa_read, offset_read, rule_read, state_read};
 ghost use Rattle.frame_rows.specs.Rules.{rule_meaning};
 
 use crate::coding::Coding;
@@ -39,12 +40,14 @@ pub(crate) enum CallFrameInstruction<'a> {
     SetArgumentSize(u64),
 }
 
+#[inline(always)]
 fn advance<'a>(coding: Coding, delta: u32) -> CallFrameInstruction<'a>
     ensures { meaning result ≡ Advance (delta * coding.entry.code_factor) }
 {
     CallFrameInstruction::AdvanceLocation(delta as u128 * coding.code_factor as u128)
 }
 
+#[inline(always)]
 fn set_rule<'a>(register: Register, rule: RegisterRule<'a>) -> CallFrameInstruction<'a>
     ensures { meaning result ≡ Write register.0 (rule_meaning rule.entry) }
 {
@@ -79,8 +82,10 @@ fn read_expression<'a>(input: &mut Cursor<'a>) -> Result<&'a [u8], Error>
 }
 
 // The next instruction, whose first byte was read and is below 64. What begins a row is looked for
-// first. DWARF 5 section 6.4.2.1.
+// first. It and those after it are inlined, so that the byte is told apart once, for all groups.
+// DWARF 5 section 6.4.2.1.
 #[tactic(auto, unfolding(crate::specs::Decoded::operation_read))]
+#[inline(always)]
 fn read_operation<'a>(
     input: &mut Cursor<'a>,
     coding: Coding,
@@ -103,6 +108,7 @@ fn read_operation<'a>(
 
 // The same, where it begins no row. DWARF 5 section 6.4.2.2.
 #[tactic(auto, unfolding(crate::specs::Decoded::cfa_read))]
+#[inline(always)]
 fn read_cfa_definition<'a>(
     input: &mut Cursor<'a>,
     coding: Coding,
@@ -136,6 +142,7 @@ fn read_cfa_definition<'a>(
 
 // The same, where it doesn't define the CFA either: rules by an offset. DWARF 5 section 6.4.2.3.
 #[tactic(auto, unfolding(crate::specs::Decoded::offset_read))]
+#[inline(always)]
 fn read_offset_rule<'a>(
     input: &mut Cursor<'a>,
     coding: Coding,
@@ -171,6 +178,7 @@ fn read_offset_rule<'a>(
 
 // The same, where it gives no rule by an offset: other rules. DWARF 5 section 6.4.2.3.
 #[tactic(auto, unfolding(crate::specs::Decoded::rule_read))]
+#[inline(always)]
 fn read_register_rule<'a>(
     input: &mut Cursor<'a>,
     operation: u8,
@@ -205,6 +213,7 @@ fn read_register_rule<'a>(
 
 // The same, where it gives no register a rule. DWARF 5 sections 6.4.2.4 and 6.4.2.5.
 #[tactic(auto, unfolding(crate::specs::Decoded::state_read))]
+#[inline(always)]
 fn read_row_state<'a>(
     input: &mut Cursor<'a>,
     operation: u8,
@@ -225,6 +234,7 @@ fn read_row_state<'a>(
 
 /// The next instruction.
 #[tactic(auto, unfolding(crate::specs::Decoded::operation_read, crate::specs::Decoded::cfa_read, crate::specs::Decoded::offset_read, crate::specs::Decoded::rule_read, crate::specs::Decoded::state_read, unwind_definitions::specs::Instructions::instruction_of))]
+#[inline(always)]
 pub(crate) fn read_instruction<'a>(
     input: &mut Cursor<'a>,
     coding: Coding,

@@ -23,6 +23,28 @@ pub(crate) struct RowState<'a> {
 }
 
 impl<'a> RowState<'a> {
+    ghost use Rattle.std.specs.Prelude.{[], None};
+
+    /// The row of no instructions.
+    pub(crate) fn new() -> RowState<'a>
+        ensures { result ≡ record { cfa = None; rules = []; saved_args_size = 0 } }
+    {
+        RowState {
+            cfa: None,
+            rules: RegisterRules::new(),
+            saved_args_size: 0,
+        }
+    }
+
+    /// Makes it the same as another.
+    pub(crate) fn assign(&mut self, other: &RowState<'a>)
+        ensures { self.new ≡ other.now }
+    {
+        self.cfa = other.cfa;
+        self.rules.assign(&other.rules);
+        self.saved_args_size = other.saved_args_size;
+    }
+
     fn copy(&self) -> RowState<'a>
         ensures { result ≡ self.now }
     {
@@ -48,11 +70,12 @@ pub(crate) struct Machine<'a> {
 
 impl<'a> Machine<'a> {
     ghost use Rattle.std.specs.Prelude.{[], ◌∷◌, ◌<◌, List};
-    ghost use Rattle.unwind_definitions.specs.Instructions.{Instruction, Advance, SetLocation, Write, Reset, Remember, Restore, CfaColumn, CfaOffset};
+    ghost use Rattle.unwind_definitions.specs.Instructions.{Instruction, Advance, SetLocation, Write, Reset};
+    ghost use Rattle.unwind_definitions.specs.Instructions.{Remember, Restore, CfaColumn, CfaOffset};
     ghost use Rattle.unwind_definitions.specs.Row.{RowInstructions, from_common, location as location_after};
     ghost use Rattle.frame_rows.specs.Rules.{rule_meaning, rule_in};
     ghost use Rattle.frame_rows.specs.Decoded.{meaning};
-    ghost use Rattle.frame_rows.specs.Running.{Represents, Follows, stops, initial_rules, push};
+    ghost use Rattle.frame_rows.specs.Running.{IsStateOf, Represents, Follows, stops, initial_rules, push};
     ghost use Rattle.frame_rows.specs.Rows.{IsLast, made};
     ghost use Rattle.frame_rows.specs.Stretches.{LeadsOn};
 
@@ -62,11 +85,7 @@ impl<'a> Machine<'a> {
     {
         Machine {
             location: 0,
-            state: RowState {
-                cfa: None,
-                rules: RegisterRules::new(),
-                saved_args_size: 0,
-            },
+            state: RowState::new(),
             remembered: None,
             initial: RegisterRules::new(),
         }
@@ -107,6 +126,26 @@ impl<'a> Machine<'a> {
         self.initial.assign(&self.state.rules);
     }
 
+    /// Puts what the instructions so far make in place of another row.
+    pub(crate) fn put_state(&self, state: &mut RowState<'a>)
+        ensures { state.new ≡ self.now.state }
+    {
+        state.assign(&self.state);
+    }
+
+    /// Makes it one that is to run a description's program from a location on, after a common
+    /// information entry's program that ended with a row, whatever it ran before.
+    pub(crate) fn begin_after(&mut self, common: &RowState<'a>, location: u64)
+        ensures { (instructions : List Instruction) →
+            IsStateOf common.now (record { common = []; own = instructions }) →
+            Represents location self.new (from_common instructions) }
+    {
+        self.location = location;
+        self.state.assign(common);
+        self.forget();
+        self.initial.assign(&common.rules);
+    }
+
     /// Whether an instruction leads past the address asked, if one is asked.
     pub(crate) fn stops_before(
         &self,
@@ -128,6 +167,7 @@ impl<'a> Machine<'a> {
     }
 
     /// Where an instruction leads on from the location. One that is a fault there doesn't.
+    #[inline(always)]
     pub(crate) fn leads_on(&self, instruction: CallFrameInstruction<'a>) -> Option<u64>
         ensures { LeadsOn self.now.location (meaning instruction.entry) result }
     {
@@ -251,6 +291,7 @@ impl<'a> Machine<'a> {
     }
 
     /// Runs one instruction. After a fault the machine is unspecified.
+    #[inline(always)]
     pub(crate) fn run(&mut self, instruction: CallFrameInstruction<'a>) -> Result<(), Error>
         ensures { (start : ℕ) (run : RowInstructions) → Represents start self.old run →
             Follows start run (meaning instruction.entry) result self.new }

@@ -7,7 +7,7 @@ ghost use Rattle.unwind_definitions.specs.Row.{RowInstructions, row};
 ghost use Rattle.encoded_pointers.specs.View.{at};
 ghost use Rattle.frame_rows.specs.Decoded.{coding_in};
 ghost use Rattle.frame_rows.specs.Rows.{GivesRow};
-ghost use Rattle.frame_rows.specs.Running.{Represents, outcome, Ends, MakesRow, Begins};
+ghost use Rattle.frame_rows.specs.Running.{Represents, outcome, Ends, MakesRow, Begins, RunsCommon};
 
 use crate::coding::Coding;
 use crate::instruction::read_instruction;
@@ -47,7 +47,8 @@ pub(crate) fn run_programs<'a>(
     pc: u64,
 ) -> Result<(), Error>
     ensures { let coding = coding_in coding.entry in
-        MakesRow start result machine.new (row start pc (program coding (at common.entry)) (program coding (at own.entry))) }
+        MakesRow start result machine.new (row start pc
+        (program coding (at common.entry)) (program coding (at own.entry))) }
 {
     begin_own(machine, common, coding, start)?;
     run_program(machine, own, coding, Some(pc))
@@ -64,10 +65,22 @@ pub(crate) fn begin_own<'a>(
     ensures { Begins start result machine.new
         (program (coding_in coding.entry) (at common.entry)) }
 {
-    machine.restart();
-    run_program(machine, common, coding, None)?;
+    run_common(machine, common, coding)?;
     machine.begin(start);
     Ok(())
+}
+
+/// Runs the program of a common information entry, whole. What the machine ran before doesn't
+/// matter, and after a fault it is unspecified.
+pub(crate) fn run_common<'a>(
+    machine: &mut Machine<'a>,
+    common: Cursor<'a>,
+    coding: Coding,
+) -> Result<(), Error>
+    ensures { RunsCommon result machine.new (program (coding_in coding.entry) (at common.entry)) }
+{
+    machine.restart();
+    run_program(machine, common, coding, None)
 }
 
 // Runs a program, whole or up to the instruction that leads past an address. After a fault the

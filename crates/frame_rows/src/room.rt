@@ -70,7 +70,8 @@ impl<'a> RowRoom<'a> {
         pc: u64,
     ) -> Result<(), Error>
         ensures { let coding = coding_in coding.entry in
-            GivesRow (made result self.new) (row start pc (program coding (at common.entry)) (program coding (at own.entry))) }
+            GivesRow (made result self.new) (row start pc
+            (program coding (at common.entry)) (program coding (at own.entry))) }
     {
         run_programs(&mut self.machine, common, own, coding, start, pc)?;
         self.machine.put_row(&mut self.row)

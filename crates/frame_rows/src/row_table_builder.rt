@@ -6,12 +6,13 @@ ghost use Rattle.unwind_definitions.specs.Row.{RowInstructions, from_common};
 ghost use Rattle.encoded_pointers.specs.View.{at};
 ghost use Rattle.frame_rows.specs.Decoded.{coding_in};
 ghost use Rattle.frame_rows.specs.KeptRows.{Adds};
+ghost use Rattle.frame_rows.specs.Begun.{HasBegun};
 ghost use Rattle.frame_rows.specs.Running.{Represents, outcome};
 ghost use Rattle.frame_rows.specs.TableRows.{Keeps};
 
 use crate::coding::Coding;
-use crate::machine::Machine;
-use crate::program::begin_own;
+use crate::machine::{Machine, RowState};
+use crate::program::run_common;
 use crate::row_table::{RowLimits, RowTable};
 use crate::stretch::{Instructions, run_stretch};
 use encoded_pointers::Cursor;
@@ -26,6 +27,10 @@ pub struct RowTableBuilder<'a> {
     table: RowTable<'a>,
     limits: RowLimits,
     machine: Machine<'a>,
+    // what the program of the common information entry that was begun last ended with: a row, or a
+    // fault
+    common: RowState<'a>,
+    fault: Option<Error>,
 }
 
 impl<'a> RowTableBuilder<'a> {
@@ -38,6 +43,8 @@ impl<'a> RowTableBuilder<'a> {
             table: RowTable::new(alloc),
             limits,
             machine: Machine::new(),
+            common: RowState::new(),
+            fault: None,
         }
     }
 
@@ -59,11 +66,45 @@ impl<'a> RowTableBuilder<'a> {
             Adds self.old.limits start end (program coding (at common.entry))
             (program coding (at own.entry)) self.old.table result self.new.table }
         ensures limits { self.new.limits ≡ self.old.limits }
+        ensures begun { HasBegun self.new (program (coding_in coding.entry) (at common.entry)) }
     {
-        match begin_own(&mut self.machine, common, coding, start) {
-            Err(e) => self.table.push(start, Err(e), self.limits),
-            Ok(()) => self.add_rows(own, coding, start, end),
+        self.begin(common, coding);
+        self.add_next(own, coding, start, end)
+    }
+
+    /// Adds the rows of a description, as [`RowTableBuilder::add`] does, whose common information
+    /// entry is that of the one that was added before. Its program isn't run again.
+    pub fn add_next(
+        &mut self,
+        own: Cursor<'a>,
+        coding: Coding,
+        start: u64,
+        end: u64,
+    ) -> Result<bool, AllocError>
+        requires { start < end }
+        ensures rows { (common : Program) → HasBegun self.old common →
+            Adds self.old.limits start end common
+            (program (coding_in coding.entry) (at own.entry)) self.old.table result self.new.table }
+        ensures limits { self.new.limits ≡ self.old.limits }
+        ensures begun { (common : Program) → HasBegun self.old common → HasBegun self.new common }
+    {
+        match self.fault {
+            Some(e) => self.table.push(start, Err(e), self.limits),
+            None => {
+                self.machine.begin_after(&self.common, start);
+                self.add_rows(own, coding, start, end)
+            }
         }
+    }
+
+    // Runs the program of a common information entry, which those of its descriptions follow.
+    fn begin(&mut self, common: Cursor<'a>, coding: Coding)
+        ensures begun { HasBegun self.new (program (coding_in coding.entry) (at common.entry)) }
+        ensures table { self.new.table ≡ self.old.table }
+        ensures limits { self.new.limits ≡ self.old.limits }
+    {
+        self.fault = run_common(&mut self.machine, common, coding).err();
+        self.machine.put_state(&mut self.common);
     }
 
     /// How many rows and faults there are so far.
@@ -95,6 +136,8 @@ impl<'a> RowTableBuilder<'a> {
             Adds self.old.limits start end common (program (coding_in coding.entry) (at own.entry))
             self.old.table result self.new.table }
         ensures limits { self.new.limits ≡ self.old.limits }
+        ensures common { self.new.common ≡ self.old.common }
+        ensures fault { self.new.fault ≡ self.old.fault }
     {
         let mut instructions = Instructions::new(own);
         let mut location = start;
@@ -123,6 +166,8 @@ impl<'a> RowTableBuilder<'a> {
             result self.new.table }
         ensures machine { self.new.machine ≡ self.old.machine }
         ensures limits { self.new.limits ≡ self.old.limits }
+        ensures common { self.new.common ≡ self.old.common }
+        ensures fault { self.new.fault ≡ self.old.fault }
     {
         match next {
             Ok(_) => self.table.push(location, self.machine.row(), self.limits),

@@ -34,6 +34,7 @@ impl<'a> Instructions<'a> {
     }
 
     /// The next instruction, `None` at the end.
+    #[inline(always)]
     pub(crate) fn next(&mut self, coding: Coding) -> Result<Option<CallFrameInstruction<'a>>, Error>
         ensures reads { let coding = coding_in coding.entry in
             IsNext (left_of coding self.old) result (left_of coding self.new) }

@@ -11,8 +11,12 @@ mod fronts;
 #[cfg(test)]
 mod languages;
 #[cfg(test)]
+mod prepared;
+#[cfg(test)]
 mod resumes;
 #[cfg(test)]
 mod rooms;
 #[cfg(test)]
 mod runs;
+#[cfg(test)]
+mod stops;

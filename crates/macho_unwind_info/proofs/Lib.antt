@@ -8,3 +8,4 @@ pub mod TextLemmas
 pub mod DigitLemmas
 pub mod PairLemmas
 pub mod PermutationTable
+pub mod LookupLemmas

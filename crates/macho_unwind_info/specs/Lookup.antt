@@ -1,6 +1,8 @@
 -- The function of an address: a search among the pages, and one among the entries of a page.
 use Rattle.std.specs.Prelude.{◌≡◌, ℕ, ◌+◌, ◌-◌, ◌<◌, ◌≤◌, List, map, length, Option, Some, None, Result, Ok, Err, MatchResult, slice_get, slice_index}
+use Rattle.memory_image.specs.Halving.{boundary_of}
 use Rattle.macho_unwind_info.specs.Unaligned.{u32_number}
+use Rattle.macho_unwind_info.specs.Parts.{◌>>=◌}
 use Rattle.macho_unwind_info.specs.Compressed.{relative_address}
 use Rattle.macho_unwind_info.specs.Listing.{Section, page_of, entries_of, functions_of, answer_of}
 use Rattle.macho_unwind_info.specs.declared.error.Error.{Error}
@@ -82,3 +84,21 @@ pub record IsLookup (info : Section) (pc : ℕ) (answer : Result (Option Functio
   pub page : Option ℕ
   pub finds : Finds (page_addresses info) pc page
   pub is : IsAnswerAt info pc page answer
+
+-- ---- the answer of the look-up: its searches halve, so that also in lists out of order it is always the same
+
+-- what is answered from an opened page that another one stands behind
+abbrev pub page_lookup_of : List Opcode → ℕ → ℕ → Page → Result (Option Function) Error
+page_lookup_of global next pc page = answer_at (functions_of next (entries_of global page)) (boundary_of (keys_of page) (pc - base_of page))
+
+abbrev pub answer_from : Section → ℕ → Option PageEntry → Option PageEntry → Result (Option Function) Error
+answer_from info pc None next = Ok None
+answer_from info pc (Some page) None = Ok None
+answer_from info pc (Some page) (Some next) = page_of info.bytes page >>= page_lookup_of info.global_opcodes (first_address next) pc
+
+abbrev pub answer_by : Section → ℕ → Option ℕ → Result (Option Function) Error
+answer_by info pc None = Ok None
+answer_by info pc (Some i) = answer_from info pc (slice_get info.pages i) (slice_get info.pages (i + 1))
+
+unfoldable pub lookup_of : Section → ℕ → Result (Option Function) Error
+lookup_of info pc = answer_by info pc (boundary_of (page_addresses info) pc)

@@ -1,7 +1,8 @@
 //! Laws of the definitions that the contracts of this crate cite. Nothing of it runs.
-ghost use Rattle.std.specs.Prelude.{◌≡◌, Ok};
+ghost use Rattle.std.specs.Prelude.{◌≡◌, ℕ, Ok};
 ghost use Rattle.macho_unwind_info.specs.Listing.{Section, section_of, listing};
-ghost use Rattle.macho_unwind_info.specs.Described.{HasDescribedPages};
+ghost use Rattle.macho_unwind_info.specs.Lookup.{IsLookup, lookup_of};
+ghost use Rattle.macho_unwind_info.specs.Described.{HasDescribedPages, FindsEachListed};
 ghost use Rattle.macho_unwind_info.specs.Sample.{described_bytes, described_functions, damaged_bytes, damaged_places};
 
 /// There is a section whose pages are described: a compressed page with two functions, a regular
@@ -14,4 +15,14 @@ pub fn described_section()
 /// the error in that place, and the functions before and behind it.
 pub fn damaged_section()
     ensures { (info : Section) × (section_of damaged_bytes ≡ Ok info) × (listing info ≡ damaged_places) }
+{}
+
+/// What the searches by halving answer is a look-up's answer.
+pub fn lookup_of_is_a_lookup()
+    ensures { (info : Section) (pc : ℕ) → IsLookup info pc (lookup_of info pc) }
+{}
+
+/// Where pages are described, the look-up of an address answers the listed function that covers it.
+pub fn lookup_finds_the_listed()
+    ensures { (info : Section) (pc : ℕ) → HasDescribedPages info → FindsEachListed info pc (lookup_of info pc) }
 {}

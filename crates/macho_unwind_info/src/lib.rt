@@ -8,10 +8,10 @@
 //! use macho_unwind_info::UnwindInfo;
 //! use macho_unwind_info::opcodes::OpcodeX86_64;
 //!
-//! let info = UnwindInfo::parse(bytes)?;
-//! if let Some(function) = info.lookup(0x1234)? {
+//! let info = UnwindInfo::parse(section)?;
+//! if let Some(function) = info.lookup(0x2010)? {
 //!     let opcode = OpcodeX86_64::parse(function.opcode);
-//!     println!(rt; "{opcode}")?;
+//!     println!(rt; "{:#x} {opcode}", function.start_address)?;
 //! }
 //! ```
 #![tactic(auto)]

@@ -1,8 +1,9 @@
 // A page that was opened: its entries, and what they say.
 ghost use Rattle.std.specs.Prelude.{◌≡◌, ◌+◌, ◌-◌, ◌<◌, ◌≤◌, ◌^◌, IfSome, IfOk, length, slice_get, map, drop, option_copied};
+ghost use Rattle.memory_image.specs.Halving.{boundary_of};
 ghost use Rattle.macho_unwind_info.specs.Unaligned.{u32_number};
 ghost use Rattle.macho_unwind_info.specs.Listing.{page_of, regular_of, compressed_of, opcode_at, opcode_named, address_after, regular_entry, compressed_entry, entries_of, end_of, function_of, functions_of, whole_page};
-ghost use Rattle.macho_unwind_info.specs.Lookup.{Finds, base_of, keys_of, IsPageLookup};
+ghost use Rattle.macho_unwind_info.specs.Lookup.{Finds, base_of, keys_of, IsPageLookup, page_lookup_of};
 ghost use Rattle.macho_unwind_info.specs.Iteration.{behind_first, left_in};
 
 use crate::error::{Error, ReadError};
@@ -175,6 +176,7 @@ impl<'a> Page<'a> {
     fn find(&self, pc: u32) -> Option<usize>
         requires { base_of self.now ≤ pc }
         ensures found { Finds (keys_of self.now) (pc - base_of self.now) result }
+        ensures same { result ≡ boundary_of (keys_of self.now) (pc - base_of self.now) }
         ensures next_fits { IfSome result (λ i. i + 1 < 2 ^ 64) }
     {
         match self {
@@ -195,7 +197,8 @@ impl<'a> Page<'a> {
         pc: u32,
     ) -> Result<Option<Function>, Error>
         requires { base_of self.now ≤ pc }
-        ensures { IsPageLookup global.now self.now next_address pc result }
+        ensures lookup { IsPageLookup global.now self.now next_address pc result }
+        ensures same { result ≡ page_lookup_of global.now next_address pc self.now }
     {
         let Some(i) = self.find(pc) else {
             return Err(Error::InvalidPageEntryFirstAddress);

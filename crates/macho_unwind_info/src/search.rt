@@ -1,5 +1,6 @@
 // The search in a sorted list of records.
 ghost use Rattle.std.specs.Prelude.{◌≡◌, ◌+◌, ◌<◌, ◌^◌, ℕ, map, length, slice_index, IfSome};
+ghost use Rattle.memory_image.specs.Halving.{boundary_of};
 ghost use Rattle.macho_unwind_info.specs.Unaligned.{u32_number};
 ghost use Rattle.macho_unwind_info.specs.Lookup.{Finds, first_address, start_address, start_distance};
 
@@ -57,6 +58,7 @@ fn key_at<T: Keyed>(records: &Records<'_, T>, i: usize) -> u32
 /// empty or its first key is behind `p`.
 pub fn boundary<T: Keyed>(records: &Records<'_, T>, p: u32) -> Option<usize>
     ensures found { Finds (map T.key records.now) p result }
+    ensures same { result ≡ boundary_of (map T.key records.now) p }
     ensures next_fits { IfSome result (λ i. i + 1 < 2 ^ 64) }
 {
     let mut low = 0;

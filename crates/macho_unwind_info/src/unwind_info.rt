@@ -2,7 +2,7 @@
 ghost use Rattle.std.specs.Prelude.{◌≡◌, map, slice_index, Ok, None};
 ghost use Rattle.macho_unwind_info.specs.Listing.{section_of, listing};
 ghost use Rattle.macho_unwind_info.specs.Described.{HasDescribedPages, IsInRange, IsOutside, FindsListed, FindsEachListed, LieEndToEnd};
-ghost use Rattle.macho_unwind_info.specs.Lookup.{range_start, range_end, IsLookup, first_address};
+ghost use Rattle.macho_unwind_info.specs.Lookup.{range_start, range_end, IsLookup, lookup_of, first_address};
 
 use crate::error::Error;
 use crate::function::Function;
@@ -95,6 +95,9 @@ impl<'a> UnwindInfo<'a> {
     pub fn lookup(&self, pc: u32) -> Result<Option<Function>, Error>
         ensures answer { IsLookup self.now pc result }
 
+        // whatever the section's bytes are, a call is answered as any other is
+        ensures repeats { result ≡ lookup_of self.now pc }
+
         // on described pages
         ensures inside { HasDescribedPages self.now → IsInRange self.now pc → FindsListed self.now pc result }
         ensures each { HasDescribedPages self.now → FindsEachListed self.now pc result }
@@ -104,8 +107,10 @@ impl<'a> UnwindInfo<'a> {
     }
 
     /// The look-up, step by step.
+    #[tactic(auto, unfolding(crate::specs::Lookup::lookup_of))]
     fn search(&self, pc: u32) -> Result<Option<Function>, Error>
-        ensures { IsLookup self.now pc result }
+        ensures answer { IsLookup self.now pc result }
+        ensures same { result ≡ lookup_of self.now pc }
     {
         let Some(i) = boundary(&self.pages, pc) else {
             return Ok(None);

@@ -19,14 +19,28 @@ and_all items (Err e) = Err e
 pub continued : Option Register → List FunctionEpilogInstruction → List ℕ → Sequence
 continued frame items bytes = and_all items (sequence_from frame (12 - length items) (length items == 0) bytes)
 
-none_before : (s : Sequence) → s ≡ and_all [] s
+all_of_one : (i : FunctionEpilogInstruction) (s : Sequence) → and_all (i ∷ []) s ≡ and_first i s
 unfolding and_all
-none_before (Ok later) = refl
-none_before (Err e) = refl
+all_of_one i (Ok later) = refl
+all_of_one i (Err e) = refl
 
-pub continued_init : (frame : Option Register) (bytes : List ℕ) → sequence_of frame bytes ≡ continued frame [] bytes
-unfolding continued and_all sequence_from
-continued_init frame bytes = none_before (sequence_from frame 12 true bytes)
+-- those behind a first one
+pub continued_later : (frame : Option Register) (first : FunctionEpilogInstruction) (bytes : List ℕ) → continued frame (first ∷ []) bytes ≡ and_first first (sequence_from frame 11 false bytes)
+unfolding continued
+continued_later frame first bytes = all_of_one first (sequence_from frame 11 false bytes)
+
+-- a sequence by its first instruction
+pub first_end : (frame : Option Register) (bytes : List ℕ) → parsed frame true bytes ≡ Ok None → sequence_of frame bytes ≡ Ok []
+unfolding sequence_from
+first_end frame bytes e = rw e refl
+
+pub first_err : (frame : Option Register) (bytes : List ℕ) (x : InstructionParseError) → parsed frame true bytes ≡ Err x → sequence_of frame bytes ≡ Err x
+unfolding sequence_from
+first_err frame bytes x e = rw e refl
+
+pub first_more : (frame : Option Register) (bytes : List ℕ) (i : FunctionEpilogInstruction) (rest : List ℕ) → parsed frame true bytes ≡ Ok (Some (i, rest)) → sequence_of frame bytes ≡ and_first i (sequence_from frame 11 false rest)
+unfolding sequence_from
+first_more frame bytes i rest e = rw e refl
 
 end_from : (frame : Option Register) (items : List FunctionEpilogInstruction) (n : ℕ) (allowed : Bool) (bytes : List ℕ) → parsed frame allowed bytes ≡ Ok None → and_all items (sequence_from frame n allowed bytes) ≡ Ok items
 unfolding and_all sequence_from

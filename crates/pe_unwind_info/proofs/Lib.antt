@@ -1,3 +1,4 @@
+pub mod ChainLemmas
 pub mod EpilogListLemmas
 pub mod EpilogReads
 pub mod EpilogSequences

@@ -1,10 +1,10 @@
 -- The function table of an image, in its section `.pdata`.
-use Rattle.std.specs.Prelude.{◌≡◌, ℕ, ◌/◌, ◌%◌, Bool, ◌||◌, List, Option, Some, None, length, nat_lt, ◌==◌, if◌then◌else◌}
+use Rattle.std.specs.Prelude.{◌≡◌, ℕ, ◌/◌, ◌%◌, ◌<◌, ◌≤◌, Bool, ◌||◌, List, [], ◌∷◌, Option, Some, None, length, nat_lt, ◌==◌, if◌then◌else◌}
 use Rattle.memory_image.specs.Records.{records_in}
 use Rattle.pe_unwind_info.specs.declared.x86_64.function_table.RuntimeFunction.{RuntimeFunction}
 use Rattle.pe_unwind_info.specs.declared.x86_64.function_table.FunctionTableEntries.{FunctionTableEntries}
 use Rattle.pe_unwind_info.specs.Numbers.{u32_at}
-use Rattle.pe_unwind_info.specs.Search.{IsSearched}
+use Rattle.pe_unwind_info.specs.Search.{IsSearched, boundary_in}
 
 -- the record that twelve bytes spell
 abbrev pub runtime_function_of : List ℕ → RuntimeFunction
@@ -35,3 +35,18 @@ abbrev pub IsLookup : Option (List RuntimeFunction) → ℕ → Option RuntimeFu
 IsLookup None address answer = answer ≡ None
 IsLookup (Some functions) address answer =
     (found : Option RuntimeFunction) × IsSearched (λ (f : RuntimeFunction). f.begin_address) functions address found × (answer ≡ covering found address)
+
+-- The one that it answers: the search halves, so that also in a table out of order it is always the same.
+unfoldable pub lookup_of : Option (List RuntimeFunction) → ℕ → Option RuntimeFunction
+lookup_of None address = None
+lookup_of (Some functions) address = covering (boundary_in (λ (f : RuntimeFunction). f.begin_address) functions address) address
+
+-- ---- tables in order
+-- functions that are nonempty, ascend and share no address, from one address up to another
+abbrev pub AreOrdered : ℕ → ℕ → List RuntimeFunction → Type 0
+AreOrdered low high [] = Unit {0}
+AreOrdered low high (f ∷ functions) = (low ≤ f.begin_address) × (f.begin_address < f.end_address) × (f.end_address ≤ high) × AreOrdered f.end_address high functions
+
+-- a record has an address between its begin and its end
+abbrev pub Holds : RuntimeFunction → ℕ → Type 0
+Holds f address = (f.begin_address ≤ address) × (address < f.end_address)

@@ -17,3 +17,4 @@ pub mod Steps
 pub mod EpilogList
 pub mod Frame
 pub mod FrameOf
+pub mod Chain

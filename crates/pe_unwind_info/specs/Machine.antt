@@ -50,12 +50,12 @@ pub data After : Type 0 where
   Ends : FrameEnd → After
 
 -- the word at an address of the stack, or a fault where there is none
+abbrev pub word_or : ℕ → Option ℕ → Result ℕ FrameFault
+word_or a None = Err (StackFault a)
+word_or a (Some v) = Ok v
+
 abbrev pub word_or_fault : Stack → ℕ → Result ℕ FrameFault
-word_or_fault stack a = at (stack a)
-  where
-    at : Option ℕ → Result ℕ FrameFault
-    at None = Err (StackFault a)
-    at (Some v) = Ok v
+word_or_fault stack a = word_or a (stack a)
 
 abbrev pub with_word : Result ℕ FrameFault → Registers → (ℕ → After) → After
 with_word (Ok v) regs later = later v
@@ -67,12 +67,12 @@ pop_into stack r regs =
     with_word (word_or_fault stack (stack_pointer regs)) regs (λ v. Goes (with_stack_pointer (plus (stack_pointer regs) 8) (with_general r v regs)))
 
 -- pops the return address
+abbrev pub returned_or : Registers → Result ℕ FrameFault → FrameEnd
+returned_or regs (Ok v) = Returned v (with_stack_pointer (plus (stack_pointer regs) 8) regs)
+returned_or regs (Err fault) = Faulted fault regs
+
 abbrev pub pop_return : Stack → Registers → FrameEnd
-pop_return stack regs = popped (word_or_fault stack (stack_pointer regs))
-  where
-    popped : Result ℕ FrameFault → FrameEnd
-    popped (Ok v) = Returned v (with_stack_pointer (plus (stack_pointer regs) 8) regs)
-    popped (Err fault) = Faulted fault regs
+pop_return stack regs = returned_or regs (word_or_fault stack (stack_pointer regs))
 
 abbrev pub then_goes : After → (Registers → After) → After
 then_goes (Goes regs) later = later regs

@@ -6,6 +6,7 @@ mod epilog_list;
 mod fault;
 mod frame;
 mod function_table;
+pub mod laws;
 mod little_endian;
 mod operations;
 mod registers;
@@ -17,7 +18,10 @@ mod unwind_info;
 
 pub use epilog::{FUNCTION_EPILOG_LIMIT, FunctionEpilogInstruction, InstructionParseError};
 pub use fault::FrameFault;
-pub use function_table::{FunctionTableEntries, RuntimeFunction, U32, lookup_is_determined};
+pub use function_table::{
+    FunctionTableEntries, RuntimeFunction, U32, lookup_finds_the_holder, lookup_is_determined,
+    lookup_of_is_a_lookup,
+};
 pub use operations::{
     EpilogHeader, EpilogInformation, StackFrameOffset, UnwindCode, UnwindOperation,
     UnwindOperationCode, UnwindOperations,

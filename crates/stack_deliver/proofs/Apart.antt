@@ -160,11 +160,11 @@ shared_alone ms start end o apart some is first = first ∙ (ap (λ o. by_last o
 
 -- ---- one more module
 
-record ShareNone (m : Module) (ms : List Module) (start end : ℕ) : Type 0 where
+pub record ShareNone (m : Module) (ms : List Module) (start end : ℕ) : Type 0 where
   pub first : shares m start end ≡ false
   pub rest : lowest_shared ms start end ≡ None
 
-share_none : (m : Module) (ms : List Module) (start end : ℕ) → lowest_shared (m ∷ ms) start end ≡ None → ShareNone m ms start end
+pub share_none : (m : Module) (ms : List Module) (start end : ℕ) → lowest_shared (m ∷ ms) start end ≡ None → ShareNone m ms start end
 share_none m ms start end e = go (shares m start end) refl
   where
     some : (o : Option ℕ) → lower m.start o ≡ None → ⊥
@@ -175,7 +175,7 @@ share_none m ms start end e = go (shares m start end) refl
     go true is = absurd (some (lowest_shared ms start end) (rw is at e))
     go false is = record { first = is; rest = rw is at e }
 
-apart_from : (m : Module) (start end : ℕ) → shares m start end ≡ false → (end ≤ m.start) ⊎ (m.end ≤ start)
+pub apart_from : (m : Module) (start end : ℕ) → shares m start end ≡ false → (end ≤ m.start) ⊎ (m.end ≤ start)
 apart_from m start end h = elim (leb_tells end m.start) [
   | inl p ↦ inl p.1
   | inr p ↦ elim (leb_tells m.end start) [

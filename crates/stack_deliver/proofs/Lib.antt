@@ -24,5 +24,12 @@ pub mod Returns
 pub mod StepAnswers
 pub mod StepParts
 pub mod StepUndone
+pub mod StoppedUndone
+pub mod StoppedWalk
+pub mod StopSamples
 pub mod Turns
 pub mod Unread
+mod Holding
+mod Making
+mod IndexFinds
+pub mod SameAnswers

@@ -3,20 +3,25 @@ use Rattle.std.specs.Prelude.{ℕ, List, [], ◌∷◌, ◌++◌, replicate, Non
 use Rattle.memory_image.specs.Image.{Span}
 use Rattle.unwind_arch.specs.declared.x86_64.Context.{Context}
 use Rattle.fde_finders.specs.declared.custom.FrameInfoKind.TheVariants.{EhFrame}
-use Rattle.stack_deliver.specs.Modules.{SpaceValue}
+use Rattle.stack_deliver.specs.declared.space.Module.{Module}
+use Rattle.stack_deliver.specs.Modules.{SpaceValue, unprepared}
 
 -- stopped after a call that returns to an address
 abbrev pub after_call : ℕ → Context
 after_call ra = record { registers = replicate 16 0; ra = ra; mcxsr = 0; fcw = 0 }
 
 abbrev pub nowhere : SpaceValue
-nowhere = record { image = []; modules = [] }
+nowhere = record { image = []; modules = []; added = [] }
+
+abbrev pub module_there : Module
+module_there = record { start = 0x1000; end = 0x1010; frame = record { text_base = None; kind = EhFrame 0x2000 } }
 
 -- a module at 0x1000, whose frame table has these bytes
 abbrev pub held_by : List ℕ → SpaceValue
 held_by table = record {
   image = record { start = 0x2000; bytes = table } ∷ [];
-  modules = record { start = 0x1000; end = 0x1010; frame = record { text_base = None; kind = EhFrame 0x2000 } } ∷ [];
+  modules = module_there ∷ [];
+  added = unprepared module_there ∷ [];
 }
 
 -- the list's end

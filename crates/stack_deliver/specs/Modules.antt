@@ -2,15 +2,26 @@
 use Rattle.std.specs.Prelude.{ℕ, ◌<◌, ◌≤◌, Bool, ◌&&◌, List, [], ◌∷◌, Option, Some, None, nat_le, nat_lt, map, if◌then◌else◌}
 use Rattle.std.specs.Option.{option_map}
 use Rattle.memory_image.specs.Image.{Span, lower}
+use Rattle.eh_frame.specs.Index.{Index}
 use Rattle.stack_deliver.specs.declared.space.SpaceError.{SpaceError}
 use Rattle.stack_deliver.specs.declared.space.SpaceError.TheVariants.{Wraps, Overlap}
 use Rattle.stack_deliver.specs.declared.space.Module.{Module}
 use Rattle.stack_deliver.specs.declared.space.Extent.{Extent}
 
--- memory by address, and the modules in it by ascending start
+-- a module that was added, and the index of its frame table, where the module is prepared
+pub record Added : Type 0 where
+  pub holder : Module
+  pub index : Option Index
+
+abbrev pub unprepared : Module → Added
+unprepared m = record { holder = m; index = None }
+
+-- memory by address, the modules in it by ascending start, and the same modules in the order in which they were added, with their
+-- indexes
 pub record SpaceValue : Type 0 where
   pub image : List Span
   pub modules : List Module
+  pub added : List Added
 
 -- the address lies in the module
 abbrev pub contains : Module → ℕ → Bool

@@ -75,31 +75,6 @@ caller_at image c (Some f) = result_map Some (caller_by image c f)
 unfoldable pub step_of : SpaceValue → Context → Bool → Result (Option Stepped) DeliverError
 step_of space c interrupted = frame_of space c interrupted >>= caller_at space.image c
 
--- ---- its counted steps
-
--- how many pairs of a header's table are searched in a module: none where it names a frame table
-abbrev pub pairs_in_module : List Span → Option Module → ℕ
-pairs_in_module image None = 0
-pairs_in_module image (Some m) = pairs_by m.frame image
-
--- the same for the frame that a context shows: none at a return address of 0
-abbrev pub pairs_at : SpaceValue → Context → Bool → ℕ
-pairs_at space c interrupted =
-    if c.ra == 0 then 0
-    else pairs_in_module space.image (module_at space.modules (address_of_call c.ra interrupted))
-
--- A count of steps rises by no more than a search among so many pairs takes: as many as their number has binary digits.
-abbrev pub RisesBySearch : ℕ → ℕ → ℕ → Type 0
-RisesBySearch pairs old new = (taken : ℕ) × (new ≡ old + taken) × AreWithinDigits pairs taken
-
--- the number of pairs of each module's header can be written with so many binary digits: with none where each names a frame table
-abbrev pub CountsWithin : SpaceValue → ℕ → Type 0
-CountsWithin space digits = AllByRecursion (λ (m : Module). pairs_by m.frame space.image < 2 ^ digits) space.modules
-
--- A count of steps rises by no more than so many searches take, whichever modules of a space they are in.
-abbrev pub RisesWithin : SpaceValue → ℕ → ℕ → ℕ → Type 0
-RisesWithin space searches old new = (digits : ℕ) → CountsWithin space digits → new ≤ old + searches * digits
-
 -- ---- the same in the words of its answers
 
 -- A scan of a module's frame table finds no description for an address: none contains it, or an entry before can't be read.

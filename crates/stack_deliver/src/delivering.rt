@@ -6,7 +6,7 @@ ghost use Rattle.unwind_definitions.specs.Function.{Function};
 ghost use Rattle.unwind_definitions.specs.Chain.{Call};
 ghost use Rattle.stack_deliver.specs.Causes.{IsRefused, EndsBy};
 ghost use Rattle.stack_deliver.specs.Delivering.{Delivers, delivery_of};
-ghost use Rattle.stack_deliver.specs.Stepping.{RisesWithin};
+ghost use Rattle.stack_deliver.specs.Ticking.{RisesWithin};
 ghost use Rattle.stack_deliver.specs.Walking.{StartsValidChain, ShowsDelivery, IsDelivered, delivered_in};
 
 use crate::delivery::{DeliverError, Delivery, Ending, Outcome, Stepped};

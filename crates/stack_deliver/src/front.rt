@@ -9,7 +9,8 @@ ghost use Rattle.fde_finders.specs.Finding.{table_bases};
 ghost use Rattle.stack_deliver.specs.Delivering.{line_of};
 ghost use Rattle.stack_deliver.specs.FrontSample.{after_call, bad_row, cut_entry, held_by, no_entry, nowhere};
 ghost use Rattle.stack_deliver.specs.Fronts.{ComesTo, EndsFor, front_of, input_of, IsUndescribed, IsUndescribedIn, stopped_by};
-ghost use Rattle.stack_deliver.specs.Stepping.{FindsNone, RisesWithin, step_of};
+ghost use Rattle.stack_deliver.specs.Stepping.{FindsNone, step_of};
+ghost use Rattle.stack_deliver.specs.Ticking.{RisesWithin};
 
 use crate::delivery::{DeliverError, Stepped};
 use crate::passes::outwards;
@@ -215,7 +216,7 @@ pub fn walk_front_into<L: Ledger>(
     ensures no_cleanup { room.new.trail ≡ [] }
     ensures places { room.new.limit ≡ room.old.limit }
     // As many searches as the limit allows states; none is counted where each module names a frame
-    // table.
+    // table and none is prepared.
     ensures ticks { RisesWithin space.now limit steps.old.number steps.new.number }
 {
     fronted(space, start, interrupted, limit, room, steps)

@@ -1,28 +1,65 @@
 //! Delivers an exception over a stack that lies in an image of memory: the modules that the image
 //! holds, the step from a frame to its caller, the states that are visited, the cleanups that run,
 //! and the landing at the handler.
+//!
+//! The frames of a stack, from memory that is at hand:
+//!
+//! ```rust
+//! use memory_image::MemoryImage;
+//! use stack_deliver::{Context, FrameInfo, FrameInfoKind, Space, walk};
+//!
+//! let mut image = MemoryImage::new(rt.alloc());
+//! image.add(0x7000, &stack)?;
+//! image.add(0x50_0000, &eh_frame)?;
+//! let mut space = Space::new(rt.alloc(), image);
+//! let kind = FrameInfoKind::EhFrame(0x50_0000);
+//! space.add_elf(
+//!     0x40_1000,
+//!     0x40_1010,
+//!     FrameInfo {
+//!         text_base: None,
+//!         kind,
+//!     },
+//! )?;
+//! let start = Context {
+//!     ra: 0x40_1006,
+//!     registers,
+//!     ..Context::default()
+//! };
+//! let visited = walk(rt.alloc(), &space, &start, true, 1_000)?;
+//! for i in 0..visited.len() {
+//!     if let Some(context) = visited.get(i) {
+//!         println!(rt; "{:#x}", context.ra)?;
+//!     }
+//! }
+//! ```
 #![tactic(auto)]
 
 mod delivering;
 mod delivery;
 mod front;
+mod laws;
 mod passes;
 mod personality;
+mod prepared;
 mod resumes;
 mod room;
 mod space;
 mod stepping;
+mod stops;
 mod walking;
 
 pub use delivering::{deliver, deliver_into};
 pub use delivery::{DeliverError, Delivery, Ending, Outcome, Stepped, Trail};
 pub use eh_frame::Error;
 pub use fde_finders::{FrameInfo, FrameInfoKind};
+pub use laws::answers_stay_as_modules_are_prepared;
 pub use front::{Front, each_reason_is_given, walk_front_into};
 pub use personality::{a_handler_is_asked_for, deliveries_are_passes, passes_ask_the_personality};
 pub use resumes::{Resumes, first_entry_counts};
 pub use room::Room;
 pub use space::{Module, Space, SpaceError};
 pub use stepping::step;
+pub use stops::{stops_after_each_step_are_described, walks_from_stops_are_described};
 pub use unwind_arch::x86_64::Context;
 pub use walking::{Visited, walk, walk_into};

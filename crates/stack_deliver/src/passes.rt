@@ -2,22 +2,20 @@
 // cleanups on the way to it. Itanium C++ ABI, exception handling, level I, section 1.3.
 ghost use Rattle.std.specs.Prelude.{◌≡◌, ◌≤◌, ◌<◌, ◌+◌, ◌*◌, ◌++◌, ◌∷◌, Err, [], true, false, length, Some, OnOk, OnErr, IfOk};
 ghost use Rattle.std.specs.Option.{option_map};
-ghost use Rattle.fde_finders.specs.Answered.{answered};
 ghost use Rattle.unwinding_frames.specs.Languages.{action_of};
 ghost use Rattle.stack_deliver.specs.Passes.{asked_of, stops, stop_of, past_arguments, turn_for, line_for, kept_at, pad_of, enters, end_by, cleanup_of, cleanup_at, resume_at, passes_of};
 ghost use Rattle.stack_deliver.specs.Fronts.{reached_by, turned_from, IsReached};
-ghost use Rattle.stack_deliver.specs.Passing.{turn_shown, stop_shown, end_shown, visits, visited_with, StaysAt, IsOutward, IsPassed};
+ghost use Rattle.stack_deliver.specs.Passing.{seen, turn_shown, stop_shown, end_shown, visits, visited_with, StaysAt, IsOutward, IsPassed};
 ghost use Rattle.stack_deliver.specs.Results.{result_map};
 ghost use Rattle.stack_deliver.specs.Resumes.{return_of};
-ghost use Rattle.stack_deliver.specs.Stepping.{pairs_at, RisesBySearch, RisesWithin};
+ghost use Rattle.stack_deliver.specs.Ticking.{RisesWithin, TicksAt};
 
 use crate::delivery::{DeliverError, Ending, Outcome, Stepped, Trail};
 use crate::resumes::Resumes;
 use crate::room::Room;
 use crate::space::Space;
-use crate::stepping::{frame_at, leave};
+use crate::stepping::{FoundFrame, frame_at, leave};
 use eh_frame::RowRoom;
-use fde_finders::FDESearchResult;
 use memory_image::{Ledger, MemoryImage, Steps};
 use unwind_arch::x86_64::{Context, RAX, RDX, RSP};
 use unwinding_frames::{EhAction, eh_action_of, personality_of};
@@ -107,14 +105,15 @@ enum Turn {
 fn asked(
     image: &MemoryImage<'_>,
     state: &Stepped,
-    found: &FDESearchResult<'_>,
+    frame: &FoundFrame<'_, '_>,
 ) -> Result<EhAction, DeliverError>
     ensures { result_map action_of result ≡ asked_of image.now state.now.context state.now.signal
-        (answered found.now) }
+        (seen frame.now) }
 {
-    match personality_of(found, image)? {
+    let found = frame.found();
+    match personality_of(&found, image)? {
         None => Ok(EhAction::None),
-        Some(_) => Ok(eh_action_of(found, image, state.address()).unwrap_or(EhAction::Terminate)),
+        Some(_) => Ok(eh_action_of(&found, image, state.address()).unwrap_or(EhAction::Terminate)),
     }
 }
 
@@ -123,15 +122,15 @@ fn stop_action(
     phase: Option<Phase>,
     image: &MemoryImage<'_>,
     state: &Stepped,
-    found: &FDESearchResult<'_>,
+    frame: &FoundFrame<'_, '_>,
 ) -> Result<Option<EhAction>, DeliverError>
     ensures { result_map (option_map action_of) result ≡ stop_of phase image.now state.now.context
-        state.now.signal (answered found.now) }
+        state.now.signal (seen frame.now) }
 {
     let Some(phase) = phase else {
         return Ok(None);
     };
-    let action = asked(image, state, found)?;
+    let action = asked(image, state, frame)?;
     if phase.stops(action) {
         Ok(Some(action))
     } else {
@@ -153,17 +152,17 @@ fn meet<'a, L: Ledger>(
         state.old.context state.old.signal }
     ensures stays { IfOk result (λ turn. StaysAt turn state.old state.new) }
     ensures unmoved { OnErr result (state.new ≡ state.old) }
-    ensures ticks { RisesBySearch (pairs_at space.now state.old.context state.old.signal)
-        steps.old.number steps.new.number }
+    ensures ticks { TicksAt space.now state.old.context state.old.signal steps.old.number
+        steps.new.number }
 {
-    let Some(found) = frame_at(space, state, rows, steps)? else {
+    let Some(frame) = frame_at(space, state, rows, steps)? else {
         return Ok(Turn::End);
     };
     let image = space.image();
-    if let Some(action) = stop_action(phase, image, state, &found)? {
-        return Ok(Turn::Stop(action, rows.row().saved_args_size()));
+    if let Some(action) = stop_action(phase, image, state, &frame)? {
+        return Ok(Turn::Stop(action, frame.arguments(rows)));
     }
-    leave(image, state, &found, rows)?;
+    leave(image, state, &frame, rows)?;
     Ok(Turn::Caller)
 }
 

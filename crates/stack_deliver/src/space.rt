@@ -1,12 +1,15 @@
 // An image of memory, and the modules that lie in it.
-ghost use Rattle.std.specs.Prelude.{◌≡◌, ◌<◌, [], MatchOption, IsOkUnless, OnOk, OnErr};
+ghost use Rattle.std.specs.Prelude.{◌≡◌, ◌<◌, ◌∷◌, ◌++◌, [], None, IfOk, IfSome, MatchOption, IsOkUnless, OnOk, OnErr};
+ghost use Rattle.std.specs.List.{Contains};
+ghost use Rattle.std.specs.Option.{option_map};
 ghost use Rattle.memory_image.specs.Image.{IsLaidOut};
-ghost use Rattle.stack_deliver.specs.Modules.{module_refusal, lowest_shared, module_at, with_module, modules_in, AreApart};
+ghost use Rattle.stack_deliver.specs.Modules.{module_refusal, lowest_shared, module_at, module_of, unprepared, with_module, modules_in, AreApart};
 ghost use Rattle.stack_deliver.specs.Modules.{last_below, first_between};
 
+use crate::prepared::{Left, MOST, PreparedTable, keep, tables_for};
 use fde_finders::FrameInfo;
 use memory_image::MemoryImage;
-use std::alloc::Global;
+use std::alloc::{AllocError, Global};
 use std::collections::BTreeMap;
 use std::marker::Model;
 
@@ -26,6 +29,15 @@ pub struct Module {
 struct Extent {
     end: u64,
     frame: FrameInfo,
+    // in the order of adding
+    place: usize,
+}
+
+/// A module that was added, and its frame table with an index, where it is prepared.
+#[derive(Drop)]
+pub(crate) struct Held<'a> {
+    pub(crate) holder: Module,
+    pub(crate) table: Option<PreparedTable<'a>>,
 }
 
 /// Why a module isn't taken.
@@ -44,34 +56,54 @@ pub enum SpaceError {
 
 /// An image of memory and the modules that lie in it, no two of which share an address.
 ///
-/// Contracts see the image and the modules by ascending start.
+/// A module is prepared where its frame table has an index, which [`Space::prepare`] makes. Steps,
+/// walks and deliveries answer the same with it and without.
+///
+/// Contracts see the image, the modules by ascending start, and the modules in the order in which
+/// they were added, with their indexes.
 #[derive(Drop)]
 pub struct Space<'a> {
     image: MemoryImage<'a>,
+    // by start
     modules: BTreeMap<u64, Extent>,
+    // in the order of adding
+    added: Vec<Held<'a>>,
+    left: Left,
+    alloc: Global,
 }
 
 impl<'a> Model for Space<'a> {
-    ghost use Rattle.memory_image.specs.Image.{IsLaidOut};
-    ghost use Rattle.stack_deliver.specs.Modules.{SpaceValue, AreApart, modules_in};
+    ghost use Rattle.std.specs.Prelude.{map};
+    ghost use Rattle.stack_deliver.specs.Held.{IsSpace, added_of};
+    ghost use Rattle.stack_deliver.specs.Modules.{SpaceValue, modules_in};
 
     ghost Value = { SpaceValue };
 
-    ghost view = { λ s. record { image = s.image; modules = modules_in s.modules.entries } };
+    ghost view = { λ s. record {
+      image = s.image;
+      modules = modules_in s.modules.entries;
+      added = map added_of s.added.items;
+    } };
 
-    ghost invariant = { λ s. AreApart 0 (modules_in s.modules.entries) × IsLaidOut 0 s.image };
+    ghost invariant = { λ s. IsSpace s.image s.modules.entries s.added.items s.left };
 }
 
 impl<'a> Space<'a> {
+    ghost use Rattle.stack_deliver.specs.Held.{IsHeld, added_of, holder_of};
+    ghost use Rattle.stack_deliver.specs.Preparing.{Prepares, index_at, prepared_len};
+
     /// A space without modules. It takes no memory yet.
     pub fn new(alloc: Global, image: MemoryImage<'a>) -> Space<'a>
-        ensures { result ≡ record { image = image.entry; modules = [] } }
+        ensures { result ≡ record { image = image.entry; modules = []; added = [] } }
     {
         // A look into it tells the proof that the image is laid out.
         let _ = image.from(0);
         Space {
             image,
             modules: BTreeMap::new(alloc),
+            added: Vec::new(alloc),
+            left: MOST,
+            alloc,
         }
     }
 
@@ -89,6 +121,8 @@ impl<'a> Space<'a> {
             (self.new ≡ record self.old {
               modules = with_module (record { start = start; end = end; frame = frame })
                   self.old.modules;
+              added = self.old.added
+                  ++ unprepared (record { start = start; end = end; frame = frame }) ∷ [];
             }) }
         ensures unchanged { OnErr result (self.new ≡ self.old) }
     {
@@ -98,9 +132,62 @@ impl<'a> Space<'a> {
         if let Some(shared) = lowest_shared(&self.modules, start, end) {
             return Err(SpaceError::Overlap(shared));
         }
-        match self.modules.insert(start, Extent { end, frame }) {
-            Ok(_) => Ok(()),
+        if self.added.reserve(1).is_err() {
+            return Err(SpaceError::NoMemory);
+        }
+        let place = self.added.len();
+        match self.modules.insert(start, Extent { end, frame, place }) {
+            Ok(_) => {
+                self.added.push_reserved(Held {
+                    holder: Module { start, end, frame },
+                    table: None,
+                });
+                Ok(())
+            }
             Err(_) => Err(SpaceError::NoMemory),
+        }
+    }
+
+    /// Makes indexes of the frame tables of modules, so that each look-up is a search and no program
+    /// is run: in the order of adding, of each module that isn't prepared yet and that can be. It
+    /// answers how many modules this call prepared.
+    ///
+    /// A module can be prepared where
+    ///
+    /// - it names its frame table itself; or by a header that can be read, whose frame table's
+    ///   address is mapped, and whose table lists exactly the descriptions whose ranges aren't
+    ///   empty, by ascending start;
+    /// - and the frame table has an index: each entry can be read, no two ranges share an address,
+    ///   and one holds a byte;
+    /// - and the index keeps no more than what the others have left of 1,048,576 rows and 4,194,304
+    ///   rules of registers in the whole space.
+    ///
+    /// Each frame table is read once, and each of its programs is run once.
+    ///
+    /// # Errors
+    ///
+    /// `AllocError` where memory ran out. The space is then as before.
+    pub fn prepare(&mut self) -> Result<u32, AllocError>
+        ensures prepares { IfOk result (λ count. Prepares self.old count self.new) }
+        ensures unchanged { OnErr result (self.new ≡ self.old) }
+    {
+        let (made, left) = tables_for(self.alloc, &self.image, &self.added, self.left)?;
+        let count = keep(&mut self.added, made);
+        self.left = left;
+        Ok(count)
+    }
+
+    /// How many descriptions the index of the module has that holds the address. 0 exactly where no
+    /// prepared module holds it.
+    pub fn prepared_len(&self, address: u64) -> u64
+        ensures { result ≡ prepared_len self.now address }
+    {
+        match self.held_at(address) {
+            Some(held) => match &held.table {
+                Some(table) => table.index.len(),
+                None => 0,
+            },
+            None => 0,
         }
     }
 
@@ -108,10 +195,24 @@ impl<'a> Space<'a> {
     pub fn module_at(&self, address: u64) -> Option<Module>
         ensures { result ≡ module_at self.now.modules address }
     {
+        match self.held_at(address) {
+            Some(held) => Some(held.holder),
+            None => None,
+        }
+    }
+
+    /// The module that contains the address, with its table, where it is prepared.
+    pub(crate) fn held_at(&self, address: u64) -> Option<&Held<'a>>
+        ensures module { option_map (λ held. holder_of held.now) result ≡
+            module_at self.now.modules address }
+        ensures index { MatchOption result (index_at self.now.added address ≡ None)
+            (λ held. index_at self.now.added address ≡ (added_of held.now).index) }
+        ensures table { IfSome result (λ held. IsHeld self.now.image held.now) }
+    {
         match last_below(&self.modules, address) {
-            Some(module) => {
-                if address < module.end {
-                    Some(module)
+            Some((_, extent)) => {
+                if address < extent.end {
+                    Some(&self.added[extent.place])
                 } else {
                     None
                 }
@@ -131,15 +232,13 @@ impl<'a> Space<'a> {
 }
 
 /// The last module that starts at or below the address.
-fn last_below(modules: &BTreeMap<u64, Extent>, address: u64) -> Option<Module>
-    ensures { result ≡ last_below (modules_in modules.now.entries) address }
+fn last_below(modules: &BTreeMap<u64, Extent>, address: u64) -> Option<(u64, Extent)>
+    ensures last { option_map module_of result ≡ last_below (modules_in modules.now.entries)
+        address }
+    ensures stands { IfSome result (λ entry. Contains modules.now.entries entry) }
 {
     match modules.range(..=address).next_back() {
-        Some((start, extent)) => Some(Module {
-            start: *start,
-            end: extent.end,
-            frame: extent.frame,
-        }),
+        Some((start, extent)) => Some((*start, *extent)),
         None => None,
     }
 }
@@ -161,9 +260,9 @@ fn lowest_shared(modules: &BTreeMap<u64, Extent>, start: u64, end: u64) -> Optio
     requires some { start < end }
     ensures { result ≡ lowest_shared (modules_in modules.now.entries) start end }
 {
-    if let Some(below) = last_below(modules, start) {
-        if start < below.end {
-            return Some(below.start);
+    if let Some((first, extent)) = last_below(modules, start) {
+        if start < extent.end {
+            return Some(first);
         }
     }
     first_between(modules, start, end)

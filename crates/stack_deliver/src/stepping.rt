@@ -1,28 +1,37 @@
 // From a frame to its caller, by the frame tables of the module that holds it.
-ghost use Rattle.std.specs.Prelude.{◌≡◌, ◌↔◌, ℕ, List, Some, None, Ok, Err, IsTrue, IsFalse, OnErr};
-ghost use Rattle.memory_image.specs.Image.{word_at, IsLaidOut};
+ghost use Rattle.std.specs.Prelude.{◌≡◌, ◌≢◌, ◌↔◌, ◌<◌, ℕ, List, length, Some, None, Ok, Err, IsTrue, IsFalse, OnErr};
+ghost use Rattle.memory_image.specs.Image.{Span, word_at, IsLaidOut};
 ghost use Rattle.unwind_definitions.specs.declared.error.Error.{Error as Fault};
 ghost use Rattle.unwind_definitions.specs.State.{State, Shows};
 ghost use Rattle.unwind_definitions.specs.Function.{Function};
 ghost use Rattle.unwind_definitions.specs.Chain.{Call};
 ghost use Rattle.unwind_definitions.specs.LanguageSearch.{address_of_call};
-ghost use Rattle.unwind_definitions.specs.Row.{RowInstructions};
+ghost use Rattle.unwind_definitions.specs.Row.{RowInstructions, argument_size};
 ghost use Rattle.unwind_definitions.specs.Caller.{x86_64, caller_of};
 ghost use Rattle.frame_rows.specs.Rows.{IsRowOf};
 ghost use Rattle.unwind_definitions.specs.Expressions.{evaluation};
 ghost use Rattle.unwinding_frames.specs.Calling.{columns_given};
 ghost use Rattle.unwind_arch.specs.Contexts.{columns_of};
+ghost use Rattle.eh_frame.specs.Index.{AreFewSteps};
+ghost use Rattle.fde_finders.specs.declared.custom.FrameInfo.{FrameInfo as Tables};
+ghost use Rattle.fde_finders.specs.Answered.{answered};
 ghost use Rattle.fde_finders.specs.Named.{found_by, pairs_by};
-ghost use Rattle.stack_deliver.specs.Modules.{AreApart, contains};
+ghost use Rattle.frame_rows.specs.RowValue.{RowValue};
+ghost use Rattle.stack_deliver.specs.Held.{IsHeld, IsTableOf, added_of};
+ghost use Rattle.stack_deliver.specs.Modules.{AreApart};
+ghost use Rattle.stack_deliver.specs.Preparing.{prepared_len};
 ghost use Rattle.stack_deliver.specs.Processes.{process_of};
 ghost use Rattle.stack_deliver.specs.Passing.{IsFrameOf, GivesFrameAt};
+ghost use Rattle.stack_deliver.specs.Ticking.{IsScannedAt, RisesBySearch, TicksAt, TicksIn, searched_at};
 ghost use Rattle.stack_deliver.specs.Results.{result_map};
-ghost use Rattle.stack_deliver.specs.Stepping.{FrameAt, frame_by, frame_in, frame_of, caller_by, step_of, pairs_at, GivesCaller, EndsAt, FaultsAt, RisesBySearch, ReadIsUnmapped};
+ghost use Rattle.stack_deliver.specs.Stepping.{FrameAt, frame_by, frame_in, frame_of, caller_by, step_of, GivesCaller, EndsAt, FaultsAt, ReadIsUnmapped};
 ghost use Rattle.stack_deliver.specs.Walking.{IsDescribedCall, Undone};
+ghost use Rattle.stack_deliver.specs.Stopped.{IsDescribedStop};
 
 use crate::delivery::{DeliverError, Stepped};
-use crate::space::{Module, Space};
-use eh_frame::RowRoom;
+use crate::prepared::PreparedTable;
+use crate::space::{Held, Space};
+use eh_frame::{PreparedFrame, RowRef, RowRoom};
 use fde_finders::{FDESearchResult, FrameInfo, find_named};
 use memory_image::{Ledger, MemoryImage, Steps};
 use unwind_arch::x86_64::{Arch, Context};
@@ -37,14 +46,85 @@ impl Stepped {
     }
 }
 
+/// A frame of the stack: what was found for the address asked of it.
+#[derive(Drop)]
+pub(crate) enum FoundFrame<'f, 'a> {
+    /// By a search of a module's tables. Its row was made in the room for rows.
+    Searched(FDESearchResult<'a>),
+    /// By the index of a prepared module, which lends its row.
+    Prepared(&'f PreparedTable<'a>, PreparedFrame<'f, 'a>),
+}
+
+impl<'f, 'a> FoundFrame<'f, 'a> {
+    ghost use Rattle.stack_deliver.specs.Passing.{seen};
+
+    /// The description, what its pointers may be relative to, and its table.
+    pub(crate) fn found(&self) -> FDESearchResult<'a>
+        ensures { answered result ≡ seen self.now }
+    {
+        match self {
+            FoundFrame::Searched(found) => *found,
+            FoundFrame::Prepared(table, frame) => FDESearchResult {
+                fde: frame.fde(),
+                bases: table.bases,
+                eh_frame: table.frames,
+            },
+        }
+    }
+
+    /// Whether it is a signal's.
+    fn is_signal_trampoline(&self) -> bool
+        ensures { result ≡ (seen self.now).fde.cie.letters.signal }
+    {
+        match self {
+            FoundFrame::Searched(found) => found.fde.is_signal_trampoline(),
+            FoundFrame::Prepared(_, frame) => frame.is_signal_trampoline(),
+        }
+    }
+
+    /// How many bytes of the stack hold arguments that the callee removes. `rows` is the room for
+    /// rows in which it was found.
+    pub(crate) fn arguments(&self, rows: &RowRoom<'_>) -> u64
+        ensures { (f : FrameAt) → IsFrameOf self.now rows.now f → result ≡ argument_size f.run }
+    {
+        match self {
+            FoundFrame::Searched(_) => rows.row().saved_args_size(),
+            FoundFrame::Prepared(_, frame) => match frame.row() {
+                Ok(row) => row.saved_args_size(),
+                Err(_) => 0,
+            },
+        }
+    }
+
+    /// The registers of its caller. `rows` is the room for rows in which it was found.
+    fn caller(
+        &self,
+        image: &MemoryImage<'_>,
+        context: &Context,
+        rows: &RowRoom<'_>,
+    ) -> Result<Context, StepError>
+        ensures { (f : FrameAt) → IsFrameOf self.now rows.now f →
+            columns_given columns_of result ≡ caller_of x86_64 (evaluation image.now) image.now
+            (columns_of context.now) f.run }
+    {
+        match self {
+            FoundFrame::Searched(_) => caller(image, context, &rows.row()),
+            FoundFrame::Prepared(_, frame) => match frame.row() {
+                Ok(row) => caller(image, context, row),
+                Err(fault) => Err(StepError::Table(fault)),
+            },
+        }
+    }
+}
+
 /// The frame at an address of an ELF module, by its frame tables. The row is made in `rows`.
-fn elf_frame<'a, L: Ledger>(
+fn searched_frame<'f, 'a, L: Ledger>(
     image: &MemoryImage<'a>,
     address: u64,
     tables: FrameInfo,
     rows: &mut RowRoom<'a>,
     steps: &mut Steps<L>,
-) -> Result<Option<FDESearchResult<'a>>, DeliverError>
+) -> Result<Option<FoundFrame<'f, 'a>>, DeliverError>
     ensures frame { GivesFrameAt result rows.new
         (frame_by address (found_by tables image.now address)) }
     ensures ticks { RisesBySearch (pairs_by tables image.now) steps.old.number steps.new.number }
@@ -53,79 +133,104 @@ fn elf_frame<'a, L: Ledger>(
         return Ok(None);
     };
     match found.make_row(address, rows) {
-        Ok(()) => Ok(Some(found)),
+        Ok(()) => Ok(Some(FoundFrame::Searched(found))),
+        Err(fault) => Err(DeliverError::Table(fault)),
+    }
+}
+
+/// The frame at an address of a prepared module, by the index of its frame table.
+fn prepared_frame<'f, 'a, L: Ledger>(
+    table: &'f PreparedTable<'a>,
+    address: u64,
+    steps: &mut Steps<L>,
+) -> Result<Option<FoundFrame<'f, 'a>>, DeliverError>
+    ensures frame { (image : List Span) (tables : Tables) (row : RowValue) → IsLaidOut 0 image →
+        IsTableOf image tables table.now →
+        GivesFrameAt result row (frame_by address (found_by tables image address)) }
+    ensures ticks { AreFewSteps (length table.now.index.functions) steps.old.number
+        steps.new.number }
+{
+    let Some(frame) = table.index.frame(address, steps) else {
+        return Ok(None);
+    };
+    match frame.row() {
+        Ok(_) => Ok(Some(FoundFrame::Prepared(table, frame))),
         Err(fault) => Err(DeliverError::Table(fault)),
     }
 }
 
 /// The frame at an address of a module. Here the kinds of modules part.
-fn frame_in<'a, L: Ledger>(
+fn frame_in<'f, 'a, L: Ledger>(
     image: &MemoryImage<'a>,
     address: u64,
-    holder: Module,
+    holder: &'f Held<'a>,
     rows: &mut RowRoom<'a>,
     steps: &mut Steps<L>,
-) -> Result<Option<FDESearchResult<'a>>, DeliverError>
-    ensures frame { GivesFrameAt result rows.new (frame_in image.now address (Some holder)) }
-    ensures ticks { RisesBySearch (pairs_by holder.frame image.now) steps.old.number
-        steps.new.number }
+) -> Result<Option<FoundFrame<'f, 'a>>, DeliverError>
+    requires held { IsHeld image.now holder.now }
+    requires laid_out { IsLaidOut 0 image.now }
+    ensures frame { GivesFrameAt result rows.new
+        (frame_in image.now address (Some holder.now.holder)) }
+    ensures ticks { TicksIn image.now (added_of holder.now) steps.old.number steps.new.number }
 {
-    elf_frame(image, address, holder.frame, rows, steps)
+    match &holder.table {
+        Some(table) => prepared_frame(table, address, steps),
+        None => searched_frame(image, address, holder.holder.frame, rows, steps),
+    }
 }
 
-/// The frame at a state: what was found for the address asked, `None` at the end of the stack. Its
-/// row is made in `rows`.
+/// The frame at a state: what was found for the address asked, `None` at the end of the stack. A row
+/// that isn't lent by an index is made in `rows`.
 #[tactic(auto, unfolding(crate::specs::Stepping::frame_of))]
-pub(crate) fn frame_at<'a, L: Ledger>(
-    space: &Space<'a>,
+pub(crate) fn frame_at<'f, 'a, L: Ledger>(
+    space: &'f Space<'a>,
     state: &Stepped,
     rows: &mut RowRoom<'a>,
     steps: &mut Steps<L>,
-) -> Result<Option<FDESearchResult<'a>>, DeliverError>
+) -> Result<Option<FoundFrame<'f, 'a>>, DeliverError>
     ensures frame { GivesFrameAt result rows.new
         (frame_of space.now state.now.context state.now.signal) }
-    ensures ticks { RisesBySearch (pairs_at space.now state.now.context state.now.signal)
-        steps.old.number steps.new.number }
+    ensures ticks { TicksAt space.now state.now.context state.now.signal steps.old.number
+        steps.new.number }
 {
+    let image = space.image();
     let address = state.address();
-    match space.module_at(address) {
-        Some(holder) if state.context.ra != 0 => {
-            frame_in(space.image(), address, holder, rows, steps)
-        }
+    match space.held_at(address) {
+        Some(holder) if state.context.ra != 0 => frame_in(image, address, holder, rows, steps),
         _ => Ok(None),
     }
 }
 
-/// The registers of a frame's caller, by the row in `rows`.
+/// The registers of a frame's caller, by the frame's row.
 fn caller(
     image: &MemoryImage<'_>,
     context: &Context,
-    rows: &RowRoom<'_>,
+    row: &RowRef<'_, '_>,
 ) -> Result<Context, StepError>
-    ensures { (run : RowInstructions) → IsRowOf rows.now run →
+    ensures { (run : RowInstructions) → IsRowOf row.now run →
         columns_given columns_of result ≡ caller_of x86_64 (evaluation image.now) image.now
         (columns_of context.now) run }
 {
     let mut caller = *context;
-    step_by_row::<Arch>(image, &mut caller, &rows.row())?;
+    step_by_row::<Arch>(image, &mut caller, row)?;
     Ok(caller)
 }
 
-/// Puts the caller of the frame at a state in the state's place, by the row in `rows`. After a
-/// fault the state is as before.
+/// Puts the caller of the frame at a state in the state's place. After a fault the state is as
+/// before. `rows` is the room for rows in which the frame was found.
 pub(crate) fn leave(
     image: &MemoryImage<'_>,
     state: &mut Stepped,
-    found: &FDESearchResult<'_>,
+    frame: &FoundFrame<'_, '_>,
     rows: &RowRoom<'_>,
 ) -> Result<(), DeliverError>
-    ensures caller { (f : FrameAt) → IsFrameOf found.now rows.now f →
+    ensures caller { (f : FrameAt) → IsFrameOf frame.now rows.now f →
         result_map (λ done. state.new) result ≡ caller_by image.now state.old.context f }
     ensures stays { OnErr result (state.new ≡ state.old) }
 {
     *state = Stepped {
-        context: caller(image, &state.context, rows)?,
-        signal: found.fde.is_signal_trampoline(),
+        context: frame.caller(image, &state.context, rows)?,
+        signal: frame.is_signal_trampoline(),
     };
     Ok(())
 }
@@ -139,8 +244,7 @@ fn stepped<L: Ledger>(
     ensures exact { result ≡ step_of space.now context.now interrupted }
     ensures apart { AreApart 0 space.now.modules }
     ensures laid_out { IsLaidOut 0 space.now.image }
-    ensures ticks { RisesBySearch (pairs_at space.now context.now interrupted) steps.old.number
-        steps.new.number }
+    ensures ticks { TicksAt space.now context.now interrupted steps.old.number steps.new.number }
 {
     let image = space.image();
     let mut rows = RowRoom::new();
@@ -148,10 +252,10 @@ fn stepped<L: Ledger>(
         context: *context,
         signal: interrupted,
     };
-    let Some(found) = frame_at(space, &state, &mut rows, steps)? else {
+    let Some(frame) = frame_at(space, &state, &mut rows, steps)? else {
         return Ok(None);
     };
-    leave(image, &mut state, &found, &rows)?;
+    leave(image, &mut state, &frame, &rows)?;
     Ok(Some(state))
 }
 
@@ -160,7 +264,8 @@ fn stepped<L: Ledger>(
 /// The address asked is `ra`, less one unless the frame was `interrupted`: after a call the
 /// instruction that called is the one before, which may be the last of its function. The stack
 /// ends where `ra` is 0, or where the address is in no module or no description is found for it:
-/// none contains it, or an entry before can't be read. Steps are counted in the search of a
+/// none contains it, or an entry before can't be read. A prepared module is asked by its index, and
+/// answers the same. Steps are counted in the search of an index, one at least, and in that of a
 /// header's table, at most as many as its length has binary digits, and none in a scan.
 ///
 /// # Errors
@@ -189,9 +294,21 @@ pub fn step<L: Ledger>(
         IsDescribedCall (process_of space.now) functions s call →
         Shows (columns_of context.now) s → IsFalse interrupted →
         Undone result (columns_of context.now) call.caller }
-    // No step is counted where the module names a frame table.
-    ensures ticks { RisesBySearch (pairs_at space.now context.now interrupted) steps.old.number
+    // The same where the function was stopped at any instruction of its prologue or its body.
+    ensures stopped { (functions : List Function) (s : State) (call : Call) →
+        IsDescribedStop (process_of space.now) functions s call →
+        Shows (columns_of context.now) s → IsTrue interrupted →
+        Undone result (columns_of context.now) call.caller }
+    // A search takes as many steps at most as there are binary digits in the length of what is
+    // searched: the index of a prepared module, or else the table of a header.
+    ensures ticks { RisesBySearch (searched_at space.now context.now interrupted) steps.old.number
         steps.new.number }
+    // The index of a prepared module is searched, and one step at least is counted.
+    ensures prepared { let n = prepared_len space.now (address_of_call context.now.ra interrupted) in
+        context.now.ra ≢ 0 → 0 < n → AreFewSteps n steps.old.number steps.new.number }
+    // None is counted where an unprepared module names its frame table itself.
+    ensures scanned { IsScannedAt space.now context.now interrupted →
+        steps.new.number ≡ steps.old.number }
 {
     stepped(space, context, interrupted, steps)
 }

@@ -1,12 +1,13 @@
 // The states of a stack, from its innermost frame outwards.
-ghost use Rattle.std.specs.Prelude.{◌≡◌, ◌≢◌, ◌⊎◌, ◌↔◌, ◌≤◌, ℕ, List, [], None, Err, length, slice_get, IsOk, IsOkAnd, IsFalse, OnErr};
+ghost use Rattle.std.specs.Prelude.{◌≡◌, ◌≢◌, ◌⊎◌, ◌↔◌, ◌≤◌, ℕ, List, [], ◌∷◌, None, Err, length, slice_get, IsOk, IsOkAnd, IsTrue, IsFalse, OnErr};
 ghost use Rattle.memory_image.specs.Image.{word_at};
 ghost use Rattle.unwind_definitions.specs.State.{State};
 ghost use Rattle.unwind_definitions.specs.Function.{Function};
 ghost use Rattle.unwind_definitions.specs.Chain.{Call};
 ghost use Rattle.stack_deliver.specs.Delivering.{Delivers, NeedsMore, line_of};
-ghost use Rattle.stack_deliver.specs.Stepping.{RisesWithin};
+ghost use Rattle.stack_deliver.specs.Ticking.{RisesWithin};
 ghost use Rattle.stack_deliver.specs.Walking.{IsWalked, StepFails, StartsChain, ShowChain};
+ghost use Rattle.stack_deliver.specs.Stopped.{StartsStopped};
 
 use crate::delivery::{DeliverError, Stepped};
 use crate::passes::outwards;
@@ -94,8 +95,13 @@ pub fn walk_into<L: Ledger>(
     ensures chain { (functions : List Function) (s : State) (calls : List Call) →
         StartsChain space.now start.now limit functions s calls → IsFalse interrupted →
         IsOk result × ShowChain room.new.visited s calls }
+    // So is a function that was stopped at any instruction of its prologue or its body, and then
+    // the described chain that its caller begins.
+    ensures stopped { (functions : List Function) (s : State) (call : Call) (calls : List Call) →
+        StartsStopped space.now start.now limit functions s call calls → IsTrue interrupted →
+        IsOk result × ShowChain room.new.visited s (call ∷ calls) }
     // As many searches as the limit allows states; none is counted where each module names a frame
-    // table.
+    // table and none is prepared.
     ensures ticks { RisesWithin space.now limit steps.old.number steps.new.number }
 {
     // No two of its modules share an address, as a space's type says.
@@ -169,6 +175,12 @@ pub fn walk(
         StartsChain space.now start.now limit functions s calls → IsFalse interrupted →
         (result ≡ Err DeliverError.NoMemory) ⊎
         IsOkAnd result (λ visited. ShowChain visited s calls) }
+    // So is a function that was stopped at any instruction of its prologue or its body, and then
+    // the described chain that its caller begins.
+    ensures stopped { (functions : List Function) (s : State) (call : Call) (calls : List Call) →
+        StartsStopped space.now start.now limit functions s call calls → IsTrue interrupted →
+        (result ≡ Err DeliverError.NoMemory) ⊎
+        IsOkAnd result (λ visited. ShowChain visited s (call ∷ calls)) }
 {
     let mut room = Room::new(alloc, limit)?;
     walk_into(

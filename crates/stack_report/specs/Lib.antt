@@ -1,3 +1,4 @@
 pub mod Digits
 pub mod Report
 pub mod Refusals
+pub mod Summary

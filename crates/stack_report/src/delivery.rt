@@ -38,7 +38,8 @@ fn put_landing(report: &mut Report, state: &Context) -> Result<(), AllocError>
     report.end_line()
 }
 
-fn put_outcome(report: &mut Report, outcome: Outcome) -> Result<(), AllocError>
+/// Puts the line that says how a delivery ended last.
+pub(crate) fn put_outcome(report: &mut Report, outcome: Outcome) -> Result<(), AllocError>
     ensures { OnOk result (report.new ≡ report.old ++ outcome_line outcome) }
 {
     report.put("outcome ")?;

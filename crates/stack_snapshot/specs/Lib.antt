@@ -6,3 +6,5 @@ pub mod Answers
 pub mod Owned
 pub mod Names
 pub mod Origins
+pub mod Parts
+pub mod Described

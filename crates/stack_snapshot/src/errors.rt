@@ -4,6 +4,7 @@ ghost use Rattle.stack_snapshot.specs.declared.errors.SnapshotError.TheVariants.
 ghost use Rattle.stack_snapshot.specs.Names.{field_name};
 
 use std::alloc::{AllocError, AllocFailed};
+use std::fmt;
 
 /// A part of a snapshot, in the order in which faults are looked for.
 #[derive(Clone, Copy, Debug, PartialEq, Eq)]
@@ -47,14 +48,24 @@ impl Field {
     }
 }
 
+impl fmt::Display for Field {
+    /// The part's name.
+    fn fmt<W: fmt::Write>(&self, f: &mut fmt::Formatter<W>) -> fmt::Result {
+        f.write_str(self.name())
+    }
+}
+
 /// Why bytes are no snapshot.
-#[derive(Clone, Copy, Debug, PartialEq, Eq)]
+#[derive(Clone, Copy, Debug, PartialEq, Eq, thiserror::Error)]
 pub enum SnapshotError {
     /// Memory ran out.
+    #[error("out of memory")]
     NoMemory,
     /// The bytes are no JSON text, or arrays and objects are nested more than 127 deep.
+    #[error("the bytes are no JSON text, or it is nested more than 127 deep")]
     NotJson,
     /// The JSON value is no snapshot; this is its first faulty field.
+    #[error("the snapshot's field {0} is missing or faulty")]
     Bad(Field),
 }
 

@@ -1,15 +1,40 @@
 //! Reads a snapshot of a stopped thread from JSON: regions of memory, the modules that lie in them, the
 //! registers from which the stack is unwound, and the delivery that is asked for. docs/FORMATS.md has
-//! the format.
+//! the format. `SnapshotParts` makes one without JSON.
+//!
+//! The report of the walk of a snapshot:
+//!
+//! ```rust
+//! use stack_deliver::walk;
+//! use stack_report::walk_report_of;
+//! use stack_snapshot::read_snapshot;
+//! use std::{fs, str};
+//!
+//! let text = fs::read(rt, "pushed_rbx.json")?;
+//! let snapshot = read_snapshot(rt.alloc(), &text)?;
+//! let space = snapshot.space(rt.alloc())?;
+//! let start = snapshot.start();
+//! let visited = walk(
+//!     rt.alloc(),
+//!     &space,
+//!     &start,
+//!     snapshot.interrupted(),
+//!     snapshot.limit(),
+//! )?;
+//! let report = walk_report_of(rt.alloc(), &visited)?;
+//! print!(rt; "{}", str::from_utf8(report.bytes())?)?;
+//! ```
 #![tactic(auto)]
 
 mod errors;
 mod fields;
 mod origins;
+mod parts;
 mod reading;
 mod snapshot;
 
 pub use errors::{Field, SnapshotError};
 pub use origins::{Origin, Origins};
+pub use parts::SnapshotParts;
 pub use reading::{read_named_snapshot, read_snapshot};
-pub use snapshot::Snapshot;
+pub use snapshot::{Region, Snapshot};

@@ -13,9 +13,8 @@ ghost use Rattle.stack_snapshot.specs.Owned.{span_of, spans_of};
 use crate::errors::{Field, SnapshotError};
 use crate::fields::{as_word, has_float, number_at, word_at, word_or_zero_at};
 use crate::origins::{Origins, origins_of};
-use crate::snapshot::{Region, Snapshot, image_of_regions, space_of_modules};
+use crate::snapshot::{Region, Snapshot, taken_modules, taken_regions};
 use hex::FromHexError;
-use memory_image::MemoryImage;
 use serde_json::Value;
 use stack_deliver::{Context, FrameInfo, FrameInfoKind, Module, Resumes};
 use std::alloc::Global;
@@ -69,11 +68,7 @@ fn regions_of(alloc: Global, value: &Value) -> Result<Vec<Region>, SnapshotError
         .and_then(Value::as_array)
         .ok_or(SnapshotError::Bad(Field::Regions))?;
     let regions = region_list(alloc, items)?;
-    match image_of_regions(alloc, &regions)? {
-        Some(_) => {}
-        None => return Err(SnapshotError::Bad(Field::Regions)),
-    }
-    Ok(regions)
+    taken_regions(alloc, regions)
 }
 
 /// The base of pointers that are relative to the text, where it is given.
@@ -150,11 +145,7 @@ fn modules_of(alloc: Global, value: &Value) -> Result<Vec<Module>, SnapshotError
         .and_then(Value::as_array)
         .ok_or(SnapshotError::Bad(Field::Modules))?;
     let modules = module_list(alloc, items)?;
-    match space_of_modules(alloc, MemoryImage::new(alloc), &modules)? {
-        Some(_) => {}
-        None => return Err(SnapshotError::Bad(Field::Modules)),
-    }
-    Ok(modules)
+    taken_modules(alloc, modules)
 }
 
 /// The general registers by their columns, 0 where a word is missing.

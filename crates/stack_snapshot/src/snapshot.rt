@@ -1,8 +1,12 @@
 // A snapshot: memory by regions, the modules in it, and a delivery to make.
-ghost use Rattle.std.specs.Prelude.{◌≡◌, IfOk, MatchOption, true, false, []};
+ghost use Rattle.std.specs.Prelude.{◌≡◌, IfOk, MatchOption, map, true, false, []};
+ghost use Rattle.stack_deliver.specs.Modules.{unprepared};
+ghost use Rattle.stack_snapshot.specs.Answers.{Gives};
 ghost use Rattle.stack_snapshot.specs.Content.{image_of, modules_after, space_of, takes_regions, takes_modules};
 ghost use Rattle.stack_snapshot.specs.Owned.{spans_of};
+ghost use Rattle.stack_snapshot.specs.Snapshot.{needs, if_taken, if_spaced};
 
+use crate::errors::{Field, SnapshotError};
 use memory_image::{ImageError, MemoryImage};
 use stack_deliver::{Context, Module, Resumes, Space, SpaceError};
 use std::alloc::{AllocError, Global};
@@ -120,7 +124,7 @@ impl Snapshot {
 }
 
 /// The image of the regions, if each is taken.
-pub(crate) fn image_of_regions(
+fn image_of_regions(
     alloc: Global,
     regions: &[Region],
 ) -> Result<Option<MemoryImage<'_>>, AllocError>
@@ -141,14 +145,18 @@ pub(crate) fn image_of_regions(
 }
 
 /// The space of the modules, if each is taken.
-pub(crate) fn space_of_modules<'a>(
+fn space_of_modules<'a>(
     alloc: Global,
     image: MemoryImage<'a>,
     modules: &[Module],
 ) -> Result<Option<Space<'a>>, AllocError>
     ensures { IfOk result (λ space. MatchOption space (takes_modules [] modules.now ≡ false)
         (λ space. (takes_modules [] modules.now ≡ true) ×
-        (space ≡ record { image = image.entry; modules = modules_after [] modules.now }))) }
+        (space ≡ record {
+          image = image.entry;
+          modules = modules_after [] modules.now;
+          added = map unprepared modules.now;
+        }))) }
 {
     let mut space = Space::new(alloc, image);
     for module in modules {
@@ -159,4 +167,36 @@ pub(crate) fn space_of_modules<'a>(
         }
     }
     Ok(Some(space))
+}
+
+/// The regions, where an image takes them in their order.
+pub(crate) fn taken_regions(
+    alloc: Global,
+    regions: Vec<Region>,
+) -> Result<Vec<Region>, SnapshotError>
+    ensures reads { Gives (λ taken. spans_of taken.items) result
+        (needs Field.Regions (if_taken (spans_of regions.items))) }
+    ensures taken { IfOk result (λ taken. takes_regions [] (spans_of taken.items) ≡ true) }
+{
+    match image_of_regions(alloc, &regions)? {
+        Some(_) => {}
+        None => return Err(SnapshotError::Bad(Field::Regions)),
+    }
+    Ok(regions)
+}
+
+/// The modules, where a space takes them in their order.
+pub(crate) fn taken_modules(
+    alloc: Global,
+    modules: Vec<Module>,
+) -> Result<Vec<Module>, SnapshotError>
+    ensures reads { Gives (λ taken. taken.items) result
+        (needs Field.Modules (if_spaced modules.items)) }
+    ensures taken { IfOk result (λ taken. takes_modules [] taken.items ≡ true) }
+{
+    match space_of_modules(alloc, MemoryImage::new(alloc), &modules)? {
+        Some(_) => {}
+        None => return Err(SnapshotError::Bad(Field::Modules)),
+    }
+    Ok(modules)
 }

@@ -53,8 +53,11 @@ impl RegisterMap for Context {
     fn get(&self, register: Register) -> Option<u64>
         ensures { result ≡ columns_of self.now register.0 }
     {
+        // Nearly each column that is asked is a general register.
+        if register.0 < 16 {
+            return Some(self.registers[register.0 as usize]);
+        }
         match register.0 {
-            0..16 => Some(self.registers[register.0 as usize]),
             16 => Some(self.ra),
             64 => Some(self.mcxsr),
             65 => Some(self.fcw),
@@ -72,8 +75,11 @@ impl RegisterMap for Context {
             columns_of self.new k ≡ columns_of self.old k) }
         ensures unchanged { IfNone result (self.new ≡ self.old) }
     {
+        if register.0 < 16 {
+            self.registers[register.0 as usize] = value;
+            return Some(());
+        }
         match register.0 {
-            0..16 => self.registers[register.0 as usize] = value,
             16 => self.ra = value,
             64 => self.mcxsr = value,
             65 => self.fcw = value,

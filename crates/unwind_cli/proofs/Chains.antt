@@ -13,7 +13,7 @@ use Rattle.stack_deliver.proofs.ContextLemmas.{IsWhole}
 use Rattle.stack_deliver.proofs.ChainDelivered.{DeliversChain}
 use Rattle.stack_deliver.proofs.ChainDelivered as delivered
 use Rattle.stack_snapshot.specs.Content.{Content, space_of}
-use Rattle.unwind_cli.specs.Described.{DescribesChain, DescribesWalk}
+use Rattle.stack_snapshot.specs.Described.{DescribesChain, DescribesWalk}
 use Rattle.unwind_cli.specs.Due.{delivery_from, walk_from}
 
 -- What is delivered of a snapshot whose tables describe a chain is what the definition says of the chain.

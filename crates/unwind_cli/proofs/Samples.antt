@@ -19,7 +19,7 @@ use Rattle.stack_deliver.specs.Walking.{IsDescribedCall}
 use Rattle.stack_snapshot.specs.Content.{Content, space_of}
 use Rattle.unwind_cli.specs.Caught as caught
 use Rattle.unwind_cli.specs.FramePointer as frame_pointer
-use Rattle.unwind_cli.specs.Described.{DescribesChain}
+use Rattle.stack_snapshot.specs.Described.{DescribesChain}
 
 pub described : (s : Content) (functions : List Function) (start : State) (calls : List Call) (columns : Columns) → IsValid (process_of (space_of s)) columns s.resumes functions start calls
     → Shows (columns_of s.start) start → length calls < s.limit → DescribesChain s functions start calls

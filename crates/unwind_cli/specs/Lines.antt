@@ -9,4 +9,4 @@ abbrev pub bad_line : Field → List ℕ
 bad_line field = line (codes "bad snapshot: " ++ field_name field)
 
 abbrev pub usage_line : List ℕ
-usage_line = line (codes "usage: unwind_cli deliver | walk")
+usage_line = line (codes "usage: unwind_cli deliver | walk | generate COUNT SEED")

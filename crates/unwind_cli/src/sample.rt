@@ -11,9 +11,9 @@ ghost use Rattle.unwind_arch.specs.Contexts.{columns_of};
 ghost use Rattle.stack_deliver.specs.Processes.{process_of};
 ghost use Rattle.stack_deliver.specs.Walking.{IsDescribedCall};
 ghost use Rattle.stack_snapshot.specs.Content.{space_of};
-ghost use Rattle.unwind_cli.specs.declared.words.Command.TheVariants as command;
+ghost use Rattle.unwind_cli.specs.declared.words.Task.TheVariants as task;
 ghost use Rattle.unwind_cli.specs.Due.{Asks};
-ghost use Rattle.unwind_cli.specs.Described.{DescribesChain, DescribesWalk};
+ghost use Rattle.stack_snapshot.specs.Described.{DescribesChain, DescribesWalk};
 ghost use Rattle.stack_report.specs.Report.{delivery_text, walk_text};
 ghost use Rattle.unwind_cli.specs.Sample.{json, snapshot, text, walked};
 ghost use Rattle.stack_snapshot.specs.Answers.{content_of};
@@ -32,8 +32,8 @@ pub fn stored_run_is_described()
 /// too.
 pub fn stored_run_is_read()
     ensures read { content_of json ≡ Ok snapshot }
-    ensures delivered { Asks command.Deliver (codes "deliver" ∷ []) (Some json) snapshot }
-    ensures walked { Asks command.Walk (codes "walk" ∷ []) (Some json) snapshot }
+    ensures delivered { Asks task.Deliver (codes "deliver" ∷ []) (Some json) snapshot }
+    ensures walked { Asks task.Walk (codes "walk" ∷ []) (Some json) snapshot }
 {}
 
 /// The same of a walk over it.

@@ -8,6 +8,7 @@ use std::test::Fail;
 
 mod deliveries;
 mod ends;
+mod generated;
 mod refusals;
 mod rules;
 mod walks;

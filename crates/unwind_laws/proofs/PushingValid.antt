@@ -77,7 +77,7 @@ rows = record {
   outermost = λ outer pc h. absurd cc;
 }
 
-describes : (memory : List Span) → DescribesFunction memory bases function fde
+pub describes : (memory : List Span) → DescribesFunction memory bases function fde
 describes memory = record {
   code = record {
     cie = record { version = refl; code_factor = refl; data_factor = refl; return_column = refl; augmentation = inl refl; address = refl; language = inl refl; personality = tt; program = (2, refl) };

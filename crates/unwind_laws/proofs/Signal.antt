@@ -148,3 +148,7 @@ fde_read bases table o (AFde g ∷ es) fde reads has = elim (here_or_later g (fd
 -- a description of emitted form is of no signal's frame
 pub no_signal : (bases : Bases) (table : Input) (o : ℕ) (entries : List Entry) (fde : Fde) (image : List Span) → AreEntries bases table o entries → Contains (fdes_of entries) fde → IsEmittedCie image fde.cie → fde.cie.letters.signal ≡ false
 no_signal bases table o entries fde image reads has emitted = let r = fde_read bases table o entries fde reads has in of_cie bases r.common.offset r.common.from fde.cie image r.common.is emitted
+
+-- the same of the entry at an offset
+pub no_signal_at : (bases : Bases) (table : Input) (o next : ℕ) (fde : Fde) (image : List Span) → entry_at bases table o ≡ Ok (Some (record { entry = AFde fde; next = next })) → IsEmittedCie image fde.cie → fde.cie.letters.signal ≡ false
+no_signal_at bases table o next fde image reads emitted = let r = one_read bases table o next fde reads in of_cie bases r.common.offset r.common.from fde.cie image r.common.is emitted

@@ -4,8 +4,8 @@ use macho_unwind_info::opcodes::{
     decode_permutation_6,
 };
 use macho_unwind_info::raw::consts::OPCODE_KIND_ARM64_DWARF;
-use macho_unwind_info::raw::{CompressedFunctionEntry, U32};
-use macho_unwind_info::{Error, Function, HexNum, ReadError, UnwindInfo};
+use macho_unwind_info::raw::{CompressedFunctionEntry, HexNum, U16, U32};
+use macho_unwind_info::{Error, Function, ReadError, UnwindInfo};
 use std::test::Fail;
 
 // A compressed page at 0x1000 with two entries, the second of which names an opcode that isn't
@@ -73,22 +73,82 @@ fn permutations_are_decoded(rt: HostRuntime) {
     assert_eq!(rt; decode_permutation_6(7, 0), Err(()));
 }
 
+const INVALID_PERMUTATION: &str =
+    "!! frameless immediate or indirect with invalid permutation encoding";
+
 #[test]
-fn opcodes_are_printed(rt: HostRuntime) -> Result<(), Fail> {
-    let text = OpcodeX86_64::parse(0x0101_0001).to_string(rt.alloc())?;
-    assert_eq!(rt;
-        text.as_str(),
-        "CFA=reg6+16: reg6=[CFA-16], reg16=[CFA-8], reg3=[CFA-24]"
-    );
-    let text = OpcodeX86_64::parse(0x0201_0000).to_string(rt.alloc())?;
-    assert_eq!(rt; text.as_str(), "CFA=reg7+8: reg16=[CFA-8]");
-    let text = OpcodeArm64::parse(0x0200_1000).to_string(rt.alloc())?;
-    assert_eq!(rt; text.as_str(), "CFA=reg31+16");
-    let text = OpcodeArm64::parse(0x0400_0001).to_string(rt.alloc())?;
-    assert_eq!(rt;
-        text.as_str(),
-        "CFA=reg29+16: reg29=[CFA-16], reg30=[CFA-8], reg19=[CFA-32], reg20=[CFA-40]"
-    );
+fn x86_opcodes_are_printed(rt: HostRuntime) -> Result<(), Fail> {
+    let opcodes = [
+        (0x0000_0000, "(uncovered)"),
+        (
+            0x0102_0011,
+            "CFA=reg6+8: reg6=[CFA-8], reg16=[CFA-4], reg3=[CFA-16], reg1=[CFA-12]",
+        ),
+        (
+            0x0203_0800,
+            "CFA=reg7+12: reg16=[CFA-4], reg1=[CFA-8], reg3=[CFA-12]",
+        ),
+        (0x0200_0000, "CFA=reg7: reg16=[CFA-4]"),
+        (
+            0x0305_2405,
+            "CFA=[function_start+5]+4 reg16=[CFA-4], reg5=[CFA-8]",
+        ),
+        (0x0400_0abc, "(check eh_frame FDE 0xabc)"),
+        (0x0200_1c00, INVALID_PERMUTATION),
+        (0x0f00_0000, "!! Unrecognized kind 15"),
+    ];
+    for (opcode, expected) in &opcodes {
+        let text = OpcodeX86::parse(*opcode).to_string(rt.alloc())?;
+        assert_eq!(rt; text.as_str(), *expected);
+    }
+    Ok(())
+}
+
+#[test]
+fn x86_64_opcodes_are_printed(rt: HostRuntime) -> Result<(), Fail> {
+    let opcodes = [
+        (0x0000_0000, "(uncovered)"),
+        (
+            0x0102_0011,
+            "CFA=reg6+16: reg6=[CFA-16], reg16=[CFA-8], reg3=[CFA-32], reg12=[CFA-24]",
+        ),
+        (
+            0x0203_0800,
+            "CFA=reg7+24: reg16=[CFA-8], reg12=[CFA-16], reg3=[CFA-24]",
+        ),
+        (0x0200_0000, "CFA=reg7: reg16=[CFA-8]"),
+        (
+            0x0305_2405,
+            "CFA=[function_start+5]+8 reg16=[CFA-8], reg6=[CFA-16]",
+        ),
+        (0x0400_0abc, "(check eh_frame FDE 0xabc)"),
+        (0x0300_1c00, INVALID_PERMUTATION),
+        (0x0f00_0000, "!! Unrecognized kind 15"),
+    ];
+    for (opcode, expected) in &opcodes {
+        let text = OpcodeX86_64::parse(*opcode).to_string(rt.alloc())?;
+        assert_eq!(rt; text.as_str(), *expected);
+    }
+    Ok(())
+}
+
+#[test]
+fn arm64_opcodes_are_printed(rt: HostRuntime) -> Result<(), Fail> {
+    let opcodes = [
+        (0x0000_0000, "(uncovered)"),
+        (0x0200_1000, "CFA=reg31+16"),
+        (0x0200_0000, "CFA=reg31"),
+        (0x0300_0abc, "(check eh_frame FDE 0xabc)"),
+        (
+            0x0400_0101,
+            "CFA=reg29+16: reg29=[CFA-16], reg30=[CFA-8], reg14=[CFA-32], reg15=[CFA-40], reg19=[CFA-48], reg20=[CFA-56]",
+        ),
+        (0x0f00_0000, "!! Unrecognized kind 15"),
+    ];
+    for (opcode, expected) in &opcodes {
+        let text = OpcodeArm64::parse(*opcode).to_string(rt.alloc())?;
+        assert_eq!(rt; text.as_str(), *expected);
+    }
     Ok(())
 }
 
@@ -139,6 +199,8 @@ fn functions_are_listed(rt: HostRuntime) -> Result<(), Fail> {
 fn words_are_ordered_by_their_bytes(rt: HostRuntime) -> Result<(), Fail> {
     assert!(rt; U32::from(256) < U32::from(1));
     assert_eq!(rt; u32::from(U32::from(0x0102_0304)), 0x0102_0304);
+    assert!(rt; U16::from(256) < U16::from(1));
+    assert_eq!(rt; u16::from(U16::from(0x0102)), 0x0102);
     assert_eq!(rt; OPCODE_KIND_ARM64_DWARF, 3);
     let (word, hex) = (U32::from(7), HexNum(255u8));
     let text = format!(in rt.alloc(); "{word:?} {hex:?}")?;

@@ -4,6 +4,22 @@
 //! by force, to resume, and to visit the frames of a stack, over any finder, any personality and any
 //! machine of `unwind_arch`. Finders stand in `fde_finders`, and frames, language tables and
 //! personalities in `unwinding_frames`; all their public names are here too.
+//!
+//! The caller of a frame in an image of memory, whose registers are in `context`:
+//!
+//! ```rust
+//! use memory_image::{NoLedger, Steps};
+//! use unwind_arch::x86_64::Arch;
+//! use unwinding_core::{Frame, StaticFinder};
+//!
+//! let finder = StaticFinder::new(0x40_1000, 0x40_1010, 0x50_0000);
+//! let mut steps = Steps::new(NoLedger);
+//! let frame = Frame::<Arch>::from_context(&image, &finder, &context, true, &mut steps)?;
+//! if let Some(frame) = frame {
+//!     let caller = frame.unwind(&image, &context)?;
+//!     println!(rt; "ra={:#x} rbx={:#x}", caller.ra, caller.registers[3])?;
+//! }
+//! ```
 #![tactic(auto)]
 
 pub mod abi;

@@ -6,3 +6,4 @@ pub mod First
 pub mod Heads
 pub mod Sites
 pub mod Taken
+pub mod Windows

@@ -10,3 +10,4 @@ pub mod Passes
 pub mod Personalities
 pub mod Sample
 pub mod Seen
+pub mod Windows

@@ -1,11 +1,13 @@
 //! A frame of the stack: the description of its function, and the row by which its caller is found.
 //! DWARF 5 section 6.4.
 
-ghost use Rattle.std.specs.Prelude.{◌≡◌, ◌≢◌, ◌+◌, ◌%◌, ◌^◌, ℕ, Option, Some, None, Ok, IfOk, map, IfSome, IsTrue};
+ghost use Rattle.std.specs.Prelude.{◌≡◌, ◌≢◌, ◌+◌, ◌%◌, ◌^◌, ℕ, Option, Some, None, Ok, IfOk, [], ◌∷◌, map, IfSome, IfNone, IsTrue};
+ghost use Rattle.std.specs.Bool.{OnTrue, OnFalse};
+ghost use Rattle.std.specs.List.{cons_option};
 ghost use Rattle.std.specs.Option.{unwrap_or};
 ghost use Rattle.unwind_definitions.specs.Row.{RowInstructions, covers_pc};
 ghost use Rattle.unwind_definitions.specs.LanguageSearch.{address_of_call, language_address, personality_address, target};
-ghost use Rattle.unwind_definitions.specs.Caller.{caller_of, rule_value, cfa_value, word_or_fault, column_or_fault, unruled};
+ghost use Rattle.unwind_definitions.specs.Caller.{Columns, caller_of, rule_value, cfa_value, word_or_fault, column_or_fault, unruled};
 ghost use Rattle.frame_rows.specs.Rules.{rule_meaning, cfa_meaning, entry_of};
 ghost use Rattle.frame_rows.specs.Left.{left};
 ghost use Rattle.frame_rows.specs.Rows.{IsRowOf};
@@ -16,6 +18,7 @@ ghost use Rattle.unwinding_frames.specs.Framed.{GivesFrame, GivesRowOf};
 ghost use Rattle.unwind_definitions.specs.Expressions.{evaluation};
 ghost use Rattle.unwinding_frames.specs.Calling.{machine_of, value_given, columns_given, written_in, applied, rule_applied};
 
+use crate::window::Window;
 use eh_frame::{
     Bases, CfaRule, Error, EvalError, Pointer, Register, RegisterMap, RegisterRule, Registers, Row,
     RowRef, evaluate,
@@ -320,9 +323,41 @@ pub fn step_by_row<M: Machine>(
         (evaluation image.now) image.now (M.Context.columns context.old) run }
 {
     let callee = *context;
-    let cfa = cfa::<M>(image, &callee, row.cfa())?;
-    begin::<M>(context, cfa);
-    apply::<M>(image, &callee, cfa, row.registers(), context)
+    // What a frame saves stands on the stack, at its stack pointer or above.
+    let stack = Window::new(image, stack_pointer::<M>(&callee));
+    write_caller::<M>(&stack, &callee, row, context)
+}
+
+/// Makes a copy of a frame's registers those of the frame's caller, by the frame's row.
+///
+/// A saved register that lies in the window is read without a search. Who leaves one frame after
+/// another keeps a window over the stack for all of them.
+///
+/// # Errors
+///
+/// Those of [`Frame::unwind`]. After one the copy's registers are unspecified.
+pub fn write_caller<M: Machine>(
+    stack: &Window<'_, '_>,
+    context: &M::Context,
+    row: &RowRef<'_, '_>,
+    caller: &mut M::Context,
+) -> Result<(), StepError>
+    requires { caller.old ≡ context.now }
+    ensures caller { (run : RowInstructions) → IsRowOf row.now run →
+        columns_given M.Context.columns (written_in result caller.new) ≡ caller_of
+        (machine_of M.SP.0 M.RA.0)
+        (evaluation stack.now) stack.now (M.Context.columns context.now) run }
+{
+    let cfa = cfa::<M>(stack.image(), context, row.cfa())?;
+    begin::<M>(caller, cfa);
+    apply::<M>(stack, context, cfa, row.registers(), caller)
+}
+
+/// The stack pointer.
+fn stack_pointer<M: Machine>(context: &M::Context) -> u64
+    ensures { M.Context.columns context.now M.SP.0 ≡ Some result }
+{
+    context.get(M::SP).unwrap_or(0)
 }
 
 /// The word at an address, which has to be mapped.
@@ -436,6 +471,94 @@ fn apply_rule<M: Machine>(
 /// Writes the values that a row's rules give their columns. After a fault the registers are
 /// unspecified.
 fn apply<M: Machine>(
+    stack: &Window<'_, '_>,
+    context: &M::Context,
+    cfa: u64,
+    rules: Registers<'_, '_>,
+    caller: &mut M::Context,
+) -> Result<(), StepError>
+    ensures { columns_given M.Context.columns (written_in result caller.new) ≡ applied
+        (evaluation stack.now) stack.now (M.Context.columns context.now) cfa
+        (map entry_of (left rules.entry)) (M.Context.columns caller.old) }
+{
+    let mut rest = rules;
+    match apply_saved::<M>(stack, cfa, &mut rest, caller) {
+        None => Ok(()),
+        Some(first) => apply_from::<M>(stack.image(), context, cfa, first, rest, caller),
+    }
+}
+
+/// Writes the values of columns as long as rules say that they are saved in the window. The first
+/// rule that says otherwise is answered, `None` where none does.
+///
+/// Nearly each rule is so. This is what a step takes for each of them.
+fn apply_saved<'a, M: Machine>(
+    stack: &Window<'_, '_>,
+    cfa: u64,
+    rules: &mut Registers<'_, 'a>,
+    caller: &mut M::Context,
+) -> Option<(Register, RegisterRule<'a>)>
+    ensures ended { IfNone result (left rules.new ≡ []) }
+    ensures applied { (old : Columns) →
+        applied (evaluation stack.now) stack.now old cfa
+        (map entry_of (cons_option result (left rules.new))) (M.Context.columns caller.new)
+        ≡ applied (evaluation stack.now) stack.now old cfa
+        (map entry_of (left rules.old)) (M.Context.columns caller.old) }
+{
+    while let Some((register, rule)) = rules.next() {
+        if !apply_slot::<M>(stack, cfa, register, rule, caller) {
+            return Some((register, rule));
+        }
+    }
+    None
+}
+
+/// Writes the value of a column that is saved in the window. `false`, and nothing is written, where
+/// its rule says otherwise or the machine hasn't the column.
+fn apply_slot<M: Machine>(
+    stack: &Window<'_, '_>,
+    cfa: u64,
+    register: Register,
+    rule: RegisterRule<'_>,
+    caller: &mut M::Context,
+) -> bool
+    ensures applied { OnTrue result ((old : Columns) →
+        rule_applied (evaluation stack.now) stack.now old cfa (entry_of (register, rule.entry))
+        (M.Context.columns caller.old) ≡ Ok (M.Context.columns caller.new)) }
+    ensures unchanged { OnFalse result (caller.new ≡ caller.old) }
+{
+    let RegisterRule::Offset(offset) = rule else {
+        return false;
+    };
+    match stack.read_u64(cfa.wrapping_add(offset)) {
+        Some(word) => caller.set(register, word).is_some(),
+        None => false,
+    }
+}
+
+/// Writes the values that a rule and those after it give their columns. After a fault the registers
+/// are unspecified.
+// Expressions among them need much of the stack, so it stays apart.
+#[cold]
+#[inline(never)]
+fn apply_from<M: Machine>(
+    image: &MemoryImage<'_>,
+    context: &M::Context,
+    cfa: u64,
+    first: (Register, RegisterRule<'_>),
+    rules: Registers<'_, '_>,
+    caller: &mut M::Context,
+) -> Result<(), StepError>
+    ensures { columns_given M.Context.columns (written_in result caller.new) ≡ applied
+        (evaluation image.now) image.now (M.Context.columns context.now) cfa
+        (map entry_of (first.entry ∷ left rules.entry)) (M.Context.columns caller.old) }
+{
+    apply_rule::<M>(image, context, cfa, first.0, first.1, caller)?;
+    apply_rest::<M>(image, context, cfa, rules, caller)
+}
+
+/// Writes the values that rules give their columns. After a fault the registers are unspecified.
+fn apply_rest<M: Machine>(
     image: &MemoryImage<'_>,
     context: &M::Context,
     cfa: u64,

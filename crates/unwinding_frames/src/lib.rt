@@ -12,6 +12,7 @@ mod frame;
 mod language_table;
 mod personality;
 mod personality_dummy;
+mod window;
 
 pub use abi::context::{
     _Unwind_GetCFA, _Unwind_GetDataRelBase, _Unwind_GetGR, _Unwind_GetIP, _Unwind_GetIPInfo,
@@ -21,7 +22,10 @@ pub use abi::context::{
 pub use abi::exception::{_Unwind_DeleteException, Kept, UnwindException};
 pub use abi::laws::lines_are_one;
 pub use abi::{UnwindAction, UnwindReasonCode};
-pub use frame::{Frame, StepError, address_asked, lsda_of, personality_of, step_by_row};
+pub use frame::{
+    Frame, StepError, address_asked, lsda_of, personality_of, step_by_row, write_caller,
+};
 pub use language_table::{EhAction, eh_action_of, find_eh_action};
 pub use personality::{Personality, RustPersonality};
 pub use personality_dummy::DummyPersonality;
+pub use window::Window;

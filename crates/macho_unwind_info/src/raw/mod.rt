@@ -4,6 +4,7 @@ mod format;
 mod impls;
 mod unaligned;
 
+pub use crate::num_display::{BinNum, HexNum};
 pub use compressed_function::CompressedFunctionEntry;
 pub use format::{
     CompactUnwindInfoHeader, CompressedPage, Opcode, PageEntry, RegularFunctionEntry, RegularPage,

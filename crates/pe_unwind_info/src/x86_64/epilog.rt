@@ -1,7 +1,7 @@
 // The instructions of epilogs.
-ghost use Rattle.std.specs.Prelude.{◌≡◌, ◌≤◌, length};
+ghost use Rattle.std.specs.Prelude.{◌≡◌, ◌≤◌, false, [], length};
 ghost use Rattle.std.specs.Option.{option_map};
-ghost use Rattle.pe_unwind_info.specs.Epilog.{map_ok, word_in, with_word, lea_from, lea_of, adjustment_of, pop_of, is_jump, two_bytes_of, pop_or_terminator_of, behind_rex, rex_split, parsed, sequence_of};
+ghost use Rattle.pe_unwind_info.specs.Epilog.{map_ok, word_in, with_word, lea_from, lea_of, adjustment_of, pop_of, is_jump, two_bytes_of, pop_or_terminator_of, behind_rex, rex_split, parsed, and_first, sequence_from, sequence_of};
 ghost use Rattle.pe_unwind_info.specs.EpilogGrammar.{IsParsed, IsSequence};
 ghost use Rattle.pe_unwind_info.specs.Numbers.{first_u32};
 ghost use Rattle.pe_unwind_info.specs.declared.x86_64.epilog.FunctionEpilogInstruction.TheVariants.{AddSP};
@@ -36,6 +36,11 @@ impl Default for FunctionEpilogInstruction {
         FunctionEpilogInstruction::AddSP(0)
     }
 }
+
+// instructions that change nothing, to make a list of
+const BLANK: [FunctionEpilogInstruction; FUNCTION_EPILOG_LIMIT] = [FunctionEpilogInstruction::AddSP(
+    0,
+); FUNCTION_EPILOG_LIMIT];
 
 /// Why bytes aren't those of an epilog.
 #[derive(Debug, Drop, Error)]
@@ -233,21 +238,30 @@ fn parse_instruction(
     }
 }
 
-// the instructions up to a terminator
-#[tactic(auto, using(crate::proofs::EpilogSequences::continued_init, crate::proofs::EpilogSequences::continued_end, crate::proofs::EpilogSequences::continued_err, crate::proofs::EpilogSequences::continued_full, crate::proofs::EpilogSequences::continued_more))]
-fn parse_instructions(
+// no instructions yet: a list that is full and then cleared, as `ArrayVec::new` makes each place on
+// its own, at several times the instructions
+fn no_instructions() -> ArrayVec<FunctionEpilogInstruction, FUNCTION_EPILOG_LIMIT>
+    ensures { result.items ≡ [] }
+{
+    let mut instructions = ArrayVec::from(BLANK);
+    instructions.clear();
+    instructions
+}
+
+// the first instruction and those behind it, up to a terminator
+#[tactic(auto, using(crate::proofs::EpilogSequences::continued_later, crate::proofs::EpilogSequences::continued_end, crate::proofs::EpilogSequences::continued_err, crate::proofs::EpilogSequences::continued_full, crate::proofs::EpilogSequences::continued_more))]
+fn parse_later(
     frame: Option<Register>,
+    first: FunctionEpilogInstruction,
     code: &[u8],
 ) -> Result<ArrayVec<FunctionEpilogInstruction, FUNCTION_EPILOG_LIMIT>, InstructionParseError>
-    ensures { map_ok (λ v. v.items) result ≡ sequence_of frame code.now }
+    ensures { map_ok (λ v. v.items) result
+        ≡ and_first first (sequence_from frame 11 false code.now) }
 {
-    let mut instructions = ArrayVec::new();
+    let mut instructions = no_instructions();
+    instructions.push(first);
     let mut rest = code;
-    while let Some((instruction, behind)) = parse_instruction(
-        frame,
-        instructions.is_empty(),
-        rest,
-    )? {
+    while let Some((instruction, behind)) = parse_instruction(frame, false, rest)? {
         if instructions.is_full() {
             return Err(InstructionParseError::TooManyInstructions);
         }
@@ -255,6 +269,21 @@ fn parse_instructions(
         rest = behind;
     }
     Ok(instructions)
+}
+
+// The instructions up to a terminator. Most code that is tested is that of no epilog, so a list is
+// made only where there is a first instruction.
+#[tactic(auto, using(crate::proofs::EpilogSequences::first_end, crate::proofs::EpilogSequences::first_err, crate::proofs::EpilogSequences::first_more))]
+fn parse_instructions(
+    frame: Option<Register>,
+    code: &[u8],
+) -> Result<ArrayVec<FunctionEpilogInstruction, FUNCTION_EPILOG_LIMIT>, InstructionParseError>
+    ensures { map_ok (λ v. v.items) result ≡ sequence_of frame code.now }
+{
+    match parse_instruction(frame, true, code)? {
+        Some((first, behind)) => parse_later(frame, first, behind),
+        None => Ok(no_instructions()),
+    }
 }
 
 impl FunctionEpilogInstruction {

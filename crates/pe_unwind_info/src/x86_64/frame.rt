@@ -5,7 +5,7 @@ ghost use Rattle.pe_unwind_info.specs.Epilog.{map_ok};
 ghost use Rattle.pe_unwind_info.specs.Frame.{Gives, info_in, chained_of, epilog_in, operations_alone, from_place, link_by, link_of, link_end, IsLinked, IsTested, Leaves, ByRun, InRecord, IsFunctionFrame, IsFrame, IsUnwound, ShowsEnd, IsUnwoundIn};
 ghost use Rattle.pe_unwind_info.specs.FrameOf.{Image, framed};
 ghost use Rattle.pe_unwind_info.specs.Sections.{section_table, image_of, headers_of, sections_in, IsMemoryAt};
-ghost use Rattle.pe_unwind_info.specs.FunctionTable.{table_bytes, functions_of, IsLookup};
+ghost use Rattle.pe_unwind_info.specs.FunctionTable.{table_bytes, functions_of, IsLookup, lookup_of};
 ghost use Rattle.pe_unwind_info.specs.Header.{frame_register_of};
 ghost use Rattle.pe_unwind_info.specs.Info.{info_of};
 ghost use Rattle.pe_unwind_info.specs.InfoOperations.{operations_in};
@@ -363,6 +363,16 @@ impl<'a> FunctionTableEntries<'a> {
             × (frame_end result (registers_of (S.registers state.new) (S.xmm_registers state.new))
             ≡ framed memory (S.stack state.old) address function
             (registers_of (S.registers state.old) (S.xmm_registers state.old))) }
+
+        // The same with the record that the look-up always answers.
+        ensures repeats { (memory : Image)
+            → ((rva : ℕ) (given : Option (List ℕ))
+            → Gives (M.post memory_at_rva) (option_map (λ bytes. bytes.now)) rva given
+            → given ≡ memory rva)
+            → frame_end result (registers_of (S.registers state.new) (S.xmm_registers state.new))
+            ≡ framed memory (S.stack state.old) address
+            (lookup_of (functions_of (table_bytes self.now)) address)
+            (registers_of (S.registers state.old) (S.xmm_registers state.old)) }
         ensures stack { S.stack state.new ≡ S.stack state.old }
     {
         let function = self.lookup(address);

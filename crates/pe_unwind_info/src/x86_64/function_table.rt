@@ -1,6 +1,6 @@
 // The function table.
-ghost use Rattle.std.specs.Prelude.{◌≡◌, ◌≤◌, ◌/◌, ℕ, List, Option, Some, length, IfSome};
-ghost use Rattle.pe_unwind_info.specs.FunctionTable.{table_bytes, functions_of, IsLookup};
+ghost use Rattle.std.specs.Prelude.{◌≡◌, ◌≤◌, ◌/◌, ℕ, List, Option, Some, None, length, IfSome, Contains};
+ghost use Rattle.pe_unwind_info.specs.FunctionTable.{table_bytes, functions_of, IsLookup, lookup_of, AreOrdered, Holds};
 ghost use Rattle.pe_unwind_info.specs.Search.{IsAscending};
 ghost use Rattle.pe_unwind_info.specs.declared.x86_64.function_table.RuntimeFunction.{RuntimeFunction};
 
@@ -65,6 +65,27 @@ pub fn lookup_is_determined()
         → a ≡ b }
 {}
 
+/// In a table whose functions are nonempty, ascend and share no address, a look-up answers the
+/// record that holds the address, and none where none does.
+pub fn lookup_finds_the_holder()
+    ensures found { (functions : List RuntimeFunction) (low high address : ℕ)
+        (function : RuntimeFunction)
+        → AreOrdered low high functions
+        → Contains functions function
+        → Holds function address
+        → lookup_of (Some functions) address ≡ Some function }
+    ensures none { (functions : List RuntimeFunction) (low high address : ℕ)
+        → AreOrdered low high functions
+        → ((function : RuntimeFunction) → Contains functions function → Holds function address → ⊥)
+        → lookup_of (Some functions) address ≡ None }
+{}
+
+/// What a search by halving answers is a look-up's answer.
+pub fn lookup_of_is_a_lookup()
+    ensures { (functions : Option (List RuntimeFunction)) (address : ℕ)
+        → IsLookup functions address (lookup_of functions address) }
+{}
+
 /// A view of the function table, the contents of the section `.pdata`: records of 12 bytes that
 /// ascend by where their functions begin. As an iterator it gives each whole record.
 #[derive(Clone, Copy, Debug)]
@@ -101,9 +122,12 @@ impl<'a> FunctionTableEntries<'a> {
     /// The record of the function at a relative virtual address: the last one that begins at or
     /// below it, if it begins there or ends above it. `None` where there is none such, and where
     /// the bytes aren't whole records. In a table out of order any record that begins at or below
-    /// the address, and whose successor begins above it, counts as the last one.
+    /// the address, and whose successor begins above it, counts as the last one; the search halves,
+    /// and always answers the same.
+    #[tactic(auto, unfolding(crate::specs::FunctionTable::lookup_of))]
     pub fn lookup(&self, address: u32) -> Option<RuntimeFunction>
         ensures lookup { IsLookup (functions_of (table_bytes self.now)) address result }
+        ensures repeats { result ≡ lookup_of (functions_of (table_bytes self.now)) address }
         ensures begun { IfSome result (λ function. function.begin_address ≤ address) }
     {
         let function = boundary(&self.functions()?, address)?;

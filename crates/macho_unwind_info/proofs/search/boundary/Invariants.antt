@@ -1,12 +1,13 @@
-use Rattle.std.proofs.Common.{◌-◌, ◌<◌, ◌≤◌, map, length, get_or}
+use Rattle.std.proofs.Common.{◌≡◌, ◌-◌, ◌≤◌, map, length}
+use Rattle.memory_image.specs.Halving.{halved, is_at_or_before}
 use Rattle.macho_unwind_info.proofs.search.boundary.Given as goal
 
 abbrev pub invariant-loop-low : goal.invariant-loop-low
 invariant-loop-low g l = record {
   ordered : l.low ≤ l.high;
   within : l.high ≤ length l.records;
-  before : 0 < l.low → get_or (map g.T.Keyed.key l.records) (l.low - 1) 0 ≤ l.p;
-  behind : l.high < length l.records → l.p < get_or (map g.T.Keyed.key l.records) l.high 0;
+  same : halved (length l.records) (is_at_or_before (map g.T.Keyed.key l.records) l.p) l.low l.high
+      ≡ halved (length l.records) (is_at_or_before (map g.T.Keyed.key l.records) l.p) 0 (length l.records);
 }
 
 abbrev pub decreases-loop-low : goal.decreases-loop-low

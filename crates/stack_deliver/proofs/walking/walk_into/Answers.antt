@@ -1,4 +1,4 @@
-use Rattle.std.proofs.Common.{List, false, subst}
+use Rattle.std.proofs.Common.{List, ◌∷◌, true, false, subst}
 use Rattle.unwind_arch.specs.declared.x86_64.Context.{Context}
 use Rattle.stack_deliver.specs.declared.delivery.DeliverError.TheVariants.{NoMemory, FrameLimit, Unmapped}
 use Rattle.stack_deliver.specs.Delivering.{line_of}
@@ -6,6 +6,7 @@ use Rattle.stack_deliver.specs.Walking.{IsWalked, ShowChain}
 use Rattle.stack_deliver.proofs.LineAnswers.{line_limit, limit_line, line_fault, fault_line, line_unmapped, line_memory}
 use Rattle.stack_deliver.proofs.Results.{walked_fault, fault_walked, states_walked}
 use Rattle.stack_deliver.proofs.Chains.{chain_walked}
+use Rattle.stack_deliver.proofs.StoppedWalk.{stopped_walked}
 use Rattle.stack_deliver.proofs.walking.walk_into.Goals as goal
 
 pub returns-clause-frame_limit : goal.returns-clause-frame_limit
@@ -32,3 +33,10 @@ returns-clause-chain g c functions s calls starts called =
     let exact : IsWalked c.walked.result c.walked.new.room (line_of c.args.space.now c.args.limit c.args.start.now false) = rw called at c.walked.ensures.exact in
     let r = states_walked c.walked.result c.walked.new.room _ w.0 exact w.1 in
     (r.0, subst (λ (cs : List Context). ShowChain cs s calls) r.1 w.2)
+
+pub returns-clause-stopped : goal.returns-clause-stopped
+returns-clause-stopped g c functions s call calls starts marked =
+    let w = stopped_walked c.args.space.now functions s call calls c.args.start.now c.image.ensures.apart c.image.ensures.laid_out c.args.limit starts in
+    let exact : IsWalked c.walked.result c.walked.new.room (line_of c.args.space.now c.args.limit c.args.start.now true) = rw marked at c.walked.ensures.exact in
+    let r = states_walked c.walked.result c.walked.new.room _ w.0 exact w.1 in
+    (r.0, subst (λ (cs : List Context). ShowChain cs s (call ∷ calls)) r.1 w.2)

@@ -1,0 +1,98 @@
+#!/bin/sh
+# Measures walks and deliveries over chains of calls, beside the same work over gimli: instructions
+# (callgrind), their growth, and peak memory.
+#
+#     bench/chain.sh [COUNT..]
+#
+# Wants valgrind, GNU time, cargo and python3, the crates gimli 0.27, serde_json and hex, and the
+# program as `rt run` or `rt ci` left it in crates/unwind_cli/out. Where no network is at hand,
+# REGISTRY names a folder with the sources of the crates and what they stand on (Debian's packages
+# librust-gimli-dev, librust-serde-json-dev and librust-hex-dev put them into
+# /usr/share/cargo/registry). `bench/chain.py` makes the snapshots, and `bench/gimli` is the program
+# over gimli; both have to write the same report.
+#
+# Of each chain, named by its frame table and by its header table, and for `walk` and `deliver`:
+#
+#   whole     what the process takes, and what a frame takes more between the count before and this
+#             one, so that the start of the process isn't in it
+#   alone     the walk or the delivery without reading, preparing and reporting, a frame
+#   peak      the largest resident set
+#   parts     of the proved program: reading the snapshot's JSON, and preparing, as a part of that
+set -eu
+here=$(cd "$(dirname "$0")" && pwd)
+proved=$here/../crates/unwind_cli/out/unwind_cli
+work=$(mktemp -d)
+trap 'rm -rf "$work"' EXIT
+[ $# -gt 0 ] || set -- 1000 10000 100000
+
+if [ -n "${REGISTRY:-}" ]; then
+    mkdir -p "$work/.cargo"
+    printf '[source.crates-io]\nreplace-with = "local"\n[source.local]\ndirectory = "%s"\n' \
+        "$REGISTRY" >"$work/.cargo/config.toml"
+fi
+cp -r "$here/gimli" "$work/gimli"
+(cd "$work/gimli" && cargo build --release --quiet ${REGISTRY:+--offline})
+peer=$work/gimli/target/release/gimli_walk
+
+# PROGRAM WORD: the instructions of a run on the input. Its counts and its report are left in the folder.
+instructions() {
+    valgrind --tool=callgrind --callgrind-out-file="$work/$(basename "$1").counts" "$1" "$2" \
+        2>&1 >"$work/$(basename "$1").report" <"$work/input" | sed -n 's/.*refs: *//p' | tr -d ,
+}
+
+peak() {
+    env time -f '%M' "$1" "$2" 2>&1 >"$work/told" <"$work/input" | tail -1
+}
+
+# NAME..: what the calls of these functions cost in the proved program's last run.
+inclusive() {
+    python3 "$here/inclusive.py" "$work/unwind_cli.counts" "$@"
+}
+
+# a/b with two digits behind the point
+ratio() {
+    awk -v a="$1" -v b="$2" 'BEGIN { if (b > 0) printf "%.2f", a / b; else printf "-" }'
+}
+
+# WORD HEADER: the rows of the table.
+measure() {
+    word=$1
+    header=$2
+    case $word in
+        walk) alone=stack_deliver::walking::walk_into peer_alone=gimli_walk::passes::walk ;;
+        deliver) alone=stack_deliver::delivering::deliver_into peer_alone=gimli_walk::passes::deliver ;;
+    esac
+    printf '%s, by the %s\n' "$word" "$([ -n "$header" ] && echo 'header table' || echo 'frame table')"
+    printf '%8s %14s %8s %7s %8s %14s %8s %8s %9s %9s %12s %12s\n' frames proved a-frame alone growth \
+        gimli a-frame alone peak-kB gimli-kB json prepare
+    before= proved_before= peer_before= alone_before=
+    shift 2
+    for count in "$@"; do
+        python3 "$here/chain.py" "$count" 1 $header >"$work/input"
+        proved_whole=$(instructions "$proved" "$word")
+        peer_whole=$(instructions "$peer" "$word")
+        cmp "$work/unwind_cli.report" "$work/gimli_walk.report"
+        proved_alone=$(inclusive "$alone")
+        gimli_alone=$(python3 "$here/inclusive.py" "$work/gimli_walk.counts" "$peer_alone")
+        if [ -n "$before" ]; then
+            more=$((count - before))
+            proved_frame=$(((proved_whole - proved_before) / more))
+            peer_frame=$(((peer_whole - peer_before) / more))
+            growth=$(ratio "$((proved_alone * before / count))" "$alone_before")
+        else
+            proved_frame=- peer_frame=- growth=-
+        fi
+        json=$(inclusive serde_json::)
+        prepare=$(inclusive stack_deliver::space::Space::prepare)
+        printf '%8d %14d %8s %7d %8s %14d %8s %8d %9d %9d %12d %12d (%s)\n' "$count" "$proved_whole" \
+            "$proved_frame" "$((proved_alone / count))" "$growth" "$peer_whole" "$peer_frame" \
+            "$((gimli_alone / count))" "$(peak "$proved" "$word")" "$(peak "$peer" "$word")" \
+            "$json" "$prepare" "$(ratio "$prepare" "$json")"
+        before=$count proved_before=$proved_whole peer_before=$peer_whole alone_before=$proved_alone
+    done
+}
+
+for word in walk deliver; do
+    measure "$word" '' "$@"
+    measure "$word" --header "$@"
+done

@@ -1,0 +1,9 @@
+pub mod PeImage
+pub mod PeRegisters
+pub mod PeStep
+pub mod PeUndoing
+pub mod PeModules
+pub mod PeEpilogs
+pub mod CompactStep
+pub mod MachoModules
+pub mod FormatModules

@@ -1,0 +1,5 @@
+pub mod Written
+pub mod Fields
+pub mod MachoSteps
+pub mod PeRegisters
+pub mod PeCaller

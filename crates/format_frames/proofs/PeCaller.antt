@@ -1,0 +1,37 @@
+-- The caller that the registers of an unwound frame give.
+use Rattle.std.proofs.Common.{◌≡◌, ℕ, zero, suc, List, replicate, Option, Result, Ok, Err, refl, ap, ◌∙◌}
+use Rattle.std.specs.Prelude.{slice_index}
+use Rattle.unwind_definitions.specs.Caller.{Columns}
+use Rattle.unwind_arch.specs.declared.x86_64.Context.{Context}
+use Rattle.unwind_arch.specs.Contexts.{columns_of}
+use Rattle.pe_unwind_info.specs.declared.x86_64.fault.FrameFault.{FrameFault}
+use Rattle.pe_unwind_info.specs.declared.x86_64.function_table.RuntimeFunction.{RuntimeFunction}
+use Rattle.pe_unwind_info.specs.FrameOf.{Image, framed}
+use Rattle.pe_unwind_info.specs.Machine.{Returned, Faulted, Registers, registers_of, Stack}
+use Rattle.format_definitions.specs.PeRegisters.{registers_in}
+use Rattle.format_definitions.specs.PeStep.{PeFault, InFrame, columns_at}
+use Rattle.format_frames.proofs.PeRegisters.{unwound}
+
+abbrev pub zeros : ℕ → List ℕ
+zeros n = replicate n 0
+
+zero_at : (n k : ℕ) → ◌≡◌ {A = ℕ} (slice_index (zeros n) k) 0
+zero_at zero k = refl
+zero_at (suc n) zero = refl
+zero_at (suc n) (suc k) = zero_at n k
+
+-- no XMM register holds anything
+pub no_xmm : ◌≡◌ {A = ℕ → ℕ} (λ k. slice_index (zeros 16) k) (λ k. 0)
+no_xmm = λ i k. zero_at 16 k i
+
+module _ (memory : Image) (stack : Stack) (rva : ℕ) (function : Option RuntimeFunction) (old : Context) (xmm : ℕ → ℕ) (none : ◌≡◌ {A = ℕ → ℕ} xmm (λ k. 0)) where
+  from_none : framed memory stack rva function (registers_of (registers_in (columns_of old)).general xmm) ≡ framed memory stack rva function (registers_in (columns_of old))
+  from_none = ap (λ (x : ℕ → ℕ). framed memory stack rva function (registers_of (registers_in (columns_of old)).general x)) none
+
+  pub caller_is : (c : Context) (left : ℕ → ℕ) (ret : ℕ) → Returned ret (registers_of (registers_in (columns_of c)).general left) ≡ framed memory stack rva function (registers_of (registers_in (columns_of old)).general xmm) →
+      ◌≡◌ {A = Result Columns PeFault} (Ok (columns_of (record old { registers = c.registers; ra = ret }))) (columns_at (columns_of old) (framed memory stack rva function (registers_in (columns_of old))))
+  caller_is c left ret e = ap (λ (columns : Columns). Ok columns) (unwound old c ret) ∙ ap (columns_at (columns_of old)) (e ∙ from_none)
+
+  pub fault_is : (regs : Registers) (fault : FrameFault) → Faulted fault regs ≡ framed memory stack rva function (registers_of (registers_in (columns_of old)).general xmm) →
+      ◌≡◌ {A = Result Columns PeFault} (Err (InFrame fault)) (columns_at (columns_of old) (framed memory stack rva function (registers_in (columns_of old))))
+  fault_is regs fault e = ap (columns_at (columns_of old)) (e ∙ from_none)

@@ -1,0 +1,403 @@
+// From a frame to its caller, by an opcode of compact unwinding. Apple's compact unwinding,
+// mach-o/compact_unwind_encoding.h, x86-64 modes.
+ghost use Rattle.std.specs.Prelude.{◌≡◌, ◌<◌, ◌/◌, false, map, slice_index, take};
+ghost use Rattle.std.specs.List.{filter_map};
+ghost use Rattle.unwind_definitions.specs.Caller.{◌+w◌, word_or_fault};
+ghost use Rattle.unwind_definitions.specs.DescribedRows.{negative};
+ghost use Rattle.unwind_definitions.specs.HeaderSearch.{fde_at};
+ghost use Rattle.unwind_definitions.specs.LanguageTable.{input_at};
+ghost use Rattle.unwind_definitions.specs.Row.{row_at};
+ghost use Rattle.unwind_definitions.specs.State.{column_of};
+ghost use Rattle.unwind_arch.specs.Contexts.{columns_of};
+ghost use Rattle.encoded_pointers.specs.Pointers.{bases_of};
+ghost use Rattle.eh_frame.specs.Views.{fde_of, table_of};
+ghost use Rattle.unwinding_frames.specs.Calling.{value_given, columns_given, written_in};
+ghost use Rattle.format_definitions.specs.CompactStep.{saved_as, saved_in, fields_up, registers_back, with_column, half_or_fault, read_up, read_down, by_frame, by_cfa, by_description, frame_bases, compact_step};
+ghost use Rattle.format_frames.specs.Callers.{frame_left, field_read, place_below, size_in_code, faulting, caller_by_row, description_given, stepped_given, opcode_given};
+
+use crate::machine::Stepped;
+use crate::memory::bytes_at;
+use eh_frame::{Bases, EhFrame, Fde, RowRoom};
+use macho_unwind_info::opcodes::{OpcodeX86_64, RegisterNameX86_64};
+use memory_image::MemoryImage;
+use unwind_arch::x86_64::{Arch, Context, RBP, RBX, RSP};
+use unwinding_frames::{StepError, step_by_row};
+
+// a register's place among a context's
+fn column(register: RegisterNameX86_64) -> usize
+    ensures is { result ≡ column_of (saved_as register) }
+    ensures fits { result < 16 }
+{
+    match register {
+        RegisterNameX86_64::Rbx => RBX,
+        RegisterNameX86_64::R12 => 12,
+        RegisterNameX86_64::R13 => 13,
+        RegisterNameX86_64::R14 => 14,
+        RegisterNameX86_64::R15 => 15,
+        RegisterNameX86_64::Rbp => RBP,
+    }
+}
+
+// gives a general register, by its column, another value
+#[tactic(auto, using(crate::proofs::Written::register_columns))]
+fn write(context: &mut Context, column: usize, value: u64)
+    requires { column < 16 }
+    ensures { columns_of context.new ≡ with_column (columns_of context.old) column value }
+{
+    context.registers[column] = value;
+}
+
+// gives the return address another value
+fn write_return(context: &mut Context, value: u64)
+    ensures { columns_of context.new ≡ with_column (columns_of context.old) 16 value }
+{
+    context.ra = value;
+}
+
+// the word at an address, which has to be mapped
+fn word_at(image: &MemoryImage<'_>, address: u64) -> Result<u64, StepError>
+    ensures { value_given result ≡ word_or_fault image.now address }
+{
+    match image.read_u64(address) {
+        Some(word) => Ok(word),
+        None => Err(StepError::Unmapped(address)),
+    }
+}
+
+// the number of the four bytes at an address, which have to be mapped
+fn half_at(image: &MemoryImage<'_>, address: u64) -> Result<u32, StepError>
+    ensures { value_given result ≡ half_or_fault image.now address }
+{
+    match image.read_u32(address) {
+        Some(number) => Ok(number),
+        None => Err(StepError::Unmapped(address)),
+    }
+}
+
+// the fields of an opcode from the lowest up
+fn fields_up(fields: &[Option<RegisterNameX86_64>; 5]) -> [Option<RegisterNameX86_64>; 5]
+    ensures { map saved_in result ≡ fields_up fields.now }
+{
+    let [fifth, fourth, third, second, first] = *fields;
+    [first, second, third, fourth, fifth]
+}
+
+// the registers that an opcode lists, from the last back
+fn registers_back(registers: &[Option<RegisterNameX86_64>; 6]) -> [Option<RegisterNameX86_64>; 6]
+    ensures { filter_map saved_in result ≡ registers_back registers.now }
+{
+    let [first, second, third, fourth, fifth, sixth] = *registers;
+    [sixth, fifth, fourth, third, second, first]
+}
+
+// the first fields, at most so many
+fn first_fields(
+    fields: &[Option<RegisterNameX86_64>; 5],
+    count: u16,
+) -> &[Option<RegisterNameX86_64>]
+    ensures { result.now ≡ take count fields.now }
+{
+    if count < 5 {
+        &fields[..usize::from(count)]
+    } else {
+        fields
+    }
+}
+
+// Reads the register that a field names, if it names one, from the word at an address. After a
+// fault the registers are unspecified.
+fn read_field(
+    image: &MemoryImage<'_>,
+    address: u64,
+    field: Option<RegisterNameX86_64>,
+    caller: &mut Context,
+) -> Result<(), StepError>
+    ensures { columns_given columns_of (written_in result caller.new)
+        ≡ field_read image.now address (saved_in field) (columns_of caller.old) }
+{
+    if let Some(register) = field {
+        let value = word_at(image, address)?;
+        write(caller, column(register), value);
+    }
+    Ok(())
+}
+
+// Reads registers from words upwards, the first at an address; a field without a register is
+// passed. After a fault the registers are unspecified.
+fn read_up(
+    image: &MemoryImage<'_>,
+    address: u64,
+    fields: &[Option<RegisterNameX86_64>],
+    caller: &mut Context,
+) -> Result<(), StepError>
+    ensures { columns_given columns_of (written_in result caller.new)
+        ≡ read_up image.now address (map saved_in fields.now) (columns_of caller.old) }
+{
+    let mut place = address;
+    for field in fields {
+        read_field(image, place, *field, caller)?;
+        place = place.wrapping_add(8);
+    }
+    Ok(())
+}
+
+// where the next register stands, below one that is listed
+fn place_below(place: u64, listed: Option<RegisterNameX86_64>) -> u64
+    ensures { result ≡ place_below place (saved_in listed) }
+{
+    match listed {
+        Some(_) => place.wrapping_sub(8),
+        None => place,
+    }
+}
+
+// Reads registers from words downwards, the first at an address. After a fault the registers are
+// unspecified.
+fn read_down(
+    image: &MemoryImage<'_>,
+    address: u64,
+    registers: &[Option<RegisterNameX86_64>],
+    caller: &mut Context,
+) -> Result<(), StepError>
+    ensures { columns_given columns_of (written_in result caller.new)
+        ≡ read_down image.now address (filter_map saved_in registers.now) (columns_of caller.old) }
+{
+    let mut place = address;
+    for listed in registers {
+        read_field(image, place, *listed, caller)?;
+        place = place_below(place, *listed);
+    }
+    Ok(())
+}
+
+// Reads the registers of the fields that lie below the word at RBP, as many as fit in `offset`
+// bytes, from so far below it upwards. After a fault the registers are unspecified.
+#[tactic(auto, using(crate::proofs::Fields::first_named))]
+fn read_fields(
+    image: &MemoryImage<'_>,
+    rbp: u64,
+    offset: u16,
+    fields: &[Option<RegisterNameX86_64>; 5],
+    caller: &mut Context,
+) -> Result<(), StepError>
+    ensures { columns_given columns_of (written_in result caller.new)
+        ≡ read_up image.now (rbp +w negative offset) (take (offset / 8) (fields_up fields.now))
+        (columns_of caller.old) }
+{
+    let up = fields_up(fields);
+    let lowest = rbp.wrapping_sub(u64::from(offset));
+    read_up(image, lowest, first_fields(&up, offset / 8), caller)
+}
+
+// Leaves a frame whose frame pointer is the word at RBP: that word is the caller's RBP, and the
+// return address stands above it. After a fault the registers are unspecified.
+fn leave_frame(image: &MemoryImage<'_>, rbp: u64, caller: &mut Context) -> Result<(), StepError>
+    ensures { columns_given columns_of (written_in result caller.new)
+        ≡ frame_left image.now rbp (columns_of caller.old) }
+{
+    let saved = word_at(image, rbp)?;
+    let return_address = word_at(image, rbp.wrapping_add(8))?;
+    write(caller, RBP, saved);
+    write(caller, RSP, rbp.wrapping_add(16));
+    write_return(caller, return_address);
+    Ok(())
+}
+
+// The caller of a frame with a frame pointer: the fields lie `offset` bytes below the word at RBP.
+fn by_frame(
+    image: &MemoryImage<'_>,
+    offset: u16,
+    fields: &[Option<RegisterNameX86_64>; 5],
+    context: &Context,
+) -> Result<Context, StepError>
+    ensures { columns_given columns_of result ≡ by_frame image.now offset (fields_up fields.now)
+        (columns_of context.now) (slice_index context.now.registers 6) }
+{
+    let rbp = context.registers[RBP];
+    let mut caller = *context;
+    read_fields(image, rbp, offset, fields, &mut caller)?;
+    leave_frame(image, rbp, &mut caller)?;
+    Ok(caller)
+}
+
+// The caller of a frame without a frame pointer, by its canonical frame address: the return address
+// is just below it, and below that the registers from the last back.
+fn by_cfa(
+    image: &MemoryImage<'_>,
+    registers: &[Option<RegisterNameX86_64>; 6],
+    context: &Context,
+    cfa: u64,
+) -> Result<Context, StepError>
+    ensures { columns_given columns_of result ≡ by_cfa image.now (registers_back registers.now)
+        (columns_of context.now) cfa }
+{
+    let return_address = word_at(image, cfa.wrapping_sub(8))?;
+    let mut caller = *context;
+    write(&mut caller, RSP, cfa);
+    write_return(&mut caller, return_address);
+    read_down(
+        image,
+        cfa.wrapping_sub(16),
+        &registers_back(registers),
+        &mut caller,
+    )?;
+    Ok(caller)
+}
+
+// the description at an offset of the frame data, which lies at an address
+fn description_at<'a>(table: &EhFrame<'a>, bases: &Bases, offset: u32) -> Result<Fde<'a>, StepError>
+    ensures { description_given result ≡ faulting (fde_at (bases_of bases.now)
+        (table_of table.now) offset) }
+{
+    Ok(table.fde_at(bases, u64::from(offset))?)
+}
+
+// the caller of a frame at an address, by a description's row there, which is made in `rows`
+fn by_row<'a>(
+    image: &MemoryImage<'a>,
+    table: &EhFrame<'a>,
+    bases: &Bases,
+    description: &Fde<'a>,
+    address: u64,
+    context: &Context,
+    rows: &mut RowRoom<'a>,
+) -> Result<Context, StepError>
+    ensures { columns_given columns_of result ≡ caller_by_row image.now (columns_of context.now)
+        (row_at (bases_of bases.now) (fde_of description.now) address) }
+{
+    description.make_row(table, bases, address, rows)?;
+    let mut caller = *context;
+    step_by_row::<Arch>(image, &mut caller, &rows.row())?;
+    Ok(caller)
+}
+
+// the caller of a frame at an address, by the description at an offset of the frame data
+fn by_frame_data<'a>(
+    image: &MemoryImage<'a>,
+    frames: u64,
+    offset: u32,
+    address: u64,
+    context: &Context,
+    rows: &mut RowRoom<'a>,
+) -> Result<Stepped, StepError>
+    ensures { stepped_given result
+        ≡ by_description image.now frames address (columns_of context.now)
+        (fde_at (frame_bases frames) (input_at image.now frames) offset) }
+{
+    let table = EhFrame::new(bytes_at(image, frames), frames);
+    let bases = Bases {
+        text: None,
+        data_base: None,
+        func: None,
+        hdr: None,
+        frame: Some(frames),
+    };
+    let description = description_at(&table, &bases, offset)?;
+    let context = by_row(image, &table, &bases, &description, address, context, rows)?;
+    Ok(Stepped {
+        context,
+        signal: description.is_signal_trampoline(),
+    })
+}
+
+// the size of a frame that stands in the code of its function, with what is added to it
+fn indirect_size(
+    image: &MemoryImage<'_>,
+    start: u64,
+    offset: u8,
+    adjust: u8,
+) -> Result<u64, StepError>
+    ensures { value_given result ≡ size_in_code image.now (start +w offset) adjust }
+{
+    let size = half_at(image, start.wrapping_add(u64::from(offset)))?;
+    Ok(u64::from(adjust) + u64::from(size))
+}
+
+// the caller by the canonical frame address that is so far above the stack pointer
+fn by_size(
+    image: &MemoryImage<'_>,
+    registers: &[Option<RegisterNameX86_64>; 6],
+    context: &Context,
+    size: u64,
+) -> Result<Context, StepError>
+    ensures { columns_given columns_of result ≡ by_cfa image.now (registers_back registers.now)
+        (columns_of context.now) (slice_index context.now.registers 7 +w size) }
+{
+    by_cfa(
+        image,
+        registers,
+        context,
+        context.registers[RSP].wrapping_add(size),
+    )
+}
+
+// a caller that stands after a call
+fn after_call(context: Context) -> Stepped
+    ensures { result ≡ record { context = context; signal = false } }
+{
+    Stepped {
+        context,
+        signal: false,
+    }
+}
+
+/// The caller of the frame whose registers `context` holds, by the opcode of its function.
+///
+/// The frame stands at `address`, its function begins at `start`, and `frames` is the address of
+/// the frame data that the opcode may point to, where it was handed in. A row that it asks for is
+/// made in `rows`. `None` where the opcode gives no caller: it is null, invalid or of an unknown
+/// kind, or asks for frame data that there is not.
+///
+/// # Errors
+///
+/// The first fault: `Unmapped` with the address of a slot of the stack, or of the size in the
+/// function's code, that isn't wholly mapped; `Table` where the description can't be read, its row
+/// can't be made, or a register isn't the machine's.
+pub fn compact_step<'a>(
+    image: &MemoryImage<'a>,
+    frames: Option<u64>,
+    start: u64,
+    address: u64,
+    context: &Context,
+    opcode: &OpcodeX86_64,
+    rows: &mut RowRoom<'a>,
+) -> Result<Option<Stepped>, StepError>
+    ensures { opcode_given result
+        ≡ compact_step image.now frames start address (columns_of context.now) opcode.now }
+{
+    match opcode {
+        OpcodeX86_64::FrameBased {
+            stack_offset_in_bytes,
+            saved_regs,
+        } => {
+            let caller = by_frame(image, *stack_offset_in_bytes, saved_regs, context)?;
+            Ok(Some(after_call(caller)))
+        }
+        OpcodeX86_64::FramelessImmediate {
+            stack_size_in_bytes,
+            saved_regs,
+        } => {
+            let caller = by_size(image, saved_regs, context, u64::from(*stack_size_in_bytes))?;
+            Ok(Some(after_call(caller)))
+        }
+        OpcodeX86_64::FramelessIndirect {
+            immediate_offset_from_function_start,
+            stack_adjust_in_bytes,
+            saved_regs,
+        } => {
+            let offset = *immediate_offset_from_function_start;
+            let size = indirect_size(image, start, offset, *stack_adjust_in_bytes)?;
+            let caller = by_size(image, saved_regs, context, size)?;
+            Ok(Some(after_call(caller)))
+        }
+        OpcodeX86_64::Dwarf { eh_frame_fde } => match frames {
+            Some(frames) => {
+                let stepped = by_frame_data(image, frames, *eh_frame_fde, address, context, rows)?;
+                Ok(Some(stepped))
+            }
+            None => Ok(None),
+        },
+        OpcodeX86_64::Null | OpcodeX86_64::InvalidFrameless | OpcodeX86_64::UnrecognizedKind(_) =>
+            Ok(None),
+    }
+}

@@ -1,0 +1,92 @@
+// The step in a Mach-O module.
+ghost use Rattle.std.specs.Prelude.{◌≡◌, ◌+◌, ◌-◌, ◌<◌, ◌≤◌, ◌^◌};
+ghost use Rattle.unwind_arch.specs.Contexts.{columns_of};
+ghost use Rattle.format_definitions.specs.CompactStep.{macho_step};
+ghost use Rattle.format_frames.specs.Modules.{macho_module};
+ghost use Rattle.format_frames.specs.Refusals.{function_at, caller_given, caller_due, macho_given, macho_due};
+
+use crate::compact::compact_step;
+use crate::error::FrameError;
+use crate::machine::Stepped;
+use crate::memory::bytes_at;
+use eh_frame::RowRoom;
+use macho_unwind_info::opcodes::OpcodeX86_64;
+use macho_unwind_info::{Function, UnwindInfo};
+use memory_image::MemoryImage;
+use unwind_arch::x86_64::Context;
+
+/// A Mach-O module of a process, by addresses in its memory.
+#[derive(Clone, Copy, Debug, PartialEq, Eq)]
+pub struct MachoModule {
+    /// Where the module begins.
+    pub base: u64,
+    /// How many bytes it has.
+    pub size: u32,
+    /// Where its section of compact unwinding begins.
+    pub unwind_info: u64,
+    /// Where its frame data begins, which opcodes may point to, where there is some.
+    pub frames: Option<u64>,
+}
+
+// the function of an address, so far from the module's base, in its section of compact unwinding
+fn function_at(
+    image: &MemoryImage<'_>,
+    module: &MachoModule,
+    rva: u32,
+) -> Result<Option<Function>, macho_unwind_info::Error>
+    ensures { result ≡ function_at image.now (macho_module module.now) rva }
+{
+    UnwindInfo::parse(bytes_at(image, module.unwind_info))?.lookup(rva)
+}
+
+// the caller of the frame at an address of a function of the module
+fn caller_in<'a>(
+    image: &MemoryImage<'a>,
+    module: &MachoModule,
+    function: &Function,
+    address: u64,
+    context: &Context,
+    rows: &mut RowRoom<'a>,
+) -> Result<Stepped, FrameError>
+    ensures { caller_given result ≡ caller_due image.now (macho_module module.now) address
+        (columns_of context.now) function.now }
+{
+    let start = module.base.wrapping_add(u64::from(function.start_address));
+    let opcode = OpcodeX86_64::parse(function.opcode);
+    match compact_step(image, module.frames, start, address, context, &opcode, rows)? {
+        Some(stepped) => Ok(stepped),
+        None => Err(FrameError::CompactForm),
+    }
+}
+
+/// The caller of the frame at `address`, in a Mach-O module, whose registers `context` holds.
+/// `None` where the section of compact unwinding has no function there: the stack ends.
+///
+/// The opcode is that of the function that a look-up answers. A row that it asks for is made in
+/// `rows`.
+///
+/// # Errors
+///
+/// - `MachO` where the section, or what the look-up comes to, can't be read;
+/// - `CompactForm` where the opcode gives no caller;
+/// - `Unmapped` and `Table` as [`compact_step`] has them.
+pub fn macho_step<'a>(
+    image: &MemoryImage<'a>,
+    module: &MachoModule,
+    address: u64,
+    context: &Context,
+    rows: &mut RowRoom<'a>,
+) -> Result<Option<Stepped>, FrameError>
+    requires from { module.now.base ≤ address }
+    requires near { address - module.now.base < 2 ^ 32 }
+    ensures { macho_given result ≡ macho_due (macho_step image.now (macho_module module.now)
+        (address - module.now.base) (columns_of context.now)) }
+{
+    match function_at(image, module, (address - module.base) as u32)? {
+        Some(function) => {
+            let stepped = caller_in(image, module, &function, address, context, rows)?;
+            Ok(Some(stepped))
+        }
+        None => Ok(None),
+    }
+}

@@ -1,0 +1,124 @@
+// The step in a PE module. Microsoft x64 exception handling, unwind procedure.
+ghost use Rattle.std.specs.Prelude.{◌≡◌, ◌+◌, ◌-◌, ◌<◌, ◌≤◌, ◌^◌};
+ghost use Rattle.std.specs.Option.{option_map};
+ghost use Rattle.memory_image.specs.Image.{word_at};
+ghost use Rattle.unwind_arch.specs.Contexts.{columns_of};
+ghost use Rattle.format_definitions.specs.PeImage.{memory_of, table_of};
+ghost use Rattle.format_definitions.specs.PeRegisters.{registers_in};
+ghost use Rattle.format_definitions.specs.PeStep.{columns_at, pe_step};
+ghost use Rattle.pe_unwind_info.specs.FrameOf.{framed};
+ghost use Rattle.pe_unwind_info.specs.FunctionTable.{table_bytes, functions_of, lookup_of};
+ghost use Rattle.format_frames.specs.Modules.{pe_module};
+ghost use Rattle.format_frames.specs.Refusals.{address_in, frame_given, frame_refusal, pe_given, pe_due};
+
+use crate::error::FrameError;
+use crate::machine::Machine;
+use crate::memory::bytes_at;
+use memory_image::MemoryImage;
+use pe_unwind_info::x86_64::{FrameFault, FunctionTableEntries};
+use unwind_arch::x86_64::Context;
+
+/// A PE module of a process.
+#[derive(Clone, Copy, Debug, PartialEq, Eq)]
+pub struct PeModule {
+    /// The address at which the module begins.
+    pub base: u64,
+    /// How many bytes it has.
+    pub size: u32,
+    /// Where its function table begins, relative to the base.
+    pub table_rva: u32,
+    /// How many bytes the function table has.
+    pub table_size: u32,
+}
+
+impl PeModule {
+    // the address that lies so far from the base
+    fn address(&self, rva: u32) -> u64
+        ensures { result ≡ address_in (pe_module self.now) rva }
+    {
+        self.base.wrapping_add(u64::from(rva))
+    }
+}
+
+// a fault of a frame, which stands so far from the module's base, as why it has no caller
+fn refusal(module: &PeModule, rva: u32, fault: FrameFault) -> FrameError
+    ensures { result ≡ frame_refusal (pe_module module.now) rva fault }
+{
+    match fault {
+        FrameFault::Memory(record_rva) => FrameError::PeInfo(module.address(record_rva)),
+        FrameFault::Info(record_rva) => FrameError::PeInfo(module.address(record_rva)),
+        FrameFault::EpilogBytes => FrameError::PeInfo(module.address(rva)),
+        FrameFault::Stack(address) => FrameError::Unmapped(address),
+        FrameFault::ChainLimit => FrameError::ChainLimit,
+    }
+}
+
+// the bytes of the function table, where one region has them all
+fn table<'a>(image: &MemoryImage<'a>, module: &PeModule) -> Option<&'a [u8]>
+    ensures { option_map (λ bytes. bytes.now) result ≡ table_of image.now (pe_module module.now) }
+{
+    bytes_at(image, module.address(module.table_rva)).get(..module.table_size as usize)
+}
+
+// the caller by a function table, of the frame that stands so far from the module's base
+fn caller_by(
+    image: &MemoryImage<'_>,
+    base: u64,
+    functions: &FunctionTableEntries<'_>,
+    rva: u32,
+    context: &Context,
+) -> Result<Context, FrameFault>
+    ensures { frame_given result ≡ columns_at (columns_of context.now)
+        (framed (memory_of image.now base) (word_at image.now) rva
+        (lookup_of (functions_of (table_bytes functions.now)) rva)
+        (registers_in (columns_of context.now))) }
+{
+    let mut machine = Machine {
+        context: *context,
+        xmm_registers: [0; 16],
+        image,
+    };
+    let memory_at_rva = |rva: u32| -> Option<&[u8]>
+        ensures { option_map (λ bytes. bytes.now) result ≡ memory_of image.entry.now base rva }
+    { image.from(base.wrapping_add(u64::from(rva))) };
+    let ra = functions.try_unwind_frame(&mut machine, memory_at_rva, rva)?;
+    Ok(Context {
+        registers: machine.context.registers,
+        ra,
+        ..*context
+    })
+}
+
+/// The caller of the frame at `address`, in a PE module, whose registers `context` holds. At an
+/// address that no record of the function table covers stands a leaf. What the frame has of XMM
+/// registers isn't kept.
+///
+/// # Errors
+///
+/// The first fault: `PeInfo` with the address of the function table, where one region doesn't have
+/// all of its bytes, of a first or chained unwind record that can't be read, or of the frame, where
+/// the code from there to the function's end has to be tested for an epilog and isn't all there;
+/// `ChainLimit` where more than 32 records follow one another; `Unmapped` with the address of a
+/// word of the stack that isn't wholly mapped.
+pub fn pe_step(
+    image: &MemoryImage<'_>,
+    module: &PeModule,
+    address: u64,
+    context: &Context,
+) -> Result<Context, FrameError>
+    requires from { module.now.base ≤ address }
+    requires near { address - module.now.base < 2 ^ 32 }
+    ensures { pe_given result ≡ pe_due (pe_module module.now) (address - module.now.base)
+        (pe_step image.now (pe_module module.now) (address - module.now.base)
+        (columns_of context.now)) }
+{
+    let rva = (address - module.base) as u32;
+    let Some(bytes) = table(image, module) else {
+        return Err(FrameError::PeInfo(module.address(module.table_rva)));
+    };
+    let functions = FunctionTableEntries::parse(bytes);
+    match caller_by(image, module.base, &functions, rva, context) {
+        Ok(caller) => Ok(caller),
+        Err(fault) => Err(refusal(module, rva, fault)),
+    }
+}

@@ -1,0 +1,7 @@
+pub mod PeUndone
+pub mod CompactUndone
+pub mod PeSamples
+pub mod MachoSamples
+pub mod ElfSample
+pub mod FormatUndone
+pub mod FormatSample

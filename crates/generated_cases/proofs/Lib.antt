@@ -1,0 +1,4 @@
+pub mod Taken
+pub mod AscendingResumes
+pub mod Described
+pub mod Sums

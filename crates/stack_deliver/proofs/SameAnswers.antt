@@ -1,0 +1,75 @@
+-- What is answered over a space doesn't depend on which of its modules are prepared.
+use Rattle.std.proofs.Common.{◌≡◌, ℕ, zero, suc, Bool, false, List, Option, Some, None, Result, Ok, Err, refl, ap, ◌∙◌}
+use Rattle.unwind_arch.specs.declared.x86_64.Context.{Context}
+use Rattle.stack_deliver.specs.declared.delivery.DeliverError.{DeliverError}
+use Rattle.stack_deliver.specs.declared.delivery.DeliverError.TheVariants.{PassLimit}
+use Rattle.stack_deliver.specs.declared.delivery.Stepped.{Stepped}
+use Rattle.stack_deliver.specs.declared.delivery.Trail.{Trail}
+use Rattle.stack_deliver.specs.declared.passes.Phase.{Phase}
+use Rattle.stack_deliver.specs.declared.passes.Phase.TheVariants as phase
+use Rattle.stack_deliver.specs.Delivering.{Delivered, delivered_at, delivered_by, delivered_to, delivery_of, line_after, line_of, with_first}
+use Rattle.stack_deliver.specs.Modules.{Added, SpaceValue}
+use Rattle.stack_deliver.specs.Passes.{Ends, Stops, Goes, Elsewhere, Finishes, Line, Passed, PassEnd, Stop, Turn, cleanup_at, cleanup_of, end_of, followed, kept_at, line_for, line_turn, pad_of, pass_of, passes_of, resume_at, resumed, turn_for, with_cleanup, with_context}
+use Rattle.stack_deliver.specs.Resumes.{return_of}
+use Rattle.stack_deliver.specs.Stepping.{frame_of, step_of}
+
+module _ (s : SpaceValue) (added : List Added) where
+  abbrev other : SpaceValue
+  other = record s { added = added }
+
+  pub step_same : (c : Context) (interrupted : Bool) → step_of other c interrupted ≡ step_of s c interrupted
+  unfolding step_of frame_of
+  step_same c interrupted = refl
+
+  pub line_same : (limit : ℕ) (c : Context) (interrupted : Bool) → line_of other limit c interrupted ≡ line_of s limit c interrupted
+  line_same zero c interrupted = refl
+  line_same (suc room) c interrupted = ap (λ (r : Result (Option Stepped) DeliverError). line_after c r (line_of other room)) (step_same c interrupted) ∙ go (step_of s c interrupted) (line_same room)
+    where
+      go : (r : Result (Option Stepped) DeliverError) → ((d : Context) (marked : Bool) → line_of other room d marked ≡ line_of s room d marked) → line_after c r (line_of other room) ≡ line_after c r (line_of s room)
+      go (Err e) outer = refl
+      go (Ok None) outer = refl
+      go (Ok (Some n)) outer = ap (with_first c) (outer n.context n.signal)
+
+  turn_same : (p : Option Phase) (c : Context) (interrupted : Bool) → turn_for p other c interrupted ≡ turn_for p s c interrupted
+  unfolding turn_for frame_of
+  turn_same p c interrupted = refl
+
+  pass_same : (p : Option Phase) (limit : ℕ) (c : Context) (interrupted : Bool) → line_for p other limit c interrupted ≡ line_for p s limit c interrupted
+  pass_same p zero c interrupted = refl
+  pass_same p (suc room) c interrupted = ap (λ (r : Result Turn DeliverError). line_turn c interrupted r (line_for p other room)) (turn_same p c interrupted) ∙ go (turn_for p s c interrupted) (pass_same p room)
+    where
+      go : (r : Result Turn DeliverError) → ((d : Context) (marked : Bool) → line_for p other room d marked ≡ line_for p s room d marked) → line_turn c interrupted r (line_for p other room) ≡ line_turn c interrupted r (line_for p s room)
+      go (Err e) outer = refl
+      go (Ok Ends) outer = refl
+      go (Ok (Stops action past)) outer = refl
+      go (Ok (Goes next)) outer = ap (with_context c) (outer next.context next.signal)
+
+  module _ (exception kept : ℕ) (resumes : List (ℕ × ℕ)) (limit : ℕ) where
+    cleanup_same : (c : Context) → cleanup_of other exception kept limit c ≡ cleanup_of s exception kept limit c
+    cleanup_same c = ap (end_of exception kept) (pass_same (Some phase.Cleanup) limit c false)
+
+    passes_same : (places : ℕ) (c : Context) → passes_of other exception kept resumes limit places c ≡ passes_of s exception kept resumes limit places c
+    passes_same zero c = ap (λ (r : Result PassEnd DeliverError). followed r (λ pad entered. Err PassLimit)) (cleanup_same c)
+    passes_same (suc places) c = ap (λ (r : Result PassEnd DeliverError). followed r (λ pad entered. resumed (cleanup_at pad entered) (resume_at pad entered (return_of resumes pad)) (passes_of other exception kept resumes limit places))) (cleanup_same c) ∙ go (cleanup_of s exception kept limit c) (passes_same places)
+      where
+        again : (t : Trail) (r : Result Context DeliverError) → ((d : Context) → passes_of other exception kept resumes limit places d ≡ passes_of s exception kept resumes limit places d) → resumed t r (passes_of other exception kept resumes limit places) ≡ resumed t r (passes_of s exception kept resumes limit places)
+        again t (Ok c) later = ap (with_cleanup t) (later c)
+        again t (Err e) later = refl
+
+        go : (r : Result PassEnd DeliverError) → ((d : Context) → passes_of other exception kept resumes limit places d ≡ passes_of s exception kept resumes limit places d) → followed r (λ pad entered. resumed (cleanup_at pad entered) (resume_at pad entered (return_of resumes pad)) (passes_of other exception kept resumes limit places)) ≡ followed r (λ pad entered. resumed (cleanup_at pad entered) (resume_at pad entered (return_of resumes pad)) (passes_of s exception kept resumes limit places))
+        go (Ok (Finishes ending)) later = refl
+        go (Ok (Elsewhere pad entered)) later = again (cleanup_at pad entered) (resume_at pad entered (return_of resumes pad)) later
+        go (Err e) later = refl
+
+  pub delivery_same : (c : Context) (exception : ℕ) (resumes : List (ℕ × ℕ)) (limit : ℕ) → delivery_of other c exception resumes limit ≡ delivery_of s c exception resumes limit
+  unfolding delivery_of
+  delivery_same c exception resumes limit =
+      ap (λ (r : Result Line DeliverError). delivered_by r (λ kept. passes_of other exception kept resumes limit limit c)) (pass_same (Some phase.Search) limit c false) ∙ go (pass_of phase.Search s limit c false)
+    where
+      stopped : (line : Line) (o : Option Stop) → delivered_to line.contexts o (λ kept. passes_of other exception kept resumes limit limit c) ≡ delivered_to line.contexts o (λ kept. passes_of s exception kept resumes limit limit c)
+      stopped line None = refl
+      stopped line (Some stop) = ap (λ (p : Result Passed DeliverError). delivered_at line.contexts (pad_of stop.action) p) (passes_same exception (kept_at stop.context stop.interrupted) resumes limit limit c)
+
+      go : (r : Result Line DeliverError) → delivered_by r (λ kept. passes_of other exception kept resumes limit limit c) ≡ delivered_by r (λ kept. passes_of s exception kept resumes limit limit c)
+      go (Ok line) = stopped line line.stop
+      go (Err e) = refl

@@ -1,0 +1,44 @@
+-- A word in a window is the image's.
+use Rattle.std.proofs.Common.{inl, inr, ◌≡◌, ℕ, ◌+◌, ◌-◌, ◌%◌, ◌^◌, ◌<◌, ◌≤◌, List, [], length, take, drop, Some, refl, sym, ap, ◌∙◌, arith}
+use Rattle.std.proofs.lemmas.Bool.Decides.{leb_tells}
+use Rattle.std.proofs.lemmas.List.{length-drop}
+use Rattle.memory_image.specs.Image.{Span, table_at, word_at}
+use Rattle.memory_image.specs.ImageLaws.{table_at-add, table_past, word_at-table}
+use Rattle.memory_image.specs.Words.{number_of, u64_at}
+use Rattle.unwinding_frames.specs.Windows.{IsWindow}
+
+u64_at-drop : (bytes : List ℕ) (k : ℕ) → u64_at (drop k bytes) 0 ≡ u64_at bytes k
+unfolding u64_at
+u64_at-drop bytes k = refl
+
+module _ (image : List Span) (start : ℕ) (bytes : List ℕ) (places : ℕ) (window : IsWindow image start bytes places) where
+  pub place_fits : (k : ℕ) → k < places → k + 8 ≤ length bytes
+  place_fits k inside = let whole = window.whole in omega arith
+
+  table_there : (k : ℕ) → k < places → table_at image (start + k) ≡ drop k bytes
+  table_there k inside =
+      let fits : k + 8 ≤ length bytes = place_fits k inside in
+      let here : k < length (table_at image start) = rw (← window.held) (omega arith) in
+      rw window.held (table_at-add image 0 start k window.laid_out here)
+
+  long_there : (k : ℕ) → k < places → 8 ≤ length (table_at image (start + k))
+  long_there k inside =
+      let fits : k + 8 ≤ length bytes = place_fits k inside in
+      rw (table_there k inside, length-drop) (omega arith)
+
+  below : (k : ℕ) → k < places → start + k < 2 ^ 64
+  below k inside = elim (leb_tells (2 ^ 64) (start + k)) [
+    | inl past ↦
+        let none : table_at image (start + k) ≡ [] = table_past image 0 (start + k) window.laid_out past.1 in
+        let long : 8 ≤ 0 = rw none at (long_there k inside) in
+        absurd (omega arith)
+    | inr low ↦ low.1
+  ]
+
+  pub word_there : (address k : ℕ) → address < 2 ^ 64 → k ≡ (address + (2 ^ 64 - start)) % 2 ^ 64 → k < places → word_at image address ≡ Some (u64_at bytes k)
+  word_there address k small is inside =
+      let end : start + k < 2 ^ 64 = below k inside in
+      let same : start + k ≡ address = omega arith in
+      let long : 8 ≤ length (table_at image address) = rw same at (long_there k inside) in
+      let table : table_at image address ≡ drop k bytes = rw same at (table_there k inside) in
+      word_at-table image address window.laid_out long ∙ rw table (ap Some (u64_at-drop bytes k))
