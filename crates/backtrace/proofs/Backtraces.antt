@@ -1,11 +1,11 @@
 -- A snapshot has one backtrace, and what is due is by it.
-use Rattle.std.proofs.Common.{inl, inr, ◌≡◌, ℕ, ◌-◌, ◌^◌, ◌≤◌, Bool, true, false, List, length, Option, Some, None, Result, Ok, Err, refl, sym, ap, ◌∙◌, ltb}
-use Rattle.std.specs.Prelude.{◌⊎◌, IfSome, codes, if◌then◌else◌}
+use Rattle.std.proofs.Common.{inl, inr, ◌≡◌, ℕ, ◌-◌, ◌^◌, Bool, true, false, List, length, Option, Some, None, Result, Ok, Err, refl, sym, ap, ◌∙◌, ltb}
+use Rattle.std.specs.Prelude.{IfSome, codes, if◌then◌else◌}
 use Rattle.std.proofs.lemmas.Bool.{le-ltb}
 use Rattle.unwind_arch.specs.declared.x86_64.Context.{Context}
 use Rattle.command_ends.specs.declared.status.Status.{Status}
 use Rattle.command_ends.specs.declared.status.Status.TheVariants.{Done, TooLong}
-use Rattle.command_ends.specs.Verdicts.{Verdict, verdict, IsReadyOrFailed}
+use Rattle.command_ends.specs.Verdicts.{verdict, IsReadyOrFailed}
 use Rattle.stack_deliver.specs.Modules.{SpaceValue}
 use Rattle.stack_deliver.specs.Fronts.{started}
 use Rattle.stack_deliver.proofs.FrontAnswers.{one_front}

@@ -1,5 +1,5 @@
 -- What a run is to answer, and what it is to write.
-use Rattle.std.specs.Prelude.{◌≡◌, ℕ, ◌^◌, ◌≤◌, Bool, true, false, List, [], length, Option, Some, None, Result, Ok, Err, codes, nat_lt, if◌then◌else◌}
+use Rattle.std.specs.Prelude.{◌≡◌, ℕ, ◌^◌, ◌≤◌, List, [], length, Option, Some, None, Result, Ok, Err, codes, nat_lt, if◌then◌else◌}
 use Rattle.command_ends.specs.declared.status.Status.TheVariants.{Done, Usage, TooLong, NotJson, BadSnapshot, Memory}
 use Rattle.command_ends.specs.Verdicts.{Verdict, verdict}
 use Rattle.stack_snapshot.specs.declared.errors.SnapshotError.{SnapshotError}

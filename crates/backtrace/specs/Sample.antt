@@ -1,5 +1,5 @@
 -- A thread that was interrupted at the address 0, with the return address of the call that led there on its stack.
-use Rattle.std.specs.Prelude.{ℕ, true, false, List, [], ◌∷◌, ◌++◌, replicate, Some, None, codes}
+use Rattle.std.specs.Prelude.{ℕ, true, false, List, [], ◌∷◌, ◌++◌, Some, None, codes}
 use Rattle.unwind_definitions.specs.State.{State}
 use Rattle.unwind_definitions.specs.Function.{Function}
 use Rattle.unwind_arch.specs.declared.x86_64.Context.{Context}

@@ -1,5 +1,5 @@
 -- The states of a stack as far as they are known, and why there are no more.
-use Rattle.std.specs.Prelude.{◌≡◌, ℕ, ◌+◌, ◌-◌, ◌%◌, ◌^◌, ◌⊎◌, ◌==◌, ◌&&◌, ◌||◌, Bool, true, false, List, Option, Some, None, slice_index, slice_set, is_none, option_and_then, IsTrue, if◌then◌else◌}
+use Rattle.std.specs.Prelude.{◌≡◌, ℕ, ◌+◌, ◌-◌, ◌%◌, ◌^◌, ◌⊎◌, ◌==◌, ◌&&◌, ◌||◌, Bool, false, List, Option, Some, None, slice_index, slice_set, is_none, option_and_then, IsTrue, if◌then◌else◌}
 use Rattle.memory_image.specs.Image.{Span, word_at}
 use Rattle.unwind_arch.specs.declared.x86_64.Context.{Context}
 use Rattle.unwind_arch.specs.Columns as column

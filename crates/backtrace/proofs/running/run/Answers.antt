@@ -1,7 +1,7 @@
-use Rattle.std.proofs.Common.{inl, inr, ◌≡◌, ◌≢◌, ℕ, List, Option, refl, sym, subst, ◌∙◌}
+use Rattle.std.proofs.Common.{inl, inr, ◌≡◌, ℕ, List, Option, sym, subst, ◌∙◌}
 use Rattle.std.specs.Io.KnownBytes.{Appends}
-use Rattle.command_ends.specs.declared.status.Status.TheVariants.{Done, WriteFault}
-use Rattle.command_ends.specs.Verdicts.{Verdict, verdict, IsReadyOrFailed, Tells}
+use Rattle.command_ends.specs.declared.status.Status.TheVariants.{Done}
+use Rattle.command_ends.specs.Verdicts.{Verdict, IsReadyOrFailed, Tells}
 use Rattle.command_ends.proofs.VerdictLemmas.{if_some_weaker, of_some}
 use Rattle.backtrace.specs.Due.{IsBacktrace, due_of, text_of}
 use Rattle.backtrace.proofs.Backtraces.{ready_with, if_some_both, asked_due, asked_backtrace}

@@ -1,11 +1,5 @@
-use Rattle.std.proofs.Common.{◌≡◌, List, Option, Some, Result, Ok, subst, ap, sym, ◌∙◌}
-use Rattle.stack_snapshot.specs.declared.errors.SnapshotError.{SnapshotError}
-use Rattle.stack_snapshot.specs.Answers.{content_of, value_of}
-use Rattle.stack_snapshot.specs.Content.{Content}
+use Rattle.stack_snapshot.specs.Answers.{value_of}
 use Rattle.stack_snapshot.specs.Origins.{origins_by}
-use Rattle.backtrace.specs.declared.words.Options.{Options}
-use Rattle.backtrace.specs.Options.{options_of}
-use Rattle.backtrace.specs.Due.{IsBacktraceBy}
 use Rattle.backtrace.proofs.Backtraces.{one_backtrace}
 use Rattle.backtrace.proofs.sample.a_backtrace_is_one.Goals as goal
 

@@ -1,4 +1,4 @@
-use Rattle.std.proofs.Common.{inl, ◌≡◌, ◌≢◌, ℕ, Some, refl, arith}
+use Rattle.std.proofs.Common.{inl, ◌≡◌, Some, refl, arith}
 use Rattle.memory_image.specs.Image.{word_at}
 use Rattle.unwind_definitions.specs.State.{CalleeSaved, RBX, RBP, R12, R13, R14, R15, column_of, value_of}
 use Rattle.unwind_arch.specs.Contexts.{columns_of}

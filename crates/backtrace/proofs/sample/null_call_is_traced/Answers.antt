@@ -1,4 +1,4 @@
-use Rattle.std.proofs.Common.{inl, inr, ◌≡◌, ◌≢◌, ℕ, false, [], Some, refl, lit≤}
+use Rattle.std.proofs.Common.{inl, inr, ◌≢◌, ℕ, false, refl, lit≤}
 use Rattle.std.specs.Char.{encode_utf8}
 use Rattle.std.specs.Str.{is_utf8, chars}
 use Rattle.std.specs.Fmt.{digits}
