@@ -8,7 +8,7 @@ use Rattle.unwind_definitions.specs.LanguageSearch.{address_of_call}
 use Rattle.unwind_arch.specs.declared.x86_64.Context.{Context}
 use Rattle.stack_deliver.specs.declared.front.Front.{Front}
 use Rattle.stack_deliver.specs.declared.front.Front.TheVariants.{Outermost, NoModule, NoDescription, UnreadableTable, Refused, Limit}
-use Rattle.stack_deliver.specs.Shown.{state_of}
+use Rattle.stack_deliver.specs.StateViews.{state_of}
 use Rattle.stack_snapshot.specs.Origins.{OriginValue, origin_at, file_name}
 use Rattle.stack_snapshot.specs.declared.errors.Field.{Field}
 use Rattle.stack_snapshot.specs.Names.{field_name}

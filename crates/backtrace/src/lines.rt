@@ -1,6 +1,6 @@
 // The lines of a backtrace.
 ghost use Rattle.std.specs.Prelude.{◌≡◌, ◌≤◌, ◌++◌, IfOk, OnOk, Some};
-ghost use Rattle.stack_deliver.specs.Shown.{state_of};
+ghost use Rattle.stack_deliver.specs.StateViews.{state_of};
 ghost use Rattle.backtrace.specs.Lines.{backtrace_text, bad_line, end_line, frame_line, frame_lines, frame_text, gap_text, guess_text, inside_of, kept_text, limit_text, no_module_text, number_text, origin_text, place_text, registers_text, rest_text, states_of, undescribed_text, unread_text, usage_line, why_text};
 
 use crate::tracing::Trace;
@@ -201,7 +201,8 @@ fn put_walked(
 
 /// Puts the lines of all states.
 fn put_states(report: &mut Report, form: &Form<'_>, trace: &Trace) -> Result<(), AllocError>
-    ensures { OnOk result (report.new ≡ report.old ++ frame_lines form.now 0 (states_of trace.now)) }
+    ensures { OnOk result (report.new ≡ report.old ++ frame_lines form.now 0
+        (states_of trace.now)) }
 {
     match trace.first() {
         Some(start) => {

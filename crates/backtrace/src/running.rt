@@ -73,7 +73,8 @@ fn bytes_answer(alloc: Global, options: Options, bytes: Vec<u8>) -> Answer
     ensures backtrace { result.status ≡ Status.Done → IsBacktraceBy (Some options)
         (content_of bytes.items) (origins_by (value_of bytes.items)) result.text }
     ensures kind { (result.status ≢ Status.Usage) × (result.status ≢ Status.ReadFault) ×
-        (result.status ≢ Status.WriteFault) × (result.status ≢ Status.TooLong) × (result.status ≢ Status.Refused) }
+        (result.status ≢ Status.WriteFault) × (result.status ≢ Status.TooLong) ×
+        (result.status ≢ Status.Refused) }
     ensures silent { result.status ≡ Status.Memory → result.text ≡ [] }
 {
     let named = read_named_snapshot(alloc, &bytes);
@@ -161,7 +162,8 @@ pub fn run<I: Source, O: Sink>(
     // Of a snapshot's trace the lines are written: of each frame, and why there are no more.
     ensures traced { (o : Options) (s : Content) (origins : List OriginValue) (t : TraceValue) →
         Asks o words.now (I.left input.old) s origins → IsTraceOf s t →
-        Tells (verdict Status.Done (text_of o s origins t)) result (O.holds output.old) (O.holds output.new) }
+        Tells (verdict Status.Done (text_of o s origins t)) result (O.holds output.old)
+        (O.holds output.new) }
     // Whatever the source tells, words that name no options are answered so, and no others.
     ensures usage { ComesExactly result Status.Usage (options_of words.now ≡ None) }
     ensures usage_told { options_of words.now ≡ None →

@@ -3,7 +3,7 @@ ghost use Rattle.std.specs.Prelude.{◌≡◌, ◌≢◌, ℕ, List, [], Some, O
 ghost use Rattle.unwind_definitions.specs.State.{IsState, Shows};
 ghost use Rattle.unwind_definitions.specs.Entered.{IsEntered};
 ghost use Rattle.unwind_definitions.specs.Stopped.{StandsAfter};
-ghost use Rattle.unwind_arch.specs.Contexts.{columns_of};
+ghost use Rattle.unwind_arch.specs.ContextViews.{columns_of};
 ghost use Rattle.stack_snapshot.specs.Content.{Content, space_of};
 ghost use Rattle.stack_snapshot.specs.Answers.{content_of};
 ghost use Rattle.backtrace.specs.declared.words.Options.{Options};

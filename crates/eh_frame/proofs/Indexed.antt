@@ -18,7 +18,7 @@ use Rattle.eh_frame.specs.Listed.{has_bytes, nonempty}
 use Rattle.encoded_pointers.specs.Readers.{Answers}
 use Rattle.unwind_definitions.specs.Module.{pair_of}
 use Rattle.eh_frame.specs.FdeLists.{cie_in, fde_in, fde_with}
-use Rattle.eh_frame.specs.Views.{cie_of}
+use Rattle.eh_frame.specs.EntryViews.{cie_of}
 use Rattle.eh_frame.specs.declared.cie.Cie.{Cie as CodeCie}
 use Rattle.eh_frame.specs.declared.prepared.PreparedFunction.{PreparedFunction}
 use Rattle.eh_frame.proofs.Ascending.{covered}

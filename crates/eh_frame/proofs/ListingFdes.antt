@@ -10,7 +10,7 @@ use Rattle.unwind_definitions.specs.Entries.{Cie, Fde, Entry, ACie, AFde, cie_at
 use Rattle.eh_frame.specs.FdeLists.{IsListOf, IsListedIn, IsTold, KeepsCie, cie_in, fde_in, fde_with, no_cie}
 use Rattle.eh_frame.specs.Listed.{nonempty}
 use Rattle.eh_frame.specs.Shared.{StandsIn}
-use Rattle.eh_frame.specs.Views.{cie_of}
+use Rattle.eh_frame.specs.EntryViews.{cie_of}
 use Rattle.eh_frame.specs.declared.cie.Cie.{Cie as CodeCie}
 use Rattle.eh_frame.specs.declared.listed_fde.ListedFde.{ListedFde}
 use Rattle.eh_frame.proofs.Indexed.{cie_there}

@@ -13,8 +13,8 @@ use Rattle.unwind_definitions.specs.HeaderSearch.{IsBoundary, StartsAbove, IsUnr
 use Rattle.unwind_definitions.specs.HeaderSearchLaws.{table_answer-is}
 use Rattle.encoded_pointers.specs.Readers.{Answers}
 use Rattle.eh_frame.specs.declared.fde.Fde.{Fde as CodeFde}
-use Rattle.eh_frame.specs.Views.{fde_of}
-use Rattle.eh_frame.specs.Headers.{answer_of}
+use Rattle.eh_frame.specs.EntryViews.{fde_of}
+use Rattle.eh_frame.specs.HeaderViews.{answer_of}
 use Rattle.eh_frame.proofs.Faults.{other_pair_at, other_fde_at_address}
 
 -- what is answered by a view is what is given

@@ -10,14 +10,14 @@ use Rattle.unwind_definitions.specs.Pointers.{Bases}
 use Rattle.unwind_definitions.specs.Entries.{Fde, Entry, ACie, AFde, Found, entry_at, AreEntries}
 use Rattle.unwind_definitions.specs.Row.{covers_pc}
 use Rattle.unwind_definitions.specs.Scan.{fdes_of, first_covering, found_or, scan_after, scan_from, scan}
-use Rattle.eh_frame.specs.Search.{IsFirst, IsUnreadable, IsUncovered}
+use Rattle.eh_frame.specs.Search.{IsFirst, IsUnreadable, NoneContains}
 use Rattle.eh_frame.proofs.Ahead.{next_within}
 
 module _ (bases : Bases) (table : Input) (pc : ℕ) (start : table.offset ≡ 0) where
   -- what a search from an offset on comes to
   abbrev pub Comes : ℕ → Result Fde Fault → Type 0
   Comes from (Ok fde) = IsFirst bases table pc from fde
-  Comes from (Err e) = IsUnreadable bases table pc from e ⊎ ((e ≡ NoUnwindInfoForAddress) × IsUncovered bases table pc from)
+  Comes from (Err e) = IsUnreadable bases table pc from e ⊎ ((e ≡ NoUnwindInfoForAddress) × NoneContains bases table pc from)
 
   -- an entry that doesn't contain the address stands before a search
   before : (from : ℕ) (e : Entry) (next : ℕ) (r : Result Fde Fault) → entry_at bases table from ≡ Ok (Some (record { entry = e; next = next })) →
@@ -87,7 +87,7 @@ module _ (bases : Bases) (table : Input) (pc : ℕ) (start : table.offset ≡ 0)
   unfolding scan
   scan_comes = comes (suc (length table.bytes)) 0 (omega arith) (omega arith)
 
-  pub uncovered : IsUncovered bases table pc 0 → scan bases table pc ≡ Err NoUnwindInfoForAddress
+  pub uncovered : NoneContains bases table pc 0 → scan bases table pc ≡ Err NoUnwindInfoForAddress
   unfolding scan
   uncovered u = let all = few 0 u.entries (omega arith) u.are in none_found (suc (length table.bytes)) 0 u.entries u.are (omega arith) u.none
 

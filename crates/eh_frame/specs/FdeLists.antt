@@ -6,11 +6,11 @@ use Rattle.std.specs.List.Sorted.{IsNonDecreasingBy}
 use Rattle.unwind_definitions.specs.Input.{Input}
 use Rattle.unwind_definitions.specs.Pointers.{Bases}
 use Rattle.unwind_definitions.specs.Entries.{Cie, Fde, is_pointing}
-use Rattle.encoded_pointers.specs.View.{at}
-use Rattle.encoded_pointers.specs.Pointers.{pointer_of}
+use Rattle.encoded_pointers.specs.CursorViews.{at}
+use Rattle.encoded_pointers.specs.PointerViews.{pointer_of}
 use Rattle.eh_frame.specs.Listed.{HasUnreadable, IsWhole}
 use Rattle.eh_frame.specs.Shared.{StandsIn}
-use Rattle.eh_frame.specs.Views.{cie_of}
+use Rattle.eh_frame.specs.EntryViews.{cie_of}
 use Rattle.eh_frame.specs.declared.cie.Cie.{Cie as CodeCie}
 use Rattle.eh_frame.specs.declared.fde_list.FdeList.{FdeList}
 use Rattle.eh_frame.specs.declared.listed_fde.ListedFde.{ListedFde}

@@ -12,7 +12,7 @@ use Rattle.unwind_definitions.specs.Row.{covers_pc}
 use Rattle.frame_rows.specs.RowValue.{RowValue}
 use Rattle.frame_rows.specs.KeptRows.{Kept, KeptRows, AreKeptOf, kept_rule_count, location_of, reached_locations}
 use Rattle.eh_frame.specs.Listed.{HasUnreadable, SharesAddress, nonempty}
-use Rattle.eh_frame.specs.Views.{fde_of}
+use Rattle.eh_frame.specs.EntryViews.{fde_of}
 use Rattle.eh_frame.specs.FdeLists.{IsListedIn, fde_in}
 use Rattle.eh_frame.specs.declared.cie.Cie.{Cie as CodeCie}
 use Rattle.eh_frame.specs.declared.prepared.Found.{Found}

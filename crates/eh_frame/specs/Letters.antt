@@ -5,7 +5,7 @@ use Rattle.unwind_definitions.specs.Entries.{Letters}
 use Rattle.unwind_definitions.specs.Augmentation.{language_letter, personality_letter, address_letter, signal_letter}
 use Rattle.unwind_definitions.specs.Membership.{is_among}
 use Rattle.unwind_definitions.specs.Pointers.{Pointer}
-use Rattle.encoded_pointers.specs.Pointers.{pointer_of}
+use Rattle.encoded_pointers.specs.PointerViews.{pointer_of}
 use Rattle.encoded_pointers.specs.declared.encoding.DwEhPe.{DwEhPe}
 use Rattle.eh_frame.specs.declared.augmentation.Letters.{Letters as CodeLetters}
 use Rattle.eh_frame.specs.declared.augmentation.Personality.{Personality}

@@ -1,8 +1,8 @@
 pub mod Letters
-pub mod Views
+pub mod EntryViews
 pub mod Search
 pub mod Shared
-pub mod Headers
+pub mod HeaderViews
 pub mod HeaderLists
 pub mod Listing
 pub mod Listed

@@ -4,9 +4,9 @@ use Rattle.unwind_definitions.specs.declared.error.Error.{Error as Fault}
 use Rattle.unwind_definitions.specs.Input.{Input}
 use Rattle.unwind_definitions.specs.Pointers.{Bases}
 use Rattle.unwind_definitions.specs.Entries.{Entry, Found, entry_at}
-use Rattle.encoded_pointers.specs.Pointers.{bases_of}
+use Rattle.encoded_pointers.specs.PointerViews.{bases_of}
 use Rattle.eh_frame.specs.declared.listing.Entries.{Entries}
-use Rattle.eh_frame.specs.Views.{table_of}
+use Rattle.eh_frame.specs.EntryViews.{table_of}
 
 -- where the next entry of a table stands, and whether there is none: the list has ended, or an entry couldn't be read
 pub record Listing : Type 0 where

@@ -32,7 +32,7 @@ module _ (bases : Bases) (table : Input) (pc : ℕ) where
     pub unread : entry_at bases table offset ≡ Err fault
 
   -- all entries can be read, and none contains the address
-  pub record IsUncovered (from : ℕ) : Type 0 where
+  pub record NoneContains (from : ℕ) : Type 0 where
     pub entries : List Entry
     pub are : AreEntries bases table from entries
     pub none : first_covering (fdes_of entries) pc ≡ None

@@ -5,8 +5,8 @@ ghost use Rattle.std.specs.List.{list_all};
 ghost use Rattle.unwind_definitions.specs.Augmentation.{is_augmentation, is_letter, letters_in};
 ghost use Rattle.unwind_definitions.specs.Entries.{augmentation_data, letter, letters_from, no_letters};
 ghost use Rattle.encoded_pointers.specs.Readers.{Answers, GivesOr};
-ghost use Rattle.encoded_pointers.specs.Pointers.{bases_of};
-ghost use Rattle.encoded_pointers.specs.View.{at};
+ghost use Rattle.encoded_pointers.specs.PointerViews.{bases_of};
+ghost use Rattle.encoded_pointers.specs.CursorViews.{at};
 ghost use Rattle.eh_frame.specs.Letters.{Tells, letters_of};
 
 use encoded_pointers::{

@@ -4,7 +4,7 @@ ghost use Rattle.std.specs.Prelude.{◌≡◌};
 ghost use Rattle.unwind_definitions.specs.Augmentation.{is_version, letters_in};
 ghost use Rattle.unwind_definitions.specs.Entries.{return_column, sizes};
 ghost use Rattle.encoded_pointers.specs.Readers.{GivesOr};
-ghost use Rattle.encoded_pointers.specs.View.{at};
+ghost use Rattle.encoded_pointers.specs.CursorViews.{at};
 ghost use Rattle.eh_frame.specs.Letters.{Tells, letters_of};
 
 use crate::augmentation::{Letters, is_known, read_augmentation_data};
@@ -36,11 +36,11 @@ impl<'a> Cie<'a> {
     ghost use Rattle.unwind_definitions.specs.Augmentation.{address_letter, has_letter, language_letter};
     ghost use Rattle.unwind_definitions.specs.Augmentation.{personality_letter, signal_letter};
     ghost use Rattle.unwind_definitions.specs.Entries.{cie_body, address_encoding, coding_of};
-    ghost use Rattle.frame_rows.specs.Decoded.{coding_in};
+    ghost use Rattle.frame_rows.specs.InstructionViews.{coding_in};
     ghost use Rattle.encoded_pointers.specs.Readers.{Answers};
-    ghost use Rattle.encoded_pointers.specs.Pointers.{bases_of, pointer_of};
+    ghost use Rattle.encoded_pointers.specs.PointerViews.{bases_of, pointer_of};
     ghost use Rattle.eh_frame.specs.Letters.{byte_of};
-    ghost use Rattle.eh_frame.specs.Views.{cie_of};
+    ghost use Rattle.eh_frame.specs.EntryViews.{cie_of};
 
     // What stands after the first four bytes of the entry at `offset`.
     pub(crate) fn read(offset: u64, body: Cursor<'a>, bases: &Bases) -> Result<Cie<'a>, Error>

@@ -12,12 +12,12 @@ ghost use Rattle.unwind_definitions.specs.Scan.{found_or, scan};
 ghost use Rattle.unwind_definitions.specs.HeaderSearch.{fde_at, fde_at_address, fde_in};
 ghost use Rattle.encoded_pointers.specs.Readers.{GivesOr, Answers};
 ghost use Rattle.eh_frame.specs.Shared.{shared, StandsIn};
-ghost use Rattle.eh_frame.specs.Search.{IsFirst, IsUncovered, IsUnreadable};
-ghost use Rattle.encoded_pointers.specs.View.{at};
-ghost use Rattle.encoded_pointers.specs.Pointers.{bases_of};
+ghost use Rattle.eh_frame.specs.Search.{IsFirst, NoneContains, IsUnreadable};
+ghost use Rattle.encoded_pointers.specs.CursorViews.{at};
+ghost use Rattle.encoded_pointers.specs.PointerViews.{bases_of};
 ghost use Rattle.eh_frame.specs.Listing.{listing_of};
 ghost use Rattle.eh_frame.specs.FdeLists.{ListsFdes};
-ghost use Rattle.eh_frame.specs.Views.{cie_of, fde_of, entry_of, found_of, table_of};
+ghost use Rattle.eh_frame.specs.EntryViews.{cie_of, fde_of, entry_of, found_of, table_of};
 
 use crate::cie::Cie;
 use crate::fde::Fde;
@@ -93,7 +93,7 @@ impl<'a> EhFrame<'a> {
         ensures fault { IfErr result (λ e. e ≢ Error.NoUnwindInfoForAddress →
             IsUnreadable (bases_of bases.now) (table_of self.now) pc 0 e) }
         ensures none { IsErrOf result Error.NoUnwindInfoForAddress ↔
-            IsUncovered (bases_of bases.now) (table_of self.now) pc 0 }
+            NoneContains (bases_of bases.now) (table_of self.now) pc 0 }
     {
         self.scan(bases, pc)
     }

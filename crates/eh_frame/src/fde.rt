@@ -4,8 +4,8 @@ ghost use Rattle.std.specs.Prelude.{◌≡◌, ◌+◌, ◌<◌, ◌^◌, IfOk, 
 ghost use Rattle.std.specs.Option.{option_map};
 ghost use Rattle.unwind_definitions.specs.Entries.{is_pointing, language_pointer};
 ghost use Rattle.encoded_pointers.specs.Readers.{GivesOr, Answers};
-ghost use Rattle.encoded_pointers.specs.View.{at};
-ghost use Rattle.encoded_pointers.specs.Pointers.{bases_of, pointer_of};
+ghost use Rattle.encoded_pointers.specs.CursorViews.{at};
+ghost use Rattle.encoded_pointers.specs.PointerViews.{bases_of, pointer_of};
 ghost use Rattle.eh_frame.specs.Letters.{byte_of, letters_of};
 
 use crate::cie::Cie;
@@ -37,7 +37,7 @@ impl<'a> Fde<'a> {
     ghost use Rattle.unwind_definitions.specs.Augmentation.{has_letter, language_letter};
     ghost use Rattle.unwind_definitions.specs.Entries.{fde_body, fde_data};
     ghost use Rattle.unwind_definitions.specs.Row.{covers_pc, row_at};
-    ghost use Rattle.eh_frame.specs.Views.{cie_of, fde_of};
+    ghost use Rattle.eh_frame.specs.EntryViews.{cie_of, fde_of};
     ghost use Rattle.frame_rows.specs.Rows.{GivesRow, made};
     ghost use Rattle.eh_frame.specs.FdeLists.{IsTold, fde_with};
 
@@ -277,7 +277,8 @@ fn read_language_pointer(
     block: Cursor,
 ) -> Result<Option<Pointer>, Error>
     ensures reads { Answers (option_map pointer_of) result
-        (language_pointer (bases_of bases.now) start (option_map byte_of encoding) (at block.entry)) }
+        (language_pointer (bases_of bases.now) start (option_map byte_of encoding)
+        (at block.entry)) }
     ensures told { IfOk result (λ lsda. is_some lsda ≡ is_pointing (option_map byte_of encoding)) }
 {
     match encoding {

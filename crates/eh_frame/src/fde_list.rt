@@ -8,7 +8,7 @@ ghost use Rattle.unwind_definitions.specs.Entries.{Fde as Described};
 ghost use Rattle.eh_frame.specs.FdeLists.{IsListOf, KeepsCie};
 ghost use Rattle.eh_frame.specs.Listed.{nonempty};
 ghost use Rattle.eh_frame.specs.Shared.{StandsIn, shared};
-ghost use Rattle.eh_frame.specs.Views.{cie_of, entry_of};
+ghost use Rattle.eh_frame.specs.EntryViews.{cie_of, entry_of};
 
 use crate::cie::Cie;
 use crate::entries::Entry;

@@ -5,8 +5,8 @@ ghost use Rattle.std.specs.Option.{option_map};
 ghost use Rattle.unwind_definitions.specs.Pointers.{format_of};
 ghost use Rattle.unwind_definitions.specs.Header.{header, pair_at, pair_count, pair_from, table_in, width_of};
 ghost use Rattle.encoded_pointers.specs.Readers.{Answers, GivesOr};
-ghost use Rattle.encoded_pointers.specs.View.{at};
-ghost use Rattle.encoded_pointers.specs.Pointers.{bases_of, pointer_of};
+ghost use Rattle.encoded_pointers.specs.CursorViews.{at};
+ghost use Rattle.encoded_pointers.specs.PointerViews.{bases_of, pointer_of};
 
 use encoded_pointers::{
     Bases, Cursor, DwEhPe, Pointer, parse_direct_pointer, parse_encoded_pointer,
@@ -30,7 +30,7 @@ pub struct EhFrameHdr<'a> {
 }
 
 impl<'a> EhFrameHdr<'a> {
-    ghost use Rattle.eh_frame.specs.Headers.{header_of, pairs_of};
+    ghost use Rattle.eh_frame.specs.HeaderViews.{header_of, pairs_of};
 
     /// Reads a header from its bytes, the first of which has the address `address`.
     ///
@@ -50,7 +50,8 @@ impl<'a> EhFrameHdr<'a> {
     ///   isn't read.
     pub fn parse(bytes: &'a [u8], address: u64, bases: &Bases) -> Result<EhFrameHdr<'a>, Error>
         ensures { Answers header_of result
-            (header (bases_of bases.now) (record { base = address; offset = 0; bytes = bytes.now })) }
+            (header (bases_of bases.now)
+            (record { base = address; offset = 0; bytes = bytes.now })) }
     {
         let bases = Bases {
             data_base: Some(address),
@@ -117,7 +118,7 @@ pub struct HdrTable<'a> {
 }
 
 impl<'a> HdrTable<'a> {
-    ghost use Rattle.eh_frame.specs.Headers.{pairs_of};
+    ghost use Rattle.eh_frame.specs.HeaderViews.{pairs_of};
 
     /// How many entries the header says that the table has.
     pub fn len(&self) -> u64

@@ -2,9 +2,9 @@
 
 ghost use Rattle.std.specs.Prelude.{◌≡◌, ◌+◌, ◌%◌, ◌^◌, Ok, false, map, true};
 ghost use Rattle.eh_frame.specs.HeaderLists.{ListsEach};
-ghost use Rattle.eh_frame.specs.Headers.{pairs_of};
+ghost use Rattle.eh_frame.specs.HeaderViews.{pairs_of};
 ghost use Rattle.eh_frame.specs.Index.{described_fde};
-ghost use Rattle.eh_frame.specs.Views.{table_of};
+ghost use Rattle.eh_frame.specs.EntryViews.{table_of};
 
 use crate::entries::EhFrame;
 use crate::header::HdrTable;

@@ -6,9 +6,9 @@ ghost use Rattle.unwind_definitions.specs.HeaderSearch.{IsTableAnswer, IsUnreada
 ghost use Rattle.unwind_definitions.specs.HeaderSearch.{StartsAbove, boundary_in, containing, found_by};
 ghost use Rattle.unwind_definitions.specs.HeaderSearch.{table_answer};
 ghost use Rattle.encoded_pointers.specs.Readers.{Answers};
-ghost use Rattle.encoded_pointers.specs.Pointers.{bases_of};
-ghost use Rattle.eh_frame.specs.Views.{fde_of, table_of};
-ghost use Rattle.eh_frame.specs.Headers.{answer_of, pairs_of};
+ghost use Rattle.encoded_pointers.specs.PointerViews.{bases_of};
+ghost use Rattle.eh_frame.specs.EntryViews.{fde_of, table_of};
+ghost use Rattle.eh_frame.specs.HeaderViews.{answer_of, pairs_of};
 
 use crate::entries::EhFrame;
 use crate::fde::Fde;
@@ -53,7 +53,8 @@ impl<'a> HdrTable<'a> {
             ⊎ IsNamedElsewhere (bases_of bases.now) (table_of frame.now) (pairs_of self.now) pc }
         ensures fault { IfErr result (λ e. e ≢ Error.NoUnwindInfoForAddress →
             IsUnreadablePair (pairs_of self.now) e
-            ⊎ IsUnreadableNamed (bases_of bases.now) (table_of frame.now) (pairs_of self.now) pc e) }
+            ⊎ IsUnreadableNamed (bases_of bases.now) (table_of frame.now) (pairs_of self.now) pc
+            e) }
         ensures ticks { (taken : ℕ) × (steps.new.number ≡ steps.old.number + taken)
             × AreWithinDigits (pairs_of self.now).count taken }
     {

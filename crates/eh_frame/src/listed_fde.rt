@@ -23,12 +23,12 @@ pub(crate) struct ListedFde<'a> {
 
 impl<'a> ListedFde<'a> {
     ghost use Rattle.std.specs.Prelude.{◌≡◌, true};
-    ghost use Rattle.encoded_pointers.specs.Pointers.{bases_of};
+    ghost use Rattle.encoded_pointers.specs.PointerViews.{bases_of};
     ghost use Rattle.frame_rows.specs.Begun.{HasBegun};
     ghost use Rattle.frame_rows.specs.KeptRows.{Adds};
     ghost use Rattle.eh_frame.specs.FdeLists.{fde_with};
     ghost use Rattle.eh_frame.specs.Index.{common_program, end_of, own_program};
-    ghost use Rattle.eh_frame.specs.Views.{cie_of};
+    ghost use Rattle.eh_frame.specs.EntryViews.{cie_of};
 
     /// The address after the function's last byte.
     pub(crate) fn end(&self) -> u64

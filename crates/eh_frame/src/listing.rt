@@ -2,10 +2,10 @@
 
 ghost use Rattle.std.specs.Prelude.{IfSome};
 ghost use Rattle.std.proofs.Props.{props};
-ghost use Rattle.encoded_pointers.specs.Pointers.{bases_of};
+ghost use Rattle.encoded_pointers.specs.PointerViews.{bases_of};
 ghost use Rattle.eh_frame.specs.declared.cie.Cie.{Cie as ReadCie};
 ghost use Rattle.eh_frame.specs.Shared.{StandsIn, stands_prop};
-ghost use Rattle.eh_frame.specs.Views.{cie_of, table_of};
+ghost use Rattle.eh_frame.specs.EntryViews.{cie_of, table_of};
 
 use crate::cie::Cie;
 use crate::entries::{EhFrame, Entry};
@@ -35,7 +35,7 @@ impl<'a> Entries<'a> {
     ghost use Rattle.std.specs.Prelude.{◌≡◌, false};
     ghost use Rattle.std.specs.Option.{option_map};
     ghost use Rattle.encoded_pointers.specs.Readers.{Answers};
-    ghost use Rattle.eh_frame.specs.Views.{found_of, entry_of};
+    ghost use Rattle.eh_frame.specs.EntryViews.{found_of, entry_of};
     ghost use Rattle.eh_frame.specs.Listing.{listing_of, upcoming, entry_in, behind};
 
     /// The entries of a table from its first byte on.

@@ -1,3 +1,3 @@
-pub mod View
+pub mod CursorViews
 pub mod Readers
-pub mod Pointers
+pub mod PointerViews

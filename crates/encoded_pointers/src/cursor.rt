@@ -27,7 +27,7 @@ impl<'a> Cursor<'a> {
     ghost use Rattle.unwind_definitions.specs.Input.{number, uleb, uleb_from, sleb, sleb_from, skip, split, text, address_of};
     ghost use Rattle.unwind_definitions.specs.Pointers.{signed_number};
     ghost use Rattle.encoded_pointers.specs.Readers.{GivesOr, passes};
-    ghost use Rattle.encoded_pointers.specs.View.{at};
+    ghost use Rattle.encoded_pointers.specs.CursorViews.{at};
 
     /// A cursor at the first of `bytes`, whose address is `address`.
     pub fn new(bytes: &'a [u8], address: u64) -> Cursor<'a>

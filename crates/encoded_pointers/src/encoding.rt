@@ -3,7 +3,7 @@
 ghost use Rattle.std.specs.Prelude.{◌≡◌, ◌==◌, OnErr};
 ghost use Rattle.unwind_definitions.specs.Pointers.{application_of, encoding, format_of, is_indirect, is_known};
 ghost use Rattle.encoded_pointers.specs.Readers.{GivesOr};
-ghost use Rattle.encoded_pointers.specs.View.{at};
+ghost use Rattle.encoded_pointers.specs.CursorViews.{at};
 
 use crate::constants::*;
 use crate::cursor::Cursor;

@@ -3,8 +3,8 @@
 ghost use Rattle.std.specs.Prelude.{◌≡◌, OnErr};
 ghost use Rattle.unwind_definitions.specs.Pointers.{application_of, base_of, direct, format_of, known, pointer, value};
 ghost use Rattle.encoded_pointers.specs.Readers.{Answers, GivesOr};
-ghost use Rattle.encoded_pointers.specs.Pointers.{bases_of, pointer_of};
-ghost use Rattle.encoded_pointers.specs.View.{at};
+ghost use Rattle.encoded_pointers.specs.PointerViews.{bases_of, pointer_of};
+ghost use Rattle.encoded_pointers.specs.CursorViews.{at};
 
 use crate::bases::Bases;
 use crate::constants::*;

@@ -1,4 +1,4 @@
-pub mod Answered
+pub mod FoundViews
 pub mod Covering
 pub mod Finding
 pub mod FrameTables

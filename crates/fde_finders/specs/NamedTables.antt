@@ -1,8 +1,8 @@
 -- A frame table that a module names, as that of the definitions.
 use Rattle.std.specs.Option.{option_map}
-use Rattle.encoded_pointers.specs.Pointers.{bases_of}
-use Rattle.eh_frame.specs.Views.{table_of}
-use Rattle.eh_frame.specs.Headers.{pairs_of}
+use Rattle.encoded_pointers.specs.PointerViews.{bases_of}
+use Rattle.eh_frame.specs.EntryViews.{table_of}
+use Rattle.eh_frame.specs.HeaderViews.{pairs_of}
 use Rattle.fde_finders.specs.declared.naming.NamedTable.{NamedTable}
 use Rattle.fde_finders.specs.FrameTables.{FrameTable}
 

@@ -3,7 +3,7 @@
 ghost use Rattle.std.specs.Prelude.{◌≡◌, ◌≢◌, ◌+◌, ℕ, Option, Some, None, IsOk, IsErr, OnOk, OnErr};
 ghost use Rattle.std.specs.Option.{option_map};
 ghost use Rattle.fde_finders.specs.declared.custom.FrameInfo.{FrameInfo};
-ghost use Rattle.fde_finders.specs.Answered.{answered};
+ghost use Rattle.fde_finders.specs.FoundViews.{answered};
 ghost use Rattle.unwind_definitions.specs.HeaderSearch.{AreWithinDigits};
 ghost use Rattle.fde_finders.specs.Named.{found_by, pairs_by, FindsBy};
 ghost use Rattle.fde_finders.specs.HeaderCovering.{named_contains};

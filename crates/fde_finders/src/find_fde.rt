@@ -6,7 +6,7 @@ ghost use Rattle.memory_image.specs.Image.{Span};
 ghost use Rattle.unwind_definitions.specs.Row.{covers_pc, row_at};
 ghost use Rattle.frame_rows.specs.Rows.{GivesRow, made};
 ghost use Rattle.fde_finders.specs.Finding.{FoundFde};
-ghost use Rattle.fde_finders.specs.Answered.{answered};
+ghost use Rattle.fde_finders.specs.FoundViews.{answered};
 
 use eh_frame::{Bases, EhFrame, Error, Fde, RowRoom};
 use memory_image::{Ledger, MemoryImage, Steps};

@@ -2,7 +2,7 @@
 
 ghost use Rattle.std.specs.Prelude.{◌≡◌, ◌+◌, ℕ};
 ghost use Rattle.std.specs.Option.{option_map};
-ghost use Rattle.fde_finders.specs.Answered.{answered};
+ghost use Rattle.fde_finders.specs.FoundViews.{answered};
 ghost use Rattle.fde_finders.specs.InTurn.{FindsIfThere};
 ghost use Rattle.fde_finders.specs.Globally.{FindsInObjects, FindsInTurn};
 ghost use Rattle.fde_finders.specs.GlobalCovering.{in_turn_contains};

@@ -5,7 +5,7 @@ ghost use Rattle.std.specs.Option.{option_map};
 ghost use Rattle.memory_image.specs.Words.{u32_at, u64_at};
 ghost use Rattle.memory_image.specs.Image.{Span};
 ghost use Rattle.unwind_definitions.specs.HeaderSearch.{AreWithinDigits};
-ghost use Rattle.fde_finders.specs.Answered.{answered};
+ghost use Rattle.fde_finders.specs.FoundViews.{answered};
 ghost use Rattle.fde_finders.specs.Finding.{FoundFde};
 ghost use Rattle.fde_finders.specs.InTurn.{FindsAmong};
 ghost use Rattle.fde_finders.specs.TurnCovering.{objects_contain};

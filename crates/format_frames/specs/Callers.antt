@@ -8,9 +8,9 @@ use Rattle.unwind_definitions.specs.Expressions.{evaluation}
 use Rattle.unwind_definitions.specs.Caller.{◌+w◌, Columns, StepFault, Table, x86_64, word_or_fault, caller_of}
 use Rattle.unwind_definitions.specs.State.{CalleeSaved, column_of}
 use Rattle.unwind_definitions.specs.DescribedRows.{negative}
-use Rattle.unwind_arch.specs.Contexts.{columns_of}
+use Rattle.unwind_arch.specs.ContextViews.{columns_of}
 use Rattle.eh_frame.specs.declared.fde.Fde.{Fde as CodeFde}
-use Rattle.eh_frame.specs.Views.{fde_of}
+use Rattle.eh_frame.specs.EntryViews.{fde_of}
 use Rattle.unwinding_frames.specs.declared.frame.StepError.{StepError}
 use Rattle.unwinding_frames.specs.Calling.{fault_of}
 use Rattle.format_definitions.specs.CompactStep.{Stepped, then_on, half_or_fault, with_column}

@@ -54,7 +54,7 @@ pub(crate) struct Machine<'i, 'a> {
 impl UnwindState for Machine<'_, '_> {
     ghost use Rattle.std.specs.Prelude.{slice_index};
     ghost use Rattle.memory_image.specs.Image.{word_at};
-    ghost use Rattle.unwind_arch.specs.Contexts.{columns_of};
+    ghost use Rattle.unwind_arch.specs.ContextViews.{columns_of};
     ghost use Rattle.format_definitions.specs.PeRegisters.{registers_in};
 
     ghost registers = { λ machine register. (registers_in (columns_of machine.context)).general

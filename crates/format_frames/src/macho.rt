@@ -1,6 +1,6 @@
 // The step in a Mach-O module.
 ghost use Rattle.std.specs.Prelude.{◌≡◌, ◌+◌, ◌-◌, ◌<◌, ◌≤◌, ◌^◌};
-ghost use Rattle.unwind_arch.specs.Contexts.{columns_of};
+ghost use Rattle.unwind_arch.specs.ContextViews.{columns_of};
 ghost use Rattle.format_definitions.specs.CompactStep.{macho_step};
 ghost use Rattle.format_frames.specs.Modules.{macho_module};
 ghost use Rattle.format_frames.specs.Refusals.{function_at, caller_given, caller_due, macho_given, macho_due};

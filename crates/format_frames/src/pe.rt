@@ -2,7 +2,7 @@
 ghost use Rattle.std.specs.Prelude.{◌≡◌, ◌+◌, ◌-◌, ◌<◌, ◌≤◌, ◌^◌};
 ghost use Rattle.std.specs.Option.{option_map};
 ghost use Rattle.memory_image.specs.Image.{word_at};
-ghost use Rattle.unwind_arch.specs.Contexts.{columns_of};
+ghost use Rattle.unwind_arch.specs.ContextViews.{columns_of};
 ghost use Rattle.format_definitions.specs.PeImage.{memory_of, table_of};
 ghost use Rattle.format_definitions.specs.PeRegisters.{registers_in};
 ghost use Rattle.format_definitions.specs.PeStep.{columns_at, pe_step};

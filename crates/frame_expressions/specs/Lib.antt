@@ -1,4 +1,4 @@
-pub mod Decoded
+pub mod OperationViews
 pub mod Answers
 pub mod Stacked
 pub mod Runs

@@ -17,13 +17,15 @@ pub fn answer_is_that_of_a_run()
 /// address.
 pub fn sum_has_a_value()
     ensures { (image : List Span) (columns : Columns) →
-        HasValue image columns (0x23 ∷ 0x08 ∷ []) (operation_limit (0x23 ∷ 0x08 ∷ [])) (begun (0x7010 ∷ [])) 0x7018 }
+        HasValue image columns (0x23 ∷ 0x08 ∷ []) (operation_limit (0x23 ∷ 0x08 ∷ []))
+        (begun (0x7010 ∷ [])) 0x7018 }
 {}
 
 /// `DW_OP_deref` where nothing is mapped.
 pub fn unmapped_word_is_a_fault()
     ensures { (columns : Columns) →
-        HasFault [] columns (0x06 ∷ []) (operation_limit (0x06 ∷ [])) (begun (9 ∷ [])) (Unmapped 9) }
+        HasFault [] columns (0x06 ∷ []) (operation_limit (0x06 ∷ [])) (begun (9 ∷ []))
+        (Unmapped 9) }
 {}
 
 /// `DW_OP_skip` back to itself, of which 10,003 are done.

@@ -5,7 +5,7 @@ ghost use Rattle.memory_image.specs.Image.{number_at};
 ghost use Rattle.unwind_definitions.specs.declared.error.Error.{Error as Fault};
 ghost use Rattle.unwind_definitions.specs.Caller.{column_or_fault};
 ghost use Rattle.unwind_definitions.specs.Expressions.{done, goes_on, moved, branched, loaded, pushed_column};
-ghost use Rattle.frame_expressions.specs.Decoded.{meaning};
+ghost use Rattle.frame_expressions.specs.OperationViews.{meaning};
 ghost use Rattle.frame_expressions.specs.Answers.{GoesOn, Leaves};
 
 use crate::error::EvalError;
@@ -29,7 +29,8 @@ pub(crate) fn perform<R: RegisterMap<Word = u64>>(
     requires next { next ≤ end }
     requires end { end < 2 ^ 63 }
     ensures does { (expression : List ℕ) → length expression ≡ end →
-        GoesOn result stack.new (done image.now (R.columns registers.now) expression next stack.old (meaning operation)) }
+        GoesOn result stack.new (done image.now (R.columns registers.now) expression next stack.old
+        (meaning operation)) }
     ensures within { IfOk result (λ n. n ≤ end) }
 {
     match operation {
@@ -71,7 +72,8 @@ fn push_register<R: RegisterMap<Word = u64>>(
     registers: &R,
 ) -> Result<u64, EvalError>
     ensures does { GoesOn result stack.new
-        (pushed_column next offset stack.old (column_or_fault (R.columns registers.now register.0))) }
+        (pushed_column next offset stack.old
+        (column_or_fault (R.columns registers.now register.0))) }
     ensures within { IfOk result (λ n. n ≡ next) }
 {
     match registers.get(register) {

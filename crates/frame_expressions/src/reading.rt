@@ -5,8 +5,8 @@ ghost use Rattle.std.specs.Int.{w16};
 ghost use Rattle.unwind_definitions.specs.Pointers.{signed_number};
 ghost use Rattle.unwind_definitions.specs.Operations.{operation, constant, rearrangement, arithmetic, decision, extension, loads, pushes_column};
 ghost use Rattle.encoded_pointers.specs.Readers.{GivesOr};
-ghost use Rattle.encoded_pointers.specs.View.{at};
-ghost use Rattle.frame_expressions.specs.Decoded.{meaning};
+ghost use Rattle.encoded_pointers.specs.CursorViews.{at};
+ghost use Rattle.frame_expressions.specs.OperationViews.{meaning};
 
 use crate::constants::*;
 use crate::operation::{ByteCount, Change, Combination, Division, Operation};

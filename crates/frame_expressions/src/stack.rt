@@ -2,7 +2,7 @@
 
 ghost use Rattle.std.specs.Prelude.{◌≡◌, ◌≢◌, ◌<◌, ◌∷◌, [], OnErr, IfOk, IfErr};
 ghost use Rattle.unwind_definitions.specs.Expressions.{push, pick, popped, swapped, rotated, changed, combined, divided, top_of};
-ghost use Rattle.frame_expressions.specs.Decoded.{changed_by, combined_by, divided_by};
+ghost use Rattle.frame_expressions.specs.OperationViews.{changed_by, combined_by, divided_by};
 ghost use Rattle.frame_expressions.specs.Answers.{Leaves, stack_of};
 
 use crate::operation::{Change, Combination, Division};

@@ -1,6 +1,6 @@
 pub mod Rules
 pub mod Running
-pub mod Decoded
+pub mod InstructionViews
 pub mod RowValue
 pub mod Rows
 pub mod Left

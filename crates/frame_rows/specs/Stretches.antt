@@ -3,8 +3,8 @@ use Rattle.std.specs.Prelude.{◌≡◌, ℕ, ◌+◌, ◌^◌, ◌<◌, ◌≤�
 use Rattle.unwind_definitions.specs.declared.error.Error.{Error as Fault}
 use Rattle.unwind_definitions.specs.Instructions.{Instruction, Advance, SetLocation, Coding, Program, program_from}
 use Rattle.unwind_definitions.specs.Row.{RowInstructions, location}
-use Rattle.encoded_pointers.specs.View.{at}
-use Rattle.frame_rows.specs.Decoded.{meaning}
+use Rattle.encoded_pointers.specs.CursorViews.{at}
+use Rattle.frame_rows.specs.InstructionViews.{meaning}
 use Rattle.frame_rows.specs.Running.{Represents, outcome, push}
 use Rattle.frame_rows.specs.KeptRows.{locations_after, then_location}
 use Rattle.frame_rows.specs.declared.instruction.CallFrameInstruction.{CallFrameInstruction}

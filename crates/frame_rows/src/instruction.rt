@@ -3,9 +3,9 @@
 ghost use Rattle.std.specs.Prelude.{◌≡◌, ◌*◌};
 ghost use Rattle.unwind_definitions.specs.Instructions.{instruction, Advance, Write};
 ghost use Rattle.encoded_pointers.specs.Readers.{GivesOr};
-ghost use Rattle.encoded_pointers.specs.View.{at};
-ghost use Rattle.frame_rows.specs.Decoded.{meaning, coding_in, unsigned_offset, signed_offset, block};
-ghost use Rattle.frame_rows.specs.Decoded.{operation_read, cfa_read, offset_read, rule_read, state_read};
+ghost use Rattle.encoded_pointers.specs.CursorViews.{at};
+ghost use Rattle.frame_rows.specs.InstructionViews.{meaning, coding_in, unsigned_offset, signed_offset, block};
+ghost use Rattle.frame_rows.specs.InstructionViews.{operation_read, cfa_read, offset_read, rule_read, state_read};
 ghost use Rattle.frame_rows.specs.Rules.{rule_meaning};
 
 use crate::coding::Coding;
@@ -84,7 +84,7 @@ fn read_expression<'a>(input: &mut Cursor<'a>) -> Result<&'a [u8], Error>
 // The next instruction, whose first byte was read and is below 64. What begins a row is looked for
 // first. It and those after it are inlined, so that the byte is told apart once, for all groups.
 // DWARF 5 section 6.4.2.1.
-#[tactic(auto, unfolding(crate::specs::Decoded::operation_read))]
+#[tactic(auto, unfolding(crate::specs::InstructionViews::operation_read))]
 #[inline(always)]
 fn read_operation<'a>(
     input: &mut Cursor<'a>,
@@ -107,7 +107,7 @@ fn read_operation<'a>(
 }
 
 // The same, where it begins no row. DWARF 5 section 6.4.2.2.
-#[tactic(auto, unfolding(crate::specs::Decoded::cfa_read))]
+#[tactic(auto, unfolding(crate::specs::InstructionViews::cfa_read))]
 #[inline(always)]
 fn read_cfa_definition<'a>(
     input: &mut Cursor<'a>,
@@ -141,7 +141,7 @@ fn read_cfa_definition<'a>(
 }
 
 // The same, where it doesn't define the CFA either: rules by an offset. DWARF 5 section 6.4.2.3.
-#[tactic(auto, unfolding(crate::specs::Decoded::offset_read))]
+#[tactic(auto, unfolding(crate::specs::InstructionViews::offset_read))]
 #[inline(always)]
 fn read_offset_rule<'a>(
     input: &mut Cursor<'a>,
@@ -177,7 +177,7 @@ fn read_offset_rule<'a>(
 }
 
 // The same, where it gives no rule by an offset: other rules. DWARF 5 section 6.4.2.3.
-#[tactic(auto, unfolding(crate::specs::Decoded::rule_read))]
+#[tactic(auto, unfolding(crate::specs::InstructionViews::rule_read))]
 #[inline(always)]
 fn read_register_rule<'a>(
     input: &mut Cursor<'a>,
@@ -212,7 +212,7 @@ fn read_register_rule<'a>(
 }
 
 // The same, where it gives no register a rule. DWARF 5 sections 6.4.2.4 and 6.4.2.5.
-#[tactic(auto, unfolding(crate::specs::Decoded::state_read))]
+#[tactic(auto, unfolding(crate::specs::InstructionViews::state_read))]
 #[inline(always)]
 fn read_row_state<'a>(
     input: &mut Cursor<'a>,
@@ -233,7 +233,7 @@ fn read_row_state<'a>(
 }
 
 /// The next instruction.
-#[tactic(auto, unfolding(crate::specs::Decoded::operation_read, crate::specs::Decoded::cfa_read, crate::specs::Decoded::offset_read, crate::specs::Decoded::rule_read, crate::specs::Decoded::state_read, unwind_definitions::specs::Instructions::instruction_of))]
+#[tactic(auto, unfolding(crate::specs::InstructionViews::operation_read, crate::specs::InstructionViews::cfa_read, crate::specs::InstructionViews::offset_read, crate::specs::InstructionViews::rule_read, crate::specs::InstructionViews::state_read, unwind_definitions::specs::Instructions::instruction_of))]
 #[inline(always)]
 pub(crate) fn read_instruction<'a>(
     input: &mut Cursor<'a>,

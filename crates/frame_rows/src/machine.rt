@@ -74,7 +74,7 @@ impl<'a> Machine<'a> {
     ghost use Rattle.unwind_definitions.specs.Instructions.{Remember, Restore, CfaColumn, CfaOffset};
     ghost use Rattle.unwind_definitions.specs.Row.{RowInstructions, from_common, location as location_after};
     ghost use Rattle.frame_rows.specs.Rules.{rule_meaning, rule_in};
-    ghost use Rattle.frame_rows.specs.Decoded.{meaning};
+    ghost use Rattle.frame_rows.specs.InstructionViews.{meaning};
     ghost use Rattle.frame_rows.specs.Running.{IsStateOf, Represents, Follows, stops, initial_rules, push};
     ghost use Rattle.frame_rows.specs.Rows.{IsLast, made};
     ghost use Rattle.frame_rows.specs.Stretches.{LeadsOn};

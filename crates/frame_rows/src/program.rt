@@ -4,8 +4,8 @@
 ghost use Rattle.std.specs.Prelude.{ℕ};
 ghost use Rattle.unwind_definitions.specs.Instructions.{program};
 ghost use Rattle.unwind_definitions.specs.Row.{RowInstructions, row};
-ghost use Rattle.encoded_pointers.specs.View.{at};
-ghost use Rattle.frame_rows.specs.Decoded.{coding_in};
+ghost use Rattle.encoded_pointers.specs.CursorViews.{at};
+ghost use Rattle.frame_rows.specs.InstructionViews.{coding_in};
 ghost use Rattle.frame_rows.specs.Rows.{GivesRow};
 ghost use Rattle.frame_rows.specs.Running.{Represents, outcome, Ends, MakesRow, Begins, RunsCommon};
 
@@ -28,7 +28,8 @@ pub fn row_at<'a>(
     pc: u64,
 ) -> Result<Row<'a>, Error>
     ensures { let coding = coding_in coding.entry in
-        GivesRow result (row start pc (program coding (at common.entry)) (program coding (at own.entry))) }
+        GivesRow result (row start pc (program coding (at common.entry))
+        (program coding (at own.entry))) }
 {
     let mut machine = Machine::new();
     run_programs(&mut machine, common, own, coding, start, pc)?;

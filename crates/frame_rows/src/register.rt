@@ -2,7 +2,7 @@
 
 ghost use Rattle.unwind_definitions.specs.Instructions.{column};
 ghost use Rattle.encoded_pointers.specs.Readers.{GivesOr};
-ghost use Rattle.encoded_pointers.specs.View.{at};
+ghost use Rattle.encoded_pointers.specs.CursorViews.{at};
 
 use encoded_pointers::Cursor;
 use unwind_arch::Register;

@@ -3,8 +3,8 @@
 ghost use Rattle.std.specs.Prelude.{◌≡◌, []};
 ghost use Rattle.unwind_definitions.specs.Instructions.{program};
 ghost use Rattle.unwind_definitions.specs.Row.{row, ColumnAndOffset};
-ghost use Rattle.encoded_pointers.specs.View.{at};
-ghost use Rattle.frame_rows.specs.Decoded.{coding_in};
+ghost use Rattle.encoded_pointers.specs.CursorViews.{at};
+ghost use Rattle.frame_rows.specs.InstructionViews.{coding_in};
 ghost use Rattle.frame_rows.specs.Rows.{GivesRow, made};
 
 use crate::coding::Coding;

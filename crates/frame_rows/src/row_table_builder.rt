@@ -3,8 +3,8 @@
 ghost use Rattle.std.specs.Prelude.{◌≡◌, ◌<◌, ℕ, [], None, Ok, length};
 ghost use Rattle.unwind_definitions.specs.Instructions.{program, Program};
 ghost use Rattle.unwind_definitions.specs.Row.{RowInstructions, from_common};
-ghost use Rattle.encoded_pointers.specs.View.{at};
-ghost use Rattle.frame_rows.specs.Decoded.{coding_in};
+ghost use Rattle.encoded_pointers.specs.CursorViews.{at};
+ghost use Rattle.frame_rows.specs.InstructionViews.{coding_in};
 ghost use Rattle.frame_rows.specs.KeptRows.{Adds};
 ghost use Rattle.frame_rows.specs.Begun.{HasBegun};
 ghost use Rattle.frame_rows.specs.Running.{Represents, outcome};

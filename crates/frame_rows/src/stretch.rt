@@ -3,8 +3,8 @@
 ghost use Rattle.std.specs.Prelude.{◌≡◌, ◌<◌, ℕ, IfOk, IfSome};
 ghost use Rattle.unwind_definitions.specs.Instructions.{Coding as Operands, program};
 ghost use Rattle.unwind_definitions.specs.Row.{RowInstructions};
-ghost use Rattle.encoded_pointers.specs.View.{at};
-ghost use Rattle.frame_rows.specs.Decoded.{coding_in};
+ghost use Rattle.encoded_pointers.specs.CursorViews.{at};
+ghost use Rattle.frame_rows.specs.InstructionViews.{coding_in};
 ghost use Rattle.frame_rows.specs.Running.{Represents};
 ghost use Rattle.frame_rows.specs.Stretches.{left_of, IsNext, EndsStretch};
 

@@ -4,8 +4,8 @@ use Rattle.std.proofs.lemmas.Bool.{le-leb, lt-leb}
 use Rattle.unwind_definitions.specs.State.{CalleeSaved, RBX, RBP, R12, R13, R14, R15, column_of, value_of, State, Shows}
 use Rattle.unwind_definitions.specs.Module.{Process}
 use Rattle.unwind_definitions.specs.Valid.{IsValid}
-use Rattle.unwind_arch.specs.Contexts.{columns_of}
-use Rattle.stack_deliver.specs.Processes.{process_of}
+use Rattle.unwind_arch.specs.ContextViews.{columns_of}
+use Rattle.stack_deliver.specs.SpaceViews.{process_of}
 use Rattle.stack_deliver.specs.Resumes.{resume_table}
 use Rattle.generated_chains.specs.declared.outline.Outline.{Outline}
 use Rattle.generated_chains.specs.declared.stack.Registers.{Registers}

@@ -6,12 +6,12 @@ use Rattle.unwind_definitions.specs.Function.{Function}
 use Rattle.unwind_definitions.specs.Chain.{Call}
 use Rattle.unwind_definitions.specs.Delivery as described
 use Rattle.unwind_arch.specs.declared.x86_64.Context.{Context}
-use Rattle.stack_deliver.specs.declared.delivery.Outcome.{Outcome}
-use Rattle.stack_deliver.specs.declared.delivery.Outcome.TheVariants.{Installed, EndOfStack, FatalPhase1, FatalPhase2}
+use Rattle.stack_deliver.specs.declared.answers.Outcome.{Outcome}
+use Rattle.stack_deliver.specs.declared.answers.Outcome.TheVariants.{Installed, EndOfStack, FatalPhase1, FatalPhase2}
 use Rattle.stack_deliver.specs.Modules.{SpaceValue}
 use Rattle.stack_deliver.specs.Walking.{StartsValidChain}
-use Rattle.stack_deliver.specs.Delivering.{Delivered}
-use Rattle.stack_deliver.specs.Shown.{state_of, pair_of, outcome_of, delivery_shown}
+use Rattle.stack_deliver.specs.StackDelivery.{DeliveryValue}
+use Rattle.stack_deliver.specs.StateViews.{state_of, pair_of, outcome_of, delivery_shown}
 use Rattle.generated_chains.specs.Caught.{IsCaught}
 use Rattle.stack_snapshot.specs.Content.{Content, space_of}
 use Rattle.stack_snapshot.specs.Described.{DescribesChain}
@@ -22,12 +22,12 @@ installed EndOfStack e = absurd cc
 installed FatalPhase1 e = absurd cc
 installed FatalPhase2 e = absurd cc
 
-pub record Counts (d : Delivered) (count : ℕ) : Type 0 where
+pub record Counts (d : DeliveryValue) (count : ℕ) : Type 0 where
   pub frames : length d.visited ≡ count
   pub cleanups : length d.trail ≡ (count - 1) / 4
   pub outcome : d.outcome ≡ Installed
 
-pub caught_counts : (d : Delivered) (e : described.Delivery) (count : ℕ) → delivery_shown d ≡ e → IsCaught e count → Counts d count
+pub caught_counts : (d : DeliveryValue) (e : described.Delivery) (count : ℕ) → delivery_shown d ≡ e → IsCaught e count → Counts d count
 caught_counts d e count shows is = record {
   frames = sym (length-map d.visited state_of) ∙ ap (λ (x : described.Delivery). length x.visited) shows ∙ is.visited;
   cleanups = sym (length-map d.trail pair_of) ∙ ap (λ (x : described.Delivery). length x.trail) shows ∙ is.cleanups;

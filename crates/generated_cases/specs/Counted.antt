@@ -1,6 +1,6 @@
 -- What the delivery over a generated chain counts.
 use Rattle.std.specs.Prelude.{◌≡◌, ℕ, ◌-◌, ◌/◌}
-use Rattle.stack_deliver.specs.declared.delivery.Outcome.TheVariants.{Installed}
+use Rattle.stack_deliver.specs.declared.answers.Outcome.TheVariants.{Installed}
 use Rattle.stack_report.specs.declared.summary.Summary.{Summary}
 
 -- Of so many functions the state of each is visited, each fourth one but the outermost cleans up, and the outermost one

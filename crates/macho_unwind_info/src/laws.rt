@@ -8,13 +8,15 @@ ghost use Rattle.macho_unwind_info.specs.Sample.{described_bytes, described_func
 /// There is a section whose pages are described: a compressed page with two functions, a regular
 /// one with one function, and the sentinel.
 pub fn described_section()
-    ensures { (info : Section) × (section_of described_bytes ≡ Ok info) × HasDescribedPages info × (listing info ≡ described_functions) }
+    ensures { (info : Section) × (section_of described_bytes ≡ Ok info) × HasDescribedPages info ×
+        (listing info ≡ described_functions) }
 {}
 
 /// Where the second entry of its compressed page names an opcode that isn't there, the listing has
 /// the error in that place, and the functions before and behind it.
 pub fn damaged_section()
-    ensures { (info : Section) × (section_of damaged_bytes ≡ Ok info) × (listing info ≡ damaged_places) }
+    ensures { (info : Section) × (section_of damaged_bytes ≡ Ok info) ×
+        (listing info ≡ damaged_places) }
 {}
 
 /// What the searches by halving answer is a look-up's answer.
@@ -24,5 +26,6 @@ pub fn lookup_of_is_a_lookup()
 
 /// Where pages are described, the look-up of an address answers the listed function that covers it.
 pub fn lookup_finds_the_listed()
-    ensures { (info : Section) (pc : ℕ) → HasDescribedPages info → FindsEachListed info pc (lookup_of info pc) }
+    ensures { (info : Section) (pc : ℕ) → HasDescribedPages info → FindsEachListed info pc
+        (lookup_of info pc) }
 {}

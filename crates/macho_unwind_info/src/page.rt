@@ -165,7 +165,8 @@ impl<'a> Page<'a> {
         i: usize,
     ) -> Option<Result<Function, Error>>
         requires { i + 1 < 2 ^ 64 }
-        ensures { result ≡ slice_get (functions_of next_address (entries_of global.now self.now)) i }
+        ensures { result ≡ slice_get (functions_of next_address (entries_of global.now self.now))
+            i }
     {
         let entry = self.entry(global, i)?;
         let behind = self.entry(global, i + 1);

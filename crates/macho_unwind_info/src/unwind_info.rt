@@ -58,7 +58,8 @@ impl<'a> UnwindInfo<'a> {
         ensures all { result ≡ listing self.now }
 
         // on described pages the functions lie end to end over the range
-        ensures end_to_end { HasDescribedPages self.now → LieEndToEnd (range_start self.now) (range_end self.now) result }
+        ensures end_to_end { HasDescribedPages self.now → LieEndToEnd (range_start self.now)
+            (range_end self.now) result }
     {
         FunctionIter::new(
             self.bytes,
@@ -99,7 +100,8 @@ impl<'a> UnwindInfo<'a> {
         ensures repeats { result ≡ lookup_of self.now pc }
 
         // on described pages
-        ensures inside { HasDescribedPages self.now → IsInRange self.now pc → FindsListed self.now pc result }
+        ensures inside { HasDescribedPages self.now → IsInRange self.now pc → FindsListed self.now
+            pc result }
         ensures each { HasDescribedPages self.now → FindsEachListed self.now pc result }
         ensures outside { HasDescribedPages self.now → IsOutside self.now pc → result ≡ Ok None }
     {

@@ -36,7 +36,8 @@ impl<'a> MemorySource<'a> {
     /// A source of these bytes, of which a read gives at most `piece`. The calls numbered in `failing` fail.
     pub fn new(bytes: &'a [u8], piece: usize, failing: &'a [u64]) -> MemorySource<'a>
         requires { 1 ≤ piece }
-        ensures { result ≡ record { left = bytes.now; piece = piece; failing = failing.now; calls = 0; faults = 0 } }
+        ensures { result ≡ record
+            { left = bytes.now; piece = piece; failing = failing.now; calls = 0; faults = 0 } }
     {
         MemorySource {
             bytes,
@@ -62,9 +63,16 @@ impl<'a> Source for MemorySource<'a> {
         ensures bound { ReadsAtMost result into.new }
         ensures bytes { ReadConsumes (Some self.old.left) (Some self.new.left) result into.new }
         ensures cause { HasCause self.old.faults self.new.faults result }
-        ensures listed { IsTrue (list_any (λ call. call == self.old.calls) self.old.failing) ↔ IsErr result }
-        ensures count { IfOk result (λ count. count ≡ min self.old.piece (min (length into.old) (length self.old.left))) }
-        ensures counters { self.new ≡ record self.old { left = self.new.left; calls = one_more self.old.calls; faults = (if is_ok result then self.old.faults else one_more self.old.faults) } }
+        ensures listed { IsTrue (list_any (λ call. call == self.old.calls) self.old.failing) ↔
+            IsErr result }
+        ensures count { IfOk result
+            (λ count. count ≡ min self.old.piece (min (length into.old) (length self.old.left))) }
+        ensures counters { self.new ≡ record self.old {
+          left = self.new.left;
+          calls = one_more self.old.calls;
+          faults =
+              (if is_ok result then self.old.faults else one_more self.old.faults);
+        } }
     {
         let call = self.calls;
         self.calls = call.saturating_add(1);
@@ -111,7 +119,8 @@ impl<'a> MemorySink<'a> {
     ///
     /// [`AllocError`] where there is no memory for the room.
     pub fn new(alloc: Global, room: usize, failing: &'a [u64]) -> Result<MemorySink<'a>, AllocError>
-        ensures { IfOk result (λ sink. sink ≡ record { held = []; room = room; failing = failing.now; calls = 0; faults = 0 }) }
+        ensures { IfOk result (λ sink. sink ≡ record
+            { held = []; room = room; failing = failing.now; calls = 0; faults = 0 }) }
     {
         let bytes = Vec::with_capacity(alloc, room)?;
         Ok(MemorySink {
@@ -146,9 +155,16 @@ impl<'a> Sink for MemorySink<'a> {
         ensures some { IfOk result (λ count. 0 < length from.now → 0 < count) }
         ensures bytes { WriteAppends (Some self.old.held) (Some self.new.held) result from.now }
         ensures cause { HasCause self.old.faults self.new.faults result }
-        ensures listed { IsTrue (list_any (λ call. call == self.old.calls) self.old.failing || (nat_lt 0 (length from.now) && length self.old.held == self.old.room)) ↔ IsErr result }
-        ensures count { IfOk result (λ count. count ≡ min (length from.now) (self.old.room - length self.old.held)) }
-        ensures counters { self.new ≡ record self.old { held = self.new.held; calls = one_more self.old.calls; faults = (if is_ok result then self.old.faults else one_more self.old.faults) } }
+        ensures listed { IsTrue (list_any (λ call. call == self.old.calls) self.old.failing ||
+            (nat_lt 0 (length from.now) && length self.old.held == self.old.room)) ↔ IsErr result }
+        ensures count { IfOk result
+            (λ count. count ≡ min (length from.now) (self.old.room - length self.old.held)) }
+        ensures counters { self.new ≡ record self.old {
+          held = self.new.held;
+          calls = one_more self.old.calls;
+          faults =
+              (if is_ok result then self.old.faults else one_more self.old.faults);
+        } }
     {
         let call = self.calls;
         self.calls = call.saturating_add(1);

@@ -45,7 +45,8 @@ impl<'a> Source for PlainSource<'a> {
         ensures bound { ReadsAtMost result into.new }
         ensures bytes { ReadConsumes (Some self.old.left) (Some self.new.left) result into.new }
         ensures cause { HasCause 0 0 result }
-        ensures count { IfOk result (λ count. count ≡ min self.old.piece (min (length into.old) (length self.old.left))) }
+        ensures count { IfOk result
+            (λ count. count ≡ min self.old.piece (min (length into.old) (length self.old.left))) }
         ensures never { IsOk result }
         ensures same { self.new.piece ≡ self.old.piece }
     {

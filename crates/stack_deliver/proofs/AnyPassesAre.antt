@@ -11,7 +11,7 @@ use Rattle.unwind_definitions.specs.LanguageSearch.{personality_address, address
 use Rattle.frame_rows.specs.RowValue.{RowValue}
 use Rattle.unwind_arch.specs.declared.x86_64.Context.{Context}
 use Rattle.unwind_arch.specs.Columns.{rsp}
-use Rattle.unwind_arch.specs.Contexts.{columns_of, context_of}
+use Rattle.unwind_arch.specs.ContextViews.{columns_of, context_of}
 use Rattle.unwinding_frames.specs.declared.abi.UnwindAction.{UnwindAction}
 use Rattle.unwinding_frames.specs.declared.abi.UnwindReasonCode.{UnwindReasonCode}
 use Rattle.unwinding_frames.specs.declared.abi.TheConstants.UnwindAction as actions
@@ -23,15 +23,15 @@ use Rattle.unwinding_frames.specs.Passes.{Marked, unmarked, Answering, LineEnd, 
 use Rattle.unwinding_frames.specs.Passes as any
 use Rattle.unwinding_frames.specs.Personalities.{Asked, Answer, searched}
 use Rattle.unwinding_frames.specs.Seen.{Thrown}
-use Rattle.stack_deliver.specs.declared.delivery.Outcome.TheVariants.{FatalPhase1}
-use Rattle.stack_deliver.specs.declared.delivery.DeliverError.{DeliverError}
-use Rattle.stack_deliver.specs.declared.delivery.DeliverError.TheVariants.{FrameLimit, PassLimit}
+use Rattle.stack_deliver.specs.declared.answers.Outcome.TheVariants.{FatalPhase1}
+use Rattle.stack_deliver.specs.declared.answers.DeliverError.{DeliverError}
+use Rattle.stack_deliver.specs.declared.answers.DeliverError.TheVariants.{FrameLimit, PassLimit}
 use Rattle.stack_deliver.specs.declared.passes.Phase.{Phase}
 use Rattle.stack_deliver.specs.declared.passes.Phase.TheVariants as phase
 use Rattle.stack_deliver.specs.AnyPasses.{marked, undoing_in, sees_in, stepping_in, rust_in, answer_left, Search, TakenBy, Untaken, search_end, search_stop, search_line, search_of, pass_end, FollowedBy, ResumedBy, IsSearchBy, IsPassBy, ArePassesBy, IsDeliveredAfter, IsDeliveredBy, IsDeliveryBy}
 use Rattle.stack_deliver.specs.Modules.{SpaceValue}
-use Rattle.stack_deliver.specs.Passes.{Line, Stop, Turn, Ends, Stops, Goes, stops, stop_by, asked_if_named, asked_of, or_terminate, turn_at, turn_in, turn_for, line_turn, line_for, pass_of, past_arguments, pad_of, enters, kept_at, with_context, PassEnd, Finishes, Elsewhere, end_at, end_by, end_of, cleanup_of, landed, cleanup_at, resume_at, Passed, with_cleanup, resumed, followed, passes_of}
-use Rattle.stack_deliver.specs.Delivering.{Delivered, delivered_after, delivered_at, delivered_to, delivered_by, delivery_of}
+use Rattle.stack_deliver.specs.Passes.{Line, Stop, Turn, Ends, Stops, Goes, stops, stop_by, action_if_named, action_asked, or_terminate, turn_at, turn_in, turn_for, line_turn, line_for, pass_of, past_arguments, pad_of, enters, kept_at, with_context, PassEnd, Finishes, Elsewhere, end_at, end_by, end_of, cleanup_of, landed, cleanup_at, resume_at, CleanupsRun, with_cleanup, resumed, followed, passes_of}
+use Rattle.stack_deliver.specs.StackDelivery.{DeliveryValue, delivery_after, delivery_at, delivery_to, delivery_by, stack_delivery}
 use Rattle.stack_deliver.specs.Resumes.{return_of}
 use Rattle.stack_deliver.specs.Personality.{InCleanup, IsAsked, AnswersCleanup, answer_for}
 use Rattle.stack_deliver.specs.Results.{◌>>=◌, result_map}
@@ -180,14 +180,14 @@ module _ (space : SpaceValue) (row : RowInstructions → RowValue) (thrown : Thr
             Framed (Ok (or_terminate (language_action space.image f.found.bases f.found.fde (address_of_call x.context.ra x.signal)))) (Ok (p.answers routine (acts x) f x))
         named routine is =
             let action : Action = or_terminate (language_action space.image f.found.bases f.found.fde (address_of_call x.context.ra x.signal)) in
-            let a = answered x f routine action whole (record { routine = routine; named = is; asks = ap (asked_if_named space.image x.context x.signal f.found) is }) in
+            let a = answered x f routine action whole (record { routine = routine; named = is; asks = ap (action_if_named space.image x.context x.signal f.found) is }) in
             subst (λ (r : UnwindReasonCode × Context). Framed (Ok action) (Ok r)) (sym a.is) (spoken action a.code a.left (stops ph action) refl a.agrees)
 
-        framed : Framed (asked_of space.image x.context x.signal f.found) (asked p (acts x) f x)
+        framed : Framed (action_asked space.image x.context x.signal f.found) (asked p (acts x) f x)
         framed = go (personality_address space.image f.found.fde) refl
           where
             go : (r : Result (Option ℕ) StepFault) → personality_address space.image f.found.fde ≡ r →
-                Framed (asked_if_named space.image x.context x.signal f.found r) (any.asked_if_named p (acts x) f x (result_map_both (λ routine. routine) refusal_of r))
+                Framed (action_if_named space.image x.context x.signal f.found r) (any.asked_if_named p (acts x) f x (result_map_both (λ routine. routine) refusal_of r))
             go (Err e) is = refl
             go (Ok None) is = silent
             go (Ok (Some routine)) is = named routine is
@@ -335,20 +335,20 @@ module _ (space : SpaceValue) (row : RowInstructions → RowValue) (thrown : Thr
     -- ---- the cleanup passes
 
     module _ (resumes : List (ℕ × ℕ)) (limit : ℕ) where
-      abbrev passes : ℕ → Context → Result Passed DeliverError
+      abbrev passes : ℕ → Context → Result CleanupsRun DeliverError
       passes places start = passes_of space thrown.word kept resumes limit places start
 
-      abbrev ArePasses : ℕ → Context → Result Passed DeliverError → Type 0
+      abbrev ArePasses : ℕ → Context → Result CleanupsRun DeliverError → Type 0
       ArePasses places start passed = ArePassesBy (stepping_in space) p limit resumes kept places start passed
 
       abbrev end_from : Context → Result PassEnd DeliverError
       end_from start = cleanup_of space thrown.word kept limit start
 
       -- what follows a cleanup where the trail has a place for it
-      abbrev Later : ℕ → ℕ → Context → Result Passed DeliverError → Type 0
+      abbrev Later : ℕ → ℕ → Context → Result CleanupsRun DeliverError → Type 0
       Later places pad entered due = ResumedBy (ArePasses places) (cleanup_at pad entered) (resume_at pad entered (return_of resumes pad)) due
 
-      abbrev later : ℕ → ℕ → Context → Result Passed DeliverError
+      abbrev later : ℕ → ℕ → Context → Result CleanupsRun DeliverError
       later places pad entered = resumed (cleanup_at pad entered) (resume_at pad entered (return_of resumes pad)) (passes places)
 
       pub hold : (places : ℕ) (start : Context) → IsWhole start → ArePasses places start (passes places start)
@@ -370,7 +370,7 @@ module _ (space : SpaceValue) (row : RowInstructions → RowValue) (thrown : Thr
           go (Ok (Elsewhere pad entered)) whole holds = resumes_by pad entered whole holds (return_of resumes pad)
           go (Err e) whole holds = refl
 
-      pub only : (places : ℕ) (start : Context) (due : Result Passed DeliverError) → IsWhole start → ArePasses places start due → due ≡ passes places start
+      pub only : (places : ℕ) (start : Context) (due : Result CleanupsRun DeliverError) → IsWhole start → ArePasses places start due → due ≡ passes places start
       only zero start due whole (end, is, follows) = go (end_from start) (subst (λ (r : Result PassEnd DeliverError). FollowedBy (λ pad entered due. due ≡ Err PassLimit) r due) (pass_is limit start end whole is) follows)
         where
           go : (r : Result PassEnd DeliverError) → FollowedBy (λ pad entered due. due ≡ Err PassLimit) r due → due ≡ followed r (λ pad entered. Err PassLimit)
@@ -380,12 +380,12 @@ module _ (space : SpaceValue) (row : RowInstructions → RowValue) (thrown : Thr
       only (suc places) start due whole (end, is, follows) =
           go (end_from start) (passes_by_line limit start whole).1 (λ d rest whole. only places d rest whole) (subst (λ (r : Result PassEnd DeliverError). FollowedBy (Later places) r due) (pass_is limit start end whole is) follows)
         where
-          resumes_by : (pad : ℕ) (entered : Context) → IsWhole entered → ((d : Context) (rest : Result Passed DeliverError) → IsWhole d → ArePasses places d rest → rest ≡ passes places d) → (o : Option ℕ) →
+          resumes_by : (pad : ℕ) (entered : Context) → IsWhole entered → ((d : Context) (rest : Result CleanupsRun DeliverError) → IsWhole d → ArePasses places d rest → rest ≡ passes places d) → (o : Option ℕ) →
               ResumedBy (ArePasses places) (cleanup_at pad entered) (resume_at pad entered o) due → due ≡ resumed (cleanup_at pad entered) (resume_at pad entered o) (passes places)
           resumes_by pad entered whole outer None e = e
           resumes_by pad entered whole outer (Some ret) (rest, are, e) = e ∙ ap (with_cleanup (cleanup_at pad entered)) (outer (record entered { ra = ret }) rest whole are)
 
-          go : (r : Result PassEnd DeliverError) → IsWholeEnd r → ((d : Context) (rest : Result Passed DeliverError) → IsWhole d → ArePasses places d rest → rest ≡ passes places d) → FollowedBy (Later places) r due → due ≡ followed r (later places)
+          go : (r : Result PassEnd DeliverError) → IsWholeEnd r → ((d : Context) (rest : Result CleanupsRun DeliverError) → IsWhole d → ArePasses places d rest → rest ≡ passes places d) → FollowedBy (Later places) r due → due ≡ followed r (later places)
           go (Ok (Finishes ending)) whole outer e = e
           go (Ok (Elsewhere pad entered)) whole outer e = resumes_by pad entered whole outer (return_of resumes pad) e
           go (Err e) whole outer same = same
@@ -393,40 +393,40 @@ module _ (space : SpaceValue) (row : RowInstructions → RowValue) (thrown : Thr
   -- ---- a delivery
 
   module _ (resumes : List (ℕ × ℕ)) (limit : ℕ) (start : Context) (whole : IsWhole start) where
-    abbrev toward : ℕ → Result Passed DeliverError
+    abbrev toward : ℕ → Result CleanupsRun DeliverError
     toward kept = passes_of space thrown.word kept resumes limit limit start
 
-    abbrev Delivered_by : Result Search DeliverError → Result Delivered DeliverError → Type 0
+    abbrev Delivered_by : Result Search DeliverError → Result DeliveryValue DeliverError → Type 0
     Delivered_by found due = IsDeliveredBy (stepping_in space) p limit resumes start found due
 
     holds_at : (visited : List Context) (stop : Stop) (o : Option ℕ) →
-        IsDeliveredAfter (stepping_in space) p limit resumes start visited (option_map_or (λ pad. TakenBy (kept_at stop.context stop.interrupted)) o (Untaken FatalPhase1)) (delivered_at visited o (toward (kept_at stop.context stop.interrupted)))
+        IsDeliveredAfter (stepping_in space) p limit resumes start visited (option_map_or (λ pad. TakenBy (kept_at stop.context stop.interrupted)) o (Untaken FatalPhase1)) (delivery_at visited o (toward (kept_at stop.context stop.interrupted)))
     holds_at visited stop None = refl
     holds_at visited stop (Some pad) = let kept : ℕ = kept_at stop.context stop.interrupted in (toward kept, hold kept resumes limit limit start whole, refl)
 
-    holds_to : (visited : List Context) (o : Option Stop) → IsDeliveredAfter (stepping_in space) p limit resumes start visited (search_stop o) (delivered_to visited o toward)
+    holds_to : (visited : List Context) (o : Option Stop) → IsDeliveredAfter (stepping_in space) p limit resumes start visited (search_stop o) (delivery_to visited o toward)
     holds_to visited None = refl
     holds_to visited (Some stop) = holds_at visited stop (pad_of stop.action)
 
-    holds_by : (r : Result Line DeliverError) → Delivered_by (result_map search_line r) (delivered_by r toward)
+    holds_by : (r : Result Line DeliverError) → Delivered_by (result_map search_line r) (delivery_by r toward)
     holds_by (Ok line) = holds_to line.contexts line.stop
     holds_by (Err e) = refl
 
-    only_at : (due : Result Delivered DeliverError) (visited : List Context) (stop : Stop) (o : Option ℕ) →
-        IsDeliveredAfter (stepping_in space) p limit resumes start visited (option_map_or (λ pad. TakenBy (kept_at stop.context stop.interrupted)) o (Untaken FatalPhase1)) due → due ≡ delivered_at visited o (toward (kept_at stop.context stop.interrupted))
+    only_at : (due : Result DeliveryValue DeliverError) (visited : List Context) (stop : Stop) (o : Option ℕ) →
+        IsDeliveredAfter (stepping_in space) p limit resumes start visited (option_map_or (λ pad. TakenBy (kept_at stop.context stop.interrupted)) o (Untaken FatalPhase1)) due → due ≡ delivery_at visited o (toward (kept_at stop.context stop.interrupted))
     only_at due visited stop None e = e
-    only_at due visited stop (Some pad) (passed, are, e) = e ∙ ap (delivered_after visited) (only (kept_at stop.context stop.interrupted) resumes limit limit start passed whole are)
+    only_at due visited stop (Some pad) (passed, are, e) = e ∙ ap (delivery_after visited) (only (kept_at stop.context stop.interrupted) resumes limit limit start passed whole are)
 
-    only_to : (due : Result Delivered DeliverError) (visited : List Context) (o : Option Stop) → IsDeliveredAfter (stepping_in space) p limit resumes start visited (search_stop o) due → due ≡ delivered_to visited o toward
+    only_to : (due : Result DeliveryValue DeliverError) (visited : List Context) (o : Option Stop) → IsDeliveredAfter (stepping_in space) p limit resumes start visited (search_stop o) due → due ≡ delivery_to visited o toward
     only_to due visited None e = e
     only_to due visited (Some stop) e = only_at due visited stop (pad_of stop.action) e
 
-    only_by : (due : Result Delivered DeliverError) (r : Result Line DeliverError) → Delivered_by (result_map search_line r) due → due ≡ delivered_by r toward
+    only_by : (due : Result DeliveryValue DeliverError) (r : Result Line DeliverError) → Delivered_by (result_map search_line r) due → due ≡ delivery_by r toward
     only_by due (Ok line) is = only_to due line.contexts line.stop is
     only_by due (Err e) is = is
 
-    pub deliveries_are : (due : Result Delivered DeliverError) → IsDeliveryBy (stepping_in space) p limit resumes start due ↔ (due ≡ delivery_of space start thrown.word resumes limit)
-    unfolding delivery_of
+    pub deliveries_are : (due : Result DeliveryValue DeliverError) → IsDeliveryBy (stepping_in space) p limit resumes start due ↔ (due ≡ stack_delivery space start thrown.word resumes limit)
+    unfolding stack_delivery
     deliveries_are due = (
       λ d. only_by due (pass_of phase.Search space limit start false) (subst (λ (found : Result Search DeliverError). Delivered_by found due) ((searches_are limit start d.0 whole).0 d.1) d.2),
       λ e. subst (IsDeliveryBy (stepping_in space) p limit resumes start) (sym e) (search_of space limit start, (searches_are limit start (search_of space limit start) whole).1 refl, holds_by (pass_of phase.Search space limit start false)),

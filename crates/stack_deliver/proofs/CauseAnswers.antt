@@ -6,37 +6,37 @@ use Rattle.unwind_definitions.specs.LanguageSearch.{personality_address}
 use Rattle.unwind_definitions.specs.Caller as calls
 use Rattle.unwind_arch.specs.declared.x86_64.Context.{Context}
 use Rattle.fde_finders.specs.Finding.{FoundFde}
-use Rattle.stack_deliver.specs.declared.delivery.Trail.{Trail}
-use Rattle.stack_deliver.specs.declared.delivery.Stepped.{Stepped}
-use Rattle.stack_deliver.specs.declared.delivery.DeliverError.{DeliverError}
-use Rattle.stack_deliver.specs.declared.delivery.DeliverError.TheVariants.{FrameLimit, PassLimit, NoResume}
+use Rattle.stack_deliver.specs.declared.answers.Trail.{Trail}
+use Rattle.stack_deliver.specs.declared.answers.Stepped.{Stepped}
+use Rattle.stack_deliver.specs.declared.answers.DeliverError.{DeliverError}
+use Rattle.stack_deliver.specs.declared.answers.DeliverError.TheVariants.{FrameLimit, PassLimit, NoResume}
 use Rattle.stack_deliver.specs.declared.passes.Phase.{Phase}
 use Rattle.stack_deliver.specs.declared.passes.Phase.TheVariants as phase
 use Rattle.stack_deliver.specs.Modules.{SpaceValue}
 use Rattle.stack_deliver.specs.Resumes.{return_of}
 use Rattle.stack_deliver.specs.Stepping.{step_of, refusal_of, FrameAt, frame_of, caller_by}
-use Rattle.stack_deliver.specs.Passes.{turn_at, asked_if_named, asked_of, stops, Line, Stop, Turn, Ends, Stops, Goes, turn_of, with_context, line_turn, pass_of, kept_at, pad_of, PassEnd, Finishes, Elsewhere, end_of, cleanup_of, cleanup_at, resume_at, Passed, with_cleanup, resumed, followed, passes_of, turn_for}
-use Rattle.stack_deliver.specs.Delivering.{delivered_after, delivered_at, delivered_to, delivered_by, delivery_of}
+use Rattle.stack_deliver.specs.Passes.{turn_at, action_if_named, action_asked, stops, Line, Stop, Turn, Ends, Stops, Goes, turn_of, with_context, line_turn, pass_of, kept_at, pad_of, PassEnd, Finishes, Elsewhere, end_of, cleanup_of, cleanup_at, resume_at, CleanupsRun, with_cleanup, resumed, followed, passes_of, turn_for}
+use Rattle.stack_deliver.specs.StackDelivery.{delivery_after, delivery_at, delivery_to, delivery_by, stack_delivery}
 use Rattle.stack_deliver.proofs.StepParts.{some_next, stepped_by, step_is, goes, turn_asked, turn_by}
 use Rattle.stack_deliver.proofs.LineAnswers.{IsStepFault, OnStepFault, step_faults}
 use Rattle.stack_deliver.specs.Causes.{TakenAt, SomePass, TrailIsFull, HasNoReturn, InPasses}
 
 module _ (space : SpaceValue) (exception kept : ℕ) (resumes : List (ℕ × ℕ)) (limit : ℕ) where
-  abbrev passes : ℕ → Context → Result Passed DeliverError
+  abbrev passes : ℕ → Context → Result CleanupsRun DeliverError
   passes = passes_of space exception kept resumes limit
 
-  abbrev later : ℕ → ℕ → Context → Result Passed DeliverError
+  abbrev later : ℕ → ℕ → Context → Result CleanupsRun DeliverError
   later n pad entered = resumed (cleanup_at pad entered) (resume_at pad entered (return_of resumes pad)) (passes n)
 
   -- the pass from a context is refused so, or the cleanup that it enters is
   abbrev pub RefusesNow : DeliverError → ℕ → Context → Type 0
   RefusesNow e places c = (cleanup_of space exception kept limit c ≡ Err e) ⊎ ((e ≡ PassLimit) × TrailIsFull space exception kept resumes limit places c) ⊎ ((pad : ℕ) × (e ≡ NoResume pad) × HasNoReturn space exception kept resumes limit pad places c)
 
-  cleanup_error : (t : Trail) (r : Result Passed DeliverError) (e : DeliverError) → with_cleanup t r ≡ Err e → r ≡ Err e
+  cleanup_error : (t : Trail) (r : Result CleanupsRun DeliverError) (e : DeliverError) → with_cleanup t r ≡ Err e → r ≡ Err e
   cleanup_error t (Ok x) e is = absurd cc
   cleanup_error t (Err x) e is = cc
 
-  same_error : (x e : DeliverError) → ◌≡◌ {A = Result Passed DeliverError} (Err x) (Err e) → x ≡ e
+  same_error : (x e : DeliverError) → ◌≡◌ {A = Result CleanupsRun DeliverError} (Err x) (Err e) → x ≡ e
   same_error x e is = cc
 
   -- what refuses passes refuses one of them
@@ -118,14 +118,14 @@ module _ (space : SpaceValue) where
       refused (calls.Table f) = tt
       refused (calls.Unmapped a) = tt
 
-      asks : (found : FoundFde) (r : Result (Option ℕ) calls.StepFault) → OnStepFault (asked_if_named space.image c interrupted found r)
+      asks : (found : FoundFde) (r : Result (Option ℕ) calls.StepFault) → OnStepFault (action_if_named space.image c interrupted found r)
       asks found (Ok None) = tt
       asks found (Ok (Some routine)) = tt
       asks found (Err e) = refused e
 
       by_frame : (r : Result (Option FrameAt) DeliverError) → frame_of space c interrupted ≡ r → OnStepFault (turn_by p space.image c interrupted r)
       by_frame (Ok None) is = tt
-      by_frame (Ok (Some f)) is = by_action f is (asked_of space.image c interrupted f.found) (asks f.found (personality_address space.image f.found.fde))
+      by_frame (Ok (Some f)) is = by_action f is (action_asked space.image c interrupted f.found) (asks f.found (personality_address space.image f.found.fde))
       by_frame (Err e) is = of_step e (step_is space c interrupted ∙ ap (stepped_by space.image c) is)
 
   abbrev IsOfPass : DeliverError → Type 0
@@ -176,19 +176,19 @@ module _ (space : SpaceValue) where
 -- ---- the delivery
 
 module _ (space : SpaceValue) (c : Context) (exception : ℕ) (resumes : List (ℕ × ℕ)) (limit : ℕ) where
-  abbrev pub toward : ℕ → Result Passed DeliverError
+  abbrev pub toward : ℕ → Result CleanupsRun DeliverError
   toward kept = passes_of space exception kept resumes limit limit c
 
-  after_error : (visited : List Context) (r : Result Passed DeliverError) (e : DeliverError) → delivered_after visited r ≡ Err e → r ≡ Err e
+  after_error : (visited : List Context) (r : Result CleanupsRun DeliverError) (e : DeliverError) → delivery_after visited r ≡ Err e → r ≡ Err e
   after_error visited (Ok x) e is = absurd cc
   after_error visited (Err x) e is = cc
 
   -- what refuses a delivery refuses the search or the passes
-  pub refused_either : (e : DeliverError) → delivery_of space c exception resumes limit ≡ Err e → (pass_of phase.Search space limit c false ≡ Err e) ⊎ ((kept : ℕ) × TakenAt space limit c kept × (toward kept ≡ Err e))
-  unfolding delivery_of
+  pub refused_either : (e : DeliverError) → stack_delivery space c exception resumes limit ≡ Err e → (pass_of phase.Search space limit c false ≡ Err e) ⊎ ((kept : ℕ) × TakenAt space limit c kept × (toward kept ≡ Err e))
+  unfolding stack_delivery
   refused_either e fails = go (pass_of phase.Search space limit c false) refl fails
     where
-      at_pad : (line : Line) → pass_of phase.Search space limit c false ≡ Ok line → (stop : Stop) → line.stop ≡ Some stop → (o : Option ℕ) → pad_of stop.action ≡ o → delivered_at line.contexts o (toward (kept_at stop.context stop.interrupted)) ≡ Err e →
+      at_pad : (line : Line) → pass_of phase.Search space limit c false ≡ Ok line → (stop : Stop) → line.stop ≡ Some stop → (o : Option ℕ) → pad_of stop.action ≡ o → delivery_at line.contexts o (toward (kept_at stop.context stop.interrupted)) ≡ Err e →
           (kept : ℕ) × TakenAt space limit c kept × (toward kept ≡ Err e)
       at_pad line is stop stops None named h = absurd cc
       at_pad line is stop stops (Some pad) named h = (
@@ -197,34 +197,34 @@ module _ (space : SpaceValue) (c : Context) (exception : ℕ) (resumes : List (�
         after_error line.contexts (toward (kept_at stop.context stop.interrupted)) e h,
       )
 
-      at_stop : (line : Line) → pass_of phase.Search space limit c false ≡ Ok line → (o : Option Stop) → line.stop ≡ o → delivered_to line.contexts o toward ≡ Err e → (kept : ℕ) × TakenAt space limit c kept × (toward kept ≡ Err e)
+      at_stop : (line : Line) → pass_of phase.Search space limit c false ≡ Ok line → (o : Option Stop) → line.stop ≡ o → delivery_to line.contexts o toward ≡ Err e → (kept : ℕ) × TakenAt space limit c kept × (toward kept ≡ Err e)
       at_stop line is None stops h = absurd cc
       at_stop line is (Some stop) stops h = at_pad line is stop stops (pad_of stop.action) refl h
 
-      go : (r : Result Line DeliverError) → pass_of phase.Search space limit c false ≡ r → delivered_by r toward ≡ Err e → (pass_of phase.Search space limit c false ≡ Err e) ⊎ ((kept : ℕ) × TakenAt space limit c kept × (toward kept ≡ Err e))
+      go : (r : Result Line DeliverError) → pass_of phase.Search space limit c false ≡ r → delivery_by r toward ≡ Err e → (pass_of phase.Search space limit c false ≡ Err e) ⊎ ((kept : ℕ) × TakenAt space limit c kept × (toward kept ≡ Err e))
       go (Ok line) is h = inr (at_stop line is line.stop refl h)
       go (Err x) is h = let same : x ≡ e = cc in inl (is ∙ ap failed same)
         where
           failed : DeliverError → Result Line DeliverError
           failed y = Err y
 
-  refused_by : (e : DeliverError) → (pass_of phase.Search space limit c false ≡ Err e → ⊥) → delivery_of space c exception resumes limit ≡ Err e → (kept : ℕ) × TakenAt space limit c kept × (toward kept ≡ Err e)
+  refused_by : (e : DeliverError) → (pass_of phase.Search space limit c false ≡ Err e → ⊥) → stack_delivery space c exception resumes limit ≡ Err e → (kept : ℕ) × TakenAt space limit c kept × (toward kept ≡ Err e)
   refused_by e never fails = go (refused_either e fails)
     where
       go : (pass_of phase.Search space limit c false ≡ Err e) ⊎ ((kept : ℕ) × TakenAt space limit c kept × (toward kept ≡ Err e)) → (kept : ℕ) × TakenAt space limit c kept × (toward kept ≡ Err e)
       go (inl is) = absurd (never is)
       go (inr r) = r
 
-  pub search_refuses : (e : DeliverError) → pass_of phase.Search space limit c false ≡ Err e → delivery_of space c exception resumes limit ≡ Err e
-  unfolding delivery_of
-  search_refuses e is = ap (λ r. delivered_by r toward) is
+  pub search_refuses : (e : DeliverError) → pass_of phase.Search space limit c false ≡ Err e → stack_delivery space c exception resumes limit ≡ Err e
+  unfolding stack_delivery
+  search_refuses e is = ap (λ r. delivery_by r toward) is
 
-  pub refuses : (e : DeliverError) (kept : ℕ) → TakenAt space limit c kept → toward kept ≡ Err e → delivery_of space c exception resumes limit ≡ Err e
-  unfolding delivery_of
+  pub refuses : (e : DeliverError) (kept : ℕ) → TakenAt space limit c kept → toward kept ≡ Err e → stack_delivery space c exception resumes limit ≡ Err e
+  unfolding stack_delivery
   refuses e kept taken fails =
       let own : toward (kept_at taken.stop.context taken.stop.interrupted) ≡ Err e = ap toward (sym taken.mark) ∙ fails in
-      ap (λ r. delivered_by r toward) taken.searched ∙ ap (λ o. delivered_to taken.line.contexts o toward) taken.stops
-      ∙ ap (λ o. delivered_at taken.line.contexts o (toward (kept_at taken.stop.context taken.stop.interrupted))) taken.takes ∙ ap (delivered_after taken.line.contexts) own
+      ap (λ r. delivery_by r toward) taken.searched ∙ ap (λ o. delivery_to taken.line.contexts o toward) taken.stops
+      ∙ ap (λ o. delivery_at taken.line.contexts o (toward (kept_at taken.stop.context taken.stop.interrupted))) taken.takes ∙ ap (delivery_after taken.line.contexts) own
 
   abbrev full_at : ℕ → ℕ → Context → Type 0
   full_at kept = TrailIsFull space exception kept resumes limit
@@ -232,7 +232,7 @@ module _ (space : SpaceValue) (c : Context) (exception : ℕ) (resumes : List (�
   abbrev without_return : ℕ → ℕ → ℕ → Context → Type 0
   without_return pad kept = HasNoReturn space exception kept resumes limit pad
 
-  pub limit_met : delivery_of space c exception resumes limit ≡ Err PassLimit → InPasses space c exception resumes limit full_at
+  pub limit_met : stack_delivery space c exception resumes limit ≡ Err PassLimit → InPasses space c exception resumes limit full_at
   limit_met fails =
       let r = refused_by PassLimit (never_pass space phase.Search limit c PassLimit (not_full space)) fails in
       (r.0, r.1, some_pass space exception r.0 resumes limit (RefusesNow space exception r.0 resumes limit PassLimit) (full_at r.0) (narrow r.0) limit c (refused_in space exception r.0 resumes limit limit c PassLimit r.2))
@@ -242,10 +242,10 @@ module _ (space : SpaceValue) (c : Context) (exception : ℕ) (resumes : List (�
       narrow kept places d (inr (inl full)) = full.1
       narrow kept places d (inr (inr none)) = let bad = none.1 in absurd cc
 
-  pub met_limit : InPasses space c exception resumes limit full_at → delivery_of space c exception resumes limit ≡ Err PassLimit
+  pub met_limit : InPasses space c exception resumes limit full_at → stack_delivery space c exception resumes limit ≡ Err PassLimit
   met_limit r = refuses PassLimit r.0 r.1 (some_refused space exception r.0 resumes limit (full_at r.0) PassLimit (full_refuses space exception r.0 resumes limit) limit c r.2)
 
-  pub unresumed : (pad : ℕ) → delivery_of space c exception resumes limit ≡ Err (NoResume pad) → InPasses space c exception resumes limit (without_return pad)
+  pub unresumed : (pad : ℕ) → stack_delivery space c exception resumes limit ≡ Err (NoResume pad) → InPasses space c exception resumes limit (without_return pad)
   unresumed pad fails =
       let r = refused_by (NoResume pad) (never_pass space phase.Search limit c (NoResume pad) (not_resumed space pad)) fails in
       (r.0, r.1, some_pass space exception r.0 resumes limit (RefusesNow space exception r.0 resumes limit (NoResume pad)) (without_return pad r.0) (narrow r.0) limit c (refused_in space exception r.0 resumes limit limit c (NoResume pad) r.2))
@@ -255,5 +255,5 @@ module _ (space : SpaceValue) (c : Context) (exception : ℕ) (resumes : List (�
       narrow kept places d (inr (inl full)) = let bad = full.0 in absurd cc
       narrow kept places d (inr (inr none)) = let e = none.1 in let named : pad ≡ none.0 = cc in subst (λ (q : ℕ). without_return q kept places d) (sym named) none.2
 
-  pub no_return : (pad : ℕ) → InPasses space c exception resumes limit (without_return pad) → delivery_of space c exception resumes limit ≡ Err (NoResume pad)
+  pub no_return : (pad : ℕ) → InPasses space c exception resumes limit (without_return pad) → stack_delivery space c exception resumes limit ≡ Err (NoResume pad)
   no_return pad r = refuses (NoResume pad) r.0 r.1 (some_refused space exception r.0 resumes limit (without_return pad r.0) (NoResume pad) (no_return_refuses space exception r.0 resumes limit pad) limit c r.2)

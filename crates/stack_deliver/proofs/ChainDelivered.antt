@@ -11,16 +11,16 @@ use Rattle.unwind_definitions.specs.Delivery as described
 use Rattle.unwind_definitions.specs.Valid.{IsDescribedChain}
 use Rattle.unwind_laws.proofs.Walk.{valid_described}
 use Rattle.unwind_arch.specs.declared.x86_64.Context.{Context}
-use Rattle.unwind_arch.specs.Contexts.{columns_of}
-use Rattle.stack_deliver.specs.declared.delivery.Outcome.TheVariants.{EndOfStack, FatalPhase1}
-use Rattle.stack_deliver.specs.declared.delivery.DeliverError.{DeliverError}
+use Rattle.unwind_arch.specs.ContextViews.{columns_of}
+use Rattle.stack_deliver.specs.declared.answers.Outcome.TheVariants.{EndOfStack, FatalPhase1}
+use Rattle.stack_deliver.specs.declared.answers.DeliverError.{DeliverError}
 use Rattle.stack_deliver.specs.declared.passes.Phase.TheVariants as phase
 use Rattle.stack_deliver.specs.Modules.{SpaceValue, AreApart}
-use Rattle.stack_deliver.specs.Processes.{process_of}
-use Rattle.stack_deliver.specs.Shown.{state_of, outcome_of}
+use Rattle.stack_deliver.specs.SpaceViews.{process_of}
+use Rattle.stack_deliver.specs.StateViews.{state_of, outcome_of}
 use Rattle.stack_deliver.specs.Walking.{EachShows}
-use Rattle.stack_deliver.specs.Passes.{Stop, Passed, pass_of, kept_at, pad_of, passes_of}
-use Rattle.stack_deliver.specs.Delivering.{Delivered, delivered_after, undelivered, delivered_at, delivered_to, delivery_of}
+use Rattle.stack_deliver.specs.Passes.{Stop, CleanupsRun, pass_of, kept_at, pad_of, passes_of}
+use Rattle.stack_deliver.specs.StackDelivery.{DeliveryValue, delivery_after, no_delivery, delivery_at, delivery_to, stack_delivery}
 use Rattle.stack_deliver.specs.Walking.{StartsValidChain, ShowsDelivery}
 use Rattle.stack_deliver.proofs.ContextLemmas.{IsWhole}
 use Rattle.stack_deliver.proofs.Chains.{shown_states}
@@ -46,8 +46,8 @@ same_made : (v w : List State) (t u : List (ℕ × ℕ)) (l m : Option described
 same_made v w t u l m o q a b c d = ap (λ x. made x t l o) a ∙ ap (λ x. made w x l o) b ∙ ap (λ x. made w u x o) c ∙ ap (λ x. made w u m x) d
 
 -- a delivery that is what the definition says
-pub record DeliversChain (exception : ℕ) (s : State) (calls : List Call) (r : Result Delivered DeliverError) : Type 0 where
-  pub delivered : Delivered
+pub record DeliversChain (exception : ℕ) (s : State) (calls : List Call) (r : Result DeliveryValue DeliverError) : Type 0 where
+  pub delivered : DeliveryValue
   pub is : r ≡ Ok delivered
   pub shows : ShowsDelivery delivered exception s calls
 
@@ -56,13 +56,13 @@ module _ (space : SpaceValue) (c : Context) (exception : ℕ) (resumes : List (�
   chain : IsDescribedChain (process_of space) functions s calls
   chain = valid_described (process_of space) (columns_of c) resumes functions s calls is.valid
 
-  abbrev passes : ℕ → Result Passed DeliverError
+  abbrev passes : ℕ → Result CleanupsRun DeliverError
   passes kept = passes_of space exception kept resumes limit limit c
 
   -- no frame decides
-  undecided : (contexts : List Context) → described.deciding_frame s calls ≡ None → EachShows contexts (states_of s calls) → DeliversChain exception s calls (delivered_to contexts None passes)
+  undecided : (contexts : List Context) → described.deciding_frame s calls ≡ None → EachShows contexts (states_of s calls) → DeliversChain exception s calls (delivery_to contexts None passes)
   undecided contexts none states = record {
-    delivered = undelivered contexts EndOfStack;
+    delivered = no_delivery contexts EndOfStack;
     is = refl;
     shows = ap (λ (visited : List State). made visited [] None described.EndOfStack) (shown_states contexts (states_of s calls) states) ∙ sym (ap due none);
   }
@@ -82,10 +82,10 @@ module _ (space : SpaceValue) (c : Context) (exception : ℕ) (resumes : List (�
     pad_is x acts = ap pad_of (stops.action ∙ acts)
 
     terminates : (x : Action) → described.action_of_frame f ≡ x → pad_of x ≡ None → described.decided_by exception (described.inner_frames s calls) f.state x ≡ described.not_installed (described.states_in (described.inner_frames s calls) ++ f.state ∷ []) described.FatalPhase1 →
-        DeliversChain exception s calls (delivered_to contexts (Some stop) passes)
+        DeliversChain exception s calls (delivery_to contexts (Some stop) passes)
     terminates x acts none due = record {
-      delivered = undelivered contexts FatalPhase1;
-      is = ap (λ (o : Option ℕ). delivered_at contexts o (passes (kept_at stop.context stop.interrupted))) (pad_is x acts ∙ none);
+      delivered = no_delivery contexts FatalPhase1;
+      is = ap (λ (o : Option ℕ). delivery_at contexts o (passes (kept_at stop.context stop.interrupted))) (pad_is x acts ∙ none);
       shows = ap (λ (v : List State). made v [] None described.FatalPhase1) visited ∙ sym (due_is x acts ∙ due);
     }
 
@@ -98,7 +98,7 @@ module _ (space : SpaceValue) (c : Context) (exception : ℕ) (resumes : List (�
     accepted : (x : Action) (pad : ℕ) → described.action_of_frame f ≡ x → IsTrue (described.accepts x) → pad_of x ≡ Some pad →
         described.decided_by exception (described.inner_frames s calls) f.state x ≡ described.installed exception (described.inner_frames s calls) f.state pad →
         lands_in space apart laid functions is.valid.are_functions exception (kept_at stop.context stop.interrupted) resumes limit f.state x ≡ Some (described.landing_at exception f.state pad) →
-        DeliversChain exception s calls (delivered_to contexts (Some stop) passes)
+        DeliversChain exception s calls (delivery_to contexts (Some stop) passes)
     accepted x pad acts accepts named due lands =
         let kept : ℕ = kept_at stop.context stop.interrupted in
         let accepting : IsTrue (described.accepts (described.action_of_frame f)) = subst (λ (y : Action). IsTrue (described.accepts y)) (sym acts) accepts in
@@ -108,12 +108,12 @@ module _ (space : SpaceValue) (c : Context) (exception : ℕ) (resumes : List (�
         let run : passes kept ≡ Ok shown.passed = by_pass space apart laid functions is.valid.are_functions exception kept resumes limit limit c ∙ shown.is in
         record {
           delivered = record { visited = contexts; trail = shown.passed.trail; outcome = shown.passed.ending.outcome; landing = shown.passed.ending.landing };
-          is = ap (λ (o : Option ℕ). delivered_at contexts o (passes kept)) (pad_is x acts ∙ named) ∙ ap (delivered_after contexts) run;
+          is = ap (λ (o : Option ℕ). delivery_at contexts o (passes kept)) (pad_is x acts ∙ named) ∙ ap (delivery_after contexts) run;
           shows = same_made _ _ _ _ _ _ _ _ visited shown.trail (shown.landing ∙ ap (lands_in space apart laid functions is.valid.are_functions exception kept resumes limit f.state) acts ∙ lands) (ap outcome_of shown.outcome) ∙ sym (due_is x acts ∙ due);
         }
 
     -- the frame that decides
-    by_action : (x : Action) → described.action_of_frame f ≡ x → DeliversChain exception s calls (delivered_to contexts (Some stop) passes)
+    by_action : (x : Action) → described.action_of_frame f ≡ x → DeliversChain exception s calls (delivery_to contexts (Some stop) passes)
     by_action NoAction acts = terminates NoAction acts refl refl
     by_action (Cleanup pad) acts =
         let decides : described.is_deciding f ≡ true = decides_found (described.frames_of s calls) f decided in
@@ -123,14 +123,14 @@ module _ (space : SpaceValue) (c : Context) (exception : ℕ) (resumes : List (�
     by_action (Filter pad) acts = accepted (Filter pad) pad acts refl refl refl refl
     by_action Terminate acts = terminates Terminate acts refl refl
 
-  by_stop : (contexts : List Context) (o : Option described.Frame) (stop : Option Stop) → described.deciding_frame s calls ≡ o → StopShows stop o → EachShows contexts (seen s calls o) → DeliversChain exception s calls (delivered_to contexts stop passes)
+  by_stop : (contexts : List Context) (o : Option described.Frame) (stop : Option Stop) → described.deciding_frame s calls ≡ o → StopShows stop o → EachShows contexts (seen s calls o) → DeliversChain exception s calls (delivery_to contexts stop passes)
   by_stop contexts None None decided stops states = undecided contexts decided states
   by_stop contexts (Some f) (Some stop) decided stops states = by_action contexts stop f decided stops states (described.action_of_frame f) refl
   by_stop contexts None (Some stop) decided stops states = absurd stops
   by_stop contexts (Some f) None decided stops states = absurd stops
 
-  pub chain_delivered : DeliversChain exception s calls (delivery_of space c exception resumes limit)
-  unfolding delivery_of
+  pub chain_delivered : DeliversChain exception s calls (stack_delivery space c exception resumes limit)
+  unfolding stack_delivery
   chain_delivered =
       let search : SearchShows (pass_of phase.Search space limit c false) s calls = search_shows space apart laid functions is.valid.are_functions s calls c limit is.valid.chain chain.described is.valid.shows is.shorter in
       rw search.is (by_stop search.line.contexts (described.deciding_frame s calls) search.line.stop refl search.stop search.states)

@@ -8,11 +8,11 @@ use Rattle.unwind_definitions.specs.Chain.{Call}
 use Rattle.unwind_definitions.specs.Valid.{IsDescribedChain}
 use Rattle.unwind_laws.proofs.Walk.{chain_rises}
 use Rattle.unwind_arch.specs.declared.x86_64.Context.{Context}
-use Rattle.unwind_arch.specs.Contexts.{columns_of}
+use Rattle.unwind_arch.specs.ContextViews.{columns_of}
 use Rattle.stack_deliver.specs.Modules.{SpaceValue, AreApart}
-use Rattle.stack_deliver.specs.Processes.{process_of}
-use Rattle.stack_deliver.specs.Delivering.{line_of}
-use Rattle.stack_deliver.specs.Shown.{state_of}
+use Rattle.stack_deliver.specs.SpaceViews.{process_of}
+use Rattle.stack_deliver.specs.StackDelivery.{line_of}
+use Rattle.stack_deliver.specs.StateViews.{state_of}
 use Rattle.stack_deliver.specs.Walking.{EachShows}
 use Rattle.stack_deliver.specs.Walking.{StartsChain, ShowChain}
 use Rattle.stack_deliver.proofs.LineShows.{line_shows}

@@ -6,7 +6,7 @@ use Rattle.std.proofs.Math.ListN.{length-set}
 use Rattle.std.proofs.lemmas.Bool.Decides.{nat_tests}
 use Rattle.unwind_definitions.specs.Caller.{Columns}
 use Rattle.unwind_arch.specs.declared.x86_64.Context.{Context}
-use Rattle.unwind_arch.specs.Contexts.{columns_of, with_column, context_of}
+use Rattle.unwind_arch.specs.ContextViews.{columns_of, with_column, context_of}
 
 -- sixteen general registers
 abbrev pub IsWhole : Context → Type 0

@@ -8,17 +8,17 @@ use Rattle.unwind_definitions.specs.LanguageSearch as tables
 use Rattle.unwind_definitions.specs.Caller as calls
 use Rattle.unwind_arch.specs.declared.x86_64.Context.{Context}
 use Rattle.fde_finders.specs.Finding.{FoundFde}
-use Rattle.stack_deliver.specs.declared.delivery.Stepped.{Stepped}
-use Rattle.stack_deliver.specs.declared.delivery.Trail.{Trail}
-use Rattle.stack_deliver.specs.declared.delivery.DeliverError.{DeliverError}
-use Rattle.stack_deliver.specs.declared.delivery.DeliverError.TheVariants.{NoMemory, Unmapped, FrameLimit, PassLimit, NoResume, Table}
+use Rattle.stack_deliver.specs.declared.answers.Stepped.{Stepped}
+use Rattle.stack_deliver.specs.declared.answers.Trail.{Trail}
+use Rattle.stack_deliver.specs.declared.answers.DeliverError.{DeliverError}
+use Rattle.stack_deliver.specs.declared.answers.DeliverError.TheVariants.{NoMemory, Unmapped, FrameLimit, PassLimit, NoResume, Table}
 use Rattle.stack_deliver.specs.declared.passes.Phase.{Phase}
 use Rattle.stack_deliver.specs.declared.passes.Phase.TheVariants as phase
 use Rattle.stack_deliver.specs.Modules.{SpaceValue}
 use Rattle.stack_deliver.specs.Resumes.{return_of}
 use Rattle.stack_deliver.specs.Stepping.{step_of, refusal_of, FrameAt, frame_of, caller_by}
-use Rattle.stack_deliver.specs.Passes.{turn_at, asked_if_named, asked_of, stops, Turn, Ends, Stops, Goes, turn_of, Line, with_context, line_turn, pass_of, PassEnd, Finishes, Elsewhere, end_of, cleanup_of, cleanup_at, resume_at, Passed, with_cleanup, resumed, followed, passes_of, kept_at, pad_of, Stop, turn_for}
-use Rattle.stack_deliver.specs.Delivering.{delivered_after, delivered_at, delivered_to, delivered_by, delivery_of}
+use Rattle.stack_deliver.specs.Passes.{turn_at, action_if_named, action_asked, stops, Turn, Ends, Stops, Goes, turn_of, Line, with_context, line_turn, pass_of, PassEnd, Finishes, Elsewhere, end_of, cleanup_of, cleanup_at, resume_at, CleanupsRun, with_cleanup, resumed, followed, passes_of, kept_at, pad_of, Stop, turn_for}
+use Rattle.stack_deliver.specs.StackDelivery.{delivery_after, delivery_at, delivery_to, delivery_by, stack_delivery}
 use Rattle.stack_deliver.proofs.StepParts.{some_next, stepped_by, step_is, goes, turn_asked, turn_by}
 use Rattle.stack_deliver.proofs.LineAnswers.{IsStepFault, OnStepFault, step_faults}
 use Rattle.stack_deliver.proofs.StepAnswers.{step_unmapped}
@@ -61,14 +61,14 @@ target_cause image (Indirect a) = go (word_at image a) refl
     go None none = none
     go (Some w) some = tt
 
-asked_cause : (image : List Span) (c : Context) (interrupted : Bool) (found : FoundFde) → OnCause image (asked_of image c interrupted found)
+asked_cause : (image : List Span) (c : Context) (interrupted : Bool) (found : FoundFde) → OnCause image (action_asked image c interrupted found)
 asked_cause image c interrupted found = go found.fde.cie.letters.personality
   where
-    by_target : (r : Result ℕ calls.StepFault) → OnTarget image r → OnCause image (asked_if_named image c interrupted found (tables.some_address r))
+    by_target : (r : Result ℕ calls.StepFault) → OnTarget image r → OnCause image (action_if_named image c interrupted found (tables.some_address r))
     by_target (Ok a) on = tt
     by_target (Err e) on = on
 
-    go : (o : Option (ℕ × Pointer)) → OnCause image (asked_if_named image c interrupted found (option_map_or (λ p. tables.some_address (tables.target image p)) (option_map (λ p. p.1) o) (Ok None)))
+    go : (o : Option (ℕ × Pointer)) → OnCause image (action_if_named image c interrupted found (option_map_or (λ p. tables.some_address (tables.target image p)) (option_map (λ p. p.1) o) (Ok None)))
     go None = tt
     go (Some p) = by_target (tables.target image p.1) (target_cause image p.1)
 
@@ -93,7 +93,7 @@ module _ (space : SpaceValue) where
 
       by_frame : (r : Result (Option FrameAt) DeliverError) → frame_of space c interrupted ≡ r → OnCause space.image (turn_by p space.image c interrupted r)
       by_frame (Ok None) is = tt
-      by_frame (Ok (Some f)) is = by_action f is (asked_of space.image c interrupted f.found) (asked_cause space.image c interrupted f.found)
+      by_frame (Ok (Some f)) is = by_action f is (action_asked space.image c interrupted f.found) (asked_cause space.image c interrupted f.found)
       by_frame (Err e) is = step_cause space c interrupted e (step_is space c interrupted ∙ ap (stepped_by space.image c) is)
 
   context_cause : (c : Context) (r : Result Line DeliverError) → OnCause space.image r → OnCause space.image (with_context c r)
@@ -114,7 +114,7 @@ module _ (space : SpaceValue) where
   end_cause exception kept (Ok line) on = tt
   end_cause exception kept (Err e) on = on
 
-  cleanup_cause : (t : Trail) (r : Result Passed DeliverError) → OnCause space.image r → OnCause space.image (with_cleanup t r)
+  cleanup_cause : (t : Trail) (r : Result CleanupsRun DeliverError) → OnCause space.image r → OnCause space.image (with_cleanup t r)
   cleanup_cause t (Ok passed) on = tt
   cleanup_cause t (Err e) on = on
 
@@ -138,28 +138,28 @@ module _ (space : SpaceValue) where
         go (Ok (Elsewhere pad d)) on later = by_resume pad d (return_of resumes pad) later
         go (Err e) on later = on
 
-  after_cause : (visited : List Context) (r : Result Passed DeliverError) → OnCause space.image r → OnCause space.image (delivered_after visited r)
+  after_cause : (visited : List Context) (r : Result CleanupsRun DeliverError) → OnCause space.image r → OnCause space.image (delivery_after visited r)
   after_cause visited (Ok passed) on = tt
   after_cause visited (Err e) on = on
 
-  pub delivery_cause : (c : Context) (exception : ℕ) (resumes : List (ℕ × ℕ)) (limit : ℕ) → OnCause space.image (delivery_of space c exception resumes limit)
-  unfolding delivery_of
+  pub delivery_cause : (c : Context) (exception : ℕ) (resumes : List (ℕ × ℕ)) (limit : ℕ) → OnCause space.image (stack_delivery space c exception resumes limit)
+  unfolding stack_delivery
   delivery_cause c exception resumes limit = go (pass_of phase.Search space limit c false) (pass_cause phase.Search limit c false)
     where
-      at_pad : (visited : List Context) (o : Option ℕ) (kept : ℕ) → OnCause space.image (delivered_at visited o (passes_of space exception kept resumes limit limit c))
+      at_pad : (visited : List Context) (o : Option ℕ) (kept : ℕ) → OnCause space.image (delivery_at visited o (passes_of space exception kept resumes limit limit c))
       at_pad visited None kept = tt
       at_pad visited (Some pad) kept = after_cause visited (passes_of space exception kept resumes limit limit c) (passes_cause exception kept resumes limit limit c)
 
-      to_stop : (visited : List Context) (o : Option Stop) → OnCause space.image (delivered_to visited o (λ kept. passes_of space exception kept resumes limit limit c))
+      to_stop : (visited : List Context) (o : Option Stop) → OnCause space.image (delivery_to visited o (λ kept. passes_of space exception kept resumes limit limit c))
       to_stop visited None = tt
       to_stop visited (Some stop) = at_pad visited (pad_of stop.action) (kept_at stop.context stop.interrupted)
 
-      go : (r : Result Line DeliverError) → OnCause space.image r → OnCause space.image (delivered_by r (λ kept. passes_of space exception kept resumes limit limit c))
+      go : (r : Result Line DeliverError) → OnCause space.image r → OnCause space.image (delivery_by r (λ kept. passes_of space exception kept resumes limit limit c))
       go (Ok line) on = to_stop line.contexts line.stop
       go (Err e) on = on
 
-  pub delivery_unmapped : (c : Context) (exception : ℕ) (resumes : List (ℕ × ℕ)) (limit a : ℕ) → delivery_of space c exception resumes limit ≡ Err (Unmapped a) → word_at space.image a ≡ None
+  pub delivery_unmapped : (c : Context) (exception : ℕ) (resumes : List (ℕ × ℕ)) (limit a : ℕ) → stack_delivery space c exception resumes limit ≡ Err (Unmapped a) → word_at space.image a ≡ None
   delivery_unmapped c exception resumes limit a fails = subst (OnCause space.image) fails (delivery_cause c exception resumes limit)
 
-  pub delivery_memory : (c : Context) (exception : ℕ) (resumes : List (ℕ × ℕ)) (limit : ℕ) → delivery_of space c exception resumes limit ≢ Err NoMemory
+  pub delivery_memory : (c : Context) (exception : ℕ) (resumes : List (ℕ × ℕ)) (limit : ℕ) → stack_delivery space c exception resumes limit ≢ Err NoMemory
   delivery_memory c exception resumes limit fails = subst (OnCause space.image) fails (delivery_cause c exception resumes limit)

@@ -2,18 +2,18 @@
 use Rattle.std.proofs.Common.{inl, inr, ◌≡◌, ◌≢◌, ℕ, zero, suc, Bool, false, List, Option, Some, None, Result, Ok, Err, refl, sym, ap, subst, ◌∙◌}
 use Rattle.std.specs.Prelude.{◌⊎◌}
 use Rattle.unwind_arch.specs.declared.x86_64.Context.{Context}
-use Rattle.stack_deliver.specs.declared.delivery.Ending.{Ending}
-use Rattle.stack_deliver.specs.declared.delivery.Outcome.{Outcome}
-use Rattle.stack_deliver.specs.declared.delivery.Outcome.TheVariants.{Installed, EndOfStack, FatalPhase1, FatalPhase2}
-use Rattle.stack_deliver.specs.declared.delivery.DeliverError.{DeliverError}
-use Rattle.stack_deliver.specs.declared.delivery.DeliverError.TheVariants.{NoMemory, Unmapped, FrameLimit, PassLimit, NoResume, Table}
+use Rattle.stack_deliver.specs.declared.answers.Ending.{Ending}
+use Rattle.stack_deliver.specs.declared.answers.Outcome.{Outcome}
+use Rattle.stack_deliver.specs.declared.answers.Outcome.TheVariants.{Installed, EndOfStack, FatalPhase1, FatalPhase2}
+use Rattle.stack_deliver.specs.declared.answers.DeliverError.{DeliverError}
+use Rattle.stack_deliver.specs.declared.answers.DeliverError.TheVariants.{NoMemory, Unmapped, FrameLimit, PassLimit, NoResume, Table}
 use Rattle.stack_deliver.specs.declared.passes.Phase.{Phase}
 use Rattle.stack_deliver.specs.declared.passes.Phase.TheVariants as phase
 use Rattle.stack_deliver.specs.Modules.{SpaceValue}
 use Rattle.stack_deliver.proofs.LineAnswers.{IsStepFault}
-use Rattle.stack_deliver.specs.Passes.{Line, Stop, pass_of, kept_at, pad_of, cleanup_of, Passed, passes_of}
+use Rattle.stack_deliver.specs.Passes.{Line, Stop, pass_of, kept_at, pad_of, cleanup_of, CleanupsRun, passes_of}
 use Rattle.stack_deliver.proofs.PassLines.{stop_in}
-use Rattle.stack_deliver.specs.Delivering.{Delivered, delivered_after, undelivered, delivered_at, delivered_to, delivered_by, delivery_of}
+use Rattle.stack_deliver.specs.StackDelivery.{DeliveryValue, delivery_after, no_delivery, delivery_at, delivery_to, delivery_by, stack_delivery}
 use Rattle.stack_deliver.specs.Causes.{CantRead, Meets, GoesOnFrom}
 use Rattle.stack_deliver.specs.Causes.{TakenAt, SomePass, NeedMore, MeetFault, IsRefused, EndsBy}
 use Rattle.stack_deliver.proofs.MeetAnswers.{turn_fails, more_pass, meets_never}
@@ -27,10 +27,10 @@ read_faults : (p : Phase) (space : SpaceValue) (e : DeliverError) → (IsStepFau
 read_faults p space e other c interrupted fails = other (subst OnStepFault (turn_fails p space c interrupted e fails) (turn_faults space p c interrupted))
 
 module _ (space : SpaceValue) (c : Context) (exception : ℕ) (resumes : List (ℕ × ℕ)) (limit : ℕ) where
-  abbrev pub delivery : Result Delivered DeliverError
-  delivery = delivery_of space c exception resumes limit
+  abbrev pub delivery : Result DeliveryValue DeliverError
+  delivery = stack_delivery space c exception resumes limit
 
-  abbrev passes : ℕ → Result Passed DeliverError
+  abbrev passes : ℕ → Result CleanupsRun DeliverError
   passes kept = passes_of space exception kept resumes limit limit c
 
   abbrev search_stop : Result (Option Stop) DeliverError
@@ -39,23 +39,23 @@ module _ (space : SpaceValue) (c : Context) (exception : ℕ) (resumes : List (�
   -- ---- outcomes
 
   -- how a delivery that isn't refused goes: the search comes to the end of the stack, or to that of the program, or the passes go
-  data Course (d : Delivered) : Type 0 where
+  data Course (d : DeliveryValue) : Type 0 where
     AtEnd : search_stop ≡ Ok None → d.outcome ≡ EndOfStack → Course d
     AtFatal : (stop : Stop) → search_stop ≡ Ok (Some stop) → pad_of stop.action ≡ None → d.outcome ≡ FatalPhase1 → Course d
-    InPass : (kept : ℕ) → TakenAt space limit c kept → (passed : Passed) → passes kept ≡ Ok passed → d.outcome ≡ passed.ending.outcome → Course d
+    InPass : (kept : ℕ) → TakenAt space limit c kept → (passed : CleanupsRun) → passes kept ≡ Ok passed → d.outcome ≡ passed.ending.outcome → Course d
 
-  course : (d : Delivered) → delivery ≡ Ok d → Course d
-  unfolding delivery_of
+  course : (d : DeliveryValue) → delivery ≡ Ok d → Course d
+  unfolding stack_delivery
   course d is = go (pass_of phase.Search space limit c false) refl is
     where
-      by_passes : (line : Line) → pass_of phase.Search space limit c false ≡ Ok line → (stop : Stop) → line.stop ≡ Some stop → (pad : ℕ) → pad_of stop.action ≡ Some pad → (r : Result Passed DeliverError) → passes (kept_at stop.context stop.interrupted) ≡ r →
-          delivered_after line.contexts r ≡ Ok d → Course d
+      by_passes : (line : Line) → pass_of phase.Search space limit c false ≡ Ok line → (stop : Stop) → line.stop ≡ Some stop → (pad : ℕ) → pad_of stop.action ≡ Some pad → (r : Result CleanupsRun DeliverError) → passes (kept_at stop.context stop.interrupted) ≡ r →
+          delivery_after line.contexts r ≡ Ok d → Course d
       by_passes line at stop stops pad named (Ok passed) run h =
           let out : d.outcome ≡ passed.ending.outcome = cc in
           InPass (kept_at stop.context stop.interrupted) (record { line = line; searched = at; stop = stop; stops = stops; pad = pad; takes = named; mark = refl }) passed run out
       by_passes line at stop stops pad named (Err e) run h = absurd cc
 
-      by_pad : (line : Line) → pass_of phase.Search space limit c false ≡ Ok line → (stop : Stop) → line.stop ≡ Some stop → (o : Option ℕ) → pad_of stop.action ≡ o → delivered_at line.contexts o (passes (kept_at stop.context stop.interrupted)) ≡ Ok d → Course d
+      by_pad : (line : Line) → pass_of phase.Search space limit c false ≡ Ok line → (stop : Stop) → line.stop ≡ Some stop → (o : Option ℕ) → pad_of stop.action ≡ o → delivery_at line.contexts o (passes (kept_at stop.context stop.interrupted)) ≡ Ok d → Course d
       by_pad line at stop stops None none h =
           let out : d.outcome ≡ FatalPhase1 = cc in
           let stopped : search_stop ≡ Ok (Some stop) = ap stop_in at ∙ ap stopped_at stops in
@@ -65,7 +65,7 @@ module _ (space : SpaceValue) (c : Context) (exception : ℕ) (resumes : List (�
           stopped_at o = Ok o
       by_pad line at stop stops (Some pad) named h = by_passes line at stop stops pad named (passes (kept_at stop.context stop.interrupted)) refl h
 
-      by_stop : (line : Line) → pass_of phase.Search space limit c false ≡ Ok line → (o : Option Stop) → line.stop ≡ o → delivered_to line.contexts o passes ≡ Ok d → Course d
+      by_stop : (line : Line) → pass_of phase.Search space limit c false ≡ Ok line → (o : Option Stop) → line.stop ≡ o → delivery_to line.contexts o passes ≡ Ok d → Course d
       by_stop line at None none h =
           let out : d.outcome ≡ EndOfStack = cc in
           let ended : search_stop ≡ Ok None = ap stop_in at ∙ ap stopped_at none in
@@ -75,7 +75,7 @@ module _ (space : SpaceValue) (c : Context) (exception : ℕ) (resumes : List (�
           stopped_at o = Ok o
       by_stop line at (Some stop) stops h = by_pad line at stop stops (pad_of stop.action) refl h
 
-      go : (r : Result Line DeliverError) → pass_of phase.Search space limit c false ≡ r → delivered_by r passes ≡ Ok d → Course d
+      go : (r : Result Line DeliverError) → pass_of phase.Search space limit c false ≡ r → delivery_by r passes ≡ Ok d → Course d
       go (Ok line) at h = by_stop line at line.stop refl h
       go (Err e) at h = absurd cc
 
@@ -99,7 +99,7 @@ module _ (space : SpaceValue) (c : Context) (exception : ℕ) (resumes : List (�
       go EndOfStack is = absurd (some_holds space exception kept resumes limit (Meeting EndOfStack) ⊥ (λ n d never. never) limit c (met EndOfStack is))
       go FatalPhase1 is = absurd (some_holds space exception kept resumes limit (Meeting FatalPhase1) ⊥ (λ n d never. never) limit c (met FatalPhase1 is))
 
-  pub ended_by : (d : Delivered) → delivery ≡ Ok d → Ends d.outcome
+  pub ended_by : (d : DeliveryValue) → delivery ≡ Ok d → Ends d.outcome
   ended_by d is = go (course d is)
     where
       go : Course d → Ends d.outcome
@@ -108,22 +108,22 @@ module _ (space : SpaceValue) (c : Context) (exception : ℕ) (resumes : List (�
       go (InPass kept taken passed run out) = subst Ends (sym out) (in_pass kept taken passed.ending (finished_in space exception kept resumes limit limit c passed run))
 
   abbrev pub Delivers : Outcome → Type 0
-  Delivers o = (d : Delivered) × (delivery ≡ Ok d) × (d.outcome ≡ o)
+  Delivers o = (d : DeliveryValue) × (delivery ≡ Ok d) × (d.outcome ≡ o)
 
-  by_search : (o : Option Stop) → search_stop ≡ Ok o → (line : Line) × (delivery ≡ delivered_to line.contexts o passes)
-  unfolding delivery_of
+  by_search : (o : Option Stop) → search_stop ≡ Ok o → (line : Line) × (delivery ≡ delivery_to line.contexts o passes)
+  unfolding stack_delivery
   by_search o is =
       let r = line_stops (pass_of phase.Search space limit c false) o is in
       let line : Line = r.0 in
-      (line, ap (λ x. delivered_by x passes) r.1 ∙ ap (λ x. delivered_to line.contexts x passes) r.2)
+      (line, ap (λ x. delivery_by x passes) r.1 ∙ ap (λ x. delivery_to line.contexts x passes) r.2)
 
-  by_taken : (kept : ℕ) → TakenAt space limit c kept → (passed : Passed) → passes kept ≡ Ok passed → (d : Delivered) × (delivery ≡ Ok d) × (d.outcome ≡ passed.ending.outcome)
-  unfolding delivery_of
+  by_taken : (kept : ℕ) → TakenAt space limit c kept → (passed : CleanupsRun) → passes kept ≡ Ok passed → (d : DeliveryValue) × (delivery ≡ Ok d) × (d.outcome ≡ passed.ending.outcome)
+  unfolding stack_delivery
   by_taken kept taken passed run =
       let own : passes (kept_at taken.stop.context taken.stop.interrupted) ≡ Ok passed = ap passes (sym taken.mark) ∙ run in (
         record { visited = taken.line.contexts; trail = passed.trail; outcome = passed.ending.outcome; landing = passed.ending.landing },
-        ap (λ r. delivered_by r passes) taken.searched ∙ ap (λ o. delivered_to taken.line.contexts o passes) taken.stops
-            ∙ ap (λ o. delivered_at taken.line.contexts o (passes (kept_at taken.stop.context taken.stop.interrupted))) taken.takes ∙ ap (delivered_after taken.line.contexts) own,
+        ap (λ r. delivery_by r passes) taken.searched ∙ ap (λ o. delivery_to taken.line.contexts o passes) taken.stops
+            ∙ ap (λ o. delivery_at taken.line.contexts o (passes (kept_at taken.stop.context taken.stop.interrupted))) taken.takes ∙ ap (delivery_after taken.line.contexts) own,
         refl,
       )
 
@@ -148,11 +148,11 @@ module _ (space : SpaceValue) (c : Context) (exception : ℕ) (resumes : List (�
   by_end FatalPhase2 ends = by_pass FatalPhase2 ends.0 ends.1 ends.2
   by_end EndOfStack ends =
       let r = by_search None (meets_ended phase.Search space limit c ends) in
-      (undelivered r.0.contexts EndOfStack, r.1, refl)
+      (no_delivery r.0.contexts EndOfStack, r.1, refl)
   by_end FatalPhase1 ends =
       let stop = meets_fatal phase.Search space limit c ends in
       let r = by_search (Some stop.0) stop.1 in
-      (undelivered r.0.contexts FatalPhase1, r.1 ∙ ap (λ (o : Option ℕ). delivered_at r.0.contexts o (passes (kept_at stop.0.context stop.0.interrupted))) stop.2, refl)
+      (no_delivery r.0.contexts FatalPhase1, r.1 ∙ ap (λ (o : Option ℕ). delivery_at r.0.contexts o (passes (kept_at stop.0.context stop.0.interrupted))) stop.2, refl)
 
   -- ---- refusals
 

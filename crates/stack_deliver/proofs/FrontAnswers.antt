@@ -8,24 +8,24 @@ use Rattle.unwind_definitions.specs.Pointers.{Bases}
 use Rattle.unwind_definitions.specs.LanguageTable.{input_at}
 use Rattle.unwind_definitions.specs.LanguageSearch.{address_of_call}
 use Rattle.unwind_arch.specs.declared.x86_64.Context.{Context}
-use Rattle.eh_frame.specs.Search.{IsUncovered}
+use Rattle.eh_frame.specs.Search.{NoneContains}
 use Rattle.fde_finders.specs.declared.custom.FrameInfoKind.{FrameInfoKind}
 use Rattle.fde_finders.specs.declared.custom.FrameInfoKind.TheVariants.{EhFrame, EhFrameHdr}
 use Rattle.fde_finders.specs.Finding.{table_bases, relative_to}
-use Rattle.stack_deliver.specs.declared.delivery.Stepped.{Stepped}
-use Rattle.stack_deliver.specs.declared.delivery.DeliverError.{DeliverError}
-use Rattle.stack_deliver.specs.declared.delivery.DeliverError.TheVariants.{NoMemory, Unmapped, FrameLimit, PassLimit, NoResume, Table}
+use Rattle.stack_deliver.specs.declared.answers.Stepped.{Stepped}
+use Rattle.stack_deliver.specs.declared.answers.DeliverError.{DeliverError}
+use Rattle.stack_deliver.specs.declared.answers.DeliverError.TheVariants.{NoMemory, Unmapped, FrameLimit, PassLimit, NoResume, Table}
 use Rattle.stack_deliver.specs.declared.front.Front.{Front}
 use Rattle.stack_deliver.specs.declared.front.Front.TheVariants.{Outermost, NoModule, NoDescription, UnreadableTable, Refused, Limit}
 use Rattle.stack_deliver.specs.declared.space.Module.{Module}
 use Rattle.stack_deliver.specs.Modules.{SpaceValue, module_at}
 use Rattle.stack_deliver.specs.Stepping.{step_of, FindsNone, EndsAt}
-use Rattle.stack_deliver.specs.Delivering.{with_first, line_after, line_of, NeedsMore}
+use Rattle.stack_deliver.specs.StackDelivery.{with_first, line_after, line_of, NeedsMore}
 use Rattle.stack_deliver.specs.Fronts.{reached_after, reached_by, caller_in, caller_from, turned_from, IsReached, started, front_of, IsUnreadableAt, IsUndescribedIn, IsUnlisted, IsUndescribed, IsUnheld, IsUnknown, EndsFor, stopped_by, Meets, ComesTo}
 use Rattle.stack_deliver.specs.declared.passes.Stop.{Stop as CodeStop}
 use Rattle.stack_deliver.specs.Walking.{RoomValue, IsWalked}
 use Rattle.stack_deliver.specs.Passes.{line_for}
-use Rattle.stack_deliver.specs.Passing.{IsOutward}
+use Rattle.stack_deliver.specs.PassViews.{IsOutward}
 use Rattle.stack_deliver.proofs.LineAnswers.{line_limit}
 use Rattle.stack_deliver.proofs.PassLines.{walk_line, walked_by}
 use Rattle.stack_deliver.proofs.Reaching.{same_reached, turned_called}
@@ -151,7 +151,7 @@ module _ (space : SpaceValue) where
 
 -- why nothing is known of an address, by its shape
 abbrev Unlisted : Bases → Input → ℕ → Front → Type 0
-Unlisted bases table a why = ((why ≡ NoDescription a) × IsUncovered bases table a 0) ⊎ ((offset : ℕ) × (e : Fault) × (why ≡ UnreadableTable a offset e) × IsUnreadableAt bases table a 0 offset e)
+Unlisted bases table a why = ((why ≡ NoDescription a) × NoneContains bases table a 0) ⊎ ((offset : ℕ) × (e : Fault) × (why ≡ UnreadableTable a offset e) × IsUnreadableAt bases table a 0 offset e)
 
 unlisted : (bases : Bases) (table : Input) (a : ℕ) (why : Front) → IsUndescribedIn bases table a why → Unlisted bases table a why
 unlisted bases table a Outermost is = absurd is

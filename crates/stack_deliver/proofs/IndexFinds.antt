@@ -35,9 +35,9 @@ use Rattle.fde_finders.specs.Named.{found_by_kind}
 use Rattle.fde_finders.specs.Named as named
 use Rattle.std.specs.Result.{result_map_both}
 use Rattle.unwind_definitions.specs.Row.{RowInstructions, row_at}
-use Rattle.encoded_pointers.specs.Pointers.{bases_of}
-use Rattle.eh_frame.specs.Views.{table_of}
-use Rattle.stack_deliver.specs.declared.delivery.DeliverError.TheVariants.{Table}
+use Rattle.encoded_pointers.specs.PointerViews.{bases_of}
+use Rattle.eh_frame.specs.EntryViews.{table_of}
+use Rattle.stack_deliver.specs.declared.answers.DeliverError.TheVariants.{Table}
 use Rattle.stack_deliver.specs.declared.prepared.PreparedTable.{PreparedTable}
 use Rattle.stack_deliver.specs.Held.{IsTableOf, kept_table}
 use Rattle.stack_deliver.specs.Preparing.{HeaderLists, Lists, fdes_in}

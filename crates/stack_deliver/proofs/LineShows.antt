@@ -20,14 +20,14 @@ use Rattle.unwind_arch.specs.declared.x86_64.Context.{Context}
 use Rattle.stack_deliver.specs.declared.space.Module.{Module}
 use Rattle.fde_finders.specs.declared.custom.FrameInfoKind.{FrameInfoKind}
 use Rattle.fde_finders.specs.declared.custom.FrameInfoKind.TheVariants.{EhFrame, EhFrameHdr}
-use Rattle.unwind_arch.specs.Contexts.{columns_of}
+use Rattle.unwind_arch.specs.ContextViews.{columns_of}
 use Rattle.stack_deliver.specs.Modules.{SpaceValue, AreApart, contains, module_at}
-use Rattle.stack_deliver.specs.Processes.{tables_of, module_of, process_of}
+use Rattle.stack_deliver.specs.SpaceViews.{tables_of, module_of, process_of}
 use Rattle.fde_finders.specs.Finding.{table_bases}
 use Rattle.fde_finders.specs.Named.{found_by_kind}
 use Rattle.stack_deliver.specs.Stepping.{frame_in, frame_of, step_of}
 use Rattle.stack_deliver.proofs.StepParts.{stepped_by, step_is}
-use Rattle.stack_deliver.specs.Delivering.{line_of}
+use Rattle.stack_deliver.specs.StackDelivery.{line_of}
 use Rattle.stack_deliver.specs.Walking.{IsDescribedCall, Undone, EachShows}
 use Rattle.stack_deliver.proofs.HeaderFinds.{header_finds_none}
 use Rattle.stack_deliver.proofs.MetFrames.{step_undone}

@@ -6,13 +6,13 @@ use Rattle.unwind_definitions.specs.Function.{Action, NoAction, Terminate}
 use Rattle.unwind_definitions.specs.LanguageSearch.{personality_address, address_of_call, language_action}
 use Rattle.unwind_definitions.specs.Row.{argument_size}
 use Rattle.unwind_arch.specs.declared.x86_64.Context.{Context}
-use Rattle.stack_deliver.specs.declared.delivery.Stepped.{Stepped}
-use Rattle.stack_deliver.specs.declared.delivery.DeliverError.{DeliverError}
-use Rattle.stack_deliver.specs.declared.delivery.DeliverError.TheVariants.{FrameLimit}
+use Rattle.stack_deliver.specs.declared.answers.Stepped.{Stepped}
+use Rattle.stack_deliver.specs.declared.answers.DeliverError.{DeliverError}
+use Rattle.stack_deliver.specs.declared.answers.DeliverError.TheVariants.{FrameLimit}
 use Rattle.stack_deliver.specs.declared.passes.Phase.{Phase}
 use Rattle.stack_deliver.specs.Modules.{SpaceValue}
 use Rattle.stack_deliver.specs.Stepping.{step_of, FrameAt, frame_of, caller_by}
-use Rattle.stack_deliver.specs.Passes.{turn_at, or_terminate, asked_if_named, asked_of, stops, past_arguments, Line, Stop, Turn, Ends, Stops, Goes, turn_of, with_context, line_turn, pass_of, turn_for}
+use Rattle.stack_deliver.specs.Passes.{turn_at, or_terminate, action_if_named, action_asked, stops, past_arguments, Line, Stop, Turn, Ends, Stops, Goes, turn_of, with_context, line_turn, pass_of, turn_for}
 use Rattle.stack_deliver.proofs.PassLines.{stop_in}
 use Rattle.stack_deliver.specs.Causes.{Asks, GoesTo, EndsProgram, StackEnds, CantRead, Meets, GoesOnFrom}
 use Rattle.stack_deliver.proofs.StepParts.{some_next, stepped_by, step_is, none_framed, goes, turn_asked, turn_by}
@@ -64,18 +64,18 @@ module _ (p : Phase) (space : SpaceValue) (c : Context) (interrupted : Bool) whe
   by_test f wanted asks is true stopped = (asks, stopped)
   by_test f wanted asks is false silent = by_caller f wanted asks silent is (caller_by space.image c f) refl
 
-  cell_fails : (f : FrameAt) (e : DeliverError) → framed ≡ Ok (Some f) → (r : Result (Option ℕ) calls.StepFault) → personality_address space.image f.found.fde ≡ r → asked_if_named space.image c interrupted f.found r ≡ Err e → CantRead p e space c interrupted
+  cell_fails : (f : FrameAt) (e : DeliverError) → framed ≡ Ok (Some f) → (r : Result (Option ℕ) calls.StepFault) → personality_address space.image f.found.fde ≡ r → action_if_named space.image c interrupted f.found r ≡ Err e → CantRead p e space c interrupted
   cell_fails f e is (Ok None) named fails = absurd cc
   cell_fails f e is (Ok (Some routine)) named fails = absurd cc
   cell_fails f e is (Err fault) named fails = inr (inl (f, fault, is, named, cc))
 
-  by_asked : (f : FrameAt) → framed ≡ Ok (Some f) → (r : Result Action DeliverError) → asked_of space.image c interrupted f.found ≡ r → IsTurn (turn_asked p space.image c f r)
+  by_asked : (f : FrameAt) → framed ≡ Ok (Some f) → (r : Result Action DeliverError) → action_asked space.image c interrupted f.found ≡ r → IsTurn (turn_asked p space.image c f r)
   by_asked f is (Ok wanted) asked = by_test f wanted (record { frame = f; framed = is; asked = asked }) is (stops p wanted) refl
   by_asked f is (Err e) asked = cell_fails f e is (personality_address space.image f.found.fde) refl asked
 
   by_frame : (r : Result (Option FrameAt) DeliverError) → framed ≡ r → IsTurn (turn_by p space.image c interrupted r)
   by_frame (Ok None) is = step_is space c interrupted ∙ ap (stepped_by space.image c) is
-  by_frame (Ok (Some f)) is = by_asked f is (asked_of space.image c interrupted f.found) refl
+  by_frame (Ok (Some f)) is = by_asked f is (action_asked space.image c interrupted f.found) refl
   by_frame (Err e) is = inl is
 
   turn_is : IsTurn (turn_of p space c interrupted)
@@ -110,7 +110,7 @@ module _ (p : Phase) (space : SpaceValue) (c : Context) (interrupted : Bool) whe
 
 module _ (space : SpaceValue) (c : Context) (interrupted : Bool) where
   pub ends_asks : EndsProgram space c interrupted → Asks space c interrupted Terminate
-  ends_asks ends = record { frame = ends.frame; framed = ends.framed; asked = ap (asked_if_named space.image c interrupted ends.frame.found) ends.named ∙ fatal ends.fatal }
+  ends_asks ends = record { frame = ends.frame; framed = ends.framed; asked = ap (action_if_named space.image c interrupted ends.frame.found) ends.named ∙ fatal ends.fatal }
     where
       asked : Result Action calls.StepFault
       asked = language_action space.image ends.frame.found.bases ends.frame.found.fde (address_of_call c.ra interrupted)
@@ -129,7 +129,7 @@ module _ (space : SpaceValue) (c : Context) (interrupted : Bool) where
       by_table routine named (Ok wanted) is e = record { frame = asks.frame; framed = asks.framed; routine = routine; named = named; fatal = inl (is ∙ ap Ok e) }
       by_table routine named (Err fault) is e = record { frame = asks.frame; framed = asks.framed; routine = routine; named = named; fatal = inr (fault, is) }
 
-      go : (r : Result (Option ℕ) calls.StepFault) → personality_address space.image asks.frame.found.fde ≡ r → asked_if_named space.image c interrupted asks.frame.found r ≡ Ok Terminate → EndsProgram space c interrupted
+      go : (r : Result (Option ℕ) calls.StepFault) → personality_address space.image asks.frame.found.fde ≡ r → action_if_named space.image c interrupted asks.frame.found r ≡ Ok Terminate → EndsProgram space c interrupted
       go (Ok None) named e = let bad : NoAction ≡ Terminate = cc in absurd cc
       go (Ok (Some routine)) named e = by_table routine named (language_action space.image asks.frame.found.bases asks.frame.found.fde (address_of_call c.ra interrupted)) refl cc
       go (Err fault) named e = absurd cc

@@ -20,19 +20,19 @@ use Rattle.unwind_laws.proofs.Found.{body_inside}
 use Rattle.unwind_laws.proofs.Walk.{one_step}
 use Rattle.unwind_laws.proofs.Booleans as lists
 use Rattle.unwind_arch.specs.declared.x86_64.Context.{Context}
-use Rattle.unwind_arch.specs.Contexts.{columns_of, context_of}
+use Rattle.unwind_arch.specs.ContextViews.{columns_of, context_of}
 use Rattle.fde_finders.specs.declared.custom.FrameInfoKind.{FrameInfoKind}
 use Rattle.fde_finders.specs.declared.custom.FrameInfoKind.TheVariants.{EhFrame, EhFrameHdr}
 use Rattle.unwind_definitions.specs.Expressions.{evaluation}
 use Rattle.fde_finders.specs.Finding.{FoundFde, table_bases, scanned_in}
 use Rattle.fde_finders.specs.Named.{found_by_kind}
 use Rattle.stack_deliver.specs.declared.space.Module.{Module}
-use Rattle.stack_deliver.specs.declared.delivery.Stepped.{Stepped}
+use Rattle.stack_deliver.specs.declared.answers.Stepped.{Stepped}
 use Rattle.stack_deliver.specs.Modules.{SpaceValue, AreApart, module_at}
-use Rattle.stack_deliver.specs.Processes.{tables_of, module_of, process_of}
+use Rattle.stack_deliver.specs.SpaceViews.{tables_of, module_of, process_of}
 use Rattle.stack_deliver.specs.Stepping.{step_of, FrameAt, frame_of, caller_by}
 use Rattle.stack_deliver.specs.Walking.{IsDescribedCall, Undone}
-use Rattle.stack_deliver.specs.Passes.{asked_if_named, asked_of}
+use Rattle.stack_deliver.specs.Passes.{action_if_named, action_asked}
 use Rattle.stack_deliver.proofs.ContextLemmas.{IsWhole}
 use Rattle.stack_deliver.proofs.HeaderFinds.{header_finds}
 use Rattle.stack_deliver.proofs.StepParts.{some_next, stepped_by, step_is}
@@ -42,7 +42,7 @@ use Rattle.stack_deliver.proofs.StepUndone.{IsOf, contains_map, module_at-contai
 pub record Met (space : SpaceValue) (c : Context) (s : State) (call : Call) : Type 0 where
   pub frame : FrameAt
   pub framed : frame_of space c false ≡ Ok (Some frame)
-  pub asks : asked_of space.image c false frame.found ≡ Ok (action_at call.callee (s.ra - 1))
+  pub asks : action_asked space.image c false frame.found ≡ Ok (action_at call.callee (s.ra - 1))
   pub no_arguments : argument_size frame.run ≡ 0
   pub next : Stepped
   pub called : caller_by space.image c frame ≡ Ok next
@@ -53,10 +53,10 @@ pub record Met (space : SpaceValue) (c : Context) (s : State) (call : Call) : Ty
   pub address : s.ra < 2 ^ 64
 
 -- what is asked, where a description asks what its function does
-asked_as : (image : List Span) (c : Context) (found : FoundFde) (f : Function) (a : ℕ) → AsksAs image found.bases f found.fde → address_of_call c.ra false ≡ a → asked_of image c false found ≡ Ok (action_at f a)
-asked_as image c found f a asks at = ap (asked_if_named image c false found) asks.personality ∙ go asks.routine asks.silent
+asked_as : (image : List Span) (c : Context) (found : FoundFde) (f : Function) (a : ℕ) → AsksAs image found.bases f found.fde → address_of_call c.ra false ≡ a → action_asked image c false found ≡ Ok (action_at f a)
+asked_as image c found f a asks at = ap (action_if_named image c false found) asks.personality ∙ go asks.routine asks.silent
   where
-    go : (o : Option ℕ) → (o ≡ None → f.sites ≡ None) → asked_if_named image c false found (Ok o) ≡ Ok (action_at f a)
+    go : (o : Option ℕ) → (o ≡ None → f.sites ≡ None) → action_if_named image c false found (Ok o) ≡ Ok (action_at f a)
     go None silent = let none : f.sites ≡ None = silent refl in rw none refl
     go (Some routine) silent = rw (at, asks.action a) refl
 

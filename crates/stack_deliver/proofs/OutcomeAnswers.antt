@@ -4,17 +4,17 @@ use Rattle.std.proofs.lemmas.Bool.Decides.{nat_tests}
 use Rattle.std.specs.Prelude.{◌⊎◌}
 use Rattle.unwind_definitions.specs.Function.{Action, NoAction, Cleanup, Catch, Filter, Terminate}
 use Rattle.unwind_arch.specs.declared.x86_64.Context.{Context}
-use Rattle.stack_deliver.specs.declared.delivery.Trail.{Trail}
-use Rattle.stack_deliver.specs.declared.delivery.Ending.{Ending}
-use Rattle.stack_deliver.specs.declared.delivery.Outcome.{Outcome}
-use Rattle.stack_deliver.specs.declared.delivery.Outcome.TheVariants.{Installed, EndOfStack, FatalPhase1, FatalPhase2}
-use Rattle.stack_deliver.specs.declared.delivery.DeliverError.{DeliverError}
-use Rattle.stack_deliver.specs.declared.delivery.DeliverError.TheVariants.{FrameLimit, PassLimit}
+use Rattle.stack_deliver.specs.declared.answers.Trail.{Trail}
+use Rattle.stack_deliver.specs.declared.answers.Ending.{Ending}
+use Rattle.stack_deliver.specs.declared.answers.Outcome.{Outcome}
+use Rattle.stack_deliver.specs.declared.answers.Outcome.TheVariants.{Installed, EndOfStack, FatalPhase1, FatalPhase2}
+use Rattle.stack_deliver.specs.declared.answers.DeliverError.{DeliverError}
+use Rattle.stack_deliver.specs.declared.answers.DeliverError.TheVariants.{FrameLimit, PassLimit}
 use Rattle.stack_deliver.specs.declared.passes.Phase.{Phase}
 use Rattle.stack_deliver.specs.declared.passes.Phase.TheVariants as phase
 use Rattle.stack_deliver.specs.Modules.{SpaceValue}
 use Rattle.stack_deliver.specs.Resumes.{return_of}
-use Rattle.stack_deliver.specs.Passes.{stops, Line, Stop, Ends, Stops, turn_of, pass_of, kept_at, pad_of, fatal, landed, enters, PassEnd, Finishes, Elsewhere, end_at, end_by, end_of, cleanup_of, cleanup_at, resume_at, Passed, with_cleanup, resumed, followed, passes_of}
+use Rattle.stack_deliver.specs.Passes.{stops, Line, Stop, Ends, Stops, turn_of, pass_of, kept_at, pad_of, fatal, landed, enters, PassEnd, Finishes, Elsewhere, end_at, end_by, end_of, cleanup_of, cleanup_at, resume_at, CleanupsRun, with_cleanup, resumed, followed, passes_of}
 use Rattle.stack_deliver.proofs.PassLines.{stop_in}
 use Rattle.stack_deliver.specs.Causes.{Asks, EndsProgram, StackEnds, CantRead, Meets, GoesOnFrom, TakesAt, Fails}
 use Rattle.stack_deliver.specs.Causes.{SomePass}
@@ -239,10 +239,10 @@ module _ (space : SpaceValue) (exception kept limit : ℕ) (c : Context) where
 -- ---- the passes
 
 module _ (space : SpaceValue) (exception kept : ℕ) (resumes : List (ℕ × ℕ)) (limit : ℕ) where
-  abbrev passes : ℕ → Context → Result Passed DeliverError
+  abbrev passes : ℕ → Context → Result CleanupsRun DeliverError
   passes = passes_of space exception kept resumes limit
 
-  abbrev later : ℕ → ℕ → Context → Result Passed DeliverError
+  abbrev later : ℕ → ℕ → Context → Result CleanupsRun DeliverError
   later n pad entered = resumed (cleanup_at pad entered) (resume_at pad entered (return_of resumes pad)) (passes n)
 
   -- the pass from a context finishes so
@@ -252,7 +252,7 @@ module _ (space : SpaceValue) (exception kept : ℕ) (resumes : List (ℕ × ℕ
   abbrev finish : Ending → Result PassEnd DeliverError
   finish ending = Ok (Finishes ending)
 
-  pub finished_in : (places : ℕ) (c : Context) (passed : Passed) → passes places c ≡ Ok passed → SomePass space exception kept resumes limit (FinishesSo passed.ending) places c
+  pub finished_in : (places : ℕ) (c : Context) (passed : CleanupsRun) → passes places c ≡ Ok passed → SomePass space exception kept resumes limit (FinishesSo passed.ending) places c
   finished_in zero c passed is = go (cleanup_of space exception kept limit c) refl is
     where
       go : (r : Result PassEnd DeliverError) → cleanup_of space exception kept limit c ≡ r → followed r (λ pad entered. Err PassLimit) ≡ Ok passed → FinishesSo passed.ending zero c
@@ -262,9 +262,9 @@ module _ (space : SpaceValue) (exception kept : ℕ) (resumes : List (ℕ × ℕ
   finished_in (suc n) c passed is = go (cleanup_of space exception kept limit c) refl (λ d rest h. finished_in n d rest h) is
     where
       Outer : Type 0
-      Outer = (d : Context) (rest : Passed) → passes n d ≡ Ok rest → SomePass space exception kept resumes limit (FinishesSo rest.ending) n d
+      Outer = (d : Context) (rest : CleanupsRun) → passes n d ≡ Ok rest → SomePass space exception kept resumes limit (FinishesSo rest.ending) n d
 
-      with_rest : (t : Trail) (d : Context) (r : Result Passed DeliverError) → passes n d ≡ r → Outer → with_cleanup t r ≡ Ok passed → SomePass space exception kept resumes limit (FinishesSo passed.ending) n d
+      with_rest : (t : Trail) (d : Context) (r : Result CleanupsRun DeliverError) → passes n d ≡ r → Outer → with_cleanup t r ≡ Ok passed → SomePass space exception kept resumes limit (FinishesSo passed.ending) n d
       with_rest t d (Ok rest) at outer h = let same : rest.ending ≡ passed.ending = cc in subst (λ (x : Ending). SomePass space exception kept resumes limit (FinishesSo x) n d) same (outer d rest at)
       with_rest t d (Err e) at outer h = absurd cc
 
@@ -278,14 +278,14 @@ module _ (space : SpaceValue) (exception kept : ℕ) (resumes : List (ℕ × ℕ
       go (Ok (Elsewhere pad entered)) at outer h = at_return pad entered (return_of resumes pad) at refl outer h
       go (Err e) at outer h = absurd cc
 
-  pub finish_all : (ending : Ending) (places : ℕ) (c : Context) → SomePass space exception kept resumes limit (FinishesSo ending) places c → (passed : Passed) × (passes places c ≡ Ok passed) × (passed.ending ≡ ending)
+  pub finish_all : (ending : Ending) (places : ℕ) (c : Context) → SomePass space exception kept resumes limit (FinishesSo ending) places c → (passed : CleanupsRun) × (passes places c ≡ Ok passed) × (passed.ending ≡ ending)
   finish_all ending zero c is = (record { trail = []; ending = ending }, ap (λ x. followed x (λ pad entered. Err PassLimit)) is, refl)
   finish_all ending (suc n) c (inl is) = (record { trail = []; ending = ending }, ap (λ x. followed x (later n)) is, refl)
   finish_all ending (suc n) c (inr r) =
       let pad = r.0 in let entered : Context = r.1 in let ret = r.2 in
       let d : Context = record entered { ra = ret } in
       let rest = finish_all ending n d r.5 in
-      let passed : Passed = rest.0 in
+      let passed : CleanupsRun = rest.0 in
       let done : with_cleanup (cleanup_at pad entered) (passes n d) ≡ Ok (record passed { trail = cleanup_at pad entered ∷ passed.trail }) = ap (with_cleanup (cleanup_at pad entered)) rest.1 in
       (record passed { trail = cleanup_at pad entered ∷ passed.trail }, ap (λ x. followed x (later n)) r.3 ∙ ap (λ (o : Option ℕ). resumed (cleanup_at pad entered) (resume_at pad entered o) (passes n)) r.4 ∙ done, rest.2)
 

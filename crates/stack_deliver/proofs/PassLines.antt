@@ -2,11 +2,11 @@
 use Rattle.std.proofs.Common.{◌≡◌, ℕ, zero, suc, ◌+◌, ◌<◌, length, length-append, Bool, true, false, List, [], ◌∷◌, ◌++◌, Option, Some, None, Result, Ok, Err, refl, sym, ap, ◌∙◌, append_assoc, append-nil, arith}
 use Rattle.unwind_definitions.specs.Function.{Action}
 use Rattle.unwind_arch.specs.declared.x86_64.Context.{Context}
-use Rattle.stack_deliver.specs.declared.delivery.Stepped.{Stepped}
-use Rattle.stack_deliver.specs.declared.delivery.Trail.{Trail}
-use Rattle.stack_deliver.specs.declared.delivery.Ending.{Ending}
-use Rattle.stack_deliver.specs.declared.delivery.DeliverError.{DeliverError}
-use Rattle.stack_deliver.specs.declared.delivery.DeliverError.TheVariants.{PassLimit}
+use Rattle.stack_deliver.specs.declared.answers.Stepped.{Stepped}
+use Rattle.stack_deliver.specs.declared.answers.Trail.{Trail}
+use Rattle.stack_deliver.specs.declared.answers.Ending.{Ending}
+use Rattle.stack_deliver.specs.declared.answers.DeliverError.{DeliverError}
+use Rattle.stack_deliver.specs.declared.answers.DeliverError.TheVariants.{PassLimit}
 use Rattle.unwinding_frames.specs.declared.language_table.EhAction.{EhAction}
 use Rattle.stack_deliver.specs.declared.passes.Phase.{Phase}
 use Rattle.stack_deliver.specs.declared.passes.Stop.{Stop as CodeStop}
@@ -15,10 +15,10 @@ use Rattle.stack_deliver.specs.Modules.{SpaceValue}
 use Rattle.stack_deliver.specs.Resumes.{return_of}
 use Rattle.stack_deliver.specs.Results.{◌>>=◌, result_map}
 use Rattle.stack_deliver.specs.Stepping.{FrameAt, frame_of, caller_by, caller_at, step_of}
-use Rattle.stack_deliver.specs.Delivering.{with_first, line_after, line_of}
+use Rattle.stack_deliver.specs.StackDelivery.{with_first, line_after, line_of}
 use Rattle.stack_deliver.specs.Walking.{RoomValue, IsWalked}
-use Rattle.stack_deliver.specs.Passes.{Line, Stop, Ends, Goes, turn_in, turn_for, line_turn, with_context, line_for, Finishes, Elsewhere, cleanup_of, cleanup_at, resume_at, Passed, with_cleanup, resumed, followed, passes_of}
-use Rattle.stack_deliver.specs.Passing.{with_contexts, with_cleanups, turn_shown, line_shown, AreVisited, IsOutward, visited_with}
+use Rattle.stack_deliver.specs.Passes.{Line, Stop, Ends, Goes, turn_in, turn_for, line_turn, with_context, line_for, Finishes, Elsewhere, cleanup_of, cleanup_at, resume_at, CleanupsRun, with_cleanup, resumed, followed, passes_of}
+use Rattle.stack_deliver.specs.PassViews.{with_contexts, with_cleanups, turn_shown, line_shown, AreVisited, IsOutward, visited_with}
 
 -- where a pass stops, without the contexts
 abbrev pub stop_in : Result Line DeliverError → Result (Option Stop) DeliverError
@@ -113,29 +113,29 @@ walked_by (Err e) room due line out is = sym is ∙ ap (result_map (λ (l : Line
 
 -- ---- one pass of several
 
-cleanup_first : (front : List Trail) (t : Trail) (r : Result Passed DeliverError) → with_cleanups front (with_cleanup t r) ≡ with_cleanups (front ++ t ∷ []) r
+cleanup_first : (front : List Trail) (t : Trail) (r : Result CleanupsRun DeliverError) → with_cleanups front (with_cleanup t r) ≡ with_cleanups (front ++ t ∷ []) r
 cleanup_first front t (Ok passed) = ap (λ (trail : List Trail). ok (record passed { trail = trail })) (sym (append_assoc front (t ∷ []) passed.trail))
   where
-    ok : Passed → Result Passed DeliverError
+    ok : CleanupsRun → Result CleanupsRun DeliverError
     ok x = Ok x
 cleanup_first front t (Err e) = refl
 
 -- no cleanups in front
-pub no_front : (r : Result Passed DeliverError) → with_cleanups [] r ≡ r
+pub no_front : (r : Result CleanupsRun DeliverError) → with_cleanups [] r ≡ r
 no_front (Ok passed) = refl
 no_front (Err e) = refl
 
-module _ (space : SpaceValue) (exception kept : ℕ) (resumes : List (ℕ × ℕ)) (limit : ℕ) (front : List Trail) (c : Context) (whole : Result Passed DeliverError) where
-  abbrev pub passes : ℕ → Context → Result Passed DeliverError
+module _ (space : SpaceValue) (exception kept : ℕ) (resumes : List (ℕ × ℕ)) (limit : ℕ) (front : List Trail) (c : Context) (whole : Result CleanupsRun DeliverError) where
+  abbrev pub passes : ℕ → Context → Result CleanupsRun DeliverError
   passes = passes_of space exception kept resumes limit
 
-  abbrev ok : Passed → Result Passed DeliverError
+  abbrev ok : CleanupsRun → Result CleanupsRun DeliverError
   ok x = Ok x
 
-  abbrev later : ℕ → ℕ → Context → Result Passed DeliverError
+  abbrev later : ℕ → ℕ → Context → Result CleanupsRun DeliverError
   later n pad entered = resumed (cleanup_at pad entered) (resume_at pad entered (return_of resumes pad)) (passes n)
 
-  abbrev none : ℕ → Context → Result Passed DeliverError
+  abbrev none : ℕ → Context → Result CleanupsRun DeliverError
   none pad entered = Err PassLimit
 
   pub passes_fault : (places : ℕ) (e : DeliverError) → with_cleanups front (passes places c) ≡ whole → cleanup_of space exception kept limit c ≡ Err e → whole ≡ Err e
@@ -155,7 +155,7 @@ module _ (space : SpaceValue) (exception kept : ℕ) (resumes : List (ℕ × ℕ
   passes_refused zero pad entered r e is goes resumed_by fails =
       sym is ∙ ap (λ x. with_cleanups front (followed x none)) goes ∙ ap failed (sym (resumed_by.0 refl) ∙ fails)
     where
-      failed : Result Context DeliverError → Result Passed DeliverError
+      failed : Result Context DeliverError → Result CleanupsRun DeliverError
       failed (Err x) = Err x
       failed (Ok d) = Err e
   passes_refused (suc n) pad entered r e is goes resumed_by fails =

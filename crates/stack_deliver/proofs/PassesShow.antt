@@ -15,18 +15,18 @@ use Rattle.unwind_definitions.specs.Valid.{LiesDescribed}
 use Rattle.unwind_laws.proofs.Undo.{rises}
 use Rattle.unwind_laws.proofs.OneChain.{before_cons, before_now}
 use Rattle.unwind_arch.specs.declared.x86_64.Context.{Context}
-use Rattle.unwind_arch.specs.Contexts.{columns_of}
-use Rattle.stack_deliver.specs.declared.delivery.Ending.{Ending}
-use Rattle.stack_deliver.specs.declared.delivery.Outcome.TheVariants.{Installed}
-use Rattle.stack_deliver.specs.declared.delivery.DeliverError.{DeliverError}
-use Rattle.stack_deliver.specs.declared.delivery.DeliverError.TheVariants.{PassLimit}
+use Rattle.unwind_arch.specs.ContextViews.{columns_of}
+use Rattle.stack_deliver.specs.declared.answers.Ending.{Ending}
+use Rattle.stack_deliver.specs.declared.answers.Outcome.TheVariants.{Installed}
+use Rattle.stack_deliver.specs.declared.answers.DeliverError.{DeliverError}
+use Rattle.stack_deliver.specs.declared.answers.DeliverError.TheVariants.{PassLimit}
 use Rattle.stack_deliver.specs.declared.passes.Phase.TheVariants as phase
 use Rattle.stack_deliver.specs.Modules.{SpaceValue, AreApart}
-use Rattle.stack_deliver.specs.Processes.{process_of}
+use Rattle.stack_deliver.specs.SpaceViews.{process_of}
 use Rattle.stack_deliver.specs.Resumes.{return_of}
-use Rattle.stack_deliver.specs.Shown.{state_of, landing_of, pair_of}
+use Rattle.stack_deliver.specs.StateViews.{state_of, landing_of, pair_of}
 use Rattle.stack_deliver.specs.Walking.{IsDescribedCall, EachShows}
-use Rattle.stack_deliver.specs.Passes.{Line, Stop, stops, with_context, pass_of, kept_at, pad_of, enters, landed, PassEnd, Finishes, Elsewhere, end_at, end_of, cleanup_at, resume_at, Passed, with_cleanup, resumed, followed, passes_of}
+use Rattle.stack_deliver.specs.Passes.{Line, Stop, stops, with_context, pass_of, kept_at, pad_of, enters, landed, PassEnd, Finishes, Elsewhere, end_at, end_of, cleanup_at, resume_at, CleanupsRun, with_cleanup, resumed, followed, passes_of}
 use Rattle.stack_deliver.proofs.ContextLemmas.{IsWhole}
 use Rattle.stack_deliver.proofs.Chains.{shown_state}
 use Rattle.stack_deliver.proofs.MetFrames.{Met, met}
@@ -68,7 +68,7 @@ pub record SearchShows (r : Result Line DeliverError) (s : State) (calls : List 
 abbrev ok_line : Line → Result Line DeliverError
 ok_line x = Ok x
 
-abbrev ok_passed : Passed → Result Passed DeliverError
+abbrev ok_passed : CleanupsRun → Result CleanupsRun DeliverError
 ok_passed x = Ok x
 
 some_frame : (f g : Frame) → ◌≡◌ {A = Option Frame} (Some f) (Some g) → f ≡ g
@@ -143,11 +143,11 @@ module _ (space : SpaceValue) (apart : AreApart 0 space.modules) (laid : IsLaidO
 
   -- ---- the passes
   module _ (exception kept : ℕ) (resumes : List (ℕ × ℕ)) (limit : ℕ) where
-    abbrev passes : ℕ → Context → Result Passed DeliverError
+    abbrev passes : ℕ → Context → Result CleanupsRun DeliverError
     passes = passes_of space exception kept resumes limit
 
     -- what follows a pass
-    abbrev pub from_pass : ℕ → Result Line DeliverError → Result Passed DeliverError
+    abbrev pub from_pass : ℕ → Result Line DeliverError → Result CleanupsRun DeliverError
     from_pass zero r = followed (end_of exception kept r) (λ pad entered. Err PassLimit)
     from_pass (suc n) r = followed (end_of exception kept r) (λ pad entered. resumed (cleanup_at pad entered) (resume_at pad entered (return_of resumes pad)) (passes n))
 
@@ -179,8 +179,8 @@ module _ (space : SpaceValue) (apart : AreApart 0 space.modules) (laid : IsLaidO
     lands_in s _ = None
 
     -- the passes run the cleanups of the frames inside the one that decides, and enter its handler
-    pub record PassesShow (s : State) (calls : List Call) (f : Frame) (r : Result Passed DeliverError) : Type 0 where
-      pub passed : Passed
+    pub record PassesShow (s : State) (calls : List Call) (f : Frame) (r : Result CleanupsRun DeliverError) : Type 0 where
+      pub passed : CleanupsRun
       pub is : r ≡ Ok passed
       pub trail : map pair_of passed.trail ≡ filter_map cleanup_of (inner_frames s calls)
       pub outcome : passed.ending.outcome ≡ Installed

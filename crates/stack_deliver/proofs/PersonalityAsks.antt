@@ -7,15 +7,15 @@ use Rattle.unwind_definitions.specs.Caller.{Columns, StepFault}
 use Rattle.unwind_definitions.specs.Function.{Action, NoAction, Cleanup, Catch, Filter, Terminate}
 use Rattle.unwind_definitions.specs.LanguageSearch.{address_of_call, language_action}
 use Rattle.unwind_arch.specs.declared.x86_64.Context.{Context}
-use Rattle.unwind_arch.specs.Contexts.{columns_of}
+use Rattle.unwind_arch.specs.ContextViews.{columns_of}
 use Rattle.unwinding_frames.specs.Columns.{with_value}
 use Rattle.unwinding_frames.specs.FrameValue.{FrameValue}
 use Rattle.unwinding_frames.specs.declared.abi.UnwindReasonCode.{UnwindReasonCode}
 use Rattle.unwinding_frames.specs.declared.abi.TheConstants.UnwindReasonCode.{CONTINUE_UNWIND, HANDLER_FOUND}
 use Rattle.unwinding_frames.specs.Personalities.{Asked, Answer, landed, searched, answered_by}
-use Rattle.stack_deliver.specs.declared.delivery.DeliverError.{DeliverError}
+use Rattle.stack_deliver.specs.declared.answers.DeliverError.{DeliverError}
 use Rattle.stack_deliver.specs.declared.passes.Phase.TheVariants as phase
-use Rattle.stack_deliver.specs.Passes.{or_terminate, asked_if_named, enters, stops, pad_of}
+use Rattle.stack_deliver.specs.Passes.{or_terminate, action_if_named, enters, stops, pad_of}
 use Rattle.stack_deliver.specs.Personality.{landing_columns, InSearch, InCleanup, IsAsked, AnswersCleanup, answer_for, code_of}
 use Rattle.stack_deliver.proofs.ContextLemmas.{IsWhole, Holds, with_column-holds}
 
@@ -55,7 +55,7 @@ module _ (image : List Span) (c : Context) (interrupted : Bool) (frame : FrameVa
   table = language_action image frame.found.bases frame.found.fde (address_of_call c.ra interrupted)
 
   told : or_terminate table ≡ action
-  told = inner (ap (asked_if_named image c interrupted frame.found) (sym is.named) ∙ is.asks)
+  told = inner (ap (action_if_named image c interrupted frame.found) (sym is.named) ∙ is.asks)
     where
       inner : ◌≡◌ {A = Result Action DeliverError} (Ok (or_terminate table)) (Ok action) → or_terminate table ≡ action
       inner e = cc

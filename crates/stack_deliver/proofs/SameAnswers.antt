@@ -1,15 +1,15 @@
 -- What is answered over a space doesn't depend on which of its modules are prepared.
 use Rattle.std.proofs.Common.{◌≡◌, ℕ, zero, suc, Bool, false, List, Option, Some, None, Result, Ok, Err, refl, ap, ◌∙◌}
 use Rattle.unwind_arch.specs.declared.x86_64.Context.{Context}
-use Rattle.stack_deliver.specs.declared.delivery.DeliverError.{DeliverError}
-use Rattle.stack_deliver.specs.declared.delivery.DeliverError.TheVariants.{PassLimit}
-use Rattle.stack_deliver.specs.declared.delivery.Stepped.{Stepped}
-use Rattle.stack_deliver.specs.declared.delivery.Trail.{Trail}
+use Rattle.stack_deliver.specs.declared.answers.DeliverError.{DeliverError}
+use Rattle.stack_deliver.specs.declared.answers.DeliverError.TheVariants.{PassLimit}
+use Rattle.stack_deliver.specs.declared.answers.Stepped.{Stepped}
+use Rattle.stack_deliver.specs.declared.answers.Trail.{Trail}
 use Rattle.stack_deliver.specs.declared.passes.Phase.{Phase}
 use Rattle.stack_deliver.specs.declared.passes.Phase.TheVariants as phase
-use Rattle.stack_deliver.specs.Delivering.{delivered_at, delivered_by, delivered_to, delivery_of, line_after, line_of, with_first}
+use Rattle.stack_deliver.specs.StackDelivery.{delivery_at, delivery_by, delivery_to, stack_delivery, line_after, line_of, with_first}
 use Rattle.stack_deliver.specs.Modules.{Added, SpaceValue}
-use Rattle.stack_deliver.specs.Passes.{Ends, Stops, Goes, Elsewhere, Finishes, Line, Passed, PassEnd, Stop, Turn, cleanup_at, cleanup_of, end_of, followed, kept_at, line_for, line_turn, pad_of, pass_of, passes_of, resume_at, resumed, turn_for, with_cleanup, with_context}
+use Rattle.stack_deliver.specs.Passes.{Ends, Stops, Goes, Elsewhere, Finishes, Line, CleanupsRun, PassEnd, Stop, Turn, cleanup_at, cleanup_of, end_of, followed, kept_at, line_for, line_turn, pad_of, pass_of, passes_of, resume_at, resumed, turn_for, with_cleanup, with_context}
 use Rattle.stack_deliver.specs.Resumes.{return_of}
 use Rattle.stack_deliver.specs.Stepping.{frame_of, step_of}
 
@@ -61,15 +61,15 @@ module _ (s : SpaceValue) (added : List Added) where
         go (Ok (Elsewhere pad entered)) later = again (cleanup_at pad entered) (resume_at pad entered (return_of resumes pad)) later
         go (Err e) later = refl
 
-  pub delivery_same : (c : Context) (exception : ℕ) (resumes : List (ℕ × ℕ)) (limit : ℕ) → delivery_of other c exception resumes limit ≡ delivery_of s c exception resumes limit
-  unfolding delivery_of
+  pub delivery_same : (c : Context) (exception : ℕ) (resumes : List (ℕ × ℕ)) (limit : ℕ) → stack_delivery other c exception resumes limit ≡ stack_delivery s c exception resumes limit
+  unfolding stack_delivery
   delivery_same c exception resumes limit =
-      ap (λ (r : Result Line DeliverError). delivered_by r (λ kept. passes_of other exception kept resumes limit limit c)) (pass_same (Some phase.Search) limit c false) ∙ go (pass_of phase.Search s limit c false)
+      ap (λ (r : Result Line DeliverError). delivery_by r (λ kept. passes_of other exception kept resumes limit limit c)) (pass_same (Some phase.Search) limit c false) ∙ go (pass_of phase.Search s limit c false)
     where
-      stopped : (line : Line) (o : Option Stop) → delivered_to line.contexts o (λ kept. passes_of other exception kept resumes limit limit c) ≡ delivered_to line.contexts o (λ kept. passes_of s exception kept resumes limit limit c)
+      stopped : (line : Line) (o : Option Stop) → delivery_to line.contexts o (λ kept. passes_of other exception kept resumes limit limit c) ≡ delivery_to line.contexts o (λ kept. passes_of s exception kept resumes limit limit c)
       stopped line None = refl
-      stopped line (Some stop) = ap (λ (p : Result Passed DeliverError). delivered_at line.contexts (pad_of stop.action) p) (passes_same exception (kept_at stop.context stop.interrupted) resumes limit limit c)
+      stopped line (Some stop) = ap (λ (p : Result CleanupsRun DeliverError). delivery_at line.contexts (pad_of stop.action) p) (passes_same exception (kept_at stop.context stop.interrupted) resumes limit limit c)
 
-      go : (r : Result Line DeliverError) → delivered_by r (λ kept. passes_of other exception kept resumes limit limit c) ≡ delivered_by r (λ kept. passes_of s exception kept resumes limit limit c)
+      go : (r : Result Line DeliverError) → delivery_by r (λ kept. passes_of other exception kept resumes limit limit c) ≡ delivery_by r (λ kept. passes_of s exception kept resumes limit limit c)
       go (Ok line) = stopped line line.stop
       go (Err e) = refl

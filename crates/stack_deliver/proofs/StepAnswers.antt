@@ -26,13 +26,13 @@ use Rattle.fde_finders.specs.Finding.{FoundFde, table_bases, found_in}
 use Rattle.unwind_definitions.specs.LanguageSearch.{address_of_call}
 use Rattle.fde_finders.specs.Named.{found_by_kind, found_by}
 use Rattle.stack_deliver.specs.declared.space.Module.{Module}
-use Rattle.stack_deliver.specs.declared.delivery.DeliverError.{DeliverError}
-use Rattle.stack_deliver.specs.declared.delivery.DeliverError.TheVariants.{Table, Unmapped}
-use Rattle.unwind_arch.specs.Contexts.{columns_of}
+use Rattle.stack_deliver.specs.declared.answers.DeliverError.{DeliverError}
+use Rattle.stack_deliver.specs.declared.answers.DeliverError.TheVariants.{Table, Unmapped}
+use Rattle.unwind_arch.specs.ContextViews.{columns_of}
 use Rattle.stack_deliver.specs.Modules.{SpaceValue, module_at}
 use Rattle.std.specs.Result.{result_map_both}
-use Rattle.stack_deliver.specs.declared.delivery.Stepped.{Stepped}
-use Rattle.stack_deliver.specs.Stepping.{FrameAt, frame_with, next_with, frame_by, frame_in, frame_of, caller_by, refusal_of, step_of, FindsNone, IsUncovered, EndsAt, RowFaults, FaultsAt, ExpressionReadsUnmapped, CfaReadsUnmapped, RuleReadsUnmapped, ColumnReadsUnmapped, ReadsUnmapped, ReadIsUnmapped, GivesCaller}
+use Rattle.stack_deliver.specs.declared.answers.Stepped.{Stepped}
+use Rattle.stack_deliver.specs.Stepping.{FrameAt, frame_with, next_with, frame_by, frame_in, frame_of, caller_by, refusal_of, step_of, FindsNone, HasNoDescription, EndsAt, RowFaults, FaultsAt, ExpressionReadsUnmapped, CfaReadsUnmapped, RuleReadsUnmapped, ColumnReadsUnmapped, ReadsUnmapped, ReadIsUnmapped, GivesCaller}
 use Rattle.unwinding_frames.proofs.Callers.{HasValue, first_fault_below-lowest}
 use Rattle.stack_deliver.proofs.StepParts.{some_next, stepped_by, step_is, none_framed}
 
@@ -58,11 +58,11 @@ by_kind_none : (image : List Span) (text : Option ℕ) (kind : FrameInfoKind) (a
 by_kind_none image text (EhFrame frame) a free = rw free.1 refl
 by_kind_none image text (EhFrameHdr header) a free = free
 
-none_in_module : (image : List Span) (a : ℕ) (o : Option Module) → frame_in image a o ≡ Ok None → IsUncovered image o a
+none_in_module : (image : List Span) (a : ℕ) (o : Option Module) → frame_in image a o ≡ Ok None → HasNoDescription image o a
 none_in_module image a None e = tt
 none_in_module image a (Some m) e = none_by_kind image m.frame.text_base m.frame.kind a (none_found a (found_by m.frame image a) e)
 
-in_module_none : (image : List Span) (a : ℕ) (o : Option Module) → IsUncovered image o a → frame_in image a o ≡ Ok None
+in_module_none : (image : List Span) (a : ℕ) (o : Option Module) → HasNoDescription image o a → frame_in image a o ≡ Ok None
 in_module_none image a None free = refl
 in_module_none image a (Some m) free = rw (by_kind_none image m.frame.text_base m.frame.kind a free) refl
 

@@ -11,9 +11,9 @@ use Rattle.unwind_definitions.specs.Module as described
 use Rattle.unwind_laws.proofs.Booleans as lists
 use Rattle.unwind_arch.specs.declared.x86_64.Context.{Context}
 use Rattle.stack_deliver.specs.declared.space.Module.{Module}
-use Rattle.unwind_arch.specs.Contexts.{columns_of, context_of, general_columns}
+use Rattle.unwind_arch.specs.ContextViews.{columns_of, context_of, general_columns}
 use Rattle.stack_deliver.specs.Modules.{AreApart, module_at}
-use Rattle.stack_deliver.specs.Processes.{module_of}
+use Rattle.stack_deliver.specs.SpaceViews.{module_of}
 
 -- a module of the process is one of the space
 pub record IsOf (modules : List Module) (home : described.Module) : Type 0 where

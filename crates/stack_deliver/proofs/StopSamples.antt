@@ -23,7 +23,7 @@ use Rattle.unwind_laws.proofs.Booleans.{both_true, either_false, here_or_later, 
 use Rattle.unwind_laws.proofs.RowFacts.{by_register, state_fits, unnamed, same_ended}
 use Rattle.unwind_laws.proofs.Steady.{is_steady, same_row_at}
 use Rattle.unwind_laws.proofs.PushingValid.{one_valid}
-use Rattle.unwind_arch.specs.Contexts.{columns_of}
+use Rattle.unwind_arch.specs.ContextViews.{columns_of}
 use Rattle.stack_deliver.specs.StopSample.{image, home, process, fde, entries, in_body_run, function, call, before_steps, after_push, after_set, after_late_push, after_allocation, after_store, in_body_of_it, pushing_space, stopped_at, before_push, after_the_push}
 use Rattle.stack_deliver.specs.Stopped.{IsDescribedStop, StartsStopped}
 

@@ -17,15 +17,15 @@ use Rattle.unwind_laws.specs.Walked.{Steps}
 use Rattle.unwind_laws.proofs.Walk.{one_step, step_inside}
 use Rattle.unwind_laws.proofs.Booleans as lists
 use Rattle.unwind_arch.specs.declared.x86_64.Context.{Context}
-use Rattle.unwind_arch.specs.Contexts.{columns_of, context_of}
+use Rattle.unwind_arch.specs.ContextViews.{columns_of, context_of}
 use Rattle.fde_finders.specs.declared.custom.FrameInfoKind.{FrameInfoKind}
 use Rattle.fde_finders.specs.declared.custom.FrameInfoKind.TheVariants.{EhFrame, EhFrameHdr}
 use Rattle.fde_finders.specs.Finding.{FoundFde, table_bases, scanned_in}
 use Rattle.fde_finders.specs.Named.{found_by_kind}
 use Rattle.stack_deliver.specs.declared.space.Module.{Module}
-use Rattle.stack_deliver.specs.declared.delivery.Stepped.{Stepped}
+use Rattle.stack_deliver.specs.declared.answers.Stepped.{Stepped}
 use Rattle.stack_deliver.specs.Modules.{SpaceValue, AreApart, module_at}
-use Rattle.stack_deliver.specs.Processes.{tables_of, module_of, process_of}
+use Rattle.stack_deliver.specs.SpaceViews.{tables_of, module_of, process_of}
 use Rattle.stack_deliver.specs.Stepping.{step_of, FrameAt, frame_of, caller_by}
 use Rattle.stack_deliver.specs.Walking.{Undone}
 use Rattle.stack_deliver.specs.Stopped.{StandsInPrologue, StandsInBody, IsDescribedStop}

@@ -15,10 +15,10 @@ use Rattle.unwind_definitions.specs.Chain.{Call, IsEnd, IsLink, IsChain}
 use Rattle.unwind_definitions.specs.Valid.{LiesDescribed}
 use Rattle.unwind_laws.proofs.Booleans as lists
 use Rattle.unwind_arch.specs.declared.x86_64.Context.{Context}
-use Rattle.unwind_arch.specs.Contexts.{columns_of}
+use Rattle.unwind_arch.specs.ContextViews.{columns_of}
 use Rattle.stack_deliver.specs.declared.passes.Phase.{Phase}
 use Rattle.stack_deliver.specs.Modules.{SpaceValue}
-use Rattle.stack_deliver.specs.Processes.{process_of}
+use Rattle.stack_deliver.specs.SpaceViews.{process_of}
 use Rattle.stack_deliver.specs.Walking.{IsDescribedCall}
 use Rattle.stack_deliver.specs.Passes.{stops, past_arguments, Stops, Goes, turn_of, with_context, pass_of, enters, turn_for}
 use Rattle.stack_deliver.proofs.ContextLemmas.{IsWhole}

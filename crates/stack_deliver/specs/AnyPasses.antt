@@ -8,7 +8,7 @@ use Rattle.unwind_definitions.specs.Caller.{Columns, StepFault}
 use Rattle.frame_rows.specs.RowValue.{RowValue}
 use Rattle.unwind_arch.specs.declared.x86_64.Context.{Context}
 use Rattle.unwind_arch.specs.Columns.{rsp}
-use Rattle.unwind_arch.specs.Contexts.{columns_of, context_of}
+use Rattle.unwind_arch.specs.ContextViews.{columns_of, context_of}
 use Rattle.unwinding_frames.specs.declared.abi.UnwindReasonCode.{UnwindReasonCode}
 use Rattle.unwinding_frames.specs.declared.abi.TheConstants.UnwindReasonCode.{HANDLER_FOUND}
 use Rattle.unwinding_frames.specs.OneLine.{by_one}
@@ -16,16 +16,16 @@ use Rattle.unwinding_frames.specs.Passes.{Marked, Undoing, Stepping, Answering, 
 use Rattle.unwinding_frames.specs.Passes as any
 use Rattle.unwinding_frames.specs.Personalities.{Answer, rust_answers}
 use Rattle.unwinding_frames.specs.Seen.{FrameSeen, Thrown, answering}
-use Rattle.stack_deliver.specs.declared.delivery.Stepped.{Stepped}
-use Rattle.stack_deliver.specs.declared.delivery.Trail.{Trail}
-use Rattle.stack_deliver.specs.declared.delivery.Outcome.{Outcome}
-use Rattle.stack_deliver.specs.declared.delivery.Outcome.TheVariants.{EndOfStack, FatalPhase1}
-use Rattle.stack_deliver.specs.declared.delivery.DeliverError.{DeliverError}
-use Rattle.stack_deliver.specs.declared.delivery.DeliverError.TheVariants.{FrameLimit, PassLimit}
+use Rattle.stack_deliver.specs.declared.answers.Stepped.{Stepped}
+use Rattle.stack_deliver.specs.declared.answers.Trail.{Trail}
+use Rattle.stack_deliver.specs.declared.answers.Outcome.{Outcome}
+use Rattle.stack_deliver.specs.declared.answers.Outcome.TheVariants.{EndOfStack, FatalPhase1}
+use Rattle.stack_deliver.specs.declared.answers.DeliverError.{DeliverError}
+use Rattle.stack_deliver.specs.declared.answers.DeliverError.TheVariants.{FrameLimit, PassLimit}
 use Rattle.stack_deliver.specs.declared.passes.Phase.TheVariants as phase
-use Rattle.stack_deliver.specs.Delivering.{Delivered, delivered_after, undelivered}
+use Rattle.stack_deliver.specs.StackDelivery.{DeliveryValue, delivery_after, no_delivery}
 use Rattle.stack_deliver.specs.Modules.{SpaceValue}
-use Rattle.stack_deliver.specs.Passes.{Stop, PassEnd, Finishes, Elsewhere, Passed, past_arguments, pass_of, kept_at, pad_of, fatal, landed, cleanup_at, resume_at, with_cleanup}
+use Rattle.stack_deliver.specs.Passes.{Stop, PassEnd, Finishes, Elsewhere, CleanupsRun, past_arguments, pass_of, kept_at, pad_of, fatal, landed, cleanup_at, resume_at, with_cleanup}
 use Rattle.stack_deliver.specs.Passes as stopped
 use Rattle.stack_deliver.specs.Personality.{landing_columns}
 use Rattle.stack_deliver.specs.Resumes.{return_of}
@@ -105,14 +105,14 @@ pass_end (Gives code (Some any.FrameLimit)) = Err FrameLimit
 pass_end (Gives code (Some (Fault e))) = Err e
 
 -- what passes come to of which the first ends so: nothing more, or what follows its cleanup
-abbrev pub FollowedBy : (ℕ → Context → Result Passed DeliverError → Type 0) → Result PassEnd DeliverError → Result Passed DeliverError → Type 0
+abbrev pub FollowedBy : (ℕ → Context → Result CleanupsRun DeliverError → Type 0) → Result PassEnd DeliverError → Result CleanupsRun DeliverError → Type 0
 FollowedBy later (Ok (Finishes ending)) passed = passed ≡ Ok (record { trail = []; ending = ending })
 FollowedBy later (Ok (Elsewhere pad entered)) passed = later pad entered passed
 FollowedBy later (Err e) passed = passed ≡ Err e
 
 -- a cleanup is put on the trail, and the later passes start at the context after it
-abbrev pub ResumedBy : (Context → Result Passed DeliverError → Type 0) → Trail → Result Context DeliverError → Result Passed DeliverError → Type 0
-ResumedBy later cleanup (Ok after) passed = (rest : Result Passed DeliverError) × later after rest × (passed ≡ with_cleanup cleanup rest)
+abbrev pub ResumedBy : (Context → Result CleanupsRun DeliverError → Type 0) → Trail → Result Context DeliverError → Result CleanupsRun DeliverError → Type 0
+ResumedBy later cleanup (Ok after) passed = (rest : Result CleanupsRun DeliverError) × later after rest × (passed ≡ with_cleanup cleanup rest)
 ResumedBy later cleanup (Err e) passed = passed ≡ Err e
 
 module _ (step : Stepping Context FrameAt DeliverError) (p : Answering Context FrameAt DeliverError) (limit : ℕ) where
@@ -127,7 +127,7 @@ module _ (step : Stepping Context FrameAt DeliverError) (p : Answering Context F
 
   -- The cleanup passes toward the frame with a mark, where the trail has places for so many cleanups. After each cleanup the resume
   -- table says where the next pass starts.
-  abbrev pub ArePassesBy : List (ℕ × ℕ) → ℕ → ℕ → Context → Result Passed DeliverError → Type 0
+  abbrev pub ArePassesBy : List (ℕ × ℕ) → ℕ → ℕ → Context → Result CleanupsRun DeliverError → Type 0
   ArePassesBy resumes kept zero start passed =
       (end : Result PassEnd DeliverError) × IsPassBy kept start end × FollowedBy (λ pad entered due. due ≡ Err PassLimit) end passed
   ArePassesBy resumes kept (suc places) start passed =
@@ -135,17 +135,17 @@ module _ (step : Stepping Context FrameAt DeliverError) (p : Answering Context F
       FollowedBy (λ pad entered due. ResumedBy (ArePassesBy resumes kept places) (cleanup_at pad entered) (resume_at pad entered (return_of resumes pad)) due) end passed
 
   -- What is delivered after a search: nothing, or what the passes toward its frame come to.
-  abbrev pub IsDeliveredAfter : List (ℕ × ℕ) → Context → List Context → SearchEnd → Result Delivered DeliverError → Type 0
-  IsDeliveredAfter resumes start visited (Untaken outcome) due = due ≡ Ok (undelivered visited outcome)
+  abbrev pub IsDeliveredAfter : List (ℕ × ℕ) → Context → List Context → SearchEnd → Result DeliveryValue DeliverError → Type 0
+  IsDeliveredAfter resumes start visited (Untaken outcome) due = due ≡ Ok (no_delivery visited outcome)
   IsDeliveredAfter resumes start visited (TakenBy kept) due =
-      (passed : Result Passed DeliverError) × ArePassesBy resumes kept limit start passed × (due ≡ delivered_after visited passed)
+      (passed : Result CleanupsRun DeliverError) × ArePassesBy resumes kept limit start passed × (due ≡ delivery_after visited passed)
 
-  abbrev pub IsDeliveredBy : List (ℕ × ℕ) → Context → Result Search DeliverError → Result Delivered DeliverError → Type 0
+  abbrev pub IsDeliveredBy : List (ℕ × ℕ) → Context → Result Search DeliverError → Result DeliveryValue DeliverError → Type 0
   IsDeliveredBy resumes start (Ok found) due = IsDeliveredAfter resumes start found.visited found.end due
   IsDeliveredBy resumes start (Err e) due = due ≡ Err e
 
   -- A delivery from a context: the search, and the passes.
-  abbrev pub IsDeliveryBy : List (ℕ × ℕ) → Context → Result Delivered DeliverError → Type 0
+  abbrev pub IsDeliveryBy : List (ℕ × ℕ) → Context → Result DeliveryValue DeliverError → Type 0
   IsDeliveryBy resumes start due = (found : Result Search DeliverError) × IsSearchBy start found × IsDeliveredBy resumes start found due
 
 -- ---- the search of a delivery

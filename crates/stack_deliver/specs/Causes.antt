@@ -1,17 +1,17 @@
 -- Why a delivery is refused, and how it ends, in the words of its answers.
 use Rattle.std.specs.Prelude.{◌≡◌, ◌⊎◌, ℕ, zero, suc, ◌<◌, Bool, false, List, Some, None, Ok, Err}
 use Rattle.unwind_arch.specs.declared.x86_64.Context.{Context}
-use Rattle.stack_deliver.specs.declared.delivery.Outcome.{Outcome}
-use Rattle.stack_deliver.specs.declared.delivery.Outcome.TheVariants.{Installed, EndOfStack, FatalPhase1, FatalPhase2}
-use Rattle.stack_deliver.specs.declared.delivery.DeliverError.{DeliverError}
-use Rattle.stack_deliver.specs.declared.delivery.DeliverError.TheVariants.{NoMemory, Unmapped, FrameLimit, PassLimit, NoResume, Table}
+use Rattle.stack_deliver.specs.declared.answers.Outcome.{Outcome}
+use Rattle.stack_deliver.specs.declared.answers.Outcome.TheVariants.{Installed, EndOfStack, FatalPhase1, FatalPhase2}
+use Rattle.stack_deliver.specs.declared.answers.DeliverError.{DeliverError}
+use Rattle.stack_deliver.specs.declared.answers.DeliverError.TheVariants.{NoMemory, Unmapped, FrameLimit, PassLimit, NoResume, Table}
 use Rattle.stack_deliver.specs.Modules.{SpaceValue}
 use Rattle.stack_deliver.specs.Resumes.{return_of}
-use Rattle.stack_deliver.specs.Passes.{Line, Stop, pass_of, kept_at, pad_of, Elsewhere, cleanup_of, asked_of, stops}
+use Rattle.stack_deliver.specs.Passes.{Line, Stop, pass_of, kept_at, pad_of, Elsewhere, cleanup_of, action_asked, stops}
 use Rattle.unwind_definitions.specs.Caller.{StepFault}
 use Rattle.unwind_definitions.specs.Function.{Action, Terminate}
 use Rattle.unwind_definitions.specs.LanguageSearch.{personality_address, address_of_call, language_action}
-use Rattle.stack_deliver.specs.declared.delivery.Stepped.{Stepped}
+use Rattle.stack_deliver.specs.declared.answers.Stepped.{Stepped}
 use Rattle.stack_deliver.specs.declared.passes.Phase.{Phase}
 use Rattle.stack_deliver.specs.Stepping.{FrameAt, frame_of, step_of, refusal_of}
 use Rattle.stack_deliver.specs.declared.passes.Phase.TheVariants as phase
@@ -22,7 +22,7 @@ use Rattle.stack_deliver.specs.declared.passes.Phase.TheVariants as phase
 pub record Asks (space : SpaceValue) (c : Context) (interrupted : Bool) (action : Action) : Type 0 where
   pub frame : FrameAt
   pub framed : frame_of space c interrupted ≡ Ok (Some frame)
-  pub asked : asked_of space.image c interrupted frame.found ≡ Ok action
+  pub asked : action_asked space.image c interrupted frame.found ≡ Ok action
 
 -- the frame at a context asks for nothing for which a pass stops, and this is its caller
 pub record GoesTo (p : Phase) (space : SpaceValue) (c : Context) (interrupted : Bool) (next : Stepped) : Type 0 where

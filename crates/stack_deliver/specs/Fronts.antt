@@ -7,23 +7,23 @@ use Rattle.unwind_definitions.specs.Pointers.{Bases}
 use Rattle.unwind_definitions.specs.LanguageTable.{input_at}
 use Rattle.unwind_definitions.specs.LanguageSearch.{address_of_call}
 use Rattle.unwind_arch.specs.declared.x86_64.Context.{Context}
-use Rattle.eh_frame.specs.Search.{IsUnreadable, IsUncovered}
+use Rattle.eh_frame.specs.Search.{IsUnreadable, NoneContains}
 use Rattle.fde_finders.specs.declared.custom.FrameInfoKind.{FrameInfoKind}
 use Rattle.fde_finders.specs.declared.custom.FrameInfoKind.TheVariants.{EhFrame, EhFrameHdr}
 use Rattle.fde_finders.specs.Finding.{table_bases, relative_to}
 use Rattle.fde_finders.specs.HeaderFinding.{found_by_header}
-use Rattle.stack_deliver.specs.declared.delivery.Stepped.{Stepped}
-use Rattle.stack_deliver.specs.declared.delivery.DeliverError.{DeliverError}
-use Rattle.stack_deliver.specs.declared.delivery.DeliverError.TheVariants.{FrameLimit}
+use Rattle.stack_deliver.specs.declared.answers.Stepped.{Stepped}
+use Rattle.stack_deliver.specs.declared.answers.DeliverError.{DeliverError}
+use Rattle.stack_deliver.specs.declared.answers.DeliverError.TheVariants.{FrameLimit}
 use Rattle.stack_deliver.specs.declared.front.Front.{Front}
 use Rattle.stack_deliver.specs.declared.front.Front.TheVariants.{Outermost, NoModule, NoDescription, UnreadableTable, Refused, Limit}
 use Rattle.stack_deliver.specs.declared.passes.Phase.{Phase}
 use Rattle.stack_deliver.specs.declared.space.Module.{Module}
 use Rattle.stack_deliver.specs.Modules.{SpaceValue, module_at}
 use Rattle.stack_deliver.specs.Stepping.{step_of}
-use Rattle.stack_deliver.specs.Delivering.{NeedsMore}
+use Rattle.stack_deliver.specs.StackDelivery.{NeedsMore}
 use Rattle.stack_deliver.specs.Passes.{Turn, Ends, Stops, Goes, turn_for}
-use Rattle.stack_deliver.specs.Passing.{AreVisited}
+use Rattle.stack_deliver.specs.PassViews.{AreVisited}
 use Rattle.stack_deliver.specs.Walking.{RoomValue}
 
 -- ---- how far it comes
@@ -86,7 +86,7 @@ IsUnreadableAt bases table a from offset e = (u : IsUnreadable bases table a fro
 -- Why a frame table has no description for an address: none of its entries, all of which can be read, contains it; or an entry
 -- can't be read, and none before it contains it.
 abbrev pub IsUndescribedIn : Bases → Input → ℕ → Front → Type 0
-IsUndescribedIn bases table a (NoDescription b) = (b ≡ a) × IsUncovered bases table a 0
+IsUndescribedIn bases table a (NoDescription b) = (b ≡ a) × NoneContains bases table a 0
 IsUndescribedIn bases table a (UnreadableTable b offset e) = (b ≡ a) × IsUnreadableAt bases table a 0 offset e
 IsUndescribedIn bases table a _ = ⊥
 

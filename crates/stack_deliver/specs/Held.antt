@@ -4,9 +4,9 @@ use Rattle.std.specs.List.{AllByRecursion, Contains}
 use Rattle.std.specs.Option.{option_map}
 use Rattle.memory_image.specs.Image.{Span, IsLaidOut}
 use Rattle.unwind_definitions.specs.Header.{PairTable}
-use Rattle.encoded_pointers.specs.Pointers.{bases_of}
+use Rattle.encoded_pointers.specs.PointerViews.{bases_of}
 use Rattle.eh_frame.specs.Index.{Index, IsPreparedFrom}
-use Rattle.eh_frame.specs.Views.{table_of}
+use Rattle.eh_frame.specs.EntryViews.{table_of}
 use Rattle.fde_finders.specs.declared.custom.FrameInfo.{FrameInfo}
 use Rattle.fde_finders.specs.FrameTables.{FrameTable, table_by}
 use Rattle.stack_deliver.specs.declared.prepared.Left.{Left}

@@ -10,12 +10,12 @@ use Rattle.unwind_definitions.specs.LanguageSearch.{personality_address, address
 use Rattle.unwind_arch.specs.declared.x86_64.Context.{Context}
 use Rattle.unwind_arch.specs.Columns.{rax, rdx, rsp}
 use Rattle.fde_finders.specs.Finding.{FoundFde}
-use Rattle.stack_deliver.specs.declared.delivery.Stepped.{Stepped}
-use Rattle.stack_deliver.specs.declared.delivery.Trail.{Trail}
-use Rattle.stack_deliver.specs.declared.delivery.Ending.{Ending}
-use Rattle.stack_deliver.specs.declared.delivery.Outcome.TheVariants.{Installed, FatalPhase2}
-use Rattle.stack_deliver.specs.declared.delivery.DeliverError.{DeliverError}
-use Rattle.stack_deliver.specs.declared.delivery.DeliverError.TheVariants.{FrameLimit, PassLimit, NoResume}
+use Rattle.stack_deliver.specs.declared.answers.Stepped.{Stepped}
+use Rattle.stack_deliver.specs.declared.answers.Trail.{Trail}
+use Rattle.stack_deliver.specs.declared.answers.Ending.{Ending}
+use Rattle.stack_deliver.specs.declared.answers.Outcome.TheVariants.{Installed, FatalPhase2}
+use Rattle.stack_deliver.specs.declared.answers.DeliverError.{DeliverError}
+use Rattle.stack_deliver.specs.declared.answers.DeliverError.TheVariants.{FrameLimit, PassLimit, NoResume}
 use Rattle.stack_deliver.specs.declared.passes.Phase.{Phase}
 use Rattle.stack_deliver.specs.declared.passes.Phase.TheVariants as phase
 use Rattle.stack_deliver.specs.Modules.{SpaceValue}
@@ -30,14 +30,14 @@ abbrev pub or_terminate : Result Action StepFault → Action
 or_terminate (Ok action) = action
 or_terminate (Err e) = Terminate
 
-abbrev pub asked_if_named : List Span → Context → Bool → FoundFde → Result (Option ℕ) StepFault → Result Action DeliverError
-asked_if_named image c interrupted found (Ok None) = Ok NoAction
-asked_if_named image c interrupted found (Ok (Some routine)) = Ok (or_terminate (language_action image found.bases found.fde (address_of_call c.ra interrupted)))
-asked_if_named image c interrupted found (Err e) = Err (refusal_of e)
+abbrev pub action_if_named : List Span → Context → Bool → FoundFde → Result (Option ℕ) StepFault → Result Action DeliverError
+action_if_named image c interrupted found (Ok None) = Ok NoAction
+action_if_named image c interrupted found (Ok (Some routine)) = Ok (or_terminate (language_action image found.bases found.fde (address_of_call c.ra interrupted)))
+action_if_named image c interrupted found (Err e) = Err (refusal_of e)
 
 -- What is asked of the frame at a context: where its description names a personality, whichever, what its language table says.
-abbrev pub asked_of : List Span → Context → Bool → FoundFde → Result Action DeliverError
-asked_of image c interrupted found = asked_if_named image c interrupted found (personality_address image found.fde)
+abbrev pub action_asked : List Span → Context → Bool → FoundFde → Result Action DeliverError
+action_asked image c interrupted found = action_if_named image c interrupted found (personality_address image found.fde)
 
 -- ---- a pass
 
@@ -72,7 +72,7 @@ stop_by p action = if stops p action then Some action else None
 -- For which action a frame stops who goes outwards: a walk, which has no phase, for none, and a pass for what the frame asks.
 abbrev pub stop_of : Option Phase → List Span → Context → Bool → FoundFde → Result (Option Action) DeliverError
 stop_of None image c interrupted found = Ok None
-stop_of (Some p) image c interrupted found = result_map (stop_by p) (asked_of image c interrupted found)
+stop_of (Some p) image c interrupted found = result_map (stop_by p) (action_asked image c interrupted found)
 
 -- at a frame: it stops there for an action, or its caller is next
 abbrev pub turn_at : List Span → Context → FrameAt → Option Action → Result Turn DeliverError
@@ -170,25 +170,25 @@ resume_at pad c None = Err (NoResume pad)
 resume_at pad c (Some ret) = Ok (record c { ra = ret })
 
 -- the cleanups that ran, and how the passes ended
-pub record Passed : Type 0 where
+pub record CleanupsRun : Type 0 where
   pub trail : List Trail
   pub ending : Ending
 
-abbrev pub with_cleanup : Trail → Result Passed DeliverError → Result Passed DeliverError
+abbrev pub with_cleanup : Trail → Result CleanupsRun DeliverError → Result CleanupsRun DeliverError
 with_cleanup t (Ok passed) = Ok (record passed { trail = t ∷ passed.trail })
 with_cleanup t (Err e) = Err e
 
-abbrev pub resumed : Trail → Result Context DeliverError → (Context → Result Passed DeliverError) → Result Passed DeliverError
+abbrev pub resumed : Trail → Result Context DeliverError → (Context → Result CleanupsRun DeliverError) → Result CleanupsRun DeliverError
 resumed t (Ok c) later = with_cleanup t (later c)
 resumed t (Err e) later = Err e
 
-abbrev pub followed : Result PassEnd DeliverError → (ℕ → Context → Result Passed DeliverError) → Result Passed DeliverError
+abbrev pub followed : Result PassEnd DeliverError → (ℕ → Context → Result CleanupsRun DeliverError) → Result CleanupsRun DeliverError
 followed (Ok (Finishes ending)) later = Ok (record { trail = []; ending = ending })
 followed (Ok (Elsewhere pad c)) later = later pad c
 followed (Err e) later = Err e
 
 module _ (space : SpaceValue) (exception kept : ℕ) (resumes : List (ℕ × ℕ)) (limit : ℕ) where
   -- The passes from a context on toward the kept frame, where the trail has places for so many cleanups.
-  abbrev pub passes_of : ℕ → Context → Result Passed DeliverError
+  abbrev pub passes_of : ℕ → Context → Result CleanupsRun DeliverError
   passes_of zero c = followed (cleanup_of space exception kept limit c) (λ pad entered. Err PassLimit)
   passes_of (suc places) c = followed (cleanup_of space exception kept limit c) (λ pad entered. resumed (cleanup_at pad entered) (resume_at pad entered (return_of resumes pad)) (passes_of places))

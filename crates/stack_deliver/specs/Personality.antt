@@ -4,14 +4,14 @@ use Rattle.memory_image.specs.Image.{Span}
 use Rattle.unwind_definitions.specs.Function.{Action, NoAction, Cleanup, Catch, Filter, Terminate}
 use Rattle.unwind_definitions.specs.LanguageSearch.{personality_address}
 use Rattle.unwind_arch.specs.declared.x86_64.Context.{Context}
-use Rattle.unwind_arch.specs.Contexts.{columns_of}
+use Rattle.unwind_arch.specs.ContextViews.{columns_of}
 use Rattle.unwinding_frames.specs.declared.abi.TheConstants.UnwindReasonCode.{INSTALL_CONTEXT, CONTINUE_UNWIND, FATAL_PHASE1_ERROR, FATAL_PHASE2_ERROR}
 use Rattle.unwinding_frames.specs.declared.abi.TheConstants.UnwindAction.{SEARCH_PHASE, FORCE_UNWIND}
 use Rattle.unwinding_frames.specs.declared.abi.UnwindReasonCode.{UnwindReasonCode}
 use Rattle.unwinding_frames.specs.Actions.{shares}
 use Rattle.unwinding_frames.specs.FrameValue.{FrameValue}
 use Rattle.unwinding_frames.specs.Personalities.{Asked, Answer, Landing, rust_answers}
-use Rattle.stack_deliver.specs.Passes.{asked_of, enters}
+use Rattle.stack_deliver.specs.Passes.{action_asked, enters}
 
 -- The columns of the return address and of the two registers that a landing pad finds its arguments in, RAX and RDX.
 -- System V x86-64 psABI, table of DWARF register numbers.
@@ -45,7 +45,7 @@ AnswersCleanup Terminate exception c answer = (answer ≡ (FATAL_PHASE2_ERROR, c
 pub record IsAsked (image : List Span) (c : Context) (interrupted : Bool) (frame : FrameValue) (action : Action) : Type 0 where
   pub routine : ℕ
   pub named : personality_address image frame.found.fde ≡ Ok (Some routine)
-  pub asks : asked_of image c interrupted frame.found ≡ Ok action
+  pub asks : action_asked image c interrupted frame.found ≡ Ok action
 
 -- what the personality of Rust answers for a frame of x86-64
 abbrev pub answer_for : Asked → List Span → FrameValue → Context → Bool → Answer

@@ -11,16 +11,16 @@ use Rattle.std.specs.Result.{result_map_both}
 use Rattle.unwind_definitions.specs.Caller.{Columns, StepFault, x86_64, cfa_value, column_limit, column_value, caller_of}
 use Rattle.unwind_definitions.specs.Caller as calls
 use Rattle.unwind_arch.specs.declared.x86_64.Context.{Context}
-use Rattle.unwind_arch.specs.Contexts.{columns_of, context_of}
+use Rattle.unwind_arch.specs.ContextViews.{columns_of, context_of}
 use Rattle.fde_finders.specs.declared.custom.FrameInfoKind.{FrameInfoKind}
 use Rattle.fde_finders.specs.declared.custom.FrameInfoKind.TheVariants.{EhFrame, EhFrameHdr}
 use Rattle.unwind_definitions.specs.Expressions.{HasValue, HasFault, begun, operation_limit, evaluation}
 use Rattle.fde_finders.specs.Finding.{FoundFde, relative_to, table_bases}
 use Rattle.fde_finders.specs.HeaderFinding.{found_by_header}
 use Rattle.fde_finders.specs.Named.{found_by}
-use Rattle.stack_deliver.specs.declared.delivery.Stepped.{Stepped}
-use Rattle.stack_deliver.specs.declared.delivery.DeliverError.{DeliverError}
-use Rattle.stack_deliver.specs.declared.delivery.DeliverError.TheVariants.{Table, Unmapped}
+use Rattle.stack_deliver.specs.declared.answers.Stepped.{Stepped}
+use Rattle.stack_deliver.specs.declared.answers.DeliverError.{DeliverError}
+use Rattle.stack_deliver.specs.declared.answers.DeliverError.TheVariants.{Table, Unmapped}
 use Rattle.stack_deliver.specs.declared.space.Module.{Module}
 use Rattle.stack_deliver.specs.Modules.{SpaceValue, module_at}
 use Rattle.stack_deliver.specs.Results.{◌>>=◌, result_map}
@@ -82,13 +82,13 @@ FindsNone image text (EhFrame frame) a = (e : Fault) × (scan (table_bases text 
 FindsNone image text (EhFrameHdr header) a = found_by_header (relative_to text None) image header a ≡ None
 
 -- an address is in no module, or in one by whose tables nothing is found for it
-abbrev pub IsUncovered : List Span → Option Module → ℕ → Type 0
-IsUncovered image None a = Unit {0}
-IsUncovered image (Some m) a = FindsNone image m.frame.text_base m.frame.kind a
+abbrev pub HasNoDescription : List Span → Option Module → ℕ → Type 0
+HasNoDescription image None a = Unit {0}
+HasNoDescription image (Some m) a = FindsNone image m.frame.text_base m.frame.kind a
 
 -- the stack ends at a context: its return address is 0, or nothing covers the address asked
 abbrev pub EndsAt : SpaceValue → Context → Bool → Type 0
-EndsAt space c interrupted = (c.ra ≡ 0) ⊎ ((c.ra ≢ 0) × IsUncovered space.image (module_at space.modules (address_of_call c.ra interrupted)) (address_of_call c.ra interrupted))
+EndsAt space c interrupted = (c.ra ≡ 0) ⊎ ((c.ra ≢ 0) × HasNoDescription space.image (module_at space.modules (address_of_call c.ra interrupted)) (address_of_call c.ra interrupted))
 
 -- a row can't be read or run, or its CFA or a rule of it, the first with a fault, has no value: it asks for a column that the machine
 -- doesn't have, or is by an expression without a value

@@ -11,9 +11,9 @@ use Rattle.unwind_definitions.specs.Module.{Process}
 use Rattle.unwind_definitions.specs.Stopped.{StandsAfter}
 use Rattle.unwind_definitions.specs.Valid.{IsDescribedChain, LiesDescribed}
 use Rattle.unwind_arch.specs.declared.x86_64.Context.{Context}
-use Rattle.unwind_arch.specs.Contexts.{columns_of}
+use Rattle.unwind_arch.specs.ContextViews.{columns_of}
 use Rattle.stack_deliver.specs.Modules.{SpaceValue}
-use Rattle.stack_deliver.specs.Processes.{process_of}
+use Rattle.stack_deliver.specs.SpaceViews.{process_of}
 
 -- A state stands in the prologue of a function, after some of its steps, perhaps none or all, and before the others.
 pub record StandsInPrologue (image : List Span) (s : State) (c : Call) : Type 0 where

@@ -5,16 +5,16 @@ use Rattle.unwind_definitions.specs.Function.{Function, IsFunction}
 use Rattle.unwind_definitions.specs.Chain.{Call, states_of, StacksRise, IsCalled}
 use Rattle.unwind_definitions.specs.Valid.{IsDescribedChain, IsValid, LiesDescribed}
 use Rattle.unwind_arch.specs.declared.x86_64.Context.{Context}
-use Rattle.unwind_arch.specs.Contexts.{columns_of}
-use Rattle.stack_deliver.specs.declared.delivery.Trail.{Trail}
-use Rattle.stack_deliver.specs.declared.delivery.Stepped.{Stepped}
-use Rattle.stack_deliver.specs.declared.delivery.Ending.{Ending}
-use Rattle.stack_deliver.specs.declared.delivery.DeliverError.{DeliverError}
+use Rattle.unwind_arch.specs.ContextViews.{columns_of}
+use Rattle.stack_deliver.specs.declared.answers.Trail.{Trail}
+use Rattle.stack_deliver.specs.declared.answers.Stepped.{Stepped}
+use Rattle.stack_deliver.specs.declared.answers.Ending.{Ending}
+use Rattle.stack_deliver.specs.declared.answers.DeliverError.{DeliverError}
 use Rattle.stack_deliver.specs.Modules.{SpaceValue}
-use Rattle.stack_deliver.specs.Processes.{process_of}
+use Rattle.stack_deliver.specs.SpaceViews.{process_of}
 use Rattle.stack_deliver.specs.Stepping.{step_of}
-use Rattle.stack_deliver.specs.Delivering.{Delivered}
-use Rattle.stack_deliver.specs.Shown.{delivery_shown}
+use Rattle.stack_deliver.specs.StackDelivery.{DeliveryValue}
+use Rattle.stack_deliver.specs.StateViews.{delivery_shown}
 use Rattle.std.specs.List.{Contains}
 use Rattle.unwind_definitions.specs.Caller.{Columns}
 use Rattle.unwind_definitions.specs.Prologue.{SystemV}
@@ -62,11 +62,11 @@ IsWalked (Ok done) room due = due ≡ Ok room.visited
 IsWalked (Err e) room due = due ≡ Err e
 
 -- a delivery: what it left in a room, and how it ended
-abbrev pub delivered_in : RoomValue → Ending → Delivered
+abbrev pub delivered_in : RoomValue → Ending → DeliveryValue
 delivered_in room ending = record { visited = room.visited; trail = room.trail; outcome = ending.outcome; landing = ending.landing }
 
 -- a delivery's answer and the room after it are the delivery that is due, or its fault
-abbrev pub IsDelivered : Result Ending DeliverError → RoomValue → Result Delivered DeliverError → Type 0
+abbrev pub IsDelivered : Result Ending DeliverError → RoomValue → Result DeliveryValue DeliverError → Type 0
 IsDelivered (Ok ending) room due = due ≡ Ok (delivered_in room ending)
 IsDelivered (Err e) room due = due ≡ Err e
 
@@ -94,5 +94,5 @@ pub record StartsValidChain (space : SpaceValue) (c : Context) (resumes : List (
   pub shorter : length calls < limit
 
 -- what a delivery did is what the definition says of a chain of calls
-abbrev pub ShowsDelivery : Delivered → ℕ → State → List Call → Type 0
+abbrev pub ShowsDelivery : DeliveryValue → ℕ → State → List Call → Type 0
 ShowsDelivery d exception s calls = delivery_shown d ≡ described.delivery_of exception s calls

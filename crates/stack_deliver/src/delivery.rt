@@ -1,161 +1,225 @@
-// What a delivery did, or why nothing was delivered.
-ghost use Rattle.std.specs.Prelude.{◌≡◌, length, slice_get};
-ghost use Rattle.stack_deliver.specs.declared.delivery.DeliverError.TheVariants.{NoMemory};
+// The delivery of an exception: the states from the start outwards.
+ghost use Rattle.std.specs.Prelude.{◌≡◌, ◌≢◌, ◌+◌, ◌*◌, ◌⊎◌, ◌↔◌, ◌≤◌, ℕ, List, [], None, Err, length, IsOkAnd, OnErr};
+ghost use Rattle.memory_image.specs.Image.{word_at};
+ghost use Rattle.unwind_definitions.specs.State.{State};
+ghost use Rattle.unwind_definitions.specs.Function.{Function};
+ghost use Rattle.unwind_definitions.specs.Chain.{Call};
+ghost use Rattle.stack_deliver.specs.Causes.{IsRefused, EndsBy};
+ghost use Rattle.stack_deliver.specs.StackDelivery.{GivesUnlessNoMemory, stack_delivery};
+ghost use Rattle.stack_deliver.specs.Ticking.{RisesWithin};
+ghost use Rattle.stack_deliver.specs.Walking.{StartsValidChain, ShowsDelivery, IsDelivered, delivered_in};
 
-use eh_frame::Error;
-use std::alloc::AllocError;
-use std::marker::Model;
+use crate::answers::{DeliverError, Delivery, Ending, Outcome, Stepped};
+use crate::passes::{Phase, outwards, passes};
+use crate::resumes::Resumes;
+use crate::room::Room;
+use crate::space::Space;
+use eh_frame::RowRoom;
+use memory_image::{Ledger, NoLedger, Steps};
+use std::alloc::Global;
 use unwind_arch::x86_64::Context;
-use unwinding_frames::StepError;
 
-/// A cleanup that ran.
-#[derive(Clone, Copy, Debug, PartialEq, Eq)]
-pub struct Trail {
-    /// The landing pad at which the cleanup begins.
-    pub pad: u64,
-    /// The stack pointer with which it was installed.
-    pub sp: u64,
-}
-
-/// How a delivery ended.
-#[derive(Clone, Copy, Debug, PartialEq, Eq)]
-pub enum Outcome {
-    /// The landing pad of the accepting frame was installed.
-    Installed,
-    /// The search came to the end of the stack.
-    EndOfStack,
-    /// In the search a language table said to terminate, or wasn't readable.
-    FatalPhase1,
-    /// In a cleanup pass a language table said to terminate or wasn't readable, or the stack ended.
-    FatalPhase2,
-}
-
-/// How a delivery into a room ended.
-#[derive(Clone, Copy, Debug, PartialEq, Eq)]
-pub struct Ending {
-    /// How it ended.
-    pub outcome: Outcome,
-    /// The registers at the handler, where it was installed.
-    pub landing: Option<Context>,
-}
-
-/// A state of the stack with its mark, as a step leaves it: a caller's registers.
-#[derive(Clone, Copy, Debug, PartialEq, Eq)]
-pub struct Stepped {
-    /// The registers of the caller.
-    pub context: Context,
-    /// Whether the frame that was left is a signal frame, so that the caller stands before the
-    /// instruction at its return address and not after a call.
-    pub signal: bool,
-}
-
-/// Why a step, a walk or a delivery is refused.
-#[derive(Clone, Copy, Debug, PartialEq, Eq, thiserror::Error)]
-pub enum DeliverError {
-    /// Memory ran out.
-    #[error("out of memory")]
-    NoMemory,
-    /// A word of memory that is read at this address isn't wholly mapped.
-    #[error("the word of memory at {0:#x} isn't mapped")]
-    Unmapped(u64),
-    /// A pass needs more states than the limit.
-    #[error("a walk or a pass needs more states than the limit")]
-    FrameLimit,
-    /// More cleanups ran than the limit.
-    #[error("more cleanups ran than the limit")]
-    PassLimit,
-    /// The cleanup at this landing pad has no return address.
-    #[error("the cleanup at the landing pad {0:#x} has no return address")]
-    NoResume(u64),
-    /// The call frame bytes of a visited address can't be read or run.
-    #[error("call frame information: {0}")]
-    Table(Error),
-}
-
-impl From<AllocError> for DeliverError {
-    ghost from_gives = { λ _ e. e ≡ NoMemory };
-
-    fn from(_e: AllocError) -> DeliverError {
-        DeliverError::NoMemory
+/// The search for a handler, and where a frame takes the exception the passes toward it.
+#[tactic(auto, unfolding(crate::specs::StackDelivery::stack_delivery))]
+fn delivered<L: Ledger>(
+    space: &Space<'_>,
+    start: Context,
+    exception: u64,
+    resumes: &Resumes,
+    limit: u32,
+    room: &mut Room,
+    steps: &mut Steps<L>,
+) -> Result<Ending, DeliverError>
+    requires within { limit ≤ room.old.limit }
+    requires empty { (room.old.visited ≡ []) × (room.old.trail ≡ []) }
+    ensures exact { IsDelivered result room.new
+        (stack_delivery space.now start exception resumes.now limit) }
+    ensures places { room.new.limit ≡ room.old.limit }
+    ensures ticks { RisesWithin space.now ((limit + 2) * limit) steps.old.number steps.new.number }
+{
+    let mut rows = RowRoom::new();
+    let mut state = Stepped {
+        context: start,
+        signal: false,
+    };
+    let phase = Some(Phase::Search);
+    let Some(stop) = outwards(phase, space, &mut state, limit, room, &mut rows, steps)? else {
+        return Ok(without_landing(Outcome::EndOfStack));
+    };
+    if stop.pad().is_none() {
+        return Ok(without_landing(Outcome::FatalPhase1));
     }
+    passes(
+        space,
+        &start,
+        exception,
+        stop.kept(),
+        resumes,
+        limit,
+        room,
+        &mut rows,
+        steps,
+    )
 }
 
-impl From<StepError> for DeliverError {
-    ghost use Rattle.unwinding_frames.specs.Calling.{fault_of};
-    ghost use Rattle.stack_deliver.specs.Stepping.{refusal_of};
-
-    ghost from_gives = { λ e r. r ≡ refusal_of (fault_of e) };
-
-    fn from(e: StepError) -> DeliverError {
-        match e {
-            StepError::Table(error) => DeliverError::Table(error),
-            StepError::Unmapped(address) => DeliverError::Unmapped(address),
+/// The same in a room that is emptied first, and after an error again.
+fn emptied<L: Ledger>(
+    space: &Space<'_>,
+    start: Context,
+    exception: u64,
+    resumes: &Resumes,
+    limit: u32,
+    room: &mut Room,
+    steps: &mut Steps<L>,
+) -> Result<Ending, DeliverError>
+    requires { limit ≤ room.old.limit }
+    ensures exact { IsDelivered result room.new
+        (stack_delivery space.now start exception resumes.now limit) }
+    ensures emptied { OnErr result ((room.new.visited ≡ []) × (room.new.trail ≡ [])) }
+    ensures places { room.new.limit ≡ room.old.limit }
+    ensures whole { length start.registers ≡ 16 }
+    ensures ticks { RisesWithin space.now ((limit + 2) * limit) steps.old.number steps.new.number }
+{
+    room.clear();
+    match delivered(space, start, exception, resumes, limit, room, steps) {
+        Ok(ending) => Ok(ending),
+        Err(error) => {
+            room.clear();
+            Err(error)
         }
     }
 }
 
-/// What a delivery did.
-#[derive(Drop)]
-pub struct Delivery {
-    pub(crate) visited: Vec<Context>,
-    pub(crate) trail: Vec<Trail>,
-    pub(crate) outcome: Outcome,
-    pub(crate) landing: Option<Context>,
+fn without_landing(outcome: Outcome) -> Ending
+    ensures { result ≡ record { outcome = outcome; landing = None } }
+{
+    Ending {
+        outcome,
+        landing: None,
+    }
 }
 
-impl Model for Delivery {
-    ghost use Rattle.stack_deliver.specs.Delivering.{Delivered};
-
-    ghost Value = { Delivered };
-
-    ghost view = { λ d. record {
-      visited = d.visited.items;
-      trail = d.trail.items;
-      outcome = d.outcome;
-      landing = d.landing;
-    } };
+/// GivesUnlessNoMemory an exception to the stack whose innermost frame has the registers `start`, into a room.
+///
+/// The room is emptied first. A search visits states from the start outwards, and each is put into
+/// the room. Of a frame whose description names a personality, whichever, the language table is
+/// asked at the address of the call. The search ends at the first frame whose table asks for a
+/// handler or to end the program; a table that can't be read ends the program. The frame is kept by
+/// its stack pointer, less one where it stands after a signal's frame.
+///
+/// Where a frame takes the exception, cleanup passes go from the start again. Each enters the first
+/// landing pad on its way, with RAX the exception and RDX 0. A pad of the kept frame is the
+/// landing. Any other is a cleanup: it is put on the trail, and the next pass starts at the return
+/// address that the resume table has for the pad. No memory is taken, and the class isn't read.
+/// Source: Itanium C++ ABI, exception handling, levels I and II.
+///
+/// # Errors
+///
+/// The first in the order of work; the room is then empty.
+///
+/// - `FrameLimit` where a pass needs more than `limit` states. A fault of the step from the last
+///   allowed state comes first.
+/// - `PassLimit` where more than `limit` cleanups would run, `NoResume` where the resume table has
+///   no entry for a cleanup's pad.
+/// - `Unmapped` and `Table` as in a step, and where the cell that names the personality isn't
+///   wholly mapped.
+pub fn deliver_into<L: Ledger>(
+    space: &Space<'_>,
+    start: &Context,
+    exception: u64,
+    class: u64,
+    resumes: &Resumes,
+    limit: u32,
+    room: &mut Room,
+    steps: &mut Steps<L>,
+) -> Result<Ending, DeliverError>
+    requires { limit ≤ room.old.limit }
+    // The room's states and cleanups and the ending are the delivery, and an error is its first
+    // fault.
+    ensures exact { IsDelivered result room.new
+        (stack_delivery space.now start.now exception resumes.now limit) }
+    ensures emptied { OnErr result ((room.new.visited ≡ []) × (room.new.trail ≡ [])) }
+    ensures places { room.new.limit ≡ room.old.limit }
+    ensures unmapped { (a : ℕ) → result ≡ Err (DeliverError.Unmapped a) →
+        word_at space.now.image a ≡ None }
+    ensures takes_no_memory { result ≢ Err DeliverError.NoMemory }
+    // Each error comes exactly for its cause, and each outcome exactly where the search or a pass
+    // meets what it says.
+    ensures refused { (error : DeliverError) → (result ≡ Err error) ↔
+        IsRefused space.now start.now exception resumes.now limit error }
+    ensures ended { (outcome : Outcome) → IsOkAnd result (λ ending. ending.outcome ≡ outcome) ↔
+        EndsBy space.now start.now exception resumes.now limit outcome }
+    // What is delivered to a valid chain is what the definition says of the chain.
+    ensures chain { (functions : List Function) (s : State) (calls : List Call) →
+        StartsValidChain space.now start.now resumes.now limit functions s calls →
+        IsOkAnd result (λ ending. ShowsDelivery (delivered_in room.new ending) exception s calls) }
+    // The search and at most one pass more than the limit, each through as many states as the limit
+    // allows.
+    ensures ticks { RisesWithin space.now ((limit + 2) * limit) steps.old.number steps.new.number }
+{
+    // It is for languages that tell their own exceptions from those of others.
+    let _ = class;
+    // No two of its modules share an address, as a space's type says.
+    let _ = space.image();
+    emptied(space, *start, exception, resumes, limit, room, steps)
 }
 
-impl Delivery {
-    /// How many states the search visited.
-    pub fn visited_len(&self) -> usize
-        ensures { result ≡ length self.now.visited }
-    {
-        self.visited.len()
-    }
-
-    /// The state that the search visited at this place, from the start outwards.
-    pub fn visited(&self, i: usize) -> Option<Context>
-        ensures { result ≡ slice_get self.now.visited i }
-    {
-        self.visited.get(i).copied()
-    }
-
-    /// How many cleanups ran.
-    pub fn trail_len(&self) -> usize
-        ensures { result ≡ length self.now.trail }
-    {
-        self.trail.len()
-    }
-
-    /// The cleanup at this place, from the innermost outwards.
-    pub fn trail(&self, i: usize) -> Option<Trail>
-        ensures { result ≡ slice_get self.now.trail i }
-    {
-        self.trail.get(i).copied()
-    }
-
-    /// How it ended.
-    pub fn outcome(&self) -> Outcome
-        ensures { result ≡ self.now.outcome }
-    {
-        self.outcome
-    }
-
-    /// The registers at the handler, where it was installed.
-    pub fn landing(&self) -> Option<Context>
-        ensures { result ≡ self.now.landing }
-    {
-        self.landing
-    }
+/// GivesUnlessNoMemory an exception to the stack whose innermost frame has the registers `start`.
+///
+/// It is `deliver_into` over a room of `limit` places, which is reserved for it and not filled.
+///
+/// # Errors
+///
+/// `NoMemory` where memory ran out; else the errors of `deliver_into`.
+pub fn deliver(
+    alloc: Global,
+    space: &Space<'_>,
+    start: &Context,
+    exception: u64,
+    class: u64,
+    resumes: &Resumes,
+    limit: u32,
+) -> Result<Delivery, DeliverError>
+    ensures exact { GivesUnlessNoMemory result
+        (stack_delivery space.now start.now exception resumes.now limit) }
+    ensures unmapped { (a : ℕ) → result ≡ Err (DeliverError.Unmapped a) →
+        word_at space.now.image a ≡ None }
+    // Each error but that of memory comes only for its cause, and each outcome only where the
+    // search or a pass meets what it says.
+    ensures refused { (error : DeliverError) → error ≢ DeliverError.NoMemory → result ≡ Err error →
+        IsRefused space.now start.now exception resumes.now limit error }
+    ensures ended { (outcome : Outcome) → IsOkAnd result (λ delivery. delivery.outcome ≡ outcome) →
+        EndsBy space.now start.now exception resumes.now limit outcome }
+    // For each cause nothing else comes, unless memory runs out.
+    ensures refuses { (error : DeliverError) →
+        IsRefused space.now start.now exception resumes.now limit error →
+        (result ≡ Err DeliverError.NoMemory) ⊎ (result ≡ Err error) }
+    ensures ends { (outcome : Outcome) →
+        EndsBy space.now start.now exception resumes.now limit outcome →
+        (result ≡ Err DeliverError.NoMemory) ⊎
+        IsOkAnd result (λ delivery. delivery.outcome ≡ outcome) }
+    // What is delivered to a valid chain is what the definition says of the chain.
+    ensures chain { (functions : List Function) (s : State) (calls : List Call) →
+        StartsValidChain space.now start.now resumes.now limit functions s calls →
+        (result ≡ Err DeliverError.NoMemory) ⊎
+        IsOkAnd result (λ delivery. ShowsDelivery delivery exception s calls) }
+{
+    let mut room = Room::new(alloc, limit)?;
+    let ending = deliver_into(
+        space,
+        start,
+        exception,
+        class,
+        resumes,
+        limit,
+        &mut room,
+        &mut Steps::new(NoLedger),
+    )?;
+    let (visited, trail) = room.into_parts();
+    Ok(Delivery {
+        visited,
+        trail,
+        outcome: ending.outcome,
+        landing: ending.landing,
+    })
 }

@@ -6,13 +6,13 @@ ghost use Rattle.unwind_definitions.specs.Scan.{scan};
 ghost use Rattle.unwind_arch.specs.declared.x86_64.Context.{Context};
 ghost use Rattle.eh_frame.specs.Listing.{listing_of};
 ghost use Rattle.fde_finders.specs.Finding.{table_bases};
-ghost use Rattle.stack_deliver.specs.Delivering.{line_of};
+ghost use Rattle.stack_deliver.specs.StackDelivery.{line_of};
 ghost use Rattle.stack_deliver.specs.FrontSample.{after_call, bad_row, cut_entry, held_by, no_entry, nowhere};
 ghost use Rattle.stack_deliver.specs.Fronts.{ComesTo, EndsFor, front_of, input_of, IsUndescribed, IsUndescribedIn, stopped_by};
 ghost use Rattle.stack_deliver.specs.Stepping.{FindsNone, step_of};
 ghost use Rattle.stack_deliver.specs.Ticking.{RisesWithin};
 
-use crate::delivery::{DeliverError, Stepped};
+use crate::answers::{DeliverError, Stepped};
 use crate::passes::outwards;
 use crate::room::Room;
 use crate::space::Space;

@@ -1,7 +1,7 @@
 // What is answered over a space, whichever of its modules are prepared.
 ghost use Rattle.std.specs.Prelude.{◌≡◌, ℕ, Bool, List};
 ghost use Rattle.unwind_arch.specs.declared.x86_64.Context.{Context as Registers};
-ghost use Rattle.stack_deliver.specs.Delivering.{delivery_of, line_of};
+ghost use Rattle.stack_deliver.specs.StackDelivery.{stack_delivery, line_of};
 ghost use Rattle.stack_deliver.specs.Modules.{Added, SpaceValue};
 ghost use Rattle.stack_deliver.specs.Stepping.{step_of};
 
@@ -15,6 +15,6 @@ pub fn answers_stay_as_modules_are_prepared()
         line_of space limit c interrupted }
     ensures deliveries { (space : SpaceValue) (added : List Added) (c : Registers) (exception : ℕ)
         (resumes : List (ℕ × ℕ)) (limit : ℕ) →
-        delivery_of (record space { added = added }) c exception resumes limit ≡
-        delivery_of space c exception resumes limit }
+        stack_delivery (record space { added = added }) c exception resumes limit ≡
+        stack_delivery space c exception resumes limit }
 {}

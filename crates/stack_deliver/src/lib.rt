@@ -35,7 +35,7 @@
 //! ```
 #![tactic(auto)]
 
-mod delivering;
+mod answers;
 mod delivery;
 mod front;
 mod laws;
@@ -49,8 +49,8 @@ mod stepping;
 mod stops;
 mod walking;
 
-pub use delivering::{deliver, deliver_into};
-pub use delivery::{DeliverError, Delivery, Ending, Outcome, Stepped, Trail};
+pub use answers::{DeliverError, Delivery, Ending, Outcome, Stepped, Trail};
+pub use delivery::{deliver, deliver_into};
 pub use eh_frame::Error;
 pub use fde_finders::{FrameInfo, FrameInfoKind};
 pub use front::{Front, each_reason_is_given, walk_front_into};

@@ -2,15 +2,15 @@
 // cleanups on the way to it. Itanium C++ ABI, exception handling, level I, section 1.3.
 ghost use Rattle.std.specs.Prelude.{◌≡◌, ◌≤◌, ◌<◌, ◌+◌, ◌*◌, ◌++◌, ◌∷◌, Err, [], true, false, length, Some, OnOk, OnErr, IfOk};
 ghost use Rattle.std.specs.Option.{option_map};
-ghost use Rattle.unwinding_frames.specs.Languages.{action_of};
-ghost use Rattle.stack_deliver.specs.Passes.{asked_of, stops, stop_of, past_arguments, turn_for, line_for, kept_at, pad_of, enters, end_by, cleanup_of, cleanup_at, resume_at, passes_of};
+ghost use Rattle.unwinding_frames.specs.LanguageViews.{action_of};
+ghost use Rattle.stack_deliver.specs.Passes.{action_asked, stops, stop_of, past_arguments, turn_for, line_for, kept_at, pad_of, enters, end_by, cleanup_of, cleanup_at, resume_at, passes_of};
 ghost use Rattle.stack_deliver.specs.Fronts.{reached_by, turned_from, IsReached};
-ghost use Rattle.stack_deliver.specs.Passing.{seen, turn_shown, stop_shown, end_shown, visits, visited_with, StaysAt, IsOutward, IsPassed};
+ghost use Rattle.stack_deliver.specs.PassViews.{seen, turn_shown, stop_shown, end_shown, visits, visited_with, StaysAt, IsOutward, GivesCleanupsRun};
 ghost use Rattle.stack_deliver.specs.Results.{result_map};
 ghost use Rattle.stack_deliver.specs.Resumes.{return_of};
 ghost use Rattle.stack_deliver.specs.Ticking.{RisesWithin, TicksAt};
 
-use crate::delivery::{DeliverError, Ending, Outcome, Stepped, Trail};
+use crate::answers::{DeliverError, Ending, Outcome, Stepped, Trail};
 use crate::resumes::Resumes;
 use crate::room::Room;
 use crate::space::Space;
@@ -107,7 +107,8 @@ fn asked(
     state: &Stepped,
     frame: &FoundFrame<'_, '_>,
 ) -> Result<EhAction, DeliverError>
-    ensures { result_map action_of result ≡ asked_of image.now state.now.context state.now.signal
+    ensures { result_map action_of result ≡ action_asked image.now state.now.context
+        state.now.signal
         (seen frame.now) }
 {
     let found = frame.found();
@@ -328,7 +329,7 @@ pub(crate) fn passes<'a, L: Ledger>(
 ) -> Result<Ending, DeliverError>
     requires within { limit ≤ room.old.limit }
     requires empty { room.old.trail ≡ [] }
-    ensures exact { IsPassed result room.new
+    ensures exact { GivesCleanupsRun result room.new
         (passes_of space.now exception kept resumes.now limit limit start.now) }
     ensures kept { (room.new.visited ≡ room.old.visited) × (room.new.limit ≡ room.old.limit) }
     ensures ticks { RisesWithin space.now ((limit + 1) * limit) steps.old.number steps.new.number }

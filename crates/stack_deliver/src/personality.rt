@@ -5,14 +5,14 @@ ghost use Rattle.unwind_definitions.specs.Function.{Action, Catch};
 ghost use Rattle.unwind_definitions.specs.Row.{RowInstructions};
 ghost use Rattle.frame_rows.specs.RowValue.{RowValue};
 ghost use Rattle.unwind_arch.specs.declared.x86_64.Context.{Context};
-ghost use Rattle.unwind_arch.specs.Contexts.{columns_of};
+ghost use Rattle.unwind_arch.specs.ContextViews.{columns_of};
 ghost use Rattle.unwinding_frames.specs.FrameValue.{FrameValue};
 ghost use Rattle.unwinding_frames.specs.Sample as sample;
 ghost use Rattle.unwinding_frames.specs.Personalities.{Asked, searched};
 ghost use Rattle.unwinding_frames.specs.Seen.{Thrown};
-ghost use Rattle.stack_deliver.specs.declared.delivery.DeliverError.{DeliverError};
+ghost use Rattle.stack_deliver.specs.declared.answers.DeliverError.{DeliverError};
 ghost use Rattle.stack_deliver.specs.AnyPasses.{stepping_in, rust_in, Search, search_of, IsSearchBy, IsPassBy, IsDeliveryBy};
-ghost use Rattle.stack_deliver.specs.Delivering.{Delivered, delivery_of};
+ghost use Rattle.stack_deliver.specs.StackDelivery.{DeliveryValue, stack_delivery};
 ghost use Rattle.stack_deliver.specs.Modules.{SpaceValue};
 ghost use Rattle.stack_deliver.specs.Passes.{PassEnd, stops, pad_of, cleanup_of};
 ghost use Rattle.stack_deliver.specs.Personality.{InSearch, InCleanup, IsAsked, AnswersCleanup, answer_for, code_of};
@@ -88,8 +88,8 @@ pub fn deliveries_are_passes()
         ↔ (due ≡ cleanup_of space thrown.word kept limit start) }
     ensures delivery { (space : SpaceValue) (row : RowInstructions → RowValue) (thrown : Thrown)
         (limit : ℕ)
-        (resumes : List (ℕ × ℕ)) (start : Context) (due : Result Delivered DeliverError) →
+        (resumes : List (ℕ × ℕ)) (start : Context) (due : Result DeliveryValue DeliverError) →
         length start.registers ≡ 16 →
         IsDeliveryBy (stepping_in space) (rust_in space row thrown) limit resumes start due
-        ↔ (due ≡ delivery_of space start thrown.word resumes limit) }
+        ↔ (due ≡ stack_delivery space start thrown.word resumes limit) }
 {}

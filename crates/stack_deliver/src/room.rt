@@ -1,7 +1,7 @@
 // Place for what a walk or a delivery visits.
 ghost use Rattle.std.specs.Prelude.{◌≡◌, ◌<◌, ◌∷◌, ◌++◌, [], length, slice_get, IfOk};
 
-use crate::delivery::Trail;
+use crate::answers::Trail;
 use std::alloc::{AllocError, Global};
 use std::marker::Model;
 use unwind_arch::x86_64::Context;

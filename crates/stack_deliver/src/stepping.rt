@@ -10,24 +10,24 @@ ghost use Rattle.unwind_definitions.specs.Row.{RowInstructions, argument_size};
 ghost use Rattle.unwind_definitions.specs.Caller.{x86_64, caller_of};
 ghost use Rattle.unwind_definitions.specs.Expressions.{evaluation};
 ghost use Rattle.unwinding_frames.specs.Calling.{columns_given, written_in};
-ghost use Rattle.unwind_arch.specs.Contexts.{columns_of};
+ghost use Rattle.unwind_arch.specs.ContextViews.{columns_of};
 ghost use Rattle.eh_frame.specs.Index.{AreFewSteps};
 ghost use Rattle.fde_finders.specs.declared.custom.FrameInfo.{FrameInfo as Tables};
-ghost use Rattle.fde_finders.specs.Answered.{answered};
+ghost use Rattle.fde_finders.specs.FoundViews.{answered};
 ghost use Rattle.fde_finders.specs.Named.{found_by, pairs_by};
 ghost use Rattle.frame_rows.specs.RowValue.{RowValue};
 ghost use Rattle.stack_deliver.specs.Held.{IsHeld, IsTableOf, added_of};
 ghost use Rattle.stack_deliver.specs.Modules.{AreApart};
 ghost use Rattle.stack_deliver.specs.Preparing.{prepared_len};
-ghost use Rattle.stack_deliver.specs.Processes.{process_of};
-ghost use Rattle.stack_deliver.specs.Passing.{IsFrameOf, GivesFrameAt};
+ghost use Rattle.stack_deliver.specs.SpaceViews.{process_of};
+ghost use Rattle.stack_deliver.specs.PassViews.{IsFrameOf, GivesFrameAt};
 ghost use Rattle.stack_deliver.specs.Ticking.{IsScannedAt, RisesBySearch, TicksAt, TicksIn, searched_at};
 ghost use Rattle.stack_deliver.specs.Results.{result_map};
 ghost use Rattle.stack_deliver.specs.Stepping.{FrameAt, frame_by, frame_in, frame_of, caller_by, step_of, GivesCaller, EndsAt, FaultsAt, ReadIsUnmapped};
 ghost use Rattle.stack_deliver.specs.Walking.{IsDescribedCall, Undone};
 ghost use Rattle.stack_deliver.specs.Stopped.{IsDescribedStop};
 
-use crate::delivery::{DeliverError, Stepped};
+use crate::answers::{DeliverError, Stepped};
 use crate::prepared::PreparedTable;
 use crate::space::{Held, Space};
 use eh_frame::{PreparedFrame, RowRoom};
@@ -55,7 +55,7 @@ pub(crate) enum FoundFrame<'f, 'a> {
 }
 
 impl<'f, 'a> FoundFrame<'f, 'a> {
-    ghost use Rattle.stack_deliver.specs.Passing.{seen};
+    ghost use Rattle.stack_deliver.specs.PassViews.{seen};
 
     /// The description, what its pointers may be relative to, and its table.
     pub(crate) fn found(&self) -> FDESearchResult<'a>
@@ -303,7 +303,8 @@ pub fn step<L: Ledger>(
     ensures ticks { RisesBySearch (searched_at space.now context.now interrupted) steps.old.number
         steps.new.number }
     // The index of a prepared module is searched, and one step at least is counted.
-    ensures prepared { let n = prepared_len space.now (address_of_call context.now.ra interrupted) in
+    ensures prepared { let n = prepared_len space.now (address_of_call context.now.ra interrupted)
+        in
         context.now.ra ≢ 0 → 0 < n → AreFewSteps n steps.old.number steps.new.number }
     // None is counted where an unprepared module names its frame table itself.
     ensures scanned { IsScannedAt space.now context.now interrupted →

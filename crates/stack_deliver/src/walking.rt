@@ -4,12 +4,12 @@ ghost use Rattle.memory_image.specs.Image.{word_at};
 ghost use Rattle.unwind_definitions.specs.State.{State};
 ghost use Rattle.unwind_definitions.specs.Function.{Function};
 ghost use Rattle.unwind_definitions.specs.Chain.{Call};
-ghost use Rattle.stack_deliver.specs.Delivering.{Delivers, NeedsMore, line_of};
+ghost use Rattle.stack_deliver.specs.StackDelivery.{GivesUnlessNoMemory, NeedsMore, line_of};
 ghost use Rattle.stack_deliver.specs.Ticking.{RisesWithin};
 ghost use Rattle.stack_deliver.specs.Walking.{IsWalked, StepFails, StartsChain, ShowChain};
 ghost use Rattle.stack_deliver.specs.Stopped.{StartsStopped};
 
-use crate::delivery::{DeliverError, Stepped};
+use crate::answers::{DeliverError, Stepped};
 use crate::passes::outwards;
 use crate::room::Room;
 use crate::space::Space;
@@ -156,7 +156,7 @@ pub fn walk(
     interrupted: bool,
     limit: u32,
 ) -> Result<Visited, DeliverError>
-    ensures exact { Delivers result (line_of space.now limit start.now interrupted) }
+    ensures exact { GivesUnlessNoMemory result (line_of space.now limit start.now interrupted) }
     // The limit is met exactly where more states are needed.
     ensures frame_limit { result ≡ Err DeliverError.FrameLimit →
         NeedsMore space.now limit start.now interrupted }

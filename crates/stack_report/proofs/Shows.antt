@@ -3,9 +3,9 @@ use Rattle.std.proofs.Common.{◌≡◌, ℕ, ◌+◌, List, [], ◌∷◌, ◌+
 use Rattle.std.specs.Prelude.{map}
 use Rattle.std.specs.Option.{option_map}
 use Rattle.unwind_arch.specs.declared.x86_64.Context.{Context}
-use Rattle.stack_deliver.specs.Delivering.{Delivered}
-use Rattle.stack_deliver.specs.declared.delivery.Trail.{Trail}
-use Rattle.stack_deliver.specs.Shown.{state_of, pair_of, landing_of, delivery_shown}
+use Rattle.stack_deliver.specs.StackDelivery.{DeliveryValue}
+use Rattle.stack_deliver.specs.declared.answers.Trail.{Trail}
+use Rattle.stack_deliver.specs.StateViews.{state_of, pair_of, landing_of, delivery_shown}
 use Rattle.stack_report.specs.Report.{state_line, pad_line, state_lines, pad_lines, handler_lines, delivery_text, frame_line, frame_lines, cleanup_line, cleanup_lines, landing_line, landing_lines, report_of, walk_report_of, walk_text}
 
 frames_shown : (i : ℕ) (cs : List Context) → frame_lines i cs ≡ state_lines i (map state_of cs)
@@ -24,7 +24,7 @@ landing_shown None = refl
 landing_shown (Some c) = refl
 
 -- the report of a delivery is the text of what it shows
-pub report_shown : (d : Delivered) → report_of d ≡ delivery_text (delivery_shown d)
+pub report_shown : (d : DeliveryValue) → report_of d ≡ delivery_text (delivery_shown d)
 report_shown d = rw (frames_shown 0 d.visited, cleanups_shown d.trail, landing_shown d.landing) refl
 
 -- and so is the report of a walk

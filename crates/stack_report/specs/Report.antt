@@ -4,10 +4,10 @@ use Rattle.std.specs.Fmt.{decimal}
 use Rattle.unwind_definitions.specs.State.{State}
 use Rattle.unwind_definitions.specs.Delivery as described
 use Rattle.unwind_arch.specs.declared.x86_64.Context.{Context}
-use Rattle.stack_deliver.specs.declared.delivery.Trail.{Trail}
-use Rattle.stack_deliver.specs.declared.delivery.Outcome.{Outcome}
-use Rattle.stack_deliver.specs.Delivering.{Delivered}
-use Rattle.stack_deliver.specs.Shown.{state_of, landing_of, outcome_of, pair_of}
+use Rattle.stack_deliver.specs.declared.answers.Trail.{Trail}
+use Rattle.stack_deliver.specs.declared.answers.Outcome.{Outcome}
+use Rattle.stack_deliver.specs.StackDelivery.{DeliveryValue}
+use Rattle.stack_deliver.specs.StateViews.{state_of, landing_of, outcome_of, pair_of}
 use Rattle.stack_report.specs.Digits.{hexadecimal}
 
 -- a text and a line feed
@@ -98,7 +98,7 @@ cleanup_lines [] = []
 cleanup_lines (t ∷ ts) = cleanup_line t ++ cleanup_lines ts
 
 -- what is written of a delivery
-abbrev pub report_of : Delivered → List ℕ
+abbrev pub report_of : DeliveryValue → List ℕ
 report_of d = frame_lines 0 d.visited ++ cleanup_lines d.trail ++ landing_lines d.landing ++ outcome_line d.outcome
 
 -- what is written of a walk

@@ -2,7 +2,7 @@
 use Rattle.std.specs.Prelude.{ℕ, List, ◌++◌, codes}
 use Rattle.std.specs.Fmt.{decimal}
 use Rattle.unwind_definitions.specs.Delivery as described
-use Rattle.stack_deliver.specs.Shown.{outcome_of}
+use Rattle.stack_deliver.specs.StateViews.{outcome_of}
 use Rattle.stack_report.specs.declared.summary.Summary.{Summary}
 use Rattle.stack_report.specs.Report.{line, ending_line}
 

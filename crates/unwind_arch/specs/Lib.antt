@@ -1,5 +1,5 @@
 pub mod Columns
-pub mod Contexts
+pub mod ContextViews
 pub mod X86
 pub mod Aarch64
 pub mod Files

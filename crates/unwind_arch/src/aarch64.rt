@@ -2,7 +2,7 @@
 //! names.
 
 ghost use Rattle.std.specs.Prelude.{◌≡◌, ◌≢◌, ◌<◌, ◌≤◌, ◌⊎◌, ◌↔◌, ℕ, Some, IsSome, is_some, OnSome, IfNone, refl};
-ghost use Rattle.unwind_arch.specs.Contexts.{written};
+ghost use Rattle.unwind_arch.specs.ContextViews.{written};
 ghost use Rattle.unwind_arch.specs.Aarch64.{columns_of, with_column};
 
 use crate::machine::Machine;

@@ -2,7 +2,7 @@
 //! numbers.
 
 ghost use Rattle.std.specs.Prelude.{◌≡◌, ◌≢◌, ◌<◌, ◌↔◌, ℕ, Some, IsSome, is_some, OnSome, IfNone};
-ghost use Rattle.unwind_arch.specs.Contexts.{written};
+ghost use Rattle.unwind_arch.specs.ContextViews.{written};
 ghost use Rattle.unwind_arch.specs.Riscv32.{columns_of, with_column};
 
 use crate::register::Register;

@@ -2,7 +2,7 @@
 //! register numbers.
 
 ghost use Rattle.std.specs.Prelude.{◌≡◌, ◌≢◌, ◌<◌, ◌⊎◌, ◌↔◌, ℕ, Some, IsSome, is_some, OnSome, IfNone};
-ghost use Rattle.unwind_arch.specs.Contexts.{written};
+ghost use Rattle.unwind_arch.specs.ContextViews.{written};
 ghost use Rattle.unwind_arch.specs.X86.{columns_of, with_column};
 
 use crate::register::Register;

@@ -2,7 +2,7 @@
 //! numbers.
 
 ghost use Rattle.std.specs.Prelude.{◌≡◌, ◌≢◌, ℕ, Some, is_some, OnSome, IfNone, refl};
-ghost use Rattle.unwind_arch.specs.Contexts.{columns_of, with_column, written};
+ghost use Rattle.unwind_arch.specs.ContextViews.{columns_of, with_column, written};
 
 use crate::machine::Machine;
 use crate::register::Register;

@@ -4,9 +4,9 @@ use Rattle.std.specs.Prelude.{◌⊎◌, IsSome, codes, if◌then◌else◌}
 use Rattle.std.proofs.lemmas.Bool.{le-ltb, lt-ltb}
 use Rattle.std.proofs.lemmas.Bool.Decides.{nat_tests}
 use Rattle.unwind_arch.specs.declared.x86_64.Context.{Context}
-use Rattle.stack_deliver.specs.Delivering.{Delivered}
-use Rattle.stack_deliver.specs.declared.delivery.DeliverError.{DeliverError}
-use Rattle.stack_deliver.specs.declared.delivery.DeliverError.TheVariants.{NoMemory}
+use Rattle.stack_deliver.specs.StackDelivery.{DeliveryValue}
+use Rattle.stack_deliver.specs.declared.answers.DeliverError.{DeliverError}
+use Rattle.stack_deliver.specs.declared.answers.DeliverError.TheVariants.{NoMemory}
 use Rattle.stack_snapshot.specs.declared.errors.Field.{Field}
 use Rattle.stack_snapshot.specs.declared.errors.SnapshotError.{SnapshotError}
 use Rattle.stack_snapshot.specs.declared.errors.SnapshotError.TheVariants as faults
@@ -47,7 +47,7 @@ refused_is P memory refused e = refused
 snapshot_is : (P : Status → Type 0) → P Done → P Memory → P Refused → (task : Task) (s : Content) → P (snapshot_due task s).status
 snapshot_is P done memory refused Deliver s = go (delivery_from s)
   where
-    go : (r : Result Delivered DeliverError) → P (delivery_due r).status
+    go : (r : Result DeliveryValue DeliverError) → P (delivery_due r).status
     go (Ok d) = done
     go (Err e) = refused_is P memory refused e
 snapshot_is P done memory refused Walk s = go (walk_from s)
@@ -148,7 +148,7 @@ error_due : (e : DeliverError) → e ≢ NoMemory → (refused_due e).status ≡
 error_due NoMemory other = absurd (other refl)
 error_due e other = refl
 
-delivery_refused : (r : Result Delivered DeliverError) → (delivery_due r).status ≡ Refused → (error : DeliverError) × (error ≢ NoMemory) × (r ≡ Err error)
+delivery_refused : (r : Result DeliveryValue DeliverError) → (delivery_due r).status ≡ Refused → (error : DeliverError) × (error ≢ NoMemory) × (r ≡ Err error)
 delivery_refused (Ok d) is = absurd cc
 delivery_refused (Err e) is = (e, some_error e is, refl)
 

@@ -1,7 +1,7 @@
 // What is delivered and walked of a snapshot, over indexes of its frame tables.
 ghost use Rattle.std.specs.Prelude.{◌≡◌, ℕ, Bool, List, IfOk};
 ghost use Rattle.unwind_arch.specs.declared.x86_64.Context.{Context};
-ghost use Rattle.stack_deliver.specs.Delivering.{Delivers, line_of, delivery_of};
+ghost use Rattle.stack_deliver.specs.StackDelivery.{GivesUnlessNoMemory, line_of, stack_delivery};
 ghost use Rattle.stack_snapshot.specs.Content.{space_of};
 ghost use Rattle.unwind_cli.specs.Due.{delivery_from, walk_from};
 
@@ -13,8 +13,8 @@ use std::alloc::{AllocError, Global};
 /// answered otherwise over it.
 fn prepared_space(alloc: Global, snapshot: &Snapshot) -> Result<Space<'_>, AllocError>
     ensures delivery { IfOk result (λ space. (c : Context) (exception : ℕ) (resumes : List (ℕ × ℕ))
-        (limit : ℕ) → delivery_of space c exception resumes limit ≡
-        delivery_of (space_of snapshot.now) c exception resumes limit) }
+        (limit : ℕ) → stack_delivery space c exception resumes limit ≡
+        stack_delivery (space_of snapshot.now) c exception resumes limit) }
     ensures walk { IfOk result (λ space. (limit : ℕ) (c : Context) (interrupted : Bool) →
         line_of space limit c interrupted ≡ line_of (space_of snapshot.now) limit c interrupted) }
 {
@@ -29,7 +29,7 @@ fn prepared_space(alloc: Global, snapshot: &Snapshot) -> Result<Space<'_>, Alloc
 ///
 /// `NoMemory` where memory ran out; else those of `deliver`.
 pub fn deliver_snapshot(alloc: Global, snapshot: &Snapshot) -> Result<Delivery, DeliverError>
-    ensures { Delivers result (delivery_from snapshot.now) }
+    ensures { GivesUnlessNoMemory result (delivery_from snapshot.now) }
 {
     let space = prepared_space(alloc, snapshot)?;
     let start = snapshot.start();
@@ -50,7 +50,7 @@ pub fn deliver_snapshot(alloc: Global, snapshot: &Snapshot) -> Result<Delivery, 
 ///
 /// `NoMemory` where memory ran out; else those of `walk`.
 pub fn walk_snapshot(alloc: Global, snapshot: &Snapshot) -> Result<Visited, DeliverError>
-    ensures { Delivers result (walk_from snapshot.now) }
+    ensures { GivesUnlessNoMemory result (walk_from snapshot.now) }
 {
     let space = prepared_space(alloc, snapshot)?;
     let start = snapshot.start();

@@ -23,5 +23,6 @@ pub fn emitted_augmentations_are_known()
 pub fn entries_are_spelled()
     ensures { (bases : Bases) (base : ℕ) (start size front back : Four) →
         start_of base start + signed_of size ≤ 2 ^ 64 - 1 →
-        AreEntries bases (table base start size front back) 0 (ACie (cie base) ∷ AFde (fde base start size front back) ∷ []) }
+        AreEntries bases (table base start size front back) 0
+        (ACie (cie base) ∷ AFde (fde base start size front back) ∷ []) }
 {}

@@ -6,7 +6,7 @@ use Rattle.unwind_definitions.specs.Caller.{StepFault, Table}
 use Rattle.unwinding_frames.specs.declared.frame.StepError.{StepError}
 use Rattle.unwinding_frames.specs.declared.frame.StepError.TheVariants as code
 use Rattle.unwinding_frames.specs.Calling.{and_then, fault_of}
-use Rattle.unwinding_frames.specs.Languages.{given}
+use Rattle.unwinding_frames.specs.LanguageViews.{given}
 
 pub and_then_fault : {A B : Type 0} → (r : Result A StepFault) (f : A → Result B StepFault) (e : StepFault) → r ≡ Err e → and_then r f ≡ Err e
 and_then_fault (Ok v) f e fails = absurd cc

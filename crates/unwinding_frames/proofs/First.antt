@@ -13,7 +13,7 @@ use Rattle.unwind_definitions.specs.Caller.{StepFault, Table}
 use Rattle.unwind_definitions.specs.LanguageSearch.{Head, CallSite, head, call_site, site_action, sum_below, decision, decided_or, search_from, search, language_address, asked_by, language_action, Says, SitesAsk, LanguageAsks, ◌>>=◌}
 use Rattle.unwinding_frames.specs.declared.frame.StepError.{StepError}
 use Rattle.unwinding_frames.specs.declared.language_table.EhAction.{EhAction}
-use Rattle.unwinding_frames.specs.Languages.{action_of, given}
+use Rattle.unwinding_frames.specs.LanguageViews.{action_of, given}
 use Rattle.unwinding_frames.proofs.Taken.{site_takes}
 
 abbrev acts : Action → Result Action StepFault

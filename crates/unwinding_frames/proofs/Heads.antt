@@ -4,7 +4,7 @@ use Rattle.unwind_definitions.specs.declared.error.Error.{Error as Fault}
 use Rattle.unwind_definitions.specs.Faults.{◌>>=◌}
 use Rattle.unwind_definitions.specs.Input.{Input}
 use Rattle.unwind_definitions.specs.LanguageTable.{types}
-use Rattle.unwinding_frames.specs.Languages.{passes_types}
+use Rattle.unwinding_frames.specs.LanguageViews.{passes_types}
 
 rest_or : {A : Type 0} → Input → Result (A × Input) Fault → Input
 rest_or c (Ok r) = r.1

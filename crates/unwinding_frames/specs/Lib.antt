@@ -4,7 +4,7 @@ pub mod Columns
 pub mod Dummy
 pub mod FrameValue
 pub mod Framed
-pub mod Languages
+pub mod LanguageViews
 pub mod OneLine
 pub mod Passes
 pub mod Personalities

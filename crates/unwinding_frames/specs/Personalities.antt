@@ -66,11 +66,11 @@ answered_by machine asked columns (Ok x) =
     else cleaned machine (shares asked.actions.0 FORCE_UNWIND.0) asked.exception columns x
 
 -- what the language of a frame asks, which is nothing without a frame
-abbrev pub asked_of : List Span → Option FrameValue → ℕ → Result Action StepFault
-asked_of image frame a = option_map_or (λ f. language_action image f.found.bases f.found.fde a) frame (Ok NoAction)
+abbrev pub action_of_frame : List Span → Option FrameValue → ℕ → Result Action StepFault
+action_of_frame image frame a = option_map_or (λ f. language_action image f.found.bases f.found.fde a) frame (Ok NoAction)
 
 -- The personality of Rust, which knows version 1 alone.
 abbrev pub rust_answers : Landing → Asked → List Span → Option FrameValue → Columns → Bool → Answer
 rust_answers machine asked image frame columns signal =
-    if int_eq asked.version (pos 1) then answered_by machine asked columns (asked_of image frame (address_of_call (unwrap_or (columns machine.return_address) 0) signal))
+    if int_eq asked.version (pos 1) then answered_by machine asked columns (action_of_frame image frame (address_of_call (unwrap_or (columns machine.return_address) 0) signal))
     else (FATAL_PHASE1_ERROR, columns)

@@ -11,9 +11,9 @@ ghost use Rattle.unwind_definitions.specs.Caller.{Columns, caller_of, rule_value
 ghost use Rattle.frame_rows.specs.Rules.{rule_meaning, cfa_meaning, entry_of};
 ghost use Rattle.frame_rows.specs.Left.{left};
 ghost use Rattle.frame_rows.specs.Rows.{IsRowOf};
-ghost use Rattle.encoded_pointers.specs.Pointers.{bases_of, pointer_of};
+ghost use Rattle.encoded_pointers.specs.PointerViews.{bases_of, pointer_of};
 ghost use Rattle.fde_finders.specs.Finding.{FoundFde};
-ghost use Rattle.fde_finders.specs.Answered.{answered};
+ghost use Rattle.fde_finders.specs.FoundViews.{answered};
 ghost use Rattle.unwinding_frames.specs.Framed.{GivesFrame, GivesRowOf};
 ghost use Rattle.unwind_definitions.specs.Expressions.{evaluation};
 ghost use Rattle.unwinding_frames.specs.Calling.{machine_of, value_given, columns_given, written_in, applied, rule_applied};
@@ -78,7 +78,7 @@ pub struct Frame<'a, M: Machine> {
 
 impl<'a, M: Machine> Model for Frame<'a, M> {
     ghost use Rattle.unwinding_frames.specs.FrameValue.{FrameValue};
-    ghost use Rattle.fde_finders.specs.Answered.{answered};
+    ghost use Rattle.fde_finders.specs.FoundViews.{answered};
 
     ghost Value = { FrameValue };
 

@@ -9,8 +9,8 @@ ghost use Rattle.unwind_definitions.specs.Caller.{Columns};
 ghost use Rattle.unwind_definitions.specs.LanguageSearch.{address_of_call};
 ghost use Rattle.unwinding_frames.specs.FrameValue.{FrameValue};
 ghost use Rattle.unwinding_frames.specs.Columns.{with_value};
-ghost use Rattle.unwinding_frames.specs.Languages.{action_of, given};
-ghost use Rattle.unwinding_frames.specs.Personalities.{Asked, Answer, Landing, landed, searched, cleaned, asked_of, rust_answers};
+ghost use Rattle.unwinding_frames.specs.LanguageViews.{action_of, given};
+ghost use Rattle.unwinding_frames.specs.Personalities.{Asked, Answer, Landing, landed, searched, cleaned, action_of_frame, rust_answers};
 
 use crate::abi::context::UnwindContext;
 use crate::abi::{UnwindAction, UnwindReasonCode};
@@ -39,7 +39,13 @@ pub trait Personality<M: Machine> {
         unwind_ctx: &mut UnwindContext<'_, '_, M>,
     ) -> UnwindReasonCode
         ensures answer { (result, M.Context.columns unwind_ctx.new.ctx.now) ≡
-            answers self.now (record { routine = routine; version = version; actions = actions; class = exception_class; exception = exception })
+            answers self.now (record {
+              routine = routine;
+              version = version;
+              actions = actions;
+              class = exception_class;
+              exception = exception;
+            })
             unwind_ctx.old.image.now (option_map (λ f. f.now) unwind_ctx.old.frame)
             (M.Context.columns unwind_ctx.old.ctx.now) unwind_ctx.old.signal }
         ensures image { unwind_ctx.new.image ≡ unwind_ctx.old.image }
@@ -92,7 +98,7 @@ impl<M: Machine> Personality<M> for RustPersonality {
 
 /// What the language of a frame asks, which is nothing without a frame.
 fn action<M: Machine>(unwind_ctx: &UnwindContext<'_, '_, M>) -> Result<EhAction, StepError>
-    ensures { given action_of result ≡ asked_of unwind_ctx.now.image.now (option_map
+    ensures { given action_of result ≡ action_of_frame unwind_ctx.now.image.now (option_map
         (λ f. f.now) unwind_ctx.now.frame)
         (address_of_call (unwrap_or (M.Context.columns unwind_ctx.now.ctx.now M.RA.0) 0)
         unwind_ctx.now.signal) }

@@ -74,8 +74,10 @@ pub fn decode_permutation_6(count: u32, encoding: u32) -> Result<[u8; 6], ()>
     ensures refused { IsErr result ↔ (permutation count encoding ≡ None) }
 
     // one to one
-    ensures below { 1 ≤ count → count ≤ 6 → encoding < arrangements count → IsOkAnd result (IsArrangement count encoding) }
-    ensures onto { (registers : List ℕ) → 1 ≤ count → count ≤ 6 → length registers ≡ count → distinct registers ≡ true → encoding ≡ encoded registers →
+    ensures below { 1 ≤ count → count ≤ 6 → encoding < arrangements count → IsOkAnd result
+        (IsArrangement count encoding) }
+    ensures onto { (registers : List ℕ) → 1 ≤ count → count ≤ 6 → length registers ≡ count →
+        distinct registers ≡ true → encoding ≡ encoded registers →
         result ≡ Ok (registers ++ replicate (6 - count) 0) }
 
     // and no other number

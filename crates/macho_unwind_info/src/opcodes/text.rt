@@ -38,7 +38,8 @@ pub fn write_fields<R: Named, W: fmt::Write>(
     fields: &[Option<R>],
 ) -> fmt::Result
     requires { word * length fields.now ≤ below }
-    ensures { WritesOnOk W.write_str_gives f.old result (fields_text R.name word below fields.now) f.new }
+    ensures { WritesOnOk W.write_str_gives f.old result (fields_text R.name word below fields.now)
+        f.new }
 {
     for field in fields {
         write_slot(f, *field, below)?;
@@ -55,7 +56,8 @@ pub fn write_registers<R: Named, W: fmt::Write>(
     registers: &[Option<R>],
 ) -> fmt::Result
     requires { below + word * length registers.now < 2 ^ 32 }
-    ensures { WritesOnOk W.write_str_gives f.old result (registers_text R.name word below registers.now) f.new }
+    ensures { WritesOnOk W.write_str_gives f.old result
+        (registers_text R.name word below registers.now) f.new }
 {
     for register in registers {
         if register.is_some() {

@@ -162,7 +162,8 @@ fn fields_of(opcode: u32) -> [Option<RegisterNameX86>; 5]
 
 /// The registers that an opcode's count and number spell, if they spell any.
 fn registers_of(opcode: u32) -> Option<[Option<RegisterNameX86>; 6]>
-    ensures { result ≡ option_map (map register_of) (permutation (bits opcode 10 3) (bits opcode 0 10)) }
+    ensures { result ≡ option_map (map register_of)
+        (permutation (bits opcode 10 3) (bits opcode 0 10)) }
 {
     match decode_permutation_6(bits(opcode, 10, 3), bits(opcode, 0, 10)) {
         Ok(numbers) => Some([

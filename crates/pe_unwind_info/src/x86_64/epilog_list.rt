@@ -8,7 +8,8 @@ use crate::x86_64::operations::{EpilogInformation, UnwindOperation, UnwindOperat
 // takes the next operation where it tells of an epilog
 fn next_epilog(operations: &mut UnwindOperations<'_>) -> Option<EpilogInformation>
     ensures first { result ≡ first_epilog (operations_left operations.old) }
-    ensures rest { MatchOption result (operations_left operations.new ≡ operations_left operations.old)
+    ensures rest { MatchOption result
+        (operations_left operations.new ≡ operations_left operations.old)
         (λ epilog. (place : ℕ) ×
         (operations_left operations.old ≡
         (place, UnwindOperation.EpilogInformation epilog) ∷ operations_left

@@ -94,7 +94,8 @@ fn epilog_at<'m, M: Fn(u32) -> Option<&'m [u8]>>(
     address: u32,
 ) -> Result<Option<ArrayVec<FunctionEpilogInstruction, FUNCTION_EPILOG_LIMIT>>, FrameFault>
     requires { M.IsAlwaysCallable memory_at_rva.now }
-    ensures { IsTested due (Gives (M.post memory_at_rva.now) (option_map (λ bytes. bytes.now))) frame
+    ensures { IsTested due (Gives (M.post memory_at_rva.now) (option_map (λ bytes. bytes.now)))
+        frame
         end address (map_ok (option_map (λ v. v.items)) result) }
 {
     if due {
@@ -125,7 +126,8 @@ fn leave_by_epilog<S: UnwindState>(
     state: &mut S,
     instructions: &[FunctionEpilogInstruction],
 ) -> Result<u64, FrameFault>
-    ensures registers { frame_end result (registers_of (S.registers state.new) (S.xmm_registers state.new))
+    ensures registers { frame_end result
+        (registers_of (S.registers state.new) (S.xmm_registers state.new))
         ≡ then_ends
         (epilog_run frame (S.stack state.old) instructions.now
         (registers_of (S.registers state.old) (S.xmm_registers state.old)))
@@ -141,7 +143,8 @@ fn apply_record<S: UnwindState>(
     info: &UnwindInfo<'_>,
     state: &mut S,
 ) -> Result<ControlFlow<u64>, FrameFault>
-    ensures registers { flow_end result (registers_of (S.registers state.new) (S.xmm_registers state.new))
+    ensures registers { flow_end result
+        (registers_of (S.registers state.new) (S.xmm_registers state.new))
         ≡ run (info_of info.now).header (S.stack state.old)
         (operations_alone (operations_in (info_of info.now)))
         (registers_of (S.registers state.old) (S.xmm_registers state.old)) }
@@ -155,7 +158,8 @@ fn unwind_link<S: UnwindState>(
     info: &UnwindInfo<'_>,
     state: &mut S,
 ) -> Result<ControlFlow<u64, Option<RuntimeFunction>>, FrameFault>
-    ensures registers { link_end result (registers_of (S.registers state.new) (S.xmm_registers state.new))
+    ensures registers { link_end result
+        (registers_of (S.registers state.new) (S.xmm_registers state.new))
         ≡ link_by (info_of info.now) (S.stack state.old)
         (registers_of (S.registers state.old) (S.xmm_registers state.old)) }
     ensures stack { S.stack state.new ≡ S.stack state.old }
@@ -193,7 +197,8 @@ fn unwind_links<'m, S: UnwindState, M: Fn(u32) -> Option<&'m [u8]>>(
     first: Option<RuntimeFunction>,
 ) -> Result<u64, FrameFault>
     requires { M.IsAlwaysCallable memory_at_rva.now }
-    ensures registers { IsLinked (Gives (M.post memory_at_rva.now) (option_map (λ bytes. bytes.now)))
+    ensures registers { IsLinked
+        (Gives (M.post memory_at_rva.now) (option_map (λ bytes. bytes.now)))
         (S.stack state.old) 32 first
         (registers_of (S.registers state.old) (S.xmm_registers state.old))
         (frame_end result (registers_of (S.registers state.new) (S.xmm_registers state.new))) }
@@ -273,7 +278,8 @@ fn unwind_record<'m, S: UnwindState, M: Fn(u32) -> Option<&'m [u8]>>(
 ) -> Result<u64, FrameFault>
     requires callable { M.IsAlwaysCallable memory_at_rva.now }
     requires begun { function.now.begin_address ≤ address }
-    ensures registers { InRecord (Gives (M.post memory_at_rva.now) (option_map (λ bytes. bytes.now)))
+    ensures registers { InRecord
+        (Gives (M.post memory_at_rva.now) (option_map (λ bytes. bytes.now)))
         (S.stack state.old) address function.now (Ok (info_of info.now))
         (registers_of (S.registers state.old) (S.xmm_registers state.old))
         (frame_end result (registers_of (S.registers state.new) (S.xmm_registers state.new))) }
@@ -296,7 +302,8 @@ fn unwind_function<'m, S: UnwindState, M: Fn(u32) -> Option<&'m [u8]>>(
 ) -> Result<u64, FrameFault>
     requires callable { M.IsAlwaysCallable memory_at_rva.now }
     requires begun { function.now.begin_address ≤ address }
-    ensures registers { IsFunctionFrame (Gives (M.post memory_at_rva.now) (option_map (λ bytes. bytes.now)))
+    ensures registers { IsFunctionFrame
+        (Gives (M.post memory_at_rva.now) (option_map (λ bytes. bytes.now)))
         (S.stack state.old) address function.now
         (registers_of (S.registers state.old) (S.xmm_registers state.old))
         (frame_end result (registers_of (S.registers state.new) (S.xmm_registers state.new))) }

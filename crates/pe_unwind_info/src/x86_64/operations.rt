@@ -302,7 +302,8 @@ impl<'a> Iterator for UnwindOperations<'a> {
     #[tactic(auto, using(crate::proofs::OperationLemmas::operations_end, crate::proofs::OperationLemmas::operations_skip, crate::proofs::OperationLemmas::operations_give, crate::proofs::OperationLemmas::operations_none, crate::proofs::OperationLemmas::fewer_left))]
     fn next(&mut self) -> Option<(u8, UnwindOperation)>
         ensures steps { YieldsFirst operations_left self.old result self.new }
-        ensures goes { MakesProgress (λ _. ⊤) (item_count operations_left) self.old result self.new }
+        ensures goes { MakesProgress (λ _. ⊤) (item_count operations_left) self.old result
+            self.new }
         ensures uses { UsesSlot (slots_left self.old) (slots_left self.new) }
         ensures ended { IfNone result (slots_left self.new ≡ []) }
     {

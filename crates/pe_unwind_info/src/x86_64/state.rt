@@ -70,7 +70,8 @@ pub(crate) fn add_to_stack_pointer<S: UnwindState>(state: &mut S, bytes: u32)
 
 /// Pops a register: it is written, and then the stack pointer, by what this was before.
 pub(crate) fn pop<S: UnwindState>(state: &mut S, register: Register) -> Result<(), FrameFault>
-    ensures registers { done result (registers_of (S.registers state.new) (S.xmm_registers state.new))
+    ensures registers { done result
+        (registers_of (S.registers state.new) (S.xmm_registers state.new))
         ≡ pop_into (S.stack state.old) (register_number register)
         (registers_of (S.registers state.old) (S.xmm_registers state.old)) }
     ensures stack { S.stack state.new ≡ S.stack state.old }
@@ -84,7 +85,8 @@ pub(crate) fn pop<S: UnwindState>(state: &mut S, register: Register) -> Result<(
 
 /// Pops the return address.
 pub(crate) fn pop_return_address<S: UnwindState>(state: &mut S) -> Result<u64, FrameFault>
-    ensures registers { frame_end result (registers_of (S.registers state.new) (S.xmm_registers state.new))
+    ensures registers { frame_end result
+        (registers_of (S.registers state.new) (S.xmm_registers state.new))
         ≡ pop_return (S.stack state.old)
         (registers_of (S.registers state.old) (S.xmm_registers state.old)) }
     ensures stack { S.stack state.new ≡ S.stack state.old }

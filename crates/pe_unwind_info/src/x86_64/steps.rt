@@ -54,7 +54,8 @@ impl UnwindInfoHeader {
         state: &mut S,
         op: &UnwindOperation,
     ) -> Option<ControlFlow<u64>>
-        ensures registers { IsResolved result (registers_of (S.registers state.new) (S.xmm_registers state.new))
+        ensures registers { IsResolved result
+            (registers_of (S.registers state.new) (S.xmm_registers state.new))
             (act self.now (S.stack state.old) op.now
             (registers_of (S.registers state.old) (S.xmm_registers state.old))) }
         ensures stack { S.stack state.new ≡ S.stack state.old }
@@ -87,7 +88,8 @@ impl<'a> UnwindInfo<'a> {
         state: &mut S,
         op: &UnwindOperation,
     ) -> Option<ControlFlow<u64>>
-        ensures registers { IsResolved result (registers_of (S.registers state.new) (S.xmm_registers state.new))
+        ensures registers { IsResolved result
+            (registers_of (S.registers state.new) (S.xmm_registers state.new))
             (act (info_of self.now).header (S.stack state.old) op.now
             (registers_of (S.registers state.old) (S.xmm_registers state.old))) }
         ensures stack { S.stack state.new ≡ S.stack state.old }
@@ -135,7 +137,8 @@ fn read_saved<S: UnwindState>(
     address: u64,
     register: Register,
 ) -> Result<(), FrameFault>
-    ensures registers { done result (registers_of (S.registers state.new) (S.xmm_registers state.new))
+    ensures registers { done result
+        (registers_of (S.registers state.new) (S.xmm_registers state.new))
         ≡ saved (S.stack state.old) address (register_number register)
         (registers_of (S.registers state.old) (S.xmm_registers state.old)) }
     ensures stack { S.stack state.new ≡ S.stack state.old }
@@ -151,7 +154,8 @@ fn read_saved_xmm<S: UnwindState>(
     address: u64,
     register: XmmRegister,
 ) -> Result<(), FrameFault>
-    ensures registers { done result (registers_of (S.registers state.new) (S.xmm_registers state.new))
+    ensures registers { done result
+        (registers_of (S.registers state.new) (S.xmm_registers state.new))
         ≡ saved_xmm (S.stack state.old) address (xmm_number register)
         (registers_of (S.registers state.old) (S.xmm_registers state.old)) }
     ensures stack { S.stack state.new ≡ S.stack state.old }
@@ -167,7 +171,8 @@ fn pop_machine_frame<S: UnwindState>(
     state: &mut S,
     address: u64,
 ) -> Result<ControlFlow<u64>, FrameFault>
-    ensures registers { flow_end result (registers_of (S.registers state.new) (S.xmm_registers state.new))
+    ensures registers { flow_end result
+        (registers_of (S.registers state.new) (S.xmm_registers state.new))
         ≡ machine_frame (S.stack state.old) address
         (registers_of (S.registers state.old) (S.xmm_registers state.old)) }
     ensures stack { S.stack state.new ≡ S.stack state.old }
@@ -184,7 +189,8 @@ fn apply<S: UnwindState>(
     state: &mut S,
     operation: &UnwindOperation,
 ) -> Result<ControlFlow<u64>, FrameFault>
-    ensures registers { flow_end result (registers_of (S.registers state.new) (S.xmm_registers state.new))
+    ensures registers { flow_end result
+        (registers_of (S.registers state.new) (S.xmm_registers state.new))
         ≡ act header.now (S.stack state.old) operation.now
         (registers_of (S.registers state.old) (S.xmm_registers state.old)) }
     ensures stack { S.stack state.new ≡ S.stack state.old }
@@ -228,7 +234,8 @@ pub(crate) fn apply_all<S: UnwindState>(
     state: &mut S,
     mut operations: UnwindOperations<'_>,
 ) -> Result<ControlFlow<u64>, FrameFault>
-    ensures registers { flow_end result (registers_of (S.registers state.new) (S.xmm_registers state.new))
+    ensures registers { flow_end result
+        (registers_of (S.registers state.new) (S.xmm_registers state.new))
         ≡ run header.now (S.stack state.old) (map (λ p. p.1) (operations_left operations.entry))
         (registers_of (S.registers state.old) (S.xmm_registers state.old)) }
     ensures stack { S.stack state.new ≡ S.stack state.old }
@@ -247,7 +254,8 @@ fn apply_instruction<S: UnwindState>(
     state: &mut S,
     instruction: FunctionEpilogInstruction,
 ) -> Result<(), FrameFault>
-    ensures registers { done result (registers_of (S.registers state.new) (S.xmm_registers state.new))
+    ensures registers { done result
+        (registers_of (S.registers state.new) (S.xmm_registers state.new))
         ≡ epilog_act frame (S.stack state.old) instruction
         (registers_of (S.registers state.old) (S.xmm_registers state.old)) }
     ensures stack { S.stack state.new ≡ S.stack state.old }
@@ -274,7 +282,8 @@ pub(crate) fn apply_instructions<S: UnwindState>(
     state: &mut S,
     instructions: &[FunctionEpilogInstruction],
 ) -> Result<(), FrameFault>
-    ensures registers { done result (registers_of (S.registers state.new) (S.xmm_registers state.new))
+    ensures registers { done result
+        (registers_of (S.registers state.new) (S.xmm_registers state.new))
         ≡ epilog_run frame (S.stack state.old) instructions.now
         (registers_of (S.registers state.old) (S.xmm_registers state.old)) }
     ensures stack { S.stack state.new ≡ S.stack state.old }

@@ -81,7 +81,10 @@ fn goes_on<'a, M: Machine, T: Trace<M>>(
       record { words = T.words trace.new; hidden = hidden.new },
       Ok (result, M.Context.columns context.now),
     ) ≡
-        by_trace {E = StepFault} start_of (tracing T.traces image.now) (record { words = T.words trace.old; hidden = hidden.old }) (record { value = frame.now; run = run }) (record { context = M.Context.columns context.now; signal = signal }) }
+        by_trace {E = StepFault} start_of (tracing T.traces image.now)
+        (record { words = T.words trace.old; hidden = hidden.old })
+        (record { value = frame.now; run = run })
+        (record { context = M.Context.columns context.now; signal = signal }) }
 {
     if let Some(start) = *hidden {
         if frame.initial_address() == start {
@@ -110,8 +113,13 @@ fn meet_frame<'a, M: Machine, T: Trace<M>>(
         turn_shown M.Context.columns
         (record { context = M.Context.columns context.now; signal = signal })
         (record { words = T.words trace.new; hidden = hidden.new }) result ≡
-        turn_asked (undoing (machine_of M.SP.0 M.RA.0) image.now) (record { value = frame.now; run = run }) (record { context = M.Context.columns context.now; signal = signal })
-        (by_trace start_of (tracing T.traces image.now) (record { words = T.words trace.old; hidden = hidden.old }) (record { value = frame.now; run = run }) (record { context = M.Context.columns context.now; signal = signal })) }
+        turn_asked (undoing (machine_of M.SP.0 M.RA.0) image.now)
+        (record { value = frame.now; run = run })
+        (record { context = M.Context.columns context.now; signal = signal })
+        (by_trace start_of (tracing T.traces image.now)
+        (record { words = T.words trace.old; hidden = hidden.old })
+        (record { value = frame.now; run = run })
+        (record { context = M.Context.columns context.now; signal = signal })) }
 {
     let code = goes_on(image, frame, trace, hidden, context, signal);
     if code != UnwindReasonCode::CONTINUE_UNWIND {
@@ -138,8 +146,10 @@ fn meet<M: Machine, F: FDEFinder, T: Trace<M>, L: Ledger>(
         (turn_shown M.Context.columns
         (record { context = M.Context.columns context.now; signal = signal })
         (record { words = T.words trace.new; hidden = hidden.new }) result ≡
-        turn_seen (undoing (machine_of M.SP.0 M.RA.0) image.now) (by_trace start_of (tracing T.traces image.now))
-        (record { words = T.words trace.old; hidden = hidden.old }) (record { context = M.Context.columns context.now; signal = signal }) seen) }
+        turn_seen (undoing (machine_of M.SP.0 M.RA.0) image.now)
+        (by_trace start_of (tracing T.traces image.now))
+        (record { words = T.words trace.old; hidden = hidden.old })
+        (record { context = M.Context.columns context.now; signal = signal }) seen) }
 {
     match frame_at::<M, F, L>(image, finder, context, signal, steps) {
         Err(fault) => Err(fault),

@@ -12,7 +12,7 @@ ghost use Rattle.unwinding_frames.specs.Columns.{with_value};
 ghost use Rattle.unwinding_frames.specs.Passes.{Line, IsLine, less_signal, by_force, unmarked, turn_asked, turn_seen};
 ghost use Rattle.unwinding_frames.specs.Passes.{asked};
 ghost use Rattle.unwinding_frames.specs.Seen.{FrameSeen, SeesFrame, in_column, past_in_column, undoing, stepping, answering};
-ghost use Rattle.unwinding_frames.specs.Languages.{given};
+ghost use Rattle.unwinding_frames.specs.LanguageViews.{given};
 ghost use Rattle.unwinding_core.specs.Stopping.{stopping};
 ghost use Rattle.unwinding_core.specs.Turns.{IsSeen, thrown, actions_in, answer_shown, asks_in, turn_shown, end_shown};
 
@@ -141,7 +141,9 @@ fn personality_answer<'a, M: Machine, P: Personality<M>>(
     signal: bool,
 ) -> Result<Answer<M::Context>, StepError>
     ensures { (run : RowInstructions) → given (answer_shown M.Context.columns) result ≡
-        asked (answering (P.answers personality.now) image.now (thrown call)) actions (record { value = frame.now; run = run }) (record { context = M.Context.columns context.now; signal = signal }) }
+        asked (answering (P.answers personality.now) image.now (thrown call)) actions
+        (record { value = frame.now; run = run })
+        (record { context = M.Context.columns context.now; signal = signal }) }
 {
     let mut left = *context;
     let Some(routine) = frame.personality(image)? else {
@@ -196,7 +198,10 @@ fn forced_answer<'a, M: Machine, P: Personality<M>, T: Stop<M>>(
 ) -> Result<Answer<M::Context>, StepError>
     ensures { (run : RowInstructions) →
         (T.words stop.new, given (answer_shown M.Context.columns) result) ≡
-        by_force (answering (P.answers personality.now) image.now (thrown call)) (stopping T.stops image.now (thrown call)) (T.words stop.old) (record { value = frame.now; run = run }) (record { context = M.Context.columns context.now; signal = signal }) }
+        by_force (answering (P.answers personality.now) image.now (thrown call))
+        (stopping T.stops image.now (thrown call)) (T.words stop.old)
+        (record { value = frame.now; run = run })
+        (record { context = M.Context.columns context.now; signal = signal }) }
 {
     let actions = Phase::Forced.actions(0);
     let stopped = stop_answer(image, Some(frame), stop, call, actions, context, signal);
@@ -230,7 +235,11 @@ fn frame_answer<'a, M: Machine, P: Personality<M>, T: Stop<M>>(
 ) -> Result<Answer<M::Context>, StepError>
     ensures { (run : RowInstructions) →
         (T.words stop.new, given (answer_shown M.Context.columns) result) ≡
-        asks_in call.phase (in_column M.SP.0) (answering (P.answers personality.now) image.now (thrown call)) (stopping T.stops image.now (thrown call)) (T.words stop.old) (record { value = frame.now; run = run }) (record { context = M.Context.columns context.now; signal = signal }) }
+        asks_in call.phase (in_column M.SP.0)
+        (answering (P.answers personality.now) image.now (thrown call))
+        (stopping T.stops image.now (thrown call)) (T.words stop.old)
+        (record { value = frame.now; run = run })
+        (record { context = M.Context.columns context.now; signal = signal }) }
 {
     if let Phase::Forced = call.phase {
         return forced_answer(image, frame, personality, stop, call, context, signal);
@@ -253,8 +262,14 @@ fn meet_frame<'a, M: Machine, P: Personality<M>, T: Stop<M>>(
         turn_shown M.Context.columns
         (record { context = M.Context.columns context.now; signal = signal })
         (T.words stop.new) result ≡
-        turn_asked (undoing (machine_of M.SP.0 M.RA.0) image.now) (record { value = frame.now; run = run }) (record { context = M.Context.columns context.now; signal = signal })
-        (asks_in call.phase (in_column M.SP.0) (answering (P.answers personality.now) image.now (thrown call)) (stopping T.stops image.now (thrown call)) (T.words stop.old) (record { value = frame.now; run = run }) (record { context = M.Context.columns context.now; signal = signal })) }
+        turn_asked (undoing (machine_of M.SP.0 M.RA.0) image.now)
+        (record { value = frame.now; run = run })
+        (record { context = M.Context.columns context.now; signal = signal })
+        (asks_in call.phase (in_column M.SP.0)
+        (answering (P.answers personality.now) image.now (thrown call))
+        (stopping T.stops image.now (thrown call)) (T.words stop.old)
+        (record { value = frame.now; run = run })
+        (record { context = M.Context.columns context.now; signal = signal })) }
 {
     let answer = frame_answer(image, frame, personality, stop, call, context, signal)?;
     if answer.code != UnwindReasonCode::CONTINUE_UNWIND {
@@ -283,8 +298,12 @@ fn meet<M: Machine, F: FDEFinder, P: Personality<M>, T: Stop<M>, L: Ledger>(
         (turn_shown M.Context.columns
         (record { context = M.Context.columns context.now; signal = signal })
         (T.words stop.new) result ≡
-        turn_seen (undoing (machine_of M.SP.0 M.RA.0) image.now) (asks_in call.phase (in_column M.SP.0) (answering (P.answers personality.now) image.now (thrown call)) (stopping T.stops image.now (thrown call)))
-        (T.words stop.old) (record { context = M.Context.columns context.now; signal = signal }) seen) }
+        turn_seen (undoing (machine_of M.SP.0 M.RA.0) image.now)
+        (asks_in call.phase (in_column M.SP.0)
+        (answering (P.answers personality.now) image.now (thrown call))
+        (stopping T.stops image.now (thrown call)))
+        (T.words stop.old) (record { context = M.Context.columns context.now; signal = signal })
+        seen) }
 {
     match frame_at::<M, F, L>(image, finder, context, signal, steps) {
         Err(fault) => Err(fault),
@@ -305,7 +324,10 @@ pub(crate) fn pass<M: Machine, F: FDEFinder, P: Personality<M>, T: Stop<M>, L: L
     steps: &mut Steps<L>,
 ) -> LineEnd<M::Context>
     ensures { (line : Line Columns StepFault (List ℕ)) ×
-        IsLine (stepping (machine_of M.SP.0 M.RA.0) (F.finds finder.now) image.now) (asks_in call.phase (in_column M.SP.0) (answering (P.answers personality.now) image.now (thrown call)) (stopping T.stops image.now (thrown call)))
+        IsLine (stepping (machine_of M.SP.0 M.RA.0) (F.finds finder.now) image.now)
+        (asks_in call.phase (in_column M.SP.0)
+        (answering (P.answers personality.now) image.now (thrown call))
+        (stopping T.stops image.now (thrown call)))
         limit (T.words stop.old) (unmarked (M.Context.columns start.now)) line ×
         (end_shown M.Context.columns result ≡ line.end) × (T.words stop.new ≡ line.state) }
 {

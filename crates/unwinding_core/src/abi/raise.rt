@@ -217,7 +217,8 @@ fn last_stop<M: Machine, T: Stop<M>>(
     signal: bool,
 ) -> Unwound<M>
     ensures { (unwound_shown M.Context.columns result, T.words stop.new) ≡
-        forced_end (stopping T.stops image.now (thrown call)) (T.words stop.old) (RanOut (record { context = M.Context.columns context.now; signal = signal })) }
+        forced_end (stopping T.stops image.now (thrown call)) (T.words stop.old)
+        (RanOut (record { context = M.Context.columns context.now; signal = signal })) }
 {
     let actions = UnwindAction::FORCE_UNWIND
         | UnwindAction::CLEANUP_PHASE
@@ -291,7 +292,8 @@ pub fn _Unwind_Resume<M: Machine, F: FDEFinder, P: Personality<M>, T: Stop<M>, L
     ensures resumed { IsResumed (stepping (machine_of M.SP.0 M.RA.0) (F.finds finder.now) image.now)
         (answering (P.answers personality.now) image.now (thrown_by exception.old))
         (stopping T.stops image.now (thrown_by exception.old)) limit (M.Context.columns context.now)
-        exception.old.kept (T.words stop.old) (unwound_shown M.Context.columns result) (T.words stop.new) }
+        exception.old.kept (T.words stop.old) (unwound_shown M.Context.columns result)
+        (T.words stop.new) }
     ensures same { exception.new ≡ exception.old }
 {
     match exception.kept {
@@ -344,7 +346,8 @@ pub fn _Unwind_Resume_or_Rethrow<
         (F.finds finder.now) image.now)
         (answering (P.answers personality.now) image.now (thrown_by exception.old))
         (stopping T.stops image.now (thrown_by exception.old)) limit (M.Context.columns context.now)
-        exception.old.kept (T.words stop.old) (unwound_shown M.Context.columns result) exception.new.kept (T.words stop.new) }
+        exception.old.kept (T.words stop.old) (unwound_shown M.Context.columns result)
+        exception.new.kept (T.words stop.new) }
     ensures same { thrown_by exception.new ≡ thrown_by exception.old }
 {
     match exception.kept {

@@ -36,7 +36,8 @@ pub trait Stop<M: Machine> {
         unwind_ctx: &mut UnwindContext<'_, '_, M>,
     ) -> UnwindReasonCode
         ensures answer { (result, M.Context.columns unwind_ctx.new.ctx.now, words self.new) ≡
-            stops (words self.old) (record { version = version; actions = actions; class = exception_class })
+            stops (words self.old) (record
+            { version = version; actions = actions; class = exception_class })
             unwind_ctx.old.image.now (option_map (λ f. f.now) unwind_ctx.old.frame)
             (M.Context.columns unwind_ctx.old.ctx.now) unwind_ctx.old.signal }
         ensures image { unwind_ctx.new.image ≡ unwind_ctx.old.image }

@@ -1,7 +1,7 @@
 use Rattle.std.proofs.Common.{inl, ◌≡◌, Some, refl, arith}
 use Rattle.memory_image.specs.Image.{word_at}
 use Rattle.unwind_definitions.specs.State.{CalleeSaved, RBX, RBP, R12, R13, R14, R15, column_of, value_of}
-use Rattle.unwind_arch.specs.Contexts.{columns_of}
+use Rattle.unwind_arch.specs.ContextViews.{columns_of}
 use Rattle.backtrace.specs.Sample.{callee, caller, snapshot}
 use Rattle.backtrace.proofs.sample.null_call_is_entered.Goals as goal
 

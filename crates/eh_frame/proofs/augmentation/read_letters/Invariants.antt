@@ -1,7 +1,7 @@
 use Rattle.std.proofs.Common.{◌≡◌, take, drop}
 use Rattle.unwind_definitions.specs.Entries.{letters_from, no_letters}
-use Rattle.encoded_pointers.specs.Pointers.{bases_of}
-use Rattle.encoded_pointers.specs.View.{at}
+use Rattle.encoded_pointers.specs.PointerViews.{bases_of}
+use Rattle.encoded_pointers.specs.CursorViews.{at}
 use Rattle.eh_frame.specs.Letters.{Tells, letters_of}
 use Rattle.eh_frame.proofs.augmentation.read_letters.Given as goal
 

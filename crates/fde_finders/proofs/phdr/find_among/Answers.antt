@@ -1,4 +1,4 @@
-use Rattle.fde_finders.specs.Answered.{answered}
+use Rattle.fde_finders.specs.FoundViews.{answered}
 use Rattle.fde_finders.specs.ProgramHeaders.{FindsInObject}
 use Rattle.fde_finders.proofs.InTurn.{passed, found, ended}
 use Rattle.fde_finders.proofs.phdr.find_among.Goals as goal

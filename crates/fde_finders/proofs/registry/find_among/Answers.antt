@@ -1,5 +1,5 @@
 use Rattle.std.proofs.Common.{◌≡◌, ℕ, ◌<◌, length, arith, refl, subst, Some}
-use Rattle.fde_finders.specs.Answered.{answered}
+use Rattle.fde_finders.specs.FoundViews.{answered}
 use Rattle.fde_finders.specs.InTurn.{FindsAmong}
 use Rattle.fde_finders.specs.Registered.{FindsRegistered}
 use Rattle.fde_finders.proofs.InTurn.{found}

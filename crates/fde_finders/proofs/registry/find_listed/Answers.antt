@@ -1,6 +1,6 @@
 use Rattle.std.proofs.Common.{ℕ, ◌+◌, ◌^◌, ◌<◌, ◌≤◌, sym, subst, arith}
-use Rattle.encoded_pointers.specs.Pointers.{bases_of}
-use Rattle.fde_finders.specs.Answered.{answered}
+use Rattle.encoded_pointers.specs.PointerViews.{bases_of}
+use Rattle.fde_finders.specs.FoundViews.{answered}
 use Rattle.fde_finders.proofs.Listed.{IsPast, begun, passed, found, ends_behind}
 use Rattle.fde_finders.proofs.registry.find_listed.Goals as goal
 

@@ -1,5 +1,5 @@
 use Rattle.std.proofs.Common.{◌-◌, ◌^◌, ◌<◌}
-use Rattle.encoded_pointers.specs.Pointers.{bases_of}
+use Rattle.encoded_pointers.specs.PointerViews.{bases_of}
 use Rattle.fde_finders.proofs.Listed.{IsPast}
 use Rattle.fde_finders.proofs.registry.find_listed.Given as goal
 

@@ -1,6 +1,6 @@
 use Rattle.std.proofs.Common.{◌≡◌, drop}
 use Rattle.std.specs.List.{filter_map}
-use Rattle.unwind_arch.specs.Contexts.{columns_of}
+use Rattle.unwind_arch.specs.ContextViews.{columns_of}
 use Rattle.format_definitions.specs.CompactStep.{saved_in, read_down}
 use Rattle.format_frames.proofs.compact.read_down.Given as goal
 

@@ -1,5 +1,5 @@
 use Rattle.std.proofs.Common.{◌≡◌, drop, map}
-use Rattle.unwind_arch.specs.Contexts.{columns_of}
+use Rattle.unwind_arch.specs.ContextViews.{columns_of}
 use Rattle.format_definitions.specs.CompactStep.{saved_in, read_up}
 use Rattle.format_frames.proofs.compact.read_up.Given as goal
 

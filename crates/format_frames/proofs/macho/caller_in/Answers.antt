@@ -1,6 +1,6 @@
 use Rattle.std.proofs.Common.{Err, refl}
 use Rattle.std.proofs.lemmas.Result.{err_from_is_err_and}
-use Rattle.unwind_arch.specs.Contexts.{columns_of}
+use Rattle.unwind_arch.specs.ContextViews.{columns_of}
 use Rattle.format_frames.specs.Modules.{macho_module}
 use Rattle.format_frames.proofs.MachoSteps.{opcode_due}
 use Rattle.format_frames.proofs.macho.caller_in.Goals as goal

@@ -1,8 +1,8 @@
 use Rattle.std.proofs.Common.{◌≡◌, Ok, Err, refl, sym, ap, ◌∙◌, arith}
 use Rattle.std.proofs.lemmas.Result.{err_from_is_err_and}
-use Rattle.encoded_pointers.specs.View.{at}
+use Rattle.encoded_pointers.specs.CursorViews.{at}
 use Rattle.unwind_definitions.specs.Expressions.{done, evaluation, top_or_fault, top_of}
-use Rattle.frame_expressions.specs.Decoded.{meaning}
+use Rattle.frame_expressions.specs.OperationViews.{meaning}
 use Rattle.frame_expressions.specs.Answers.{GoesOn}
 use Rattle.frame_expressions.proofs.Within.{IsPlace, operation_within}
 use Rattle.frame_expressions.proofs.Turns.{first_place, branched_place, end_answer, too_many, not_read, not_done, is_done}

@@ -1,6 +1,6 @@
 use Rattle.std.proofs.Common.{◌≡◌, length}
 use Rattle.unwind_definitions.specs.Expressions.{answer_from, evaluation}
-use Rattle.encoded_pointers.specs.View.{at}
+use Rattle.encoded_pointers.specs.CursorViews.{at}
 use Rattle.frame_expressions.specs.Answers.{stack_of}
 use Rattle.frame_expressions.proofs.Within.{IsPlace}
 use Rattle.frame_expressions.proofs.evaluation.run.Given as goal

@@ -4,8 +4,8 @@ use Rattle.unwind_definitions.specs.Input.{Input}
 use Rattle.unwind_definitions.specs.Instructions.{Coding, program, program_from}
 use Rattle.unwind_definitions.specs.Row.{RowInstructions, location}
 use Rattle.std.specs.Prelude.{Option}
-use Rattle.encoded_pointers.specs.View.{at}
-use Rattle.frame_rows.specs.Decoded.{coding_in, meaning}
+use Rattle.encoded_pointers.specs.CursorViews.{at}
+use Rattle.frame_rows.specs.InstructionViews.{coding_in, meaning}
 use Rattle.frame_rows.specs.Running.{stops, push, outcome}
 use Rattle.frame_rows.proofs.Reading.{at_end, at_empty, at_fault, at_stop, at_bad, at_next}
 use Rattle.frame_rows.proofs.program.run_program.Goals as goal

@@ -1,8 +1,8 @@
 use Rattle.std.proofs.lemmas.Result.{err_from_is_err_and}
 use Rattle.unwind_definitions.specs.Instructions.{Program, Coding, program}
 use Rattle.unwind_definitions.specs.Row.{from_common}
-use Rattle.encoded_pointers.specs.View.{at}
-use Rattle.frame_rows.specs.Decoded.{coding_in}
+use Rattle.encoded_pointers.specs.CursorViews.{at}
+use Rattle.frame_rows.specs.InstructionViews.{coding_in}
 use Rattle.frame_rows.proofs.Together.{common_stops, ran_both}
 use Rattle.frame_rows.proofs.program.run_programs.Goals as goal
 

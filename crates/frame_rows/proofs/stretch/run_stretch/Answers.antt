@@ -2,7 +2,7 @@ use Rattle.std.proofs.Common.{◌<◌, [], ◌∷◌, sym, ap, subst, ◌∙◌,
 use Rattle.std.proofs.lemmas.Result.{err_from_is_err_and}
 use Rattle.unwind_definitions.specs.Instructions.{Coding}
 use Rattle.unwind_definitions.specs.Row.{location}
-use Rattle.frame_rows.specs.Decoded.{coding_in, meaning}
+use Rattle.frame_rows.specs.InstructionViews.{coding_in, meaning}
 use Rattle.frame_rows.specs.Running.{push}
 use Rattle.frame_rows.specs.Stretches.{left_of, IsStill}
 use Rattle.frame_rows.proofs.StretchSteps.{further, cannot, leads_further, ends, unreadable}

@@ -1,6 +1,6 @@
 use Rattle.std.proofs.Common.{ℕ, ◌≤◌}
 use Rattle.unwind_definitions.specs.Row.{RowInstructions}
-use Rattle.frame_rows.specs.Decoded.{coding_in}
+use Rattle.frame_rows.specs.InstructionViews.{coding_in}
 use Rattle.frame_rows.specs.Running.{Represents}
 use Rattle.frame_rows.specs.Stretches.{left_of}
 use Rattle.frame_rows.proofs.StretchSteps.{IsUnderway}

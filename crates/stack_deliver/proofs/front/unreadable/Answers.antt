@@ -1,7 +1,7 @@
 use Rattle.std.proofs.Common.{◌≡◌, ◌-◌, ◌+◌, suc, refl, sym, ◌∙◌, arith}
 use Rattle.std.specs.Option.{option_map}
 use Rattle.eh_frame.specs.Listing.{listing_of, upcoming, entry_in}
-use Rattle.eh_frame.specs.Views.{entry_of}
+use Rattle.eh_frame.specs.EntryViews.{entry_of}
 use Rattle.stack_deliver.proofs.Unread.{answered_err, answered_ok, fails_first, never_spent, listing_fails, listing_goes}
 use Rattle.stack_deliver.proofs.front.unreadable.Goals as goal
 

@@ -1,7 +1,7 @@
 use Rattle.std.proofs.Common.{◌≡◌, ◌+◌, ◌-◌, ◌++◌, ◌∷◌, [], length, suc, sym, ap, refl, ◌∙◌, arith}
 use Rattle.std.proofs.lemmas.Result.{err_from_is_err_and}
 use Rattle.stack_deliver.specs.Passes.{line_for}
-use Rattle.stack_deliver.specs.Passing.{visits}
+use Rattle.stack_deliver.specs.PassViews.{visits}
 use Rattle.stack_deliver.proofs.PassLines.{no_contexts, start_visited, more_visited, unvisited, visited_count, visited_keeps, line_faults, line_ends, line_stops, line_goes}
 use Rattle.stack_deliver.specs.Fronts.{reached_by, turned_from}
 use Rattle.stack_deliver.proofs.Reaching.{none_met, reached_here, reached_next, reached_limit, turned_faults, turned_ends, turned_stops, turned_goes, stands}

@@ -4,7 +4,7 @@ use Rattle.stack_deliver.specs.Passes.{line_for}
 use Rattle.stack_deliver.specs.Ticking.{RisesWithin}
 use Rattle.stack_deliver.specs.Fronts.{reached_by, turned_from}
 use Rattle.stack_deliver.proofs.Reaching.{met_before}
-use Rattle.stack_deliver.specs.Passing.{with_contexts, visits, AreVisited}
+use Rattle.stack_deliver.specs.PassViews.{with_contexts, visits, AreVisited}
 use Rattle.stack_deliver.proofs.passes.outwards.Given as goal
 
 abbrev pub invariant-loop : goal.invariant-loop

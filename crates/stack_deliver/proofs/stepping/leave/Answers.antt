@@ -1,5 +1,5 @@
 use Rattle.std.proofs.Common.{arith}
-use Rattle.stack_deliver.specs.Passing.{seen}
+use Rattle.stack_deliver.specs.PassViews.{seen}
 use Rattle.stack_deliver.proofs.StepParts.{caller_left}
 use Rattle.stack_deliver.proofs.stepping.leave.Goals as goal
 

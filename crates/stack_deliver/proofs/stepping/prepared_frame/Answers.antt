@@ -2,12 +2,12 @@ use Rattle.std.proofs.Common.{◌≡◌, sym, ap, subst, ◌∙◌, Result, Ok, 
 use Rattle.std.specs.Result.{result_map_both}
 use Rattle.unwind_definitions.specs.declared.error.Error.{Error as Fault}
 use Rattle.unwind_definitions.specs.Row.{row_at}
-use Rattle.encoded_pointers.specs.Pointers.{bases_of}
+use Rattle.encoded_pointers.specs.PointerViews.{bases_of}
 use Rattle.frame_rows.specs.Rows.{GivesRow}
 use Rattle.frame_rows.specs.RowValue.{RowValue}
 use Rattle.eh_frame.specs.Index.{shown_answer}
-use Rattle.eh_frame.specs.Views.{table_of}
-use Rattle.stack_deliver.specs.Passing.{IsKeptRow}
+use Rattle.eh_frame.specs.EntryViews.{table_of}
+use Rattle.stack_deliver.specs.PassViews.{IsKeptRow}
 use Rattle.stack_deliver.proofs.IndexFinds.{none_shown, seen_by, shown_row, shown_fault}
 use Rattle.stack_deliver.proofs.stepping.prepared_frame.Goals as goal
 

@@ -1,5 +1,5 @@
 use Rattle.std.proofs.Common.{refl}
-use Rattle.fde_finders.specs.Answered.{answered}
+use Rattle.fde_finders.specs.FoundViews.{answered}
 use Rattle.fde_finders.specs.Named.{found_by}
 use Rattle.stack_deliver.proofs.StepParts.{frame_found}
 use Rattle.stack_deliver.proofs.stepping.searched_frame.Goals as goal

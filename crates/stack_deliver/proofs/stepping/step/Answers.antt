@@ -1,7 +1,7 @@
 use Rattle.std.proofs.Common.{◌≡◌, true, false, sym, subst, ◌∙◌, Result, Option}
-use Rattle.stack_deliver.specs.declared.delivery.DeliverError.{DeliverError}
-use Rattle.stack_deliver.specs.declared.delivery.Stepped.{Stepped}
-use Rattle.unwind_arch.specs.Contexts.{columns_of}
+use Rattle.stack_deliver.specs.declared.answers.DeliverError.{DeliverError}
+use Rattle.stack_deliver.specs.declared.answers.Stepped.{Stepped}
+use Rattle.unwind_arch.specs.ContextViews.{columns_of}
 use Rattle.stack_deliver.specs.Walking.{Undone}
 use Rattle.stack_deliver.specs.Stepping.{step_of}
 use Rattle.stack_deliver.proofs.Counted.{index_is_searched, scan_is_free, ticks_rise}

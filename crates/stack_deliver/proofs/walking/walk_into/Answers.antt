@@ -1,7 +1,7 @@
 use Rattle.std.proofs.Common.{List, ◌∷◌, true, false, subst}
 use Rattle.unwind_arch.specs.declared.x86_64.Context.{Context}
-use Rattle.stack_deliver.specs.declared.delivery.DeliverError.TheVariants.{NoMemory, FrameLimit, Unmapped}
-use Rattle.stack_deliver.specs.Delivering.{line_of}
+use Rattle.stack_deliver.specs.declared.answers.DeliverError.TheVariants.{NoMemory, FrameLimit, Unmapped}
+use Rattle.stack_deliver.specs.StackDelivery.{line_of}
 use Rattle.stack_deliver.specs.Walking.{IsWalked, ShowChain}
 use Rattle.stack_deliver.proofs.LineAnswers.{line_limit, limit_line, line_fault, fault_line, line_unmapped, line_memory}
 use Rattle.stack_deliver.proofs.Results.{walked_fault, fault_walked, states_walked}

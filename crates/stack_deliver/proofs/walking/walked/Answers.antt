@@ -1,6 +1,6 @@
 use Rattle.std.proofs.Common.{None}
 use Rattle.stack_deliver.specs.Passes.{line_for}
-use Rattle.stack_deliver.specs.Delivering.{line_of}
+use Rattle.stack_deliver.specs.StackDelivery.{line_of}
 use Rattle.stack_deliver.proofs.PassLines.{walk_line, walked_by}
 use Rattle.stack_deliver.proofs.walking.walked.Goals as goal
 

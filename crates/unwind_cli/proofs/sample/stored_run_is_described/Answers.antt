@@ -3,7 +3,7 @@ use Rattle.std.specs.Fmt.{digits}
 use Rattle.unwind_definitions.specs.State.{CalleeSaved, RBX, RBP, R12, R13, R14, R15, column_of, value_of, Shows}
 use Rattle.unwind_laws.specs.Pushing.{start}
 use Rattle.unwind_laws.proofs.PushingValid.{one_valid}
-use Rattle.unwind_arch.specs.Contexts.{columns_of}
+use Rattle.unwind_arch.specs.ContextViews.{columns_of}
 use Rattle.stack_report.specs.Digits.{hexadecimal}
 use Rattle.unwind_cli.specs.Sample.{snapshot}
 use Rattle.stack_report.specs.Report.{state_fields, state_line}

@@ -1,5 +1,5 @@
 use Rattle.std.proofs.Common.{◌∙◌, ap}
-use Rattle.stack_deliver.specs.Delivering.{line_of, delivery_of}
+use Rattle.stack_deliver.specs.StackDelivery.{line_of, stack_delivery}
 use Rattle.stack_deliver.specs.Modules.{SpaceValue}
 use Rattle.stack_deliver.specs.Preparing.{with_indexes}
 use Rattle.stack_deliver.proofs.SameAnswers.{delivery_same, line_same}
@@ -9,7 +9,7 @@ pub returns-clause-delivery : goal.returns-clause-delivery
 returns-clause-delivery c = λ start exception resumes limit.
     let old = c.in_ok-space.space in
     let changed = c.in_ok-prepare.ensures.prepares in
-    let delivered = λ (s : SpaceValue). delivery_of s start exception resumes limit in
+    let delivered = λ (s : SpaceValue). stack_delivery s start exception resumes limit in
     ap delivered changed.is ∙ delivery_same old (with_indexes old.added changed.made) start exception resumes limit ∙ ap delivered c.in_ok-space.ensures
 
 pub returns-clause-walk : goal.returns-clause-walk

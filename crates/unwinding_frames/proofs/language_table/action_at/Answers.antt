@@ -1,10 +1,10 @@
 use Rattle.std.proofs.Common.{sym, ◌∙◌}
 use Rattle.std.proofs.lemmas.Result.{err_from_is_err_and}
 use Rattle.unwind_definitions.specs.LanguageTable.{input_at}
-use Rattle.encoded_pointers.specs.Pointers.{bases_of}
-use Rattle.encoded_pointers.specs.View.{at}
+use Rattle.encoded_pointers.specs.PointerViews.{bases_of}
+use Rattle.encoded_pointers.specs.CursorViews.{at}
 use Rattle.unwinding_frames.specs.Calling.{fault_of}
-use Rattle.unwinding_frames.specs.Languages.{head_of}
+use Rattle.unwinding_frames.specs.LanguageViews.{head_of}
 use Rattle.unwinding_frames.proofs.Sites.{head_fault, head_read}
 use Rattle.unwinding_frames.proofs.language_table.action_at.Goals as goal
 

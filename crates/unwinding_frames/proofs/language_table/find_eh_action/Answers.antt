@@ -2,7 +2,7 @@ use Rattle.std.proofs.Common.{◌≡◌, sym, ap, ◌∙◌}
 use Rattle.std.specs.Option.{unwrap_or}
 use Rattle.unwind_definitions.specs.LanguageSearch.{address_of_call, language_action}
 use Rattle.fde_finders.specs.Finding.{FoundFde}
-use Rattle.unwinding_frames.specs.Languages.{action_of, given}
+use Rattle.unwinding_frames.specs.LanguageViews.{action_of, given}
 use Rattle.unwinding_frames.proofs.First.{result_asks}
 use Rattle.unwinding_frames.proofs.language_table.find_eh_action.Goals as goal
 

@@ -1,8 +1,8 @@
 use Rattle.std.proofs.Common.{refl, sym, ◌∙◌}
 use Rattle.std.proofs.lemmas.Result.{err_from_is_err_and}
 use Rattle.unwind_definitions.specs.Pointers.{Bases}
-use Rattle.encoded_pointers.specs.Pointers.{bases_of}
-use Rattle.encoded_pointers.specs.View.{at}
+use Rattle.encoded_pointers.specs.PointerViews.{bases_of}
+use Rattle.encoded_pointers.specs.CursorViews.{at}
 use Rattle.eh_frame.specs.Letters.{letters_of}
 use Rattle.eh_frame.proofs.CieParts.{cie_behind, cie_whole}
 use Rattle.eh_frame.proofs.cie.Cie.read.Goals as goal

@@ -1,11 +1,11 @@
 use Rattle.unwind_definitions.specs.Pointers.{Bases}
-use Rattle.encoded_pointers.specs.Pointers.{bases_of}
+use Rattle.encoded_pointers.specs.PointerViews.{bases_of}
 use Rattle.std.proofs.Common.{sym, subst, Result}
 use Rattle.unwind_definitions.specs.declared.error.Error.{Error as Fault}
 use Rattle.unwind_definitions.specs.Entries.{Cie}
 use Rattle.encoded_pointers.specs.Readers.{Answers}
-use Rattle.encoded_pointers.specs.View.{at}
-use Rattle.eh_frame.specs.Views.{cie_of, table_of}
+use Rattle.encoded_pointers.specs.CursorViews.{at}
+use Rattle.eh_frame.specs.EntryViews.{cie_of, table_of}
 use Rattle.eh_frame.proofs.EntryParts.{cie_is}
 use Rattle.eh_frame.proofs.entries.EhFrame.cie_at.Goals as goal
 

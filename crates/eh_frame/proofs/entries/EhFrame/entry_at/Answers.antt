@@ -1,8 +1,8 @@
 use Rattle.unwind_definitions.specs.Pointers.{Bases}
-use Rattle.encoded_pointers.specs.Pointers.{bases_of}
+use Rattle.encoded_pointers.specs.PointerViews.{bases_of}
 use Rattle.std.proofs.lemmas.Result.{err_from_is_err_and}
-use Rattle.encoded_pointers.specs.View.{at}
-use Rattle.eh_frame.specs.Views.{entry_of, table_of}
+use Rattle.encoded_pointers.specs.CursorViews.{at}
+use Rattle.eh_frame.specs.EntryViews.{entry_of, table_of}
 use Rattle.eh_frame.proofs.EntryParts.{no_entry, whole_entry}
 use Rattle.eh_frame.proofs.entries.EhFrame.entry_at.Goals as goal
 

@@ -1,9 +1,9 @@
 use Rattle.unwind_definitions.specs.Pointers.{Bases}
-use Rattle.encoded_pointers.specs.Pointers.{bases_of}
+use Rattle.encoded_pointers.specs.PointerViews.{bases_of}
 use Rattle.std.proofs.Common.{arith}
 use Rattle.std.proofs.lemmas.Result.{err_from_is_err_and}
-use Rattle.encoded_pointers.specs.View.{at}
-use Rattle.eh_frame.specs.Views.{cie_of, fde_of, table_of}
+use Rattle.encoded_pointers.specs.CursorViews.{at}
+use Rattle.eh_frame.specs.EntryViews.{cie_of, fde_of, table_of}
 use Rattle.eh_frame.proofs.EntryParts.{no_cie, no_fde, whole_fde}
 use Rattle.eh_frame.proofs.entries.EhFrame.entry_in.Goals as goal
 

@@ -1,6 +1,6 @@
 use Rattle.std.proofs.Common.{refl}
-use Rattle.encoded_pointers.specs.Pointers.{bases_of}
-use Rattle.eh_frame.specs.Views.{table_of}
+use Rattle.encoded_pointers.specs.PointerViews.{bases_of}
+use Rattle.eh_frame.specs.EntryViews.{table_of}
 use Rattle.eh_frame.proofs.Answered.{answered_first, answered_contains, answered_fault, answered_none, answers_none}
 use Rattle.eh_frame.proofs.entries.EhFrame.fde_for_address.Goals as goal
 

@@ -1,7 +1,7 @@
 use Rattle.std.proofs.Common.{◌≡◌, ◌<◌, ◌≤◌, Some, None, length, refl, arith}
 use Rattle.unwind_definitions.specs.Pointers.{Bases}
-use Rattle.encoded_pointers.specs.Pointers.{bases_of}
-use Rattle.eh_frame.specs.Views.{found_of, table_of}
+use Rattle.encoded_pointers.specs.PointerViews.{bases_of}
+use Rattle.eh_frame.specs.EntryViews.{found_of, table_of}
 use Rattle.eh_frame.proofs.Collecting.{all_read, none_read, one_read, one_unread, read_further}
 use Rattle.eh_frame.proofs.entries.EhFrame.nonempty_fdes.Goals as goal
 

@@ -1,6 +1,6 @@
 use Rattle.std.proofs.Common.{◌-◌, length}
-use Rattle.encoded_pointers.specs.Pointers.{bases_of}
-use Rattle.eh_frame.specs.Views.{table_of}
+use Rattle.encoded_pointers.specs.PointerViews.{bases_of}
+use Rattle.eh_frame.specs.EntryViews.{table_of}
 use Rattle.eh_frame.proofs.Collecting.{IsReadTo}
 use Rattle.eh_frame.proofs.entries.EhFrame.nonempty_fdes.Given as goal
 

@@ -1,10 +1,10 @@
-use Rattle.encoded_pointers.specs.Pointers.{bases_of}
+use Rattle.encoded_pointers.specs.PointerViews.{bases_of}
 use Rattle.std.proofs.Common.{◌≡◌, suc, ◌-◌, length, arith, refl, sym, subst, ◌∙◌}
 use Rattle.std.proofs.lemmas.Result.{err_from_is_err_and}
 use Rattle.unwind_definitions.specs.Pointers.{Bases}
 use Rattle.unwind_definitions.specs.Scan.{scan}
 use Rattle.eh_frame.specs.Shared.{StandsIn}
-use Rattle.eh_frame.specs.Views.{found_of, table_of}
+use Rattle.eh_frame.specs.EntryViews.{found_of, table_of}
 use Rattle.eh_frame.proofs.Ahead.{next_within}
 use Rattle.eh_frame.proofs.Sharing.{shared_stands}
 use Rattle.eh_frame.proofs.Scanning.{scan_fault, scan_end, scan_next}

@@ -1,9 +1,9 @@
 use Rattle.std.proofs.Common.{◌≡◌, ◌-◌, ◌+◌, ◌<◌, ◌≤◌, ℕ, length}
-use Rattle.encoded_pointers.specs.Pointers.{bases_of}
+use Rattle.encoded_pointers.specs.PointerViews.{bases_of}
 use Rattle.unwind_definitions.specs.Scan.{scan, scan_from}
 use Rattle.std.specs.Prelude.{IfSome}
 use Rattle.eh_frame.specs.Shared.{StandsIn}
-use Rattle.eh_frame.specs.Views.{cie_of, table_of}
+use Rattle.eh_frame.specs.EntryViews.{cie_of, table_of}
 use Rattle.eh_frame.proofs.entries.EhFrame.scan.Given as goal
 
 -- with turns enough, what is left gives what the whole table gives

@@ -2,10 +2,10 @@ use Rattle.std.proofs.Common.{◌≡◌, true, sym, ◌∙◌}
 use Rattle.unwind_definitions.specs.Pointers.{Bases}
 use Rattle.unwind_definitions.specs.Entries.{Fde}
 use Rattle.unwind_definitions.specs.Row.{covers_pc}
-use Rattle.encoded_pointers.specs.View.{at}
-use Rattle.encoded_pointers.specs.Pointers.{bases_of}
-use Rattle.eh_frame.specs.Views.{fde_of}
-use Rattle.frame_rows.specs.Decoded.{coding_in}
+use Rattle.encoded_pointers.specs.CursorViews.{at}
+use Rattle.encoded_pointers.specs.PointerViews.{bases_of}
+use Rattle.eh_frame.specs.EntryViews.{fde_of}
+use Rattle.frame_rows.specs.InstructionViews.{coding_in}
 use Rattle.frame_rows.specs.Rows.{made}
 use Rattle.eh_frame.proofs.Described.{of_description}
 use Rattle.eh_frame.proofs.fde.Fde.make_row.Goals as goal

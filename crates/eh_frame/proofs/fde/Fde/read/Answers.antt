@@ -1,10 +1,10 @@
 use Rattle.unwind_definitions.specs.Pointers.{Bases}
-use Rattle.encoded_pointers.specs.Pointers.{bases_of}
+use Rattle.encoded_pointers.specs.PointerViews.{bases_of}
 use Rattle.std.proofs.Common.{sym, arith}
 use Rattle.std.proofs.lemmas.Result.{err_from_is_err_and}
 use Rattle.eh_frame.proofs.FdeParts.{no_start, no_len, overflows, no_data, whole_fde}
-use Rattle.encoded_pointers.specs.View.{at}
-use Rattle.eh_frame.specs.Views.{cie_of}
+use Rattle.encoded_pointers.specs.CursorViews.{at}
+use Rattle.eh_frame.specs.EntryViews.{cie_of}
 use Rattle.eh_frame.proofs.fde.Fde.read.Goals as goal
 
 pub returns-in_err-initial_address : goal.returns-in_err-initial_address

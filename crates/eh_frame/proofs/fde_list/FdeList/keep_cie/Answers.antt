@@ -1,5 +1,5 @@
 use Rattle.std.proofs.Common.{sym, ◌∙◌}
-use Rattle.eh_frame.specs.Views.{cie_of}
+use Rattle.eh_frame.specs.EntryViews.{cie_of}
 use Rattle.eh_frame.proofs.ListingFdes.{found_known}
 use Rattle.eh_frame.proofs.fde_list.FdeList.keep_cie.Goals as goal
 

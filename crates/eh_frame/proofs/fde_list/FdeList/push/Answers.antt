@@ -1,7 +1,7 @@
 use Rattle.std.proofs.Common.{List, ◌≡◌, ◌<◌, ◌++◌, ◌∷◌, [], ap, subst, ◌∙◌, arith}
 use Rattle.unwind_definitions.specs.Entries.{Cie, Fde}
 use Rattle.eh_frame.specs.FdeLists.{KeepsCie}
-use Rattle.eh_frame.specs.Views.{fde_of}
+use Rattle.eh_frame.specs.EntryViews.{fde_of}
 use Rattle.eh_frame.specs.declared.listed_fde.ListedFde.{ListedFde}
 use Rattle.eh_frame.proofs.ListingFdes.{cie_added, fde_added, one_description}
 use Rattle.eh_frame.proofs.fde_list.FdeList.push.Goals as goal

@@ -1,6 +1,6 @@
 use Rattle.std.proofs.lemmas.Result.{err_from_is_err_and}
-use Rattle.encoded_pointers.specs.View.{at}
-use Rattle.encoded_pointers.specs.Pointers.{bases_of, pointer_of}
+use Rattle.encoded_pointers.specs.CursorViews.{at}
+use Rattle.encoded_pointers.specs.PointerViews.{bases_of, pointer_of}
 use Rattle.eh_frame.proofs.HeaderParts.{version_read, no_encoding, no_pointer, no_count, whole_header}
 use Rattle.eh_frame.proofs.header.EhFrameHdr.parse.Goals as goal
 

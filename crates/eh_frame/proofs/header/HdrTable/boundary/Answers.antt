@@ -1,6 +1,6 @@
 use Rattle.std.proofs.Common.{◌+◌, ◌-◌, ◌/◌, arith}
 use Rattle.std.proofs.lemmas.Result.{err_from_is_err_and}
-use Rattle.eh_frame.specs.Headers.{pairs_of}
+use Rattle.eh_frame.specs.HeaderViews.{pairs_of}
 use Rattle.eh_frame.proofs.Halving.{raised, lowered, faulted, ended, halved, counts}
 use Rattle.eh_frame.proofs.header.HdrTable.boundary.Goals as goal
 

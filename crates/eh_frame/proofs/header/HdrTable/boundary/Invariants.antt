@@ -1,5 +1,5 @@
 use Rattle.std.proofs.Common.{◌-◌}
-use Rattle.eh_frame.specs.Headers.{pairs_of}
+use Rattle.eh_frame.specs.HeaderViews.{pairs_of}
 use Rattle.eh_frame.proofs.Halving.{IsBetween, IsHalved}
 use Rattle.eh_frame.proofs.header.HdrTable.boundary.Given as goal
 

@@ -1,6 +1,6 @@
-use Rattle.encoded_pointers.specs.Pointers.{bases_of}
-use Rattle.eh_frame.specs.Views.{table_of}
-use Rattle.eh_frame.specs.Headers.{pairs_of}
+use Rattle.encoded_pointers.specs.PointerViews.{bases_of}
+use Rattle.eh_frame.specs.EntryViews.{table_of}
+use Rattle.eh_frame.specs.HeaderViews.{pairs_of}
 use Rattle.eh_frame.proofs.Named.{answer_may, answer_named, answer_none, answer_fault}
 use Rattle.eh_frame.proofs.header.HdrTable.fde_for_address.Goals as goal
 

@@ -3,9 +3,9 @@ use Rattle.std.specs.Prelude.{min}
 use Rattle.unwind_definitions.specs.declared.error.Error.{Error as Fault}
 use Rattle.unwind_definitions.specs.Header.{pair_from}
 use Rattle.encoded_pointers.specs.Readers.{Answers}
-use Rattle.encoded_pointers.specs.View.{at}
-use Rattle.encoded_pointers.specs.Pointers.{bases_of}
-use Rattle.eh_frame.specs.Headers.{pairs_of}
+use Rattle.encoded_pointers.specs.CursorViews.{at}
+use Rattle.encoded_pointers.specs.PointerViews.{bases_of}
+use Rattle.eh_frame.specs.HeaderViews.{pairs_of}
 use Rattle.eh_frame.proofs.PastEnd.{passed, pair_there}
 use Rattle.eh_frame.proofs.header.HdrTable.pair.Goals as goal
 

@@ -3,12 +3,12 @@ use Rattle.unwind_definitions.specs.Input.{Input}
 use Rattle.unwind_definitions.specs.Entries.{Cie, coding_of}
 use Rattle.unwind_definitions.specs.Instructions.{Coding, Program, program}
 use Rattle.unwind_definitions.specs.Pointers.{Bases}
-use Rattle.encoded_pointers.specs.Pointers.{bases_of}
-use Rattle.encoded_pointers.specs.View.{at}
+use Rattle.encoded_pointers.specs.PointerViews.{bases_of}
+use Rattle.encoded_pointers.specs.CursorViews.{at}
 use Rattle.frame_rows.specs.Begun.{HasBegun}
-use Rattle.frame_rows.specs.Decoded.{coding_in}
+use Rattle.frame_rows.specs.InstructionViews.{coding_in}
 use Rattle.frame_rows.specs.KeptRows.{Adds}
-use Rattle.eh_frame.specs.Views.{cie_of}
+use Rattle.eh_frame.specs.EntryViews.{cie_of}
 use Rattle.eh_frame.proofs.listed_fde.ListedFde.add_rows.Goals as goal
 
 pub returns-then-is_begun-clause-rows : goal.returns-then-is_begun-clause-rows

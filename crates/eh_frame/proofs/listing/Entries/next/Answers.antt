@@ -1,7 +1,7 @@
 use Rattle.std.proofs.Common.{sym, subst}
-use Rattle.encoded_pointers.specs.Pointers.{bases_of}
+use Rattle.encoded_pointers.specs.PointerViews.{bases_of}
 use Rattle.eh_frame.specs.Shared.{StandsIn}
-use Rattle.eh_frame.specs.Views.{table_of, found_of}
+use Rattle.eh_frame.specs.EntryViews.{table_of, found_of}
 use Rattle.eh_frame.proofs.Sharing.{shared_stands}
 use Rattle.eh_frame.proofs.listing.Entries.next.Goals as goal
 

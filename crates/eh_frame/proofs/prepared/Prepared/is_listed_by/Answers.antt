@@ -3,7 +3,7 @@ use Rattle.std.proofs.lemmas.List.{length-map}
 use Rattle.unwind_definitions.specs.Entries.{Fde}
 use Rattle.unwind_definitions.specs.Header.{pair_at}
 use Rattle.unwind_definitions.specs.Module.{pair_of}
-use Rattle.eh_frame.specs.Headers.{pairs_of}
+use Rattle.eh_frame.specs.HeaderViews.{pairs_of}
 use Rattle.eh_frame.specs.Index.{described_fde}
 use Rattle.eh_frame.proofs.Indexed.{an_item, answer_same, pair_at_place, pair_there}
 use Rattle.eh_frame.proofs.prepared.Prepared.is_listed_by.Goals as goal

@@ -3,9 +3,9 @@ use Rattle.std.specs.Prelude.{slice_index_or}
 use Rattle.unwind_definitions.specs.Entries.{Fde}
 use Rattle.unwind_definitions.specs.Header.{pair_at}
 use Rattle.unwind_definitions.specs.Module.{pair_of}
-use Rattle.eh_frame.specs.Headers.{pairs_of}
+use Rattle.eh_frame.specs.HeaderViews.{pairs_of}
 use Rattle.eh_frame.specs.Index.{described_fde}
-use Rattle.eh_frame.specs.Views.{table_of}
+use Rattle.eh_frame.specs.EntryViews.{table_of}
 use Rattle.eh_frame.proofs.prepared.Prepared.is_listed_by.Given as goal
 
 -- the pairs before are those of the descriptions before

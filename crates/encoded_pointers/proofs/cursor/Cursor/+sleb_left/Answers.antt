@@ -1,7 +1,7 @@
 use Rattle.std.proofs.Common.{arith, refl, ◌∙◌}
 use Rattle.std.proofs.lemmas.Result.{err_from_is_err_and}
 use Rattle.encoded_pointers.proofs.Leb.{sleb_more}
-use Rattle.encoded_pointers.specs.View.{at}
+use Rattle.encoded_pointers.specs.CursorViews.{at}
 use Rattle.encoded_pointers.proofs.cursor.Cursor.+sleb_left.Goals as goal
 
 pub returns-in_err-high : goal.returns-in_err-high

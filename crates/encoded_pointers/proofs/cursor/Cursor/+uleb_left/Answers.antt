@@ -1,7 +1,7 @@
 use Rattle.std.proofs.Common.{arith, refl, ◌∙◌, ◌-◌}
 use Rattle.std.proofs.lemmas.Result.{err_from_is_err_and}
 use Rattle.encoded_pointers.proofs.Leb.{uleb_more, bound_first, bound_more, bound_word}
-use Rattle.encoded_pointers.specs.View.{at}
+use Rattle.encoded_pointers.specs.CursorViews.{at}
 use Rattle.encoded_pointers.proofs.cursor.Cursor.+uleb_left.Goals as goal
 
 pub returns-then-byte-lt128-clause-bound : goal.returns-then-byte-lt128-clause-bound

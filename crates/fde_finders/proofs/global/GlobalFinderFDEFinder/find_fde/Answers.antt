@@ -1,6 +1,6 @@
 use Rattle.std.proofs.Common.{Some}
 use Rattle.std.specs.Option.{option_map}
-use Rattle.fde_finders.specs.Answered.{answered}
+use Rattle.fde_finders.specs.FoundViews.{answered}
 use Rattle.fde_finders.specs.InTurn.{OrElse}
 use Rattle.fde_finders.specs.Globally.{FindsCustom, FindsInRegistry, FindsInObjects}
 use Rattle.fde_finders.proofs.InTurn.{first_answers, later_answers}

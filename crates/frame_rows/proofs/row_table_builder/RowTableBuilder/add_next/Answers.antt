@@ -1,6 +1,6 @@
 use Rattle.unwind_definitions.specs.Instructions.{program, Coding}
-use Rattle.encoded_pointers.specs.View.{at}
-use Rattle.frame_rows.specs.Decoded.{coding_in}
+use Rattle.encoded_pointers.specs.CursorViews.{at}
+use Rattle.frame_rows.specs.InstructionViews.{coding_in}
 use Rattle.frame_rows.proofs.Adding.{adds_fault}
 use Rattle.frame_rows.proofs.row_table_builder.RowTableBuilder.add_next.Goals as goal
 

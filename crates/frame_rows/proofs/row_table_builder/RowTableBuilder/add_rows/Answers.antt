@@ -1,8 +1,8 @@
 use Rattle.std.proofs.Common.{arith, ◌≡◌, Bool, Ok, Some, None, true, false, refl, sym, subst, ◌∙◌}
 use Rattle.unwind_definitions.specs.Instructions.{program, Program, Coding}
 use Rattle.unwind_definitions.specs.Row.{from_common}
-use Rattle.encoded_pointers.specs.View.{at}
-use Rattle.frame_rows.specs.Decoded.{coding_in}
+use Rattle.encoded_pointers.specs.CursorViews.{at}
+use Rattle.frame_rows.specs.InstructionViews.{coding_in}
 use Rattle.frame_rows.specs.Running.{Represents, push}
 use Rattle.frame_rows.specs.KeptRows.{Adds}
 use Rattle.frame_rows.specs.Stretches.{left_of}

@@ -1,8 +1,8 @@
 use Rattle.std.proofs.Common.{◌≡◌, [], None, Ok}
 use Rattle.unwind_definitions.specs.Instructions.{program, Program}
 use Rattle.unwind_definitions.specs.Row.{RowInstructions, from_common}
-use Rattle.encoded_pointers.specs.View.{at}
-use Rattle.frame_rows.specs.Decoded.{coding_in}
+use Rattle.encoded_pointers.specs.CursorViews.{at}
+use Rattle.frame_rows.specs.InstructionViews.{coding_in}
 use Rattle.frame_rows.specs.Running.{Represents, outcome}
 use Rattle.frame_rows.specs.Stretches.{left_of}
 use Rattle.frame_rows.proofs.Adding.{IsAdding}

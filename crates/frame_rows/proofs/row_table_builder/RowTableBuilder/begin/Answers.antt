@@ -1,7 +1,7 @@
 use Rattle.std.proofs.Common.{ap, subst}
 use Rattle.unwind_definitions.specs.Instructions.{Program, Coding, program}
-use Rattle.encoded_pointers.specs.View.{at}
-use Rattle.frame_rows.specs.Decoded.{coding_in}
+use Rattle.encoded_pointers.specs.CursorViews.{at}
+use Rattle.frame_rows.specs.InstructionViews.{coding_in}
 use Rattle.frame_rows.proofs.Together.{common_ended}
 use Rattle.frame_rows.proofs.row_table_builder.RowTableBuilder.begin.Goals as goal
 

@@ -1,8 +1,8 @@
 use Rattle.std.proofs.Common.{refl}
-use Rattle.encoded_pointers.specs.Pointers.{bases_of}
-use Rattle.encoded_pointers.specs.View.{at}
+use Rattle.encoded_pointers.specs.PointerViews.{bases_of}
+use Rattle.encoded_pointers.specs.CursorViews.{at}
 use Rattle.unwind_definitions.specs.LanguageSearch.{head}
-use Rattle.unwinding_frames.specs.Languages.{head_of}
+use Rattle.unwinding_frames.specs.LanguageViews.{head_of}
 use Rattle.unwinding_frames.proofs.Faults.{table_given}
 use Rattle.unwinding_frames.proofs.Heads.{types_passed, types_refused}
 use Rattle.unwinding_frames.proofs.language_table.LanguageTable.read.Goals as goal

@@ -1,9 +1,9 @@
 use Rattle.std.proofs.Common.{◌≡◌, ◌-◌, ◌<◌, length, eqb, true, false, sym, ◌∙◌, arith}
 use Rattle.std.proofs.lemmas.Result.{err_from_is_err_and}
-use Rattle.encoded_pointers.specs.Pointers.{bases_of}
-use Rattle.encoded_pointers.specs.View.{at}
+use Rattle.encoded_pointers.specs.PointerViews.{bases_of}
+use Rattle.encoded_pointers.specs.CursorViews.{at}
 use Rattle.unwinding_frames.specs.Calling.{fault_of}
-use Rattle.unwinding_frames.specs.Languages.{action_of, head_of, site_of}
+use Rattle.unwinding_frames.specs.LanguageViews.{action_of, head_of, site_of}
 use Rattle.unwinding_frames.proofs.Taken.{site_takes}
 use Rattle.unwinding_frames.proofs.Sites.{nonempty, search_end, site_fault, decision_fault, decided, passed}
 use Rattle.unwinding_frames.proofs.language_table.LanguageTable.search.Goals as goal

@@ -1,8 +1,8 @@
 use Rattle.std.proofs.Common.{◌≡◌, ℕ, ◌≤◌, length}
 use Rattle.unwind_definitions.specs.LanguageSearch.{search_from}
-use Rattle.encoded_pointers.specs.Pointers.{bases_of}
-use Rattle.encoded_pointers.specs.View.{at}
-use Rattle.unwinding_frames.specs.Languages.{head_of}
+use Rattle.encoded_pointers.specs.PointerViews.{bases_of}
+use Rattle.encoded_pointers.specs.CursorViews.{at}
+use Rattle.unwinding_frames.specs.LanguageViews.{head_of}
 use Rattle.unwinding_frames.proofs.language_table.LanguageTable.search.Given as goal
 
 -- with turns enough, the sites that are left give what all of them give

@@ -1,13 +1,13 @@
 use Rattle.std.proofs.Common.{◌≡◌, subst}
-use Rattle.stack_deliver.specs.declared.delivery.DeliverError.TheVariants.{NoMemory, Unmapped}
+use Rattle.stack_deliver.specs.declared.answers.DeliverError.TheVariants.{NoMemory, Unmapped}
 use Rattle.stack_deliver.specs.Causes.{EndsBy}
-use Rattle.stack_deliver.specs.Delivering.{Delivered}
+use Rattle.stack_deliver.specs.StackDelivery.{DeliveryValue}
 use Rattle.stack_deliver.specs.Walking.{ShowsDelivery}
 use Rattle.stack_deliver.proofs.DeliverFaults.{delivery_unmapped, delivery_memory}
 use Rattle.stack_deliver.proofs.Results.{delivered_fault, fault_delivered, ending_delivered, delivered_ending}
 use Rattle.stack_deliver.proofs.DeliveryAnswers.{refused_why, why_refused, ended_by, by_end}
 use Rattle.stack_deliver.proofs.ChainDelivered.{chain_delivered}
-use Rattle.stack_deliver.proofs.delivering.deliver_into.Goals as goal
+use Rattle.stack_deliver.proofs.delivery.deliver_into.Goals as goal
 
 pub returns-clause-unmapped : goal.returns-clause-unmapped
 returns-clause-unmapped g c a e = delivery_unmapped c.args.space.now c.args.start.now c.args.exception c.args.resumes.now c.args.limit a (delivered_fault c.emptied.result c.emptied.new.room _ (Unmapped a) c.emptied.ensures.exact e)
@@ -18,7 +18,7 @@ returns-clause-takes_no_memory g c e = delivery_memory c.args.space.now c.args.s
 pub returns-clause-chain : goal.returns-clause-chain
 returns-clause-chain g c functions s calls starts =
     let d = chain_delivered c.args.space.now c.args.start.now c.args.exception c.args.resumes.now c.args.limit functions s calls c.image.ensures.apart c.image.ensures.laid_out c.emptied.ensures.whole starts in
-    ending_delivered c.emptied.result c.emptied.new.room _ d.delivered (λ (x : Delivered). ShowsDelivery x c.args.exception s calls) c.emptied.ensures.exact d.is d.shows
+    ending_delivered c.emptied.result c.emptied.new.room _ d.delivered (λ (x : DeliveryValue). ShowsDelivery x c.args.exception s calls) c.emptied.ensures.exact d.is d.shows
 
 pub returns-clause-refused : goal.returns-clause-refused
 returns-clause-refused g c error = (
@@ -33,5 +33,5 @@ returns-clause-ended g c outcome = (
       subst (EndsBy c.args.space.now c.args.start.now c.args.exception c.args.resumes.now c.args.limit) d.2 (ended_by c.args.space.now c.args.start.now c.args.exception c.args.resumes.now c.args.limit d.0 d.1),
   λ by.
       let d = by_end c.args.space.now c.args.start.now c.args.exception c.args.resumes.now c.args.limit outcome by in
-      ending_delivered c.emptied.result c.emptied.new.room _ d.0 (λ (x : Delivered). x.outcome ≡ outcome) c.emptied.ensures.exact d.1 d.2,
+      ending_delivered c.emptied.result c.emptied.new.room _ d.0 (λ (x : DeliveryValue). x.outcome ≡ outcome) c.emptied.ensures.exact d.1 d.2,
 )

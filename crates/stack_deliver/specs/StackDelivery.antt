@@ -1,27 +1,27 @@
 -- What a walk and a delivery give: the states from the start outwards, the cleanups, and how it ended.
 use Rattle.std.specs.Prelude.{◌≡◌, ◌⊎◌, ℕ, zero, suc, Bool, false, List, [], ◌∷◌, Option, Some, None, Result, Ok, Err}
 use Rattle.unwind_arch.specs.declared.x86_64.Context.{Context}
-use Rattle.stack_deliver.specs.declared.delivery.Trail.{Trail}
-use Rattle.stack_deliver.specs.declared.delivery.Stepped.{Stepped}
-use Rattle.stack_deliver.specs.declared.delivery.Outcome.{Outcome}
-use Rattle.stack_deliver.specs.declared.delivery.Outcome.TheVariants.{EndOfStack, FatalPhase1}
-use Rattle.stack_deliver.specs.declared.delivery.DeliverError.{DeliverError}
-use Rattle.stack_deliver.specs.declared.delivery.DeliverError.TheVariants.{NoMemory, FrameLimit}
+use Rattle.stack_deliver.specs.declared.answers.Trail.{Trail}
+use Rattle.stack_deliver.specs.declared.answers.Stepped.{Stepped}
+use Rattle.stack_deliver.specs.declared.answers.Outcome.{Outcome}
+use Rattle.stack_deliver.specs.declared.answers.Outcome.TheVariants.{EndOfStack, FatalPhase1}
+use Rattle.stack_deliver.specs.declared.answers.DeliverError.{DeliverError}
+use Rattle.stack_deliver.specs.declared.answers.DeliverError.TheVariants.{NoMemory, FrameLimit}
 use Rattle.stack_deliver.specs.Modules.{SpaceValue}
 use Rattle.stack_deliver.specs.declared.passes.Phase.TheVariants as phase
 use Rattle.stack_deliver.specs.Stepping.{step_of}
-use Rattle.stack_deliver.specs.Passes.{Stop, Line, Passed, pad_of, kept_at, pass_of, passes_of}
+use Rattle.stack_deliver.specs.Passes.{Stop, Line, CleanupsRun, pad_of, kept_at, pass_of, passes_of}
 
 -- the states that the search visited, the cleanups that ran, how it ended, and the state at the handler
-pub record Delivered : Type 0 where
+pub record DeliveryValue : Type 0 where
   pub visited : List Context
   pub trail : List Trail
   pub outcome : Outcome
   pub landing : Option Context
 
 -- the answer, unless memory ran out
-abbrev pub Delivers : {A : Type 0} → Result A DeliverError → Result A DeliverError → Type 0
-Delivers result answer = (result ≡ Err NoMemory) ⊎ (result ≡ answer)
+abbrev pub GivesUnlessNoMemory : {A : Type 0} → Result A DeliverError → Result A DeliverError → Type 0
+GivesUnlessNoMemory result answer = (result ≡ Err NoMemory) ⊎ (result ≡ answer)
 
 abbrev pub with_first : Context → Result (List Context) DeliverError → Result (List Context) DeliverError
 with_first c (Ok cs) = Ok (c ∷ cs)
@@ -39,31 +39,31 @@ abbrev pub line_of : SpaceValue → ℕ → Context → Bool → Result (List Co
 line_of space zero c interrupted = Err FrameLimit
 line_of space (suc room) c interrupted = line_after c (step_of space c interrupted) (line_of space room)
 
-abbrev pub delivered_after : List Context → Result Passed DeliverError → Result Delivered DeliverError
-delivered_after visited (Ok passed) = Ok (record { visited = visited; trail = passed.trail; outcome = passed.ending.outcome; landing = passed.ending.landing })
-delivered_after visited (Err e) = Err e
+abbrev pub delivery_after : List Context → Result CleanupsRun DeliverError → Result DeliveryValue DeliverError
+delivery_after visited (Ok passed) = Ok (record { visited = visited; trail = passed.trail; outcome = passed.ending.outcome; landing = passed.ending.landing })
+delivery_after visited (Err e) = Err e
 
-abbrev pub undelivered : List Context → Outcome → Delivered
-undelivered visited outcome = record { visited = visited; trail = []; outcome = outcome; landing = None }
+abbrev pub no_delivery : List Context → Outcome → DeliveryValue
+no_delivery visited outcome = record { visited = visited; trail = []; outcome = outcome; landing = None }
 
 -- what follows where the search stops for a landing pad, or where the program ends
-abbrev pub delivered_at : List Context → Option ℕ → Result Passed DeliverError → Result Delivered DeliverError
-delivered_at visited None passed = Ok (undelivered visited FatalPhase1)
-delivered_at visited (Some pad) passed = delivered_after visited passed
+abbrev pub delivery_at : List Context → Option ℕ → Result CleanupsRun DeliverError → Result DeliveryValue DeliverError
+delivery_at visited None passed = Ok (no_delivery visited FatalPhase1)
+delivery_at visited (Some pad) passed = delivery_after visited passed
 
 -- nothing is delivered at the end of the stack; else the passes go toward the frame for which the search stopped
-abbrev pub delivered_to : List Context → Option Stop → (ℕ → Result Passed DeliverError) → Result Delivered DeliverError
-delivered_to visited None passes = Ok (undelivered visited EndOfStack)
-delivered_to visited (Some stop) passes = delivered_at visited (pad_of stop.action) (passes (kept_at stop.context stop.interrupted))
+abbrev pub delivery_to : List Context → Option Stop → (ℕ → Result CleanupsRun DeliverError) → Result DeliveryValue DeliverError
+delivery_to visited None passes = Ok (no_delivery visited EndOfStack)
+delivery_to visited (Some stop) passes = delivery_at visited (pad_of stop.action) (passes (kept_at stop.context stop.interrupted))
 
-abbrev pub delivered_by : Result Line DeliverError → (ℕ → Result Passed DeliverError) → Result Delivered DeliverError
-delivered_by (Ok line) passes = delivered_to line.contexts line.stop passes
-delivered_by (Err e) passes = Err e
+abbrev pub delivery_by : Result Line DeliverError → (ℕ → Result CleanupsRun DeliverError) → Result DeliveryValue DeliverError
+delivery_by (Ok line) passes = delivery_to line.contexts line.stop passes
+delivery_by (Err e) passes = Err e
 
 -- What a delivery from a context gives: the space, the context, the exception, the return addresses by pad, and the most
 -- states of a pass, which is also the most cleanups.
-unfoldable pub delivery_of : SpaceValue → Context → ℕ → List (ℕ × ℕ) → ℕ → Result Delivered DeliverError
-delivery_of space c exception resumes limit = delivered_by (pass_of phase.Search space limit c false) (λ kept. passes_of space exception kept resumes limit limit c)
+unfoldable pub stack_delivery : SpaceValue → Context → ℕ → List (ℕ × ℕ) → ℕ → Result DeliveryValue DeliverError
+stack_delivery space c exception resumes limit = delivery_by (pass_of phase.Search space limit c false) (λ kept. passes_of space exception kept resumes limit limit c)
 
 -- ---- the same in the words of its answers
 

@@ -1,6 +1,6 @@
 -- A finder's answer as that of the definitions.
-use Rattle.encoded_pointers.specs.Pointers.{bases_of}
-use Rattle.eh_frame.specs.Views.{fde_of, table_of}
+use Rattle.encoded_pointers.specs.PointerViews.{bases_of}
+use Rattle.eh_frame.specs.EntryViews.{fde_of, table_of}
 use Rattle.fde_finders.specs.declared.find_fde.FDESearchResult.{FDESearchResult}
 use Rattle.fde_finders.specs.Finding.{FoundFde}
 

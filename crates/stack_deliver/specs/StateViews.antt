@@ -4,10 +4,10 @@ use Rattle.unwind_definitions.specs.State.{State}
 use Rattle.unwind_definitions.specs.Delivery as described
 use Rattle.unwind_arch.specs.declared.x86_64.Context.{Context}
 use Rattle.unwind_arch.specs.Columns as column
-use Rattle.stack_deliver.specs.declared.delivery.Trail.{Trail}
-use Rattle.stack_deliver.specs.declared.delivery.Outcome.{Outcome}
-use Rattle.stack_deliver.specs.declared.delivery.Outcome.TheVariants.{Installed, EndOfStack, FatalPhase1, FatalPhase2}
-use Rattle.stack_deliver.specs.Delivering.{Delivered}
+use Rattle.stack_deliver.specs.declared.answers.Trail.{Trail}
+use Rattle.stack_deliver.specs.declared.answers.Outcome.{Outcome}
+use Rattle.stack_deliver.specs.declared.answers.Outcome.TheVariants.{Installed, EndOfStack, FatalPhase1, FatalPhase2}
+use Rattle.stack_deliver.specs.StackDelivery.{DeliveryValue}
 
 -- the return address, the stack pointer and the six registers that calls keep
 abbrev pub state_of : Context → State
@@ -35,7 +35,7 @@ outcome_of FatalPhase2 = described.FatalPhase2
 abbrev pub pair_of : Trail → ℕ × ℕ
 pair_of t = (t.pad, t.sp)
 
-abbrev pub delivery_shown : Delivered → described.Delivery
+abbrev pub delivery_shown : DeliveryValue → described.Delivery
 delivery_shown d = record {
   visited = map state_of d.visited;
   trail = map pair_of d.trail;

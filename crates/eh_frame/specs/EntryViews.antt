@@ -8,8 +8,8 @@ use Rattle.eh_frame.specs.declared.entries.Entry.{Entry as CodeEntry}
 use Rattle.eh_frame.specs.declared.entries.Entry.TheVariants as entries
 use Rattle.eh_frame.specs.declared.entries.Found.{Found as CodeFound}
 use Rattle.unwind_definitions.specs.Input.{Input}
-use Rattle.encoded_pointers.specs.View.{at}
-use Rattle.encoded_pointers.specs.Pointers.{pointer_of}
+use Rattle.encoded_pointers.specs.CursorViews.{at}
+use Rattle.encoded_pointers.specs.PointerViews.{pointer_of}
 use Rattle.eh_frame.specs.Letters.{letters_of}
 
 abbrev pub cie_of : CodeCie → Cie

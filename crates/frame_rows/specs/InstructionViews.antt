@@ -3,7 +3,7 @@ use Rattle.std.specs.Prelude.{ℕ, List, Ok}
 use Rattle.unwind_definitions.specs.Faults.{◌>>=◌}
 use Rattle.unwind_definitions.specs.Input.{Reads, split, uleb, sleb}
 use Rattle.unwind_definitions.specs.Instructions.{Instruction, Nop, Remember, Restore, Advance, SetLocation, Write, Reset, Cfa, CfaColumn, CfaOffset, CfaExpression, Arguments, Coding, scaled, row_creation, cfa_definition, offset_rule, register_rule, row_state, unknown}
-use Rattle.encoded_pointers.specs.Pointers.{bases_of}
+use Rattle.encoded_pointers.specs.PointerViews.{bases_of}
 use Rattle.frame_rows.specs.Rules.{rule_meaning}
 use Rattle.frame_rows.specs.declared.coding.Coding.{Coding as CodeCoding}
 use Rattle.frame_rows.specs.declared.instruction.CallFrameInstruction.{CallFrameInstruction}

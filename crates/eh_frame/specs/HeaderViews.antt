@@ -4,12 +4,12 @@ use Rattle.std.specs.Result.{result_map_both}
 use Rattle.unwind_definitions.specs.declared.error.Error.{Error}
 use Rattle.unwind_definitions.specs.Entries.{Fde}
 use Rattle.unwind_definitions.specs.Header.{FrameHeader, PairTable}
-use Rattle.encoded_pointers.specs.View.{at}
-use Rattle.encoded_pointers.specs.Pointers.{bases_of, pointer_of}
+use Rattle.encoded_pointers.specs.CursorViews.{at}
+use Rattle.encoded_pointers.specs.PointerViews.{bases_of, pointer_of}
 use Rattle.eh_frame.specs.declared.fde.Fde.{Fde as CodeFde}
 use Rattle.eh_frame.specs.declared.header.EhFrameHdr.{EhFrameHdr}
 use Rattle.eh_frame.specs.declared.header.HdrTable.{HdrTable}
-use Rattle.eh_frame.specs.Views.{fde_of}
+use Rattle.eh_frame.specs.EntryViews.{fde_of}
 
 abbrev pub header_of : EhFrameHdr → FrameHeader
 header_of h = record { frame = pointer_of h.eh_frame_ptr; count = h.count; encoding = h.encoding.0; bases = bases_of h.bases; pairs = at h.entries }

@@ -6,7 +6,7 @@ use Rattle.unwind_definitions.specs.Function as functions
 use Rattle.unwind_definitions.specs.LanguageTable.{types}
 use Rattle.unwind_definitions.specs.LanguageSearch as tables
 use Rattle.unwind_definitions.specs.Caller.{StepFault}
-use Rattle.encoded_pointers.specs.View.{at}
+use Rattle.encoded_pointers.specs.CursorViews.{at}
 use Rattle.unwinding_frames.specs.declared.frame.StepError.{StepError}
 use Rattle.unwinding_frames.specs.declared.language_table.EhAction.{EhAction}
 use Rattle.unwinding_frames.specs.declared.language_table.EhAction.TheVariants as code

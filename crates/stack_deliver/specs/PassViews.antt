@@ -6,15 +6,15 @@ use Rattle.unwind_arch.specs.declared.x86_64.Context.{Context}
 use Rattle.frame_rows.specs.RowValue.{RowValue}
 use Rattle.unwind_definitions.specs.declared.error.Error.{Error as Fault}
 use Rattle.unwind_definitions.specs.Row.{RowInstructions}
-use Rattle.encoded_pointers.specs.Pointers.{bases_of}
-use Rattle.eh_frame.specs.Views.{table_of}
-use Rattle.fde_finders.specs.Answered.{answered}
+use Rattle.encoded_pointers.specs.PointerViews.{bases_of}
+use Rattle.eh_frame.specs.EntryViews.{table_of}
+use Rattle.fde_finders.specs.FoundViews.{answered}
 use Rattle.fde_finders.specs.Finding.{FoundFde}
-use Rattle.unwinding_frames.specs.Languages.{action_of}
-use Rattle.stack_deliver.specs.declared.delivery.DeliverError.{DeliverError}
-use Rattle.stack_deliver.specs.declared.delivery.Ending.{Ending}
-use Rattle.stack_deliver.specs.declared.delivery.Trail.{Trail}
-use Rattle.stack_deliver.specs.declared.delivery.Stepped.{Stepped}
+use Rattle.unwinding_frames.specs.LanguageViews.{action_of}
+use Rattle.stack_deliver.specs.declared.answers.DeliverError.{DeliverError}
+use Rattle.stack_deliver.specs.declared.answers.Ending.{Ending}
+use Rattle.stack_deliver.specs.declared.answers.Trail.{Trail}
+use Rattle.stack_deliver.specs.declared.answers.Stepped.{Stepped}
 use Rattle.stack_deliver.specs.declared.stepping.FoundFrame.{FoundFrame}
 use Rattle.stack_deliver.specs.declared.stepping.FoundFrame.TheVariants.{Searched, Prepared}
 use Rattle.stack_deliver.specs.declared.passes.Phase.{Phase}
@@ -25,7 +25,7 @@ use Rattle.stack_deliver.specs.declared.passes.Stop.{Stop as CodeStop}
 use Rattle.stack_deliver.specs.declared.passes.Turn.{Turn as CodeTurn}
 use Rattle.stack_deliver.specs.declared.passes.Turn.TheVariants as code
 use Rattle.stack_deliver.specs.Stepping.{FrameAt}
-use Rattle.stack_deliver.specs.Passes.{Line, Passed, PassEnd, Finishes, Elsewhere, Stop, Turn, Ends, Stops, Goes, past_arguments}
+use Rattle.stack_deliver.specs.Passes.{Line, CleanupsRun, PassEnd, Finishes, Elsewhere, Stop, Turn, Ends, Stops, Goes, past_arguments}
 use Rattle.stack_deliver.specs.Walking.{RoomValue}
 
 -- what was found: by a search, or by the index of a prepared module
@@ -106,11 +106,11 @@ end_shown (pass.Finished ending) = Finishes ending
 end_shown (pass.Elsewhere pad c) = Elsewhere pad c
 
 -- cleanups that ran before these
-abbrev pub with_cleanups : List Trail → Result Passed DeliverError → Result Passed DeliverError
+abbrev pub with_cleanups : List Trail → Result CleanupsRun DeliverError → Result CleanupsRun DeliverError
 with_cleanups front (Ok passed) = Ok (record passed { trail = front ++ passed.trail })
 with_cleanups front (Err e) = Err e
 
 -- the answer of passes, and the room after it
-abbrev pub IsPassed : Result Ending DeliverError → RoomValue → Result Passed DeliverError → Type 0
-IsPassed (Ok ending) room due = due ≡ Ok (record { trail = room.trail; ending = ending })
-IsPassed (Err e) room due = due ≡ Err e
+abbrev pub GivesCleanupsRun : Result Ending DeliverError → RoomValue → Result CleanupsRun DeliverError → Type 0
+GivesCleanupsRun (Ok ending) room due = due ≡ Ok (record { trail = room.trail; ending = ending })
+GivesCleanupsRun (Err e) room due = due ≡ Err e
