@@ -39,6 +39,8 @@ class Trial:
     options: str = ""
     change: Callable[[Object], None] | None = None
     frames: int | None = None
+    # fewer frames than gdb has, which goes on by reading code or memory that the snapshot lacks
+    front: bool = False
     guessed: bool = False
 
 
@@ -86,7 +88,10 @@ def damage_table(snapshot: Object) -> None:
 
 
 def damage_program(snapshot: Object) -> None:
-    """Makes the first instruction of the frame table's first entry an unknown one, 0x3f."""
+    """Makes the first instruction of the frame table's first entry, a CIE, an unknown one, 0x3f.
+
+    It is that of the start code, so that the walk comes as far as the outermost frame.
+    """
     region, place = table_of_start(snapshot)
     assert region["bytes"][place + 34 : place + 36] == "0c", "a CIE of another form"
     region["bytes"] = region["bytes"][: place + 34] + "3f" + region["bytes"][place + 36 :]
@@ -111,12 +116,12 @@ MUSL = [built("nested.c", "ends-musl", "-static", compiler="musl-gcc")]
 TRIALS = [
     Trial("a call through a null pointer", NULL_CALL, ["ends-null_call"], "the outermost frame", RUN_TO_SIGNAL, guessed=True),
     Trial("a call through a wild pointer", NULL_CALL, ["ends-null_call", "wild"], "the outermost frame", RUN_TO_SIGNAL, guessed=True),
-    Trial("a cut stack", NESTED, ["ends-nested"], "unmapped", run_to("innermost"), options="--stack-bytes 256", frames=3),
+    Trial("a cut stack", NESTED, ["ends-nested"], "unmapped", run_to("innermost"), options="--stack-bytes 256", front=True),
     Trial("a function without a table", BARE, ["ends-no_tables"], "no description of", run_to("stop_in"), frames=2),
     Trial("a damaged entry", NESTED, ["ends-nested"], "UnknownVersion", run_to("innermost"), change=damage_table, frames=1),
-    Trial("a damaged program of an entry", NESTED, ["ends-nested"], "UnknownInstruction", run_to("innermost"), change=damage_program, frames=1),
+    Trial("a damaged program of an entry", NESTED, ["ends-nested"], "UnknownInstruction", run_to("innermost"), change=damage_program),
     Trial("a stack that loops", NESTED, ["ends-nested"], "more frames than the limit", run_to("innermost"), options="--limit 8", change=loop_stack, frames=8),
-    Trial("a program with musl", MUSL, ["ends-musl"], "", run_to("innermost")),
+    Trial("a program with musl", MUSL, ["ends-musl"], "no description of", run_to("innermost"), front=True),
 ]
 
 
@@ -160,7 +165,9 @@ def tried(trial: Trial, backtrace: str) -> bool:
     as_expected = {
         "status 0": done.returncode == 0,
         "the end": end.startswith("end: ") and trial.end in end,
-        "the number of frames": len(frames) == (trial.frames or len(expected)),
+        "the number of frames": 1 < len(frames) < len(expected)
+        if trial.front
+        else len(frames) == (trial.frames or len(expected)),
         "the mark": ["(return address on the stack)" in line for line in frames[1:2]] == [trial.guessed] or len(frames) < 2,
         "gdb's addresses": trial.change is loop_stack or addresses == expected[: len(addresses)],
     }
