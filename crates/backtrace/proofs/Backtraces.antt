@@ -6,7 +6,7 @@ use Rattle.unwind_arch.specs.declared.x86_64.Context.{Context}
 use Rattle.command_ends.specs.declared.status.Status.{Status}
 use Rattle.command_ends.specs.declared.status.Status.TheVariants.{Done, TooLong}
 use Rattle.command_ends.specs.Verdicts.{verdict, IsReadyOrFailed}
-use Rattle.stack_deliver.specs.Modules.{SpaceValue}
+use Rattle.stack_steps.specs.Modules.{SpaceValue}
 use Rattle.stack_deliver.specs.Fronts.{started}
 use Rattle.stack_deliver.proofs.FrontAnswers.{one_front}
 use Rattle.stack_snapshot.specs.declared.errors.SnapshotError.{SnapshotError}

@@ -6,7 +6,7 @@ ghost use Rattle.unwind_definitions.specs.Function.{Function};
 ghost use Rattle.unwind_definitions.specs.Prologue.{PrologueStep};
 ghost use Rattle.unwind_definitions.specs.Stopped.{StandsAfter};
 ghost use Rattle.unwind_arch.specs.ContextViews.{columns_of};
-ghost use Rattle.stack_deliver.specs.Stepping.{EndsAt};
+ghost use Rattle.stack_steps.specs.Stepping.{EndsAt};
 ghost use Rattle.backtrace.specs.Tracing.{IsNowhere, IsTrace, called_from, is_nowhere, returned};
 
 use memory_image::{MemoryImage, NoLedger, Steps};

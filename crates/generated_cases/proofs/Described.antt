@@ -5,7 +5,7 @@ use Rattle.unwind_definitions.specs.State.{CalleeSaved, RBX, RBP, R12, R13, R14,
 use Rattle.unwind_definitions.specs.Module.{Process}
 use Rattle.unwind_definitions.specs.Valid.{IsValid}
 use Rattle.unwind_arch.specs.ContextViews.{columns_of}
-use Rattle.stack_deliver.specs.SpaceViews.{process_of}
+use Rattle.stack_steps.specs.SpaceViews.{process_of}
 use Rattle.stack_deliver.specs.Resumes.{resume_table}
 use Rattle.generated_chains.specs.declared.outline.Outline.{Outline}
 use Rattle.generated_chains.specs.declared.stack.Registers.{Registers}

@@ -3,7 +3,7 @@ use Rattle.std.specs.Prelude.{ℕ, ◌+◌, ◌*◌, [], ◌∷◌, None, false}
 use Rattle.unwind_definitions.specs.State.{State}
 use Rattle.unwind_arch.specs.declared.x86_64.Context.{Context}
 use Rattle.fde_finders.specs.declared.custom.FrameInfoKind.TheVariants.{EhFrameHdr}
-use Rattle.stack_deliver.specs.declared.space.Module.{Module}
+use Rattle.stack_steps.specs.declared.space.Module.{Module}
 use Rattle.stack_deliver.specs.Resumes.{resume_table}
 use Rattle.generated_chains.specs.declared.stack.Registers.{Registers}
 use Rattle.generated_chains.specs.declared.chain.Chain.{Chain}

@@ -13,16 +13,16 @@ use Rattle.unwind_laws.proofs.Walk.{valid_described}
 use Rattle.unwind_arch.specs.declared.x86_64.Context.{Context}
 use Rattle.unwind_arch.specs.ContextViews.{columns_of}
 use Rattle.stack_deliver.specs.declared.answers.Outcome.TheVariants.{EndOfStack, FatalPhase1}
-use Rattle.stack_deliver.specs.declared.answers.DeliverError.{DeliverError}
+use Rattle.stack_steps.specs.declared.answers.DeliverError.{DeliverError}
 use Rattle.stack_deliver.specs.declared.passes.Phase.TheVariants as phase
-use Rattle.stack_deliver.specs.Modules.{SpaceValue, AreApart}
-use Rattle.stack_deliver.specs.SpaceViews.{process_of}
+use Rattle.stack_steps.specs.Modules.{SpaceValue, AreApart}
+use Rattle.stack_steps.specs.SpaceViews.{process_of}
 use Rattle.stack_deliver.specs.StateViews.{state_of, outcome_of}
 use Rattle.stack_deliver.specs.Walking.{EachShows}
 use Rattle.stack_deliver.specs.Passes.{Stop, CleanupsRun, pass_of, kept_at, pad_of, passes_of}
 use Rattle.stack_deliver.specs.StackDelivery.{DeliveryValue, delivery_after, no_delivery, delivery_at, delivery_to, stack_delivery}
 use Rattle.stack_deliver.specs.Walking.{StartsValidChain, ShowsDelivery}
-use Rattle.stack_deliver.proofs.ContextLemmas.{IsWhole}
+use Rattle.stack_steps.proofs.ContextLemmas.{IsWhole}
 use Rattle.stack_deliver.proofs.Chains.{shown_states}
 use Rattle.stack_deliver.proofs.PassesShow.{seen, StopIs, StopShows, SearchShows, search_shows, by_pass, lands_in, passes_show}
 

@@ -9,8 +9,8 @@ use Rattle.unwind_definitions.specs.Valid.{IsDescribedChain}
 use Rattle.unwind_laws.proofs.Walk.{chain_rises}
 use Rattle.unwind_arch.specs.declared.x86_64.Context.{Context}
 use Rattle.unwind_arch.specs.ContextViews.{columns_of}
-use Rattle.stack_deliver.specs.Modules.{SpaceValue, AreApart}
-use Rattle.stack_deliver.specs.SpaceViews.{process_of}
+use Rattle.stack_steps.specs.Modules.{SpaceValue, AreApart}
+use Rattle.stack_steps.specs.SpaceViews.{process_of}
 use Rattle.stack_deliver.specs.StackDelivery.{line_of}
 use Rattle.stack_deliver.specs.StateViews.{state_of}
 use Rattle.stack_deliver.specs.Walking.{EachShows}

@@ -5,11 +5,11 @@ use Rattle.unwind_arch.specs.declared.x86_64.Context.{Context}
 use Rattle.stack_deliver.specs.declared.answers.Ending.{Ending}
 use Rattle.stack_deliver.specs.declared.answers.Outcome.{Outcome}
 use Rattle.stack_deliver.specs.declared.answers.Outcome.TheVariants.{Installed, EndOfStack, FatalPhase1, FatalPhase2}
-use Rattle.stack_deliver.specs.declared.answers.DeliverError.{DeliverError}
-use Rattle.stack_deliver.specs.declared.answers.DeliverError.TheVariants.{NoMemory, Unmapped, FrameLimit, PassLimit, NoResume, Table}
+use Rattle.stack_steps.specs.declared.answers.DeliverError.{DeliverError}
+use Rattle.stack_steps.specs.declared.answers.DeliverError.TheVariants.{NoMemory, Unmapped, FrameLimit, PassLimit, NoResume, Table}
 use Rattle.stack_deliver.specs.declared.passes.Phase.{Phase}
 use Rattle.stack_deliver.specs.declared.passes.Phase.TheVariants as phase
-use Rattle.stack_deliver.specs.Modules.{SpaceValue}
+use Rattle.stack_steps.specs.Modules.{SpaceValue}
 use Rattle.stack_deliver.proofs.LineAnswers.{IsStepFault}
 use Rattle.stack_deliver.specs.Passes.{Line, Stop, pass_of, kept_at, pad_of, cleanup_of, CleanupsRun, passes_of}
 use Rattle.stack_deliver.proofs.PassLines.{stop_in}

@@ -12,14 +12,14 @@ use Rattle.eh_frame.specs.Search.{NoneContains}
 use Rattle.fde_finders.specs.declared.custom.FrameInfoKind.{FrameInfoKind}
 use Rattle.fde_finders.specs.declared.custom.FrameInfoKind.TheVariants.{EhFrame, EhFrameHdr}
 use Rattle.fde_finders.specs.Finding.{table_bases, relative_to}
-use Rattle.stack_deliver.specs.declared.answers.Stepped.{Stepped}
-use Rattle.stack_deliver.specs.declared.answers.DeliverError.{DeliverError}
-use Rattle.stack_deliver.specs.declared.answers.DeliverError.TheVariants.{NoMemory, Unmapped, FrameLimit, PassLimit, NoResume, Table}
+use Rattle.stack_steps.specs.declared.answers.Stepped.{Stepped}
+use Rattle.stack_steps.specs.declared.answers.DeliverError.{DeliverError}
+use Rattle.stack_steps.specs.declared.answers.DeliverError.TheVariants.{NoMemory, Unmapped, FrameLimit, PassLimit, NoResume, Table}
 use Rattle.stack_deliver.specs.declared.front.Front.{Front}
 use Rattle.stack_deliver.specs.declared.front.Front.TheVariants.{Outermost, NoModule, NoDescription, UnreadableTable, Refused, Limit}
-use Rattle.stack_deliver.specs.declared.space.Module.{Module}
-use Rattle.stack_deliver.specs.Modules.{SpaceValue, module_at}
-use Rattle.stack_deliver.specs.Stepping.{step_of, FindsNone, EndsAt}
+use Rattle.stack_steps.specs.declared.space.Module.{Module}
+use Rattle.stack_steps.specs.Modules.{SpaceValue, module_at}
+use Rattle.stack_steps.specs.Stepping.{step_of, FindsNone, EndsAt}
 use Rattle.stack_deliver.specs.StackDelivery.{with_first, line_after, line_of, NeedsMore}
 use Rattle.stack_deliver.specs.Fronts.{reached_after, reached_by, caller_in, caller_from, turned_from, IsReached, started, front_of, IsUnreadableAt, IsUndescribedIn, IsUnlisted, IsUndescribed, IsUnheld, IsUnknown, EndsFor, stopped_by, Meets, ComesTo}
 use Rattle.stack_deliver.specs.declared.passes.Stop.{Stop as CodeStop}
@@ -29,7 +29,7 @@ use Rattle.stack_deliver.specs.PassViews.{IsOutward}
 use Rattle.stack_deliver.proofs.LineAnswers.{line_limit}
 use Rattle.stack_deliver.proofs.PassLines.{walk_line, walked_by}
 use Rattle.stack_deliver.proofs.Reaching.{same_reached, turned_called}
-use Rattle.stack_deliver.proofs.StepAnswers.{step_ends, ends_step}
+use Rattle.stack_steps.proofs.StepAnswers.{step_ends, ends_step}
 use Rattle.stack_deliver.proofs.Unread.{one_unread, none_unread}
 
 -- ---- the last context

@@ -5,22 +5,22 @@ use Rattle.unwind_definitions.specs.declared.error.Error.{Error as Fault}
 use Rattle.unwind_definitions.specs.Row.{RowInstructions, row_at}
 use Rattle.unwind_definitions.specs.Caller as calls
 use Rattle.unwind_arch.specs.declared.x86_64.Context.{Context}
-use Rattle.stack_deliver.specs.declared.space.Module.{Module}
-use Rattle.stack_deliver.specs.declared.answers.Stepped.{Stepped}
-use Rattle.stack_deliver.specs.declared.answers.DeliverError.{DeliverError}
-use Rattle.stack_deliver.specs.declared.answers.DeliverError.TheVariants.{NoMemory, Unmapped, FrameLimit, Table}
+use Rattle.stack_steps.specs.declared.space.Module.{Module}
+use Rattle.stack_steps.specs.declared.answers.Stepped.{Stepped}
+use Rattle.stack_steps.specs.declared.answers.DeliverError.{DeliverError}
+use Rattle.stack_steps.specs.declared.answers.DeliverError.TheVariants.{NoMemory, Unmapped, FrameLimit, Table}
 use Rattle.unwind_definitions.specs.Expressions.{evaluation}
 use Rattle.fde_finders.specs.Finding.{FoundFde}
 use Rattle.unwind_definitions.specs.LanguageSearch.{address_of_call}
 use Rattle.fde_finders.specs.Named.{found_by}
 use Rattle.unwind_arch.specs.ContextViews.{columns_of}
-use Rattle.stack_deliver.specs.Modules.{SpaceValue, module_at}
+use Rattle.stack_steps.specs.Modules.{SpaceValue, module_at}
 use Rattle.std.specs.Result.{result_map_both}
-use Rattle.stack_deliver.specs.Stepping.{FrameAt, frame_with, next_with, frame_by, frame_in, frame_of, refusal_of, step_of}
-use Rattle.stack_deliver.proofs.StepParts.{some_next, stepped_by, step_is}
+use Rattle.stack_steps.specs.Stepping.{FrameAt, frame_with, next_with, frame_by, frame_in, frame_of, refusal_of, step_of}
+use Rattle.stack_steps.proofs.StepParts.{some_next, stepped_by, step_is}
 use Rattle.stack_deliver.specs.StackDelivery.{with_first, line_after, line_of, NeedsMore}
 use Rattle.stack_deliver.specs.Walking.{StepFails}
-use Rattle.stack_deliver.proofs.StepAnswers.{step_unmapped}
+use Rattle.stack_steps.proofs.StepAnswers.{step_unmapped}
 
 -- the faults that a step may answer
 abbrev pub IsStepFault : DeliverError → Type 0

@@ -17,20 +17,21 @@ use Rattle.unwind_definitions.specs.Valid.{LiesDescribed}
 use Rattle.unwind_laws.proofs.Booleans as lists
 use Rattle.unwind_laws.proofs.Found.{not_found}
 use Rattle.unwind_arch.specs.declared.x86_64.Context.{Context}
-use Rattle.stack_deliver.specs.declared.space.Module.{Module}
+use Rattle.stack_steps.specs.declared.space.Module.{Module}
 use Rattle.fde_finders.specs.declared.custom.FrameInfoKind.{FrameInfoKind}
 use Rattle.fde_finders.specs.declared.custom.FrameInfoKind.TheVariants.{EhFrame, EhFrameHdr}
 use Rattle.unwind_arch.specs.ContextViews.{columns_of}
-use Rattle.stack_deliver.specs.Modules.{SpaceValue, AreApart, contains, module_at}
-use Rattle.stack_deliver.specs.SpaceViews.{tables_of, module_of, process_of}
+use Rattle.stack_steps.specs.Modules.{SpaceValue, AreApart, contains, module_at}
+use Rattle.stack_steps.specs.SpaceViews.{tables_of, module_of, process_of}
 use Rattle.fde_finders.specs.Finding.{table_bases}
 use Rattle.fde_finders.specs.Named.{found_by_kind}
-use Rattle.stack_deliver.specs.Stepping.{frame_in, frame_of, step_of}
-use Rattle.stack_deliver.proofs.StepParts.{stepped_by, step_is}
+use Rattle.stack_steps.specs.Stepping.{frame_in, frame_of, step_of}
+use Rattle.stack_steps.proofs.StepParts.{stepped_by, step_is}
 use Rattle.stack_deliver.specs.StackDelivery.{line_of}
-use Rattle.stack_deliver.specs.Walking.{IsDescribedCall, Undone, EachShows}
-use Rattle.stack_deliver.proofs.HeaderFinds.{header_finds_none}
-use Rattle.stack_deliver.proofs.MetFrames.{step_undone}
+use Rattle.stack_steps.specs.Undoing.{IsDescribedCall, Undone}
+use Rattle.stack_deliver.specs.Walking.{EachShows}
+use Rattle.stack_steps.proofs.HeaderFinds.{header_finds_none}
+use Rattle.stack_steps.proofs.MetFrames.{step_undone}
 
 -- a module that is found is one of the space's, and contains the address
 module_at-found : (modules : List Module) (m : Module) (a : ℕ) → module_at modules a ≡ Some m → Contains modules m × IsTrue (contains m a)

@@ -6,16 +6,18 @@ use Rattle.unwind_definitions.specs.Function.{Action, NoAction, Terminate}
 use Rattle.unwind_definitions.specs.LanguageSearch.{personality_address, address_of_call, language_action}
 use Rattle.unwind_definitions.specs.Row.{argument_size}
 use Rattle.unwind_arch.specs.declared.x86_64.Context.{Context}
-use Rattle.stack_deliver.specs.declared.answers.Stepped.{Stepped}
-use Rattle.stack_deliver.specs.declared.answers.DeliverError.{DeliverError}
-use Rattle.stack_deliver.specs.declared.answers.DeliverError.TheVariants.{FrameLimit}
+use Rattle.stack_steps.specs.declared.answers.Stepped.{Stepped}
+use Rattle.stack_steps.specs.declared.answers.DeliverError.{DeliverError}
+use Rattle.stack_steps.specs.declared.answers.DeliverError.TheVariants.{FrameLimit}
 use Rattle.stack_deliver.specs.declared.passes.Phase.{Phase}
-use Rattle.stack_deliver.specs.Modules.{SpaceValue}
-use Rattle.stack_deliver.specs.Stepping.{step_of, FrameAt, frame_of, caller_by}
-use Rattle.stack_deliver.specs.Passes.{turn_at, or_terminate, action_if_named, action_asked, stops, past_arguments, Line, Stop, Turn, Ends, Stops, Goes, turn_of, with_context, line_turn, pass_of, turn_for}
+use Rattle.stack_steps.specs.Modules.{SpaceValue}
+use Rattle.stack_steps.specs.Stepping.{step_of, FrameAt, frame_of, caller_by}
+use Rattle.stack_steps.specs.Asking.{or_terminate, action_if_named, action_asked}
+use Rattle.stack_deliver.specs.Passes.{turn_at, stops, past_arguments, Line, Stop, Turn, Ends, Stops, Goes, turn_of, with_context, line_turn, pass_of, turn_for}
 use Rattle.stack_deliver.proofs.PassLines.{stop_in}
 use Rattle.stack_deliver.specs.Causes.{Asks, GoesTo, EndsProgram, StackEnds, CantRead, Meets, GoesOnFrom}
-use Rattle.stack_deliver.proofs.StepParts.{some_next, stepped_by, step_is, none_framed, goes, turn_asked, turn_by}
+use Rattle.stack_steps.proofs.StepParts.{some_next, stepped_by, step_is, none_framed}
+use Rattle.stack_deliver.proofs.TurnParts.{goes, turn_asked, turn_by}
 
 -- ---- a turn
 

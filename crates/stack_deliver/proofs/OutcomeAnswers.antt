@@ -8,11 +8,11 @@ use Rattle.stack_deliver.specs.declared.answers.Trail.{Trail}
 use Rattle.stack_deliver.specs.declared.answers.Ending.{Ending}
 use Rattle.stack_deliver.specs.declared.answers.Outcome.{Outcome}
 use Rattle.stack_deliver.specs.declared.answers.Outcome.TheVariants.{Installed, EndOfStack, FatalPhase1, FatalPhase2}
-use Rattle.stack_deliver.specs.declared.answers.DeliverError.{DeliverError}
-use Rattle.stack_deliver.specs.declared.answers.DeliverError.TheVariants.{FrameLimit, PassLimit}
+use Rattle.stack_steps.specs.declared.answers.DeliverError.{DeliverError}
+use Rattle.stack_steps.specs.declared.answers.DeliverError.TheVariants.{FrameLimit, PassLimit}
 use Rattle.stack_deliver.specs.declared.passes.Phase.{Phase}
 use Rattle.stack_deliver.specs.declared.passes.Phase.TheVariants as phase
-use Rattle.stack_deliver.specs.Modules.{SpaceValue}
+use Rattle.stack_steps.specs.Modules.{SpaceValue}
 use Rattle.stack_deliver.specs.Resumes.{return_of}
 use Rattle.stack_deliver.specs.Passes.{stops, Line, Stop, Ends, Stops, turn_of, pass_of, kept_at, pad_of, fatal, landed, enters, PassEnd, Finishes, Elsewhere, end_at, end_by, end_of, cleanup_of, cleanup_at, resume_at, CleanupsRun, with_cleanup, resumed, followed, passes_of}
 use Rattle.stack_deliver.proofs.PassLines.{stop_in}

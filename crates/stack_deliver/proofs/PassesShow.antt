@@ -18,18 +18,19 @@ use Rattle.unwind_arch.specs.declared.x86_64.Context.{Context}
 use Rattle.unwind_arch.specs.ContextViews.{columns_of}
 use Rattle.stack_deliver.specs.declared.answers.Ending.{Ending}
 use Rattle.stack_deliver.specs.declared.answers.Outcome.TheVariants.{Installed}
-use Rattle.stack_deliver.specs.declared.answers.DeliverError.{DeliverError}
-use Rattle.stack_deliver.specs.declared.answers.DeliverError.TheVariants.{PassLimit}
+use Rattle.stack_steps.specs.declared.answers.DeliverError.{DeliverError}
+use Rattle.stack_steps.specs.declared.answers.DeliverError.TheVariants.{PassLimit}
 use Rattle.stack_deliver.specs.declared.passes.Phase.TheVariants as phase
-use Rattle.stack_deliver.specs.Modules.{SpaceValue, AreApart}
-use Rattle.stack_deliver.specs.SpaceViews.{process_of}
+use Rattle.stack_steps.specs.Modules.{SpaceValue, AreApart}
+use Rattle.stack_steps.specs.SpaceViews.{process_of}
 use Rattle.stack_deliver.specs.Resumes.{return_of}
 use Rattle.stack_deliver.specs.StateViews.{state_of, landing_of, pair_of}
-use Rattle.stack_deliver.specs.Walking.{IsDescribedCall, EachShows}
+use Rattle.stack_steps.specs.Undoing.{IsDescribedCall}
+use Rattle.stack_deliver.specs.Walking.{EachShows}
 use Rattle.stack_deliver.specs.Passes.{Line, Stop, stops, with_context, pass_of, kept_at, pad_of, enters, landed, PassEnd, Finishes, Elsewhere, end_at, end_of, cleanup_at, resume_at, CleanupsRun, with_cleanup, resumed, followed, passes_of}
-use Rattle.stack_deliver.proofs.ContextLemmas.{IsWhole}
+use Rattle.stack_steps.proofs.ContextLemmas.{IsWhole}
 use Rattle.stack_deliver.proofs.Chains.{shown_state}
-use Rattle.stack_deliver.proofs.MetFrames.{Met, met}
+use Rattle.stack_steps.proofs.MetFrames.{Met, met}
 use Rattle.stack_deliver.proofs.PassLines.{stop_at}
 use Rattle.stack_deliver.proofs.Turns.{action_in, pass_stops_at, pass_goes_on, pass_ends_at, call_in, returning, call_resumed, entered_shows, entered_sp, entered_rax, entered_rdx}
 

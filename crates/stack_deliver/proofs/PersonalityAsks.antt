@@ -13,11 +13,12 @@ use Rattle.unwinding_frames.specs.FrameValue.{FrameValue}
 use Rattle.unwinding_frames.specs.declared.abi.UnwindReasonCode.{UnwindReasonCode}
 use Rattle.unwinding_frames.specs.declared.abi.TheConstants.UnwindReasonCode.{CONTINUE_UNWIND, HANDLER_FOUND}
 use Rattle.unwinding_frames.specs.Personalities.{Asked, Answer, landed, searched, answered_by}
-use Rattle.stack_deliver.specs.declared.answers.DeliverError.{DeliverError}
+use Rattle.stack_steps.specs.declared.answers.DeliverError.{DeliverError}
 use Rattle.stack_deliver.specs.declared.passes.Phase.TheVariants as phase
-use Rattle.stack_deliver.specs.Passes.{or_terminate, action_if_named, enters, stops, pad_of}
+use Rattle.stack_steps.specs.Asking.{or_terminate, action_if_named}
+use Rattle.stack_deliver.specs.Passes.{enters, stops, pad_of}
 use Rattle.stack_deliver.specs.Personality.{landing_columns, InSearch, InCleanup, IsAsked, AnswersCleanup, answer_for, code_of}
-use Rattle.stack_deliver.proofs.ContextLemmas.{IsWhole, Holds, with_column-holds}
+use Rattle.stack_steps.proofs.ContextLemmas.{IsWhole, Holds, with_column-holds}
 
 is_same : (m n : ℕ) → eqb m n ≡ true → m ≡ n
 is_same m n same = grind (arith, nat_tests)

@@ -2,12 +2,12 @@
 use Rattle.std.proofs.Common.{◌≡◌, ℕ, zero, suc, Bool, List, [], ◌∷◌, ◌++◌, Option, Some, None, Result, Ok, Err, refl, sym, ap, subst, ◌∙◌, append_assoc, append-nil}
 use Rattle.unwind_definitions.specs.Function.{Action}
 use Rattle.unwind_arch.specs.declared.x86_64.Context.{Context}
-use Rattle.stack_deliver.specs.declared.answers.Stepped.{Stepped}
-use Rattle.stack_deliver.specs.declared.answers.DeliverError.{DeliverError}
+use Rattle.stack_steps.specs.declared.answers.Stepped.{Stepped}
+use Rattle.stack_steps.specs.declared.answers.DeliverError.{DeliverError}
 use Rattle.stack_deliver.specs.declared.passes.Phase.{Phase}
-use Rattle.stack_deliver.specs.Modules.{SpaceValue}
-use Rattle.stack_deliver.specs.Results.{◌>>=◌, result_map}
-use Rattle.stack_deliver.specs.Stepping.{FrameAt, frame_of, caller_by, caller_at, step_of}
+use Rattle.stack_steps.specs.Modules.{SpaceValue}
+use Rattle.stack_steps.specs.Results.{◌>>=◌, result_map}
+use Rattle.stack_steps.specs.Stepping.{FrameAt, frame_of, caller_by, caller_at, step_of}
 use Rattle.stack_deliver.specs.Walking.{RoomValue}
 use Rattle.stack_deliver.specs.Passes.{Ends, Stops, Goes, turn_in, turn_for}
 use Rattle.stack_deliver.specs.PassViews.{AreVisited}

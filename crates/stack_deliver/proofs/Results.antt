@@ -4,8 +4,8 @@ use Rattle.std.specs.Prelude.{◌⊎◌, IsOk, IsOkAnd}
 use Rattle.unwind_arch.specs.declared.x86_64.Context.{Context}
 use Rattle.stack_deliver.specs.declared.answers.Ending.{Ending}
 use Rattle.stack_deliver.specs.declared.answers.Outcome.{Outcome}
-use Rattle.stack_deliver.specs.declared.answers.DeliverError.{DeliverError}
-use Rattle.stack_deliver.specs.declared.answers.DeliverError.TheVariants.{NoMemory}
+use Rattle.stack_steps.specs.declared.answers.DeliverError.{DeliverError}
+use Rattle.stack_steps.specs.declared.answers.DeliverError.TheVariants.{NoMemory}
 use Rattle.stack_deliver.specs.StackDelivery.{DeliveryValue, GivesUnlessNoMemory}
 use Rattle.stack_deliver.specs.Walking.{RoomValue, IsWalked, IsDelivered, delivered_in}
 

@@ -10,14 +10,15 @@ use Rattle.unwind_laws.proofs.Undo.{rises}
 use Rattle.unwind_laws.proofs.Walk.{chain_rises}
 use Rattle.unwind_arch.specs.declared.x86_64.Context.{Context}
 use Rattle.unwind_arch.specs.ContextViews.{columns_of}
-use Rattle.stack_deliver.specs.Modules.{SpaceValue, AreApart}
-use Rattle.stack_deliver.specs.SpaceViews.{process_of}
-use Rattle.stack_deliver.specs.Stepping.{step_of}
+use Rattle.stack_steps.specs.Modules.{SpaceValue, AreApart}
+use Rattle.stack_steps.specs.SpaceViews.{process_of}
+use Rattle.stack_steps.specs.Stepping.{step_of}
 use Rattle.stack_deliver.specs.StackDelivery.{line_of}
-use Rattle.stack_deliver.specs.Walking.{Undone, ShowChain}
-use Rattle.stack_deliver.specs.Stopped.{StandsInPrologue, StandsInBody, StartsStopped}
+use Rattle.stack_steps.specs.Undoing.{Undone}
+use Rattle.stack_deliver.specs.Walking.{ShowChain}
+use Rattle.stack_steps.specs.Stopped.{StandsInPrologue, StandsInBody, StartsStopped}
 use Rattle.stack_deliver.proofs.LineShows.{line_shows}
-use Rattle.stack_deliver.proofs.StoppedUndone.{stopped_undone}
+use Rattle.stack_steps.proofs.StoppedUndone.{stopped_undone}
 
 -- a stopped state's stack pointer is below its caller's
 stack_rises : (image : List Span) (s : State) (call : Call) → StandsInPrologue image s call ⊎ StandsInBody image s call → s.sp < call.caller.sp

@@ -17,13 +17,13 @@ use Rattle.unwind_laws.proofs.Booleans as lists
 use Rattle.unwind_arch.specs.declared.x86_64.Context.{Context}
 use Rattle.unwind_arch.specs.ContextViews.{columns_of}
 use Rattle.stack_deliver.specs.declared.passes.Phase.{Phase}
-use Rattle.stack_deliver.specs.Modules.{SpaceValue}
-use Rattle.stack_deliver.specs.SpaceViews.{process_of}
-use Rattle.stack_deliver.specs.Walking.{IsDescribedCall}
+use Rattle.stack_steps.specs.Modules.{SpaceValue}
+use Rattle.stack_steps.specs.SpaceViews.{process_of}
+use Rattle.stack_steps.specs.Undoing.{IsDescribedCall}
 use Rattle.stack_deliver.specs.Passes.{stops, past_arguments, Stops, Goes, turn_of, with_context, pass_of, enters, turn_for}
-use Rattle.stack_deliver.proofs.ContextLemmas.{IsWhole}
+use Rattle.stack_steps.proofs.ContextLemmas.{IsWhole}
 use Rattle.stack_deliver.proofs.LineShows.{ends}
-use Rattle.stack_deliver.proofs.MetFrames.{Met}
+use Rattle.stack_steps.proofs.MetFrames.{Met}
 use Rattle.stack_deliver.proofs.PassLines.{stop_at}
 
 abbrev pub action_in : State → Call → Action

@@ -2,8 +2,8 @@
 use Rattle.std.specs.Prelude.{ℕ, List, [], ◌∷◌, ◌++◌, replicate, None}
 use Rattle.unwind_arch.specs.declared.x86_64.Context.{Context}
 use Rattle.fde_finders.specs.declared.custom.FrameInfoKind.TheVariants.{EhFrame}
-use Rattle.stack_deliver.specs.declared.space.Module.{Module}
-use Rattle.stack_deliver.specs.Modules.{SpaceValue, unprepared}
+use Rattle.stack_steps.specs.declared.space.Module.{Module}
+use Rattle.stack_steps.specs.Modules.{SpaceValue, unprepared}
 
 -- stopped after a call that returns to an address
 abbrev pub after_call : ℕ → Context

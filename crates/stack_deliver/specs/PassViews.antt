@@ -11,12 +11,12 @@ use Rattle.eh_frame.specs.EntryViews.{table_of}
 use Rattle.fde_finders.specs.FoundViews.{answered}
 use Rattle.fde_finders.specs.Finding.{FoundFde}
 use Rattle.unwinding_frames.specs.LanguageViews.{action_of}
-use Rattle.stack_deliver.specs.declared.answers.DeliverError.{DeliverError}
+use Rattle.stack_steps.specs.declared.answers.DeliverError.{DeliverError}
 use Rattle.stack_deliver.specs.declared.answers.Ending.{Ending}
 use Rattle.stack_deliver.specs.declared.answers.Trail.{Trail}
-use Rattle.stack_deliver.specs.declared.answers.Stepped.{Stepped}
-use Rattle.stack_deliver.specs.declared.stepping.FoundFrame.{FoundFrame}
-use Rattle.stack_deliver.specs.declared.stepping.FoundFrame.TheVariants.{Searched, Prepared}
+use Rattle.stack_steps.specs.declared.answers.Stepped.{Stepped}
+use Rattle.stack_steps.specs.declared.stepping.FoundFrame.{FoundFrame}
+use Rattle.stack_steps.specs.declared.stepping.FoundFrame.TheVariants.{Searched, Prepared}
 use Rattle.stack_deliver.specs.declared.passes.Phase.{Phase}
 use Rattle.stack_deliver.specs.declared.passes.Phase.TheVariants as phase
 use Rattle.stack_deliver.specs.declared.passes.Pass.{Pass}
@@ -24,33 +24,9 @@ use Rattle.stack_deliver.specs.declared.passes.Pass.TheVariants as pass
 use Rattle.stack_deliver.specs.declared.passes.Stop.{Stop as CodeStop}
 use Rattle.stack_deliver.specs.declared.passes.Turn.{Turn as CodeTurn}
 use Rattle.stack_deliver.specs.declared.passes.Turn.TheVariants as code
-use Rattle.stack_deliver.specs.Stepping.{FrameAt}
+use Rattle.stack_steps.specs.Stepping.{FrameAt}
 use Rattle.stack_deliver.specs.Passes.{Line, CleanupsRun, PassEnd, Finishes, Elsewhere, Stop, Turn, Ends, Stops, Goes, past_arguments}
 use Rattle.stack_deliver.specs.Walking.{RoomValue}
-
--- what was found: by a search, or by the index of a prepared module
-abbrev pub seen : FoundFrame → FoundFde
-seen (Searched found) = answered found
-seen (Prepared table frame) = record { fde = frame.fde; bases = bases_of table.now.bases; table = table_of table.now.frames }
-
-abbrev pub IsKeptRow : Result RowValue Fault → RowInstructions → Type 0
-IsKeptRow (Ok row) run = IsRowOf row run
-IsKeptRow (Err e) run = ⊥
-
--- its row: the one in a room, or the one that the index lends
-abbrev pub IsRowIn : FoundFrame → RowValue → RowInstructions → Type 0
-IsRowIn (Searched found) row run = IsRowOf row run
-IsRowIn (Prepared table frame) row run = IsKeptRow frame.row run
-
--- what was found, and its row, as a frame of the definitions
-abbrev pub IsFrameOf : FoundFrame → RowValue → FrameAt → Type 0
-IsFrameOf frame row due = (seen frame ≡ due.found) × IsRowIn frame row due.run
-
--- what is found at a state, and the row that it leaves in its room
-abbrev pub GivesFrameAt : Result (Option FoundFrame) DeliverError → RowValue → Result (Option FrameAt) DeliverError → Type 0
-GivesFrameAt (Ok None) row due = due ≡ Ok None
-GivesFrameAt (Ok (Some found)) row due = (f : FrameAt) × (due ≡ Ok (Some f)) × IsFrameOf found row f
-GivesFrameAt (Err e) row due = due ≡ Err e
 
 -- a turn, and the state that it leaves
 abbrev pub turn_shown : Stepped → CodeTurn → Turn

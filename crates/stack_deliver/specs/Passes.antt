@@ -1,5 +1,5 @@
 -- The passes of a delivery over a stack: the search for a frame whose language takes the exception, and then the cleanups on the
--- way to it. Itanium C++ ABI, exception handling, level I, section 1.3; level II for what language tables ask.
+-- way to it. Itanium C++ ABI, exception handling, level I, section 1.3.
 use Rattle.std.specs.Prelude.{ℕ, zero, suc, ◌+◌, ◌-◌, ◌%◌, ◌^◌, ◌==◌, Bool, true, false, List, [], ◌∷◌, Option, Some, None, Result, Ok, Err, slice_index, slice_set, if◌then◌else◌}
 use Rattle.memory_image.specs.Image.{Span}
 use Rattle.unwind_definitions.specs.Row.{argument_size}
@@ -10,34 +10,19 @@ use Rattle.unwind_definitions.specs.LanguageSearch.{personality_address, address
 use Rattle.unwind_arch.specs.declared.x86_64.Context.{Context}
 use Rattle.unwind_arch.specs.Columns.{rax, rdx, rsp}
 use Rattle.fde_finders.specs.Finding.{FoundFde}
-use Rattle.stack_deliver.specs.declared.answers.Stepped.{Stepped}
+use Rattle.stack_steps.specs.declared.answers.Stepped.{Stepped}
 use Rattle.stack_deliver.specs.declared.answers.Trail.{Trail}
 use Rattle.stack_deliver.specs.declared.answers.Ending.{Ending}
 use Rattle.stack_deliver.specs.declared.answers.Outcome.TheVariants.{Installed, FatalPhase2}
-use Rattle.stack_deliver.specs.declared.answers.DeliverError.{DeliverError}
-use Rattle.stack_deliver.specs.declared.answers.DeliverError.TheVariants.{FrameLimit, PassLimit, NoResume}
+use Rattle.stack_steps.specs.declared.answers.DeliverError.{DeliverError}
+use Rattle.stack_steps.specs.declared.answers.DeliverError.TheVariants.{FrameLimit, PassLimit, NoResume}
 use Rattle.stack_deliver.specs.declared.passes.Phase.{Phase}
 use Rattle.stack_deliver.specs.declared.passes.Phase.TheVariants as phase
-use Rattle.stack_deliver.specs.Modules.{SpaceValue}
+use Rattle.stack_steps.specs.Modules.{SpaceValue}
 use Rattle.stack_deliver.specs.Resumes.{return_of}
-use Rattle.stack_deliver.specs.Results.{◌>>=◌, result_map}
-use Rattle.stack_deliver.specs.Stepping.{FrameAt, frame_of, caller_by, refusal_of}
-
--- ---- what the language of a frame asks
-
--- the program ends at a table that can't be read
-abbrev pub or_terminate : Result Action StepFault → Action
-or_terminate (Ok action) = action
-or_terminate (Err e) = Terminate
-
-abbrev pub action_if_named : List Span → Context → Bool → FoundFde → Result (Option ℕ) StepFault → Result Action DeliverError
-action_if_named image c interrupted found (Ok None) = Ok NoAction
-action_if_named image c interrupted found (Ok (Some routine)) = Ok (or_terminate (language_action image found.bases found.fde (address_of_call c.ra interrupted)))
-action_if_named image c interrupted found (Err e) = Err (refusal_of e)
-
--- What is asked of the frame at a context: where its description names a personality, whichever, what its language table says.
-abbrev pub action_asked : List Span → Context → Bool → FoundFde → Result Action DeliverError
-action_asked image c interrupted found = action_if_named image c interrupted found (personality_address image found.fde)
+use Rattle.stack_steps.specs.Results.{◌>>=◌, result_map}
+use Rattle.stack_steps.specs.Asking.{action_asked}
+use Rattle.stack_steps.specs.Stepping.{FrameAt, frame_of, caller_by, refusal_of}
 
 -- ---- a pass
 

@@ -2,14 +2,14 @@
 use Rattle.std.specs.Prelude.{◌≡◌, ◌⊎◌, ℕ, zero, suc, Bool, false, List, [], ◌∷◌, Option, Some, None, Result, Ok, Err}
 use Rattle.unwind_arch.specs.declared.x86_64.Context.{Context}
 use Rattle.stack_deliver.specs.declared.answers.Trail.{Trail}
-use Rattle.stack_deliver.specs.declared.answers.Stepped.{Stepped}
+use Rattle.stack_steps.specs.declared.answers.Stepped.{Stepped}
 use Rattle.stack_deliver.specs.declared.answers.Outcome.{Outcome}
 use Rattle.stack_deliver.specs.declared.answers.Outcome.TheVariants.{EndOfStack, FatalPhase1}
-use Rattle.stack_deliver.specs.declared.answers.DeliverError.{DeliverError}
-use Rattle.stack_deliver.specs.declared.answers.DeliverError.TheVariants.{NoMemory, FrameLimit}
-use Rattle.stack_deliver.specs.Modules.{SpaceValue}
+use Rattle.stack_steps.specs.declared.answers.DeliverError.{DeliverError}
+use Rattle.stack_steps.specs.declared.answers.DeliverError.TheVariants.{NoMemory, FrameLimit}
+use Rattle.stack_steps.specs.Modules.{SpaceValue}
 use Rattle.stack_deliver.specs.declared.passes.Phase.TheVariants as phase
-use Rattle.stack_deliver.specs.Stepping.{step_of}
+use Rattle.stack_steps.specs.Stepping.{step_of}
 use Rattle.stack_deliver.specs.Passes.{Stop, Line, CleanupsRun, pad_of, kept_at, pass_of, passes_of}
 
 -- the states that the search visited, the cleanups that ran, how it ended, and the state at the handler

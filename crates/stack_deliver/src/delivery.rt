@@ -6,16 +6,16 @@ ghost use Rattle.unwind_definitions.specs.Function.{Function};
 ghost use Rattle.unwind_definitions.specs.Chain.{Call};
 ghost use Rattle.stack_deliver.specs.Causes.{IsRefused, EndsBy};
 ghost use Rattle.stack_deliver.specs.StackDelivery.{GivesUnlessNoMemory, stack_delivery};
-ghost use Rattle.stack_deliver.specs.Ticking.{RisesWithin};
+ghost use Rattle.stack_steps.specs.Ticking.{RisesWithin};
 ghost use Rattle.stack_deliver.specs.Walking.{StartsValidChain, ShowsDelivery, IsDelivered, delivered_in};
 
-use crate::answers::{DeliverError, Delivery, Ending, Outcome, Stepped};
+use crate::answers::{Delivery, Ending, Outcome};
 use crate::passes::{Phase, outwards, passes};
 use crate::resumes::Resumes;
 use crate::room::Room;
-use crate::space::Space;
 use eh_frame::RowRoom;
 use memory_image::{Ledger, NoLedger, Steps};
+use stack_steps::{DeliverError, Space, Stepped};
 use std::alloc::Global;
 use unwind_arch::x86_64::Context;
 

@@ -9,16 +9,15 @@ ghost use Rattle.fde_finders.specs.Finding.{table_bases};
 ghost use Rattle.stack_deliver.specs.StackDelivery.{line_of};
 ghost use Rattle.stack_deliver.specs.FrontSample.{after_call, bad_row, cut_entry, held_by, no_entry, nowhere};
 ghost use Rattle.stack_deliver.specs.Fronts.{ComesTo, EndsFor, front_of, input_of, IsUndescribed, IsUndescribedIn, stopped_by};
-ghost use Rattle.stack_deliver.specs.Stepping.{FindsNone, step_of};
-ghost use Rattle.stack_deliver.specs.Ticking.{RisesWithin};
+ghost use Rattle.stack_steps.specs.Stepping.{FindsNone, step_of};
+ghost use Rattle.stack_steps.specs.Ticking.{RisesWithin};
 
-use crate::answers::{DeliverError, Stepped};
 use crate::passes::outwards;
 use crate::room::Room;
-use crate::space::Space;
 use eh_frame::{Bases, EhFrame, Entries, Error, RowRoom};
 use fde_finders::{FrameInfo, FrameInfoKind};
 use memory_image::{Ledger, MemoryImage, Steps};
+use stack_steps::{DeliverError, Space, Stepped};
 use unwind_arch::x86_64::Context;
 
 /// Why a walk goes no further than its last state.

@@ -2,8 +2,8 @@
 ghost use Rattle.std.specs.Prelude.{◌≡◌, ℕ, Bool, List};
 ghost use Rattle.unwind_arch.specs.declared.x86_64.Context.{Context as Registers};
 ghost use Rattle.stack_deliver.specs.StackDelivery.{stack_delivery, line_of};
-ghost use Rattle.stack_deliver.specs.Modules.{Added, SpaceValue};
-ghost use Rattle.stack_deliver.specs.Stepping.{step_of};
+ghost use Rattle.stack_steps.specs.Modules.{Added, SpaceValue};
+ghost use Rattle.stack_steps.specs.Stepping.{step_of};
 
 /// What a step, a walk and a delivery are to answer doesn't depend on which modules of a space are
 /// prepared. The function does nothing.

@@ -1,6 +1,5 @@
-//! Delivers an exception over a stack that lies in an image of memory: the modules that the image
-//! holds, the step from a frame to its caller, the states that are visited, the cleanups that run,
-//! and the landing at the handler.
+//! Delivers an exception over a stack that lies in an image of memory: the states that are visited,
+//! the cleanups that run, and the landing at the handler.
 //!
 //! The frames of a stack, from memory that is at hand:
 //!
@@ -41,15 +40,11 @@ mod front;
 mod laws;
 mod passes;
 mod personality;
-mod prepared;
 mod resumes;
 mod room;
-mod space;
-mod stepping;
-mod stops;
 mod walking;
 
-pub use answers::{DeliverError, Delivery, Ending, Outcome, Stepped, Trail};
+pub use answers::{Delivery, Ending, Outcome, Trail};
 pub use delivery::{deliver, deliver_into};
 pub use eh_frame::Error;
 pub use fde_finders::{FrameInfo, FrameInfoKind};
@@ -58,8 +53,6 @@ pub use laws::answers_stay_as_modules_are_prepared;
 pub use personality::{a_handler_is_asked_for, deliveries_are_passes, passes_ask_the_personality};
 pub use resumes::{Resumes, first_entry_counts};
 pub use room::Room;
-pub use space::{Module, Space, SpaceError};
-pub use stepping::step;
-pub use stops::{stops_after_each_step_are_described, walks_from_stops_are_described};
+pub use stack_steps::{DeliverError, Module, Space, SpaceError, Stepped, step};
 pub use unwind_arch::x86_64::Context;
 pub use walking::{Visited, walk, walk_into};

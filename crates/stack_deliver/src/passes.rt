@@ -3,22 +3,23 @@
 ghost use Rattle.std.specs.Prelude.{◌≡◌, ◌≤◌, ◌<◌, ◌+◌, ◌*◌, ◌++◌, ◌∷◌, Err, [], true, false, length, Some, OnOk, OnErr, IfOk};
 ghost use Rattle.std.specs.Option.{option_map};
 ghost use Rattle.unwinding_frames.specs.LanguageViews.{action_of};
-ghost use Rattle.stack_deliver.specs.Passes.{action_asked, stops, stop_of, past_arguments, turn_for, line_for, kept_at, pad_of, enters, end_by, cleanup_of, cleanup_at, resume_at, passes_of};
+ghost use Rattle.stack_steps.specs.Asking.{action_asked};
+ghost use Rattle.stack_deliver.specs.Passes.{stops, stop_of, past_arguments, turn_for, line_for, kept_at, pad_of, enters, end_by, cleanup_of, cleanup_at, resume_at, passes_of};
 ghost use Rattle.stack_deliver.specs.Fronts.{reached_by, turned_from, IsReached};
-ghost use Rattle.stack_deliver.specs.PassViews.{seen, turn_shown, stop_shown, end_shown, visits, visited_with, StaysAt, IsOutward, GivesCleanupsRun};
-ghost use Rattle.stack_deliver.specs.Results.{result_map};
+ghost use Rattle.stack_steps.specs.FrameViews.{seen};
+ghost use Rattle.stack_deliver.specs.PassViews.{turn_shown, stop_shown, end_shown, visits, visited_with, StaysAt, IsOutward, GivesCleanupsRun};
+ghost use Rattle.stack_steps.specs.Results.{result_map};
 ghost use Rattle.stack_deliver.specs.Resumes.{return_of};
-ghost use Rattle.stack_deliver.specs.Ticking.{RisesWithin, TicksAt};
+ghost use Rattle.stack_steps.specs.Ticking.{RisesWithin, TicksAt};
 
-use crate::answers::{DeliverError, Ending, Outcome, Stepped, Trail};
+use crate::answers::{Ending, Outcome, Trail};
 use crate::resumes::Resumes;
 use crate::room::Room;
-use crate::space::Space;
-use crate::stepping::{FoundFrame, frame_at, leave};
 use eh_frame::RowRoom;
 use memory_image::{Ledger, MemoryImage, Steps};
+use stack_steps::{DeliverError, FoundFrame, Space, Stepped, asked, frame_at, leave};
 use unwind_arch::x86_64::{Context, RAX, RDX, RSP};
-use unwinding_frames::{EhAction, Window, eh_action_of, personality_of};
+use unwinding_frames::{EhAction, Window};
 
 /// What a pass over the stack is for.
 #[derive(Clone, Copy)]
@@ -98,24 +99,6 @@ enum Turn {
     Stop(EhAction, u64),
     /// The caller, which stands in the state's place.
     Caller,
-}
-
-/// What the language of a frame asks. A language table that can't be read ends the program, but
-/// what names the personality has to be read.
-fn asked(
-    image: &MemoryImage<'_>,
-    state: &Stepped,
-    frame: &FoundFrame<'_, '_>,
-) -> Result<EhAction, DeliverError>
-    ensures { result_map action_of result ≡ action_asked image.now state.now.context
-        state.now.signal
-        (seen frame.now) }
-{
-    let found = frame.found();
-    match personality_of(&found, image)? {
-        None => Ok(EhAction::None),
-        Some(_) => Ok(eh_action_of(&found, image, state.address()).unwrap_or(EhAction::Terminate)),
-    }
 }
 
 /// The action for which a pass stops at a frame. A walk, which has no phase, stops for none.

@@ -10,11 +10,11 @@ use Rattle.memory_image.specs.declared.errors.ImageError.TheVariants as image_er
 use Rattle.memory_image.proofs.SpanAdds.{laid-with_span}
 use Rattle.unwind_laws.proofs.Booleans as lists
 use Rattle.unwind_arch.specs.declared.x86_64.Context.{Context}
-use Rattle.stack_deliver.specs.declared.space.Module.{Module}
-use Rattle.stack_deliver.specs.declared.space.SpaceError.TheVariants.{Wraps, Overlap}
-use Rattle.stack_deliver.specs.Modules.{AreApart, lowest_shared, module_refusal, with_module}
-use Rattle.stack_deliver.proofs.Apart.{with_apart}
-use Rattle.stack_deliver.proofs.ContextLemmas.{IsWhole}
+use Rattle.stack_steps.specs.declared.space.Module.{Module}
+use Rattle.stack_steps.specs.declared.space.SpaceError.TheVariants.{Wraps, Overlap}
+use Rattle.stack_steps.specs.Modules.{AreApart, lowest_shared, module_refusal, with_module}
+use Rattle.stack_steps.proofs.Apart.{with_apart}
+use Rattle.stack_steps.proofs.ContextLemmas.{IsWhole}
 use Rattle.stack_snapshot.specs.declared.errors.Field.{Field}
 use Rattle.stack_snapshot.specs.declared.errors.Field.TheVariants as fields
 use Rattle.stack_snapshot.specs.Content.{Content, takes_regions, takes_modules, image_of, modules_after, space_of}

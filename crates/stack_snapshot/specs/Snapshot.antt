@@ -5,7 +5,7 @@ use Rattle.serde_json.specs.Find.{get, as_array, as_object, as_str}
 use Rattle.serde_json.specs.Written.{has_float}
 use Rattle.memory_image.specs.Image.{Span}
 use Rattle.unwind_arch.specs.declared.x86_64.Context.{Context}
-use Rattle.stack_deliver.specs.declared.space.Module.{Module}
+use Rattle.stack_steps.specs.declared.space.Module.{Module}
 use Rattle.fde_finders.specs.declared.custom.FrameInfo.{FrameInfo}
 use Rattle.fde_finders.specs.declared.custom.FrameInfoKind.{FrameInfoKind}
 use Rattle.fde_finders.specs.declared.custom.FrameInfoKind.TheVariants.{EhFrame, EhFrameHdr}

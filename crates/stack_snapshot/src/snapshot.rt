@@ -1,6 +1,6 @@
 // A snapshot: memory by regions, the modules in it, and a delivery to make.
 ghost use Rattle.std.specs.Prelude.{◌≡◌, IfOk, MatchOption, map, true, false, []};
-ghost use Rattle.stack_deliver.specs.Modules.{unprepared};
+ghost use Rattle.stack_steps.specs.Modules.{unprepared};
 ghost use Rattle.stack_snapshot.specs.Answers.{Gives};
 ghost use Rattle.stack_snapshot.specs.Content.{image_of, modules_after, space_of, takes_regions, takes_modules};
 ghost use Rattle.stack_snapshot.specs.Owned.{spans_of};

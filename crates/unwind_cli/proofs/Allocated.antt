@@ -20,8 +20,8 @@ use Rattle.unwind_laws.proofs.RowFacts.{by_register, state_fits, unnamed, same_e
 use Rattle.unwind_laws.proofs.Steady.{is_steady, same_row_at}
 use Rattle.unwind_laws.proofs.StoringValid.{pointed_valid}
 use Rattle.unwind_arch.specs.ContextViews.{columns_of}
-use Rattle.stack_deliver.specs.SpaceViews.{process_of}
-use Rattle.stack_deliver.specs.Walking.{IsDescribedCall}
+use Rattle.stack_steps.specs.SpaceViews.{process_of}
+use Rattle.stack_steps.specs.Undoing.{IsDescribedCall}
 use Rattle.stack_snapshot.specs.Content.{space_of}
 use Rattle.unwind_cli.specs.Allocated.{snapshot, entries, start, caller, call}
 

@@ -6,10 +6,10 @@ use Rattle.unwind_definitions.specs.State.{State}
 use Rattle.unwind_definitions.specs.Function.{Function}
 use Rattle.unwind_definitions.specs.Chain.{Call, states_of}
 use Rattle.unwind_arch.specs.declared.x86_64.Context.{Context}
-use Rattle.stack_deliver.specs.Modules.{AreApart}
+use Rattle.stack_steps.specs.Modules.{AreApart}
 use Rattle.stack_deliver.specs.StateViews.{state_of}
 use Rattle.stack_deliver.proofs.Chains as chains
-use Rattle.stack_deliver.proofs.ContextLemmas.{IsWhole}
+use Rattle.stack_steps.proofs.ContextLemmas.{IsWhole}
 use Rattle.stack_deliver.proofs.ChainDelivered.{DeliversChain}
 use Rattle.stack_deliver.proofs.ChainDelivered as delivered
 use Rattle.stack_snapshot.specs.Content.{Content, space_of}

@@ -13,8 +13,8 @@ use Rattle.unwind_laws.proofs.Booleans.{all_contains}
 use Rattle.unwind_laws.proofs.RowFacts.{by_register}
 use Rattle.unwind_laws.proofs.Walk.{valid_described}
 use Rattle.unwind_arch.specs.ContextViews.{columns_of}
-use Rattle.stack_deliver.specs.SpaceViews.{process_of}
-use Rattle.stack_deliver.specs.Walking.{IsDescribedCall}
+use Rattle.stack_steps.specs.SpaceViews.{process_of}
+use Rattle.stack_steps.specs.Undoing.{IsDescribedCall}
 use Rattle.stack_snapshot.specs.Content.{Content, space_of}
 use Rattle.unwind_cli.specs.Caught as caught
 use Rattle.unwind_cli.specs.FramePointer as frame_pointer

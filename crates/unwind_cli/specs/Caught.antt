@@ -5,7 +5,7 @@ use Rattle.memory_image.specs.Image.{Span}
 use Rattle.unwind_laws.specs.Three as three
 use Rattle.unwind_arch.specs.declared.x86_64.Context.{Context}
 use Rattle.fde_finders.specs.declared.custom.FrameInfoKind.TheVariants.{EhFrame, EhFrameHdr}
-use Rattle.stack_deliver.specs.declared.space.Module.{Module}
+use Rattle.stack_steps.specs.declared.space.Module.{Module}
 use Rattle.stack_snapshot.specs.Content.{Content}
 use Rattle.stack_report.specs.Report.{line}
 

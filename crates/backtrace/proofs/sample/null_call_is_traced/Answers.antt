@@ -5,8 +5,8 @@ use Rattle.std.specs.Fmt.{digits}
 use Rattle.hex.specs.Hex.{decode_pairs}
 use Rattle.serde_json.proofs.OnLiterals.{serde_json_on_literals}
 use Rattle.memory_image.specs.Image.{word_at}
-use Rattle.stack_deliver.specs.Stepping.{step_of, frame_of}
-use Rattle.stack_deliver.proofs.StepAnswers.{ends_step}
+use Rattle.stack_steps.specs.Stepping.{step_of, frame_of}
+use Rattle.stack_steps.proofs.StepAnswers.{ends_step}
 use Rattle.stack_snapshot.specs.Answers.{value_of}
 use Rattle.stack_snapshot.specs.Content.{space_of}
 use Rattle.stack_snapshot.specs.Origins.{origins_of}

@@ -4,7 +4,7 @@ use Rattle.generated_chains.specs.Caught.{IsCaught}
 use Rattle.generated_chains.specs.Outlines.{outlines}
 use Rattle.generated_chains.specs.Code.{functions_of}
 use Rattle.generated_chains.specs.Calls.{state_of, calls_of}
-use Rattle.stack_deliver.specs.Modules.{SpaceValue}
+use Rattle.stack_steps.specs.Modules.{SpaceValue}
 use Rattle.stack_deliver.specs.Walking.{delivered_in}
 use Rattle.generated_cases.proofs.Sums.{starts_chain, caught_counts}
 use Rattle.generated_cases.proofs.counted.deliver_case.Goals as goal

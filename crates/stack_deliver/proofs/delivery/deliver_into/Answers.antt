@@ -1,5 +1,5 @@
 use Rattle.std.proofs.Common.{◌≡◌, subst}
-use Rattle.stack_deliver.specs.declared.answers.DeliverError.TheVariants.{NoMemory, Unmapped}
+use Rattle.stack_steps.specs.declared.answers.DeliverError.TheVariants.{NoMemory, Unmapped}
 use Rattle.stack_deliver.specs.Causes.{EndsBy}
 use Rattle.stack_deliver.specs.StackDelivery.{DeliveryValue}
 use Rattle.stack_deliver.specs.Walking.{ShowsDelivery}

@@ -1,4 +1,4 @@
-use Rattle.stack_deliver.proofs.Counted.{after_search}
+use Rattle.stack_steps.proofs.Counted.{after_search}
 use Rattle.stack_deliver.proofs.delivery.delivered.Goals as goal
 
 pub returns-clause-ticks : goal.returns-clause-ticks

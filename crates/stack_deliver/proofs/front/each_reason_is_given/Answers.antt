@@ -5,8 +5,8 @@ use Rattle.unwind_definitions.specs.Instructions.{instruction_of}
 use Rattle.unwind_definitions.specs.Row.{row_at}
 use Rattle.unwind_definitions.specs.Scan.{scan}
 use Rattle.stack_deliver.specs.FrontSample.{after_call, cut_entry, held_by, no_entry, nowhere}
-use Rattle.stack_deliver.specs.Stepping.{step_of, frame_of}
-use Rattle.stack_deliver.proofs.StepAnswers.{ends_step}
+use Rattle.stack_steps.specs.Stepping.{step_of, frame_of}
+use Rattle.stack_steps.proofs.StepAnswers.{ends_step}
 use Rattle.stack_deliver.proofs.front.each_reason_is_given.Goals as goal
 
 returns_somewhere : ◌≢◌ {A = ℕ} 0x1005 0

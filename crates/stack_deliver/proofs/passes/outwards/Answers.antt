@@ -5,7 +5,7 @@ use Rattle.stack_deliver.specs.PassViews.{visits}
 use Rattle.stack_deliver.proofs.PassLines.{no_contexts, start_visited, more_visited, unvisited, visited_count, visited_keeps, line_faults, line_ends, line_stops, line_goes}
 use Rattle.stack_deliver.specs.Fronts.{reached_by, turned_from}
 use Rattle.stack_deliver.proofs.Reaching.{none_met, reached_here, reached_next, reached_limit, turned_faults, turned_ends, turned_stops, turned_goes, stands}
-use Rattle.stack_deliver.proofs.Counted.{rises_none, rises_by_one, rises_up_to}
+use Rattle.stack_steps.proofs.Counted.{rises_none, rises_by_one, rises_up_to}
 use Rattle.stack_deliver.proofs.passes.outwards.Goals as goal
 
 pub loop-init : goal.loop-init

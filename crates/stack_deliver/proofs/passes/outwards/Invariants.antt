@@ -1,7 +1,7 @@
 use Rattle.std.proofs.Common.{◌≡◌, ◌-◌, List, true, false, length}
 use Rattle.unwind_arch.specs.declared.x86_64.Context.{Context}
 use Rattle.stack_deliver.specs.Passes.{line_for}
-use Rattle.stack_deliver.specs.Ticking.{RisesWithin}
+use Rattle.stack_steps.specs.Ticking.{RisesWithin}
 use Rattle.stack_deliver.specs.Fronts.{reached_by, turned_from}
 use Rattle.stack_deliver.proofs.Reaching.{met_before}
 use Rattle.stack_deliver.specs.PassViews.{with_contexts, visits, AreVisited}

@@ -3,7 +3,7 @@ use Rattle.std.proofs.lemmas.Result.{err_from_is_err_and}
 use Rattle.stack_deliver.specs.Passes.{passes_of, cleanup_at}
 use Rattle.stack_deliver.specs.PassViews.{with_cleanups}
 use Rattle.stack_deliver.proofs.PassLines.{passes_fault, passes_finish, passes_refused, passes_go}
-use Rattle.stack_deliver.proofs.Counted.{one_pass_more, last_pass}
+use Rattle.stack_steps.proofs.Counted.{one_pass_more, last_pass}
 use Rattle.stack_deliver.proofs.passes.passes.Goals as goal
 
 pub returns-in_err-ending-clause-exact : goal.returns-in_err-ending-clause-exact

@@ -1,6 +1,6 @@
 use Rattle.std.proofs.Common.{◌≡◌, ◌-◌, ◌*◌, ◌≤◌, length}
 use Rattle.stack_deliver.specs.Passes.{passes_of}
-use Rattle.stack_deliver.specs.Ticking.{RisesWithin}
+use Rattle.stack_steps.specs.Ticking.{RisesWithin}
 use Rattle.stack_deliver.specs.PassViews.{with_cleanups}
 use Rattle.stack_deliver.proofs.passes.passes.Given as goal
 

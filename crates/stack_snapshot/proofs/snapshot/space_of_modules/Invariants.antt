@@ -1,5 +1,5 @@
 use Rattle.std.proofs.Common.{◌≡◌, drop, take, map, []}
-use Rattle.stack_deliver.specs.Modules.{unprepared}
+use Rattle.stack_steps.specs.Modules.{unprepared}
 use Rattle.stack_snapshot.specs.Content.{takes_modules, modules_after}
 use Rattle.stack_snapshot.proofs.snapshot.space_of_modules.Given as goal
 

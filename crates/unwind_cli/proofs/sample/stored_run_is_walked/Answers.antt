@@ -5,7 +5,7 @@ use Rattle.unwind_laws.specs.Pushing.{function, start, calls}
 use Rattle.unwind_laws.proofs.PushingValid.{one_valid}
 use Rattle.unwind_laws.proofs.Walk.{valid_described}
 use Rattle.unwind_arch.specs.ContextViews.{columns_of}
-use Rattle.stack_deliver.specs.SpaceViews.{process_of}
+use Rattle.stack_steps.specs.SpaceViews.{process_of}
 use Rattle.stack_snapshot.specs.Content.{space_of}
 use Rattle.stack_report.specs.Digits.{hexadecimal}
 use Rattle.unwind_cli.specs.Sample.{snapshot}

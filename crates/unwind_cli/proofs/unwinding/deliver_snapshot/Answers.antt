@@ -1,5 +1,5 @@
 use Rattle.std.proofs.Common.{◌≡◌, Result, ◌∙◌, refl, subst}
-use Rattle.stack_deliver.specs.declared.answers.DeliverError.{DeliverError}
+use Rattle.stack_steps.specs.declared.answers.DeliverError.{DeliverError}
 use Rattle.stack_deliver.specs.StackDelivery.{DeliveryValue, GivesUnlessNoMemory, stack_delivery}
 use Rattle.stack_snapshot.specs.Content.{space_of}
 use Rattle.unwind_cli.specs.Due.{delivery_from}

@@ -1,6 +1,0 @@
-use Rattle.std.proofs.Common.{take}
-use Rattle.stack_deliver.specs.Held.{AreMade}
-use Rattle.stack_deliver.proofs.prepared.tables_for.Given as goal
-
-abbrev pub invariant-loop-held : goal.invariant-loop-held
-invariant-loop-held l = AreMade l.image l.fn.most (take l.held-index l.added) l.made.items l.left

@@ -1,0 +1,13 @@
+pub mod Apart
+pub mod ContextLemmas
+pub mod Counted
+pub mod HeaderFinds
+pub mod Holding
+pub mod IndexFinds
+pub mod Making
+pub mod MetFrames
+pub mod StepAnswers
+pub mod StepParts
+pub mod StepUndone
+pub mod StopSamples
+pub mod StoppedUndone

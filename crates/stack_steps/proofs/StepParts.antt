@@ -1,0 +1,49 @@
+-- A step as the frame and its caller.
+use Rattle.std.proofs.Common.{◌≡◌, ℕ, Bool, Option, Some, None, Result, Ok, Err, List, refl}
+use Rattle.memory_image.specs.Image.{Span}
+use Rattle.unwind_definitions.specs.Row.{RowInstructions, row_at}
+use Rattle.unwind_definitions.specs.Caller.{x86_64, caller_of}
+use Rattle.unwind_arch.specs.declared.x86_64.Context.{Context}
+use Rattle.unwind_arch.specs.ContextViews.{columns_of, context_of}
+use Rattle.unwind_definitions.specs.Expressions.{evaluation}
+use Rattle.fde_finders.specs.Finding.{FoundFde}
+use Rattle.stack_steps.specs.declared.answers.Stepped.{Stepped}
+use Rattle.stack_steps.specs.declared.answers.DeliverError.{DeliverError}
+use Rattle.stack_steps.specs.Modules.{SpaceValue}
+use Rattle.stack_steps.specs.Results.{◌>>=◌, result_map}
+use Rattle.stack_steps.specs.Stepping.{FrameAt, frame_by, frame_of, caller_by, caller_at, step_of}
+use Rattle.stack_steps.proofs.ContextLemmas.{IsWhole, context_of-columns}
+
+abbrev pub some_next : Result Stepped DeliverError → Result (Option Stepped) DeliverError
+some_next = result_map Some
+
+abbrev pub stepped_by : List Span → Context → Result (Option FrameAt) DeliverError → Result (Option Stepped) DeliverError
+stepped_by image c frame = frame >>= caller_at image c
+
+pub step_is : (space : SpaceValue) (c : Context) (interrupted : Bool) → step_of space c interrupted ≡ stepped_by space.image c (frame_of space c interrupted)
+unfolding step_of
+step_is space c interrupted = refl
+
+-- only at no frame there is no caller
+pub none_framed : (image : List Span) (c : Context) (r : Result (Option FrameAt) DeliverError) → stepped_by image c r ≡ Ok None → r ≡ Ok None
+none_framed image c (Ok None) e = refl
+none_framed image c (Ok (Some f)) e = absurd (never (callers f) e)
+  where
+    callers : FrameAt → Result Stepped DeliverError
+    callers g = caller_by image c g
+
+    never : (r : Result Stepped DeliverError) → some_next r ≡ Ok None → ⊥
+    never (Ok n) e = absurd cc
+    never (Err x) e = absurd cc
+none_framed image c (Err x) e = absurd cc
+
+-- what is found, with its row, is the frame
+pub frame_found : (a : ℕ) (o : Option FoundFde) (found : FoundFde) (run : RowInstructions) → Some found ≡ o → row_at found.bases found.fde a ≡ Ok run → frame_by a o ≡ Ok (Some (record { found = found; run = run }))
+frame_found a o found run is row = rw (← is, row) refl
+
+-- a caller's columns are those of the context that holds them
+pub caller_left : (image : List Span) (c next : Context) (found : FoundFde) (f : FrameAt) → found ≡ f.found → IsWhole next → Ok (columns_of next) ≡ caller_of x86_64 (evaluation image) image (columns_of c) f.run →
+    Ok (record { context = next; signal = found.fde.cie.letters.signal }) ≡ caller_by image c f
+caller_left image c next found f same whole is =
+    let kept : context_of (columns_of next) ≡ next = context_of-columns next (columns_of next) whole (λ k. refl) in
+    rw (← is, kept, same) refl

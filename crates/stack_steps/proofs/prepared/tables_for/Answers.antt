@@ -1,0 +1,38 @@
+use Rattle.std.proofs.Common.{◌≡◌, ◌+◌, ◌++◌, ◌∷◌, [], List, Option, Some, None, take, sym, ap, subst, ◌∙◌, arith}
+use Rattle.std.proofs.lemmas.List.{take_all, take_more}
+use Rattle.stack_steps.specs.declared.prepared.Left.{Left}
+use Rattle.stack_steps.specs.declared.prepared.PreparedTable.{PreparedTable}
+use Rattle.stack_steps.specs.declared.space.Held.{Held}
+use Rattle.stack_steps.specs.Held.{AreMade, LeavesBy, Leaves}
+use Rattle.stack_steps.proofs.Making.{made_push}
+use Rattle.stack_steps.proofs.prepared.tables_for.Goals as goal
+use Rattle.stack_steps.proofs.prepared.tables_for.Goals.{in-Some, in_default}
+
+leaves_some : (left next left' : Left) (o : Option PreparedTable) (t : PreparedTable) → o ≡ Some t → next ≡ left' → LeavesBy left t.index left' → Leaves left o next
+leaves_some left next left' o t is at by = subst (λ (p : Option PreparedTable). Leaves left p next) (sym is) (subst (LeavesBy left t.index) (sym at) by)
+
+leaves_none : (left next : Left) (o : Option PreparedTable) → o ≡ None → next ≡ left → Leaves left o next
+leaves_none left next o is at = subst (λ (p : Option PreparedTable). Leaves left p next) (sym is) at
+
+pub loop-held-preserved : goal.loop-held-preserved
+loop-held-preserved c =
+    let xs = c.args.added.now in
+    let k = c.loop-held.held-index in
+    let held = c.held-item.result in
+    let o = c.in_ok-table.table in
+    let leaves : Leaves c.loop-held.left o c.match-table.left = elim c.match-table.branch [
+      | in-Some w ↦ leaves_some c.loop-held.left c.match-table.left w.after-left.result o w.in-Some.table w.in-Some.is w.left-is w.after-left.ensures
+      | in_default w ↦ leaves_none c.loop-held.left c.match-table.left o w.in_default.is w.left-is
+    ] in
+    let more = made_push c.args.image.now c.args.most c.loop-held.left c.match-table.left (take k xs) c.loop-held.made.items held o c.loop-held.invariant c.in_ok-table.ensures leaves in
+    let items = c.in_ok-push.ensures.items in
+    let front : take k xs ++ held ∷ [] ≡ take (k + 1) xs = ap (λ (h : Held). take k xs ++ h ∷ []) c.held-item.is ∙ sym (take_more xs k held (omega arith)) in
+    subst (λ (l : List (Option PreparedTable)). AreMade c.args.image.now c.args.most (take (k + 1) xs) l c.match-table.left) (sym items)
+    (subst (λ (l : List Held). AreMade c.args.image.now c.args.most l (c.loop-held.made.items ++ o ∷ []) c.match-table.left) front more)
+
+pub returns : goal.returns
+returns c =
+    let xs = c.args.added.now in
+    let k = c.loop-held.held-index in
+    let all : take k xs ≡ xs = take_all k xs (omega arith) in
+    subst (λ (l : List Held). AreMade c.args.image.now c.args.most l c.loop-held.made.items c.loop-held.left) all c.loop-held.invariant

@@ -1,0 +1,45 @@
+use Rattle.std.proofs.Common.{◌≡◌, true, false, sym, subst, ◌∙◌, Result, Option}
+use Rattle.stack_steps.specs.declared.answers.DeliverError.{DeliverError}
+use Rattle.stack_steps.specs.declared.answers.Stepped.{Stepped}
+use Rattle.unwind_arch.specs.ContextViews.{columns_of}
+use Rattle.stack_steps.specs.Undoing.{Undone}
+use Rattle.stack_steps.specs.Stepping.{step_of}
+use Rattle.stack_steps.proofs.Counted.{index_is_searched, scan_is_free, ticks_rise}
+use Rattle.stack_steps.proofs.MetFrames.{step_undone}
+use Rattle.stack_steps.proofs.StoppedUndone.{stopped_undone}
+use Rattle.stack_steps.proofs.StepAnswers.{step_ends, ends_step, step_unmapped, step_read, read_step, step_table, table_step, step_caller, caller_step}
+use Rattle.stack_steps.proofs.stepping.step.Goals as goal
+
+pub returns-clause-undone : goal.returns-clause-undone
+returns-clause-undone g c functions s call is shows called =
+    let at : step_of c.args.space.now c.args.context.now false ≡ c.stepped.result = sym (rw called at c.stepped.ensures.exact) in
+    subst (λ (r : Result (Option Stepped) DeliverError). Undone r (columns_of c.args.context.now) call.caller) at (step_undone c.args.space.now c.args.context.now functions s call c.stepped.ensures.apart c.stepped.ensures.laid_out is shows)
+
+pub returns-clause-stopped : goal.returns-clause-stopped
+returns-clause-stopped g c functions s call is shows marked =
+    let at : step_of c.args.space.now c.args.context.now true ≡ c.stepped.result = sym (rw marked at c.stepped.ensures.exact) in
+    subst (λ (r : Result (Option Stepped) DeliverError). Undone r (columns_of c.args.context.now) call.caller) at (stopped_undone c.args.space.now c.args.context.now s call c.stepped.ensures.apart c.stepped.ensures.laid_out is.returns shows functions is)
+
+pub returns-clause-ends : goal.returns-clause-ends
+returns-clause-ends g c = (λ e. step_ends c.args.space.now c.args.context.now c.args.interrupted (sym c.stepped.ensures.exact ∙ e), λ ends. c.stepped.ensures.exact ∙ ends_step c.args.space.now c.args.context.now c.args.interrupted ends)
+
+pub returns-clause-unmapped : goal.returns-clause-unmapped
+returns-clause-unmapped g c a e = step_unmapped c.args.space.now c.args.context.now c.args.interrupted a (sym c.stepped.ensures.exact ∙ e)
+
+pub returns-clause-table : goal.returns-clause-table
+returns-clause-table g c e = (λ is. step_table c.args.space.now c.args.context.now c.args.interrupted e (sym c.stepped.ensures.exact ∙ is), λ faults. c.stepped.ensures.exact ∙ table_step c.args.space.now c.args.context.now c.args.interrupted e faults)
+
+pub returns-clause-reads : goal.returns-clause-reads
+returns-clause-reads g c a = (λ is. step_read c.args.space.now c.args.context.now c.args.interrupted a (sym c.stepped.ensures.exact ∙ is), λ at. c.stepped.ensures.exact ∙ read_step c.args.space.now c.args.context.now c.args.interrupted a at)
+
+pub returns-clause-caller : goal.returns-clause-caller
+returns-clause-caller g c next = (λ is. step_caller c.args.space.now c.args.context.now c.args.interrupted next (sym c.stepped.ensures.exact ∙ is), λ at. c.stepped.ensures.exact ∙ caller_step c.args.space.now c.args.context.now c.args.interrupted next at)
+
+pub returns-clause-ticks : goal.returns-clause-ticks
+returns-clause-ticks g c = ticks_rise c.args.space.now c.args.context.now c.args.interrupted c.args.steps.now.number c.stepped.new.steps.number c.stepped.ensures.ticks
+
+pub returns-clause-prepared : goal.returns-clause-prepared
+returns-clause-prepared g c some long = index_is_searched c.args.space.now c.args.context.now c.args.interrupted c.args.steps.now.number c.stepped.new.steps.number c.stepped.ensures.ticks some long
+
+pub returns-clause-scanned : goal.returns-clause-scanned
+returns-clause-scanned g c at = scan_is_free c.args.space.now c.args.context.now c.args.interrupted c.args.steps.now.number c.stepped.new.steps.number c.stepped.ensures.ticks at

@@ -1,0 +1,12 @@
+pub mod Asking
+pub mod FrameViews
+pub mod Held
+pub mod Modules
+pub mod Preparing
+pub mod Results
+pub mod SpaceViews
+pub mod Stepping
+pub mod StopSample
+pub mod Stopped
+pub mod Ticking
+pub mod Undoing

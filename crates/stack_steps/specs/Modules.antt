@@ -1,0 +1,80 @@
+-- Modules by address, and which of them a space takes.
+use Rattle.std.specs.Prelude.{ℕ, ◌<◌, ◌≤◌, Bool, ◌&&◌, List, [], ◌∷◌, Option, Some, None, nat_le, nat_lt, map, if◌then◌else◌}
+use Rattle.std.specs.Option.{option_map}
+use Rattle.memory_image.specs.Image.{Span, lower}
+use Rattle.eh_frame.specs.Index.{Index}
+use Rattle.stack_steps.specs.declared.space.SpaceError.{SpaceError}
+use Rattle.stack_steps.specs.declared.space.SpaceError.TheVariants.{Wraps, Overlap}
+use Rattle.stack_steps.specs.declared.space.Module.{Module}
+use Rattle.stack_steps.specs.declared.space.Extent.{Extent}
+
+-- a module that was added, and the index of its frame table, where the module is prepared
+pub record Added : Type 0 where
+  pub holder : Module
+  pub index : Option Index
+
+abbrev pub unprepared : Module → Added
+unprepared m = record { holder = m; index = None }
+
+-- memory by address, the modules in it by ascending start, and the same modules in the order in which they were added, with their
+-- indexes
+pub record SpaceValue : Type 0 where
+  pub image : List Span
+  pub modules : List Module
+  pub added : List Added
+
+-- the address lies in the module
+abbrev pub contains : Module → ℕ → Bool
+contains m a = nat_le m.start a && nat_lt a m.end
+
+-- the module that contains the address
+abbrev pub module_at : List Module → ℕ → Option Module
+module_at [] a = None
+module_at (m ∷ ms) a = if contains m a then Some m else module_at ms a
+
+-- modules from low on by ascending start, none of them empty, each from the end of the one before on
+abbrev pub AreApart : ℕ → List Module → Type 0
+AreApart low [] = Unit {0}
+AreApart low (m ∷ ms) = (low ≤ m.start) × (m.start < m.end) × AreApart m.end ms
+
+-- the module has an address from start to before end
+abbrev pub shares : Module → ℕ → ℕ → Bool
+shares m start end = nat_lt m.start end && nat_lt start m.end
+
+-- the lowest start of a module that has an address from start to before end
+abbrev pub lowest_shared : List Module → ℕ → ℕ → Option ℕ
+lowest_shared [] start end = None
+lowest_shared (m ∷ ms) start end = if shares m start end then lower m.start (lowest_shared ms start end) else lowest_shared ms start end
+
+-- why a module is not taken beside these
+abbrev pub module_refusal : List Module → Module → Option SpaceError
+module_refusal ms m = if nat_le m.end m.start then Some Wraps else option_map Overlap (lowest_shared ms m.start m.end)
+
+-- the modules with one more, by ascending start
+abbrev pub with_module : Module → List Module → List Module
+with_module m [] = m ∷ []
+with_module m (n ∷ ns) = if nat_lt m.start n.start then m ∷ n ∷ ns else n ∷ with_module m ns
+
+-- the module that starts at a key of the map
+abbrev pub module_of : ℕ × Extent → Module
+module_of e = record { start = e.0; end = e.1.end; frame = e.1.frame }
+
+-- the modules that a map from starts holds
+abbrev pub modules_in : List (ℕ × Extent) → List Module
+modules_in es = map module_of es
+
+-- ---- the modules beside an address
+
+abbrev pub or_else : Option Module → Option Module → Option Module
+or_else None m = m
+or_else (Some n) m = Some n
+
+-- the last module that starts at or below the address
+abbrev pub last_below : List Module → ℕ → Option Module
+last_below [] a = None
+last_below (m ∷ ms) a = or_else (last_below ms a) (if nat_le m.start a then Some m else None)
+
+-- the start of the first module that starts from start to before end
+abbrev pub first_between : List Module → ℕ → ℕ → Option ℕ
+first_between [] start end = None
+first_between (m ∷ ms) start end = if nat_le start m.start && nat_lt m.start end then Some m.start else first_between ms start end

@@ -1,0 +1,17 @@
+//! The step from a frame to its caller, in a stack that lies in an image of memory: the modules that
+//! the image holds, the indexes of their frame tables, the frame at a state, and its caller.
+#![tactic(auto)]
+
+mod answers;
+mod asking;
+mod prepared;
+mod space;
+mod stepping;
+mod stops;
+
+pub use answers::{DeliverError, Stepped};
+pub use asking::asked;
+pub use prepared::PreparedTable;
+pub use space::{Module, Space, SpaceError};
+pub use stepping::{FoundFrame, frame_at, leave, step};
+pub use stops::{stops_after_each_step_are_described, walks_from_stops_are_described};

@@ -1,0 +1,162 @@
+// Frame tables of modules with their indexes.
+ghost use Rattle.std.specs.Prelude.{◌≡◌, ◌<◌, ◌≤◌, ◌^◌, IfOk, false, is_some, length, true};
+ghost use Rattle.std.specs.List.{count_by};
+ghost use Rattle.fde_finders.specs.NamedTables.{named_of};
+ghost use Rattle.stack_steps.specs.Held.{AreMade, LeavesBy, MakesTable, PreparesTable, with_tables};
+ghost use Rattle.stack_steps.specs.Preparing.{Lists, fdes_in};
+
+use crate::space::Held;
+use eh_frame::{Bases, EhFrame, Prepared};
+use fde_finders::{FrameInfo, FrameInfoKind, NamedTable, named_table};
+use memory_image::MemoryImage;
+use std::alloc::{AllocError, Global};
+
+/// How many more rows, and rules of registers, the indexes of a space may keep.
+#[derive(Clone, Copy)]
+pub(crate) struct Left {
+    pub(crate) rows: u32,
+    pub(crate) rules: u32,
+}
+
+/// What the indexes of an unprepared space may keep: about 200 MB.
+pub(crate) const MOST: Left = Left {
+    rows: 1_048_576,
+    rules: 4_194_304,
+};
+
+impl Left {
+    /// What is left after an index.
+    fn after(self, index: &Prepared<'_>) -> Left
+        requires rows { index.now.row_count ≤ self.rows }
+        requires rules { index.now.rule_count ≤ self.rules }
+        ensures { LeavesBy self index.now result }
+    {
+        Left {
+            rows: self.rows - index.rows_len(),
+            rules: self.rules - index.rules_len(),
+        }
+    }
+}
+
+/// A frame table with its index.
+#[derive(Drop)]
+pub struct PreparedTable<'a> {
+    /// The index, by which descriptions and their rows are found.
+    pub index: Prepared<'a>,
+    /// The table.
+    pub frames: EhFrame<'a>,
+    /// What the pointers of its descriptions may be relative to.
+    pub bases: Bases,
+}
+
+impl<'a> PreparedTable<'a> {
+    /// The frame table that a module names, with an index that keeps no more than is left. `None`
+    /// where there is no such index, or a header that the module names doesn't list what it holds.
+    ///
+    /// # Errors
+    ///
+    /// Where memory runs out.
+    pub(crate) fn build(
+        alloc: Global,
+        image: &MemoryImage<'a>,
+        tables: FrameInfo,
+        left: Left,
+    ) -> Result<Option<PreparedTable<'a>>, AllocError>
+        ensures { IfOk result (λ table. PreparesTable image.now tables left table) }
+    {
+        let Some(named) = named_table(image, tables) else {
+            return Ok(None);
+        };
+        let built = Prepared::build(alloc, &named.frames, &named.bases, left.rows, left.rules)?;
+        let Some(index) = built else {
+            return Ok(None);
+        };
+        if !lists(tables.kind, &named, &index) {
+            return Ok(None);
+        }
+        Ok(Some(PreparedTable {
+            index,
+            frames: named.frames,
+            bases: named.bases,
+        }))
+    }
+}
+
+/// Whether a header that a module names lists exactly the descriptions of an index, by ascending
+/// start.
+fn lists(kind: FrameInfoKind, named: &NamedTable<'_>, index: &Prepared<'_>) -> bool
+    ensures listed { result ≡ true → Lists kind (named_of named.now) (fdes_in index.now) }
+    ensures unlisted { result ≡ false → ¬ Lists kind (named_of named.now) (fdes_in index.now) }
+{
+    match kind {
+        FrameInfoKind::EhFrame(_) => true,
+        FrameInfoKind::EhFrameHdr(_) => match &named.pairs {
+            Some(pairs) => index.is_listed_by(pairs, &named.frames),
+            None => false,
+        },
+    }
+}
+
+/// The table of a module that isn't prepared yet, with an index that keeps no more than is left.
+///
+/// # Errors
+///
+/// Where memory runs out.
+fn table_for<'a>(
+    alloc: Global,
+    image: &MemoryImage<'a>,
+    held: &Held<'a>,
+    left: Left,
+) -> Result<Option<PreparedTable<'a>>, AllocError>
+    ensures { IfOk result (λ table. MakesTable image.now left held.now table) }
+{
+    if held.table.is_some() {
+        return Ok(None);
+    }
+    PreparedTable::build(alloc, image, held.holder.frame, left)
+}
+
+/// The tables of the modules that aren't prepared yet and that can be, one after another, and what
+/// is left after them.
+///
+/// # Errors
+///
+/// Where memory runs out.
+pub(crate) fn tables_for<'a>(
+    alloc: Global,
+    image: &MemoryImage<'a>,
+    added: &[Held<'a>],
+    most: Left,
+) -> Result<(Vec<Option<PreparedTable<'a>>>, Left), AllocError>
+    ensures { IfOk result (λ r. AreMade image.now most added.now r.0.items r.1) }
+{
+    let mut left = most;
+    let mut made = Vec::new(alloc);
+    for held in added {
+        let table = table_for(alloc, image, held, left)?;
+        if let Some(table) = &table {
+            left = left.after(&table.index);
+        }
+        made.push(table)?;
+    }
+    Ok((made, left))
+}
+
+/// Keeps the tables that were made for modules. It answers how many these are.
+pub(crate) fn keep<'a>(added: &mut [Held<'a>], made: Vec<Option<PreparedTable<'a>>>) -> u32
+    requires each { length made.items ≡ length added.old }
+    requires few { count_by is_some made.items < 2 ^ 32 }
+    ensures tables { added.new ≡ with_tables added.old made.entry.items }
+    ensures count { result ≡ count_by is_some made.entry.items }
+{
+    let mut place = 0;
+    let mut count = 0;
+    for table in made {
+        if table.is_some() {
+            added[place].table = table;
+            count += 1;
+        }
+        place += 1;
+    }
+    count
+}

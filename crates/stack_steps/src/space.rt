@@ -1,0 +1,269 @@
+// An image of memory, and the modules that lie in it.
+ghost use Rattle.std.specs.Prelude.{◌≡◌, ◌<◌, ◌∷◌, ◌++◌, [], None, IfOk, IfSome, MatchOption, IsOkUnless, OnOk, OnErr};
+ghost use Rattle.std.specs.List.{Contains};
+ghost use Rattle.std.specs.Option.{option_map};
+ghost use Rattle.memory_image.specs.Image.{IsLaidOut};
+ghost use Rattle.stack_steps.specs.Modules.{module_refusal, lowest_shared, module_at, module_of, unprepared, with_module, modules_in, AreApart};
+ghost use Rattle.stack_steps.specs.Modules.{last_below, first_between};
+
+use crate::prepared::{Left, MOST, PreparedTable, keep, tables_for};
+use fde_finders::FrameInfo;
+use memory_image::MemoryImage;
+use std::alloc::{AllocError, Global};
+use std::collections::BTreeMap;
+use std::marker::Model;
+
+/// An ELF module: its addresses are those from `start` to before `end`.
+#[derive(Clone, Copy, Debug, PartialEq, Eq)]
+pub struct Module {
+    /// Its first address.
+    pub start: u64,
+    /// The address after its last.
+    pub end: u64,
+    /// Where its frame tables lie.
+    pub frame: FrameInfo,
+}
+
+/// What a module is beside its start.
+#[derive(Clone, Copy, Debug, Drop)]
+struct Extent {
+    end: u64,
+    frame: FrameInfo,
+    // in the order of adding
+    place: usize,
+}
+
+/// A module that was added, and its frame table with an index, where it is prepared.
+#[derive(Drop)]
+pub(crate) struct Held<'a> {
+    pub(crate) holder: Module,
+    pub(crate) table: Option<PreparedTable<'a>>,
+}
+
+/// Why a module isn't taken.
+#[derive(Clone, Copy, Debug, PartialEq, Eq, thiserror::Error)]
+pub enum SpaceError {
+    /// Its range is empty or reversed.
+    #[error("the module's range is empty or reversed")]
+    Wraps,
+    /// It shares an address with earlier modules, the lowest of which starts here.
+    #[error("the module shares an address with the one that starts at {0:#x}")]
+    Overlap(u64),
+    /// Memory ran out.
+    #[error("out of memory")]
+    NoMemory,
+}
+
+/// An image of memory and the modules that lie in it, no two of which share an address.
+///
+/// A module is prepared where its frame table has an index, which [`Space::prepare`] makes. Steps,
+/// walks and deliveries answer the same with it and without.
+///
+/// Contracts see the image, the modules by ascending start, and the modules in the order in which
+/// they were added, with their indexes.
+#[derive(Drop)]
+pub struct Space<'a> {
+    image: MemoryImage<'a>,
+    // by start
+    modules: BTreeMap<u64, Extent>,
+    // in the order of adding
+    added: Vec<Held<'a>>,
+    left: Left,
+    alloc: Global,
+}
+
+impl<'a> Model for Space<'a> {
+    ghost use Rattle.std.specs.Prelude.{map};
+    ghost use Rattle.stack_steps.specs.Held.{IsSpace, added_of};
+    ghost use Rattle.stack_steps.specs.Modules.{SpaceValue, modules_in};
+
+    ghost Value = { SpaceValue };
+
+    ghost view = { λ s. record {
+      image = s.image;
+      modules = modules_in s.modules.entries;
+      added = map added_of s.added.items;
+    } };
+
+    ghost invariant = { λ s. IsSpace s.image s.modules.entries s.added.items s.left };
+}
+
+impl<'a> Space<'a> {
+    ghost use Rattle.stack_steps.specs.Held.{IsHeld, added_of, holder_of};
+    ghost use Rattle.stack_steps.specs.Preparing.{Prepares, index_at, prepared_len};
+
+    /// A space without modules. It takes no memory yet.
+    pub fn new(alloc: Global, image: MemoryImage<'a>) -> Space<'a>
+        ensures { result ≡ record { image = image.entry; modules = []; added = [] } }
+    {
+        // A look into it tells the proof that the image is laid out.
+        let _ = image.from(0);
+        Space {
+            image,
+            modules: BTreeMap::new(alloc),
+            added: Vec::new(alloc),
+            left: MOST,
+            alloc,
+        }
+    }
+
+    /// Adds an ELF module with the addresses from `start` to before `end`.
+    ///
+    /// # Errors
+    ///
+    /// In this order: `Wraps` where the range is empty or reversed, `Overlap` with the lowest start
+    /// of an earlier module that shares an address, `NoMemory`. The space is then as before.
+    pub fn add_elf(&mut self, start: u64, end: u64, frame: FrameInfo) -> Result<(), SpaceError>
+        ensures refused { MatchOption
+            (module_refusal self.old.modules (record { start = start; end = end; frame = frame }))
+            (IsOkUnless result SpaceError.NoMemory) (λ error. result ≡ Err error) }
+        ensures added { OnOk result
+            (self.new ≡ record self.old {
+              modules = with_module (record { start = start; end = end; frame = frame })
+                  self.old.modules;
+              added = self.old.added
+                  ++ unprepared (record { start = start; end = end; frame = frame }) ∷ [];
+            }) }
+        ensures unchanged { OnErr result (self.new ≡ self.old) }
+    {
+        if end <= start {
+            return Err(SpaceError::Wraps);
+        }
+        if let Some(shared) = lowest_shared(&self.modules, start, end) {
+            return Err(SpaceError::Overlap(shared));
+        }
+        if self.added.reserve(1).is_err() {
+            return Err(SpaceError::NoMemory);
+        }
+        let place = self.added.len();
+        match self.modules.insert(start, Extent { end, frame, place }) {
+            Ok(_) => {
+                self.added.push_reserved(Held {
+                    holder: Module { start, end, frame },
+                    table: None,
+                });
+                Ok(())
+            }
+            Err(_) => Err(SpaceError::NoMemory),
+        }
+    }
+
+    /// Makes indexes of the frame tables of modules, so that each look-up is a search and no program
+    /// is run: in the order of adding, of each module that isn't prepared yet and that can be. It
+    /// answers how many modules this call prepared.
+    ///
+    /// A module can be prepared where
+    ///
+    /// - it names its frame table itself; or by a header that can be read, whose frame table's
+    ///   address is mapped, and whose table lists exactly the descriptions whose ranges aren't
+    ///   empty, by ascending start;
+    /// - and the frame table has an index: each entry can be read, no two ranges share an address,
+    ///   and one holds a byte;
+    /// - and the index keeps no more than what the others have left of 1,048,576 rows and 4,194,304
+    ///   rules of registers in the whole space.
+    ///
+    /// Each frame table is read once, and each of its programs is run once.
+    ///
+    /// # Errors
+    ///
+    /// `AllocError` where memory ran out. The space is then as before.
+    pub fn prepare(&mut self) -> Result<u32, AllocError>
+        ensures prepares { IfOk result (λ count. Prepares self.old count self.new) }
+        ensures unchanged { OnErr result (self.new ≡ self.old) }
+    {
+        let (made, left) = tables_for(self.alloc, &self.image, &self.added, self.left)?;
+        let count = keep(&mut self.added, made);
+        self.left = left;
+        Ok(count)
+    }
+
+    /// How many descriptions the index of the module has that holds the address. 0 exactly where no
+    /// prepared module holds it.
+    pub fn prepared_len(&self, address: u64) -> u64
+        ensures { result ≡ prepared_len self.now address }
+    {
+        match self.held_at(address) {
+            Some(held) => match &held.table {
+                Some(table) => table.index.len(),
+                None => 0,
+            },
+            None => 0,
+        }
+    }
+
+    /// The module that contains the address.
+    pub fn module_at(&self, address: u64) -> Option<Module>
+        ensures { result ≡ module_at self.now.modules address }
+    {
+        match self.held_at(address) {
+            Some(held) => Some(held.holder),
+            None => None,
+        }
+    }
+
+    /// The module that contains the address, with its table, where it is prepared.
+    pub(crate) fn held_at(&self, address: u64) -> Option<&Held<'a>>
+        ensures module { option_map (λ held. holder_of held.now) result ≡
+            module_at self.now.modules address }
+        ensures index { MatchOption result (index_at self.now.added address ≡ None)
+            (λ held. index_at self.now.added address ≡ (added_of held.now).index) }
+        ensures table { IfSome result (λ held. IsHeld self.now.image held.now) }
+    {
+        match last_below(&self.modules, address) {
+            Some((_, extent)) => {
+                if address < extent.end {
+                    Some(&self.added[extent.place])
+                } else {
+                    None
+                }
+            }
+            None => None,
+        }
+    }
+
+    /// The memory that the modules lie in.
+    pub fn image(&self) -> &MemoryImage<'a>
+        ensures image { result.now ≡ self.now.image }
+        ensures apart { AreApart 0 self.now.modules }
+        ensures laid_out { IsLaidOut 0 self.now.image }
+    {
+        &self.image
+    }
+}
+
+/// The last module that starts at or below the address.
+fn last_below(modules: &BTreeMap<u64, Extent>, address: u64) -> Option<(u64, Extent)>
+    ensures last { option_map module_of result ≡ last_below (modules_in modules.now.entries)
+        address }
+    ensures stands { IfSome result (λ entry. Contains modules.now.entries entry) }
+{
+    match modules.range(..=address).next_back() {
+        Some((start, extent)) => Some((*start, *extent)),
+        None => None,
+    }
+}
+
+/// The start of the first module that starts from `start` to before `end`.
+fn first_between(modules: &BTreeMap<u64, Extent>, start: u64, end: u64) -> Option<u64>
+    requires { start < end }
+    ensures { result ≡ first_between (modules_in modules.now.entries) start end }
+{
+    match modules.range(start..end).next() {
+        Some((first, _)) => Some(*first),
+        None => None,
+    }
+}
+
+/// The lowest start of a module that has an address from `start` to before `end`.
+fn lowest_shared(modules: &BTreeMap<u64, Extent>, start: u64, end: u64) -> Option<u64>
+    requires apart { AreApart 0 (modules_in modules.now.entries) }
+    requires some { start < end }
+    ensures { result ≡ lowest_shared (modules_in modules.now.entries) start end }
+{
+    if let Some((first, extent)) = last_below(modules, start) {
+        if start < extent.end {
+            return Some(first);
+        }
+    }
+    first_between(modules, start, end)
+}

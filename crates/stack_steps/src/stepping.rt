@@ -1,0 +1,314 @@
+// From a frame to its caller, by the frame tables of the module that holds it.
+ghost use Rattle.std.specs.Prelude.{◌≡◌, ◌≢◌, ◌↔◌, ◌<◌, ℕ, List, length, Some, None, Ok, Err, IsTrue, IsFalse, OnErr};
+ghost use Rattle.memory_image.specs.Image.{Span, word_at, IsLaidOut};
+ghost use Rattle.unwind_definitions.specs.declared.error.Error.{Error as Fault};
+ghost use Rattle.unwind_definitions.specs.State.{State, Shows};
+ghost use Rattle.unwind_definitions.specs.Function.{Function};
+ghost use Rattle.unwind_definitions.specs.Chain.{Call};
+ghost use Rattle.unwind_definitions.specs.LanguageSearch.{address_of_call};
+ghost use Rattle.unwind_definitions.specs.Row.{RowInstructions, argument_size};
+ghost use Rattle.unwind_definitions.specs.Caller.{x86_64, caller_of};
+ghost use Rattle.unwind_definitions.specs.Expressions.{evaluation};
+ghost use Rattle.unwinding_frames.specs.Calling.{columns_given, written_in};
+ghost use Rattle.unwind_arch.specs.ContextViews.{columns_of};
+ghost use Rattle.eh_frame.specs.Index.{AreFewSteps};
+ghost use Rattle.fde_finders.specs.declared.custom.FrameInfo.{FrameInfo as Tables};
+ghost use Rattle.fde_finders.specs.FoundViews.{answered};
+ghost use Rattle.fde_finders.specs.Named.{found_by, pairs_by};
+ghost use Rattle.frame_rows.specs.RowValue.{RowValue};
+ghost use Rattle.stack_steps.specs.Held.{IsHeld, IsTableOf, added_of};
+ghost use Rattle.stack_steps.specs.Modules.{AreApart};
+ghost use Rattle.stack_steps.specs.Preparing.{prepared_len};
+ghost use Rattle.stack_steps.specs.SpaceViews.{process_of};
+ghost use Rattle.stack_steps.specs.FrameViews.{IsFrameOf, GivesFrameAt};
+ghost use Rattle.stack_steps.specs.Ticking.{IsScannedAt, RisesBySearch, TicksAt, TicksIn, searched_at};
+ghost use Rattle.stack_steps.specs.Results.{result_map};
+ghost use Rattle.stack_steps.specs.Stepping.{FrameAt, frame_by, frame_in, frame_of, caller_by, step_of, GivesCaller, EndsAt, FaultsAt, ReadIsUnmapped};
+ghost use Rattle.stack_steps.specs.Undoing.{IsDescribedCall, Undone};
+ghost use Rattle.stack_steps.specs.Stopped.{IsDescribedStop};
+
+use crate::answers::{DeliverError, Stepped};
+use crate::prepared::PreparedTable;
+use crate::space::{Held, Space};
+use eh_frame::{PreparedFrame, RowRoom};
+use fde_finders::{FDESearchResult, FrameInfo, find_named};
+use memory_image::{Ledger, MemoryImage, Steps};
+use unwind_arch::x86_64::{Arch, Context, RSP};
+use unwinding_frames::{StepError, Window, address_asked, write_caller};
+
+impl Stepped {
+    /// The address that is asked of the frame: that of its instruction, or of a byte of its call.
+    pub fn address(&self) -> u64
+        ensures { result ≡ address_of_call self.now.context.ra self.now.signal }
+    {
+        address_asked(self.context.ra, self.signal)
+    }
+}
+
+/// A frame of the stack: what was found for the address asked of it.
+#[derive(Drop)]
+pub enum FoundFrame<'f, 'a> {
+    /// By a search of a module's tables. Its row was made in the room for rows.
+    Searched(FDESearchResult<'a>),
+    /// By the index of a prepared module, which lends its row.
+    Prepared(&'f PreparedTable<'a>, PreparedFrame<'f, 'a>),
+}
+
+impl<'f, 'a> FoundFrame<'f, 'a> {
+    ghost use Rattle.stack_steps.specs.FrameViews.{seen};
+
+    /// The description, what its pointers may be relative to, and its table.
+    pub fn found(&self) -> FDESearchResult<'a>
+        ensures { answered result ≡ seen self.now }
+    {
+        match self {
+            FoundFrame::Searched(found) => *found,
+            FoundFrame::Prepared(table, frame) => FDESearchResult {
+                fde: frame.fde(),
+                bases: table.bases,
+                eh_frame: table.frames,
+            },
+        }
+    }
+
+    /// Whether it is a signal's.
+    fn is_signal_trampoline(&self) -> bool
+        ensures { result ≡ (seen self.now).fde.cie.letters.signal }
+    {
+        match self {
+            FoundFrame::Searched(found) => found.fde.is_signal_trampoline(),
+            FoundFrame::Prepared(_, frame) => frame.is_signal_trampoline(),
+        }
+    }
+
+    /// How many bytes of the stack hold arguments that the callee removes. `rows` is the room for
+    /// rows in which it was found.
+    pub fn arguments(&self, rows: &RowRoom<'_>) -> u64
+        ensures { (f : FrameAt) → IsFrameOf self.now rows.now f → result ≡ argument_size f.run }
+    {
+        match self {
+            FoundFrame::Searched(_) => rows.row().saved_args_size(),
+            FoundFrame::Prepared(_, frame) => match frame.row() {
+                Ok(row) => row.saved_args_size(),
+                Err(_) => 0,
+            },
+        }
+    }
+
+    /// Makes a copy of its registers those of its caller. `rows` is the room for rows in which it
+    /// was found. After a fault the copy is unspecified.
+    fn write_caller(
+        &self,
+        stack: &Window<'_, '_>,
+        context: &Context,
+        rows: &RowRoom<'_>,
+        caller: &mut Context,
+    ) -> Result<(), StepError>
+        requires { caller.old ≡ context.now }
+        ensures { (f : FrameAt) → IsFrameOf self.now rows.now f →
+            columns_given columns_of (written_in result caller.new) ≡ caller_of x86_64
+            (evaluation stack.now) stack.now (columns_of context.now) f.run }
+    {
+        match self {
+            FoundFrame::Searched(_) => write_caller::<Arch>(stack, context, &rows.row(), caller),
+            FoundFrame::Prepared(_, frame) => match frame.row() {
+                Ok(row) => write_caller::<Arch>(stack, context, row, caller),
+                Err(fault) => Err(StepError::Table(fault)),
+            },
+        }
+    }
+}
+
+/// The frame at an address of an ELF module, by its frame tables. The row is made in `rows`.
+fn searched_frame<'f, 'a, L: Ledger>(
+    image: &MemoryImage<'a>,
+    address: u64,
+    tables: FrameInfo,
+    rows: &mut RowRoom<'a>,
+    steps: &mut Steps<L>,
+) -> Result<Option<FoundFrame<'f, 'a>>, DeliverError>
+    ensures frame { GivesFrameAt result rows.new
+        (frame_by address (found_by tables image.now address)) }
+    ensures ticks { RisesBySearch (pairs_by tables image.now) steps.old.number steps.new.number }
+{
+    let Some(found) = find_named(image, address, tables, steps) else {
+        return Ok(None);
+    };
+    match found.make_row(address, rows) {
+        Ok(()) => Ok(Some(FoundFrame::Searched(found))),
+        Err(fault) => Err(DeliverError::Table(fault)),
+    }
+}
+
+/// The frame at an address of a prepared module, by the index of its frame table.
+fn prepared_frame<'f, 'a, L: Ledger>(
+    table: &'f PreparedTable<'a>,
+    address: u64,
+    steps: &mut Steps<L>,
+) -> Result<Option<FoundFrame<'f, 'a>>, DeliverError>
+    ensures frame { (image : List Span) (tables : Tables) (row : RowValue) → IsLaidOut 0 image →
+        IsTableOf image tables table.now →
+        GivesFrameAt result row (frame_by address (found_by tables image address)) }
+    ensures ticks { AreFewSteps (length table.now.index.functions) steps.old.number
+        steps.new.number }
+{
+    let Some(frame) = table.index.frame(address, steps) else {
+        return Ok(None);
+    };
+    match frame.row() {
+        Ok(_) => Ok(Some(FoundFrame::Prepared(table, frame))),
+        Err(fault) => Err(DeliverError::Table(fault)),
+    }
+}
+
+/// The frame at an address of a module. Here the kinds of modules part.
+fn frame_in<'f, 'a, L: Ledger>(
+    image: &MemoryImage<'a>,
+    address: u64,
+    holder: &'f Held<'a>,
+    rows: &mut RowRoom<'a>,
+    steps: &mut Steps<L>,
+) -> Result<Option<FoundFrame<'f, 'a>>, DeliverError>
+    requires held { IsHeld image.now holder.now }
+    requires laid_out { IsLaidOut 0 image.now }
+    ensures frame { GivesFrameAt result rows.new
+        (frame_in image.now address (Some holder.now.holder)) }
+    ensures ticks { TicksIn image.now (added_of holder.now) steps.old.number steps.new.number }
+{
+    match &holder.table {
+        Some(table) => prepared_frame(table, address, steps),
+        None => searched_frame(image, address, holder.holder.frame, rows, steps),
+    }
+}
+
+/// The frame at a state: what was found for the address asked, `None` at the end of the stack. A row
+/// that isn't lent by an index is made in `rows`.
+#[tactic(auto, unfolding(crate::specs::Stepping::frame_of))]
+pub fn frame_at<'f, 'a, L: Ledger>(
+    space: &'f Space<'a>,
+    state: &Stepped,
+    rows: &mut RowRoom<'a>,
+    steps: &mut Steps<L>,
+) -> Result<Option<FoundFrame<'f, 'a>>, DeliverError>
+    ensures frame { GivesFrameAt result rows.new
+        (frame_of space.now state.now.context state.now.signal) }
+    ensures ticks { TicksAt space.now state.now.context state.now.signal steps.old.number
+        steps.new.number }
+{
+    let image = space.image();
+    let address = state.address();
+    match space.held_at(address) {
+        Some(holder) if state.context.ra != 0 => frame_in(image, address, holder, rows, steps),
+        _ => Ok(None),
+    }
+}
+
+/// Puts the caller of the frame at a state in the state's place. After a fault the state is as
+/// before. `stack` is a window over the image, and `rows` the room for rows in which the frame was
+/// found.
+pub fn leave(
+    stack: &mut Window<'_, '_>,
+    state: &mut Stepped,
+    frame: &FoundFrame<'_, '_>,
+    rows: &RowRoom<'_>,
+) -> Result<(), DeliverError>
+    ensures caller { (f : FrameAt) → IsFrameOf frame.now rows.now f →
+        result_map (λ done. state.new) result ≡ caller_by stack.old state.old.context f }
+    ensures stays { OnErr result (state.new ≡ state.old) }
+    ensures same { stack.new ≡ stack.old }
+{
+    let callee = state.context;
+    stack.seek(callee.registers[RSP]);
+    match frame.write_caller(stack, &callee, rows, &mut state.context) {
+        Ok(()) => {
+            // A look at them tells the proof that there are sixteen registers.
+            let _ = state.context.registers[RSP];
+            state.signal = frame.is_signal_trampoline();
+            Ok(())
+        }
+        Err(fault) => {
+            state.context = callee;
+            Err(DeliverError::from(fault))
+        }
+    }
+}
+
+fn stepped<L: Ledger>(
+    space: &Space<'_>,
+    context: &Context,
+    interrupted: bool,
+    steps: &mut Steps<L>,
+) -> Result<Option<Stepped>, DeliverError>
+    ensures exact { result ≡ step_of space.now context.now interrupted }
+    ensures apart { AreApart 0 space.now.modules }
+    ensures laid_out { IsLaidOut 0 space.now.image }
+    ensures ticks { TicksAt space.now context.now interrupted steps.old.number steps.new.number }
+{
+    let image = space.image();
+    let mut stack = Window::new(image, context.registers[RSP]);
+    let mut rows = RowRoom::new();
+    let mut state = Stepped {
+        context: *context,
+        signal: interrupted,
+    };
+    let Some(frame) = frame_at(space, &state, &mut rows, steps)? else {
+        return Ok(None);
+    };
+    leave(&mut stack, &mut state, &frame, &rows)?;
+    Ok(Some(state))
+}
+
+/// The caller of the frame whose registers `context` holds, `None` at the end of the stack.
+///
+/// The address asked is `ra`, less one unless the frame was `interrupted`: after a call the
+/// instruction that called is the one before, which may be the last of its function. The stack
+/// ends where `ra` is 0, or where the address is in no module or no description is found for it:
+/// none contains it, or an entry before can't be read. A prepared module is asked by its index, and
+/// answers the same. Steps are counted in the search of an index, one at least, and in that of a
+/// header's table, at most as many as its length has binary digits, and none in a scan.
+///
+/// # Errors
+///
+/// `Table` where the row of the description can't be read or run, an expression has no value, or a
+/// register isn't the machine's; `Unmapped` with the address of a stack slot, or of a number that
+/// an expression reads, that isn't wholly mapped. The first fault counts: those of the row, then
+/// that of the canonical frame address, and then that of the lowest register.
+pub fn step<L: Ledger>(
+    space: &Space<'_>,
+    context: &Context,
+    interrupted: bool,
+    steps: &mut Steps<L>,
+) -> Result<Option<Stepped>, DeliverError>
+    ensures exact { result ≡ step_of space.now context.now interrupted }
+    ensures caller { (next : Stepped) → (result ≡ Ok (Some next)) ↔
+        GivesCaller space.now context.now interrupted next }
+    ensures ends { (result ≡ Ok None) ↔ EndsAt space.now context.now interrupted }
+    ensures table { (e : Fault) → (result ≡ Err (DeliverError.Table e)) ↔
+        FaultsAt space.now context.now interrupted e }
+    ensures unmapped { (a : ℕ) → result ≡ Err (DeliverError.Unmapped a) →
+        word_at space.now.image a ≡ None }
+    ensures reads { (a : ℕ) → (result ≡ Err (DeliverError.Unmapped a)) ↔
+        ReadIsUnmapped space.now context.now interrupted a }
+    ensures undone { (functions : List Function) (s : State) (call : Call) →
+        IsDescribedCall (process_of space.now) functions s call →
+        Shows (columns_of context.now) s → IsFalse interrupted →
+        Undone result (columns_of context.now) call.caller }
+    // The same where the function was stopped at any instruction of its prologue or its body.
+    ensures stopped { (functions : List Function) (s : State) (call : Call) →
+        IsDescribedStop (process_of space.now) functions s call →
+        Shows (columns_of context.now) s → IsTrue interrupted →
+        Undone result (columns_of context.now) call.caller }
+    // A search takes as many steps at most as there are binary digits in the length of what is
+    // searched: the index of a prepared module, or else the table of a header.
+    ensures ticks { RisesBySearch (searched_at space.now context.now interrupted) steps.old.number
+        steps.new.number }
+    // The index of a prepared module is searched, and one step at least is counted.
+    ensures prepared { let n = prepared_len space.now (address_of_call context.now.ra interrupted)
+        in
+        context.now.ra ≢ 0 → 0 < n → AreFewSteps n steps.old.number steps.new.number }
+    // None is counted where an unprepared module names its frame table itself.
+    ensures scanned { IsScannedAt space.now context.now interrupted →
+        steps.new.number ≡ steps.old.number }
+{
+    stepped(space, context, interrupted, steps)
+}
