@@ -1,4 +1,3 @@
-pub mod AnyPassesAre
 pub mod Chains
 pub mod CauseAnswers
 pub mod ChainDelivered
@@ -12,7 +11,6 @@ pub mod MeetAnswers
 pub mod OutcomeAnswers
 pub mod PassLines
 pub mod PassesShow
-pub mod PersonalityAsks
 pub mod Reaching
 pub mod Results
 pub mod Returns
@@ -20,4 +18,3 @@ pub mod TurnParts
 pub mod StoppedWalk
 pub mod Turns
 pub mod Unread
-pub mod SameAnswers

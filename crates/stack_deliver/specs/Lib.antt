@@ -1,11 +1,9 @@
-pub mod AnyPasses
 pub mod Causes
 pub mod StackDelivery
 pub mod FrontSample
 pub mod Fronts
 pub mod Passes
 pub mod PassViews
-pub mod Personality
 pub mod Resumes
 pub mod StateViews
 pub mod Walking

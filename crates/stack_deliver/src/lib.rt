@@ -37,9 +37,7 @@
 mod answers;
 mod delivery;
 mod front;
-mod laws;
 mod passes;
-mod personality;
 mod resumes;
 mod room;
 mod walking;
@@ -49,8 +47,6 @@ pub use delivery::{deliver, deliver_into};
 pub use eh_frame::Error;
 pub use fde_finders::{FrameInfo, FrameInfoKind};
 pub use front::{Front, each_reason_is_given, walk_front_into};
-pub use laws::answers_stay_as_modules_are_prepared;
-pub use personality::{a_handler_is_asked_for, deliveries_are_passes, passes_ask_the_personality};
 pub use resumes::{Resumes, first_entry_counts};
 pub use room::Room;
 pub use stack_steps::{DeliverError, Module, Space, SpaceError, Stepped, step};

@@ -2,7 +2,7 @@ use Rattle.std.proofs.Common.{◌∙◌, ap}
 use Rattle.stack_deliver.specs.StackDelivery.{line_of, stack_delivery}
 use Rattle.stack_steps.specs.Modules.{SpaceValue}
 use Rattle.stack_steps.specs.Preparing.{with_indexes}
-use Rattle.stack_deliver.proofs.SameAnswers.{delivery_same, line_same}
+use Rattle.delivery_laws.proofs.SameAnswers.{delivery_same, line_same}
 use Rattle.unwind_cli.proofs.unwinding.prepared_space.Goals as goal
 
 pub returns-clause-delivery : goal.returns-clause-delivery

@@ -1,5 +1,5 @@
-use Rattle.stack_deliver.proofs.SameAnswers.{delivery_same, line_same, step_same}
-use Rattle.stack_deliver.proofs.laws.answers_stay_as_modules_are_prepared.Goals as goal
+use Rattle.delivery_laws.proofs.SameAnswers.{delivery_same, line_same, step_same}
+use Rattle.delivery_laws.proofs.preparing.answers_stay_as_modules_are_prepared.Goals as goal
 
 pub returns-clause-steps : goal.returns-clause-steps
 returns-clause-steps c space added state interrupted = step_same space added state interrupted

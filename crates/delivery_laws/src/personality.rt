@@ -11,14 +11,13 @@ ghost use Rattle.unwinding_frames.specs.Sample as sample;
 ghost use Rattle.unwinding_frames.specs.Personalities.{Asked, searched};
 ghost use Rattle.unwinding_frames.specs.Seen.{Thrown};
 ghost use Rattle.stack_steps.specs.declared.answers.DeliverError.{DeliverError};
-ghost use Rattle.stack_deliver.specs.AnyPasses.{stepping_in, rust_in, Search, search_of, IsSearchBy, IsPassBy, IsDeliveryBy};
+ghost use Rattle.delivery_laws.specs.AnyPasses.{stepping_in, rust_in, Search, search_of, IsSearchBy, IsPassBy, IsDeliveryBy};
+ghost use Rattle.stack_deliver.specs.declared.passes.Phase.TheVariants as phase;
 ghost use Rattle.stack_deliver.specs.StackDelivery.{DeliveryValue, stack_delivery};
 ghost use Rattle.stack_steps.specs.Modules.{SpaceValue};
 ghost use Rattle.stack_deliver.specs.Passes.{PassEnd, stops, pad_of, cleanup_of};
-ghost use Rattle.stack_deliver.specs.Personality.{InSearch, InCleanup, IsAsked, AnswersCleanup, answer_for, code_of};
+ghost use Rattle.delivery_laws.specs.Personality.{InSearch, InCleanup, IsAsked, AnswersCleanup, answer_for, code_of};
 ghost use Rattle.unwinding_frames.specs.declared.abi.TheConstants.UnwindReasonCode.{CONTINUE_UNWIND, HANDLER_FOUND};
-
-use crate::passes::Phase;
 
 /// What a delivery asks of a frame is what `RustPersonality` answers for it. A law: the function
 /// does nothing.
@@ -42,17 +41,17 @@ pub fn passes_ask_the_personality()
     ensures search_stops { (image : List Span) (c : Context) (interrupted : Bool)
         (frame : FrameValue) (action : Action) (asked : Asked) →
         IsAsked image c interrupted frame action → InSearch asked →
-        (stops Phase.Search action ≡ true) ↔
+        (stops phase.Search action ≡ true) ↔
         (code_of (answer_for asked image frame c interrupted) ≢ CONTINUE_UNWIND) }
     ensures search_takes { (image : List Span) (c : Context) (interrupted : Bool)
         (frame : FrameValue) (action : Action) (asked : Asked) →
         IsAsked image c interrupted frame action → InSearch asked →
-        ((stops Phase.Search action ≡ true) × IsSome (pad_of action)) ↔
+        ((stops phase.Search action ≡ true) × IsSome (pad_of action)) ↔
         (code_of (answer_for asked image frame c interrupted) ≡ HANDLER_FOUND) }
     ensures cleanup_stops { (image : List Span) (c : Context) (interrupted : Bool)
         (frame : FrameValue) (action : Action) (asked : Asked) →
         IsAsked image c interrupted frame action → InCleanup asked → length c.registers ≡ 16 →
-        (stops Phase.Cleanup action ≡ true) ↔
+        (stops phase.Cleanup action ≡ true) ↔
         (code_of (answer_for asked image frame c interrupted) ≢ CONTINUE_UNWIND) }
 {}
 

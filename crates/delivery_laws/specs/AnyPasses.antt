@@ -27,7 +27,7 @@ use Rattle.stack_deliver.specs.StackDelivery.{DeliveryValue, delivery_after, no_
 use Rattle.stack_steps.specs.Modules.{SpaceValue}
 use Rattle.stack_deliver.specs.Passes.{Stop, PassEnd, Finishes, Elsewhere, CleanupsRun, past_arguments, pass_of, kept_at, pad_of, fatal, landed, cleanup_at, resume_at, with_cleanup}
 use Rattle.stack_deliver.specs.Passes as stopped
-use Rattle.stack_deliver.specs.Personality.{landing_columns}
+use Rattle.delivery_laws.specs.Personality.{landing_columns}
 use Rattle.stack_deliver.specs.Resumes.{return_of}
 use Rattle.stack_steps.specs.Results.{result_map}
 use Rattle.stack_steps.specs.Stepping.{FrameAt, frame_of, caller_by, refusal_of}

@@ -17,7 +17,7 @@ use Rattle.stack_steps.specs.declared.answers.DeliverError.{DeliverError}
 use Rattle.stack_deliver.specs.declared.passes.Phase.TheVariants as phase
 use Rattle.stack_steps.specs.Asking.{or_terminate, action_if_named}
 use Rattle.stack_deliver.specs.Passes.{enters, stops, pad_of}
-use Rattle.stack_deliver.specs.Personality.{landing_columns, InSearch, InCleanup, IsAsked, AnswersCleanup, answer_for, code_of}
+use Rattle.delivery_laws.specs.Personality.{landing_columns, InSearch, InCleanup, IsAsked, AnswersCleanup, answer_for, code_of}
 use Rattle.stack_steps.proofs.ContextLemmas.{IsWhole, Holds, with_column-holds}
 
 is_same : (m n : ℕ) → eqb m n ≡ true → m ≡ n

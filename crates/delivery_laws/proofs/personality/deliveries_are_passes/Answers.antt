@@ -1,5 +1,5 @@
-use Rattle.stack_deliver.proofs.AnyPassesAre.{searches_are, passes_are, deliveries_are}
-use Rattle.stack_deliver.proofs.personality.deliveries_are_passes.Goals as goal
+use Rattle.delivery_laws.proofs.AnyPassesAre.{searches_are, passes_are, deliveries_are}
+use Rattle.delivery_laws.proofs.personality.deliveries_are_passes.Goals as goal
 
 pub returns-clause-search : goal.returns-clause-search
 returns-clause-search x space row thrown limit start due whole = searches_are space row thrown limit start due whole

@@ -28,17 +28,17 @@ use Rattle.stack_steps.specs.declared.answers.DeliverError.{DeliverError}
 use Rattle.stack_steps.specs.declared.answers.DeliverError.TheVariants.{FrameLimit, PassLimit}
 use Rattle.stack_deliver.specs.declared.passes.Phase.{Phase}
 use Rattle.stack_deliver.specs.declared.passes.Phase.TheVariants as phase
-use Rattle.stack_deliver.specs.AnyPasses.{marked, undoing_in, sees_in, stepping_in, rust_in, answer_left, Search, TakenBy, Untaken, search_end, search_stop, search_line, search_of, pass_end, FollowedBy, ResumedBy, IsSearchBy, IsPassBy, ArePassesBy, IsDeliveredAfter, IsDeliveredBy, IsDeliveryBy}
+use Rattle.delivery_laws.specs.AnyPasses.{marked, undoing_in, sees_in, stepping_in, rust_in, answer_left, Search, TakenBy, Untaken, search_end, search_stop, search_line, search_of, pass_end, FollowedBy, ResumedBy, IsSearchBy, IsPassBy, ArePassesBy, IsDeliveredAfter, IsDeliveredBy, IsDeliveryBy}
 use Rattle.stack_steps.specs.Modules.{SpaceValue}
 use Rattle.stack_steps.specs.Asking.{action_if_named, action_asked, or_terminate}
 use Rattle.stack_deliver.specs.Passes.{Line, Stop, Turn, Ends, Stops, Goes, stops, stop_by, turn_at, turn_in, turn_for, line_turn, line_for, pass_of, past_arguments, pad_of, enters, kept_at, with_context, PassEnd, Finishes, Elsewhere, end_at, end_by, end_of, cleanup_of, landed, cleanup_at, resume_at, CleanupsRun, with_cleanup, resumed, followed, passes_of}
 use Rattle.stack_deliver.specs.StackDelivery.{DeliveryValue, delivery_after, delivery_at, delivery_to, delivery_by, stack_delivery}
 use Rattle.stack_deliver.specs.Resumes.{return_of}
-use Rattle.stack_deliver.specs.Personality.{InCleanup, IsAsked, AnswersCleanup, answer_for}
+use Rattle.delivery_laws.specs.Personality.{InCleanup, IsAsked, AnswersCleanup, answer_for}
 use Rattle.stack_steps.specs.Results.{◌>>=◌, result_map}
 use Rattle.stack_steps.specs.Stepping.{FrameAt, frame_of, caller_by, next_with, refusal_of}
 use Rattle.stack_steps.proofs.ContextLemmas.{IsWhole, context_of-columns}
-use Rattle.stack_deliver.proofs.PersonalityAsks.{answers_search, answers_cleanup}
+use Rattle.delivery_laws.proofs.PersonalityAsks.{answers_search, answers_cleanup}
 
 -- a landing pad is entered past the arguments
 past_then_enters : (c : Context) (size exception pad : ℕ) → IsWhole c → past_arguments (enters c exception pad) size ≡ enters (past_arguments c size) exception pad

@@ -1,5 +1,5 @@
-use Rattle.stack_deliver.proofs.PersonalityAsks.{answers_search, answers_cleanup, stops_search, takes_search, stops_cleanup}
-use Rattle.stack_deliver.proofs.personality.passes_ask_the_personality.Goals as goal
+use Rattle.delivery_laws.proofs.PersonalityAsks.{answers_search, answers_cleanup, stops_search, takes_search, stops_cleanup}
+use Rattle.delivery_laws.proofs.personality.passes_ask_the_personality.Goals as goal
 
 pub returns-clause-search : goal.returns-clause-search
 returns-clause-search x image c interrupted frame action asked is in_search = answers_search image c interrupted frame action asked is in_search

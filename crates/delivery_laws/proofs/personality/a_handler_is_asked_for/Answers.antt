@@ -1,6 +1,6 @@
 use Rattle.std.proofs.Common.{refl}
 use Rattle.unwind_definitions.specs.LanguageSearch as tables
-use Rattle.stack_deliver.proofs.personality.a_handler_is_asked_for.Goals as goal
+use Rattle.delivery_laws.proofs.personality.a_handler_is_asked_for.Goals as goal
 
 pub returns-clause-asked : goal.returns-clause-asked
 unfolding tables.search

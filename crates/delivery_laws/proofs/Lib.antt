@@ -1,0 +1,3 @@
+pub mod AnyPassesAre
+pub mod PersonalityAsks
+pub mod SameAnswers

@@ -1,0 +1,2 @@
+pub mod AnyPasses
+pub mod Personality
