@@ -7,5 +7,6 @@ mod Reading
 mod Together
 mod StretchSteps
 mod Adding
+mod BodiesGrow
 mod Growing
 mod LookedUp

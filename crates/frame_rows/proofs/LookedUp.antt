@@ -9,40 +9,38 @@ use Rattle.frame_rows.specs.RowValue.{RowValue}
 use Rattle.frame_rows.specs.Rows.{GivesRow}
 use Rattle.frame_rows.specs.KeptRows.{Kept, AreRows, first_location, location_of}
 use Rattle.frame_rows.specs.TableRows.{HoldsAt, IsLastAt, kept_in}
-use Rattle.unwind_arch.specs.declared.register.Register.{Register as Column}
-use Rattle.frame_rows.specs.declared.rule.RegisterRule.{RegisterRule}
 use Rattle.frame_rows.specs.declared.row_table.TableRow.{TableRow}
 
-module _ (rules : List (Column × RegisterRule)) where
-  pub part_of : (items : List TableRow) (first end : ℕ) → slice_range (map (kept_in rules) items) first end ≡ map (kept_in rules) (slice_range items first end)
-  part_of items first end = ap (take (end - first)) (drop-map (kept_in rules) first items) ∙ take-map (kept_in rules) (end - first) (drop first items)
+module _ (bodies : List (Result RowValue Fault)) where
+  pub part_of : (items : List TableRow) (first end : ℕ) → slice_range (map (kept_in bodies) items) first end ≡ map (kept_in bodies) (slice_range items first end)
+  part_of items first end = ap (take (end - first)) (drop-map (kept_in bodies) first items) ∙ take-map (kept_in bodies) (end - first) (drop first items)
 
-  pub first_begun : (items : List TableRow) (first end pc : ℕ) → first < end → ((d : Kept) → location_of (get_or (map (kept_in rules) items) first d) ≤ pc) → (d : TableRow) → (get_or (take (end - first) (drop first items)) 0 d).location ≤ pc
+  pub first_begun : (items : List TableRow) (first end pc : ℕ) → first < end → ((d : Kept) → location_of (get_or (map (kept_in bodies) items) first d) ≤ pc) → (d : TableRow) → (get_or (take (end - first) (drop first items)) 0 d).location ≤ pc
   first_begun items first end pc some begun d =
       let one : get_or (take (end - first) (drop first items)) 0 d ≡ get_or items first d =
       get_or-take (end - first) (drop first items) 0 d (omega arith) ∙ get_or-drop first items 0 d ∙ ap (λ i. get_or items i d) (omega arith) in
-      let same = get_or-map (kept_in rules) items first d in
-      let le = begun (kept_in rules d) in
+      let same = get_or-map (kept_in bodies) items first d in
+      let le = begun (kept_in bodies d) in
       subst (λ (r : TableRow). r.location ≤ pc) (sym one) (subst (λ (k : Kept). k.location ≤ pc) same le)
 
-  pub holds : (xs : List TableRow) (pc i : ℕ) (d : TableRow) (answer : Result RowValue Fault) → IsLastAt xs pc i → answer ≡ (kept_in rules (get_or xs i d)).answer → HoldsAt (map (kept_in rules) xs) pc answer
+  pub holds : (xs : List TableRow) (pc i : ℕ) (d : TableRow) (answer : Result RowValue Fault) → IsLastAt xs pc i → answer ≡ (kept_in bodies (get_or xs i d)).answer → HoldsAt (map (kept_in bodies) xs) pc answer
   holds [] pc i d answer last is = let w = last.within in absurd (omega arith)
   holds (x ∷ xs) pc zero d answer last is = record {
     before = [];
-    here = kept_in rules x;
-    later = map (kept_in rules) xs;
+    here = kept_in bodies x;
+    later = map (kept_in bodies) xs;
     all = refl;
     at_or_before = last.before d;
     after = λ end below. go xs end below last.after;
     answers = is;
   }
     where
-      go : (xs : List TableRow) (end : ℕ) → pc < end → ((d : TableRow) → 0 + 1 < length (x ∷ xs) → pc < (get_or (x ∷ xs) (0 + 1) d).location) → pc < first_location end (map (kept_in rules) xs)
+      go : (xs : List TableRow) (end : ℕ) → pc < end → ((d : TableRow) → 0 + 1 < length (x ∷ xs) → pc < (get_or (x ∷ xs) (0 + 1) d).location) → pc < first_location end (map (kept_in bodies) xs)
       go [] end below behind = below
       go (y ∷ ys) end below behind = behind d (omega arith)
   holds (x ∷ xs) pc (suc i) d answer last is =
       let h = holds xs pc i d answer (record { within = let w = last.within in omega arith; before = last.before; after = λ e lt. let more : suc i + 1 ≡ suc (i + 1) = omega arith in subst (λ n. pc < (get_or (x ∷ xs) n e).location) more (last.after e (omega arith)) }) is in
-      record { before = kept_in rules x ∷ h.before; here = h.here; later = h.later; all = ap (λ l. kept_in rules x ∷ l) h.all; at_or_before = h.at_or_before; after = h.after; answers = h.answers }
+      record { before = kept_in bodies x ∷ h.before; here = h.here; later = h.later; all = ap (λ l. kept_in bodies x ∷ l) h.all; at_or_before = h.at_or_before; after = h.after; answers = h.answers }
 
 -- what holds at an address is what is due there
 pub due_there : (due : ℕ → Result RowInstructions Fault) (end pc : ℕ) (kept : List Kept) (answer : Result RowValue Fault) → AreRows due end kept → pc < end → HoldsAt kept pc answer → GivesRow answer (due pc)

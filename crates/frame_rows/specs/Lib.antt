@@ -6,5 +6,6 @@ pub mod Rows
 pub mod Left
 pub mod KeptRows
 pub mod Stretches
+pub mod Bodies
 pub mod TableRows
 pub mod Begun

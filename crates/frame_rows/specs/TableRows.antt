@@ -1,38 +1,24 @@
 -- What stands in a table of rows.
-use Rattle.std.specs.Prelude.{◌≡◌, ℕ, ◌+◌, ◌<◌, ◌≤◌, List, [], ◌∷◌, ◌++◌, length, map, slice_range, slice_index_or, Option, Result, Ok, Err, Bool, true, false}
+use Rattle.std.specs.Prelude.{◌≡◌, ℕ, ◌+◌, ◌<◌, ◌≤◌, List, [], ◌∷◌, ◌++◌, length, slice_index_or, Option, Result, Ok, Err, Bool, true, false}
 use Rattle.std.specs.declared.alloc.AllocError.{AllocError}
 use Rattle.unwind_definitions.specs.declared.error.Error.{Error as Fault}
-use Rattle.unwind_definitions.specs.Instructions.{Rule}
-use Rattle.frame_rows.specs.Rules.{entry_of, cfa_meaning, AscendsFrom}
+use Rattle.unwind_definitions.specs.declared.error.Error.TheVariants.{NoCfaRegister}
 use Rattle.frame_rows.specs.RowValue.{RowValue}
 use Rattle.frame_rows.specs.Rows.{IsLast}
 use Rattle.frame_rows.specs.Running.{Represents}
 use Rattle.unwind_definitions.specs.Row.{RowInstructions}
 use Rattle.frame_rows.specs.declared.machine.Machine.{Machine}
 use Rattle.frame_rows.specs.KeptRows.{Kept, KeptRows, answer_rule_count, first_location, AreTooMany, Ascends}
-use Rattle.unwind_arch.specs.declared.register.Register.{Register as Column}
-use Rattle.frame_rows.specs.declared.rule.RegisterRule.{RegisterRule}
-use Rattle.frame_rows.specs.declared.rule.CfaRule.{CfaRule as CodedCfa}
 use Rattle.frame_rows.specs.declared.row_table.TableRow.{TableRow}
 use Rattle.frame_rows.specs.declared.row_table.RowLimits.{RowLimits}
 
--- the rules of a row, among those of all
-abbrev pub ruled : List (Column × RegisterRule) → TableRow → List (ℕ × Rule)
-ruled rules k = map entry_of (slice_range rules k.first_rule k.end_rule)
+-- what holds from a row's location on: the body at its place
+abbrev pub kept_in : List (Result RowValue Fault) → TableRow → Kept
+kept_in bodies k = record { location = k.location; answer = slice_index_or bodies k.body (Err NoCfaRegister) }
 
-abbrev pub kept_answer : Result CodedCfa Fault → List (ℕ × Rule) → ℕ → Result RowValue Fault
-kept_answer (Ok cfa) rules size = Ok (record { cfa = cfa_meaning cfa; rules = rules; saved_args_size = size })
-kept_answer (Err e) rules size = Err e
-
-abbrev pub kept_in : List (Column × RegisterRule) → TableRow → Kept
-kept_in rules k = record { location = k.location; answer = kept_answer k.cfa (ruled rules k) k.saved_args_size }
-
--- a row's rules are among those of all, at most 32, by ascending column
-pub record IsInRules (rules : List (Column × RegisterRule)) (k : TableRow) : Type 0 where
-  pub ordered : k.first_rule ≤ k.end_rule
-  pub within : k.end_rule ≤ length rules
-  pub few : k.end_rule ≤ k.first_rule + 32
-  pub ascending : AscendsFrom 0 (ruled rules k)
+-- a row's body is among those of all
+abbrev pub HasBody : List (Result RowValue Fault) → TableRow → Type 0
+HasBody bodies k = k.body < length bodies
 
 -- among rows, one is the last at or before an address
 pub record IsLastAt (rows : List TableRow) (pc i : ℕ) : Type 0 where

@@ -4,8 +4,10 @@ ghost use Rattle.std.specs.Prelude.{◌≡◌, ◌*◌};
 ghost use Rattle.unwind_definitions.specs.Instructions.{instruction, Advance, Write};
 ghost use Rattle.encoded_pointers.specs.Readers.{GivesOr};
 ghost use Rattle.encoded_pointers.specs.CursorViews.{at};
-ghost use Rattle.frame_rows.specs.InstructionViews.{meaning, coding_in, unsigned_offset, signed_offset, block};
-ghost use Rattle.frame_rows.specs.InstructionViews.{operation_read, cfa_read, offset_read, rule_read, state_read};
+ghost use Rattle.frame_rows.specs.InstructionViews.{meaning, coding_in, unsigned_offset};
+ghost use Rattle.frame_rows.specs.InstructionViews.{signed_offset, block};
+ghost use Rattle.frame_rows.specs.InstructionViews.{operation_read, cfa_read, offset_read};
+ghost use Rattle.frame_rows.specs.InstructionViews.{rule_read, state_read};
 ghost use Rattle.frame_rows.specs.Rules.{rule_meaning};
 
 use crate::coding::Coding;

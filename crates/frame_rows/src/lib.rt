@@ -19,6 +19,7 @@ mod program;
 mod register;
 mod room;
 mod row;
+mod row_bodies;
 mod row_ref;
 mod row_table;
 mod row_table_builder;

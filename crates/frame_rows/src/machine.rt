@@ -70,12 +70,16 @@ pub(crate) struct Machine<'a> {
 
 impl<'a> Machine<'a> {
     ghost use Rattle.std.specs.Prelude.{[], ◌∷◌, ◌<◌, List};
-    ghost use Rattle.unwind_definitions.specs.Instructions.{Instruction, Advance, SetLocation, Write, Reset};
-    ghost use Rattle.unwind_definitions.specs.Instructions.{Remember, Restore, CfaColumn, CfaOffset};
-    ghost use Rattle.unwind_definitions.specs.Row.{RowInstructions, from_common, location as location_after};
+    ghost use Rattle.unwind_definitions.specs.Instructions.{Instruction, Advance, SetLocation};
+    ghost use Rattle.unwind_definitions.specs.Instructions.{Write, Reset};
+    ghost use Rattle.unwind_definitions.specs.Instructions.{Remember, Restore, CfaColumn};
+    ghost use Rattle.unwind_definitions.specs.Instructions.{CfaOffset};
+    ghost use Rattle.unwind_definitions.specs.Row.{RowInstructions, from_common};
+    ghost use Rattle.unwind_definitions.specs.Row.{location as location_after};
     ghost use Rattle.frame_rows.specs.Rules.{rule_meaning, rule_in};
     ghost use Rattle.frame_rows.specs.InstructionViews.{meaning};
-    ghost use Rattle.frame_rows.specs.Running.{IsStateOf, Represents, Follows, stops, initial_rules, push};
+    ghost use Rattle.frame_rows.specs.Running.{IsStateOf, Represents, Follows, stops};
+    ghost use Rattle.frame_rows.specs.Running.{initial_rules, push};
     ghost use Rattle.frame_rows.specs.Rows.{IsLast, made};
     ghost use Rattle.frame_rows.specs.Stretches.{LeadsOn};
 

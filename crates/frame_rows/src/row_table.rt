@@ -1,14 +1,17 @@
 //! Tables of the rows that several descriptions have. DWARF 5 section 6.4.1.
 
-ghost use Rattle.std.specs.Prelude.{◌≡◌, ◌<◌, ◌≤◌, [], length, map, slice_range, slice_index_or, ℕ, Result};
+ghost use Rattle.std.specs.Prelude.{◌≡◌, ◌<◌, ◌≤◌, [], length, map, slice_range};
+ghost use Rattle.std.specs.Prelude.{slice_index_or, ℕ, Result};
 ghost use Rattle.unwind_definitions.specs.declared.error.Error.{Error as Fault};
 ghost use Rattle.unwind_definitions.specs.Row.{RowInstructions};
 ghost use Rattle.frame_rows.specs.declared.row_table.TableRow.{TableRow};
 ghost use Rattle.frame_rows.specs.KeptRows.{AreRows, Kept, location_of, answer_rule_count, Ascends};
 ghost use Rattle.frame_rows.specs.Rules.{entry_of, AscendsFrom};
 ghost use Rattle.frame_rows.specs.Rows.{GivesRow};
-ghost use Rattle.frame_rows.specs.TableRows.{HoldsAt, IsLastAt, IsInRules, Pushes, kept_in, kept_answer};
+ghost use Rattle.frame_rows.specs.Bodies.{kept_answer};
+ghost use Rattle.frame_rows.specs.TableRows.{HoldsAt, IsLastAt, Pushes};
 
+use crate::row_bodies::RowBodies;
 use crate::row_ref::RowRef;
 use crate::rule::{CfaRule, RegisterRule};
 use std::alloc::{AllocError, Global};
@@ -25,41 +28,41 @@ pub struct RowLimits {
     pub rules: u32,
 }
 
-// What holds from a location on: a row, or a fault.
+// The location from which on a row or a fault holds, and where among the bodies its own stands.
 #[derive(Clone, Copy)]
-pub(crate) struct TableRow<'a> {
+pub(crate) struct TableRow {
     location: u64,
-    cfa: Result<CfaRule<'a>, Error>,
-    saved_args_size: u64,
-    first_rule: usize,
-    end_rule: usize,
+    body: usize,
 }
 
 /// The rows of several descriptions, one after another, each with the location from which on it
 /// holds.
 ///
-/// A fault is kept like a row. The rules of all rows stand in one list, so that a row takes no
-/// place for rules that it doesn't have, and one is looked up without being copied.
+/// A fault is kept like a row. What rows say stands in a list of its own, mostly once where many
+/// say the same, and the rules of all in another, so that a row takes 16 bytes, and one is looked
+/// up without being copied.
 #[derive(Drop)]
 pub struct RowTable<'a> {
-    rows: Vec<TableRow<'a>>,
-    rules: Vec<(Register, RegisterRule<'a>)>,
+    rows: Vec<TableRow>,
+    bodies: RowBodies<'a>,
+    // how many rules the rows have together
+    rule_count: u32,
 }
 
 impl<'a> Model for RowTable<'a> {
-    ghost use Rattle.std.specs.Prelude.{length, map};
+    ghost use Rattle.std.specs.Prelude.{map};
     ghost use Rattle.std.specs.List.{AllByRecursion};
     ghost use Rattle.frame_rows.specs.KeptRows.{KeptRows};
-    ghost use Rattle.frame_rows.specs.TableRows.{IsInRules, kept_in};
+    ghost use Rattle.frame_rows.specs.TableRows.{HasBody, kept_in};
 
     ghost Value = { KeptRows };
 
     ghost view = { λ t. record {
-      rows = map (kept_in t.rules.items) t.rows.items;
-      rule_count = length t.rules.items;
+      rows = map (kept_in t.bodies) t.rows.items;
+      rule_count = t.rule_count;
     } };
 
-    ghost invariant = { λ t. AllByRecursion (IsInRules t.rules.items) t.rows.items };
+    ghost invariant = { λ t. AllByRecursion (HasBody t.bodies) t.rows.items };
 }
 
 impl<'a> RowTable<'a> {
@@ -69,7 +72,8 @@ impl<'a> RowTable<'a> {
     {
         RowTable {
             rows: Vec::new(alloc),
-            rules: Vec::new(alloc),
+            bodies: RowBodies::new(alloc),
+            rule_count: 0,
         }
     }
 
@@ -84,7 +88,7 @@ impl<'a> RowTable<'a> {
     pub fn rule_count(&self) -> usize
         ensures { result ≡ self.now.rule_count }
     {
-        self.rules.len()
+        self.rule_count as usize
     }
 
     /// What holds at the address `pc` by the rows from the index `first` up to `end`, of which the
@@ -104,7 +108,7 @@ impl<'a> RowTable<'a> {
             pc < bound → GivesRow result (due pc) }
     {
         let rows = &self.rows[first..end];
-        kept(&self.rules, rows[last_at(rows, pc)])
+        self.bodies.get(rows[last_at(rows, pc)].body)
     }
 
     /// Keeps a row or a fault for a location. `false` where it would be too much.
@@ -145,38 +149,14 @@ impl<'a> RowTable<'a> {
             (kept_answer cfa.entry (map entry_of rules.now) saved_args_size) (length rules.now)
             self.old result self.new }
     {
-        let first_rule = self.rules.len();
-        let end_rule = first_rule + rules.len();
-        if self.rows.len() >= limits.rows as usize || end_rule > limits.rules as usize {
+        let rule_count = self.rule_count as usize + rules.len();
+        if self.rows.len() >= limits.rows as usize || rule_count > limits.rules as usize {
             return Ok(false);
         }
-        self.rules.extend_from_slice(rules)?;
-        self.rows.push(TableRow {
-            location,
-            cfa,
-            saved_args_size,
-            first_rule,
-            end_rule,
-        })?;
+        let body = self.bodies.keep(cfa, rules, saved_args_size)?;
+        self.rows.push(TableRow { location, body })?;
+        self.rule_count = rule_count as u32;
         Ok(true)
-    }
-}
-
-// What a row of a table says, whose rules are among these.
-fn kept<'r, 'a>(
-    rules: &'r [(Register, RegisterRule<'a>)],
-    row: TableRow<'a>,
-) -> Result<RowRef<'r, 'a>, Error>
-    requires { IsInRules rules.now row }
-    ensures { result ≡ (kept_in rules.now row.entry).answer }
-{
-    match row.cfa {
-        Ok(cfa) => Ok(RowRef::new(
-            cfa,
-            &rules[row.first_rule..row.end_rule],
-            row.saved_args_size,
-        )),
-        Err(e) => Err(e),
     }
 }
 

@@ -42,7 +42,8 @@ impl<'a> Model for RegisterRules<'a> {
 impl<'a> RegisterRules<'a> {
     ghost use Rattle.std.specs.Prelude.{[], Some, None, OnOk, OnErr, true, false, map, ◌≤◌};
     ghost use Rattle.std.specs.Option.{option_map};
-    ghost use Rattle.frame_rows.specs.Rules.{entry_of, rule_in, find_in, with_rule, rule_meaning, AscendsFrom, is_room};
+    ghost use Rattle.frame_rows.specs.Rules.{entry_of, rule_in, find_in, with_rule, rule_meaning};
+    ghost use Rattle.frame_rows.specs.Rules.{AscendsFrom, is_room};
 
     /// No rules.
     // A list that is full and then cleared, as `ArrayVec::new` makes each place on its own, at

@@ -1,4 +1,3 @@
-use Rattle.std.proofs.Common.{ap, subst}
 use Rattle.unwind_definitions.specs.Instructions.{Program, Coding, program}
 use Rattle.encoded_pointers.specs.CursorViews.{at}
 use Rattle.frame_rows.specs.InstructionViews.{coding_in}

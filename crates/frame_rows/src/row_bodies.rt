@@ -1,0 +1,230 @@
+//! What the rows of a table say, each kept once where many say the same. DWARF 5 section 6.4.1.
+
+ghost use Rattle.std.specs.Prelude.{◌≡◌, ◌<◌, ◌≤◌, ◌++◌, ◌∷◌, [], IfOk, List, OnErr, OnOk, Result};
+ghost use Rattle.std.specs.Prelude.{ℕ, length, map, slice_index_or, true};
+ghost use Rattle.unwind_definitions.specs.declared.error.Error.{Error as Fault};
+ghost use Rattle.unwind_definitions.specs.Instructions.{Rule};
+ghost use Rattle.frame_rows.specs.RowValue.{RowValue};
+ghost use Rattle.frame_rows.specs.Rules.{entry_of, rule_meaning, AscendsFrom};
+ghost use Rattle.frame_rows.specs.Bodies.{Grows, IsInRules, Says, body_in, kept_answer};
+
+use crate::row_ref::RowRef;
+use crate::rule::{CfaRule, RegisterRule};
+use std::alloc::{AllocError, Global};
+use std::marker::Model;
+use unwind_arch::Register;
+use unwind_definitions::Error;
+
+// Of how many bodies the place is known by what they say.
+const KNOWN: usize = 64;
+
+/// What a row says beside the location from which on it holds, or a fault.
+#[derive(Clone, Copy)]
+pub(crate) struct RowBody<'a> {
+    cfa: Result<CfaRule<'a>, Error>,
+    saved_args_size: u64,
+    first_rule: usize,
+    end_rule: usize,
+}
+
+/// The bodies of rows, and the rules of all of them in one list.
+///
+/// Most functions save the same registers at the same places, so that many rows share a body.
+#[derive(Drop)]
+pub(crate) struct RowBodies<'a> {
+    bodies: Vec<RowBody<'a>>,
+    rules: Vec<(Register, RegisterRule<'a>)>,
+    // by a number that is made of what a body says: the place of the last one of that number
+    known: [usize; KNOWN],
+}
+
+impl<'a> Model for RowBodies<'a> {
+    ghost use Rattle.std.specs.Prelude.{List, Result, map};
+    ghost use Rattle.std.specs.List.{AllByRecursion};
+    ghost use Rattle.unwind_definitions.specs.declared.error.Error.{Error as Fault};
+    ghost use Rattle.unwind_definitions.specs.Instructions.{Rule};
+    ghost use Rattle.frame_rows.specs.RowValue.{RowValue};
+    ghost use Rattle.frame_rows.specs.Bodies.{IsInRules, body_in};
+
+    ghost Value = { List (Result RowValue Fault) };
+
+    ghost view = { λ b. map (body_in b.rules.items) b.bodies.items };
+
+    ghost invariant = { λ b. AllByRecursion (IsInRules b.rules.items) b.bodies.items };
+}
+
+impl<'a> RowBodies<'a> {
+    /// No bodies.
+    pub(crate) fn new(alloc: Global) -> RowBodies<'a>
+        ensures { result ≡ [] }
+    {
+        RowBodies {
+            bodies: Vec::new(alloc),
+            rules: Vec::new(alloc),
+            known: [0; KNOWN],
+        }
+    }
+
+    /// The body at a place, lent.
+    pub(crate) fn get(&self, place: usize) -> Result<RowRef<'_, 'a>, Error>
+        requires { place < length self.now }
+        ensures { (d : Result RowValue Fault) → result ≡ slice_index_or self.now place d }
+    {
+        kept(&self.rules, self.bodies[place])
+    }
+
+    /// Where a body stands. One that isn't found by what it says is added.
+    pub(crate) fn keep(
+        &mut self,
+        cfa: Result<CfaRule<'a>, Error>,
+        rules: &[(Register, RegisterRule<'a>)],
+        saved_args_size: u64,
+    ) -> Result<usize, AllocError>
+        requires ascending { AscendsFrom 0 (map entry_of rules.now) }
+        requires few { length rules.now ≤ 32 }
+        ensures grows { Grows self.old self.new }
+        ensures says { IfOk result (λ place. Says self.new place
+            (kept_answer cfa.entry (map entry_of rules.now) saved_args_size)) }
+    {
+        let number = number_of(cfa, rules);
+        let known = self.known[number];
+        if self.says(known, cfa, rules, saved_args_size) {
+            return Ok(known);
+        }
+        let place = self.bodies.len();
+        self.add(cfa, rules, saved_args_size)?;
+        self.known[number] = place;
+        Ok(place)
+    }
+
+    // Whether the body at a place says this.
+    fn says(
+        &self,
+        place: usize,
+        cfa: Result<CfaRule<'a>, Error>,
+        rules: &[(Register, RegisterRule<'a>)],
+        saved_args_size: u64,
+    ) -> bool
+        ensures { result ≡ true → Says self.now place
+            (kept_answer cfa.entry (map entry_of rules.now) saved_args_size) }
+    {
+        match self.bodies.get(place) {
+            Some(body) => {
+                let own = &self.rules[body.first_rule..body.end_rule];
+                body.saved_args_size == saved_args_size
+                    && is_same_cfa(body.cfa, cfa)
+                    && are_same_rules(own, rules)
+            }
+            None => false,
+        }
+    }
+
+    // Adds a body.
+    fn add(
+        &mut self,
+        cfa: Result<CfaRule<'a>, Error>,
+        rules: &[(Register, RegisterRule<'a>)],
+        saved_args_size: u64,
+    ) -> Result<(), AllocError>
+        requires ascending { AscendsFrom 0 (map entry_of rules.now) }
+        requires few { length rules.now ≤ 32 }
+        ensures added { OnOk result (self.new ≡
+            self.old ++ kept_answer cfa.entry (map entry_of rules.now) saved_args_size ∷ []) }
+        ensures same { OnErr result (self.new ≡ self.old) }
+    {
+        let first_rule = self.rules.len();
+        let end_rule = first_rule + rules.len();
+        self.rules.extend_from_slice(rules)?;
+        self.bodies.push(RowBody {
+            cfa,
+            saved_args_size,
+            first_rule,
+            end_rule,
+        })?;
+        Ok(())
+    }
+}
+
+// What a body says, whose rules are among these.
+fn kept<'r, 'a>(
+    rules: &'r [(Register, RegisterRule<'a>)],
+    body: RowBody<'a>,
+) -> Result<RowRef<'r, 'a>, Error>
+    requires { IsInRules rules.now body }
+    ensures { result ≡ body_in rules.now body.entry }
+{
+    match body.cfa {
+        Ok(cfa) => Ok(RowRef::new(
+            cfa,
+            &rules[body.first_rule..body.end_rule],
+            body.saved_args_size,
+        )),
+        Err(e) => Err(e),
+    }
+}
+
+// A number below `KNOWN` by which bodies are told apart, mostly.
+fn number_of(cfa: Result<CfaRule<'_>, Error>, rules: &[(Register, RegisterRule<'_>)]) -> usize
+    ensures { result < 64 }
+{
+    let offset = match cfa {
+        Ok(CfaRule::RegisterAndOffset { register, offset }) => {
+            (offset >> 3) ^ (register.0 as u64)
+        }
+        _ => 0,
+    };
+    let first = match rules.first() {
+        Some((register, RegisterRule::Offset(offset))) => (offset >> 3) ^ (register.0 as u64),
+        _ => 0,
+    };
+    let sum = (offset << 2) ^ first ^ ((rules.len() as u64) << 4);
+    (sum % 64) as usize
+}
+
+// Whether two CFAs are found by the same register and the same offset.
+fn is_same_cfa(a: Result<CfaRule<'_>, Error>, b: Result<CfaRule<'_>, Error>) -> bool
+    ensures { result ≡ true → (rules : List (ℕ × Rule)) (size : ℕ) →
+        kept_answer a.entry rules size ≡ kept_answer b.entry rules size }
+{
+    match a {
+        Ok(CfaRule::RegisterAndOffset { register, offset }) => match b {
+            Ok(
+                CfaRule::RegisterAndOffset {
+                    register: other,
+                    offset: second,
+                },
+            ) => register.0 == other.0 && offset == second,
+            _ => false,
+        },
+        _ => false,
+    }
+}
+
+// Whether two lists of rules are the same, and none is an expression.
+fn are_same_rules(a: &[(Register, RegisterRule<'_>)], b: &[(Register, RegisterRule<'_>)]) -> bool
+    ensures { result ≡ true → map entry_of a.now ≡ map entry_of b.now }
+{
+    if a.len() != b.len() {
+        return false;
+    }
+    for i in 0..a.len() {
+        if a[i].0.0 != b[i].0.0 || !is_same_rule(a[i].1, b[i].1) {
+            return false;
+        }
+    }
+    true
+}
+
+// Whether two rules are the same, and no expression.
+fn is_same_rule(a: RegisterRule<'_>, b: RegisterRule<'_>) -> bool
+    ensures { result ≡ true → rule_meaning a.entry ≡ rule_meaning b.entry }
+{
+    match (a, b) {
+        (RegisterRule::Offset(a), RegisterRule::Offset(b)) => a == b,
+        (RegisterRule::ValOffset(a), RegisterRule::ValOffset(b)) => a == b,
+        (RegisterRule::Register(a), RegisterRule::Register(b)) => a.0 == b.0,
+        (RegisterRule::Undefined, RegisterRule::Undefined) => true,
+        (RegisterRule::SameValue, RegisterRule::SameValue) => true,
+        _ => false,
+    }
+}
