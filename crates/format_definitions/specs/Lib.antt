@@ -7,3 +7,8 @@ pub mod PeEpilogs
 pub mod CompactStep
 pub mod MachoModules
 pub mod FormatModules
+pub mod FormatProcess
+pub mod FormatValid
+pub mod ElfStep
+pub mod FormatStep
+pub mod FormatStops

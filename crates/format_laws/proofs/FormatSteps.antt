@@ -39,7 +39,7 @@ uncovered_ends image m a columns u =
     ]
 
 module _ (image : List Span) (modules : List FormatModule) where
-  undone_in : (functions : List Function) (a : ℕ) (s : State) (c : Call) (columns : Columns) → (can : CanUndo image modules functions a s c) → Shows columns s →
+  pub undone_in : (functions : List Function) (a : ℕ) (s : State) (c : Call) (columns : Columns) → (can : CanUndo image modules functions a s c) → Shows columns s →
       (home : FormatModule) → IsTrue (in_format c.callee.start home) → IsFunction (convention_of home) c.callee → DescribesFormat image home (part_of home functions) → FormatUndone image home columns a c
   undone_in functions a s c columns can shows (Elf m) within is describes =
       one_step (record { image = image; modules = m ∷ [] }) (evaluation image) functions a s c columns (record {
@@ -62,12 +62,12 @@ module _ (image : List Span) (modules : List FormatModule) where
   pub call_undone : (functions : List Function) (a : ℕ) (s : State) (c : Call) (columns : Columns) → (can : CanUndo image modules functions a s c) → Shows columns s → FormatUndone image can.lies.home columns a c
   call_undone functions a s c columns can shows = undone_in functions a s c columns can shows can.lies.home can.lies.inside can.lies.is_function can.lies.describes
 
-  shown_after : (home : FormatModule) (columns : Columns) (a : ℕ) (c : Call) (u : FormatUndone image home columns a c) → Shows (columns_after image home columns a c u) c.caller
+  pub shown_after : (home : FormatModule) (columns : Columns) (a : ℕ) (c : Call) (u : FormatUndone image home columns a c) → Shows (columns_after image home columns a c u) c.caller
   shown_after (Elf m) columns a c u = u.undoes.shows
   shown_after (Macho m) columns a c u = u.shows
   shown_after (Pe m) columns a c u = u.shows
 
-  state_in : (functions : List Function) (s : State) (calls : List Call) → IsChain image (IsUncoveredBy image modules) functions s calls → IsState s
+  pub state_in : (functions : List Function) (s : State) (calls : List Call) → IsChain image (IsUncoveredBy image modules) functions s calls → IsState s
   state_in functions s [] chain = chain.state
   state_in functions s (c ∷ calls) chain = chain.0.state
 

@@ -16,13 +16,13 @@ use Rattle.format_laws.proofs.PeRoom as room
 pub laid_out : IsLaidOut 0 room_image
 laid_out = (lit≤ tt, lit< tt, lit≤ tt, (lit≤ tt, lit< tt, lit≤ tt, (lit≤ tt, lit< tt, lit≤ tt, (lit≤ tt, lit< tt, lit≤ tt, (lit≤ tt, lit< tt, lit≤ tt, (lit≤ tt, lit< tt, lit≤ tt, (lit≤ tt, lit< tt, lit≤ tt, (lit≤ tt, lit< tt, lit≤ tt, tt))))))))
 
-frameless_lies : LiesInFormat room_image modules functions frameless_function
+unfoldable pub frameless_lies : LiesInFormat room_image modules functions frameless_function
 frameless_lies = record { home = Macho sample_module; known = (1, lit< tt, refl); inside = refl; is_function = frameless_is_function; describes = described_in room_image refl }
 
-room_lies : LiesInFormat room_image modules functions room_function
+unfoldable pub room_lies : LiesInFormat room_image modules functions room_function
 room_lies = record { home = Pe module_of_one; known = (2, lit< tt, refl); inside = refl; is_function = room.is_function; describes = room.module_described }
 
-third_lies : LiesInFormat room_image modules functions three.fc
+pub third_lies : LiesInFormat room_image modules functions three.fc
 third_lies = record { home = Elf three.module_of_them; known = (0, lit< tt, refl); inside = refl; is_function = function_c; describes = elf.described }
 
 return_at : word_at room_image 0x70a0 ≡ Some 0x140001050

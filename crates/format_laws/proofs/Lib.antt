@@ -18,3 +18,11 @@ pub mod ElfValid
 pub mod FormatSteps
 pub mod ElfThree
 pub mod FormatValid
+pub mod FormatHomes
+pub mod FormatStepped
+pub mod FormatLines
+pub mod FormatOne
+pub mod FormatParts
+pub mod FormatCaught
+pub mod FormatStopped
+pub mod FormatStops

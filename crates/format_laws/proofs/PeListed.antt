@@ -87,7 +87,7 @@ described = record {
   bodies = quiet;
 }
 
-pub has_record : HasRecord epilog_image module_of_one (epilog_record ∷ []) epilog_function
+unfoldable pub has_record : HasRecord epilog_image module_of_one (epilog_record ∷ []) epilog_function
 has_record = record { function = epilog_record; listed = (0, lit< tt, refl); describes = described }
 
 unfoldable pub module_described : DescribesPe epilog_image module_of_one (epilog_function ∷ [])
@@ -97,7 +97,7 @@ pub caller_fits : IsState epilog_caller
 caller_fits = state_fits epilog_caller (lit< tt) (lit< tt) (lit< tt) (lit< tt) (lit< tt) (lit< tt) (lit< tt) (lit< tt)
 
 -- before the pop
-stands_before : StandsInEpilog epilog_image module_of_one epilog_record epilog_function described epilog_caller epilog_start
+pub stands_before : StandsInEpilog epilog_image module_of_one epilog_record epilog_function described epilog_caller epilog_start
 unfolding described word_at leading_epilogs operations_of
 stands_before = record {
   room = lit≤ tt;
@@ -125,7 +125,7 @@ stands_before = record {
 }
 
 -- after it, at the return
-stands_after : StandsInEpilog epilog_image module_of_one epilog_record epilog_function described epilog_caller epilog_state
+pub stands_after : StandsInEpilog epilog_image module_of_one epilog_record epilog_function described epilog_caller epilog_state
 unfolding described word_at leading_epilogs operations_of
 stands_after = record {
   room = lit≤ tt;

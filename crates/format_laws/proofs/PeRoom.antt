@@ -82,7 +82,7 @@ described = record {
   bodies = quiet;
 }
 
-leaf_described : DescribesLeaf module_of_one (loop_record ∷ []) leaf_function
+pub leaf_described : DescribesLeaf module_of_one (loop_record ∷ []) leaf_function
 leaf_described = record { inside = (lit≤ tt, lit≤ tt); apart = (inl (lit≤ tt), tt); no_steps = refl; plain = record { not_outermost = refl; no_sites = refl } }
 
 pub leaf_is_function : IsFunction Windows leaf_function
@@ -102,7 +102,7 @@ pub computed_leaf : GivesState (pe_step room_image module_of_one 0x1103 (columns
 unfolding word_at lookup_of halved boundary_of
 computed_leaf = record { caller = _; answered = refl; shows = record { ra = refl; sp = refl; saved = by_register (λ q. _ ≡ Some (value_of q room_caller)) refl refl refl refl refl refl } }
 
-pub module_described : DescribesPe room_image module_of_one (room_function ∷ leaf_function ∷ [])
+unfoldable pub module_described : DescribesPe room_image module_of_one (room_function ∷ leaf_function ∷ [])
 module_described = record { bytes = table_bytes 0x00 0x11; mapped = refl; table = loop_record ∷ []; reads = refl; ordered = (lit≤ tt, lit< tt, lit≤ tt, tt); each = (inl (record { function = loop_record; listed = (0, lit< tt, refl); describes = described }), (inr leaf_described, tt)) }
 
 pub entered : IsEntered room_image false (steps_of room_function.prologue) room_caller room_state

@@ -128,7 +128,7 @@ false_outermost image outermost prologue t s e entered = subst (λ b. IsEntered 
 
 -- ---- an address in a prologue lies below the body
 
-first_inside : (low high : ℕ) (ranges : List Range) → AreWithin low high ranges → ranges ≢ [] → (low ≤ first_from high ranges) × (first_from high ranges < high)
+pub first_inside : (low high : ℕ) (ranges : List Range) → AreWithin low high ranges → ranges ≢ [] → (low ≤ first_from high ranges) × (first_from high ranges < high)
 first_inside low high [] within some = absurd (some refl)
 first_inside low high (r ∷ ranges) within some = (within.0, let a = within.1 in let b = within.2 in omega arith)
 
@@ -145,7 +145,7 @@ ascends_after : (low : ℕ) (xs ys : List PrologueStep) → Ascend low (ends_of 
 ascends_after low [] ys h = (low, h)
 ascends_after low (x ∷ xs) ys h = ascends_after x.end xs ys h.1
 
-stands_inside : (image : List Span) (m : PeModule) (function : RuntimeFunction) (f : Function) (d : DescribesRecord image m function f) → IsFunction Windows f → (done later : List PrologueStep) (t s : State) → StandsAfter image f done later t s → (f.start ≤ s.ra) × (s.ra < f.end)
+pub stands_inside : (image : List Span) (m : PeModule) (function : RuntimeFunction) (f : Function) (d : DescribesRecord image m function f) → IsFunction Windows f → (done later : List PrologueStep) (t s : State) → StandsAfter image f done later t s → (f.start ≤ s.ra) × (s.ra < f.end)
 stands_inside image m function f d is done later t s st = (let h = st.behind in omega arith, go later st.steps st.below)
   where
     ends : (f.start + last_end f.prologue ≤ first_body f) × (first_body f < f.end)

@@ -5,3 +5,4 @@ pub mod MachoSamples
 pub mod ElfSample
 pub mod FormatUndone
 pub mod FormatSample
+pub mod FormatStepped

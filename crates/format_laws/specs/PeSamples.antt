@@ -121,12 +121,16 @@ loop_state = record { ra = 0x140001050; sp = 0x7000; rbx = 0; rbp = 0; r12 = 0; 
 -- ---- a function that pushes RBX and allocates 40
 
 -- Beside it an ELF module with three functions and a Mach-O module, and a stack: a function of the Mach-O module was called by this
--- one, and this one by the third of the ELF module.
+-- one, and this one by the third of the ELF module. Below them lie the frames of three deeper calls, where this one was called by
+-- the second of the ELF module, and that by the third.
+abbrev pub deeper_stack : List ℕ
+deeper_stack = far 0x50 0x10 0 0x40 0x01 ++ word 0
+
 abbrev pub room_stack : List ℕ
-room_stack = far 0x50 0x10 0 0x40 0x01 ++ (replicate 40 0 ++ (word 0x22 ++ (far 0x60 0x10 0x40 0 0 ++ (word 0 ++ (word 0x0b ++ (word 0x0e ++ word 0))))))
+room_stack = deeper_stack ++ (far 0x50 0x10 0 0x40 0x01 ++ (replicate 24 0 ++ (word 0x11 ++ (far 0x30 0x10 0x40 0 0 ++ (word 0x22 ++ (far 0x60 0x10 0x40 0 0 ++ (word 0 ++ (word 0x0b ++ (word 0x0e ++ word 0)))))))))
 
 abbrev pub room_image : List Span
-room_image = record { start = 0x70a0; bytes = room_stack } ∷
+room_image = record { start = 0x7090; bytes = room_stack } ∷
     record { start = 0x500000; bytes = three.frames } ∷
     record { start = 0x502000; bytes = three.languages } ∷
     record { start = 0x503000; bytes = three.cell } ∷

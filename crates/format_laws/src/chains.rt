@@ -7,7 +7,8 @@ ghost use Rattle.unwind_definitions.specs.State.{State, Shows};
 ghost use Rattle.unwind_definitions.specs.Function.{Function};
 ghost use Rattle.unwind_definitions.specs.Chain.{Call};
 ghost use Rattle.format_definitions.specs.CompactStep.{MachoModule, macho_step};
-ghost use Rattle.format_definitions.specs.FormatModules.{FormatModule, MachoCoversNot, IsFormatChain};
+ghost use Rattle.format_definitions.specs.FormatModules.{FormatModule, MachoCoversNot};
+ghost use Rattle.format_definitions.specs.FormatModules.{IsFormatChain};
 ghost use Rattle.format_laws.specs.FormatUndone.{FormatUndone, CanUndo, IsFormatWalk};
 
 /// A call of a function is undone by the module that the function lies in, of whatever format it

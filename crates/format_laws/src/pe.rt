@@ -11,7 +11,8 @@ ghost use Rattle.unwind_definitions.specs.Function.{Function, IsFunction, in_bod
 ghost use Rattle.unwind_definitions.specs.Stopped.{StandsAfter};
 ghost use Rattle.format_definitions.specs.PeImage.{PeModule, memory_of};
 ghost use Rattle.format_definitions.specs.PeStep.{pe_step};
-ghost use Rattle.format_definitions.specs.PeModules.{IsInNoEpilog, DescribesLeaf, HasRecord, DescribesPe};
+ghost use Rattle.format_definitions.specs.PeModules.{IsInNoEpilog, DescribesLeaf};
+ghost use Rattle.format_definitions.specs.PeModules.{HasRecord, DescribesPe};
 ghost use Rattle.format_definitions.specs.PeEpilogs.{StandsInEpilog};
 ghost use Rattle.format_laws.specs.PeUndone.{CallUndone};
 

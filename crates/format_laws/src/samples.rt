@@ -8,18 +8,24 @@ ghost use Rattle.unwind_definitions.specs.Prologue.{SystemV, Windows, steps_of};
 ghost use Rattle.unwind_definitions.specs.Entered.{IsEntered};
 ghost use Rattle.unwind_definitions.specs.Function.{Function, IsFunction};
 ghost use Rattle.unwind_definitions.specs.Module.{DescribesModule};
+ghost use Rattle.unwind_definitions.specs.Delivery.{delivery_of};
 ghost use Rattle.unwind_definitions.specs.Stopped.{StandsAfter};
 ghost use Rattle.unwind_laws.specs.Columns.{columns_of};
 ghost use Rattle.unwind_laws.specs.Pushing as pushing;
+ghost use Rattle.unwind_laws.specs.Three as three;
 ghost use Rattle.unwind_laws.specs.Windows as windows;
 ghost use Rattle.macho_unwind_info.specs.X86_64.{opcode_of};
 ghost use Rattle.pe_unwind_info.specs.declared.x86_64.fault.FrameFault.TheVariants.{ChainLimit};
 ghost use Rattle.format_definitions.specs.CompactStep.{compact_step, macho_step};
 ghost use Rattle.format_definitions.specs.FormatModules.{IsFormatChain};
+ghost use Rattle.format_definitions.specs.FormatProcess.{IsFormatProcess};
+ghost use Rattle.format_definitions.specs.FormatStops.{IsFormatStop};
+ghost use Rattle.format_definitions.specs.FormatValid.{IsFormatValid};
 ghost use Rattle.format_definitions.specs.MachoModules.{IsOpcodeOf, DescribesMacho};
 ghost use Rattle.format_definitions.specs.PeImage.{memory_of};
 ghost use Rattle.format_definitions.specs.PeStep.{InFrame, pe_step};
-ghost use Rattle.format_definitions.specs.PeModules.{IsInNoEpilog, DescribesRecord, HasRecord, DescribesPe};
+ghost use Rattle.format_definitions.specs.PeModules.{IsInNoEpilog, DescribesRecord};
+ghost use Rattle.format_definitions.specs.PeModules.{HasRecord, DescribesPe};
 ghost use Rattle.format_definitions.specs.PeEpilogs.{StandsInEpilog};
 ghost use Rattle.format_laws.specs.CompactUndone as compact;
 ghost use Rattle.format_laws.specs.ElfSample as elf;
@@ -158,4 +164,43 @@ pub fn calls_through_formats_are_a_chain()
     ensures memory { IsLaidOut 0 pe.room_image }
     ensures chain { IsFormatChain pe.room_image mixed.modules mixed.functions
         macho.frameless_state mixed.calls }
+{}
+
+/// Deeper calls through the same modules, from a function of the Mach-O module by way of one of the
+/// PE module to two of the ELF module: the start is valid, the cleanup of the first ELF function
+/// runs, and the second one's handler takes the exception.
+pub fn calls_through_formats_are_caught()
+    ensures process { IsFormatProcess pe.room_image mixed.modules }
+    ensures valid { IsFormatValid pe.room_image mixed.modules (columns_of mixed.caught_start)
+        three.resumes mixed.functions mixed.caught_start mixed.caught_calls }
+    ensures delivery { delivery_of three.exception mixed.caught_start mixed.caught_calls
+        ≡ mixed.caught_delivery }
+{}
+
+/// In those calls the Mach-O function may as well have been stopped where it stands in its body,
+/// and the PE function in its body or behind the push of its prologue: its callers' states begin
+/// described chains.
+pub fn stops_in_formats_are_described()
+    ensures macho_body { IsFormatStop pe.room_image mixed.modules mixed.functions
+        mixed.caught_start mixed.caught_frameless }
+    ensures macho_chain { IsFormatChain pe.room_image mixed.modules mixed.functions
+        mixed.caught_room (mixed.caught_pushing ∷ mixed.outer_calls) }
+    ensures pe_body { IsFormatStop pe.room_image mixed.modules mixed.functions mixed.caught_room
+        mixed.caught_pushing }
+    ensures pe_prologue { IsFormatStop pe.room_image mixed.modules mixed.functions
+        mixed.pushed_room mixed.caught_pushing }
+    ensures pe_chain { IsFormatChain pe.room_image mixed.modules mixed.functions three.second
+        mixed.outer_calls }
+{}
+
+/// The function with an epilog in its midst, stopped before the pop of the epilog and after it,
+/// where nobody called its caller.
+pub fn stops_in_a_pe_epilog_are_described()
+    ensures process { IsFormatProcess pe.epilog_image mixed.pe_modules }
+    ensures before { IsFormatStop pe.epilog_image mixed.pe_modules (pe.epilog_function ∷ [])
+        pe.epilog_start mixed.epilog_call }
+    ensures after { IsFormatStop pe.epilog_image mixed.pe_modules (pe.epilog_function ∷ [])
+        pe.epilog_state mixed.epilog_call }
+    ensures chain { IsFormatChain pe.epilog_image mixed.pe_modules (pe.epilog_function ∷ [])
+        pe.epilog_caller [] }
 {}

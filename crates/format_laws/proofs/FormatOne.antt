@@ -1,0 +1,181 @@
+-- Two described chains of one start through modules of three formats go through the same states, and what is delivered to them
+-- is one.
+use Rattle.std.proofs.Common.{◌≡◌, ◌≢◌, ℕ, ◌-◌, ◌<◌, ◌≤◌, false, List, [], ◌∷◌, Option, Some, None, Result, Ok, Err, refl, sym, ap, subst, ◌∙◌, arith, inl, inr}
+use Rattle.std.specs.Prelude.{◌⊎◌}
+use Rattle.std.specs.List.{AllPairs, AllByRecursion, Contains}
+use Rattle.std.specs.Option.{option_map_or}
+use Rattle.memory_image.specs.Image.{Span}
+use Rattle.unwind_definitions.specs.Caller.{Columns}
+use Rattle.unwind_definitions.specs.Expressions.{evaluation}
+use Rattle.unwind_definitions.specs.State.{State, Shows}
+use Rattle.unwind_definitions.specs.Entries.{Fde}
+use Rattle.unwind_definitions.specs.Function.{Function, Site, NoAction, action_among, action_at}
+use Rattle.unwind_definitions.specs.LanguageTable.{LeadsToLanguage}
+use Rattle.unwind_definitions.specs.Module.{Module, Process, AreApart}
+use Rattle.unwind_definitions.specs.Chain.{Call, IsChain}
+use Rattle.unwind_laws.specs.Apart.{FunctionsApart}
+use Rattle.unwind_laws.specs.Columns.{columns_of}
+use Rattle.unwind_laws.specs.Walked.{Steps}
+use Rattle.unwind_laws.proofs.Booleans as lists
+use Rattle.unwind_laws.proofs.OneModule.{Same, one_found}
+use Rattle.unwind_laws.proofs.OneLanguage.{one_action}
+use Rattle.unwind_laws.proofs.OneChain.{one_state, Alike}
+use Rattle.unwind_laws.proofs.PushingValid.{columns_show}
+use Rattle.format_definitions.specs.CompactStep.{Stepped, MachoModule}
+use Rattle.format_definitions.specs.MachoModules.{HasListed}
+use Rattle.format_definitions.specs.PeImage.{PeModule}
+use Rattle.format_definitions.specs.PeModules.{HasRecord, DescribesLeaf}
+use Rattle.format_definitions.specs.FormatModules.{FormatModule, Elf, Macho, Pe, convention_of, part_of, DescribesFormat, IsUncoveredBy, LiesInFormat, IsFormatChain}
+use Rattle.format_definitions.specs.FormatProcess.{FormatsApart}
+use Rattle.format_definitions.specs.FormatStep.{FormatFault, format_step}
+use Rattle.format_laws.specs.FormatUndone.{FormatUndone, CanUndo}
+use Rattle.format_laws.specs.FormatStepped.{StepUndone}
+use Rattle.format_laws.proofs.FormatSteps.{call_undone}
+use Rattle.format_laws.proofs.FormatHomes.{one_home, in_home, in_part, body_lies}
+use Rattle.format_laws.proofs.FormatStepped.{answered, step_ends}
+use Rattle.format_laws.proofs.FormatLines.{can_undo, link_undone}
+
+-- ---- what functions ask
+
+-- a function of a Mach-O or PE module has no language table
+listed_silent : (image : List Span) (m : MachoModule) (part : List Function) (d : DescribesFormat image (Macho m) part) (f : Function) → Contains part f → f.sites ≡ None
+listed_silent image m part d f has = (lists.all_contains (HasListed image d.info m) part f d.each has).describes.no_sites
+
+recorded_silent : (image : List Span) (m : PeModule) (part : List Function) (d : DescribesFormat image (Pe m) part) (f : Function) → Contains part f → f.sites ≡ None
+recorded_silent image m part d f has = go (lists.all_contains (λ (g : Function). HasRecord image m d.table g ⊎ DescribesLeaf m d.table g) part f d.each has)
+  where
+    go : HasRecord image m d.table f ⊎ DescribesLeaf m d.table f → f.sites ≡ None
+    go (inl r) = r.describes.plain.no_sites
+    go (inr leaf) = leaf.plain.no_sites
+
+-- a described function with a language table lies in an ELF module
+elf_alone : (image : List Span) (home : FormatModule) (part : List Function) (f : Function) → DescribesFormat image home part → Contains part f → f.sites ≢ None → (m : Module) × (home ≡ Elf m)
+elf_alone image (Elf m) part f d has some = (m, refl)
+elf_alone image (Macho m) part f d has some = absurd (some (listed_silent image m part d f has))
+elf_alone image (Pe m) part f d has some = absurd (some (recorded_silent image m part d f has))
+
+pub table_in_elf : (image : List Span) (modules : List FormatModule) (functions : List Function) (f : Function) (lies : LiesInFormat image modules functions f) → Contains functions f → f.sites ≢ None → (m : Module) × (lies.home ≡ Elf m)
+table_in_elf image modules functions f lies has some = elf_alone image lies.home (part_of lies.home functions) f lies.describes (in_part functions f lies.home has lies.inside) some
+
+silent_action : (f : Function) (a : ℕ) → f.sites ≡ None → action_at f a ≡ NoAction
+silent_action f a e = ap (λ (o : Option (List Site)). option_map_or (λ sites. action_among sites a) o NoAction) e
+
+-- two calls that one ELF module undoes at one address ask the same there
+elf_actions : (image : List Span) (m : Module) (columns : Columns) (a : ℕ) (c d : Call) → Steps (record { image = image; modules = m ∷ [] }) (evaluation image) columns a c →
+    Steps (record { image = image; modules = m ∷ [] }) (evaluation image) columns a d → action_at c.callee a ≡ action_at d.callee a
+elf_actions image m columns a c d x y =
+    let p : Process = record { image = image; modules = m ∷ [] } in
+    let same : Same p (lists.pairs_one AreApart m) c.callee d.callee a x.finds y.finds = one_found p (lists.pairs_one AreApart m) c.callee d.callee a x.finds y.finds in
+    let starts : c.callee.start ≡ d.callee.start = sym x.finds.describes.code.start ∙ ap (λ (k : Fde). k.start) same.fde ∙ y.finds.describes.code.start in
+    let leads : LeadsToLanguage image d.callee x.finds.fde.language = subst (λ (k : Fde). LeadsToLanguage image d.callee k.language) (sym same.fde) y.finds.describes.language in
+    one_action image c.callee d.callee x.finds.fde.language a starts x.finds.describes.language leads
+
+-- a call that a module undoes, of a function that it describes
+pub record IsUndoneIn (image : List Span) (home : FormatModule) (columns : Columns) (a : ℕ) (c : Call) : Type 0 where
+  pub part : List Function
+  pub describes : DescribesFormat image home part
+  pub listed : Contains part c.callee
+  pub undone : FormatUndone image home columns a c
+
+same_actions : (image : List Span) (home : FormatModule) (columns : Columns) (a : ℕ) (c d : Call) → IsUndoneIn image home columns a c → IsUndoneIn image home columns a d → action_at c.callee a ≡ action_at d.callee a
+same_actions image (Elf m) columns a c d x y = elf_actions image m columns a c d x.undone y.undone
+same_actions image (Macho m) columns a c d x y =
+    silent_action c.callee a (listed_silent image m x.part x.describes c.callee x.listed) ∙ sym (silent_action d.callee a (listed_silent image m y.part y.describes d.callee y.listed))
+same_actions image (Pe m) columns a c d x y =
+    silent_action c.callee a (recorded_silent image m x.part x.describes c.callee x.listed) ∙ sym (silent_action d.callee a (recorded_silent image m y.part y.describes d.callee y.listed))
+
+-- ---- chains
+some_columns : (x y : Columns) → answered x ≡ answered y → x ≡ y
+some_columns x y e = ap columns_in e
+  where
+    columns_in : Result (Option Stepped) FormatFault → Columns
+    columns_in (Ok (Some caller)) = caller.columns
+    columns_in (Ok None) = x
+    columns_in (Err f) = x
+
+not_none : (x : Columns) → ◌≡◌ {A = Result (Option Stepped) FormatFault} (Ok None) (answered x) → ⊥
+not_none x e = absurd cc
+
+module _ (image : List Span) (modules : List FormatModule) (apart : AllPairs FormatsApart modules) where
+  undone_in_home : (functions : List Function) (s : State) (c : Call) (columns : Columns) → (can : CanUndo image modules functions (s.ra - 1) s c) → Shows columns s → IsUndoneIn image can.lies.home columns (s.ra - 1) c
+  undone_in_home functions s c columns can shows = record {
+    part = part_of can.lies.home functions;
+    describes = can.lies.describes;
+    listed = in_part functions c.callee can.lies.home can.listed can.lies.inside;
+    undone = call_undone image modules functions (s.ra - 1) s c columns can shows;
+  }
+
+  same_home : (functions more : List Function) (s : State) (c d : Call) → (x : CanUndo image modules functions (s.ra - 1) s c) → (y : CanUndo image modules more (s.ra - 1) s d) → x.lies.home ≡ y.lies.home
+  same_home functions more s c d x y =
+      let i = body_lies (convention_of x.lies.home) c.callee (s.ra - 1) x.lies.is_function x.inside in
+      let j = body_lies (convention_of y.lies.home) d.callee (s.ra - 1) y.lies.is_function y.inside in
+      one_home modules apart (s.ra - 1) x.lies.home y.lies.home x.lies.known y.lies.known
+      (in_home image modules functions c.callee x.lies x.listed (s.ra - 1) i.0 i.1) (in_home image modules more d.callee y.lies y.listed (s.ra - 1) j.0 j.1)
+
+  -- at one state they ask the same
+  one_asked : (functions more : List Function) (s : State) (c d : Call) (columns : Columns) → (x : CanUndo image modules functions (s.ra - 1) s c) → (y : CanUndo image modules more (s.ra - 1) s d) → Shows columns s →
+      action_at c.callee (s.ra - 1) ≡ action_at d.callee (s.ra - 1)
+  one_asked functions more s c d columns x y shows =
+      same_actions image x.lies.home columns (s.ra - 1) c d (undone_in_home functions s c columns x shows)
+      (subst (λ (home : FormatModule). IsUndoneIn image home columns (s.ra - 1) d) (sym (same_home functions more s c d x y)) (undone_in_home more s d columns y shows))
+
+  -- the caller's columns, which the step answers for both
+  one_caller : (h k : FormatModule) (columns : Columns) (t u : State) (x : StepUndone h (format_step image modules false columns) columns t) (y : StepUndone k (format_step image modules false columns) columns u) → t ≡ u
+  one_caller h k columns t u x y =
+      let same : x.caller ≡ y.caller = some_columns x.caller y.caller (sym x.answered ∙ y.answered) in
+      one_state x.caller t u x.shows (subst (λ (c : Columns). Shows c u) (sym same) y.shows)
+
+  alike : (functions more : List Function) (s : State) (cs ds : List Call) (columns : Columns) → IsChain image (IsUncoveredBy image modules) functions s cs → AllByRecursion (λ (c : Call). LiesInFormat image modules functions c.callee) cs →
+      IsChain image (IsUncoveredBy image modules) more s ds → AllByRecursion (λ (c : Call). LiesInFormat image modules more c.callee) ds → Shows columns s → Alike s cs ds
+  alike functions more s [] [] columns x lx y ly shows = tt
+  alike functions more s [] (d ∷ ds) columns x lx y ly shows =
+      let v = link_undone image modules apart more s d ds columns y.0 y.1 ly.0 shows in
+      absurd (not_none v.caller (sym (step_ends image modules functions columns s x shows) ∙ v.answered))
+  alike functions more s (c ∷ cs) [] columns x lx y ly shows =
+      let u = link_undone image modules apart functions s c cs columns x.0 x.1 lx.0 shows in
+      absurd (not_none u.caller (sym (step_ends image modules more columns s y shows) ∙ u.answered))
+  alike functions more s (c ∷ cs) (d ∷ ds) columns x lx y ly shows =
+      let u = link_undone image modules apart functions s c cs columns x.0 x.1 lx.0 shows in
+      let v = link_undone image modules apart more s d ds columns y.0 y.1 ly.0 shows in
+      let callers : c.caller ≡ d.caller = one_caller lx.0.home ly.0.home columns c.caller d.caller u v in
+      let asks = one_asked functions more s c d columns (can_undo image modules apart functions s c cs x.0 x.1 lx.0) (can_undo image modules apart more s d ds y.0 y.1 ly.0) shows in
+      let rest : IsChain image (IsUncoveredBy image modules) more c.caller ds = subst (λ (t : State). IsChain image (IsUncoveredBy image modules) more t ds) (sym callers) y.1 in
+      (callers, asks, alike functions more c.caller cs ds u.caller x.1 lx.1 rest ly.1 u.shows)
+
+  pub chains_alike : (functions more : List Function) (s : State) (cs ds : List Call) → IsFormatChain image modules functions s cs → IsFormatChain image modules more s ds → Alike s cs ds
+  chains_alike functions more s cs ds x y = alike functions more s cs ds (columns_of s) x.chain x.described y.chain y.described (columns_show s)
+
+-- ---- chains over one list of functions that share no address
+
+apart_not : (f g : Function) (a : ℕ) → FunctionsApart f g → (f.start ≤ a) × (a < f.end) → (g.start ≤ a) × (a < g.end) → ⊥
+apart_not f g a (inl le) x y = omega (arith, x.1, y.0)
+apart_not f g a (inr le) x y = omega (arith, x.0, y.1)
+
+one_function : (fs : List Function) → AllPairs FunctionsApart fs → (a : ℕ) (f g : Function) → Contains fs f → Contains fs g → (f.start ≤ a) × (a < f.end) → (g.start ≤ a) × (a < g.end) → f ≡ g
+one_function [] apart a f g p q i j = absurd (lists.none_in_nil f p)
+one_function (x ∷ xs) apart a f g p q i j = go (lists.here_or_later x xs f p) (lists.here_or_later x xs g q) (λ p' q'. one_function xs (lists.tail_pairs FunctionsApart x xs apart) a f g p' q' i j)
+  where
+    go : (x ≡ f) ⊎ Contains xs f → (x ≡ g) ⊎ Contains xs g → (Contains xs f → Contains xs g → f ≡ g) → f ≡ g
+    go (inl e) (inl h) ih = sym e ∙ h
+    go (inl e) (inr q') ih = absurd (apart_not f g a (subst (λ y. FunctionsApart y g) e (lists.head_pairs FunctionsApart x xs g apart q')) i j)
+    go (inr p') (inl h) ih = absurd (apart_not g f a (subst (λ y. FunctionsApart y f) h (lists.head_pairs FunctionsApart x xs f apart p')) j i)
+    go (inr p') (inr q') ih = ih p' q'
+
+module _ (image : List Span) (modules : List FormatModule) (functions : List Function) (alone : AllPairs FunctionsApart functions) where
+  same_callees : (s : State) (cs ds : List Call) → IsChain image (IsUncoveredBy image modules) functions s cs → AllByRecursion (λ (c : Call). LiesInFormat image modules functions c.callee) cs →
+      IsChain image (IsUncoveredBy image modules) functions s ds → AllByRecursion (λ (c : Call). LiesInFormat image modules functions c.callee) ds → Alike s cs ds → cs ≡ ds
+  same_callees s [] [] x lx y ly a = refl
+  same_callees s [] (d ∷ ds) x lx y ly a = absurd a
+  same_callees s (c ∷ cs) [] x lx y ly a = absurd a
+  same_callees s (c ∷ cs) (d ∷ ds) x lx y ly a =
+      let at : ℕ = s.ra - 1 in
+      let callee : c.callee ≡ d.callee = one_function functions alone at c.callee d.callee x.0.listed y.0.listed
+      (body_lies (convention_of lx.0.home) c.callee at lx.0.is_function x.0.called.inside) (body_lies (convention_of ly.0.home) d.callee at ly.0.is_function y.0.called.inside) in
+      let make : Function → State → Call = λ f t. record { callee = f; caller = t } in
+      let call : c ≡ d = ap (λ (f : Function). make f c.caller) callee ∙ ap (make d.callee) a.0 in
+      let rest : cs ≡ ds = same_callees c.caller cs ds x.1 lx.1 (subst (λ (t : State). IsChain image (IsUncoveredBy image modules) functions t ds) (sym a.0) y.1) ly.1 a.2 in
+      ap (λ (k : Call). k ∷ cs) call ∙ ap (λ (l : List Call). d ∷ l) rest
+
+  -- two described chains of one start are one
+  pub one_chain : AllPairs FormatsApart modules → (s : State) (cs ds : List Call) → IsFormatChain image modules functions s cs → IsFormatChain image modules functions s ds → cs ≡ ds
+  one_chain apart s cs ds x y = same_callees s cs ds x.chain x.described y.chain y.described (chains_alike image modules apart functions functions s cs ds x y)
