@@ -24,7 +24,8 @@ pub struct Cursor<'a> {
 impl<'a> Cursor<'a> {
     ghost use Rattle.std.specs.Prelude.{IfOk, OnErr, ◌*◌, ◌-◌, ◌≤◌};
     ghost use Rattle.std.specs.Int.{w8, w16, w32, w64, cast_unsigned};
-    ghost use Rattle.unwind_definitions.specs.Input.{number, uleb, uleb_from, sleb, sleb_from, skip, split, text, address_of};
+    ghost use Rattle.unwind_definitions.specs.Input.{number, uleb, uleb_from, sleb, sleb_from};
+    ghost use Rattle.unwind_definitions.specs.Input.{skip, split, text, address_of};
     ghost use Rattle.unwind_definitions.specs.Pointers.{signed_number};
     ghost use Rattle.encoded_pointers.specs.Readers.{GivesOr, passes};
     ghost use Rattle.encoded_pointers.specs.CursorViews.{at};

@@ -1,7 +1,8 @@
 //! How a pointer in call frame bytes is encoded. LSB, DWARF exception header encoding.
 
 ghost use Rattle.std.specs.Prelude.{◌≡◌, ◌==◌, OnErr};
-ghost use Rattle.unwind_definitions.specs.Pointers.{application_of, encoding, format_of, is_indirect, is_known};
+ghost use Rattle.unwind_definitions.specs.Pointers.{application_of, encoding, format_of};
+ghost use Rattle.unwind_definitions.specs.Pointers.{is_indirect, is_known};
 ghost use Rattle.encoded_pointers.specs.Readers.{GivesOr};
 ghost use Rattle.encoded_pointers.specs.CursorViews.{at};
 

@@ -1,7 +1,8 @@
 //! Pointers in call frame bytes.
 
 ghost use Rattle.std.specs.Prelude.{◌≡◌, OnErr};
-ghost use Rattle.unwind_definitions.specs.Pointers.{application_of, base_of, direct, format_of, known, pointer, value};
+ghost use Rattle.unwind_definitions.specs.Pointers.{application_of, base_of, direct, format_of};
+ghost use Rattle.unwind_definitions.specs.Pointers.{known, pointer, value};
 ghost use Rattle.encoded_pointers.specs.Readers.{Answers, GivesOr};
 ghost use Rattle.encoded_pointers.specs.PointerViews.{bases_of, pointer_of};
 ghost use Rattle.encoded_pointers.specs.CursorViews.{at};

@@ -1,6 +1,7 @@
 //! A finder by the program headers of loaded objects.
 
-ghost use Rattle.std.specs.Prelude.{◌≡◌, ◌+◌, ◌≤◌, ℕ, List, [], ◌∷◌, ◌++◌, length, OnErr, OnOk, Option};
+ghost use Rattle.std.specs.Prelude.{◌≡◌, ◌+◌, ◌≤◌, ℕ, List, [], ◌∷◌, ◌++◌, length, OnErr, OnOk};
+ghost use Rattle.std.specs.Prelude.{Option};
 ghost use Rattle.std.specs.Option.{option_map};
 ghost use Rattle.memory_image.specs.Words.{u32_at, u64_at};
 ghost use Rattle.memory_image.specs.Image.{Span};
@@ -9,7 +10,9 @@ ghost use Rattle.fde_finders.specs.FoundViews.{answered};
 ghost use Rattle.fde_finders.specs.Finding.{FoundFde};
 ghost use Rattle.fde_finders.specs.InTurn.{FindsAmong};
 ghost use Rattle.fde_finders.specs.TurnCovering.{objects_contain};
-ghost use Rattle.fde_finders.specs.ProgramHeaders.{FindsInObject, data_base_of, dynamic_entries, found_in_object, in_range, is_of_type, is_text, last_such, pairs_in_object, plt_got, start_of};
+ghost use Rattle.fde_finders.specs.ProgramHeaders.{FindsInObject, data_base_of, dynamic_entries};
+ghost use Rattle.fde_finders.specs.ProgramHeaders.{found_in_object, in_range, is_of_type, is_text};
+ghost use Rattle.fde_finders.specs.ProgramHeaders.{last_such, pairs_in_object, plt_got, start_of};
 ghost use Rattle.fde_finders.specs.Sought.{is_sought};
 
 use crate::find_fde::{FDEFinder, FDESearchResult};

@@ -1,12 +1,14 @@
 //! A finder by frame tables that are registered.
 
-ghost use Rattle.std.specs.Prelude.{◌≡◌, ◌+◌, ◌∷◌, ◌==◌, ℕ, [], Bool, true, false, OnErr, OnOk, Ok, Option, if◌then◌else◌};
+ghost use Rattle.std.specs.Prelude.{◌≡◌, ◌+◌, ◌∷◌, ◌==◌, ℕ, [], Bool, true, false, OnErr, OnOk, Ok};
+ghost use Rattle.std.specs.Prelude.{Option, if◌then◌else◌};
 ghost use Rattle.std.specs.Option.{option_map};
 ghost use Rattle.fde_finders.specs.FoundViews.{answered};
 ghost use Rattle.fde_finders.specs.InTurn.{FindsAmong};
 ghost use Rattle.fde_finders.specs.RegistryCovering.{registry_contains};
 ghost use Rattle.encoded_pointers.specs.PointerViews.{bases_of};
-ghost use Rattle.fde_finders.specs.Registered.{FindsByObject, FindsListed, FindsRegistered, newest_at, place_at, with_object, without_newest_at};
+ghost use Rattle.fde_finders.specs.Registered.{FindsByObject, FindsListed, FindsRegistered};
+ghost use Rattle.fde_finders.specs.Registered.{newest_at, place_at, with_object, without_newest_at};
 
 use crate::find_fde::{FDEFinder, FDESearchResult};
 use crate::tables::{relative_to, scan};

@@ -12,7 +12,8 @@ ghost use Rattle.fde_finders.specs.FoundViews.{answered};
 ghost use Rattle.fde_finders.specs.Finding.{found_in, relative_to, scanned_by, scanned_in};
 ghost use Rattle.fde_finders.specs.FrameTables.{table_by_header};
 ghost use Rattle.fde_finders.specs.NamedTables.{named_of};
-ghost use Rattle.fde_finders.specs.HeaderFinding.{by_table, found_by_header, led_address, listed, pairs_by_header, pairs_in};
+ghost use Rattle.fde_finders.specs.HeaderFinding.{by_table, found_by_header, led_address, listed};
+ghost use Rattle.fde_finders.specs.HeaderFinding.{pairs_by_header, pairs_in};
 
 use crate::find_fde::FDESearchResult;
 use crate::naming::NamedTable;

@@ -2,7 +2,8 @@
 
 ghost use Rattle.std.specs.Prelude.{◌≡◌, ◌↔◌, ℕ, Ok, Err};
 ghost use Rattle.unwind_definitions.specs.Caller.{StepFault, Table};
-ghost use Rattle.unwind_definitions.specs.Expressions.{HasValue, HasFault, IsEndless, begun, operation_limit, evaluation};
+ghost use Rattle.unwind_definitions.specs.Expressions.{HasValue, HasFault, IsEndless, begun};
+ghost use Rattle.unwind_definitions.specs.Expressions.{operation_limit, evaluation};
 ghost use Rattle.frame_expressions.specs.Answers.{value_given, stack_of};
 
 use crate::error::EvalError;

@@ -3,7 +3,9 @@
 ghost use Rattle.std.specs.Prelude.{◌≡◌, ◌↔◌, ℕ, List, [], ◌∷◌, None, Result};
 ghost use Rattle.memory_image.specs.Image.{Span, word_at};
 ghost use Rattle.unwind_definitions.specs.Caller.{Columns, StepFault, Unmapped};
-ghost use Rattle.unwind_definitions.specs.Expressions.{Configuration, HasAnswer, HasValue, HasFault, IsEndless, begun, operation_limit, evaluation};
+ghost use Rattle.unwind_definitions.specs.Expressions.{Configuration, HasAnswer, HasValue};
+ghost use Rattle.unwind_definitions.specs.Expressions.{HasFault, IsEndless, begun, operation_limit};
+ghost use Rattle.unwind_definitions.specs.Expressions.{evaluation};
 
 /// An expression has one answer, a value or a fault: that of the run that begins with its stack.
 pub fn answer_is_that_of_a_run()

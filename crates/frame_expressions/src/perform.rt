@@ -4,7 +4,8 @@ ghost use Rattle.std.specs.Prelude.{◌≡◌, ℕ, List, Result, ◌≤◌, ◌
 ghost use Rattle.memory_image.specs.Image.{number_at};
 ghost use Rattle.unwind_definitions.specs.declared.error.Error.{Error as Fault};
 ghost use Rattle.unwind_definitions.specs.Caller.{column_or_fault};
-ghost use Rattle.unwind_definitions.specs.Expressions.{done, goes_on, moved, branched, loaded, pushed_column};
+ghost use Rattle.unwind_definitions.specs.Expressions.{done, goes_on, moved, branched, loaded};
+ghost use Rattle.unwind_definitions.specs.Expressions.{pushed_column};
 ghost use Rattle.frame_expressions.specs.OperationViews.{meaning};
 ghost use Rattle.frame_expressions.specs.Answers.{GoesOn, Leaves};
 

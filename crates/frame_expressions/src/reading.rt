@@ -3,7 +3,9 @@
 ghost use Rattle.std.specs.Prelude.{◌≡◌};
 ghost use Rattle.std.specs.Int.{w16};
 ghost use Rattle.unwind_definitions.specs.Pointers.{signed_number};
-ghost use Rattle.unwind_definitions.specs.Operations.{operation, constant, rearrangement, arithmetic, decision, extension, loads, pushes_column};
+ghost use Rattle.unwind_definitions.specs.Operations.{operation, constant, rearrangement};
+ghost use Rattle.unwind_definitions.specs.Operations.{arithmetic, decision, extension, loads};
+ghost use Rattle.unwind_definitions.specs.Operations.{pushes_column};
 ghost use Rattle.encoded_pointers.specs.Readers.{GivesOr};
 ghost use Rattle.encoded_pointers.specs.CursorViews.{at};
 ghost use Rattle.frame_expressions.specs.OperationViews.{meaning};

@@ -1,7 +1,8 @@
 //! The stack that expressions work on. DWARF 5 section 2.5.1.
 
 ghost use Rattle.std.specs.Prelude.{◌≡◌, ◌≢◌, ◌<◌, ◌∷◌, [], OnErr, IfOk, IfErr};
-ghost use Rattle.unwind_definitions.specs.Expressions.{push, pick, popped, swapped, rotated, changed, combined, divided, top_of};
+ghost use Rattle.unwind_definitions.specs.Expressions.{push, pick, popped, swapped, rotated};
+ghost use Rattle.unwind_definitions.specs.Expressions.{changed, combined, divided, top_of};
 ghost use Rattle.frame_expressions.specs.OperationViews.{changed_by, combined_by, divided_by};
 ghost use Rattle.frame_expressions.specs.Answers.{Leaves, stack_of};
 

@@ -1,7 +1,8 @@
 //! Values and faults that an evaluator written in Python from the standard finds for the same
 //! bytes.
 
-ghost use Rattle.std.specs.Prelude.{◌≡◌, ◌≢◌, ℕ, Some, None, ◌==◌, is_some, OnSome, IfNone, if◌then◌else◌};
+ghost use Rattle.std.specs.Prelude.{◌≡◌, ◌≢◌, ℕ, Some, None, ◌==◌, is_some, OnSome, IfNone};
+ghost use Rattle.std.specs.Prelude.{if◌then◌else◌};
 
 use super::*;
 use memory_image::{ImageError, MemoryImage};

@@ -2,7 +2,8 @@
 
 ghost use Rattle.std.specs.Prelude.{◌≡◌, ◌≢◌};
 ghost use Rattle.frame_expressions.specs.OperationViews.{changed_by, combined_by, divided_by};
-ghost use Rattle.unwind_definitions.specs.Operations.{shifted_left, shifted_right, shifted_signed, is_less, is_at_least, quotient};
+ghost use Rattle.unwind_definitions.specs.Operations.{shifted_left, shifted_right, shifted_signed};
+ghost use Rattle.unwind_definitions.specs.Operations.{is_less, is_at_least, quotient};
 
 use crate::operation::{Change, Combination, Division};
 

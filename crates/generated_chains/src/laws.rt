@@ -10,7 +10,8 @@ ghost use Rattle.generated_chains.specs.ValidCase.{IsValidCase};
 ghost use Rattle.generated_chains.specs.Outlines.{outlines};
 ghost use Rattle.generated_chains.specs.Code.{functions_of};
 ghost use Rattle.generated_chains.specs.Calls.{state_of, calls_of};
-ghost use Rattle.generated_chains.specs.Memory.{image_of, module_by, by_frames, by_header, HoldsStack, HoldsTables};
+ghost use Rattle.generated_chains.specs.Memory.{image_of, module_by, by_frames, by_header};
+ghost use Rattle.generated_chains.specs.Memory.{HoldsStack, HoldsTables};
 
 /// A generated chain is a valid case, by its frame table and by its header table, whatever columns
 /// show its innermost state.

@@ -1,7 +1,8 @@
 //! The functions of a chain in outline.
 
 ghost use Rattle.std.specs.Prelude.{◌≡◌, IfOk, length};
-ghost use Rattle.generated_chains.specs.Outlines.{following, kind_of, handling_of, outlines, AreNumbered};
+ghost use Rattle.generated_chains.specs.Outlines.{following, kind_of, handling_of, outlines};
+ghost use Rattle.generated_chains.specs.Outlines.{AreNumbered};
 
 use std::alloc::{AllocError, Global};
 

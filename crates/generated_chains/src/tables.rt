@@ -3,7 +3,10 @@
 ghost use Rattle.std.specs.Prelude.{◌≡◌, ◌<◌, ◌≤◌, ◌++◌, IfOk, OnOk, length};
 ghost use Rattle.generated_chains.specs.Outlines.{AreNumbered};
 ghost use Rattle.generated_chains.specs.Code.{start_of};
-ghost use Rattle.generated_chains.specs.Tables.{plain_entry, language_entry, language_tables, common_offset, language_place, program_of, offset_of, description_bytes, frame_table, pair_bytes, header_table};
+ghost use Rattle.generated_chains.specs.Tables.{plain_entry, language_entry, language_tables};
+ghost use Rattle.generated_chains.specs.Tables.{common_offset, language_place, program_of};
+ghost use Rattle.generated_chains.specs.Tables.{offset_of, description_bytes, frame_table};
+ghost use Rattle.generated_chains.specs.Tables.{pair_bytes, header_table};
 
 use crate::outline::{Handling, Kind, Outline};
 use crate::spelled::{put_half, put_relative};

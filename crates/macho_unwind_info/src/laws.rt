@@ -3,7 +3,8 @@ ghost use Rattle.std.specs.Prelude.{◌≡◌, ℕ, Ok};
 ghost use Rattle.macho_unwind_info.specs.Listing.{Section, section_of, listing};
 ghost use Rattle.macho_unwind_info.specs.Lookup.{IsLookup, lookup_of};
 ghost use Rattle.macho_unwind_info.specs.Described.{HasDescribedPages, FindsEachListed};
-ghost use Rattle.macho_unwind_info.specs.Sample.{described_bytes, described_functions, damaged_bytes, damaged_places};
+ghost use Rattle.macho_unwind_info.specs.Sample.{described_bytes, described_functions};
+ghost use Rattle.macho_unwind_info.specs.Sample.{damaged_bytes, damaged_places};
 
 /// There is a section whose pages are described: a compressed page with two functions, a regular
 /// one with one function, and the sentinel.

@@ -1,9 +1,14 @@
 // A page that was opened: its entries, and what they say.
-ghost use Rattle.std.specs.Prelude.{◌≡◌, ◌+◌, ◌-◌, ◌<◌, ◌≤◌, ◌^◌, IfSome, IfOk, length, slice_get, map, drop, option_copied};
+ghost use Rattle.std.specs.Prelude.{◌≡◌, ◌+◌, ◌-◌, ◌<◌, ◌≤◌, ◌^◌, IfSome, IfOk, length, slice_get};
+ghost use Rattle.std.specs.Prelude.{map, drop, option_copied};
 ghost use Rattle.memory_image.specs.Halving.{boundary_of};
 ghost use Rattle.macho_unwind_info.specs.Unaligned.{u32_number};
-ghost use Rattle.macho_unwind_info.specs.Listing.{page_of, regular_of, compressed_of, opcode_at, opcode_named, address_after, regular_entry, compressed_entry, entries_of, end_of, function_of, functions_of, whole_page};
-ghost use Rattle.macho_unwind_info.specs.Lookup.{Finds, base_of, keys_of, IsPageLookup, page_lookup_of};
+ghost use Rattle.macho_unwind_info.specs.Listing.{page_of, regular_of, compressed_of, opcode_at};
+ghost use Rattle.macho_unwind_info.specs.Listing.{opcode_named, address_after, regular_entry};
+ghost use Rattle.macho_unwind_info.specs.Listing.{compressed_entry, entries_of, end_of};
+ghost use Rattle.macho_unwind_info.specs.Listing.{function_of, functions_of, whole_page};
+ghost use Rattle.macho_unwind_info.specs.Lookup.{Finds, base_of, keys_of, IsPageLookup};
+ghost use Rattle.macho_unwind_info.specs.Lookup.{page_lookup_of};
 ghost use Rattle.macho_unwind_info.specs.Iteration.{behind_first, left_in};
 
 use crate::error::{Error, ReadError};

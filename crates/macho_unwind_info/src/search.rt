@@ -2,7 +2,8 @@
 ghost use Rattle.std.specs.Prelude.{◌≡◌, ◌+◌, ◌<◌, ◌^◌, ℕ, map, length, slice_index, IfSome};
 ghost use Rattle.memory_image.specs.Halving.{boundary_of};
 ghost use Rattle.macho_unwind_info.specs.Unaligned.{u32_number};
-ghost use Rattle.macho_unwind_info.specs.Lookup.{Finds, first_address, start_address, start_distance};
+ghost use Rattle.macho_unwind_info.specs.Lookup.{Finds, first_address, start_address};
+ghost use Rattle.macho_unwind_info.specs.Lookup.{start_distance};
 
 use crate::raw::{CompressedFunctionEntry, PageEntry, RegularFunctionEntry, U32};
 use memory_image::{Record, Records};

@@ -1,8 +1,10 @@
 // A section that was parsed.
 ghost use Rattle.std.specs.Prelude.{◌≡◌, map, slice_index, Ok, None};
 ghost use Rattle.macho_unwind_info.specs.Listing.{section_of, listing};
-ghost use Rattle.macho_unwind_info.specs.Described.{HasDescribedPages, IsInRange, IsOutside, FindsListed, FindsEachListed, LieEndToEnd};
-ghost use Rattle.macho_unwind_info.specs.Lookup.{range_start, range_end, IsLookup, lookup_of, first_address};
+ghost use Rattle.macho_unwind_info.specs.Described.{HasDescribedPages, IsInRange, IsOutside};
+ghost use Rattle.macho_unwind_info.specs.Described.{FindsListed, FindsEachListed, LieEndToEnd};
+ghost use Rattle.macho_unwind_info.specs.Lookup.{range_start, range_end, IsLookup, lookup_of};
+ghost use Rattle.macho_unwind_info.specs.Lookup.{first_address};
 
 use crate::error::Error;
 use crate::function::Function;

@@ -10,3 +10,7 @@ text_of Empty = codes "empty region"
 text_of Wraps = codes "region past the last address"
 text_of (Overlap start) = codes "region overlaps the one at 0x" ++ digits 16 false start
 text_of NoMemory = codes "no memory"
+
+-- the text of a read or a write that failed
+abbrev pub failed_text : List ℕ
+failed_text = codes "a read or a write failed"

@@ -12,8 +12,10 @@ struct Entry {
 }
 
 impl Record for Entry {
-    ghost use Rattle.std.proofs.Common.{ℕ, ◌≡◌, ◌∙◌, ◌+◌, ◌≤◌, List, length, drop, ap, sym, subst, lit≤};
-    ghost use Rattle.memory_image.specs.Words.{u16_at, u32_at, same_from_u16_at, same_from_u32_at, same_end};
+    ghost use Rattle.std.proofs.Common.{ℕ, ◌≡◌, ◌∙◌, ◌+◌, ◌≤◌, List, length, drop, ap, sym, subst};
+    ghost use Rattle.std.proofs.Common.{lit≤};
+    ghost use Rattle.memory_image.specs.Words.{u16_at, u32_at, same_from_u16_at, same_from_u32_at};
+    ghost use Rattle.memory_image.specs.Words.{same_end};
     ghost use Rattle.memory_image.specs.declared.tests.Entry.{Entry as Value};
 
     const SIZE: usize = 6;

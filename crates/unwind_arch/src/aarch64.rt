@@ -1,7 +1,8 @@
 //! The machine AArch64. Columns are those of DWARF for the Arm 64-bit Architecture, DWARF register
 //! names.
 
-ghost use Rattle.std.specs.Prelude.{◌≡◌, ◌≢◌, ◌<◌, ◌≤◌, ◌⊎◌, ◌↔◌, ℕ, Some, IsSome, is_some, OnSome, IfNone, refl};
+ghost use Rattle.std.specs.Prelude.{◌≡◌, ◌≢◌, ◌<◌, ◌≤◌, ◌⊎◌, ◌↔◌, ℕ, Some, IsSome, is_some, OnSome};
+ghost use Rattle.std.specs.Prelude.{IfNone, refl};
 ghost use Rattle.unwind_arch.specs.ContextViews.{written};
 ghost use Rattle.unwind_arch.specs.Aarch64.{columns_of, with_column};
 

@@ -1,7 +1,8 @@
 //! The machine x86, with 32 bits. Columns are those of the System V i386 psABI, table of DWARF
 //! register numbers.
 
-ghost use Rattle.std.specs.Prelude.{◌≡◌, ◌≢◌, ◌<◌, ◌⊎◌, ◌↔◌, ℕ, Some, IsSome, is_some, OnSome, IfNone};
+ghost use Rattle.std.specs.Prelude.{◌≡◌, ◌≢◌, ◌<◌, ◌⊎◌, ◌↔◌, ℕ, Some, IsSome, is_some, OnSome};
+ghost use Rattle.std.specs.Prelude.{IfNone};
 ghost use Rattle.unwind_arch.specs.ContextViews.{written};
 ghost use Rattle.unwind_arch.specs.X86.{columns_of, with_column};
 

@@ -1,12 +1,15 @@
 //! Processes that are valid, byte for byte, and what is delivered there.
 
-ghost use Rattle.std.specs.Prelude.{◌≡◌, ◌≢◌, ◌-◌, ◌<◌, ℕ, List, [], ◌∷◌, Some, Ok, Err, false, IsTrue};
+ghost use Rattle.std.specs.Prelude.{◌≡◌, ◌≢◌, ◌-◌, ◌<◌, ℕ, List, [], ◌∷◌, Some, Ok, Err, false};
+ghost use Rattle.std.specs.Prelude.{IsTrue};
 ghost use Rattle.unwind_definitions.specs.Prologue.{Windows, steps_of};
 ghost use Rattle.unwind_definitions.specs.Entered.{IsEntered, stack_after};
 ghost use Rattle.unwind_definitions.specs.declared.error.Error.TheVariants.{UnexpectedEof};
 ghost use Rattle.unwind_definitions.specs.Pointers.{Bases, Direct};
-ghost use Rattle.unwind_definitions.specs.Function.{Site, Cleanup, Catch, Terminate, IsFunction, action_at};
-ghost use Rattle.unwind_definitions.specs.LanguageTable.{input_at, IsLanguageTable, LeadsToLanguage};
+ghost use Rattle.unwind_definitions.specs.Function.{Site, Cleanup, Catch, Terminate, IsFunction};
+ghost use Rattle.unwind_definitions.specs.Function.{action_at};
+ghost use Rattle.unwind_definitions.specs.LanguageTable.{input_at, IsLanguageTable};
+ghost use Rattle.unwind_definitions.specs.LanguageTable.{LeadsToLanguage};
 ghost use Rattle.unwind_definitions.specs.LanguageSearch.{search};
 ghost use Rattle.unwind_definitions.specs.Caller.{Table};
 ghost use Rattle.unwind_definitions.specs.Module.{IsProcess, in_module};

@@ -1,22 +1,27 @@
 //! What is found in a frame table.
 
-ghost use Rattle.std.specs.Prelude.{◌≡◌, ℕ, ◌<◌, ◌≤◌, ◌^◌, List, ◌∷◌, Some, Result, Ok, Err, is_some};
+ghost use Rattle.std.specs.Prelude.{◌≡◌, ℕ, ◌<◌, ◌≤◌, ◌^◌, List, ◌∷◌, Some, Result, Ok, Err};
+ghost use Rattle.std.specs.Prelude.{is_some};
 ghost use Rattle.std.specs.List.{Contains};
 ghost use Rattle.memory_image.specs.Image.{Span, IsLaidOut};
 ghost use Rattle.unwind_definitions.specs.Membership.{is_among};
 ghost use Rattle.unwind_definitions.specs.Input.{Input};
 ghost use Rattle.unwind_definitions.specs.Pointers.{Bases};
-ghost use Rattle.unwind_definitions.specs.Entries.{Entry, Fde, Letters, AreEntries, augmentation_data};
+ghost use Rattle.unwind_definitions.specs.Entries.{Entry, Fde, Letters, AreEntries};
+ghost use Rattle.unwind_definitions.specs.Entries.{augmentation_data};
 ghost use Rattle.unwind_definitions.specs.Scan.{fdes_of, scan};
 ghost use Rattle.unwind_definitions.specs.Prologue.{SystemV};
-ghost use Rattle.unwind_definitions.specs.Function.{Function, IsFunction, Site, AreSitesOf, action_among, action_at};
+ghost use Rattle.unwind_definitions.specs.Function.{Function, IsFunction, Site, AreSitesOf};
+ghost use Rattle.unwind_definitions.specs.Function.{action_among, action_at};
 ghost use Rattle.unwind_definitions.specs.LanguageTable.{input_at, IsLanguageTable};
 ghost use Rattle.unwind_definitions.specs.LanguageSearch.{search};
-ghost use Rattle.unwind_definitions.specs.Module.{Module, IsHeaderTable, DescribesModule, CoversNot, bases_of};
+ghost use Rattle.unwind_definitions.specs.Module.{Module, IsHeaderTable, DescribesModule};
+ghost use Rattle.unwind_definitions.specs.Module.{CoversNot, bases_of};
 ghost use Rattle.unwind_definitions.specs.declared.error.Error.{Error};
 ghost use Rattle.unwind_definitions.specs.Header.{FrameHeader, PairTable, header, table_in};
 ghost use Rattle.memory_image.specs.Halving.{boundary_of};
-ghost use Rattle.unwind_definitions.specs.HeaderSearch.{Finds, IsTableAnswer, boundary_in, pair_of_place, table_answer};
+ghost use Rattle.unwind_definitions.specs.HeaderSearch.{Finds, IsTableAnswer, boundary_in};
+ghost use Rattle.unwind_definitions.specs.HeaderSearch.{pair_of_place, table_answer};
 ghost use Rattle.unwind_definitions.specs.HeaderSearchLaws.{AreStarts};
 ghost use Rattle.unwind_laws.specs.ByHeader.{BoundaryAnswers};
 ghost use Rattle.unwind_laws.specs.Listing.{listing};

@@ -2,7 +2,8 @@
 ghost use Rattle.std.specs.Prelude.{◌≡◌, ◌+◌, ◌*◌, ◌<◌, ◌^◌, Some, length};
 ghost use Rattle.std.specs.Fmt.{WritesOnOk};
 ghost use Rattle.macho_unwind_info.specs.Bits.{bits};
-ghost use Rattle.macho_unwind_info.specs.Arm64.{is_saved, frame_based, opcode_of, text_of, size_text, pair_text, pairs_text, frame_text};
+ghost use Rattle.macho_unwind_info.specs.Arm64.{is_saved, frame_based, opcode_of, text_of};
+ghost use Rattle.macho_unwind_info.specs.Arm64.{size_text, pair_text, pairs_text, frame_text};
 
 use super::bitfield::{OpcodeBitfield, bits};
 use crate::raw::consts::{

@@ -1,6 +1,9 @@
 // Lists of registers that are packed into ten bits.
-ghost use Rattle.std.specs.Prelude.{◌≡◌, ◌-◌, ◌≤◌, ◌<◌, ◌↔◌, ◌++◌, ℕ, List, true, length, Some, None, Ok, IfOk, IsOkAnd, IsErr, slice_get, take, replicate};
-ghost use Rattle.macho_unwind_info.specs.Permutation.{permutation, digits, unused, six, is_used, arrangements, encoded, distinct, IsArrangement};
+ghost use Rattle.std.specs.Prelude.{◌≡◌, ◌-◌, ◌≤◌, ◌<◌, ◌↔◌, ◌++◌, ℕ, List, true, length, Some};
+ghost use Rattle.std.specs.Prelude.{None, Ok, IfOk, IsOkAnd, IsErr, slice_get, take, replicate};
+ghost use Rattle.macho_unwind_info.specs.Permutation.{permutation, digits, unused, six, is_used};
+ghost use Rattle.macho_unwind_info.specs.Permutation.{arrangements, encoded, distinct};
+ghost use Rattle.macho_unwind_info.specs.Permutation.{IsArrangement};
 
 /// The registers 1 to 6.
 const REGISTERS: [u8; 6] = [1, 2, 3, 4, 5, 6];

@@ -1,7 +1,9 @@
 // How saved registers of x86 and x86-64 are printed.
 ghost use Rattle.std.specs.Prelude.{◌≡◌, ◌+◌, ◌*◌, ◌<◌, ◌≤◌, ◌^◌, ℕ, List, length};
 ghost use Rattle.std.specs.Fmt.{WritesOnOk};
-ghost use Rattle.macho_unwind_info.specs.RegisterText.{slot_text_of, fields_text, registers_text, frame_text, return_text, size_text, indirect_text};
+ghost use Rattle.macho_unwind_info.specs.RegisterText.{slot_text_of, fields_text, registers_text};
+ghost use Rattle.macho_unwind_info.specs.RegisterText.{frame_text, return_text, size_text};
+ghost use Rattle.macho_unwind_info.specs.RegisterText.{indirect_text};
 
 use std::fmt;
 

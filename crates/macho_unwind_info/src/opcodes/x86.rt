@@ -3,7 +3,8 @@ ghost use Rattle.std.specs.Prelude.{◌≡◌, Some, None, map, option_map};
 ghost use Rattle.std.specs.Fmt.{WritesOnOk};
 ghost use Rattle.macho_unwind_info.specs.Bits.{bits};
 ghost use Rattle.macho_unwind_info.specs.Permutation.{permutation};
-ghost use Rattle.macho_unwind_info.specs.X86.{register_of, name_of, fields_of, opcode_of, text_of, frame_based_text, frameless_text};
+ghost use Rattle.macho_unwind_info.specs.X86.{register_of, name_of, fields_of, opcode_of, text_of};
+ghost use Rattle.macho_unwind_info.specs.X86.{frame_based_text, frameless_text};
 
 use super::bitfield::{OpcodeBitfield, bits};
 use super::permutation::decode_permutation_6;

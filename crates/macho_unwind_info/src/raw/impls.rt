@@ -1,7 +1,10 @@
 // Where the parts of a section lie.
 ghost use Rattle.std.specs.Prelude.{◌≡◌};
 ghost use Rattle.macho_unwind_info.specs.Unaligned.{u32_number, u16_number};
-ghost use Rattle.macho_unwind_info.specs.Parts.{header_of, global_opcodes_of, pages_of, kind_of, regular_page_of, regular_functions_of, compressed_page_of, compressed_functions_of, local_opcodes_of};
+ghost use Rattle.macho_unwind_info.specs.Parts.{header_of, global_opcodes_of, pages_of, kind_of};
+ghost use Rattle.macho_unwind_info.specs.Parts.{regular_page_of, regular_functions_of};
+ghost use Rattle.macho_unwind_info.specs.Parts.{compressed_page_of, compressed_functions_of};
+ghost use Rattle.macho_unwind_info.specs.Parts.{local_opcodes_of};
 
 use super::format::{
     CompactUnwindInfoHeader, CompressedPage, Opcode, PageEntry, RegularFunctionEntry, RegularPage,

@@ -1,7 +1,10 @@
 // The instructions of epilogs.
 ghost use Rattle.std.specs.Prelude.{◌≡◌, ◌≤◌, false, [], length};
 ghost use Rattle.std.specs.Option.{option_map};
-ghost use Rattle.pe_unwind_info.specs.Epilog.{map_ok, word_in, with_word, lea_from, lea_of, adjustment_of, pop_of, is_jump, two_bytes_of, pop_or_terminator_of, behind_rex, rex_split, parsed, and_first, sequence_from, sequence_of};
+ghost use Rattle.pe_unwind_info.specs.Epilog.{map_ok, word_in, with_word, lea_from, lea_of};
+ghost use Rattle.pe_unwind_info.specs.Epilog.{adjustment_of, pop_of, is_jump, two_bytes_of};
+ghost use Rattle.pe_unwind_info.specs.Epilog.{pop_or_terminator_of, behind_rex, rex_split, parsed};
+ghost use Rattle.pe_unwind_info.specs.Epilog.{and_first, sequence_from, sequence_of};
 ghost use Rattle.pe_unwind_info.specs.EpilogGrammar.{IsParsed, IsSequence};
 ghost use Rattle.pe_unwind_info.specs.Numbers.{first_u32};
 ghost use Rattle.pe_unwind_info.specs.declared.x86_64.epilog.FunctionEpilogInstruction.TheVariants.{AddSP};

@@ -1,6 +1,7 @@
 // Where a record's epilog operations say that the function's epilogs are.
 ghost use Rattle.std.specs.Prelude.{◌≡◌, ◌∷◌, ℕ, MatchOption};
-ghost use Rattle.pe_unwind_info.specs.EpilogList.{first_epilog, leading_epilogs, behind_epilogs, is_within, is_due, lists, lists_last, any_lists};
+ghost use Rattle.pe_unwind_info.specs.EpilogList.{first_epilog, leading_epilogs, behind_epilogs};
+ghost use Rattle.pe_unwind_info.specs.EpilogList.{is_within, is_due, lists, lists_last, any_lists};
 ghost use Rattle.pe_unwind_info.specs.Operations.{operations_left};
 
 use crate::x86_64::operations::{EpilogInformation, UnwindOperation, UnwindOperations};

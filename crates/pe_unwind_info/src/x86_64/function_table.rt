@@ -1,6 +1,8 @@
 // The function table.
-ghost use Rattle.std.specs.Prelude.{◌≡◌, ◌≤◌, ◌/◌, ℕ, List, Option, Some, None, length, IfSome, Contains};
-ghost use Rattle.pe_unwind_info.specs.FunctionTable.{table_bytes, functions_of, IsLookup, lookup_of, AreOrdered, Holds};
+ghost use Rattle.std.specs.Prelude.{◌≡◌, ◌≤◌, ◌/◌, ℕ, List, Option, Some, None, length, IfSome};
+ghost use Rattle.std.specs.Prelude.{Contains};
+ghost use Rattle.pe_unwind_info.specs.FunctionTable.{table_bytes, functions_of, IsLookup};
+ghost use Rattle.pe_unwind_info.specs.FunctionTable.{lookup_of, AreOrdered, Holds};
 ghost use Rattle.pe_unwind_info.specs.Search.{IsAscending};
 ghost use Rattle.pe_unwind_info.specs.declared.x86_64.function_table.RuntimeFunction.{RuntimeFunction};
 

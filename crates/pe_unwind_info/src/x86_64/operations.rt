@@ -2,7 +2,11 @@
 ghost use Rattle.std.specs.Prelude.{◌≡◌, ◌*◌, ◌≤◌};
 ghost use Rattle.std.specs.Option.{option_map};
 ghost use Rattle.pe_unwind_info.specs.Numbers.{first_u16, scaled};
-ghost use Rattle.pe_unwind_info.specs.Operations.{code_number, code_information, code_of, offset_value, head_by, first_of, slots_left, operations_left, operations_of, first_code, size_of_epilogs, ends_with_one, offset_of_epilog, header_information};
+ghost use Rattle.pe_unwind_info.specs.Operations.{code_number, code_information, code_of};
+ghost use Rattle.pe_unwind_info.specs.Operations.{offset_value, head_by, first_of, slots_left};
+ghost use Rattle.pe_unwind_info.specs.Operations.{operations_left, operations_of, first_code};
+ghost use Rattle.pe_unwind_info.specs.Operations.{size_of_epilogs, ends_with_one, offset_of_epilog};
+ghost use Rattle.pe_unwind_info.specs.Operations.{header_information};
 
 use crate::x86_64::little_endian::{split_u16, split_u32};
 use crate::x86_64::registers::{Register, XmmRegister, register_at, xmm_register_at};

@@ -1,7 +1,9 @@
 // The section table of an image.
 ghost use Rattle.std.specs.Prelude.{◌≡◌, None, MatchOption};
 ghost use Rattle.std.specs.Option.{option_map};
-ghost use Rattle.pe_unwind_info.specs.Sections.{image_of, headers_of, section_table, sections_in, IsMemoryAt, virtual_size, virtual_address, raw_pointer};
+ghost use Rattle.pe_unwind_info.specs.Sections.{image_of, headers_of, section_table, sections_in};
+ghost use Rattle.pe_unwind_info.specs.Sections.{IsMemoryAt, virtual_size, virtual_address};
+ghost use Rattle.pe_unwind_info.specs.Sections.{raw_pointer};
 
 use crate::x86_64::little_endian::{u16_at, u32_at};
 use crate::x86_64::search::{Located, boundary};

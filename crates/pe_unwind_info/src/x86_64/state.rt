@@ -1,6 +1,8 @@
 // The state that is unwound.
 ghost use Rattle.std.specs.Prelude.{◌≡◌, ℕ, Option};
-ghost use Rattle.pe_unwind_info.specs.Machine.{changed, registers_of, word_or_fault, pop_into, pop_return, done, frame_end, with_stack_pointer, plus};
+ghost use Rattle.pe_unwind_info.specs.Machine.{changed, registers_of, word_or_fault, pop_into};
+ghost use Rattle.pe_unwind_info.specs.Machine.{pop_return, done, frame_end, with_stack_pointer};
+ghost use Rattle.pe_unwind_info.specs.Machine.{plus};
 ghost use Rattle.pe_unwind_info.specs.Registers.{register_number, xmm_number};
 
 use crate::x86_64::fault::FrameFault;

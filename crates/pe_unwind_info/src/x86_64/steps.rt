@@ -1,11 +1,14 @@
 // What unwind operations and the instructions of an epilog do to a state.
 ghost use Rattle.std.specs.Prelude.{◌≡◌, ℕ, map};
-ghost use Rattle.pe_unwind_info.specs.Header.{frame_register_of, frame_distance, base_register, base_distance};
+ghost use Rattle.pe_unwind_info.specs.Header.{frame_register_of, frame_distance, base_register};
+ghost use Rattle.pe_unwind_info.specs.Header.{base_distance};
 ghost use Rattle.pe_unwind_info.specs.Info.{info_of};
 ghost use Rattle.pe_unwind_info.specs.Machine.{registers_of, done};
 ghost use Rattle.pe_unwind_info.specs.Operations.{offset_value, operations_left};
 ghost use Rattle.pe_unwind_info.specs.Registers.{register_number, xmm_number};
-ghost use Rattle.pe_unwind_info.specs.Steps.{offset_from, frame_address, restored, saved, saved_xmm, machine_frame, act, run, epilog_act, epilog_run, flow_end, IsResolved};
+ghost use Rattle.pe_unwind_info.specs.Steps.{offset_from, frame_address, restored, saved};
+ghost use Rattle.pe_unwind_info.specs.Steps.{saved_xmm, machine_frame, act, run, epilog_act};
+ghost use Rattle.pe_unwind_info.specs.Steps.{epilog_run, flow_end, IsResolved};
 
 use crate::x86_64::epilog::FunctionEpilogInstruction;
 use crate::x86_64::fault::FrameFault;

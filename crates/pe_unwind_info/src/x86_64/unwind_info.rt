@@ -1,11 +1,13 @@
 // Unwind records: the header, and what stands behind the slots.
 ghost use Rattle.std.specs.Prelude.{◌≡◌, ◌%◌};
 ghost use Rattle.std.specs.Option.{option_map};
-ghost use Rattle.pe_unwind_info.specs.Header.{version_of, flags_of, frame_number, frame_units, frame_distance, frame_register_of};
+ghost use Rattle.pe_unwind_info.specs.Header.{version_of, flags_of, frame_number, frame_units};
+ghost use Rattle.pe_unwind_info.specs.Header.{frame_distance, frame_register_of};
 ghost use Rattle.pe_unwind_info.specs.Flags.{flag_bits};
 ghost use Rattle.pe_unwind_info.specs.Operations.{slots_left, operations_left};
 ghost use Rattle.pe_unwind_info.specs.InfoOperations.{operations_in};
-ghost use Rattle.pe_unwind_info.specs.Info.{info_of, parsed_info, trailer_view, trailer_of, chained_in};
+ghost use Rattle.pe_unwind_info.specs.Info.{info_of, parsed_info, trailer_view, trailer_of};
+ghost use Rattle.pe_unwind_info.specs.Info.{chained_in};
 
 use crate::x86_64::function_table::{RuntimeFunction, U32};
 use crate::x86_64::little_endian::split_u32;

@@ -9,12 +9,15 @@ ghost use Rattle.unwind_definitions.specs.Caller.{Columns, StepFault};
 ghost use Rattle.frame_rows.specs.Rows.{IsRowOf};
 ghost use Rattle.unwinding_frames.specs.Calling.{machine_of};
 ghost use Rattle.unwinding_frames.specs.Columns.{with_value};
-ghost use Rattle.unwinding_frames.specs.Passes.{Line, IsLine, less_signal, by_force, unmarked, turn_asked, turn_seen};
+ghost use Rattle.unwinding_frames.specs.Passes.{Line, IsLine, less_signal, by_force, unmarked};
+ghost use Rattle.unwinding_frames.specs.Passes.{turn_asked, turn_seen};
 ghost use Rattle.unwinding_frames.specs.Passes.{asked};
-ghost use Rattle.unwinding_frames.specs.Seen.{FrameSeen, SeesFrame, in_column, past_in_column, undoing, stepping, answering};
+ghost use Rattle.unwinding_frames.specs.Seen.{FrameSeen, SeesFrame, in_column, past_in_column};
+ghost use Rattle.unwinding_frames.specs.Seen.{undoing, stepping, answering};
 ghost use Rattle.unwinding_frames.specs.LanguageViews.{given};
 ghost use Rattle.unwinding_core.specs.Stopping.{stopping};
-ghost use Rattle.unwinding_core.specs.Turns.{IsSeen, thrown, actions_in, answer_shown, asks_in, turn_shown, end_shown};
+ghost use Rattle.unwinding_core.specs.Turns.{IsSeen, thrown, actions_in, answer_shown, asks_in};
+ghost use Rattle.unwinding_core.specs.Turns.{turn_shown, end_shown};
 
 use crate::abi::stop::Stop;
 use eh_frame::RegisterMap;

@@ -5,7 +5,9 @@
 ghost use Rattle.std.specs.Prelude.{◌≡◌, Some, None};
 ghost use Rattle.unwind_definitions.specs.Caller.{Columns, StepFault};
 ghost use Rattle.unwinding_frames.specs.Calling.{machine_of};
-ghost use Rattle.unwinding_frames.specs.Passes.{Line, IsSearched, IsCleanup, IsRaised, IsForced, IsResumed, IsRethrown, cleanup_end, forced_end, RanOut, Gives};
+ghost use Rattle.unwinding_frames.specs.Passes.{Line, IsSearched, IsCleanup, IsRaised, IsForced};
+ghost use Rattle.unwinding_frames.specs.Passes.{IsResumed, IsRethrown, cleanup_end, forced_end};
+ghost use Rattle.unwinding_frames.specs.Passes.{RanOut, Gives};
 ghost use Rattle.unwinding_core.specs.Runs.{thrown_by, cause_shown, unwound_shown, IsUntaken};
 ghost use Rattle.unwinding_frames.specs.Seen.{in_column, stepping, answering};
 ghost use Rattle.unwinding_core.specs.Stopping.{stopping};
