@@ -1,7 +1,12 @@
 // The lines of a backtrace.
 ghost use Rattle.std.specs.Prelude.{◌≡◌, ◌≤◌, ◌++◌, IfOk, OnOk, Some};
 ghost use Rattle.stack_deliver.specs.StateViews.{state_of};
-ghost use Rattle.backtrace.specs.Lines.{backtrace_text, bad_line, end_line, frame_line, frame_lines, frame_text, gap_text, guess_text, inside_of, kept_text, limit_text, no_module_text, number_text, origin_text, place_text, registers_text, rest_text, states_of, undescribed_text, unread_text, usage_line, why_text};
+ghost use Rattle.backtrace.specs.Lines.{backtrace_text, bad_line, end_line, frame_line};
+ghost use Rattle.backtrace.specs.Lines.{frame_lines, frame_text, gap_text, guess_text, inside_of};
+ghost use Rattle.backtrace.specs.Lines.{kept_text, limit_text, no_module_text, number_text};
+ghost use Rattle.backtrace.specs.Lines.{origin_text, place_text, registers_text, rest_text};
+ghost use Rattle.backtrace.specs.Lines.{states_of, undescribed_text, unread_text, usage_line};
+ghost use Rattle.backtrace.specs.Lines.{why_text};
 
 use crate::tracing::Trace;
 use stack_deliver::{Context, DeliverError, Error, Front};

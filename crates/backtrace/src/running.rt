@@ -1,9 +1,11 @@
 // One run of the program, from its words and its input to its output.
-ghost use Rattle.std.specs.Prelude.{◌≡◌, ◌≢◌, ◌⊎◌, ◌+◌, ◌^◌, ◌≤◌, ◌<◌, [], ℕ, List, IfOk, IfSome, IsSome, MatchResult, None, Some, Err, length};
+ghost use Rattle.std.specs.Prelude.{◌≡◌, ◌≢◌, ◌⊎◌, ◌+◌, ◌^◌, ◌≤◌, ◌<◌, [], ℕ, List, IfOk, IfSome};
+ghost use Rattle.std.specs.Prelude.{IsSome, MatchResult, None, Some, Err, length};
 ghost use Rattle.std.specs.Io.KnownBytes.{Appends, IsAtEnd, Keeps};
 ghost use Rattle.memory_image.specs.Ends.{Rose};
 ghost use Rattle.command_ends.specs.Ends.{ConsumesAtMost};
-ghost use Rattle.command_ends.specs.Verdicts.{Tells, IsReady, IsReadyOrFailed, ReadsWhole, verdict, ComesExactly};
+ghost use Rattle.command_ends.specs.Verdicts.{Tells, IsReady, IsReadyOrFailed, ReadsWhole, verdict};
+ghost use Rattle.command_ends.specs.Verdicts.{ComesExactly};
 ghost use Rattle.stack_snapshot.specs.declared.errors.Field.{Field};
 ghost use Rattle.stack_snapshot.specs.Content.{Content};
 ghost use Rattle.stack_snapshot.specs.Answers.{content_of, value_of};
@@ -11,7 +13,8 @@ ghost use Rattle.stack_snapshot.specs.Origins.{OriginValue, origins_by};
 ghost use Rattle.backtrace.specs.Options.{options_of};
 ghost use Rattle.backtrace.specs.Tracing.{TraceValue};
 ghost use Rattle.backtrace.specs.Lines.{usage_line};
-ghost use Rattle.backtrace.specs.Due.{Asks, IsBacktrace, IsBacktraceBy, IsBacktraceOf, IsTraceOf, bytes_due, content_due, due_of, text_of};
+ghost use Rattle.backtrace.specs.Due.{Asks, IsBacktrace, IsBacktraceBy, IsBacktraceOf, IsTraceOf};
+ghost use Rattle.backtrace.specs.Due.{bytes_due, content_due, due_of, text_of};
 
 use crate::lines::{backtrace_of, bad_line, usage_line};
 use crate::tracing::trace_stack;

@@ -1,5 +1,6 @@
 // The states of a stopped thread's stack, and why there are no more.
-ghost use Rattle.std.specs.Prelude.{◌≡◌, ◌≢◌, List, [], false, IfOk, IsSome, IsSomeAnd, slice_get, length};
+ghost use Rattle.std.specs.Prelude.{◌≡◌, ◌≢◌, List, [], false, IfOk, IsSome, IsSomeAnd, slice_get};
+ghost use Rattle.std.specs.Prelude.{length};
 ghost use Rattle.unwind_definitions.specs.State.{State, IsState, Shows, KeepsOthers};
 ghost use Rattle.unwind_definitions.specs.Entered.{IsEntered};
 ghost use Rattle.unwind_definitions.specs.Function.{Function};

@@ -25,18 +25,25 @@ use Rattle.unwinding_frames.specs.Personalities.{Asked, Answer, searched}
 use Rattle.unwinding_frames.specs.Seen.{Thrown}
 use Rattle.stack_deliver.specs.declared.answers.Outcome.TheVariants.{FatalPhase1}
 use Rattle.stack_steps.specs.declared.answers.DeliverError.{DeliverError}
-use Rattle.stack_steps.specs.declared.answers.DeliverError.TheVariants.{FrameLimit, PassLimit}
+use Rattle.stack_steps.specs.declared.answers.DeliverError.TheVariants.{CompactHandler, FrameLimit, PassLimit, PeHandler}
 use Rattle.stack_deliver.specs.declared.passes.Phase.{Phase}
 use Rattle.stack_deliver.specs.declared.passes.Phase.TheVariants as phase
-use Rattle.delivery_laws.specs.AnyPasses.{marked, undoing_in, sees_in, stepping_in, rust_in, answer_left, Search, TakenBy, Untaken, search_end, search_stop, search_line, search_of, pass_end, FollowedBy, ResumedBy, IsSearchBy, IsPassBy, ArePassesBy, IsDeliveredAfter, IsDeliveredBy, IsDeliveryBy}
+use Rattle.delivery_laws.specs.AnyPasses.{marked, no_routine, undoing_in, sees_in, stepping_in, rust_in, answer_left, Search, TakenBy, Untaken, search_end, search_stop, search_line, search_of, pass_end, FollowedBy, ResumedBy, IsSearchBy, IsPassBy, ArePassesBy, IsDeliveredAfter, IsDeliveredBy, IsDeliveryBy}
 use Rattle.stack_steps.specs.Modules.{SpaceValue}
-use Rattle.stack_steps.specs.Asking.{action_if_named, action_asked, or_terminate}
+use Rattle.stack_steps.specs.Asking.{action_if_named, action_asked, arguments_of, or_terminate, recorded_action, unless_handled}
 use Rattle.stack_deliver.specs.Passes.{Line, Stop, Turn, Ends, Stops, Goes, stops, stop_by, turn_at, turn_in, turn_for, line_turn, line_for, pass_of, past_arguments, pad_of, enters, kept_at, with_context, PassEnd, Finishes, Elsewhere, end_at, end_by, end_of, cleanup_of, landed, cleanup_at, resume_at, CleanupsRun, with_cleanup, resumed, followed, passes_of}
 use Rattle.stack_deliver.specs.StackDelivery.{DeliveryValue, delivery_after, delivery_at, delivery_to, delivery_by, stack_delivery}
 use Rattle.stack_deliver.specs.Resumes.{return_of}
 use Rattle.delivery_laws.specs.Personality.{InCleanup, IsAsked, AnswersCleanup, answer_for}
 use Rattle.stack_steps.specs.Results.{◌>>=◌, result_map}
-use Rattle.stack_steps.specs.Stepping.{FrameAt, frame_of, caller_by, next_with, refusal_of}
+use Rattle.stack_steps.specs.Stepping.{FrameAt, DescribedFrame, Described, Compact, Recorded, frame_of, caller_by, next_with, opcode_caller, pe_refusal, recorded_columns, refusal_of}
+use Rattle.macho_unwind_info.specs.X86_64.{opcode_of}
+use Rattle.pe_unwind_info.specs.declared.x86_64.fault.FrameFault.{FrameFault}
+use Rattle.format_definitions.specs.CompactStep.{compact_step}
+use Rattle.format_definitions.specs.CompactStep as compact
+use Rattle.format_definitions.specs.PeImage.{memory_of}
+use Rattle.format_definitions.specs.PeStep.{PeFault}
+use Rattle.format_frames.specs.Handlers.{has_language_table, handler_in}
 use Rattle.stack_steps.proofs.ContextLemmas.{IsWhole, context_of-columns}
 use Rattle.delivery_laws.proofs.PersonalityAsks.{answers_search, answers_cleanup}
 
@@ -71,10 +78,10 @@ module _ (space : SpaceValue) (row : RowInstructions → RowValue) (thrown : Thr
   Agrees phase.Cleanup stop code left past = Enters (pad_of stop.action) stop code past
 
   abbrev stop_for : Marked Context → FrameAt → Action → Stop
-  stop_for x f action = record { context = x.context; interrupted = x.signal; action = action; past = past_arguments x.context (argument_size f.run) }
+  stop_for x f action = record { context = x.context; interrupted = x.signal; action = action; past = past_arguments x.context (arguments_of f) }
 
   abbrev Answers : Phase → Marked Context → FrameAt → Action → Bool → UnwindReasonCode → Context → Type 0
-  Answers ph x f wanted true code left = (is_code code CONTINUE_UNWIND ≡ false) × Agrees ph (stop_for x f wanted) code left (past_arguments left (argument_size f.run))
+  Answers ph x f wanted true code left = (is_code code CONTINUE_UNWIND ≡ false) × Agrees ph (stop_for x f wanted) code left (past_arguments left (arguments_of f))
   Answers ph x f wanted false code left = (is_code code CONTINUE_UNWIND ≡ true) × (left ≡ x.context)
 
   record Answered (ph : Phase) (acts : UnwindAction) (x : Marked Context) (f : FrameAt) (routine : ℕ) (action : Action) : Type 0 where
@@ -86,7 +93,7 @@ module _ (space : SpaceValue) (row : RowInstructions → RowValue) (thrown : Thr
   abbrev asked_with : UnwindAction → ℕ → Asked
   asked_with acts routine = record { routine = routine; version = pos 1; actions = acts; class = thrown.class; exception = thrown.word }
 
-  abbrev value_of : FrameAt → FrameValue
+  abbrev value_of : DescribedFrame → FrameValue
   value_of f = record { found = f.found; row = row f.run }
 
   whole_left : (c : Context) → IsWhole c → context_of (columns_of c) ≡ c
@@ -95,15 +102,15 @@ module _ (space : SpaceValue) (row : RowInstructions → RowValue) (thrown : Thr
   abbrev left_with : UnwindReasonCode → Context → UnwindReasonCode × Context
   left_with code c = (code, c)
 
-  module _ (x : Marked Context) (f : FrameAt) (routine : ℕ) (action : Action) (whole : IsWhole x.context) (is : IsAsked space.image x.context x.signal (value_of f) action) where
-    search_answers : (a : Action) → Answers phase.Search x f a (stops phase.Search a) (searched a) x.context
+  module _ (x : Marked Context) (f : DescribedFrame) (routine : ℕ) (action : Action) (whole : IsWhole x.context) (is : IsAsked space.image x.context x.signal (value_of f) action) where
+    search_answers : (a : Action) → Answers phase.Search x (Described f) a (stops phase.Search a) (searched a) x.context
     search_answers NoAction = (refl, refl)
     search_answers (Cleanup pad) = (refl, refl)
     search_answers (Catch pad) = (refl, (refl, refl))
     search_answers (Filter pad) = (refl, (refl, refl))
     search_answers Terminate = (refl, (refl, refl))
 
-    searches : Answered phase.Search actions.SEARCH_PHASE x f routine action
+    searches : Answered phase.Search actions.SEARCH_PHASE x (Described f) routine action
     searches = record {
       code = searched action;
       left = x.context;
@@ -114,13 +121,13 @@ module _ (space : SpaceValue) (row : RowInstructions → RowValue) (thrown : Thr
     abbrev answer_to : UnwindAction → Answer
     answer_to acts = answer_for (asked_with acts routine) space.image (value_of f) x.context x.signal
 
-    cleans : (acts : UnwindAction) → InCleanup (asked_with acts routine) → Answered phase.Cleanup acts x f routine action
+    cleans : (acts : UnwindAction) → InCleanup (asked_with acts routine) → Answered phase.Cleanup acts x (Described f) routine action
     cleans acts in_cleanup = go action (answer_to acts) refl (answers_cleanup space.image x.context x.signal (value_of f) action (asked_with acts routine) is in_cleanup whole)
       where
-        stays : (a : Action) (code : UnwindReasonCode) → answer_to acts ≡ (code, columns_of x.context) → Answers phase.Cleanup x f a (stops phase.Cleanup a) code x.context → Answered phase.Cleanup acts x f routine a
+        stays : (a : Action) (code : UnwindReasonCode) → answer_to acts ≡ (code, columns_of x.context) → Answers phase.Cleanup x (Described f) a (stops phase.Cleanup a) code x.context → Answered phase.Cleanup acts x (Described f) routine a
         stays a code same agrees = record { code = code; left = x.context; is = ap answer_left same ∙ ap (left_with code) (whole_left x.context whole); agrees = agrees }
 
-        installs : (a : Action) (pad : ℕ) → answer_to acts ≡ (INSTALL_CONTEXT, columns_of (enters x.context thrown.word pad)) → Answers phase.Cleanup x f a (stops phase.Cleanup a) INSTALL_CONTEXT (enters x.context thrown.word pad) → Answered phase.Cleanup acts x f routine a
+        installs : (a : Action) (pad : ℕ) → answer_to acts ≡ (INSTALL_CONTEXT, columns_of (enters x.context thrown.word pad)) → Answers phase.Cleanup x (Described f) a (stops phase.Cleanup a) INSTALL_CONTEXT (enters x.context thrown.word pad) → Answered phase.Cleanup acts x (Described f) routine a
         installs a pad same agrees = record {
           code = INSTALL_CONTEXT;
           left = enters x.context thrown.word pad;
@@ -131,7 +138,7 @@ module _ (space : SpaceValue) (row : RowInstructions → RowValue) (thrown : Thr
         entered : (pad : ℕ) → (is_code INSTALL_CONTEXT INSTALL_CONTEXT ≡ true) × (past_arguments (enters x.context thrown.word pad) (argument_size f.run) ≡ enters (past_arguments x.context (argument_size f.run)) thrown.word pad) × IsWhole (past_arguments (enters x.context thrown.word pad) (argument_size f.run))
         entered pad = (refl, past_then_enters x.context (argument_size f.run) thrown.word pad whole, past_whole (enters x.context thrown.word pad) (argument_size f.run) (enters_whole x.context thrown.word pad whole))
 
-        go : (a : Action) (r : Answer) → answer_to acts ≡ r → AnswersCleanup a thrown.word x.context r → Answered phase.Cleanup acts x f routine a
+        go : (a : Action) (r : Answer) → answer_to acts ≡ r → AnswersCleanup a thrown.word x.context r → Answered phase.Cleanup acts x (Described f) routine a
         go NoAction r same so = stays NoAction CONTINUE_UNWIND (same ∙ so) (refl, refl)
         go (Cleanup pad) r same so = installs (Cleanup pad) pad (same ∙ so) (refl, entered pad)
         go (Catch pad) r same so = installs (Catch pad) pad (same ∙ so) (refl, entered pad)
@@ -143,7 +150,7 @@ module _ (space : SpaceValue) (row : RowInstructions → RowValue) (thrown : Thr
 
   -- the actions of a phase, and what frames answer to them
   abbrev AreAnswered : Phase → (Marked Context → UnwindAction) → Type 0
-  AreAnswered ph acts = (x : Marked Context) (f : FrameAt) (routine : ℕ) (action : Action) → IsWhole x.context → IsAsked space.image x.context x.signal (value_of f) action → Answered ph (acts x) x f routine action
+  AreAnswered ph acts = (x : Marked Context) (f : DescribedFrame) (routine : ℕ) (action : Action) → IsWhole x.context → IsAsked space.image x.context x.signal (value_of f) action → Answered ph (acts x) x (Described f) routine action
 
   abbrev Turned : Phase → Marked Context → Result Turn DeliverError → any.Turn Context DeliverError (Unit {0}) → Type 0
   Turned ph x (Ok Ends) g = g ≡ any.Ends tt (RanOut x)
@@ -155,43 +162,67 @@ module _ (space : SpaceValue) (row : RowInstructions → RowValue) (thrown : Thr
 
   module _ (ph : Phase) (acts : Marked Context → UnwindAction) (answered : AreAnswered ph acts) where
     module _ (x : Marked Context) (whole : IsWhole x.context) where
-      module _ (f : FrameAt) where
-        calls : Turned ph x (result_map Goes (caller_by space.image x.context f)) (goes tt ((undoing_in space).caller f x.context))
-        calls = go (caller_of x86_64 (evaluation space.image) space.image (columns_of x.context) f.run)
-          where
-            go : (r : Result Columns StepFault) → Turned ph x (result_map Goes (result_map_both (next_with f.found.fde.cie.letters.signal) refusal_of r)) (goes tt (result_map marked (result_map_both (next_with f.found.fde.cie.letters.signal) refusal_of r)))
-            go (Ok columns) = (refl, refl)
-            go (Err e) = refl
+      called : (f : FrameAt) → Turned ph x (result_map Goes (caller_by space.image x.context f)) (goes tt ((undoing_in space).caller f x.context))
+      called (Described f) = go (caller_of x86_64 (evaluation space.image) space.image (columns_of x.context) f.run)
+        where
+          go : (r : Result Columns StepFault) → Turned ph x (result_map Goes (result_map_both (next_with f.found.fde.cie.letters.signal) refusal_of r)) (goes tt (result_map marked (result_map_both (next_with f.found.fde.cie.letters.signal) refusal_of r)))
+          go (Ok columns) = (refl, refl)
+          go (Err e) = refl
+      called (Compact m a listed) = go (compact_step space.image m.frames (m.base + listed.start_address) a (columns_of x.context) (opcode_of listed.opcode))
+        where
+          go : (o : Option (Result compact.Stepped StepFault)) → Turned ph x (result_map Goes (opcode_caller o)) (goes tt (result_map marked (opcode_caller o)))
+          go None = refl
+          go (Some (Ok s)) = (refl, refl)
+          go (Some (Err e)) = refl
+      called (Recorded m rva function) = go (recorded_columns space.image x.context m rva function)
+        where
+          go : (r : Result Columns PeFault) → Turned ph x (result_map Goes (result_map_both (next_with false) pe_refusal r)) (goes tt (result_map marked (result_map_both (next_with false) pe_refusal r)))
+          go (Ok columns) = (refl, refl)
+          go (Err e) = refl
 
-        abbrev Framed : Result Action DeliverError → Result (UnwindReasonCode × Context) DeliverError → Type 0
-        Framed due answer = Turned ph x (result_map (stop_by ph) due >>= turn_at space.image x.context f) (turn_asked (undoing_in space) f x (tt, answer))
+      abbrev Framed : FrameAt → Result Action DeliverError → Result (UnwindReasonCode × Context) DeliverError → Type 0
+      Framed f due answer = Turned ph x (result_map (stop_by ph) due >>= turn_at space.image x.context f) (turn_asked (undoing_in space) f x (tt, answer))
 
-        spoken : (action : Action) (code : UnwindReasonCode) (left : Context) (t : Bool) → stops ph action ≡ t → Answers ph x f action t code left → Framed (Ok action) (Ok (code, left))
-        spoken wanted code left true is (other, agrees) = rw (is, other) (code, left, past_arguments left (argument_size f.run), refl, agrees)
-        spoken wanted code left false is (same, stays) = rw (is, same, stays) calls
+      spoken : (f : FrameAt) (action : Action) (code : UnwindReasonCode) (left : Context) (t : Bool) → stops ph action ≡ t → Answers ph x f action t code left → Framed f (Ok action) (Ok (code, left))
+      spoken f wanted code left true is (other, agrees) = rw (is, other) (code, left, past_arguments left (arguments_of f), refl, agrees)
+      spoken f wanted code left false is (same, stays) = rw (is, same, stays) (called f)
 
-        quiet : (k : Phase) → stops k NoAction ≡ false
-        quiet phase.Search = refl
-        quiet phase.Cleanup = refl
+      quiet : (k : Phase) → stops k NoAction ≡ false
+      quiet phase.Search = refl
+      quiet phase.Cleanup = refl
 
-        silent : Framed (Ok NoAction) (Ok (CONTINUE_UNWIND, x.context))
-        silent = spoken NoAction CONTINUE_UNWIND x.context false (quiet ph) (refl, refl)
+      silent : (f : FrameAt) → Framed f (Ok NoAction) (Ok (CONTINUE_UNWIND, x.context))
+      silent f = spoken f NoAction CONTINUE_UNWIND x.context false (quiet ph) (refl, refl)
 
+      module _ (f : DescribedFrame) where
         named : (routine : ℕ) → personality_address space.image f.found.fde ≡ Ok (Some routine) →
-            Framed (Ok (or_terminate (language_action space.image f.found.bases f.found.fde (address_of_call x.context.ra x.signal)))) (Ok (p.answers routine (acts x) f x))
+            Framed (Described f) (Ok (or_terminate (language_action space.image f.found.bases f.found.fde (address_of_call x.context.ra x.signal)))) (Ok (p.answers routine (acts x) (Described f) x))
         named routine is =
             let action : Action = or_terminate (language_action space.image f.found.bases f.found.fde (address_of_call x.context.ra x.signal)) in
             let a = answered x f routine action whole (record { routine = routine; named = is; asks = ap (action_if_named space.image x.context x.signal f.found) is }) in
-            subst (λ (r : UnwindReasonCode × Context). Framed (Ok action) (Ok r)) (sym a.is) (spoken action a.code a.left (stops ph action) refl a.agrees)
+            subst (λ (r : UnwindReasonCode × Context). Framed (Described f) (Ok action) (Ok r)) (sym a.is) (spoken (Described f) action a.code a.left (stops ph action) refl a.agrees)
 
-        framed : Framed (action_asked space.image x.context x.signal f.found) (asked p (acts x) f x)
-        framed = go (personality_address space.image f.found.fde) refl
+        described : Framed (Described f) (action_asked space.image x.context x.signal (Described f)) (asked p (acts x) (Described f) x)
+        described = go (personality_address space.image f.found.fde) refl
           where
             go : (r : Result (Option ℕ) StepFault) → personality_address space.image f.found.fde ≡ r →
-                Framed (action_if_named space.image x.context x.signal f.found r) (any.asked_if_named p (acts x) f x (result_map_both (λ routine. routine) refusal_of r))
+                Framed (Described f) (action_if_named space.image x.context x.signal f.found r) (any.asked_if_named p (acts x) (Described f) x (result_map_both (λ routine. routine) refusal_of r))
             go (Err e) is = refl
-            go (Ok None) is = silent
+            go (Ok None) is = silent (Described f)
             go (Ok (Some routine)) is = named routine is
+
+      handled : (f : FrameAt) (names : Bool) (e : DeliverError) → Framed f (unless_handled names e) (any.asked_if_named p (acts x) f x (no_routine (unless_handled names e)))
+      handled f true e = refl
+      handled f false e = silent f
+
+      recorded : (f : FrameAt) (r : Result Bool FrameFault) → Framed f (recorded_action r) (any.asked_if_named p (acts x) f x (no_routine (recorded_action r)))
+      recorded f (Ok names) = handled f names PeHandler
+      recorded f (Err e) = refl
+
+      framed : (f : FrameAt) → Framed f (action_asked space.image x.context x.signal f) (asked p (acts x) f x)
+      framed (Described f) = described f
+      framed (Compact m a listed) = handled (Compact m a listed) (has_language_table listed) CompactHandler
+      framed (Recorded m rva function) = recorded (Recorded m rva function) (handler_in (memory_of space.image m.base) function)
 
       turned : Turned ph x (turn_for (Some ph) space x.context x.signal) (turn_seen (undoing_in space) (by_personality p acts) tt x (sees_in space x))
       unfolding turn_for

@@ -3,14 +3,15 @@
 use Rattle.std.specs.Prelude.{◌≡◌, ℕ, zero, suc, true, false, List, [], Option, Some, None, Result, Ok, Err, map, slice_index, if◌then◌else◌}
 use Rattle.std.specs.Option.{option_map_or}
 use Rattle.std.specs.Result.{result_map_both}
-use Rattle.unwind_definitions.specs.Row.{RowInstructions, argument_size}
+use Rattle.unwind_definitions.specs.Function.{Action}
+use Rattle.unwind_definitions.specs.Row.{RowInstructions}
 use Rattle.unwind_definitions.specs.Caller.{Columns, StepFault}
 use Rattle.frame_rows.specs.RowValue.{RowValue}
 use Rattle.unwind_arch.specs.declared.x86_64.Context.{Context}
 use Rattle.unwind_arch.specs.Columns.{rsp}
 use Rattle.unwind_arch.specs.ContextViews.{columns_of, context_of}
 use Rattle.unwinding_frames.specs.declared.abi.UnwindReasonCode.{UnwindReasonCode}
-use Rattle.unwinding_frames.specs.declared.abi.TheConstants.UnwindReasonCode.{HANDLER_FOUND}
+use Rattle.unwinding_frames.specs.declared.abi.TheConstants.UnwindReasonCode.{CONTINUE_UNWIND, HANDLER_FOUND}
 use Rattle.unwinding_frames.specs.OneLine.{by_one}
 use Rattle.unwinding_frames.specs.Passes.{Marked, Undoing, Stepping, Answering, LineEnd, RanOut, Decides, Fails, Crowded, Line, Fault, Installs, Gives, is_code, less_signal, IsSearched, IsCleanup}
 use Rattle.unwinding_frames.specs.Passes as any
@@ -21,7 +22,7 @@ use Rattle.stack_deliver.specs.declared.answers.Trail.{Trail}
 use Rattle.stack_deliver.specs.declared.answers.Outcome.{Outcome}
 use Rattle.stack_deliver.specs.declared.answers.Outcome.TheVariants.{EndOfStack, FatalPhase1}
 use Rattle.stack_steps.specs.declared.answers.DeliverError.{DeliverError}
-use Rattle.stack_steps.specs.declared.answers.DeliverError.TheVariants.{FrameLimit, PassLimit}
+use Rattle.stack_steps.specs.declared.answers.DeliverError.TheVariants.{CompactHandler, FrameLimit, PassLimit}
 use Rattle.stack_deliver.specs.declared.passes.Phase.TheVariants as phase
 use Rattle.stack_deliver.specs.StackDelivery.{DeliveryValue, delivery_after, no_delivery}
 use Rattle.stack_steps.specs.Modules.{SpaceValue}
@@ -30,7 +31,11 @@ use Rattle.stack_deliver.specs.Passes as stopped
 use Rattle.delivery_laws.specs.Personality.{landing_columns}
 use Rattle.stack_deliver.specs.Resumes.{return_of}
 use Rattle.stack_steps.specs.Results.{result_map}
-use Rattle.stack_steps.specs.Stepping.{FrameAt, frame_of, caller_by, refusal_of}
+use Rattle.stack_steps.specs.Stepping.{FrameAt, DescribedFrame, Described, Compact, Recorded, frame_of, caller_by, refusal_of}
+use Rattle.stack_steps.specs.Asking.{arguments_of, recorded_action, unless_handled}
+use Rattle.format_definitions.specs.PeImage.{memory_of}
+use Rattle.format_frames.specs.Handlers.{has_language_table, handler_in}
+use Rattle.unwinding_frames.specs.declared.abi.UnwindAction.{UnwindAction}
 
 -- ---- the step of a space
 
@@ -42,7 +47,7 @@ abbrev pub undoing_in : SpaceValue → Undoing Context FrameAt DeliverError
 undoing_in space = record {
   caller = λ f c. result_map marked (caller_by space.image c f);
   stack_pointer = λ c. slice_index c.registers rsp;
-  past_arguments = λ f c. past_arguments c (argument_size f.run);
+  past_arguments = λ f c. past_arguments c (arguments_of f);
 }
 
 -- what is seen at a context of a space: its frame
@@ -55,7 +60,7 @@ stepping_in space = by_one (sees_in space) (undoing_in space)
 -- ---- the personality of Rust at its frames
 
 -- a frame as personalities see it; its row, which the personality of Rust doesn't read, is given by any function
-abbrev pub seen_with : (RowInstructions → RowValue) → FrameAt → FrameSeen
+abbrev pub seen_with : (RowInstructions → RowValue) → DescribedFrame → FrameSeen
 seen_with row f = record { value = record { found = f.found; row = row f.run }; run = f.run }
 
 abbrev pub at_columns : Marked Context → Marked Columns
@@ -65,15 +70,27 @@ at_columns x = record { context = columns_of x.context; signal = x.signal }
 abbrev pub answer_left : Answer → UnwindReasonCode × Context
 answer_left (code, columns) = (code, context_of columns)
 
--- what answers for the personalities of a space: `RustPersonality`, for an exception
+-- What answers for the personalities of a space: `RustPersonality`, for an exception.
 abbrev pub rust : SpaceValue → Thrown → Answering Columns FrameSeen StepFault
 rust space thrown = answering (rust_answers landing_columns) space.image thrown
 
-abbrev pub rust_in : SpaceValue → (RowInstructions → RowValue) → Thrown → Answering Context FrameAt DeliverError
-rust_in space row thrown = record {
-  named = λ f. result_map_both (λ routine. routine) refusal_of ((rust space thrown).named (seen_with row f));
-  answers = λ routine actions f x. answer_left ((rust space thrown).answers routine actions (seen_with row f) (at_columns x));
-}
+-- a frame of another format names no personality, or one that isn't asked
+abbrev pub no_routine : Result Action DeliverError → Result (Option ℕ) DeliverError
+no_routine asked = result_map (λ action. None) asked
+
+module _ (space : SpaceValue) (row : RowInstructions → RowValue) (thrown : Thrown) where
+  abbrev pub rust_named : FrameAt → Result (Option ℕ) DeliverError
+  rust_named (Described f) = result_map_both (λ routine. routine) refusal_of ((rust space thrown).named (seen_with row f))
+  rust_named (Compact m a listed) = no_routine (unless_handled (has_language_table listed) CompactHandler)
+  rust_named (Recorded m rva function) = no_routine (recorded_action (handler_in (memory_of space.image m.base) function))
+
+  abbrev pub rust_answered : ℕ → UnwindAction → FrameAt → Marked Context → UnwindReasonCode × Context
+  rust_answered routine actions (Described f) x = answer_left ((rust space thrown).answers routine actions (seen_with row f) (at_columns x))
+  rust_answered routine actions (Compact m a listed) x = (CONTINUE_UNWIND, x.context)
+  rust_answered routine actions (Recorded m rva function) x = (CONTINUE_UNWIND, x.context)
+
+  abbrev pub rust_in : Answering Context FrameAt DeliverError
+  rust_in = record { named = rust_named; answers = rust_answered }
 
 -- ---- a delivery, by any step over contexts and any personality
 

@@ -11,7 +11,7 @@ use Rattle.unwinding_frames.specs.declared.abi.UnwindReasonCode.{UnwindReasonCod
 use Rattle.unwinding_frames.specs.Actions.{shares}
 use Rattle.unwinding_frames.specs.FrameValue.{FrameValue}
 use Rattle.unwinding_frames.specs.Personalities.{Asked, Answer, Landing, rust_answers}
-use Rattle.stack_steps.specs.Asking.{action_asked}
+use Rattle.stack_steps.specs.Asking.{described_action}
 use Rattle.stack_deliver.specs.Passes.{enters}
 
 -- The columns of the return address and of the two registers that a landing pad finds its arguments in, RAX and RDX.
@@ -46,7 +46,7 @@ AnswersCleanup Terminate exception c answer = (answer ≡ (FATAL_PHASE2_ERROR, c
 pub record IsAsked (image : List Span) (c : Context) (interrupted : Bool) (frame : FrameValue) (action : Action) : Type 0 where
   pub routine : ℕ
   pub named : personality_address image frame.found.fde ≡ Ok (Some routine)
-  pub asks : action_asked image c interrupted frame.found ≡ Ok action
+  pub asks : described_action image c interrupted frame.found ≡ Ok action
 
 -- what the personality of Rust answers for a frame of x86-64
 abbrev pub answer_for : Asked → List Span → FrameValue → Context → Bool → Answer

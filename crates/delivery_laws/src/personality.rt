@@ -1,5 +1,6 @@
 // How the passes of a delivery and the personality of Rust hang together.
-ghost use Rattle.std.specs.Prelude.{◌≡◌, ◌≢◌, ◌↔◌, ℕ, Bool, true, false, List, Result, length, IsSome};
+ghost use Rattle.std.specs.Prelude.{◌≡◌, ◌≢◌, ◌↔◌, ℕ, Bool, true, false, List, Result, length};
+ghost use Rattle.std.specs.Prelude.{IsSome};
 ghost use Rattle.memory_image.specs.Image.{Span};
 ghost use Rattle.unwind_definitions.specs.Function.{Action, Catch};
 ghost use Rattle.unwind_definitions.specs.Row.{RowInstructions};
@@ -11,13 +12,16 @@ ghost use Rattle.unwinding_frames.specs.Sample as sample;
 ghost use Rattle.unwinding_frames.specs.Personalities.{Asked, searched};
 ghost use Rattle.unwinding_frames.specs.Seen.{Thrown};
 ghost use Rattle.stack_steps.specs.declared.answers.DeliverError.{DeliverError};
-ghost use Rattle.delivery_laws.specs.AnyPasses.{stepping_in, rust_in, Search, search_of, IsSearchBy, IsPassBy, IsDeliveryBy};
+ghost use Rattle.delivery_laws.specs.AnyPasses.{stepping_in, rust_in, Search, search_of};
+ghost use Rattle.delivery_laws.specs.AnyPasses.{IsSearchBy, IsPassBy, IsDeliveryBy};
 ghost use Rattle.stack_deliver.specs.declared.passes.Phase.TheVariants as phase;
 ghost use Rattle.stack_deliver.specs.StackDelivery.{DeliveryValue, stack_delivery};
 ghost use Rattle.stack_steps.specs.Modules.{SpaceValue};
 ghost use Rattle.stack_deliver.specs.Passes.{PassEnd, stops, pad_of, cleanup_of};
-ghost use Rattle.delivery_laws.specs.Personality.{InSearch, InCleanup, IsAsked, AnswersCleanup, answer_for, code_of};
-ghost use Rattle.unwinding_frames.specs.declared.abi.TheConstants.UnwindReasonCode.{CONTINUE_UNWIND, HANDLER_FOUND};
+ghost use Rattle.delivery_laws.specs.Personality.{InSearch, InCleanup, IsAsked, AnswersCleanup};
+ghost use Rattle.delivery_laws.specs.Personality.{answer_for, code_of};
+ghost use Rattle.unwinding_frames.specs.declared.abi.TheConstants.UnwindReasonCode.{CONTINUE_UNWIND};
+ghost use Rattle.unwinding_frames.specs.declared.abi.TheConstants.UnwindReasonCode.{HANDLER_FOUND};
 
 /// What a delivery asks of a frame is what `RustPersonality` answers for it. A law: the function
 /// does nothing.

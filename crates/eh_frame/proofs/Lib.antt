@@ -18,5 +18,5 @@ mod Keeping
 mod ListingFdes
 mod Collecting
 mod Preparing
-mod Exactly
-mod SampleIndex
+pub mod Exactly
+pub mod SampleIndex

@@ -3,7 +3,8 @@
 ghost use Rattle.std.specs.Prelude.{◌≡◌, ℕ, List, [], ◌∷◌, ◌++◌, IfOk};
 ghost use Rattle.std.specs.List.{list_all};
 ghost use Rattle.unwind_definitions.specs.Augmentation.{is_augmentation, is_letter, letters_in};
-ghost use Rattle.unwind_definitions.specs.Entries.{augmentation_data, letter, letters_from, no_letters};
+ghost use Rattle.unwind_definitions.specs.Entries.{augmentation_data, letter, letters_from};
+ghost use Rattle.unwind_definitions.specs.Entries.{no_letters};
 ghost use Rattle.encoded_pointers.specs.Readers.{Answers, GivesOr};
 ghost use Rattle.encoded_pointers.specs.PointerViews.{bases_of};
 ghost use Rattle.encoded_pointers.specs.CursorViews.{at};

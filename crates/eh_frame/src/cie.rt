@@ -33,7 +33,8 @@ impl<'a> Cie<'a> {
     ghost use Rattle.std.specs.Prelude.{is_some};
     ghost use Rattle.std.specs.Option.{option_map};
     ghost use Rattle.std.specs.Int.{w64, cast_unsigned};
-    ghost use Rattle.unwind_definitions.specs.Augmentation.{address_letter, has_letter, language_letter};
+    ghost use Rattle.unwind_definitions.specs.Augmentation.{address_letter, has_letter};
+    ghost use Rattle.unwind_definitions.specs.Augmentation.{language_letter};
     ghost use Rattle.unwind_definitions.specs.Augmentation.{personality_letter, signal_letter};
     ghost use Rattle.unwind_definitions.specs.Entries.{cie_body, address_encoding, coding_of};
     ghost use Rattle.frame_rows.specs.InstructionViews.{coding_in};

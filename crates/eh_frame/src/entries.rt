@@ -1,11 +1,13 @@
 //! The entries of a frame table, one after another.
 
-ghost use Rattle.std.specs.Prelude.{◌≡◌, ◌≢◌, ◌↔◌, ◌++◌, ◌∷◌, [], IfErr, IfOk, IfSome, IsTrue, OnOk, Result};
+ghost use Rattle.std.specs.Prelude.{◌≡◌, ◌≢◌, ◌↔◌, ◌++◌, ◌∷◌, [], IfErr, IfOk, IfSome, IsTrue};
+ghost use Rattle.std.specs.Prelude.{OnOk, Result};
 ghost use Rattle.std.specs.Prelude.{Some, false, map};
 ghost use Rattle.std.specs.Result.{IsErrOf};
 ghost use Rattle.std.specs.Option.{option_map, option_map_or};
 ghost use Rattle.unwind_definitions.specs.Input.{skip};
-ghost use Rattle.unwind_definitions.specs.Entries.{Fde as Described, body, length_behind, cie_at, cie_in};
+ghost use Rattle.unwind_definitions.specs.Entries.{Fde as Described, body, length_behind, cie_at};
+ghost use Rattle.unwind_definitions.specs.Entries.{cie_in};
 ghost use Rattle.unwind_definitions.specs.Entries.{entry_in, entry_at};
 ghost use Rattle.unwind_definitions.specs.Row.{covers_pc};
 ghost use Rattle.unwind_definitions.specs.Scan.{found_or, scan};

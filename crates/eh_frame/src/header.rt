@@ -3,7 +3,8 @@
 ghost use Rattle.std.specs.Prelude.{◌≡◌, ◌+◌, ◌<◌, ◌≤◌};
 ghost use Rattle.std.specs.Option.{option_map};
 ghost use Rattle.unwind_definitions.specs.Pointers.{format_of};
-ghost use Rattle.unwind_definitions.specs.Header.{header, pair_at, pair_count, pair_from, table_in, width_of};
+ghost use Rattle.unwind_definitions.specs.Header.{header, pair_at, pair_count, pair_from, table_in};
+ghost use Rattle.unwind_definitions.specs.Header.{width_of};
 ghost use Rattle.encoded_pointers.specs.Readers.{Answers, GivesOr};
 ghost use Rattle.encoded_pointers.specs.CursorViews.{at};
 ghost use Rattle.encoded_pointers.specs.PointerViews.{bases_of, pointer_of};

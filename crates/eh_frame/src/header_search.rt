@@ -2,8 +2,10 @@
 
 ghost use Rattle.std.specs.Prelude.{◌≡◌, ◌≢◌, ◌+◌, ◌⊎◌, ℕ, IfErr, IfOk};
 ghost use Rattle.unwind_definitions.specs.HeaderSearch.{AreWithinDigits, IsNamed, IsNamedElsewhere};
-ghost use Rattle.unwind_definitions.specs.HeaderSearch.{IsTableAnswer, IsUnreadableNamed, IsUnreadablePair};
-ghost use Rattle.unwind_definitions.specs.HeaderSearch.{StartsAbove, boundary_in, containing, found_by};
+ghost use Rattle.unwind_definitions.specs.HeaderSearch.{IsTableAnswer, IsUnreadableNamed};
+ghost use Rattle.unwind_definitions.specs.HeaderSearch.{IsUnreadablePair};
+ghost use Rattle.unwind_definitions.specs.HeaderSearch.{StartsAbove, boundary_in, containing};
+ghost use Rattle.unwind_definitions.specs.HeaderSearch.{found_by};
 ghost use Rattle.unwind_definitions.specs.HeaderSearch.{table_answer};
 ghost use Rattle.encoded_pointers.specs.Readers.{Answers};
 ghost use Rattle.encoded_pointers.specs.PointerViews.{bases_of};

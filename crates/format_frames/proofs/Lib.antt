@@ -3,3 +3,4 @@ pub mod Fields
 pub mod MachoSteps
 pub mod PeRegisters
 pub mod PeCaller
+pub mod HandlerLemmas

@@ -1,3 +1,5 @@
 pub mod Callers
 pub mod Refusals
 pub mod Modules
+pub mod Handlers
+pub mod HandlerViews

@@ -1,5 +1,6 @@
 -- Why a frame has no caller, as the code names it.
-use Rattle.std.specs.Prelude.{ℕ, ◌+◌, ◌%◌, ◌^◌, List, Option, Some, None, Result, Ok, Err}
+use Rattle.std.specs.Prelude.{ℕ, ◌+◌, ◌%◌, ◌^◌, Bool, List, Option, Some, None, Result, Ok, Err}
+use Rattle.std.specs.Result.{result_map_both}
 use Rattle.memory_image.specs.Image.{Span, table_at}
 use Rattle.unwind_definitions.specs.Caller.{Columns, StepFault}
 use Rattle.unwind_definitions.specs.Caller as calls
@@ -11,6 +12,8 @@ use Rattle.macho_unwind_info.specs.Listing.{Section, section_of}
 use Rattle.macho_unwind_info.specs.Lookup.{lookup_of}
 use Rattle.pe_unwind_info.specs.declared.x86_64.fault.FrameFault.{FrameFault}
 use Rattle.pe_unwind_info.specs.declared.x86_64.fault.FrameFault.TheVariants as frame
+use Rattle.pe_unwind_info.specs.declared.x86_64.function_table.FunctionTableEntries.{FunctionTableEntries}
+use Rattle.pe_unwind_info.specs.FunctionTable.{table_bytes}
 use Rattle.format_definitions.specs.CompactStep.{Stepped, MachoModule, MachoFault, InSection, NoForm, InStep, answered_by, compact_step}
 use Rattle.macho_unwind_info.specs.X86_64.{opcode_of}
 use Rattle.format_definitions.specs.PeImage.{PeModule}
@@ -75,6 +78,19 @@ frame_refusal m rva frame.ChainLimit = ChainLimit
 abbrev pub pe_refusal : PeModule → ℕ → PeFault → FrameError
 pe_refusal m rva NoTable = PeInfo (address_in m m.table_rva)
 pe_refusal m rva (InFrame fault) = frame_refusal m rva fault
+
+-- the bytes of a function table, and those of the one that a module is due to have
+abbrev pub functions_given : Result FunctionTableEntries FrameError → Result (List ℕ) FrameError
+functions_given (Ok functions) = Ok (table_bytes functions)
+functions_given (Err e) = Err e
+
+abbrev pub functions_due : PeModule → Option (List ℕ) → Result (List ℕ) FrameError
+functions_due m None = Err (PeInfo (address_in m m.table_rva))
+functions_due m (Some bytes) = Ok bytes
+
+-- whether a handler is named, or the fault of a frame that stands so far from its module's base
+abbrev pub handler_due : PeModule → ℕ → Result Bool FrameFault → Result Bool FrameError
+handler_due m rva named = result_map_both (λ names. names) (frame_refusal m rva) named
 
 -- a caller's columns, or the fault of a frame
 abbrev pub frame_given : Result Context FrameFault → Result Columns PeFault

@@ -12,8 +12,13 @@ ghost use Rattle.unwind_arch.specs.ContextViews.{columns_of};
 ghost use Rattle.encoded_pointers.specs.PointerViews.{bases_of};
 ghost use Rattle.eh_frame.specs.EntryViews.{fde_of, table_of};
 ghost use Rattle.unwinding_frames.specs.Calling.{value_given, columns_given, written_in};
-ghost use Rattle.format_definitions.specs.CompactStep.{saved_as, saved_in, fields_up, registers_back, with_column, half_or_fault, read_up, read_down, by_frame, by_cfa, by_description, frame_bases, compact_step};
-ghost use Rattle.format_frames.specs.Callers.{frame_left, field_read, place_below, size_in_code, faulting, caller_by_row, description_given, stepped_given, opcode_given};
+ghost use Rattle.format_definitions.specs.CompactStep.{saved_as, saved_in, fields_up};
+ghost use Rattle.format_definitions.specs.CompactStep.{registers_back, with_column, half_or_fault};
+ghost use Rattle.format_definitions.specs.CompactStep.{read_up, read_down, by_frame, by_cfa};
+ghost use Rattle.format_definitions.specs.CompactStep.{by_description, frame_bases, compact_step};
+ghost use Rattle.format_frames.specs.Callers.{frame_left, field_read, place_below, size_in_code};
+ghost use Rattle.format_frames.specs.Callers.{faulting, caller_by_row, description_given};
+ghost use Rattle.format_frames.specs.Callers.{stepped_given, opcode_given};
 
 use crate::machine::Stepped;
 use crate::memory::bytes_at;

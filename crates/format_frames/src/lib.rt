@@ -2,13 +2,15 @@
 //! the registers of x86-64 and an image of memory.
 //!
 //! [`macho_step`] looks an address up in a section of compact unwinding and follows the opcode of
-//! its function, [`pe_step`] leaves a frame by the unwind records of a PE module. Nothing is
+//! its function, [`pe_step`] leaves a frame by the unwind records of a PE module. The calls beside
+//! them do the same in parts, for who asks between them whether the frame has a handler. Nothing is
 //! allocated, no table is copied, and an opcode is read once. Contracts say that both are the steps
 //! that `format_definitions` defines, on every input.
 #![tactic(auto)]
 
 mod compact;
 mod error;
+mod handlers;
 mod machine;
 mod macho;
 mod memory;
@@ -16,9 +18,10 @@ mod pe;
 
 pub use compact::compact_step;
 pub use error::FrameError;
+pub use handlers::pe_names_handler;
 pub use machine::Stepped;
-pub use macho::{MachoModule, macho_step};
-pub use pe::{PeModule, pe_step};
+pub use macho::{MachoModule, has_language_table, macho_caller, macho_function, macho_step};
+pub use pe::{PeModule, pe_caller, pe_functions, pe_step};
 
 #[cfg(test)]
 mod tests;

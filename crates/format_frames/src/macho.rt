@@ -2,15 +2,17 @@
 ghost use Rattle.std.specs.Prelude.{◌≡◌, ◌+◌, ◌-◌, ◌<◌, ◌≤◌, ◌^◌};
 ghost use Rattle.unwind_arch.specs.ContextViews.{columns_of};
 ghost use Rattle.format_definitions.specs.CompactStep.{macho_step};
+ghost use Rattle.format_frames.specs.Handlers.{has_language_table};
 ghost use Rattle.format_frames.specs.Modules.{macho_module};
-ghost use Rattle.format_frames.specs.Refusals.{function_at, caller_given, caller_due, macho_given, macho_due};
+ghost use Rattle.format_frames.specs.Refusals.{function_at, caller_given, caller_due, macho_given};
+ghost use Rattle.format_frames.specs.Refusals.{macho_due};
 
 use crate::compact::compact_step;
 use crate::error::FrameError;
 use crate::machine::Stepped;
 use crate::memory::bytes_at;
 use eh_frame::RowRoom;
-use macho_unwind_info::opcodes::OpcodeX86_64;
+use macho_unwind_info::opcodes::{OpcodeBitfield, OpcodeX86_64};
 use macho_unwind_info::{Function, UnwindInfo};
 use memory_image::MemoryImage;
 use unwind_arch::x86_64::Context;
@@ -28,8 +30,13 @@ pub struct MachoModule {
     pub frames: Option<u64>,
 }
 
-// the function of an address, so far from the module's base, in its section of compact unwinding
-fn function_at(
+/// The function that a Mach-O module has at an address so far from its base, by its section of
+/// compact unwinding. `None` where it has none there.
+///
+/// # Errors
+///
+/// Where the section, or what the look-up comes to, can't be read.
+pub fn macho_function(
     image: &MemoryImage<'_>,
     module: &MachoModule,
     rva: u32,
@@ -39,8 +46,21 @@ fn function_at(
     UnwindInfo::parse(bytes_at(image, module.unwind_info))?.lookup(rva)
 }
 
-// the caller of the frame at an address of a function of the module
-fn caller_in<'a>(
+/// Whether the opcode of a function says that it has a language table, which a personality reads.
+pub fn has_language_table(function: &Function) -> bool
+    ensures { result ≡ has_language_table function.now }
+{
+    OpcodeBitfield::new(function.opcode).has_lsda()
+}
+
+/// The caller of the frame at `address`, in a function of a Mach-O module, whose registers
+/// `context` holds. A row that the function's opcode asks for is made in `rows`.
+///
+/// # Errors
+///
+/// `CompactForm` where the opcode gives no caller; `Unmapped` and `Table` as [`compact_step`] has
+/// them.
+pub fn macho_caller<'a>(
     image: &MemoryImage<'a>,
     module: &MachoModule,
     function: &Function,
@@ -82,9 +102,9 @@ pub fn macho_step<'a>(
     ensures { macho_given result ≡ macho_due (macho_step image.now (macho_module module.now)
         (address - module.now.base) (columns_of context.now)) }
 {
-    match function_at(image, module, (address - module.base) as u32)? {
+    match macho_function(image, module, (address - module.base) as u32)? {
         Some(function) => {
-            let stepped = caller_in(image, module, &function, address, context, rows)?;
+            let stepped = macho_caller(image, module, &function, address, context, rows)?;
             Ok(Some(stepped))
         }
         None => Ok(None),

@@ -9,7 +9,8 @@ ghost use Rattle.format_definitions.specs.PeStep.{columns_at, pe_step};
 ghost use Rattle.pe_unwind_info.specs.FrameOf.{framed};
 ghost use Rattle.pe_unwind_info.specs.FunctionTable.{table_bytes, functions_of, lookup_of};
 ghost use Rattle.format_frames.specs.Modules.{pe_module};
-ghost use Rattle.format_frames.specs.Refusals.{address_in, frame_given, frame_refusal, pe_given, pe_due};
+ghost use Rattle.format_frames.specs.Refusals.{address_in, frame_given, frame_refusal};
+ghost use Rattle.format_frames.specs.Refusals.{functions_given, functions_due, pe_given, pe_due};
 
 use crate::error::FrameError;
 use crate::machine::Machine;
@@ -41,7 +42,7 @@ impl PeModule {
 }
 
 // a fault of a frame, which stands so far from the module's base, as why it has no caller
-fn refusal(module: &PeModule, rva: u32, fault: FrameFault) -> FrameError
+pub(crate) fn refusal(module: &PeModule, rva: u32, fault: FrameFault) -> FrameError
     ensures { result ≡ frame_refusal (pe_module module.now) rva fault }
 {
     match fault {
@@ -58,6 +59,24 @@ fn table<'a>(image: &MemoryImage<'a>, module: &PeModule) -> Option<&'a [u8]>
     ensures { option_map (λ bytes. bytes.now) result ≡ table_of image.now (pe_module module.now) }
 {
     bytes_at(image, module.address(module.table_rva)).get(..module.table_size as usize)
+}
+
+/// The function table of a PE module.
+///
+/// # Errors
+///
+/// `PeInfo` with the address of the table where one region doesn't have all of its bytes.
+pub fn pe_functions<'a>(
+    image: &MemoryImage<'a>,
+    module: &PeModule,
+) -> Result<FunctionTableEntries<'a>, FrameError>
+    ensures { functions_given result ≡ functions_due (pe_module module.now)
+        (table_of image.now (pe_module module.now)) }
+{
+    match table(image, module) {
+        Some(bytes) => Ok(FunctionTableEntries::parse(bytes)),
+        None => Err(FrameError::PeInfo(module.address(module.table_rva))),
+    }
 }
 
 // the caller by a function table, of the frame that stands so far from the module's base
@@ -89,6 +108,32 @@ fn caller_by(
     })
 }
 
+/// The caller of the frame that stands so far from the base of a PE module, and whose registers
+/// `context` holds, by the module's function table. At an address that no record of it covers
+/// stands a leaf. What the frame has of XMM registers isn't kept.
+///
+/// # Errors
+///
+/// Those of [`pe_step`] but that of the function table.
+pub fn pe_caller(
+    image: &MemoryImage<'_>,
+    module: &PeModule,
+    functions: &FunctionTableEntries<'_>,
+    rva: u32,
+    context: &Context,
+) -> Result<Context, FrameError>
+    ensures { pe_given result ≡ pe_due (pe_module module.now) rva
+        (columns_at (columns_of context.now)
+        (framed (memory_of image.now module.now.base) (word_at image.now) rva
+        (lookup_of (functions_of (table_bytes functions.now)) rva)
+        (registers_in (columns_of context.now)))) }
+{
+    match caller_by(image, module.base, functions, rva, context) {
+        Ok(caller) => Ok(caller),
+        Err(fault) => Err(refusal(module, rva, fault)),
+    }
+}
+
 /// The caller of the frame at `address`, in a PE module, whose registers `context` holds. At an
 /// address that no record of the function table covers stands a leaf. What the frame has of XMM
 /// registers isn't kept.
@@ -112,13 +157,7 @@ pub fn pe_step(
         (pe_step image.now (pe_module module.now) (address - module.now.base)
         (columns_of context.now)) }
 {
+    let functions = pe_functions(image, module)?;
     let rva = (address - module.base) as u32;
-    let Some(bytes) = table(image, module) else {
-        return Err(FrameError::PeInfo(module.address(module.table_rva)));
-    };
-    let functions = FunctionTableEntries::parse(bytes);
-    match caller_by(image, module.base, &functions, rva, context) {
-        Ok(caller) => Ok(caller),
-        Err(fault) => Err(refusal(module, rva, fault)),
-    }
+    pe_caller(image, module, &functions, rva, context)
 }

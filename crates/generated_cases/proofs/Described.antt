@@ -102,5 +102,6 @@ module _ (c : Chain) (count seed : ℕ) (some : 0 < count) (few : count ≤ 1000
       let in_process : Process → Type 0 = λ p. IsValid p (columns_of (context_in c.innermost)) (resume_table c.resumes.items) (functions_of os) (state_of seed os) (calls_of seed os) in
       record {
         valid = subst in_process (sym process_is) w;
+        elf = (tt, tt);
         shorter = let n = length-calls seed os in let m = length-outlines seed 0 count in omega arith;
       }

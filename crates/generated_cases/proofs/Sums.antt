@@ -1,5 +1,5 @@
 -- The delivery over a generated chain, and what is counted of it.
-use Rattle.std.proofs.Common.{◌≡◌, ℕ, ◌-◌, ◌/◌, List, length, refl, sym, ap, ◌∙◌}
+use Rattle.std.proofs.Common.{◌≡◌, ℕ, ◌+◌, ◌-◌, ◌*◌, ◌/◌, ◌^◌, ◌≤◌, min, List, length, refl, sym, ap, ◌∙◌, arith}
 use Rattle.std.proofs.lemmas.List.{length-map}
 use Rattle.unwind_definitions.specs.State.{State}
 use Rattle.unwind_definitions.specs.Function.{Function}
@@ -34,11 +34,18 @@ caught_counts d e count shows is = record {
   outcome = installed d.outcome (ap (λ (x : described.Delivery). x.outcome) shows ∙ is.outcome);
 }
 
+-- what a ledger counts from nothing on is no more than the steps are
+pub few_probes : (count digits probes start new frames cleanups : ℕ) → start ≡ 0 → probes ≡ min new (2 ^ 64 - 1) → frames ≡ count → cleanups ≡ (count - 1) / 4 → new ≤ start + (2 * frames + cleanups) * digits → probes ≤ (2 * count + (count - 1) / 4) * digits
+few_probes count digits probes start new frames cleanups none counted each some few =
+    let most : new ≤ 0 + (2 * count + (count - 1) / 4) * digits = rw (none, each, some) at few in
+    omega arith
+
 -- a delivery starts as its snapshot says, over a space of the same memory and modules
 pub starts_chain : (s : Content) (space : SpaceValue) (start : Context) (resumes : List (ℕ × ℕ)) (limit : ℕ) (functions : List Function) (state : State) (calls : List Call)
     → space.image ≡ (space_of s).image → space.modules ≡ (space_of s).modules → start ≡ s.start → resumes ≡ s.resumes → limit ≡ s.limit
     → DescribesChain s functions state calls → StartsValidChain space start resumes limit functions state calls
 starts_chain s space start resumes limit functions state calls image modules at by most described = record {
   valid = rw (image, modules, at, by) described.valid;
+  elf = rw modules described.elf;
   shorter = rw most described.shorter;
 }

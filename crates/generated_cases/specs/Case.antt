@@ -2,8 +2,10 @@
 use Rattle.std.specs.Prelude.{ℕ, ◌+◌, ◌*◌, [], ◌∷◌, None, false}
 use Rattle.unwind_definitions.specs.State.{State}
 use Rattle.unwind_arch.specs.declared.x86_64.Context.{Context}
+use Rattle.fde_finders.specs.declared.custom.FrameInfo.{FrameInfo}
 use Rattle.fde_finders.specs.declared.custom.FrameInfoKind.TheVariants.{EhFrameHdr}
 use Rattle.stack_steps.specs.declared.space.Module.{Module}
+use Rattle.stack_steps.specs.declared.space.ModuleTables.TheVariants.{Elf}
 use Rattle.stack_deliver.specs.Resumes.{resume_table}
 use Rattle.generated_chains.specs.declared.stack.Registers.{Registers}
 use Rattle.generated_chains.specs.declared.chain.Chain.{Chain}
@@ -26,8 +28,11 @@ abbrev pub context_at : State → Context
 context_at s = context_by s.ra s.sp s.rbx s.rbp
 
 -- the module of so many functions, which names its header
+abbrev pub tables_there : FrameInfo
+tables_there = record { text_base = None; kind = EhFrameHdr header_place }
+
 abbrev pub module_over : ℕ → Module
-module_over count = record { start = text; end = text + 64 * count; frame = record { text_base = None; kind = EhFrameHdr header_place } }
+module_over count = record { start = text; end = text + 64 * count; tables = Elf tables_there }
 
 -- the exception that is raised
 abbrev pub exception : ℕ

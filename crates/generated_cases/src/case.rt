@@ -11,7 +11,7 @@ ghost use Rattle.stack_snapshot.specs.Described.{DescribesChain};
 ghost use Rattle.generated_cases.specs.Case.{case_of, content_with, context_in, module_over};
 
 use generated_chains::{Chain, FRAMES, HEADER, LANGUAGES, Registers, TEXT, chain_of};
-use stack_deliver::{Context, FrameInfo, FrameInfoKind, Module, Resumes};
+use stack_deliver::{Context, FrameInfo, FrameInfoKind, Module, ModuleTables, Resumes};
 use stack_snapshot::{Region, Snapshot, SnapshotError, SnapshotParts};
 use std::alloc::{AllocError, Global};
 
@@ -39,10 +39,10 @@ fn module_over(count: u32) -> Module
     Module {
         start: u64::from(TEXT),
         end: u64::from(TEXT + 64 * count),
-        frame: FrameInfo {
+        tables: ModuleTables::Elf(FrameInfo {
             text_base: None,
             kind: FrameInfoKind::EhFrameHdr(u64::from(HEADER)),
-        },
+        }),
     }
 }
 

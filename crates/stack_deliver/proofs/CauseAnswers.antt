@@ -9,13 +9,17 @@ use Rattle.fde_finders.specs.Finding.{FoundFde}
 use Rattle.stack_deliver.specs.declared.answers.Trail.{Trail}
 use Rattle.stack_steps.specs.declared.answers.Stepped.{Stepped}
 use Rattle.stack_steps.specs.declared.answers.DeliverError.{DeliverError}
-use Rattle.stack_steps.specs.declared.answers.DeliverError.TheVariants.{FrameLimit, PassLimit, NoResume}
+use Rattle.stack_steps.specs.declared.answers.DeliverError.TheVariants.{CompactHandler, FrameLimit, PassLimit, NoResume, PeHandler}
 use Rattle.stack_deliver.specs.declared.passes.Phase.{Phase}
 use Rattle.stack_deliver.specs.declared.passes.Phase.TheVariants as phase
 use Rattle.stack_steps.specs.Modules.{SpaceValue}
 use Rattle.stack_deliver.specs.Resumes.{return_of}
-use Rattle.stack_steps.specs.Stepping.{step_of, refusal_of, FrameAt, frame_of, caller_by}
-use Rattle.stack_steps.specs.Asking.{action_if_named, action_asked}
+use Rattle.stack_steps.specs.Stepping.{step_of, refusal_of, frame_refusal, FrameAt, Described, Compact, Recorded, frame_of, caller_by}
+use Rattle.pe_unwind_info.specs.declared.x86_64.fault.FrameFault.{FrameFault}
+use Rattle.pe_unwind_info.specs.declared.x86_64.fault.FrameFault.TheVariants as pe
+use Rattle.format_definitions.specs.PeImage.{memory_of}
+use Rattle.format_frames.specs.Handlers.{has_language_table, handler_in}
+use Rattle.stack_steps.specs.Asking.{action_if_named, action_asked, recorded_action, unless_handled}
 use Rattle.stack_deliver.specs.Passes.{turn_at, stops, Line, Stop, Turn, Ends, Stops, Goes, turn_of, with_context, line_turn, pass_of, kept_at, pad_of, PassEnd, Finishes, Elsewhere, end_of, cleanup_of, cleanup_at, resume_at, CleanupsRun, with_cleanup, resumed, followed, passes_of, turn_for}
 use Rattle.stack_deliver.specs.StackDelivery.{delivery_after, delivery_at, delivery_to, delivery_by, stack_delivery}
 use Rattle.stack_steps.proofs.StepParts.{some_next, stepped_by, step_is}
@@ -120,14 +124,34 @@ module _ (space : SpaceValue) where
       refused (calls.Table f) = tt
       refused (calls.Unmapped a) = tt
 
-      asks : (found : FoundFde) (r : Result (Option ℕ) calls.StepFault) → OnStepFault (action_if_named space.image c interrupted found r)
-      asks found (Ok None) = tt
-      asks found (Ok (Some routine)) = tt
-      asks found (Err e) = refused e
+      framed_refused : (e : FrameFault) → IsStepFault (frame_refusal e)
+      framed_refused (pe.Memory rva) = tt
+      framed_refused (pe.Info rva) = tt
+      framed_refused pe.EpilogBytes = tt
+      framed_refused (pe.Stack a) = tt
+      framed_refused pe.ChainLimit = tt
+
+      described : (found : FoundFde) (r : Result (Option ℕ) calls.StepFault) → OnStepFault (action_if_named space.image c interrupted found r)
+      described found (Ok None) = tt
+      described found (Ok (Some routine)) = tt
+      described found (Err e) = refused e
+
+      handled : (named : Bool) (e : DeliverError) → IsStepFault e → OnStepFault (unless_handled named e)
+      handled true e is = is
+      handled false e is = tt
+
+      recorded : (r : Result Bool FrameFault) → OnStepFault (recorded_action r)
+      recorded (Ok named) = handled named PeHandler tt
+      recorded (Err e) = framed_refused e
+
+      asks : (f : FrameAt) → OnStepFault (action_asked space.image c interrupted f)
+      asks (Described f) = described f.found (personality_address space.image f.found.fde)
+      asks (Compact m a listed) = handled (has_language_table listed) CompactHandler tt
+      asks (Recorded m rva function) = recorded (handler_in (memory_of space.image m.base) function)
 
       by_frame : (r : Result (Option FrameAt) DeliverError) → frame_of space c interrupted ≡ r → OnStepFault (turn_by p space.image c interrupted r)
       by_frame (Ok None) is = tt
-      by_frame (Ok (Some f)) is = by_action f is (action_asked space.image c interrupted f.found) (asks f.found (personality_address space.image f.found.fde))
+      by_frame (Ok (Some f)) is = by_action f is (action_asked space.image c interrupted f) (asks f)
       by_frame (Err e) is = of_step e (step_is space c interrupted ∙ ap (stepped_by space.image c) is)
 
   abbrev IsOfPass : DeliverError → Type 0

@@ -22,7 +22,7 @@ pub chain_walked : (space : SpaceValue) (c : Context) (limit : ℕ) (functions :
     (cs : List Context) × (line_of space limit c false ≡ Ok cs) × ShowChain cs s calls
 chain_walked space c limit functions s calls apart laid is =
     let chain : IsDescribedChain (process_of space) functions s calls = is.described in
-    let line = line_shows space apart laid functions chain.are_functions s calls c limit chain.chain chain.described is.shows is.shorter in
+    let line = line_shows space apart laid is.elf functions chain.are_functions s calls c limit chain.chain chain.described is.shows is.shorter in
     (line.0, line.1, record { states = line.2; rise = chain_rises (process_of space) functions s calls chain.chain })
 
 -- ---- contexts that show states

@@ -8,16 +8,26 @@ use Rattle.unwind_definitions.specs.LanguageSearch as tables
 use Rattle.unwind_definitions.specs.Caller as calls
 use Rattle.unwind_arch.specs.declared.x86_64.Context.{Context}
 use Rattle.fde_finders.specs.Finding.{FoundFde}
+use Rattle.std.specs.Result.{result_map_both}
+use Rattle.pe_unwind_info.specs.declared.x86_64.fault.FrameFault.{FrameFault}
+use Rattle.pe_unwind_info.specs.declared.x86_64.fault.FrameFault.TheVariants as pe
+use Rattle.pe_unwind_info.specs.declared.x86_64.function_table.RuntimeFunction.{RuntimeFunction}
+use Rattle.pe_unwind_info.specs.Chain.{with_first, then_chain, chain_of}
+use Rattle.pe_unwind_info.specs.Frame.{chained_of, info_in, info_or}
+use Rattle.pe_unwind_info.specs.FrameOf.{Image}
+use Rattle.pe_unwind_info.specs.Info.{Info, parsed_info}
+use Rattle.format_definitions.specs.PeImage.{PeModule, memory_of}
+use Rattle.format_frames.specs.Handlers.{has_language_table, any_handler, handler_in}
 use Rattle.stack_steps.specs.declared.answers.Stepped.{Stepped}
 use Rattle.stack_deliver.specs.declared.answers.Trail.{Trail}
 use Rattle.stack_steps.specs.declared.answers.DeliverError.{DeliverError}
-use Rattle.stack_steps.specs.declared.answers.DeliverError.TheVariants.{NoMemory, Unmapped, FrameLimit, PassLimit, NoResume, Table}
+use Rattle.stack_steps.specs.declared.answers.DeliverError.TheVariants.{NoMemory, Unmapped, FrameLimit, PassLimit, NoResume, Table, MachO, CompactHandler, CompactForm, PeInfo, PeHandler, ChainLimit}
 use Rattle.stack_deliver.specs.declared.passes.Phase.{Phase}
 use Rattle.stack_deliver.specs.declared.passes.Phase.TheVariants as phase
 use Rattle.stack_steps.specs.Modules.{SpaceValue}
 use Rattle.stack_deliver.specs.Resumes.{return_of}
-use Rattle.stack_steps.specs.Stepping.{step_of, refusal_of, FrameAt, frame_of, caller_by}
-use Rattle.stack_steps.specs.Asking.{action_if_named, action_asked}
+use Rattle.stack_steps.specs.Stepping.{step_of, refusal_of, FrameAt, Described, Compact, Recorded, frame_of, caller_by}
+use Rattle.stack_steps.specs.Asking.{action_if_named, action_asked, described_action, recorded_action, unless_handled}
 use Rattle.stack_deliver.specs.Passes.{turn_at, stops, Turn, Ends, Stops, Goes, turn_of, Line, with_context, line_turn, pass_of, PassEnd, Finishes, Elsewhere, end_of, cleanup_of, cleanup_at, resume_at, CleanupsRun, with_cleanup, resumed, followed, passes_of, kept_at, pad_of, Stop, turn_for}
 use Rattle.stack_deliver.specs.StackDelivery.{delivery_after, delivery_at, delivery_to, delivery_by, stack_delivery}
 use Rattle.stack_steps.proofs.StepParts.{some_next, stepped_by, step_is}
@@ -33,16 +43,68 @@ IsCause image FrameLimit = Unit {0}
 IsCause image PassLimit = Unit {0}
 IsCause image (NoResume pad) = Unit {0}
 IsCause image (Table e) = Unit {0}
+IsCause image (MachO e) = Unit {0}
+IsCause image CompactHandler = Unit {0}
+IsCause image CompactForm = Unit {0}
+IsCause image PeInfo = Unit {0}
+IsCause image PeHandler = Unit {0}
+IsCause image ChainLimit = Unit {0}
 
 abbrev pub OnCause : {A : Type 0} → List Span → Result A DeliverError → Type 0
 OnCause image (Ok x) = Unit {0}
 OnCause image (Err e) = IsCause image e
+
+-- records have no fault of the stack
+abbrev OnChain : {A : Type 0} → Result A FrameFault → Type 0
+OnChain (Ok x) = Unit {0}
+OnChain (Err (pe.Memory rva)) = Unit {0}
+OnChain (Err (pe.Info rva)) = Unit {0}
+OnChain (Err pe.EpilogBytes) = Unit {0}
+OnChain (Err (pe.Stack a)) = ⊥
+OnChain (Err pe.ChainLimit) = Unit {0}
+
+info_faults : (rva : ℕ) (memory : Option (List ℕ)) → OnChain (info_in rva memory)
+info_faults rva None = tt
+info_faults rva (Some bytes) = go (parsed_info bytes)
+  where
+    go : (o : Option Info) → OnChain (info_or rva o)
+    go None = tt
+    go (Some info) = tt
+
+first_faults : (info : Info) (r : Result (List Info) FrameFault) → OnChain r → OnChain (with_first info r)
+first_faults info (Ok infos) on = tt
+first_faults info (Err (pe.Memory rva)) on = tt
+first_faults info (Err (pe.Info rva)) on = tt
+first_faults info (Err pe.EpilogBytes) on = tt
+first_faults info (Err (pe.Stack a)) on = on
+first_faults info (Err pe.ChainLimit) on = tt
+
+chain_faults : (memory : Image) (n : ℕ) (function : Option RuntimeFunction) → OnChain (chain_of memory n function)
+unfolding chain_of
+chain_faults memory zero None = tt
+chain_faults memory zero (Some function) = tt
+chain_faults memory (suc n) None = tt
+chain_faults memory (suc n) (Some function) = go (info_in function.unwind_info_address (memory function.unwind_info_address)) (info_faults function.unwind_info_address (memory function.unwind_info_address)) (λ info. chain_faults memory n (chained_of info))
+  where
+    go : (r : Result Info FrameFault) → OnChain r → ((info : Info) → OnChain (chain_of memory n (chained_of info))) → OnChain (then_chain r (λ info. chain_of memory n (chained_of info)))
+    go (Ok info) on later = first_faults info (chain_of memory n (chained_of info)) (later info)
+    go (Err (pe.Memory rva)) on later = tt
+    go (Err (pe.Info rva)) on later = tt
+    go (Err pe.EpilogBytes) on later = tt
+    go (Err (pe.Stack a)) on later = on
+    go (Err pe.ChainLimit) on later = tt
 
 step_cause : (space : SpaceValue) (c : Context) (interrupted : Bool) (e : DeliverError) → step_of space c interrupted ≡ Err e → IsCause space.image e
 step_cause space c interrupted e fails = go e fails (subst OnStepFault fails (step_faults space c interrupted))
   where
     go : (x : DeliverError) → step_of space c interrupted ≡ Err x → IsStepFault x → IsCause space.image x
     go (Table f) is fault = tt
+    go (MachO f) is fault = tt
+    go CompactHandler is fault = tt
+    go CompactForm is fault = tt
+    go PeInfo is fault = tt
+    go PeHandler is fault = tt
+    go ChainLimit is fault = tt
     go (Unmapped a) is fault = step_unmapped space c interrupted a is
     go NoMemory is fault = absurd fault
     go FrameLimit is fault = absurd fault
@@ -63,8 +125,8 @@ target_cause image (Indirect a) = go (word_at image a) refl
     go None none = none
     go (Some w) some = tt
 
-asked_cause : (image : List Span) (c : Context) (interrupted : Bool) (found : FoundFde) → OnCause image (action_asked image c interrupted found)
-asked_cause image c interrupted found = go found.fde.cie.letters.personality
+described_cause : (image : List Span) (c : Context) (interrupted : Bool) (found : FoundFde) → OnCause image (described_action image c interrupted found)
+described_cause image c interrupted found = go found.fde.cie.letters.personality
   where
     by_target : (r : Result ℕ calls.StepFault) → OnTarget image r → OnCause image (action_if_named image c interrupted found (tables.some_address r))
     by_target (Ok a) on = tt
@@ -73,6 +135,27 @@ asked_cause image c interrupted found = go found.fde.cie.letters.personality
     go : (o : Option (ℕ × Pointer)) → OnCause image (action_if_named image c interrupted found (option_map_or (λ p. tables.some_address (tables.target image p)) (option_map (λ p. p.1) o) (Ok None)))
     go None = tt
     go (Some p) = by_target (tables.target image p.1) (target_cause image p.1)
+
+handled_cause : (image : List Span) (e : DeliverError) → IsCause image e → (named : Bool) → OnCause image (unless_handled named e)
+handled_cause image e is true = is
+handled_cause image e is false = tt
+
+-- An unwind record isn't on the stack.
+recorded_cause : (image : List Span) (m : PeModule) (function : Option RuntimeFunction) → OnCause image (recorded_action (handler_in (memory_of image m.base) function))
+recorded_cause image m function = go (chain_of (memory_of image m.base) 33 function) (chain_faults (memory_of image m.base) 33 function)
+  where
+    go : (r : Result (List Info) FrameFault) → OnChain r → OnCause image (recorded_action (result_map_both any_handler (λ fault. fault) r))
+    go (Ok infos) on = handled_cause image PeHandler tt (any_handler infos)
+    go (Err (pe.Memory rva)) on = tt
+    go (Err (pe.Info rva)) on = tt
+    go (Err pe.EpilogBytes) on = tt
+    go (Err (pe.Stack a)) on = absurd on
+    go (Err pe.ChainLimit) on = tt
+
+asked_cause : (image : List Span) (c : Context) (interrupted : Bool) (f : FrameAt) → OnCause image (action_asked image c interrupted f)
+asked_cause image c interrupted (Described f) = described_cause image c interrupted f.found
+asked_cause image c interrupted (Compact m a listed) = handled_cause image CompactHandler tt (has_language_table listed)
+asked_cause image c interrupted (Recorded m rva function) = recorded_cause image m function
 
 -- ---- passes
 
@@ -95,7 +178,7 @@ module _ (space : SpaceValue) where
 
       by_frame : (r : Result (Option FrameAt) DeliverError) → frame_of space c interrupted ≡ r → OnCause space.image (turn_by p space.image c interrupted r)
       by_frame (Ok None) is = tt
-      by_frame (Ok (Some f)) is = by_action f is (action_asked space.image c interrupted f.found) (asked_cause space.image c interrupted f.found)
+      by_frame (Ok (Some f)) is = by_action f is (action_asked space.image c interrupted f) (asked_cause space.image c interrupted f)
       by_frame (Err e) is = step_cause space c interrupted e (step_is space c interrupted ∙ ap (stepped_by space.image c) is)
 
   context_cause : (c : Context) (r : Result Line DeliverError) → OnCause space.image r → OnCause space.image (with_context c r)

@@ -14,14 +14,17 @@ use Rattle.fde_finders.specs.declared.custom.FrameInfoKind.TheVariants.{EhFrame,
 use Rattle.fde_finders.specs.Finding.{table_bases, relative_to}
 use Rattle.stack_steps.specs.declared.answers.Stepped.{Stepped}
 use Rattle.stack_steps.specs.declared.answers.DeliverError.{DeliverError}
-use Rattle.stack_steps.specs.declared.answers.DeliverError.TheVariants.{NoMemory, Unmapped, FrameLimit, PassLimit, NoResume, Table}
+use Rattle.stack_steps.specs.declared.answers.DeliverError.TheVariants.{NoMemory, Unmapped, FrameLimit, PassLimit, NoResume, Table, MachO, CompactHandler, CompactForm, PeInfo, PeHandler, ChainLimit}
 use Rattle.stack_deliver.specs.declared.front.Front.{Front}
 use Rattle.stack_deliver.specs.declared.front.Front.TheVariants.{Outermost, NoModule, NoDescription, UnreadableTable, Refused, Limit}
 use Rattle.stack_steps.specs.declared.space.Module.{Module}
 use Rattle.stack_steps.specs.Modules.{SpaceValue, module_at}
-use Rattle.stack_steps.specs.Stepping.{step_of, FindsNone, EndsAt}
+use Rattle.stack_steps.specs.Stepping.{macho_of, step_of, FindsNoneIn, EndsAt}
+use Rattle.stack_steps.specs.declared.space.ModuleTables.{ModuleTables}
+use Rattle.stack_steps.specs.declared.space.ModuleTables.TheVariants.{Elf, Macho, Pe}
+use Rattle.format_definitions.specs.CompactStep.{MachoModule}
 use Rattle.stack_deliver.specs.StackDelivery.{with_first, line_after, line_of, NeedsMore}
-use Rattle.stack_deliver.specs.Fronts.{reached_after, reached_by, caller_in, caller_from, turned_from, IsReached, started, front_of, IsUnreadableAt, IsUndescribedIn, IsUnlisted, IsUndescribed, IsUnheld, IsUnknown, EndsFor, stopped_by, Meets, ComesTo}
+use Rattle.stack_deliver.specs.Fronts.{reached_after, reached_by, caller_in, caller_from, turned_from, IsReached, started, front_of, IsUnreadableAt, IsUndescribedIn, IsUnlisted, IsUndescribed, IsUnheld, IsUnlistedIn, IsUnknownIn, IsUnknown, EndsFor, stopped_by, Meets, ComesTo}
 use Rattle.stack_deliver.specs.declared.passes.Stop.{Stop as CodeStop}
 use Rattle.stack_deliver.specs.Walking.{RoomValue, IsWalked}
 use Rattle.stack_deliver.specs.Passes.{line_for}
@@ -208,7 +211,23 @@ unheld a Limit is = absurd is
 
 one_unknown : (image : List Span) (o : Option Module) (a : ℕ) (x y : Front) → IsUnknown image o a x → IsUnknown image o a y → x ≡ y
 one_unknown image None a x y p q = unheld a x p ∙ sym (unheld a y q)
-one_unknown image (Some m) a x y p q = one_undescribed image m.frame.text_base m.frame.kind a x y p q
+one_unknown image (Some m) a x y p q = by_tables m.tables p q
+  where
+    unlisted_at : (n : MachoModule) (why : Front) → IsUnlistedIn image n a why → why ≡ NoDescription a
+    unlisted_at n Outermost is = absurd is
+    unlisted_at n (NoModule b) is = absurd is
+    unlisted_at n (NoDescription b) is = ap (λ (k : ℕ). none k) is.0
+      where
+        none : ℕ → Front
+        none k = NoDescription k
+    unlisted_at n (UnreadableTable b offset e) is = absurd is
+    unlisted_at n (Refused b e) is = absurd is
+    unlisted_at n Limit is = absurd is
+
+    by_tables : (tables : ModuleTables) → IsUnknownIn image m tables a x → IsUnknownIn image m tables a y → x ≡ y
+    by_tables (Elf tables) p q = one_undescribed image tables.text_base tables.kind a x y p q
+    by_tables (Macho tables) p q = unlisted_at (macho_of m tables) x p ∙ sym (unlisted_at (macho_of m tables) y q)
+    by_tables (Pe tables) p q = absurd p
 
 -- ---- a context has one end
 
@@ -306,14 +325,14 @@ comes Limit space limit s more is = absurd is
 
 -- where a step finds no frame at an address that a module holds, its tables find nothing
 pub held_finds_none : (space : SpaceValue) (c : Context) (interrupted : Bool) (m : Module) (a : ℕ) → c.ra ≢ 0 → step_of space c interrupted ≡ Ok None → a ≡ address_of_call c.ra interrupted →
-    Some m ≡ module_at space.modules a → FindsNone space.image m.frame.text_base m.frame.kind a
+    Some m ≡ module_at space.modules a → FindsNoneIn space.image m m.tables a
 held_finds_none space c interrupted m a returns none at_call holds = go (step_ends space c interrupted none)
   where
-    go : EndsAt space c interrupted → FindsNone space.image m.frame.text_base m.frame.kind a
+    go : EndsAt space c interrupted → FindsNoneIn space.image m m.tables a
     go (inl outermost) = absurd (returns outermost)
     go (inr ends) =
         let held : Some m ≡ module_at space.modules (address_of_call c.ra interrupted) = rw at_call at holds in
-        let found : FindsNone space.image m.frame.text_base m.frame.kind (address_of_call c.ra interrupted) = rw (← held) at ends.1 in
+        let found : FindsNoneIn space.image m m.tables (address_of_call c.ra interrupted) = rw (← held) at ends.1 in
         rw at_call found
 
 module _ (space : SpaceValue) (limit : ℕ) (c : Context) (interrupted : Bool) (room : RoomValue) (state : Stepped)
@@ -368,3 +387,9 @@ module _ (space : SpaceValue) (limit : ℕ) (c : Context) (interrupted : Bool) (
     walk_stops PassLimit is a at_call = walk_fails PassLimit is (λ h. cc) a at_call
     walk_stops (NoResume pad) is a at_call = walk_fails (NoResume pad) is (λ h. cc) a at_call
     walk_stops (Table f) is a at_call = walk_fails (Table f) is (λ h. cc) a at_call
+    walk_stops (MachO f) is a at_call = walk_fails (MachO f) is (λ h. cc) a at_call
+    walk_stops CompactHandler is a at_call = walk_fails CompactHandler is (λ h. cc) a at_call
+    walk_stops CompactForm is a at_call = walk_fails CompactForm is (λ h. cc) a at_call
+    walk_stops PeInfo is a at_call = walk_fails PeInfo is (λ h. cc) a at_call
+    walk_stops PeHandler is a at_call = walk_fails PeHandler is (λ h. cc) a at_call
+    walk_stops ChainLimit is a at_call = walk_fails ChainLimit is (λ h. cc) a at_call

@@ -8,12 +8,14 @@ pub mod FrontAnswers
 pub mod LineAnswers
 pub mod LineShows
 pub mod MeetAnswers
+pub mod OneHeader
 pub mod OutcomeAnswers
 pub mod PassLines
 pub mod PassesShow
 pub mod Reaching
 pub mod Results
 pub mod Returns
+pub mod SearchCounts
 pub mod TurnParts
 pub mod StoppedWalk
 pub mod Turns

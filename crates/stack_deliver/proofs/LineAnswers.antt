@@ -8,7 +8,7 @@ use Rattle.unwind_arch.specs.declared.x86_64.Context.{Context}
 use Rattle.stack_steps.specs.declared.space.Module.{Module}
 use Rattle.stack_steps.specs.declared.answers.Stepped.{Stepped}
 use Rattle.stack_steps.specs.declared.answers.DeliverError.{DeliverError}
-use Rattle.stack_steps.specs.declared.answers.DeliverError.TheVariants.{NoMemory, Unmapped, FrameLimit, Table}
+use Rattle.stack_steps.specs.declared.answers.DeliverError.TheVariants.{NoMemory, Unmapped, FrameLimit, PassLimit, NoResume, Table, MachO, CompactHandler, CompactForm, PeInfo, PeHandler, ChainLimit}
 use Rattle.unwind_definitions.specs.Expressions.{evaluation}
 use Rattle.fde_finders.specs.Finding.{FoundFde}
 use Rattle.unwind_definitions.specs.LanguageSearch.{address_of_call}
@@ -20,51 +20,45 @@ use Rattle.stack_steps.specs.Stepping.{FrameAt, frame_with, next_with, frame_by,
 use Rattle.stack_steps.proofs.StepParts.{some_next, stepped_by, step_is}
 use Rattle.stack_deliver.specs.StackDelivery.{with_first, line_after, line_of, NeedsMore}
 use Rattle.stack_deliver.specs.Walking.{StepFails}
-use Rattle.stack_steps.proofs.StepAnswers.{step_unmapped}
+use Rattle.stack_steps.proofs.StepAnswers.{IsStepError, step_errors, step_unmapped}
 
--- the faults that a step may answer
+-- the faults that a walk or a pass may meet at a frame
 abbrev pub IsStepFault : DeliverError → Type 0
 IsStepFault (Table e) = Unit {0}
 IsStepFault (Unmapped a) = Unit {0}
+IsStepFault (MachO e) = Unit {0}
+IsStepFault CompactHandler = Unit {0}
+IsStepFault CompactForm = Unit {0}
+IsStepFault PeInfo = Unit {0}
+IsStepFault PeHandler = Unit {0}
+IsStepFault ChainLimit = Unit {0}
 IsStepFault _ = ⊥
 
--- a step answers no fault but those of tables and of memory
 abbrev pub OnStepFault : {A : Type 0} → Result A DeliverError → Type 0
 OnStepFault (Ok v) = Unit {0}
 OnStepFault (Err e) = IsStepFault e
 
-faults_by : (a : ℕ) (o : Option FoundFde) → OnStepFault (frame_by a o)
-faults_by a None = tt
-faults_by a (Some found) = go (row_at found.bases found.fde a)
-  where
-    go : (r : Result RowInstructions Fault) → OnStepFault (result_map_both (frame_with found) Table r)
-    go (Ok run) = tt
-    go (Err f) = tt
+of_step : (e : DeliverError) → IsStepError e → IsStepFault e
+of_step (Table e) is = tt
+of_step (Unmapped a) is = tt
+of_step (MachO e) is = tt
+of_step CompactForm is = tt
+of_step PeInfo is = tt
+of_step ChainLimit is = tt
+of_step NoMemory is = absurd is
+of_step FrameLimit is = absurd is
+of_step PassLimit is = absurd is
+of_step (NoResume pad) is = absurd is
+of_step CompactHandler is = absurd is
+of_step PeHandler is = absurd is
 
-faults_in : (image : List Span) (a : ℕ) (o : Option Module) → OnStepFault (frame_in image a o)
-faults_in image a None = tt
-faults_in image a (Some m) = faults_by a (found_by m.frame image a)
-
-faults_framed : (space : SpaceValue) (c : Context) (interrupted : Bool) → OnStepFault (frame_of space c interrupted)
-unfolding frame_of
-faults_framed space c interrupted = go (eqb c.ra 0)
-  where
-    go : (t : Bool) → OnStepFault (cond t (Ok None) (frame_in space.image (address_of_call c.ra interrupted) (module_at space.modules (address_of_call c.ra interrupted))))
-    go true = tt
-    go false = faults_in space.image (address_of_call c.ra interrupted) (module_at space.modules (address_of_call c.ra interrupted))
-
-faults_called : (image : List Span) (c : Context) (r : Result (Option FrameAt) DeliverError) → OnStepFault r → OnStepFault (stepped_by image c r)
-faults_called image c (Ok None) on = tt
-faults_called image c (Err e) on = on
-faults_called image c (Ok (Some f)) on = go (calls.caller_of calls.x86_64 (evaluation image) image (columns_of c) f.run)
-  where
-    go : (r : Result calls.Columns calls.StepFault) → OnStepFault (some_next (result_map_both (next_with f.found.fde.cie.letters.signal) refusal_of r))
-    go (Ok columns) = tt
-    go (Err (calls.Table f)) = tt
-    go (Err (calls.Unmapped a)) = tt
-
+-- a step answers no other
 pub step_faults : (space : SpaceValue) (c : Context) (interrupted : Bool) → OnStepFault (step_of space c interrupted)
-step_faults space c interrupted = rw (step_is space c interrupted) (faults_called space.image c (frame_of space c interrupted) (faults_framed space c interrupted))
+step_faults space c interrupted = go (step_of space c interrupted) refl
+  where
+    go : (r : Result (Option Stepped) DeliverError) → step_of space c interrupted ≡ r → OnStepFault r
+    go (Ok v) is = tt
+    go (Err e) is = of_step e (step_errors space c interrupted e is)
 
 first_limit : (c : Context) (r : Result (List Context) DeliverError) → with_first c r ≡ Err FrameLimit → r ≡ Err FrameLimit
 first_limit c (Ok cs) e = absurd cc

@@ -1,23 +1,65 @@
 -- What a pass answers, in the words of what it meets.
-use Rattle.std.proofs.Common.{inl, inr, ◌≡◌, ℕ, zero, suc, Bool, true, false, cond, Option, Some, None, Result, Ok, Err, refl, sym, ap, subst, ◌∙◌}
+use Rattle.std.proofs.Common.{inl, inr, ◌≡◌, ℕ, zero, suc, Bool, true, false, cond, List, Option, Some, None, Result, Ok, Err, refl, sym, ap, subst, ◌∙◌}
 use Rattle.std.specs.Prelude.{◌⊎◌}
 use Rattle.unwind_definitions.specs.Caller as calls
 use Rattle.unwind_definitions.specs.Function.{Action, NoAction, Terminate}
 use Rattle.unwind_definitions.specs.LanguageSearch.{personality_address, address_of_call, language_action}
-use Rattle.unwind_definitions.specs.Row.{argument_size}
+use Rattle.memory_image.specs.Image.{Span}
+use Rattle.pe_unwind_info.specs.declared.x86_64.fault.FrameFault.{FrameFault}
+use Rattle.format_definitions.specs.PeImage.{memory_of}
+use Rattle.format_frames.specs.Handlers.{has_language_table, handler_in}
 use Rattle.unwind_arch.specs.declared.x86_64.Context.{Context}
 use Rattle.stack_steps.specs.declared.answers.Stepped.{Stepped}
 use Rattle.stack_steps.specs.declared.answers.DeliverError.{DeliverError}
-use Rattle.stack_steps.specs.declared.answers.DeliverError.TheVariants.{FrameLimit}
+use Rattle.stack_steps.specs.declared.answers.DeliverError.TheVariants.{CompactHandler, FrameLimit, PeHandler}
 use Rattle.stack_deliver.specs.declared.passes.Phase.{Phase}
 use Rattle.stack_steps.specs.Modules.{SpaceValue}
-use Rattle.stack_steps.specs.Stepping.{step_of, FrameAt, frame_of, caller_by}
-use Rattle.stack_steps.specs.Asking.{or_terminate, action_if_named, action_asked}
+use Rattle.stack_steps.specs.Stepping.{step_of, FrameAt, DescribedFrame, Described, Compact, Recorded, frame_of, caller_by}
+use Rattle.stack_steps.specs.Asking.{or_terminate, action_if_named, action_asked, arguments_of, described_action, recorded_action, unless_handled}
 use Rattle.stack_deliver.specs.Passes.{turn_at, stops, past_arguments, Line, Stop, Turn, Ends, Stops, Goes, turn_of, with_context, line_turn, pass_of, turn_for}
 use Rattle.stack_deliver.proofs.PassLines.{stop_in}
-use Rattle.stack_deliver.specs.Causes.{Asks, GoesTo, EndsProgram, StackEnds, CantRead, Meets, GoesOnFrom}
+use Rattle.stack_deliver.specs.Causes.{Asks, GoesTo, EndsProgram, StackEnds, CantRead, RecordsRefused, HandlerRefused, Meets, GoesOnFrom}
 use Rattle.stack_steps.proofs.StepParts.{some_next, stepped_by, step_is, none_framed}
 use Rattle.stack_deliver.proofs.TurnParts.{goes, turn_asked, turn_by}
+
+-- ---- what names a handler
+
+module _ (image : List Span) (c : Context) (interrupted : Bool) where
+  handled_refused : (e refusal : DeliverError) (named : Bool) → unless_handled named refusal ≡ Err e → (named ≡ true) × (e ≡ refusal)
+  handled_refused e refusal true fails = (refl, cc)
+  handled_refused e refusal false fails = absurd cc
+
+  recorded_refused : (e : DeliverError) (r : Result Bool FrameFault) → recorded_action r ≡ Err e → RecordsRefused e r
+  recorded_refused e (Ok named) fails = handled_refused e PeHandler named fails
+  recorded_refused e (Err fault) fails = cc
+
+  refused_recorded : (e : DeliverError) (r : Result Bool FrameFault) → RecordsRefused e r → recorded_action r ≡ Err e
+  refused_recorded e (Ok named) is = rw (is.0, is.1) refl
+  refused_recorded e (Err fault) is = rw is refl
+
+  described_refused : (f : DescribedFrame) (e : DeliverError) (r : Result (Option ℕ) calls.StepFault) → personality_address image f.found.fde ≡ r → action_if_named image c interrupted f.found r ≡ Err e → HandlerRefused e image (Described f)
+  described_refused f e (Ok None) named fails = absurd cc
+  described_refused f e (Ok (Some routine)) named fails = absurd cc
+  described_refused f e (Err fault) named fails = (fault, named, cc)
+
+  asked_refused : (f : FrameAt) (e : DeliverError) → action_asked image c interrupted f ≡ Err e → HandlerRefused e image f
+  asked_refused (Described f) e fails = described_refused f e (personality_address image f.found.fde) refl fails
+  asked_refused (Compact m a listed) e fails = handled_refused e CompactHandler (has_language_table listed) fails
+  asked_refused (Recorded m rva function) e fails = recorded_refused e (handler_in (memory_of image m.base) function) fails
+
+  refused_asked : (f : FrameAt) (e : DeliverError) → HandlerRefused e image f → action_asked image c interrupted f ≡ Err e
+  refused_asked (Described f) e is = let fault : calls.StepFault = is.0 in rw (is.1, is.2) refl
+  refused_asked (Compact m a listed) e is = rw (is.0, is.1) refl
+  refused_asked (Recorded m rva function) e is = refused_recorded e (handler_in (memory_of image m.base) function) is
+
+  -- no other frame ends the program
+  unended : (named : Bool) (e : DeliverError) → unless_handled named e ≡ Ok Terminate → ⊥
+  unended true e is = absurd cc
+  unended false e is = let bad : NoAction ≡ Terminate = cc in absurd cc
+
+  unended_recorded : (r : Result Bool FrameFault) → recorded_action r ≡ Ok Terminate → ⊥
+  unended_recorded (Ok named) is = unended named PeHandler is
+  unended_recorded (Err fault) is = absurd cc
 
 -- ---- a turn
 
@@ -66,18 +108,16 @@ module _ (p : Phase) (space : SpaceValue) (c : Context) (interrupted : Bool) whe
   by_test f wanted asks is true stopped = (asks, stopped)
   by_test f wanted asks is false silent = by_caller f wanted asks silent is (caller_by space.image c f) refl
 
-  cell_fails : (f : FrameAt) (e : DeliverError) → framed ≡ Ok (Some f) → (r : Result (Option ℕ) calls.StepFault) → personality_address space.image f.found.fde ≡ r → action_if_named space.image c interrupted f.found r ≡ Err e → CantRead p e space c interrupted
-  cell_fails f e is (Ok None) named fails = absurd cc
-  cell_fails f e is (Ok (Some routine)) named fails = absurd cc
-  cell_fails f e is (Err fault) named fails = inr (inl (f, fault, is, named, cc))
+  handler_fails : (f : FrameAt) (e : DeliverError) → framed ≡ Ok (Some f) → action_asked space.image c interrupted f ≡ Err e → CantRead p e space c interrupted
+  handler_fails f e is fails = inr (inl (f, is, asked_refused space.image c interrupted f e fails))
 
-  by_asked : (f : FrameAt) → framed ≡ Ok (Some f) → (r : Result Action DeliverError) → action_asked space.image c interrupted f.found ≡ r → IsTurn (turn_asked p space.image c f r)
+  by_asked : (f : FrameAt) → framed ≡ Ok (Some f) → (r : Result Action DeliverError) → action_asked space.image c interrupted f ≡ r → IsTurn (turn_asked p space.image c f r)
   by_asked f is (Ok wanted) asked = by_test f wanted (record { frame = f; framed = is; asked = asked }) is (stops p wanted) refl
-  by_asked f is (Err e) asked = cell_fails f e is (personality_address space.image f.found.fde) refl asked
+  by_asked f is (Err e) asked = handler_fails f e is asked
 
   by_frame : (r : Result (Option FrameAt) DeliverError) → framed ≡ r → IsTurn (turn_by p space.image c interrupted r)
   by_frame (Ok None) is = step_is space c interrupted ∙ ap (stepped_by space.image c) is
-  by_frame (Ok (Some f)) is = by_asked f is (action_asked space.image c interrupted f.found) refl
+  by_frame (Ok (Some f)) is = by_asked f is (action_asked space.image c interrupted f) refl
   by_frame (Err e) is = inl is
 
   turn_is : IsTurn (turn_of p space c interrupted)
@@ -88,7 +128,7 @@ module _ (p : Phase) (space : SpaceValue) (c : Context) (interrupted : Bool) whe
   turn_meets r is = subst IsTurn is turn_is
 
   -- a frame that asks for something for which the pass stops
-  pub turn_stops : (wanted : Action) → (asks : Asks space c interrupted wanted) → stops p wanted ≡ true → turn_of p space c interrupted ≡ Ok (Stops wanted (past_arguments c (argument_size asks.frame.run)))
+  pub turn_stops : (wanted : Action) → (asks : Asks space c interrupted wanted) → stops p wanted ≡ true → turn_of p space c interrupted ≡ Ok (Stops wanted (past_arguments c (arguments_of asks.frame)))
   unfolding turn_for
   turn_stops wanted asks stopped = rw (asks.framed, asks.asked, stopped) refl
 
@@ -101,9 +141,9 @@ module _ (p : Phase) (space : SpaceValue) (c : Context) (interrupted : Bool) whe
   pub turn_fails : (e : DeliverError) → CantRead p e space c interrupted → turn_of p space c interrupted ≡ Err e
   unfolding turn_for
   turn_fails e (inl row) = rw row refl
-  turn_fails e (inr (inl cell)) =
-      let f : FrameAt = cell.0 in let fault : calls.StepFault = cell.1 in
-      rw (cell.2, cell.3, cell.4) refl
+  turn_fails e (inr (inl refused)) =
+      let f : FrameAt = refused.0 in
+      rw (refused.1, refused_asked space.image c interrupted f e refused.2) refl
   turn_fails e (inr (inr caller)) =
       let wanted : Action = caller.0 in let asks : Asks space c interrupted wanted = caller.1 in
       rw (asks.framed, asks.asked, caller.2, fails_next asks.frame e asks.framed caller.3) refl
@@ -112,7 +152,7 @@ module _ (p : Phase) (space : SpaceValue) (c : Context) (interrupted : Bool) whe
 
 module _ (space : SpaceValue) (c : Context) (interrupted : Bool) where
   pub ends_asks : EndsProgram space c interrupted → Asks space c interrupted Terminate
-  ends_asks ends = record { frame = ends.frame; framed = ends.framed; asked = ap (action_if_named space.image c interrupted ends.frame.found) ends.named ∙ fatal ends.fatal }
+  ends_asks ends = record { frame = Described ends.frame; framed = ends.framed; asked = ap (action_if_named space.image c interrupted ends.frame.found) ends.named ∙ fatal ends.fatal }
     where
       asked : Result Action calls.StepFault
       asked = language_action space.image ends.frame.found.bases ends.frame.found.fde (address_of_call c.ra interrupted)
@@ -125,16 +165,24 @@ module _ (space : SpaceValue) (c : Context) (interrupted : Bool) where
       fatal (inr fails) = ap answer fails.1
 
   pub asks_ends : Asks space c interrupted Terminate → EndsProgram space c interrupted
-  asks_ends asks = go (personality_address space.image asks.frame.found.fde) refl asks.asked
+  asks_ends asks = by_kind asks.frame asks.framed asks.asked
     where
-      by_table : (routine : ℕ) → personality_address space.image asks.frame.found.fde ≡ Ok (Some routine) → (r : Result Action calls.StepFault) → language_action space.image asks.frame.found.bases asks.frame.found.fde (address_of_call c.ra interrupted) ≡ r → or_terminate r ≡ Terminate → EndsProgram space c interrupted
-      by_table routine named (Ok wanted) is e = record { frame = asks.frame; framed = asks.framed; routine = routine; named = named; fatal = inl (is ∙ ap Ok e) }
-      by_table routine named (Err fault) is e = record { frame = asks.frame; framed = asks.framed; routine = routine; named = named; fatal = inr (fault, is) }
+      described : (f : DescribedFrame) → frame_of space c interrupted ≡ Ok (Some (Described f)) → described_action space.image c interrupted f.found ≡ Ok Terminate → EndsProgram space c interrupted
+      described f framed asked = go (personality_address space.image f.found.fde) refl asked
+        where
+          by_table : (routine : ℕ) → personality_address space.image f.found.fde ≡ Ok (Some routine) → (r : Result Action calls.StepFault) → language_action space.image f.found.bases f.found.fde (address_of_call c.ra interrupted) ≡ r → or_terminate r ≡ Terminate → EndsProgram space c interrupted
+          by_table routine named (Ok wanted) is e = record { frame = f; framed = framed; routine = routine; named = named; fatal = inl (is ∙ ap Ok e) }
+          by_table routine named (Err fault) is e = record { frame = f; framed = framed; routine = routine; named = named; fatal = inr (fault, is) }
 
-      go : (r : Result (Option ℕ) calls.StepFault) → personality_address space.image asks.frame.found.fde ≡ r → action_if_named space.image c interrupted asks.frame.found r ≡ Ok Terminate → EndsProgram space c interrupted
-      go (Ok None) named e = let bad : NoAction ≡ Terminate = cc in absurd cc
-      go (Ok (Some routine)) named e = by_table routine named (language_action space.image asks.frame.found.bases asks.frame.found.fde (address_of_call c.ra interrupted)) refl cc
-      go (Err fault) named e = absurd cc
+          go : (r : Result (Option ℕ) calls.StepFault) → personality_address space.image f.found.fde ≡ r → action_if_named space.image c interrupted f.found r ≡ Ok Terminate → EndsProgram space c interrupted
+          go (Ok None) named e = let bad : NoAction ≡ Terminate = cc in absurd cc
+          go (Ok (Some routine)) named e = by_table routine named (language_action space.image f.found.bases f.found.fde (address_of_call c.ra interrupted)) refl cc
+          go (Err fault) named e = absurd cc
+
+      by_kind : (f : FrameAt) → frame_of space c interrupted ≡ Ok (Some f) → action_asked space.image c interrupted f ≡ Ok Terminate → EndsProgram space c interrupted
+      by_kind (Described f) framed asked = described f framed asked
+      by_kind (Compact m a listed) framed asked = absurd (unended space.image c interrupted (has_language_table listed) CompactHandler asked)
+      by_kind (Recorded m rva function) framed asked = absurd (unended_recorded space.image c interrupted (handler_in (memory_of space.image m.base) function) asked)
 
 -- ---- a pass
 
@@ -221,7 +269,7 @@ module _ (p : Phase) (space : SpaceValue) where
   meets_stop Q zero c interrupted meets = absurd meets
   meets_stop Q (suc room) c interrupted (inl now) =
       let wanted : Action = now.0 in let asks : Asks space c interrupted wanted = now.1 in
-      let past : Context = past_arguments c (argument_size asks.frame.run) in
+      let past : Context = past_arguments c (arguments_of asks.frame) in
       (record { context = c; interrupted = interrupted; action = wanted; past = past }, inl (refl, refl, turn_stops p space c interrupted wanted asks now.2), now.3)
   meets_stop Q (suc room) c interrupted (inr later) =
       let next : Stepped = later.0 in

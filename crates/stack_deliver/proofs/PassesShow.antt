@@ -1,5 +1,5 @@
 -- The search and the passes of a delivery to a valid chain.
-use Rattle.std.proofs.Common.{◌≡◌, ◌≢◌, ℕ, zero, suc, ◌-◌, ◌^◌, ◌<◌, ◌≤◌, Bool, true, false, List, [], ◌∷◌, ◌++◌, length, Option, Some, None, Result, Ok, Err, refl, sym, ap, subst, ◌∙◌, arith, eqb}
+use Rattle.std.proofs.Common.{◌≡◌, ◌≢◌, ℕ, zero, suc, ◌+◌, ◌-◌, ◌^◌, ◌<◌, ◌≤◌, Bool, true, false, List, [], ◌∷◌, ◌++◌, length, Option, Some, None, Result, Ok, Err, refl, sym, ap, subst, ◌∙◌, arith, eqb}
 use Rattle.std.specs.Prelude.{◌==◌, IsTrue, IfSome, map}
 use Rattle.std.specs.List.{AllByRecursion, filter_map, cons_option}
 use Rattle.std.specs.Option.{option_map}
@@ -21,7 +21,7 @@ use Rattle.stack_deliver.specs.declared.answers.Outcome.TheVariants.{Installed}
 use Rattle.stack_steps.specs.declared.answers.DeliverError.{DeliverError}
 use Rattle.stack_steps.specs.declared.answers.DeliverError.TheVariants.{PassLimit}
 use Rattle.stack_deliver.specs.declared.passes.Phase.TheVariants as phase
-use Rattle.stack_steps.specs.Modules.{SpaceValue, AreApart}
+use Rattle.stack_steps.specs.Modules.{SpaceValue, AreApart, AreElf}
 use Rattle.stack_steps.specs.SpaceViews.{process_of}
 use Rattle.stack_deliver.specs.Resumes.{return_of}
 use Rattle.stack_deliver.specs.StateViews.{state_of, landing_of, pair_of}
@@ -32,7 +32,9 @@ use Rattle.stack_steps.proofs.ContextLemmas.{IsWhole}
 use Rattle.stack_deliver.proofs.Chains.{shown_state}
 use Rattle.stack_steps.proofs.MetFrames.{Met, met}
 use Rattle.stack_deliver.proofs.PassLines.{stop_at}
-use Rattle.stack_deliver.proofs.Turns.{action_in, pass_stops_at, pass_goes_on, pass_ends_at, call_in, returning, call_resumed, entered_shows, entered_sp, entered_rax, entered_rdx}
+use Rattle.stack_deliver.specs.Searches.{contexts_met, met_after, met_resumed, met_in_passes}
+use Rattle.stack_deliver.proofs.SearchCounts.{line_met}
+use Rattle.stack_deliver.proofs.Turns.{action_in, pass_stops_at, pass_goes_on, met_goes_on, pass_ends_at, call_in, returning, call_resumed, entered_shows, entered_sp, entered_rax, entered_rdx}
 
 -- the frame of a call's callee
 abbrev pub frame_in : State → Call → Frame
@@ -84,7 +86,7 @@ resume_same (e ∷ es) pad = go (e.0 == pad) refl (resume_same es pad)
     go true is later = rw is refl
     go false is later = rw is later
 
-module _ (space : SpaceValue) (apart : AreApart 0 space.modules) (laid : IsLaidOut 0 space.image) (functions : List Function) (are : AllByRecursion (IsFunction SystemV) functions) where
+module _ (space : SpaceValue) (apart : AreApart 0 space.modules) (laid : IsLaidOut 0 space.image) (elf : AreElf space.modules) (functions : List Function) (are : AllByRecursion (IsFunction SystemV) functions) where
   abbrev Chain : State → List Call → Type 0
   Chain s calls = IsChain space.image (IsUncovered (process_of space)) functions s calls
 
@@ -96,7 +98,7 @@ module _ (space : SpaceValue) (apart : AreApart 0 space.modules) (laid : IsLaidO
   pub search_shows : (s : State) (calls : List Call) (c : Context) (room : ℕ) → Chain s calls → Lie calls → Shows (columns_of c) s → length calls < room → SearchShows (pass_of phase.Search space room c false) s calls
   search_shows s [] c room chain lie shows less = record {
     line = record { contexts = c ∷ []; stop = None };
-    is = pass_ends_at space laid functions c s phase.Search room (omega arith) shows chain;
+    is = pass_ends_at space laid elf functions c s phase.Search room (omega arith) shows chain;
     states = (shows, tt);
     stop = tt;
   }
@@ -163,6 +165,34 @@ module _ (space : SpaceValue) (apart : AreApart 0 space.modules) (laid : IsLaidO
     goes_on (suc n) c (Ok line) = refl
     goes_on (suc n) c (Err e) = refl
 
+    -- how many contexts are met by a pass that meets so many, and by those that follow it
+    abbrev pub met_from : ℕ → ℕ → Result Line DeliverError → ℕ
+    met_from zero met r = met
+    met_from (suc n) met r = met + met_after (end_of exception kept r) (λ pad entered. met_resumed (resume_at pad entered (return_of resumes pad)) (met_in_passes space exception kept resumes limit n))
+
+    -- by passes the first of which may have another limit
+    abbrev pub met_by : ℕ → ℕ → Context → ℕ
+    met_by places room c = met_from places (contexts_met (Some phase.Cleanup) space room c false) (pass_of phase.Cleanup space room c false)
+
+    pub by_count : (places : ℕ) (c : Context) → met_in_passes space exception kept resumes limit places c ≡ met_by places limit c
+    by_count zero c = refl
+    by_count (suc n) c = refl
+
+    -- a context that a pass leaves behind is one more
+    one_more : (places met : ℕ) (c : Context) (r : Result Line DeliverError) → met_from places (suc met) (with_context c r) ≡ suc (met_from places met r)
+    one_more zero met c (Ok line) = refl
+    one_more zero met c (Err e) = refl
+    one_more (suc n) met c (Ok line) = omega arith
+    one_more (suc n) met c (Err e) = omega arith
+
+    finishes_met : (places met : ℕ) (r : Result Line DeliverError) (ending : Ending) → end_of exception kept r ≡ Ok (Finishes ending) → met_from places met r ≡ met
+    finishes_met zero met r ending e = refl
+    finishes_met (suc n) met r ending e = rw e (omega arith)
+
+    cleans_met : (n met pad ret : ℕ) (entered : Context) (r : Result Line DeliverError) → end_of exception kept r ≡ Ok (Elsewhere pad entered) → return_of resumes pad ≡ Some ret →
+        met_from (suc n) met r ≡ met + met_in_passes space exception kept resumes limit n (record entered { ra = ret })
+    cleans_met n met pad ret entered r e found = rw (e, found) refl
+
     finishes : (places : ℕ) (r : Result Line DeliverError) (ending : Ending) → end_of exception kept r ≡ Ok (Finishes ending) → from_pass places r ≡ Ok (record { trail = []; ending = ending })
     finishes zero r ending e = ap (λ x. followed x (λ pad entered. Err PassLimit)) e
     finishes (suc n) r ending e = ap (λ x. followed x (λ pad entered. resumed (cleanup_at pad entered) (resume_at pad entered (return_of resumes pad)) (passes n))) e
@@ -173,6 +203,14 @@ module _ (space : SpaceValue) (apart : AreApart 0 space.modules) (laid : IsLaidO
         ap (λ x. followed x (λ pad entered. resumed (cleanup_at pad entered) (resume_at pad entered (return_of resumes pad)) (passes n))) e
         ∙ ap (λ (o : Option ℕ). resumed (cleanup_at pad entered) (resume_at pad entered o) (passes n)) found
 
+    -- a pass that goes on at a context
+    met_past : (places room : ℕ) (c : Context) (s : State) (k : Call) (here : Met space c s k) → Shows (columns_of c) s → s.sp < 2 ^ 64 → 0 < room → stops phase.Cleanup (action_in s k) ≡ false →
+        met_by places room c ≡ suc (met_by places (room - 1) here.next.context)
+    met_past places room c s k here shows small some quiet =
+        ap (λ (m : ℕ). met_from places m (pass_of phase.Cleanup space room c false)) (met_goes_on space c s k here shows small phase.Cleanup room some quiet)
+        ∙ ap (met_from places (suc (contexts_met (Some phase.Cleanup) space (room - 1) here.next.context false))) (pass_goes_on space c s k here shows small phase.Cleanup room some quiet)
+        ∙ one_more places (contexts_met (Some phase.Cleanup) space (room - 1) here.next.context false) c (pass_of phase.Cleanup space (room - 1) here.next.context false)
+
     -- where the handler is entered
     abbrev pub lands_in : State → Action → Option Landing
     lands_in s (Catch pad) = Some (landing_at exception s pad)
@@ -180,9 +218,11 @@ module _ (space : SpaceValue) (apart : AreApart 0 space.modules) (laid : IsLaidO
     lands_in s _ = None
 
     -- the passes run the cleanups of the frames inside the one that decides, and enter its handler
-    pub record PassesShow (s : State) (calls : List Call) (f : Frame) (r : Result CleanupsRun DeliverError) : Type 0 where
+    pub record PassesShow (s : State) (calls : List Call) (f : Frame) (places room : ℕ) (c : Context) : Type 0 where
       pub passed : CleanupsRun
-      pub is : r ≡ Ok passed
+      pub is : from_pass places (pass_of phase.Cleanup space room c false) ≡ Ok passed
+      -- each frame's context is met once, and that of a cleanup's again
+      pub met : met_by places room c ≡ length (inner_frames s calls) + 1 + length passed.trail
       pub trail : map pair_of passed.trail ≡ filter_map cleanup_of (inner_frames s calls)
       pub outcome : passed.ending.outcome ≡ Installed
       pub landing : option_map landing_of passed.ending.landing ≡ lands_in f.state (action_of_frame f)
@@ -190,7 +230,7 @@ module _ (space : SpaceValue) (apart : AreApart 0 space.modules) (laid : IsLaidO
     -- a pass that stops at a pad of the frame that decides
     module _ (s : State) (k : Call) (calls : List Call) (c : Context) (room places : ℕ) (here : Met space c s k) (shows : Shows (columns_of c) s) (whole : IsWhole c) (small : s.sp < 2 ^ 64) (some : 0 < room) where
       abbrev Now : Type 0
-      Now = PassesShow s (k ∷ calls) (frame_in s k) (from_pass places (pass_of phase.Cleanup space room c false))
+      Now = PassesShow s (k ∷ calls) (frame_in s k) places room c
 
       marked_here : kept_at c false ≡ s.sp
       marked_here = let e : columns_of c 7 ≡ Some s.sp = shows.sp in cc
@@ -204,6 +244,10 @@ module _ (space : SpaceValue) (apart : AreApart 0 space.modules) (laid : IsLaidO
           ok_end : PassEnd → Result PassEnd DeliverError
           ok_end x = Ok x
 
+      -- it meets one context
+      met_once : stops phase.Cleanup (action_in s k) ≡ true → contexts_met (Some phase.Cleanup) space room c false ≡ 1
+      met_once asks = line_met (Some phase.Cleanup) space room c false _ (pass_stops_at space c s k here shows small phase.Cleanup room some asks)
+
       landed_here : (pad : ℕ) → landing_of (enters c exception pad) ≡ landing_at exception s pad
       landed_here pad =
           let state : state_of (enters c exception pad) ≡ returning s pad = shown_state (enters c exception pad) (returning s pad) (entered_shows c s exception pad shows pad) in
@@ -213,9 +257,14 @@ module _ (space : SpaceValue) (apart : AreApart 0 space.modules) (laid : IsLaidO
       lands_now pad at decided asks named lands =
           let mark : kept_at c false ≡ s.sp = marked_here in
           let same : eqb (kept_at c false) kept ≡ true = grind (arith, nat_tests) in
+          let ends : end_of exception kept (pass_of phase.Cleanup space room c false) ≡ Ok (Finishes (landed (enters c exception pad))) = ends_here pad asks named true same ∙ rw same refl in
+          let none : length (inner_frames s (k ∷ calls)) ≡ 0 = ap (λ (fs : List Frame). length fs) (before_now is_deciding (frame_in s k) (frames_of k.caller calls) decided) in
+          let one = met_once asks in
+          let all = finishes_met places (contexts_met (Some phase.Cleanup) space room c false) (pass_of phase.Cleanup space room c false) (landed (enters c exception pad)) ends in
           record {
             passed = record { trail = []; ending = landed (enters c exception pad) };
-            is = finishes places (pass_of phase.Cleanup space room c false) (landed (enters c exception pad)) (ends_here pad asks named true same ∙ rw same refl);
+            is = finishes places (pass_of phase.Cleanup space room c false) (landed (enters c exception pad)) ends;
+            met = omega arith;
             trail = sym (ap (filter_map cleanup_of) (before_now is_deciding (frame_in s k) (frames_of k.caller calls) decided));
             outcome = refl;
             landing = ap (λ (l : Landing). Some l) (landed_here pad) ∙ sym lands;
@@ -230,11 +279,11 @@ module _ (space : SpaceValue) (apart : AreApart 0 space.modules) (laid : IsLaidO
     -- the passes from the callers outwards
     abbrev Later : State → List Call → Frame → Type 0
     Later t calls f = (d : Context) (room places : ℕ) → Shows (columns_of d) t → IsWhole d → length calls < room → length calls ≤ places → deciding_frame t calls ≡ Some f → AllByRecursion (Resumes resumes) (inner_frames t calls) →
-        PassesShow t calls f (from_pass places (pass_of phase.Cleanup space room d false))
+        PassesShow t calls f places room d
 
     -- The passes from a context that shows a state of the chain, the first of which may have another limit.
     pub passes_show : (s : State) (calls : List Call) (c : Context) (room places : ℕ) (f : Frame) → Chain s calls → Lie calls → Shows (columns_of c) s → IsWhole c → length calls < room → length calls < limit → length calls ≤ places →
-        deciding_frame s calls ≡ Some f → IsTrue (accepts (action_of_frame f)) → kept ≡ f.state.sp → AllByRecursion (Resumes resumes) (inner_frames s calls) → PassesShow s calls f (from_pass places (pass_of phase.Cleanup space room c false))
+        deciding_frame s calls ≡ Some f → IsTrue (accepts (action_of_frame f)) → kept ≡ f.state.sp → AllByRecursion (Resumes resumes) (inner_frames s calls) → PassesShow s calls f places room c
     passes_show s [] c room places f chain lie shows whole less within fits decided accepted at resume = absurd cc
     passes_show s (k ∷ calls) c room places f chain lie shows whole less within fits decided accepted at resume =
         go (λ d room places shows whole less fits decided resume. passes_show k.caller calls d room places f chain.1 lie.1 shows whole less (omega arith) fits decided accepted at resume) (action_in s k) refl
@@ -265,10 +314,10 @@ module _ (space : SpaceValue) (apart : AreApart 0 space.modules) (laid : IsLaidO
         now : is_deciding (frame_in s k) ≡ true → f ≡ frame_in s k
         now asks = let e : deciding_frame s (k ∷ calls) ≡ Some (frame_in s k) = rw asks refl in some_frame f (frame_in s k) (sym decided ∙ e)
 
-        abbreviated : PassesShow s (k ∷ calls) (frame_in s k) (from_pass places (pass_of phase.Cleanup space room c false)) → f ≡ frame_in s k → PassesShow s (k ∷ calls) f (from_pass places (pass_of phase.Cleanup space room c false))
-        abbreviated shown same = subst (λ (g : Frame). PassesShow s (k ∷ calls) g (from_pass places (pass_of phase.Cleanup space room c false))) (sym same) shown
+        abbreviated : PassesShow s (k ∷ calls) (frame_in s k) places room c → f ≡ frame_in s k → PassesShow s (k ∷ calls) f places room c
+        abbreviated shown same = subst (λ (g : Frame). PassesShow s (k ∷ calls) g places room c) (sym same) shown
 
-        lands : (pad : ℕ) → is_deciding (frame_in s k) ≡ true → stops phase.Cleanup (action_in s k) ≡ true → pad_of (action_in s k) ≡ Some pad → lands_in s (action_in s k) ≡ Some (landing_at exception s pad) → PassesShow s (k ∷ calls) f (from_pass places (pass_of phase.Cleanup space room c false))
+        lands : (pad : ℕ) → is_deciding (frame_in s k) ≡ true → stops phase.Cleanup (action_in s k) ≡ true → pad_of (action_in s k) ≡ Some pad → lands_in s (action_in s k) ≡ Some (landing_at exception s pad) → PassesShow s (k ∷ calls) f places room c
         lands pad asks stopped named landing =
             let same = now asks in
             let kept_is : kept ≡ s.sp = at ∙ ap (λ (g : Frame). g.state.sp) same in
@@ -276,7 +325,7 @@ module _ (space : SpaceValue) (apart : AreApart 0 space.modules) (laid : IsLaidO
 
         -- after its cleanup the function goes on
         cleaned : Later k.caller calls f → (pad ret n : ℕ) → action_in s k ≡ Cleanup pad → is_deciding (frame_in s k) ≡ false → return_of resumes pad ≡ Some ret → ret ≢ 0 → IsTrue (in_body k.callee (ret - 1)) → action_at k.callee (ret - 1) ≡ NoAction → places ≡ suc n →
-            PassesShow s (k ∷ calls) f (from_pass places (pass_of phase.Cleanup space room c false))
+            PassesShow s (k ∷ calls) f places room c
         cleaned outer pad ret n is asks found returns inside silent room_left =
             let stopped : stops phase.Cleanup (action_in s k) ≡ true = rw is refl in
             let named : pad_of (action_in s k) ≡ Some pad = rw is refl in
@@ -287,7 +336,7 @@ module _ (space : SpaceValue) (apart : AreApart 0 space.modules) (laid : IsLaidO
             let shows_too : Shows (columns_of d) (returning s ret) = entered_shows c s exception pad shows ret in
             let again : Met space d (returning s ret) k = met space d functions (returning s ret) k apart laid (call_resumed space functions s k ret is_call returns inside) shows_too in
             let quiet : stops phase.Cleanup (action_in (returning s ret) k) ≡ false = rw silent refl in
-            let rest : PassesShow k.caller calls f (from_pass n (pass_of phase.Cleanup space (limit - 1) again.next.context false)) =
+            let rest : PassesShow k.caller calls f n (limit - 1) again.next.context =
             outer again.next.context (limit - 1) n again.shows again.whole (omega arith) (omega arith) (later asks) (resumes_inner asks).1 in
             let first : from_pass places (pass_of phase.Cleanup space room c false) ≡ with_cleanup (cleanup_at pad entered) (passes n d) =
             ap (λ (m : ℕ). from_pass m (pass_of phase.Cleanup space room c false)) room_left
@@ -295,29 +344,42 @@ module _ (space : SpaceValue) (apart : AreApart 0 space.modules) (laid : IsLaidO
             let second : passes n d ≡ Ok rest.passed =
             by_pass n d ∙ ap (from_pass n) (pass_goes_on space d (returning s ret) k again shows_too small phase.Cleanup limit (omega arith) quiet) ∙ goes_on n d (pass_of phase.Cleanup space (limit - 1) again.next.context false) ∙ rest.is in
             let cleanup : cleanup_of (frame_in s k) ≡ Some (pad, s.sp) = rw is refl in
+            let counted : met_by places room c ≡ contexts_met (Some phase.Cleanup) space room c false + met_in_passes space exception kept resumes limit n d =
+            ap (λ (m : ℕ). met_by m room c) room_left
+            ∙ cleans_met n (contexts_met (Some phase.Cleanup) space room c false) pad ret entered (pass_of phase.Cleanup space room c false) (elsewhere_now s k calls c room places here shows whole small some pad (omega arith) stopped named) found in
+            let one = met_once s k calls c room places here shows whole small some stopped in
+            let onward : met_in_passes space exception kept resumes limit n d ≡ suc (met_by n (limit - 1) again.next.context) =
+            by_count n d ∙ met_past n limit d (returning s ret) k again shows_too small (omega arith) quiet in
+            let long = ap (λ (fs : List Frame). length fs) (inner asks) in
+            let met_rest = rest.met in
             record {
               passed = record rest.passed { trail = cleanup_at pad entered ∷ rest.passed.trail };
               is = first ∙ ap (with_cleanup (cleanup_at pad entered)) second;
+              met = omega arith;
               trail = ap (λ (sp : ℕ). (pad, sp) ∷ map pair_of rest.passed.trail) (entered_sp c s exception pad shows) ∙ ap (λ (ts : List (ℕ × ℕ)). (pad, s.sp) ∷ ts) rest.trail
                   ∙ sym (ap (filter_map cleanup_of) (inner asks) ∙ ap (λ (o : Option (ℕ × ℕ)). cons_option o (filter_map cleanup_of (inner_frames k.caller calls))) cleanup);
               outcome = rest.outcome;
               landing = rest.landing;
             }
 
-        goes : Later k.caller calls f → (pad : ℕ) → action_in s k ≡ Cleanup pad → is_deciding (frame_in s k) ≡ false → (o : Option ℕ) → resume_of resumes pad ≡ o → GoesOn k.callee o → (m : ℕ) → places ≡ m → PassesShow s (k ∷ calls) f (from_pass places (pass_of phase.Cleanup space room c false))
+        goes : Later k.caller calls f → (pad : ℕ) → action_in s k ≡ Cleanup pad → is_deciding (frame_in s k) ≡ false → (o : Option ℕ) → resume_of resumes pad ≡ o → GoesOn k.callee o → (m : ℕ) → places ≡ m → PassesShow s (k ∷ calls) f places room c
         goes outer pad is asks None found on m left = absurd on
         goes outer pad is asks (Some ret) found on zero left = absurd (omega arith)
         goes outer pad is asks (Some ret) found on (suc n) left = cleaned outer pad ret n is asks (sym (resume_same resumes pad) ∙ found) on.0 on.1 on.2 left
 
-        go : Later k.caller calls f → (a : Action) → action_in s k ≡ a → PassesShow s (k ∷ calls) f (from_pass places (pass_of phase.Cleanup space room c false))
+        go : Later k.caller calls f → (a : Action) → action_in s k ≡ a → PassesShow s (k ∷ calls) f places room c
         go outer NoAction is =
             let asks : is_deciding (frame_in s k) ≡ false = rw is refl in
             let quiet : stops phase.Cleanup (action_in s k) ≡ false = rw is refl in
-            let rest : PassesShow k.caller calls f (from_pass places (pass_of phase.Cleanup space (room - 1) here.next.context false)) =
+            let rest : PassesShow k.caller calls f places (room - 1) here.next.context =
             outer here.next.context (room - 1) places here.shows here.whole (omega arith) (omega arith) (later asks) (resumes_inner asks).1 in
             let nothing : cleanup_of (frame_in s k) ≡ None = rw is refl in
+            let onward = met_past places room c s k here shows small some quiet in
+            let long = ap (λ (fs : List Frame). length fs) (inner asks) in
+            let met_rest = rest.met in
             record {
               passed = rest.passed;
+              met = omega arith;
               is = ap (from_pass places) (pass_goes_on space c s k here shows small phase.Cleanup room some quiet) ∙ goes_on places c (pass_of phase.Cleanup space (room - 1) here.next.context false) ∙ rest.is;
               trail = rest.trail ∙ sym (ap (filter_map cleanup_of) (inner asks) ∙ ap (λ (o : Option (ℕ × ℕ)). cons_option o (filter_map cleanup_of (inner_frames k.caller calls))) nothing);
               outcome = rest.outcome;

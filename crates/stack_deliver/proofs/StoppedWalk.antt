@@ -38,7 +38,7 @@ module _ (space : SpaceValue) (functions : List Function) (s : State) (call : Ca
       let short = is.shorter in
       let fewer : length calls < room = omega arith in
       let step : Undone (step_of space c true) (columns_of c) call.caller = stopped_undone space c s call apart laid is.stopped.returns is.shows functions is.stopped in
-      let rest = line_shows space apart laid functions is.described.are_functions call.caller calls step.next.context room is.described.chain is.described.described step.shows fewer in
+      let rest = line_shows space apart laid is.elf functions is.described.are_functions call.caller calls step.next.context room is.described.chain is.described.described step.shows fewer in
       let rise = chain_rises (process_of space) functions call.caller calls is.described.chain in (
         c ∷ rest.0,
         rw (step.answered, step.unmarked, rest.1) refl,

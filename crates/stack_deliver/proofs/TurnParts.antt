@@ -1,21 +1,14 @@
 -- A turn by what is asked of a frame.
-use Rattle.std.proofs.Common.{◌≡◌, ℕ, Bool, List, Option, Some, None, Result, Ok, Err, refl}
+use Rattle.std.proofs.Common.{Bool, List, Option, Some, Result}
 use Rattle.memory_image.specs.Image.{Span}
-use Rattle.unwind_definitions.specs.Row.{RowInstructions, row_at}
-use Rattle.unwind_definitions.specs.Caller.{x86_64, caller_of}
 use Rattle.unwind_definitions.specs.Function.{Action}
 use Rattle.unwind_arch.specs.declared.x86_64.Context.{Context}
-use Rattle.unwind_arch.specs.ContextViews.{columns_of, context_of}
-use Rattle.unwind_definitions.specs.Expressions.{evaluation}
-use Rattle.fde_finders.specs.Finding.{FoundFde}
 use Rattle.stack_steps.specs.declared.answers.Stepped.{Stepped}
 use Rattle.stack_steps.specs.declared.answers.DeliverError.{DeliverError}
 use Rattle.stack_deliver.specs.declared.passes.Phase.{Phase}
-use Rattle.stack_steps.specs.Modules.{SpaceValue}
 use Rattle.stack_steps.specs.Results.{◌>>=◌, result_map}
-use Rattle.stack_steps.specs.Stepping.{FrameAt, frame_by, frame_of, caller_by, caller_at, step_of}
+use Rattle.stack_steps.specs.Stepping.{FrameAt}
 use Rattle.stack_deliver.specs.Passes.{Turn, Goes, stop_by, turn_at, turn_in}
-use Rattle.stack_steps.proofs.ContextLemmas.{IsWhole, context_of-columns}
 
 -- ---- a turn
 

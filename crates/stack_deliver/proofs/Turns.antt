@@ -1,11 +1,11 @@
 -- The turn of a pass at a state of a described chain.
-use Rattle.std.proofs.Common.{◌≡◌, ◌≢◌, ℕ, zero, suc, ◌+◌, ◌-◌, ◌%◌, ◌^◌, ◌<◌, true, false, List, [], ◌∷◌, length, get_or, set, Option, Some, None, Ok, refl, ap, ◌∙◌, arith}
+use Rattle.std.proofs.Common.{◌≡◌, ◌≢◌, ℕ, zero, suc, ◌+◌, ◌-◌, ◌%◌, ◌^◌, ◌<◌, Bool, true, false, List, [], ◌∷◌, length, get_or, set, Option, Some, None, Ok, refl, ap, ◌∙◌, arith}
 use Rattle.std.specs.Prelude.{IsTrue}
 use Rattle.std.specs.List.{AllByRecursion}
 use Rattle.std.proofs.lemmas.List.{set-get_or, get_or-set_same, get_or-set_other}
 use Rattle.std.proofs.Math.ListN.{length-set}
 use Rattle.memory_image.specs.Image.{IsLaidOut}
-use Rattle.unwind_definitions.specs.Row.{argument_size}
+use Rattle.stack_steps.specs.Asking.{arguments_of}
 use Rattle.unwind_definitions.specs.State.{CalleeSaved, RBX, RBP, R12, R13, R14, R15, State, IsState, value_of, column_of, Shows}
 use Rattle.unwind_definitions.specs.Prologue.{SystemV, steps_of}
 use Rattle.unwind_definitions.specs.Entered.{IsEntered}
@@ -17,26 +17,28 @@ use Rattle.unwind_laws.proofs.Booleans as lists
 use Rattle.unwind_arch.specs.declared.x86_64.Context.{Context}
 use Rattle.unwind_arch.specs.ContextViews.{columns_of}
 use Rattle.stack_deliver.specs.declared.passes.Phase.{Phase}
-use Rattle.stack_steps.specs.Modules.{SpaceValue}
+use Rattle.stack_steps.specs.Modules.{AreElf, SpaceValue}
 use Rattle.stack_steps.specs.SpaceViews.{process_of}
 use Rattle.stack_steps.specs.Undoing.{IsDescribedCall}
 use Rattle.stack_deliver.specs.Passes.{stops, past_arguments, Stops, Goes, turn_of, with_context, pass_of, enters, turn_for}
+use Rattle.stack_deliver.specs.Searches.{contexts_met}
 use Rattle.stack_steps.proofs.ContextLemmas.{IsWhole}
 use Rattle.stack_deliver.proofs.LineShows.{ends}
 use Rattle.stack_steps.proofs.MetFrames.{Met}
 use Rattle.stack_deliver.proofs.PassLines.{stop_at}
+use Rattle.stack_deliver.proofs.SearchCounts.{met_beyond}
 
 abbrev pub action_in : State → Call → Action
 action_in s k = action_at k.callee (s.ra - 1)
 
 module _ (space : SpaceValue) (c : Context) (s : State) (k : Call) (m : Met space c s k) (shows : Shows (columns_of c) s) (small : s.sp < 2 ^ 64) where
   -- a frame without arguments is entered with its own registers
-  past_same : past_arguments c (argument_size m.frame.run) ≡ c
+  past_same : past_arguments c (arguments_of m.frame) ≡ c
   past_same =
       let e : columns_of c 7 ≡ Some s.sp = shows.sp in
       let sp : get_or c.registers 7 0 ≡ s.sp = cc in
-      let none : argument_size m.frame.run ≡ 0 = m.no_arguments in
-      let v : (get_or c.registers 7 0 + argument_size m.frame.run) % 2 ^ 64 ≡ get_or c.registers 7 0 = omega arith in
+      let none : arguments_of m.frame ≡ 0 = m.no_arguments in
+      let v : (get_or c.registers 7 0 + arguments_of m.frame) % 2 ^ 64 ≡ get_or c.registers 7 0 = omega arith in
       ap (λ (n : ℕ). record c { registers = set c.registers 7 n }) v ∙ ap (λ (registers : List ℕ). record c { registers = registers }) (set-get_or c.registers 7 0)
 
   pub met_stops : (p : Phase) → stops p (action_in s k) ≡ true → turn_of p space c false ≡ Ok (Stops (action_in s k) c)
@@ -57,15 +59,21 @@ module _ (space : SpaceValue) (c : Context) (s : State) (k : Call) (m : Met spac
   pass_goes_on p zero some asks = absurd (omega arith)
   pass_goes_on p (suc n) some asks = let less : suc n - 1 ≡ n = omega arith in rw (less, met_goes p asks, m.unmarked) refl
 
+  -- and meets one context more than from there on
+  pub met_goes_on : (p : Phase) (room : ℕ) → 0 < room → stops p (action_in s k) ≡ false → contexts_met (Some p) space room c false ≡ suc (contexts_met (Some p) space (room - 1) m.next.context false)
+  met_goes_on p room some asks =
+      met_beyond (Some p) space room (room - 1) c false m.next (omega arith) (met_goes p asks)
+      ∙ ap (λ (marked : Bool). suc (contexts_met (Some p) space (room - 1) m.next.context marked)) m.unmarked
+
 -- ---- the end of the stack
 
 -- a pass ends there
-pub pass_ends_at : (space : SpaceValue) → IsLaidOut 0 space.image → (functions : List Function) (c : Context) (s : State) (p : Phase) (room : ℕ) → 0 < room → Shows (columns_of c) s → IsEnd space.image (IsUncovered (process_of space)) functions s →
+pub pass_ends_at : (space : SpaceValue) → IsLaidOut 0 space.image → AreElf space.modules → (functions : List Function) (c : Context) (s : State) (p : Phase) (room : ℕ) → 0 < room → Shows (columns_of c) s → IsEnd space.image (IsUncovered (process_of space)) functions s →
     pass_of p space room c false ≡ Ok (record { contexts = c ∷ []; stop = None })
 unfolding turn_for
-pass_ends_at space laid functions c s p zero some shows end = absurd (omega arith)
-pass_ends_at space laid functions c s p (suc n) some shows end =
-    rw (ends space laid functions c s shows end) refl
+pass_ends_at space laid elf functions c s p zero some shows end = absurd (omega arith)
+pass_ends_at space laid elf functions c s p (suc n) some shows end =
+    rw (ends space laid elf functions c s shows end) refl
 
 -- ---- calls of a chain
 

@@ -1,10 +1,10 @@
 -- Why a delivery is refused, and how it ends, in the words of its answers.
-use Rattle.std.specs.Prelude.{◌≡◌, ◌⊎◌, ℕ, zero, suc, ◌<◌, Bool, false, List, Some, None, Ok, Err}
+use Rattle.std.specs.Prelude.{◌≡◌, ◌⊎◌, ℕ, zero, suc, ◌<◌, Bool, true, false, List, Result, Some, None, Ok, Err}
 use Rattle.unwind_arch.specs.declared.x86_64.Context.{Context}
 use Rattle.stack_deliver.specs.declared.answers.Outcome.{Outcome}
 use Rattle.stack_deliver.specs.declared.answers.Outcome.TheVariants.{Installed, EndOfStack, FatalPhase1, FatalPhase2}
 use Rattle.stack_steps.specs.declared.answers.DeliverError.{DeliverError}
-use Rattle.stack_steps.specs.declared.answers.DeliverError.TheVariants.{NoMemory, Unmapped, FrameLimit, PassLimit, NoResume, Table}
+use Rattle.stack_steps.specs.declared.answers.DeliverError.TheVariants.{NoMemory, Unmapped, FrameLimit, PassLimit, NoResume, Table, MachO, CompactHandler, CompactForm, PeInfo, PeHandler, ChainLimit}
 use Rattle.stack_steps.specs.Modules.{SpaceValue}
 use Rattle.stack_deliver.specs.Resumes.{return_of}
 use Rattle.stack_steps.specs.Asking.{action_asked}
@@ -14,7 +14,11 @@ use Rattle.unwind_definitions.specs.Function.{Action, Terminate}
 use Rattle.unwind_definitions.specs.LanguageSearch.{personality_address, address_of_call, language_action}
 use Rattle.stack_steps.specs.declared.answers.Stepped.{Stepped}
 use Rattle.stack_deliver.specs.declared.passes.Phase.{Phase}
-use Rattle.stack_steps.specs.Stepping.{FrameAt, frame_of, step_of, refusal_of}
+use Rattle.memory_image.specs.Image.{Span}
+use Rattle.pe_unwind_info.specs.declared.x86_64.fault.FrameFault.{FrameFault}
+use Rattle.format_definitions.specs.PeImage.{memory_of}
+use Rattle.format_frames.specs.Handlers.{has_language_table, handler_in}
+use Rattle.stack_steps.specs.Stepping.{FrameAt, DescribedFrame, Described, Compact, Recorded, frame_of, step_of, refusal_of, frame_refusal}
 use Rattle.stack_deliver.specs.declared.passes.Phase.TheVariants as phase
 
 -- ---- what a pass comes to: where the stack ends, what is asked of a frame, and what can't be read
@@ -23,7 +27,7 @@ use Rattle.stack_deliver.specs.declared.passes.Phase.TheVariants as phase
 pub record Asks (space : SpaceValue) (c : Context) (interrupted : Bool) (action : Action) : Type 0 where
   pub frame : FrameAt
   pub framed : frame_of space c interrupted ≡ Ok (Some frame)
-  pub asked : action_asked space.image c interrupted frame.found ≡ Ok action
+  pub asked : action_asked space.image c interrupted frame ≡ Ok action
 
 -- the frame at a context asks for nothing for which a pass stops, and this is its caller
 pub record GoesTo (p : Phase) (space : SpaceValue) (c : Context) (interrupted : Bool) (next : Stepped) : Type 0 where
@@ -32,10 +36,11 @@ pub record GoesTo (p : Phase) (space : SpaceValue) (c : Context) (interrupted : 
   pub silent : stops p action ≡ false
   pub caller : step_of space c interrupted ≡ Ok (Some next)
 
--- the frame at a context names a personality, and its language table asks to end the program, or can't be read
+-- the frame at a context is by a description, which names a personality, and its language table asks to end the program, or can't
+-- be read
 pub record EndsProgram (space : SpaceValue) (c : Context) (interrupted : Bool) : Type 0 where
-  pub frame : FrameAt
-  pub framed : frame_of space c interrupted ≡ Ok (Some frame)
+  pub frame : DescribedFrame
+  pub framed : frame_of space c interrupted ≡ Ok (Some (Described frame))
   pub routine : ℕ
   pub named : personality_address space.image frame.found.fde ≡ Ok (Some routine)
   pub fatal : (language_action space.image frame.found.bases frame.found.fde (address_of_call c.ra interrupted) ≡ Ok Terminate) ⊎
@@ -52,12 +57,24 @@ pub record AsksForPad (space : SpaceValue) (c : Context) (interrupted : Bool) : 
 abbrev pub StackEnds : SpaceValue → Context → Bool → Type 0
 StackEnds space c interrupted = step_of space c interrupted ≡ Ok None
 
--- What can't be read at a context: the row of its frame, what names the personality of the frame, or, where nothing is asked for
--- which the pass stops, the caller.
+-- unwind records name a handler, or can't all be read
+abbrev pub RecordsRefused : DeliverError → Result Bool FrameFault → Type 0
+RecordsRefused e (Ok named) = (named ≡ true) × (e ≡ PeHandler)
+RecordsRefused e (Err fault) = e ≡ frame_refusal fault
+
+-- What names the personality of a frame can't be read; or the opcode of a Mach-O frame, or an unwind record of a PE frame, names a
+-- handler, which isn't asked.
+abbrev pub HandlerRefused : DeliverError → List Span → FrameAt → Type 0
+HandlerRefused e image (Described f) = (fault : StepFault) × (personality_address image f.found.fde ≡ Err fault) × (e ≡ refusal_of fault)
+HandlerRefused e image (Compact m a listed) = (has_language_table listed ≡ true) × (e ≡ CompactHandler)
+HandlerRefused e image (Recorded m rva function) = RecordsRefused e (handler_in (memory_of image m.base) function)
+
+-- What can't be read at a context: what is found there, its row among it, what names the handler of the frame, or, where nothing is
+-- asked for which the pass stops, the caller.
 abbrev pub CantRead : Phase → DeliverError → SpaceValue → Context → Bool → Type 0
 CantRead p e space c interrupted =
     (frame_of space c interrupted ≡ Err e) ⊎
-    ((f : FrameAt) × (fault : StepFault) × (frame_of space c interrupted ≡ Ok (Some f)) × (personality_address space.image f.found.fde ≡ Err fault) × (e ≡ refusal_of fault)) ⊎
+    ((f : FrameAt) × (frame_of space c interrupted ≡ Ok (Some f)) × HandlerRefused e space.image f) ⊎
     ((action : Action) × Asks space c interrupted action × (stops p action ≡ false) × (step_of space c interrupted ≡ Err e))
 
 -- ---- from a context outwards
@@ -142,6 +159,12 @@ IsRefused space c exception resumes limit PassLimit = InPasses space c exception
 IsRefused space c exception resumes limit (NoResume pad) = InPasses space c exception resumes limit (λ kept. HasNoReturn space exception kept resumes limit pad)
 IsRefused space c exception resumes limit (Unmapped a) = MeetFault space c exception resumes limit (Unmapped a)
 IsRefused space c exception resumes limit (Table e) = MeetFault space c exception resumes limit (Table e)
+IsRefused space c exception resumes limit (MachO e) = MeetFault space c exception resumes limit (MachO e)
+IsRefused space c exception resumes limit CompactHandler = MeetFault space c exception resumes limit CompactHandler
+IsRefused space c exception resumes limit CompactForm = MeetFault space c exception resumes limit CompactForm
+IsRefused space c exception resumes limit PeInfo = MeetFault space c exception resumes limit PeInfo
+IsRefused space c exception resumes limit PeHandler = MeetFault space c exception resumes limit PeHandler
+IsRefused space c exception resumes limit ChainLimit = MeetFault space c exception resumes limit ChainLimit
 
 -- How a delivery ends, by its outcome.
 abbrev pub EndsBy : SpaceValue → Context → ℕ → List (ℕ × ℕ) → ℕ → Outcome → Type 0

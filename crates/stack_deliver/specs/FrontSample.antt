@@ -3,6 +3,7 @@ use Rattle.std.specs.Prelude.{ℕ, List, [], ◌∷◌, ◌++◌, replicate, Non
 use Rattle.unwind_arch.specs.declared.x86_64.Context.{Context}
 use Rattle.fde_finders.specs.declared.custom.FrameInfoKind.TheVariants.{EhFrame}
 use Rattle.stack_steps.specs.declared.space.Module.{Module}
+use Rattle.stack_steps.specs.declared.space.ModuleTables.TheVariants.{Elf}
 use Rattle.stack_steps.specs.Modules.{SpaceValue, unprepared}
 
 -- stopped after a call that returns to an address
@@ -13,7 +14,7 @@ abbrev pub nowhere : SpaceValue
 nowhere = record { image = []; modules = []; added = [] }
 
 abbrev pub module_there : Module
-module_there = record { start = 0x1000; end = 0x1010; frame = record { text_base = None; kind = EhFrame 0x2000 } }
+module_there = record { start = 0x1000; end = 0x1010; tables = Elf (record { text_base = None; kind = EhFrame 0x2000 }) }
 
 -- a module at 0x1000, whose frame table has these bytes
 abbrev pub held_by : List ℕ → SpaceValue

@@ -1,5 +1,5 @@
 -- How far a walk comes, and why it ends there.
-use Rattle.std.specs.Prelude.{◌≡◌, ◌≢◌, ◌⊎◌, ℕ, zero, suc, Bool, List, [], ◌∷◌, Option, Some, None, Result, Ok, Err}
+use Rattle.std.specs.Prelude.{◌≡◌, ◌≢◌, ◌⊎◌, ℕ, zero, suc, ◌-◌, Bool, List, [], ◌∷◌, Option, Some, None, Result, Ok, Err}
 use Rattle.memory_image.specs.Image.{Span}
 use Rattle.unwind_definitions.specs.declared.error.Error.{Error as Fault}
 use Rattle.unwind_definitions.specs.Input.{Input}
@@ -19,8 +19,12 @@ use Rattle.stack_deliver.specs.declared.front.Front.{Front}
 use Rattle.stack_deliver.specs.declared.front.Front.TheVariants.{Outermost, NoModule, NoDescription, UnreadableTable, Refused, Limit}
 use Rattle.stack_deliver.specs.declared.passes.Phase.{Phase}
 use Rattle.stack_steps.specs.declared.space.Module.{Module}
+use Rattle.stack_steps.specs.declared.space.ModuleTables.{ModuleTables}
+use Rattle.stack_steps.specs.declared.space.ModuleTables.TheVariants.{Elf, Macho, Pe}
+use Rattle.format_definitions.specs.CompactStep.{MachoModule}
+use Rattle.format_frames.specs.Refusals.{function_at}
 use Rattle.stack_steps.specs.Modules.{SpaceValue, module_at}
-use Rattle.stack_steps.specs.Stepping.{step_of}
+use Rattle.stack_steps.specs.Stepping.{macho_of, step_of}
 use Rattle.stack_deliver.specs.StackDelivery.{NeedsMore}
 use Rattle.stack_deliver.specs.Passes.{Turn, Ends, Stops, Goes, turn_for}
 use Rattle.stack_deliver.specs.PassViews.{AreVisited}
@@ -100,6 +104,17 @@ abbrev pub IsUndescribed : List Span → Option ℕ → FrameInfoKind → ℕ �
 IsUndescribed image text (EhFrame frame) a why = IsUndescribedIn (table_bases text frame) (input_at image frame) a why
 IsUndescribed image text (EhFrameHdr header) a why = IsUnlisted (relative_to text None) image header a why
 
+-- A section of compact unwinding lists no function at an address.
+abbrev pub IsUnlistedIn : List Span → MachoModule → ℕ → Front → Type 0
+IsUnlistedIn image m a (NoDescription b) = (b ≡ a) × (function_at image m (a - m.base) ≡ Ok None)
+IsUnlistedIn image m a _ = ⊥
+
+-- by the tables of the module that holds it; in a PE module an address without a record is one of a leaf
+abbrev pub IsUnknownIn : List Span → Module → ModuleTables → ℕ → Front → Type 0
+IsUnknownIn image m (Elf tables) a why = IsUndescribed image tables.text_base tables.kind a why
+IsUnknownIn image m (Macho tables) a why = IsUnlistedIn image (macho_of m tables) a why
+IsUnknownIn image m (Pe tables) a why = ⊥
+
 -- no module holds an address
 abbrev pub IsUnheld : ℕ → Front → Type 0
 IsUnheld a (NoModule b) = b ≡ a
@@ -108,7 +123,7 @@ IsUnheld a _ = ⊥
 -- why nothing is known of an address, by the module that holds it
 abbrev pub IsUnknown : List Span → Option Module → ℕ → Front → Type 0
 IsUnknown image None a why = IsUnheld a why
-IsUnknown image (Some m) a why = IsUndescribed image m.frame.text_base m.frame.kind a why
+IsUnknown image (Some m) a why = IsUnknownIn image m m.tables a why
 
 -- Why a walk goes no further than a context: its return address is 0; or it isn't, but the stack ends, since nothing is known of
 -- the address asked; or its step has a fault.

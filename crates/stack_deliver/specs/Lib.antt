@@ -5,5 +5,6 @@ pub mod Fronts
 pub mod Passes
 pub mod PassViews
 pub mod Resumes
+pub mod Searches
 pub mod StateViews
 pub mod Walking

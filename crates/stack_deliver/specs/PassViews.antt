@@ -1,22 +1,12 @@
 -- What the code of a pass answers, in the words of the definitions.
 use Rattle.std.specs.Prelude.{◌≡◌, ◌++◌, ◌∷◌, [], Bool, true, false, List, Option, Some, None, Result, Ok, Err}
 use Rattle.std.specs.Option.{option_map}
-use Rattle.frame_rows.specs.Rows.{IsRowOf}
 use Rattle.unwind_arch.specs.declared.x86_64.Context.{Context}
-use Rattle.frame_rows.specs.RowValue.{RowValue}
-use Rattle.unwind_definitions.specs.declared.error.Error.{Error as Fault}
-use Rattle.unwind_definitions.specs.Row.{RowInstructions}
-use Rattle.encoded_pointers.specs.PointerViews.{bases_of}
-use Rattle.eh_frame.specs.EntryViews.{table_of}
-use Rattle.fde_finders.specs.FoundViews.{answered}
-use Rattle.fde_finders.specs.Finding.{FoundFde}
 use Rattle.unwinding_frames.specs.LanguageViews.{action_of}
 use Rattle.stack_steps.specs.declared.answers.DeliverError.{DeliverError}
 use Rattle.stack_deliver.specs.declared.answers.Ending.{Ending}
 use Rattle.stack_deliver.specs.declared.answers.Trail.{Trail}
 use Rattle.stack_steps.specs.declared.answers.Stepped.{Stepped}
-use Rattle.stack_steps.specs.declared.stepping.FoundFrame.{FoundFrame}
-use Rattle.stack_steps.specs.declared.stepping.FoundFrame.TheVariants.{Searched, Prepared}
 use Rattle.stack_deliver.specs.declared.passes.Phase.{Phase}
 use Rattle.stack_deliver.specs.declared.passes.Phase.TheVariants as phase
 use Rattle.stack_deliver.specs.declared.passes.Pass.{Pass}
@@ -24,7 +14,6 @@ use Rattle.stack_deliver.specs.declared.passes.Pass.TheVariants as pass
 use Rattle.stack_deliver.specs.declared.passes.Stop.{Stop as CodeStop}
 use Rattle.stack_deliver.specs.declared.passes.Turn.{Turn as CodeTurn}
 use Rattle.stack_deliver.specs.declared.passes.Turn.TheVariants as code
-use Rattle.stack_steps.specs.Stepping.{FrameAt}
 use Rattle.stack_deliver.specs.Passes.{Line, CleanupsRun, PassEnd, Finishes, Elsewhere, Stop, Turn, Ends, Stops, Goes, past_arguments}
 use Rattle.stack_deliver.specs.Walking.{RoomValue}
 

@@ -2,14 +2,10 @@
 -- way to it. Itanium C++ ABI, exception handling, level I, section 1.3.
 use Rattle.std.specs.Prelude.{ℕ, zero, suc, ◌+◌, ◌-◌, ◌%◌, ◌^◌, ◌==◌, Bool, true, false, List, [], ◌∷◌, Option, Some, None, Result, Ok, Err, slice_index, slice_set, if◌then◌else◌}
 use Rattle.memory_image.specs.Image.{Span}
-use Rattle.unwind_definitions.specs.Row.{argument_size}
-use Rattle.unwind_definitions.specs.Caller.{StepFault}
-use Rattle.unwind_definitions.specs.Function.{Action, NoAction, Cleanup, Catch, Filter, Terminate}
+use Rattle.unwind_definitions.specs.Function.{Action, NoAction, Cleanup, Catch, Filter}
 use Rattle.unwind_definitions.specs.Delivery.{decides}
-use Rattle.unwind_definitions.specs.LanguageSearch.{personality_address, address_of_call, language_action}
 use Rattle.unwind_arch.specs.declared.x86_64.Context.{Context}
 use Rattle.unwind_arch.specs.Columns.{rax, rdx, rsp}
-use Rattle.fde_finders.specs.Finding.{FoundFde}
 use Rattle.stack_steps.specs.declared.answers.Stepped.{Stepped}
 use Rattle.stack_deliver.specs.declared.answers.Trail.{Trail}
 use Rattle.stack_deliver.specs.declared.answers.Ending.{Ending}
@@ -21,8 +17,8 @@ use Rattle.stack_deliver.specs.declared.passes.Phase.TheVariants as phase
 use Rattle.stack_steps.specs.Modules.{SpaceValue}
 use Rattle.stack_deliver.specs.Resumes.{return_of}
 use Rattle.stack_steps.specs.Results.{◌>>=◌, result_map}
-use Rattle.stack_steps.specs.Asking.{action_asked}
-use Rattle.stack_steps.specs.Stepping.{FrameAt, frame_of, caller_by, refusal_of}
+use Rattle.stack_steps.specs.Asking.{action_asked, arguments_of}
+use Rattle.stack_steps.specs.Stepping.{FrameAt, frame_of, caller_by}
 
 -- ---- a pass
 
@@ -55,21 +51,21 @@ abbrev pub stop_by : Phase → Action → Option Action
 stop_by p action = if stops p action then Some action else None
 
 -- For which action a frame stops who goes outwards: a walk, which has no phase, for none, and a pass for what the frame asks.
-abbrev pub stop_of : Option Phase → List Span → Context → Bool → FoundFde → Result (Option Action) DeliverError
-stop_of None image c interrupted found = Ok None
-stop_of (Some p) image c interrupted found = result_map (stop_by p) (action_asked image c interrupted found)
+abbrev pub stop_of : Option Phase → List Span → Context → Bool → FrameAt → Result (Option Action) DeliverError
+stop_of None image c interrupted f = Ok None
+stop_of (Some p) image c interrupted f = result_map (stop_by p) (action_asked image c interrupted f)
 
 -- at a frame: it stops there for an action, or its caller is next
 abbrev pub turn_at : List Span → Context → FrameAt → Option Action → Result Turn DeliverError
 turn_at image c f None = result_map Goes (caller_by image c f)
-turn_at image c f (Some action) = Ok (Stops action (past_arguments c (argument_size f.run)))
+turn_at image c f (Some action) = Ok (Stops action (past_arguments c (arguments_of f)))
 
 abbrev pub turn_in : Option Phase → List Span → Context → Bool → Option FrameAt → Result Turn DeliverError
 turn_in phase image c interrupted None = Ok Ends
-turn_in phase image c interrupted (Some f) = stop_of phase image c interrupted f.found >>= turn_at image c f
+turn_in phase image c interrupted (Some f) = stop_of phase image c interrupted f >>= turn_at image c f
 
--- A walk or a pass at a context. The row is read first, then what names the personality, then the language table, and the caller
--- last.
+-- A walk or a pass at a context. What is found there is read first, a row among it, then what names the handler, then the language
+-- table, and the caller last.
 unfoldable pub turn_for : Option Phase → SpaceValue → Context → Bool → Result Turn DeliverError
 turn_for phase space c interrupted = frame_of space c interrupted >>= turn_in phase space.image c interrupted
 

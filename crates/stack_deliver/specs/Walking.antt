@@ -1,24 +1,20 @@
 -- What a walk and a delivery leave in a room, and why they are refused.
-use Rattle.std.specs.Prelude.{◌≡◌, ◌⊎◌, ℕ, zero, suc, ◌<◌, Bool, List, length, Result, Ok, Err, Some, false, [], ◌∷◌, Option, IsTrue}
-use Rattle.unwind_definitions.specs.State.{State, Shows, IsState, KeepsOthers}
-use Rattle.unwind_definitions.specs.Function.{Function, IsFunction}
-use Rattle.unwind_definitions.specs.Chain.{Call, states_of, StacksRise, IsCalled}
-use Rattle.unwind_definitions.specs.Valid.{IsDescribedChain, IsValid, LiesDescribed}
+use Rattle.std.specs.Prelude.{◌≡◌, ◌⊎◌, ℕ, zero, suc, ◌<◌, Bool, List, length, Result, Ok, Err, Some, [], ◌∷◌}
+use Rattle.unwind_definitions.specs.State.{State, Shows}
+use Rattle.unwind_definitions.specs.Function.{Function}
+use Rattle.unwind_definitions.specs.Chain.{Call, states_of, StacksRise}
+use Rattle.unwind_definitions.specs.Valid.{IsDescribedChain, IsValid}
 use Rattle.unwind_arch.specs.declared.x86_64.Context.{Context}
 use Rattle.unwind_arch.specs.ContextViews.{columns_of}
 use Rattle.stack_deliver.specs.declared.answers.Trail.{Trail}
 use Rattle.stack_steps.specs.declared.answers.Stepped.{Stepped}
 use Rattle.stack_deliver.specs.declared.answers.Ending.{Ending}
 use Rattle.stack_steps.specs.declared.answers.DeliverError.{DeliverError}
-use Rattle.stack_steps.specs.Modules.{SpaceValue}
+use Rattle.stack_steps.specs.Modules.{AreElf, SpaceValue}
 use Rattle.stack_steps.specs.SpaceViews.{process_of}
 use Rattle.stack_steps.specs.Stepping.{step_of}
 use Rattle.stack_deliver.specs.StackDelivery.{DeliveryValue}
 use Rattle.stack_deliver.specs.StateViews.{delivery_shown}
-use Rattle.std.specs.List.{Contains}
-use Rattle.unwind_definitions.specs.Caller.{Columns}
-use Rattle.unwind_definitions.specs.Prologue.{SystemV}
-use Rattle.unwind_definitions.specs.Module.{Process}
 use Rattle.unwind_definitions.specs.Delivery as described
 
 -- ---- what contexts show
@@ -57,10 +53,11 @@ abbrev pub StepFails : SpaceValue → ℕ → Context → Bool → DeliverError 
 StepFails space zero c interrupted e = ⊥
 StepFails space (suc room) c interrupted e = (step_of space c interrupted ≡ Err e) ⊎ ((s : Stepped) × (step_of space c interrupted ≡ Ok (Some s)) × StepFails space room s.context s.signal e)
 
--- A context shows the innermost state of a chain of calls that is shorter than the limit. The tables that modules name, frame
--- tables or headers of them, describe the functions of the chain.
+-- A context shows the innermost state of a chain of calls that is shorter than the limit. All modules are ELF modules, and the
+-- tables that they name, frame tables or headers of them, describe the functions of the chain.
 pub record StartsChain (space : SpaceValue) (c : Context) (limit : ℕ) (functions : List Function) (s : State) (calls : List Call) : Type 0 where
   pub described : IsDescribedChain (process_of space) functions s calls
+  pub elf : AreElf space.modules
   pub shows : Shows (columns_of c) s
   pub shorter : length calls < limit
 
@@ -69,10 +66,11 @@ pub record ShowChain (cs : List Context) (s : State) (calls : List Call) : Type 
   pub states : EachShows cs (states_of s calls)
   pub rise : StacksRise (states_of s calls)
 
--- The same of a delivery: every module describes its part of the functions, and where a handler takes the exception, the
+-- The same of a delivery: every module is an ELF module and describes its part of the functions, and where a handler takes the exception, the
 -- resume table says where each frame inside it goes on after its cleanup.
 pub record StartsValidChain (space : SpaceValue) (c : Context) (resumes : List (ℕ × ℕ)) (limit : ℕ) (functions : List Function) (s : State) (calls : List Call) : Type 0 where
   pub valid : IsValid (process_of space) (columns_of c) resumes functions s calls
+  pub elf : AreElf space.modules
   pub shorter : length calls < limit
 
 -- what a delivery did is what the definition says of a chain of calls

@@ -1,13 +1,16 @@
 // The delivery of an exception: the states from the start outwards.
-ghost use Rattle.std.specs.Prelude.{◌≡◌, ◌≢◌, ◌+◌, ◌*◌, ◌⊎◌, ◌↔◌, ◌≤◌, ℕ, List, [], None, Err, length, IsOkAnd, OnErr};
+ghost use Rattle.std.specs.Prelude.{◌≡◌, ◌≢◌, ◌+◌, ◌*◌, ◌⊎◌, ◌↔◌, ◌≤◌, ℕ, List, [], None, Err};
+ghost use Rattle.std.specs.Prelude.{length, IsOkAnd, OnErr};
 ghost use Rattle.memory_image.specs.Image.{word_at};
 ghost use Rattle.unwind_definitions.specs.State.{State};
 ghost use Rattle.unwind_definitions.specs.Function.{Function};
 ghost use Rattle.unwind_definitions.specs.Chain.{Call};
 ghost use Rattle.stack_deliver.specs.Causes.{IsRefused, EndsBy};
+ghost use Rattle.stack_deliver.specs.Searches.{HasOneHeader, met_in_delivery};
 ghost use Rattle.stack_deliver.specs.StackDelivery.{GivesUnlessNoMemory, stack_delivery};
 ghost use Rattle.stack_steps.specs.Ticking.{RisesWithin};
-ghost use Rattle.stack_deliver.specs.Walking.{StartsValidChain, ShowsDelivery, IsDelivered, delivered_in};
+ghost use Rattle.stack_deliver.specs.Walking.{StartsValidChain, ShowsDelivery, IsDelivered};
+ghost use Rattle.stack_deliver.specs.Walking.{delivered_in};
 
 use crate::answers::{Delivery, Ending, Outcome};
 use crate::passes::{Phase, outwards, passes};
@@ -35,7 +38,9 @@ fn delivered<L: Ledger>(
     ensures exact { IsDelivered result room.new
         (stack_delivery space.now start exception resumes.now limit) }
     ensures places { room.new.limit ≡ room.old.limit }
-    ensures ticks { RisesWithin space.now ((limit + 2) * limit) steps.old.number steps.new.number }
+    ensures ticks { RisesWithin space.now
+        (met_in_delivery space.now start exception resumes.now limit)
+        steps.old.number steps.new.number }
 {
     let mut rows = RowRoom::new();
     let mut state = Stepped {
@@ -78,7 +83,9 @@ fn emptied<L: Ledger>(
     ensures emptied { OnErr result ((room.new.visited ≡ []) × (room.new.trail ≡ [])) }
     ensures places { room.new.limit ≡ room.old.limit }
     ensures whole { length start.registers ≡ 16 }
-    ensures ticks { RisesWithin space.now ((limit + 2) * limit) steps.old.number steps.new.number }
+    ensures ticks { RisesWithin space.now
+        (met_in_delivery space.now start exception resumes.now limit)
+        steps.old.number steps.new.number }
 {
     room.clear();
     match delivered(space, start, exception, resumes, limit, room, steps) {
@@ -99,7 +106,8 @@ fn without_landing(outcome: Outcome) -> Ending
     }
 }
 
-/// GivesUnlessNoMemory an exception to the stack whose innermost frame has the registers `start`, into a room.
+/// Delivers an exception to the stack whose innermost frame has the registers `start`, into a
+/// room.
 ///
 /// The room is emptied first. A search visits states from the start outwards, and each is put into
 /// the room. Of a frame whose description names a personality, whichever, the language table is
@@ -153,9 +161,27 @@ pub fn deliver_into<L: Ledger>(
     ensures chain { (functions : List Function) (s : State) (calls : List Call) →
         StartsValidChain space.now start.now resumes.now limit functions s calls →
         IsOkAnd result (λ ending. ShowsDelivery (delivered_in room.new ending) exception s calls) }
-    // The search and at most one pass more than the limit, each through as many states as the limit
-    // allows.
+    // Each state that the search or a pass meets is searched for at most once.
+    ensures searches { RisesWithin space.now
+        (met_in_delivery space.now start.now exception resumes.now limit)
+        steps.old.number steps.new.number }
+    // These are the search and at most one pass more than the limit, each through as many states as
+    // the limit allows.
     ensures ticks { RisesWithin space.now ((limit + 2) * limit) steps.old.number steps.new.number }
+    // Over a valid chain each visited state is met by the search and by one pass at most, and the
+    // state of each cleanup by the pass after it too.
+    ensures chain_searches { (functions : List Function) (s : State) (calls : List Call) →
+        StartsValidChain space.now start.now resumes.now limit functions s calls →
+        RisesWithin space.now (2 * length room.new.visited + length room.new.trail)
+        steps.old.number steps.new.number }
+    // In one module that names a header a search takes as many steps as the number of the header's
+    // pairs has binary digits, whether the module is prepared or not.
+    ensures chain_ticks { (functions : List Function) (s : State) (calls : List Call)
+        (digits : ℕ) →
+        StartsValidChain space.now start.now resumes.now limit functions s calls →
+        HasOneHeader space.now digits →
+        steps.new.number ≤ steps.old.number
+        + (2 * length room.new.visited + length room.new.trail) * digits }
 {
     // It is for languages that tell their own exceptions from those of others.
     let _ = class;
@@ -164,7 +190,7 @@ pub fn deliver_into<L: Ledger>(
     emptied(space, *start, exception, resumes, limit, room, steps)
 }
 
-/// GivesUnlessNoMemory an exception to the stack whose innermost frame has the registers `start`.
+/// Delivers an exception to the stack whose innermost frame has the registers `start`.
 ///
 /// It is `deliver_into` over a room of `limit` places, which is reserved for it and not filled.
 ///

@@ -1,5 +1,6 @@
 // How far a walk comes, and why it ends there.
-ghost use Rattle.std.specs.Prelude.{◌≡◌, ◌≢◌, ◌≤◌, ◌↔◌, ℕ, suc, List, [], Ok, Err, false, None, length, take};
+ghost use Rattle.std.specs.Prelude.{◌≡◌, ◌≢◌, ◌≤◌, ◌↔◌, ℕ, suc, List, [], Ok, Err, false, None};
+ghost use Rattle.std.specs.Prelude.{length, take};
 ghost use Rattle.memory_image.specs.Image.{table_at};
 ghost use Rattle.unwind_definitions.specs.declared.error.Error.{Error as Fault};
 ghost use Rattle.unwind_definitions.specs.Scan.{scan};
@@ -7,9 +8,11 @@ ghost use Rattle.unwind_arch.specs.declared.x86_64.Context.{Context};
 ghost use Rattle.eh_frame.specs.Listing.{listing_of};
 ghost use Rattle.fde_finders.specs.Finding.{table_bases};
 ghost use Rattle.stack_deliver.specs.StackDelivery.{line_of};
-ghost use Rattle.stack_deliver.specs.FrontSample.{after_call, bad_row, cut_entry, held_by, no_entry, nowhere};
-ghost use Rattle.stack_deliver.specs.Fronts.{ComesTo, EndsFor, front_of, input_of, IsUndescribed, IsUndescribedIn, stopped_by};
-ghost use Rattle.stack_steps.specs.Stepping.{FindsNone, step_of};
+ghost use Rattle.stack_deliver.specs.FrontSample.{after_call, bad_row, cut_entry, held_by};
+ghost use Rattle.stack_deliver.specs.FrontSample.{no_entry, nowhere};
+ghost use Rattle.stack_deliver.specs.Fronts.{ComesTo, EndsFor, front_of, input_of, IsUndescribed};
+ghost use Rattle.stack_deliver.specs.Fronts.{IsUndescribedIn, stopped_by, IsUnknownIn};
+ghost use Rattle.stack_steps.specs.Stepping.{FindsNone, step_of, FindsNoneIn};
 ghost use Rattle.stack_steps.specs.Ticking.{RisesWithin};
 
 use crate::passes::outwards;
@@ -17,7 +20,7 @@ use crate::room::Room;
 use eh_frame::{Bases, EhFrame, Entries, Error, RowRoom};
 use fde_finders::{FrameInfo, FrameInfoKind};
 use memory_image::{Ledger, MemoryImage, Steps};
-use stack_steps::{DeliverError, Space, Stepped};
+use stack_steps::{DeliverError, Module, ModuleTables, Space, Stepped};
 use unwind_arch::x86_64::Context;
 
 /// Why a walk goes no further than its last state.
@@ -32,7 +35,7 @@ pub enum Front {
     NoModule(u64),
     /// No description is found for the address: every entry of the frame table that its module
     /// names can be read, and none contains it; or by the header that its module names nothing is
-    /// found.
+    /// found; or the section of compact unwinding of its module lists no function there.
     NoDescription(u64),
     /// An entry of the frame table can't be read, and none before it contains the address.
     UnreadableTable {
@@ -123,6 +126,19 @@ fn undescribed(image: &MemoryImage<'_>, address: u64, tables: FrameInfo) -> Fron
     }
 }
 
+/// Why nothing is known of an address by the tables of its module.
+fn unknown(image: &MemoryImage<'_>, address: u64, holder: &Module) -> Front
+    requires { FindsNoneIn image.now holder.now holder.now.tables address }
+    ensures { IsUnknownIn image.now holder.now holder.now.tables address result }
+{
+    match holder.tables {
+        ModuleTables::Elf(tables) => undescribed(image, address, tables),
+        ModuleTables::Macho(_) => Front::NoDescription(address),
+        // An address without a record is one of a leaf.
+        ModuleTables::Pe(_) => unreachable!(),
+    }
+}
+
 /// Why there is no frame at a state.
 fn unframed(space: &Space<'_>, state: &Stepped) -> Front
     requires { step_of space.now state.now.context state.now.signal ≡ Ok None }
@@ -134,7 +150,7 @@ fn unframed(space: &Space<'_>, state: &Stepped) -> Front
     let address = state.address();
     match space.module_at(address) {
         None => Front::NoModule(address),
-        Some(holder) => undescribed(space.image(), address, holder.frame),
+        Some(holder) => unknown(space.image(), address, &holder),
     }
 }
 

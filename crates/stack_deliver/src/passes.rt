@@ -1,15 +1,21 @@
 // The passes over a stack: the search for a frame whose language takes the exception, and then the
 // cleanups on the way to it. Itanium C++ ABI, exception handling, level I, section 1.3.
-ghost use Rattle.std.specs.Prelude.{◌≡◌, ◌≤◌, ◌<◌, ◌+◌, ◌*◌, ◌++◌, ◌∷◌, Err, [], true, false, length, Some, OnOk, OnErr, IfOk};
+ghost use Rattle.std.specs.Prelude.{◌≡◌, ◌≤◌, ◌<◌, ◌+◌, ◌*◌, ◌++◌, ◌∷◌, Err, [], true, false};
+ghost use Rattle.std.specs.Prelude.{length, Some, OnOk, OnErr, IfOk};
 ghost use Rattle.std.specs.Option.{option_map};
 ghost use Rattle.unwinding_frames.specs.LanguageViews.{action_of};
-ghost use Rattle.stack_steps.specs.Asking.{action_asked};
-ghost use Rattle.stack_deliver.specs.Passes.{stops, stop_of, past_arguments, turn_for, line_for, kept_at, pad_of, enters, end_by, cleanup_of, cleanup_at, resume_at, passes_of};
+ghost use Rattle.stack_deliver.specs.Passes.{stops, stop_of, past_arguments, turn_for, line_for};
+ghost use Rattle.stack_deliver.specs.Passes.{kept_at, pad_of, enters, end_by, cleanup_of};
+ghost use Rattle.stack_deliver.specs.Passes.{cleanup_at, resume_at, passes_of};
 ghost use Rattle.stack_deliver.specs.Fronts.{reached_by, turned_from, IsReached};
-ghost use Rattle.stack_steps.specs.FrameViews.{seen};
-ghost use Rattle.stack_deliver.specs.PassViews.{turn_shown, stop_shown, end_shown, visits, visited_with, StaysAt, IsOutward, GivesCleanupsRun};
+ghost use Rattle.stack_steps.specs.FrameViews.{IsFrameOf};
+ghost use Rattle.frame_rows.specs.RowValue.{RowValue};
+ghost use Rattle.stack_steps.specs.Stepping.{FrameAt};
+ghost use Rattle.stack_deliver.specs.PassViews.{turn_shown, stop_shown, end_shown, visits};
+ghost use Rattle.stack_deliver.specs.PassViews.{visited_with, StaysAt, IsOutward, GivesCleanupsRun};
 ghost use Rattle.stack_steps.specs.Results.{result_map};
 ghost use Rattle.stack_deliver.specs.Resumes.{return_of};
+ghost use Rattle.stack_deliver.specs.Searches.{contexts_met, met_in_passes};
 ghost use Rattle.stack_steps.specs.Ticking.{RisesWithin, TicksAt};
 
 use crate::answers::{Ending, Outcome, Trail};
@@ -23,7 +29,7 @@ use unwinding_frames::{EhAction, Window};
 
 /// What a pass over the stack is for.
 #[derive(Clone, Copy)]
-pub(crate) enum Phase {
+pub enum Phase {
     /// To find a frame that takes the exception.
     Search,
     /// To run the cleanups on the way to it, and to enter its handler.
@@ -108,8 +114,9 @@ fn stop_action(
     state: &Stepped,
     frame: &FoundFrame<'_, '_>,
 ) -> Result<Option<EhAction>, DeliverError>
-    ensures { result_map (option_map action_of) result ≡ stop_of phase image.now state.now.context
-        state.now.signal (seen frame.now) }
+    ensures { (row : RowValue) (f : FrameAt) → IsFrameOf frame.now row f →
+        result_map (option_map action_of) result ≡ stop_of phase image.now state.now.context
+        state.now.signal f }
 {
     let Some(phase) = phase else {
         return Ok(None);
@@ -184,7 +191,9 @@ pub(crate) fn outwards<'a, L: Ledger>(
         (reached_by (turned_from phase space.now) limit state.old) }
     ensures kept { (room.new.trail ≡ room.old.trail) × (room.new.limit ≡ room.old.limit) }
     ensures stays { visits phase ≡ false → room.new ≡ room.old }
-    ensures ticks { RisesWithin space.now limit steps.old.number steps.new.number }
+    ensures ticks { RisesWithin space.now
+        (contexts_met phase space.now limit state.old.context state.old.signal)
+        steps.old.number steps.new.number }
 {
     let mut stack = Window::new(space.image(), state.context.registers[RSP]);
     for _ in 0..limit {
@@ -251,7 +260,9 @@ fn cleanup<'a, L: Ledger>(
     ensures exact { result_map end_shown result ≡ cleanup_of space.now exception kept limit
         start.now }
     ensures stays { room.new ≡ room.old }
-    ensures ticks { RisesWithin space.now limit steps.old.number steps.new.number }
+    ensures ticks { RisesWithin space.now
+        (contexts_met (Some Phase.Cleanup) space.now limit start.now false)
+        steps.old.number steps.new.number }
 {
     let mut state = Stepped {
         context: *start,
@@ -315,7 +326,9 @@ pub(crate) fn passes<'a, L: Ledger>(
     ensures exact { GivesCleanupsRun result room.new
         (passes_of space.now exception kept resumes.now limit limit start.now) }
     ensures kept { (room.new.visited ≡ room.old.visited) × (room.new.limit ≡ room.old.limit) }
-    ensures ticks { RisesWithin space.now ((limit + 1) * limit) steps.old.number steps.new.number }
+    ensures ticks { RisesWithin space.now
+        (met_in_passes space.now exception kept resumes.now limit limit start.now)
+        steps.old.number steps.new.number }
 {
     let mut context = *start;
     loop {

@@ -1,5 +1,6 @@
 // The states of a stack, from its innermost frame outwards.
-ghost use Rattle.std.specs.Prelude.{◌≡◌, ◌≢◌, ◌⊎◌, ◌↔◌, ◌≤◌, ℕ, List, [], ◌∷◌, None, Err, length, slice_get, IsOk, IsOkAnd, IsTrue, IsFalse, OnErr};
+ghost use Rattle.std.specs.Prelude.{◌≡◌, ◌≢◌, ◌⊎◌, ◌↔◌, ◌≤◌, ℕ, List, [], ◌∷◌, None, Err, length};
+ghost use Rattle.std.specs.Prelude.{slice_get, IsOk, IsOkAnd, IsTrue, IsFalse, OnErr};
 ghost use Rattle.memory_image.specs.Image.{word_at};
 ghost use Rattle.unwind_definitions.specs.State.{State};
 ghost use Rattle.unwind_definitions.specs.Function.{Function};

@@ -1,6 +1,7 @@
 // The report of a delivery.
 ghost use Rattle.std.specs.Prelude.{◌≡◌, ◌++◌, IfOk, OnOk};
-ghost use Rattle.stack_report.specs.Report.{frame_lines, cleanup_line, cleanup_lines, landing_line, outcome_name, outcome_line, report_of};
+ghost use Rattle.stack_report.specs.Report.{frame_lines, cleanup_line, cleanup_lines, landing_line};
+ghost use Rattle.stack_report.specs.Report.{outcome_name, outcome_line, report_of};
 
 use crate::buffer::Report;
 use crate::states::{put_fields, put_frame};

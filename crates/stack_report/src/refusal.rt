@@ -1,8 +1,10 @@
 // Why there is no report.
 ghost use Rattle.std.specs.Prelude.{◌≡◌, ◌++◌, IfOk, OnOk};
-ghost use Rattle.stack_report.specs.Refusals.{error_name, refusal_text, refused_line};
+ghost use Rattle.stack_report.specs.Refusals.{error_name, part_name, section_text};
+ghost use Rattle.stack_report.specs.Refusals.{refusal_text, refused_line};
 
 use crate::buffer::Report;
+use macho_unwind_info::{Error as MachoError, ReadError};
 use stack_deliver::{DeliverError, Error};
 use std::alloc::{AllocError, Global};
 
@@ -39,11 +41,42 @@ pub fn error_name(error: Error) -> &'static str
     }
 }
 
+/// The name of a part of a section of compact unwinding that can't be read.
+fn part_name(part: ReadError) -> &'static str
+    ensures { result.now ≡ part_name part }
+{
+    match part {
+        ReadError::Header => "Header",
+        ReadError::GlobalOpcodes => "GlobalOpcodes",
+        ReadError::Pages => "Pages",
+        ReadError::RegularPage => "RegularPage",
+        ReadError::RegularPageFunctions => "RegularPageFunctions",
+        ReadError::CompressedPage => "CompressedPage",
+        ReadError::CompressedPageFunctions => "CompressedPageFunctions",
+        ReadError::LocalOpcodes => "LocalOpcodes",
+        ReadError::PageKind => "PageKind",
+    }
+}
+
 fn put_named(report: &mut Report, label: &str, name: &str) -> Result<(), AllocError>
     ensures { OnOk result (report.new ≡ report.old ++ (label.now ++ name.now)) }
 {
     report.put(label)?;
     report.put(name)
+}
+
+fn put_section(report: &mut Report, error: MachoError) -> Result<(), AllocError>
+    ensures { OnOk result (report.new ≡ report.old ++ section_text error) }
+{
+    match error {
+        MachoError::ReadError(part) => put_named(report, "macho ReadError ", part_name(part)),
+        MachoError::InvalidPageEntryFirstAddress => {
+            report.put("macho InvalidPageEntryFirstAddress")
+        }
+        MachoError::InvalidPageKind => report.put("macho InvalidPageKind"),
+        MachoError::UnexpectedSentinelPage => report.put("macho UnexpectedSentinelPage"),
+        MachoError::AddressOverflow => report.put("macho AddressOverflow"),
+    }
 }
 
 pub(crate) fn put_refusal(report: &mut Report, error: DeliverError) -> Result<(), AllocError>
@@ -56,6 +89,12 @@ pub(crate) fn put_refusal(report: &mut Report, error: DeliverError) -> Result<()
         DeliverError::PassLimit => report.put("pass limit"),
         DeliverError::NoResume(pad) => report.put_field("no resume ", pad),
         DeliverError::Table(error) => put_named(report, "table ", error_name(error)),
+        DeliverError::MachO(error) => put_section(report, error),
+        DeliverError::CompactHandler => report.put("compact handler"),
+        DeliverError::CompactForm => report.put("compact form"),
+        DeliverError::PeInfo => report.put("pe info"),
+        DeliverError::PeHandler => report.put("pe handler"),
+        DeliverError::ChainLimit => report.put("chain limit"),
     }
 }
 

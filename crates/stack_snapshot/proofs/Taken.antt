@@ -1,5 +1,5 @@
 -- What holds of each snapshot: its memory is laid out, its modules are apart, and its start has sixteen registers.
-use Rattle.std.proofs.Common.{◌≡◌, ℕ, suc, ◌+◌, ◌^◌, ◌<◌, ◌≤◌, Bool, true, false, List, [], ◌∷◌, length, Option, Some, None, Result, Ok, Err, refl, sym, ap, subst, ◌∙◌, arith, eqb, leb, ltb}
+use Rattle.std.proofs.Common.{◌≡◌, ℕ, suc, ◌+◌, ◌-◌, ◌^◌, ◌<◌, ◌≤◌, Bool, true, false, List, [], ◌∷◌, length, Option, Some, None, Result, Ok, Err, refl, sym, ap, subst, ◌∙◌, arith, eqb, leb, ltb}
 use Rattle.std.specs.Prelude.{is_none, codes, if◌then◌else◌}
 use Rattle.std.specs.Option.{option_map, option_and_then}
 use Rattle.std.proofs.lemmas.Bool.Decides.{nat_tests}
@@ -12,7 +12,7 @@ use Rattle.unwind_laws.proofs.Booleans as lists
 use Rattle.unwind_arch.specs.declared.x86_64.Context.{Context}
 use Rattle.stack_steps.specs.declared.space.Module.{Module}
 use Rattle.stack_steps.specs.declared.space.SpaceError.TheVariants.{Wraps, Overlap}
-use Rattle.stack_steps.specs.Modules.{AreApart, lowest_shared, module_refusal, with_module}
+use Rattle.stack_steps.specs.Modules.{AreApart, fits, given_refusal, lowest_shared, module_refusal, with_module}
 use Rattle.stack_steps.proofs.Apart.{with_apart}
 use Rattle.stack_steps.proofs.ContextLemmas.{IsWhole}
 use Rattle.stack_snapshot.specs.declared.errors.Field.{Field}
@@ -25,18 +25,22 @@ use Rattle.stack_snapshot.specs.Answers.{value_of, content_with, content_by, con
 -- ---- a snapshot's modules are apart
 
 -- what refuses no module
-free_module : (taken : List Module) (m : Module) → is_none (module_refusal taken m) ≡ true → (m.start < m.end) × (lowest_shared taken m.start m.end ≡ None)
-free_module taken m free = go (leb m.end m.start) refl (lowest_shared taken m.start m.end) refl free
+free_module : (taken : List Module) (m : Module) → is_none (given_refusal taken m) ≡ true → (m.start < m.end) × (lowest_shared taken m.start m.end ≡ None)
+free_module taken m free = by_size (fits m.tables (m.end - m.start)) free
   where
     go : (b : Bool) → leb m.end m.start ≡ b → (o : Option ℕ) → lowest_shared taken m.start m.end ≡ o → is_none (if b then Some Wraps else option_map Overlap o) ≡ true → (m.start < m.end) × (lowest_shared taken m.start m.end ≡ None)
     go true low o is e = absurd cc
     go false high (Some n) is e = absurd cc
     go false high None is e = (grind (arith, nat_tests), is)
 
+    by_size : (b : Bool) → is_none (if b then module_refusal taken m else Some Wraps) ≡ true → (m.start < m.end) × (lowest_shared taken m.start m.end ≡ None)
+    by_size true e = go (leb m.end m.start) refl (lowest_shared taken m.start m.end) refl e
+    by_size false e = absurd cc
+
 apart_after : (taken ms : List Module) → AreApart 0 taken → takes_modules taken ms ≡ true → AreApart 0 (modules_after taken ms)
 apart_after taken [] apart takes = apart
 apart_after taken (m ∷ ms) apart takes =
-    let both = lists.both_true (is_none (module_refusal taken m)) (takes_modules (with_module m taken) ms) takes in
+    let both = lists.both_true (is_none (given_refusal taken m)) (takes_modules (with_module m taken) ms) takes in
     let free = free_module taken m both.0 in
     apart_after (with_module m taken) ms (with_apart taken 0 m apart (omega arith) free.0 free.1) both.1
 

@@ -1,11 +1,13 @@
 -- What a JSON value says as a snapshot, or which of its fields is the first faulty one.
-use Rattle.std.specs.Prelude.{ℕ, ◌&&◌, Bool, List, [], ◌∷◌, Option, Some, None, Result, Ok, Err, codes, nat_le, if◌then◌else◌, option_map, option_and_then}
+use Rattle.std.specs.Prelude.{ℕ, ◌+◌, ◌^◌, ◌&&◌, Bool, List, [], ◌∷◌, Option, Some, None, Result, Ok, Err, codes, nat_le, nat_lt, if◌then◌else◌, option_map, option_and_then}
 use Rattle.serde_json.specs.Data.{Data, Items, no_items, item}
 use Rattle.serde_json.specs.Find.{get, as_array, as_object, as_str}
 use Rattle.serde_json.specs.Written.{has_float}
 use Rattle.memory_image.specs.Image.{Span}
 use Rattle.unwind_arch.specs.declared.x86_64.Context.{Context}
 use Rattle.stack_steps.specs.declared.space.Module.{Module}
+use Rattle.stack_steps.specs.declared.space.ModuleTables.{ModuleTables}
+use Rattle.stack_steps.specs.declared.space.ModuleTables.TheVariants.{Elf, Macho, Pe}
 use Rattle.fde_finders.specs.declared.custom.FrameInfo.{FrameInfo}
 use Rattle.fde_finders.specs.declared.custom.FrameInfoKind.{FrameInfoKind}
 use Rattle.fde_finders.specs.declared.custom.FrameInfoKind.TheVariants.{EhFrame, EhFrameHdr}
@@ -56,13 +58,14 @@ regions_of d = option_and_then if_taken (option_and_then region_list (option_and
 
 -- ---- modules
 
--- the base of pointers that are relative to the text, where it is given
-abbrev pub text_base_in : Option Data → Option (Option ℕ)
-text_base_in None = Some None
-text_base_in (Some d) = option_map Some (as_word d)
+-- a word, where it is given
+abbrev pub word_if_given : Option Data → Option (Option ℕ)
+word_if_given None = Some None
+word_if_given (Some d) = option_map Some (as_word d)
 
+-- the base of pointers that are relative to the text, where it is given
 abbrev pub text_base_of : Data → Option (Option ℕ)
-text_base_of d = text_base_in (get (codes "text_base") d)
+text_base_of d = word_if_given (get (codes "text_base") d)
 
 -- the address of a header or of a frame table, of which exactly one is named
 abbrev pub frame_kind_in : Option Data → Option Data → Option FrameInfoKind
@@ -79,12 +82,47 @@ abbrev pub frame_info_of : Data → Option FrameInfo
 frame_info_of d = option_and_then (λ text. option_map (λ kind. record { text_base = text; kind = kind }) (frame_kind_of d)) (text_base_of d)
 
 -- the addresses from start to before end, and the frame tables
-abbrev pub elf_of : Data → Option Module
-elf_of d = option_and_then (λ start. option_and_then (λ end. option_map (λ frame. record { start = start; end = end; frame = frame }) (frame_info_of d)) (word_at (codes "end") d)) (word_at (codes "start") d)
+abbrev pub elf_with : ℕ → ℕ → FrameInfo → Module
+elf_with start end frame = record { start = start; end = end; tables = Elf frame }
 
--- a module of the kind that is named; ELF is the only one so far
+abbrev pub elf_of : Data → Option Module
+elf_of d = option_and_then (λ start. option_and_then (λ end. option_map (elf_with start end) (frame_info_of d)) (word_at (codes "end") d)) (word_at (codes "start") d)
+
+-- a word below 2 ^ 32
+abbrev pub if_half : ℕ → Option ℕ
+if_half n = if nat_lt n (2 ^ 32) then Some n else None
+
+abbrev pub half_at : List ℕ → Data → Option ℕ
+half_at key d = option_and_then if_half (word_at key d)
+
+-- the address after the last of a module that is given by its base and its size
+abbrev pub if_word : ℕ → Option ℕ
+if_word n = if nat_lt n (2 ^ 64) then Some n else None
+
+abbrev pub end_from : ℕ → Data → Option ℕ
+end_from base d = option_and_then (λ size. if_word (base + size)) (half_at (codes "size") d)
+
+-- the section of compact unwinding, and the frame data where it is given
+abbrev pub macho_tables_of : Data → Option ModuleTables
+macho_tables_of d = option_and_then (λ unwind_info. option_map (λ frames. Macho (record { unwind_info = unwind_info; frames = frames })) (word_if_given (get (codes "eh_frame") d))) (word_at (codes "unwind_info") d)
+
+-- the function table
+abbrev pub pe_tables_of : Data → Option ModuleTables
+pe_tables_of d = option_and_then (λ rva. option_map (λ size. Pe (record { table_rva = rva; table_size = size })) (half_at (codes "pdata_size") d)) (half_at (codes "pdata_rva") d)
+
+abbrev pub module_with : ℕ → ℕ → ModuleTables → Module
+module_with start end tables = record { start = start; end = end; tables = tables }
+
+-- a base, a size and tables
+abbrev pub sized_of : (Data → Option ModuleTables) → Data → Option Module
+sized_of tables_of d = option_and_then (λ base. option_and_then (λ end. option_map (module_with base end) (tables_of d)) (end_from base d)) (word_at (codes "base") d)
+
+-- a module of the kind that is named
 abbrev pub module_of_kind : Data → List ℕ → Option Module
-module_of_kind d kind = if bytes_eq kind (codes "elf") then elf_of d else None
+module_of_kind d kind =
+    if bytes_eq kind (codes "elf") then elf_of d
+    else (if bytes_eq kind (codes "macho") then sized_of macho_tables_of d
+    else (if bytes_eq kind (codes "pe") then sized_of pe_tables_of d else None))
 
 -- the module that an object says
 abbrev pub module_of : Data → Option Module

@@ -1,7 +1,8 @@
 // Where the modules of a snapshot come from.
 ghost use Rattle.std.specs.Prelude.{◌≡◌, ◌&&◌, IfOk, nat_le, nat_lt, option_map};
 ghost use Rattle.serde_json.specs.View.{view, items_view};
-ghost use Rattle.stack_snapshot.specs.Origins.{origin_of, origin_list, origins_of, origin_at, file_name};
+ghost use Rattle.stack_snapshot.specs.Origins.{origin_of, origin_list, origins_of, origin_at};
+ghost use Rattle.stack_snapshot.specs.Origins.{file_name};
 
 use crate::fields::word_at;
 use serde_json::Value;

@@ -1,8 +1,16 @@
 // From JSON to a snapshot.
-ghost use Rattle.std.specs.Prelude.{◌≡◌, ◌≢◌, ◌<◌, [], true, length, IfOk, Err, ◌⊎◌, is_some, option_map};
+ghost use Rattle.std.specs.Prelude.{◌≡◌, ◌≢◌, ◌<◌, [], true, length, IfOk, Err, ◌⊎◌, is_some};
+ghost use Rattle.std.specs.Prelude.{option_map};
 ghost use Rattle.serde_json.specs.Find.{get};
 ghost use Rattle.serde_json.specs.View.{view, items_view};
-ghost use Rattle.stack_snapshot.specs.Snapshot.{needs, region_of, region_list, regions_of, text_base_of, frame_kind_of, frame_info_of, elf_of, module_of, module_list, modules_of, registers_in, register_names, start_of, resume_in, resume_of, resume_list, resumes_of, limit_of, interrupted_of, whole_numbers, snapshot_of};
+ghost use Rattle.stack_snapshot.specs.Snapshot.{needs, region_of, region_list, regions_of};
+ghost use Rattle.stack_snapshot.specs.Snapshot.{frame_kind_of, frame_info_of, elf_of, module_of};
+ghost use Rattle.stack_snapshot.specs.Snapshot.{module_list, modules_of, registers_in};
+ghost use Rattle.stack_snapshot.specs.Snapshot.{register_names, start_of, resume_in, resume_of};
+ghost use Rattle.stack_snapshot.specs.Snapshot.{resume_list, resumes_of, limit_of, interrupted_of};
+ghost use Rattle.stack_snapshot.specs.Snapshot.{whole_numbers, snapshot_of, word_if_given, if_half};
+ghost use Rattle.stack_snapshot.specs.Snapshot.{half_at, end_from, macho_tables_of, pe_tables_of};
+ghost use Rattle.stack_snapshot.specs.Snapshot.{sized_of};
 ghost use Rattle.stack_deliver.specs.Resumes.{resume_table};
 ghost use Rattle.stack_snapshot.specs.Fields.{bytes_at};
 ghost use Rattle.stack_snapshot.specs.Answers.{Gives, ReadsValue, content_of, value_of};
@@ -16,7 +24,9 @@ use crate::origins::{Origins, origins_of};
 use crate::snapshot::{Region, Snapshot, taken_modules, taken_regions};
 use hex::FromHexError;
 use serde_json::Value;
-use stack_deliver::{Context, FrameInfo, FrameInfoKind, Module, Resumes};
+use stack_deliver::{
+    Context, FrameInfo, FrameInfoKind, MachoTables, Module, ModuleTables, PeTables, Resumes,
+};
 use std::alloc::Global;
 
 /// The bytes at a key, or the fault of the field.
@@ -71,13 +81,13 @@ fn regions_of(alloc: Global, value: &Value) -> Result<Vec<Region>, SnapshotError
     taken_regions(alloc, regions)
 }
 
-/// The base of pointers that are relative to the text, where it is given.
-fn text_base_of(value: &Value) -> Option<Option<u64>>
-    ensures { result ≡ text_base_of (view value.now) }
+/// The word at a key, where it is given.
+fn word_if_given(value: &Value, key: &str) -> Option<Option<u64>>
+    ensures { result ≡ word_if_given (get key.now (view value.now)) }
 {
-    match value.get("text_base") {
+    match value.get(key) {
         None => Some(None),
-        Some(base) => Some(Some(as_word(base)?)),
+        Some(word) => Some(Some(as_word(word)?)),
     }
 }
 
@@ -96,7 +106,7 @@ fn frame_kind_of(value: &Value) -> Option<FrameInfoKind>
 fn frame_info_of(value: &Value) -> Option<FrameInfo>
     ensures { result ≡ frame_info_of (view value.now) }
 {
-    let text_base = text_base_of(value)?;
+    let text_base = word_if_given(value, "text_base")?;
     let kind = frame_kind_of(value)?;
     Some(FrameInfo { text_base, kind })
 }
@@ -108,7 +118,80 @@ fn elf_of(value: &Value) -> Option<Module>
     let start = word_at(value, "start")?;
     let end = word_at(value, "end")?;
     let frame = frame_info_of(value)?;
-    Some(Module { start, end, frame })
+    Some(Module {
+        start,
+        end,
+        tables: ModuleTables::Elf(frame),
+    })
+}
+
+/// The word, where it is below 2^32.
+fn if_half(word: u64) -> Option<u32>
+    ensures { result ≡ if_half word }
+{
+    if word < 0x1_0000_0000 {
+        Some(word as u32)
+    } else {
+        None
+    }
+}
+
+/// The word below 2^32 at a key.
+fn half_at(value: &Value, key: &str) -> Option<u32>
+    ensures { result ≡ half_at key.now (view value.now) }
+{
+    if_half(word_at(value, key)?)
+}
+
+/// The address after the last of a module that begins at `base`.
+fn end_from(base: u64, value: &Value) -> Option<u64>
+    ensures { result ≡ end_from base (view value.now) }
+{
+    base.checked_add(u64::from(half_at(value, "size")?))
+}
+
+/// Where the tables of a Mach-O module lie.
+fn macho_tables_of(value: &Value) -> Option<ModuleTables>
+    ensures { result ≡ macho_tables_of (view value.now) }
+{
+    let unwind_info = word_at(value, "unwind_info")?;
+    let frames = word_if_given(value, "eh_frame")?;
+    Some(ModuleTables::Macho(MachoTables {
+        unwind_info,
+        frames,
+    }))
+}
+
+/// Where the function table of a PE module lies.
+fn pe_tables_of(value: &Value) -> Option<ModuleTables>
+    ensures { result ≡ pe_tables_of (view value.now) }
+{
+    let table_rva = half_at(value, "pdata_rva")?;
+    let table_size = half_at(value, "pdata_size")?;
+    Some(ModuleTables::Pe(PeTables {
+        table_rva,
+        table_size,
+    }))
+}
+
+/// A Mach-O module, by its base, its size and its tables.
+fn macho_of(value: &Value) -> Option<Module>
+    ensures { result ≡ sized_of macho_tables_of (view value.now) }
+{
+    let start = word_at(value, "base")?;
+    let end = end_from(start, value)?;
+    let tables = macho_tables_of(value)?;
+    Some(Module { start, end, tables })
+}
+
+/// A PE module, in the same way.
+fn pe_of(value: &Value) -> Option<Module>
+    ensures { result ≡ sized_of pe_tables_of (view value.now) }
+{
+    let start = word_at(value, "base")?;
+    let end = end_from(start, value)?;
+    let tables = pe_tables_of(value)?;
+    Some(Module { start, end, tables })
 }
 
 /// The module that an object says.
@@ -117,6 +200,8 @@ fn module_of(value: &Value) -> Option<Module>
 {
     match value.get("kind")?.as_str()? {
         "elf" => elf_of(value),
+        "macho" => macho_of(value),
+        "pe" => pe_of(value),
         _ => None,
     }
 }

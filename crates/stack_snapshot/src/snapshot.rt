@@ -2,7 +2,8 @@
 ghost use Rattle.std.specs.Prelude.{◌≡◌, IfOk, MatchOption, map, true, false, []};
 ghost use Rattle.stack_steps.specs.Modules.{unprepared};
 ghost use Rattle.stack_snapshot.specs.Answers.{Gives};
-ghost use Rattle.stack_snapshot.specs.Content.{image_of, modules_after, space_of, takes_regions, takes_modules};
+ghost use Rattle.stack_snapshot.specs.Content.{image_of, modules_after, space_of, takes_regions};
+ghost use Rattle.stack_snapshot.specs.Content.{takes_modules};
 ghost use Rattle.stack_snapshot.specs.Owned.{spans_of};
 ghost use Rattle.stack_snapshot.specs.Snapshot.{needs, if_taken, if_spaced};
 
@@ -160,7 +161,7 @@ fn space_of_modules<'a>(
 {
     let mut space = Space::new(alloc, image);
     for module in modules {
-        match space.add_elf(module.start, module.end, module.frame) {
+        match space.add_module(*module) {
             Ok(()) => {}
             Err(SpaceError::NoMemory) => return Err(AllocError),
             Err(_) => return Ok(None),

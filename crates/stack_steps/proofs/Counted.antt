@@ -6,17 +6,19 @@ use Rattle.std.proofs.Math.Nat.{add-mul}
 use Rattle.std.proofs.lemmas.Nat.{mul-le, pow_pos}
 use Rattle.memory_image.specs.Image.{Span}
 use Rattle.unwind_definitions.specs.LanguageSearch.{address_of_call}
-use Rattle.fde_finders.specs.Named.{pairs_by, pairs_by_kind}
+use Rattle.fde_finders.specs.Named.{pairs_by_kind}
 use Rattle.unwind_arch.specs.declared.x86_64.Context.{Context}
 use Rattle.stack_steps.specs.declared.space.Module.{Module}
+use Rattle.stack_steps.specs.declared.space.ModuleTables.{ModuleTables}
+use Rattle.stack_steps.specs.declared.space.ModuleTables.TheVariants.{Elf, Macho, Pe}
 use Rattle.eh_frame.specs.Index.{AreFewSteps, Index}
 use Rattle.fde_finders.specs.declared.custom.FrameInfoKind.{FrameInfoKind}
 use Rattle.stack_steps.specs.Modules.{Added, SpaceValue, contains, module_at}
 use Rattle.stack_steps.specs.Preparing.{index_at, index_of, len_of, prepared_len}
-use Rattle.stack_steps.specs.Ticking.{pairs_in_module, searched_in, searched_at, CountsWithin, IsScannedAt, RisesBySearch, RisesWithin, TicksAt, TicksBy}
+use Rattle.stack_steps.specs.Ticking.{IsUnsearched, pairs_in, pairs_in_module, searched_in, searched_at, CountsWithin, IsScannedAt, RisesBySearch, RisesWithin, TicksAt, TicksBy}
 
 -- a module that is found has no more pairs than each of the modules may
-pairs_found : (image : List Span) (digits a : ℕ) (ms : List Module) → AllByRecursion (λ (m : Module). pairs_by m.frame image < 2 ^ digits) ms → pairs_in_module image (module_at ms a) < 2 ^ digits
+pairs_found : (image : List Span) (digits a : ℕ) (ms : List Module) → AllByRecursion (λ (m : Module). pairs_in image m.tables < 2 ^ digits) ms → pairs_in_module image (module_at ms a) < 2 ^ digits
 pairs_found image digits a [] each = pow_pos digits
 pairs_found image digits a (m ∷ ms) each = go (contains m a) refl (pairs_found image digits a ms each.1)
   where
@@ -85,11 +87,16 @@ module _ (space : SpaceValue) (c : Context) (interrupted : Bool) (old new : ℕ)
   pub index_is_searched : c.ra ≢ 0 → 0 < prepared_len space asked → AreFewSteps (prepared_len space asked) old new
   index_is_searched some long = few_at some (index_at space.added asked) refl long
 
+  none_in : (tables : ModuleTables) → IsUnsearched tables → pairs_in space.image tables ≡ 0
+  none_in (Elf tables) scanned = ap (λ (k : FrameInfoKind). pairs_by_kind tables.text_base k space.image) scanned.1
+  none_in (Macho tables) other = refl
+  none_in (Pe tables) other = refl
+
   -- nothing is counted in a scan
   pub scan_is_free : IsScannedAt space c interrupted → new ≡ old
   scan_is_free at =
       let by : TicksBy space.image at.holder None old new = subst (λ (p : Option Index). TicksBy space.image at.holder p old new) at.unprepared (ticks.somewhere at.returns at.holder at.holds) in
-      let none : pairs_by at.holder.frame space.image ≡ 0 = ap (λ (k : FrameInfoKind). pairs_by_kind at.holder.frame.text_base k space.image) at.names in
+      let none : pairs_in space.image at.holder.tables ≡ 0 = none_in at.holder.tables at.unsearched in
       let few : by.0 ≤ 0 = by.2 0 (omega (arith, none)) in
       let is : new ≡ old + by.0 = by.1 in
       omega arith
@@ -115,6 +122,10 @@ rises_up_to space few many start new more rises digits each =
     let most = mul-le few digits many digits more (omega arith) in
     omega (arith, low)
 
+-- as many searches
+pub rises_to : (space : SpaceValue) (few many start new : ℕ) → few ≡ many → RisesWithin space few start new → RisesWithin space many start new
+rises_to space few many start new same rises = rises_up_to space few many start new (omega arith) rises
+
 -- one after the other
 pub rises_then : (space : SpaceValue) (few more start middle new : ℕ) → RisesWithin space few start middle → RisesWithin space more middle new → RisesWithin space (few + more) start new
 rises_then space few more start middle new first second digits each =
@@ -122,28 +133,3 @@ rises_then space few more start middle new first second digits each =
     let b = second digits each in
     let sum : (few + more) * digits ≡ few * digits + more * digits = add-mul few more digits in
     omega (arith, a, b)
-
--- so many passes, and one more
-pub one_pass_more : (space : SpaceValue) (passes limit start middle new : ℕ) → RisesWithin space (passes * limit) start middle → RisesWithin space limit middle new → RisesWithin space ((passes + 1) * limit) start new
-one_pass_more space passes limit start middle new before pass =
-    let sum : (passes + 1) * limit ≡ passes * limit + 1 * limit = add-mul passes 1 limit in
-    rises_up_to space (passes * limit + limit) ((passes + 1) * limit) start new (omega arith) (rises_then space (passes * limit) limit start middle new before pass)
-
--- the last of at most so many
-pub last_pass : (space : SpaceValue) (passes limit start middle new : ℕ) → passes ≤ limit → RisesWithin space (passes * limit) start middle → RisesWithin space limit middle new → RisesWithin space ((limit + 1) * limit) start new
-last_pass space passes limit start middle new few before pass =
-    rises_up_to space ((passes + 1) * limit) ((limit + 1) * limit) start new (mul-le (passes + 1) limit (limit + 1) limit (omega arith) (omega arith)) (one_pass_more space passes limit start middle new before pass)
-
--- the search, and the passes after it
-pub after_search : (space : SpaceValue) (limit start middle new : ℕ) → RisesWithin space limit start middle → RisesWithin space ((limit + 1) * limit) middle new → RisesWithin space ((limit + 2) * limit) start new
-after_search space limit start middle new search passes =
-    let sum : (limit + 2) * limit ≡ limit * limit + 2 * limit = add-mul limit 2 limit in
-    let less : (limit + 1) * limit ≡ limit * limit + 1 * limit = add-mul limit 1 limit in
-    rises_up_to space (limit + (limit + 1) * limit) ((limit + 2) * limit) start new (omega arith) (rises_then space limit ((limit + 1) * limit) start middle new search passes)
-
--- the search alone
-pub search_alone : (space : SpaceValue) (limit start new : ℕ) → RisesWithin space limit start new → RisesWithin space ((limit + 2) * limit) start new
-search_alone space limit start new search =
-    let sum : (limit + 2) * limit ≡ limit * limit + 2 * limit = add-mul limit 2 limit in
-    let less : (limit + 1) * limit ≡ limit * limit + 1 * limit = add-mul limit 1 limit in
-    rises_up_to space limit ((limit + 2) * limit) start new (omega arith) search

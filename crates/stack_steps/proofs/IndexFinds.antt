@@ -173,7 +173,7 @@ one_shown image tables t pc fde laid is one =
 
 -- a frame with a row, and one whose row faults
 pub shown_row : (image : List Span) (tables : FrameInfo) (t : PreparedTable) (pc : ℕ) (fde : Fde) (run : RowInstructions) → IsLaidOut 0 image → IsTableOf image tables t → scan (bases_of t.bases) (table_of t.frames) pc ≡ Ok fde → row_at (bases_of t.bases) fde pc ≡ Ok run →
-    frame_by pc (named.found_by tables image pc) ≡ Ok (Some (record { found = seen_by t fde; run = run }))
+    frame_by pc (named.found_by tables image pc) ≡ Ok (frame_with (seen_by t fde) run)
 shown_row image tables t pc fde run laid is one row = one_shown image tables t pc fde laid is one ∙ ap (result_map_both (frame_with (seen_by t fde)) Table) row
 
 pub shown_fault : (image : List Span) (tables : FrameInfo) (t : PreparedTable) (pc : ℕ) (fde : Fde) (e : Fault) → IsLaidOut 0 image → IsTableOf image tables t → scan (bases_of t.bases) (table_of t.frames) pc ≡ Ok fde → row_at (bases_of t.bases) fde pc ≡ Err e →

@@ -13,9 +13,11 @@ use Rattle.stack_steps.specs.declared.prepared.Left.{Left}
 use Rattle.stack_steps.specs.declared.prepared.PreparedTable.{PreparedTable}
 use Rattle.stack_steps.specs.declared.space.Extent.{Extent}
 use Rattle.stack_steps.specs.declared.space.Held.{Held}
-use Rattle.stack_steps.specs.Modules.{Added, AreApart, lowest_shared, module_of, modules_in}
-use Rattle.stack_steps.specs.Held.{added_of, holder_of, index_in, kept_table, IsHeld, IsTable, IsSpace, StandsAt, AreMade, MakesTable, Leaves, with_table, with_tables}
-use Rattle.stack_steps.specs.Preparing.{Make, BecomesBy, index_of, rows_of, rules_of, rows_left, rules_left, with_indexes}
+use Rattle.stack_steps.specs.declared.space.ModuleTables.{ModuleTables}
+use Rattle.stack_steps.specs.declared.space.ModuleTables.TheVariants.{Elf, Macho, Pe}
+use Rattle.stack_steps.specs.Modules.{Added, AreApart, IsPlaced, lowest_shared, module_of, modules_in}
+use Rattle.stack_steps.specs.Held.{added_of, holder_of, index_in, kept_table, IsHeld, IsTable, IsTableIn, IsSpace, StandsAt, AreMade, MakesTable, Leaves, with_table, with_tables}
+use Rattle.stack_steps.specs.Preparing.{Make, BecomesBy, IsIndexIn, index_of, rows_of, rules_of, rows_left, rules_left, with_indexes}
 use Rattle.stack_steps.proofs.Holding.{all_pushed, stand_pushed}
 
 abbrev pub index_made : Option PreparedTable → Option Index
@@ -82,11 +84,17 @@ module _ (image : List Span) where
   unprepared : (h : Held) → h.table ≡ None → (added_of h).index ≡ None
   unprepared h none = ap index_made none
 
+  -- only an ELF module has an index
+  table_index : (tables : ModuleTables) (t : PreparedTable) → IsTableIn image tables t → IsIndexIn image tables t.index
+  table_index (Elf tables) t is = record { table = kept_table t is.pairs; names = is.names; prepared = is.prepared; listed = is.listed }
+  table_index (Macho tables) t is = absurd is
+  table_index (Pe tables) t is = absurd is
+
   pub one_becomes : (left : Left) (h : Held) (o : Option PreparedTable) (next : Left) → MakesTable image left h o → Leaves left o next → BecomesBy image left.rows left.rules (added_of h) (index_made o)
   one_becomes left h None next makes leaves = makes
   one_becomes left h (Some t) next makes leaves = record {
     unprepared = unprepared h makes.0;
-    is_index = record { table = kept_table t makes.1.is_table.pairs; names = makes.1.is_table.names; prepared = makes.1.is_table.prepared; listed = makes.1.is_table.listed };
+    is_index = table_index h.holder.tables t makes.1.is_table;
     rows_fit = makes.1.rows_fit;
     rules_fit = makes.1.rules_fit;
     some = leaves.some;
@@ -123,7 +131,7 @@ module _ (image : List Span) where
     where
       one : (o : Option PreparedTable) → MakesTable image left h o → IsHeld image (with_table h o)
       one None makes = all.0
-      one (Some t) makes = makes.1.is_table
+      one (Some t) makes = record { is_table = makes.1.is_table; placed = all.0.placed }
 
   sum_made : (left after : Left) (hs : List Held) (made : List (Option PreparedTable)) → AreMade image left hs made after →
       (sum_by rows_kept (map added_of (with_tables hs made)) ≡ sum_by rows_kept (map added_of hs) + sum_by made_rows made) × (after.rows ≡ left.rows - sum_by made_rows made)
@@ -305,8 +313,8 @@ kept_by hs added made o place d is at lt some =
 -- ---- a space with one more module
 
 pub space_pushed : (image : List Span) (es ds : List (ℕ × Extent)) (hs : List Held) (k : ℕ) (x : Extent) (h : Held) (left : Left) → IsSpace image es hs left → AreApart 0 (modules_in ds) → k < x.end → lowest_shared (modules_in es) k x.end ≡ None →
-    ds ≡ insert_entry nat_cmp es k x → x.place ≡ length hs → h.holder ≡ module_of (k, x) → h.table ≡ None → IsSpace image ds (hs ++ h ∷ []) left
-space_pushed image es ds hs k x h left is apart some none at place holder unindexed =
+    ds ≡ insert_entry nat_cmp es k x → x.place ≡ length hs → h.holder ≡ module_of (k, x) → h.table ≡ None → IsPlaced h.holder → IsSpace image ds (hs ++ h ∷ []) left
+space_pushed image es ds hs k x h left is apart some none at place holder unindexed placed =
     let both = stand_pushed es ds hs k x h is.apart some none at place holder is.stand is.back in
     let same = left_pushed hs h unindexed in
     record {
@@ -314,7 +322,7 @@ space_pushed image es ds hs k x h left is apart some none at place holder uninde
       laid_out = is.laid_out;
       stand = both.stand;
       back = both.back;
-      are_held = all_pushed (IsHeld image) hs h is.are_held (subst (λ (o : Option PreparedTable). IsTable image h.holder.frame o) (sym unindexed) tt);
+      are_held = all_pushed (IsHeld image) hs h is.are_held (record { is_table = subst (λ (o : Option PreparedTable). IsTable image h.holder.tables o) (sym unindexed) tt; placed = placed });
       rows = is.rows ∙ sym same.0;
       rules = is.rules ∙ sym same.1;
     }

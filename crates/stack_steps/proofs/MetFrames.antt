@@ -26,13 +26,15 @@ use Rattle.fde_finders.specs.declared.custom.FrameInfoKind.TheVariants.{EhFrame,
 use Rattle.unwind_definitions.specs.Expressions.{evaluation}
 use Rattle.fde_finders.specs.Finding.{FoundFde, table_bases, scanned_in}
 use Rattle.fde_finders.specs.Named.{found_by_kind}
+use Rattle.fde_finders.specs.declared.custom.FrameInfo.{FrameInfo}
 use Rattle.stack_steps.specs.declared.space.Module.{Module}
+use Rattle.stack_steps.specs.declared.space.ModuleTables.TheVariants.{Elf}
 use Rattle.stack_steps.specs.declared.answers.Stepped.{Stepped}
 use Rattle.stack_steps.specs.Modules.{SpaceValue, AreApart, module_at}
-use Rattle.stack_steps.specs.SpaceViews.{tables_of, module_of, process_of}
-use Rattle.stack_steps.specs.Stepping.{step_of, FrameAt, frame_of, caller_by}
+use Rattle.stack_steps.specs.SpaceViews.{tables_of, elf_module, process_of}
+use Rattle.stack_steps.specs.Stepping.{step_of, FrameAt, Described, frame_of, caller_by}
 use Rattle.stack_steps.specs.Undoing.{IsDescribedCall, Undone}
-use Rattle.stack_steps.specs.Asking.{action_if_named, action_asked}
+use Rattle.stack_steps.specs.Asking.{action_if_named, action_asked, arguments_of, described_action}
 use Rattle.stack_steps.proofs.ContextLemmas.{IsWhole}
 use Rattle.stack_steps.proofs.HeaderFinds.{header_finds}
 use Rattle.stack_steps.proofs.StepParts.{some_next, stepped_by, step_is}
@@ -42,8 +44,8 @@ use Rattle.stack_steps.proofs.StepUndone.{IsOf, contains_map, module_at-contains
 pub record Met (space : SpaceValue) (c : Context) (s : State) (call : Call) : Type 0 where
   pub frame : FrameAt
   pub framed : frame_of space c false ≡ Ok (Some frame)
-  pub asks : action_asked space.image c false frame.found ≡ Ok (action_at call.callee (s.ra - 1))
-  pub no_arguments : argument_size frame.run ≡ 0
+  pub asks : action_asked space.image c false frame ≡ Ok (action_at call.callee (s.ra - 1))
+  pub no_arguments : arguments_of frame ≡ 0
   pub next : Stepped
   pub called : caller_by space.image c frame ≡ Ok next
   pub unmarked : next.signal ≡ false
@@ -53,7 +55,7 @@ pub record Met (space : SpaceValue) (c : Context) (s : State) (call : Call) : Ty
   pub address : s.ra < 2 ^ 64
 
 -- what is asked, where a description asks what its function does
-asked_as : (image : List Span) (c : Context) (found : FoundFde) (f : Function) (a : ℕ) → AsksAs image found.bases f found.fde → address_of_call c.ra false ≡ a → action_asked image c false found ≡ Ok (action_at f a)
+asked_as : (image : List Span) (c : Context) (found : FoundFde) (f : Function) (a : ℕ) → AsksAs image found.bases f found.fde → address_of_call c.ra false ≡ a → described_action image c false found ≡ Ok (action_at f a)
 asked_as image c found f a asks at = ap (action_if_named image c false found) asks.personality ∙ go asks.routine asks.silent
   where
     go : (o : Option ℕ) → (o ≡ None → f.sites ≡ None) → action_if_named image c false found (Ok o) ≡ Ok (action_at f a)
@@ -79,7 +81,7 @@ module _ (space : SpaceValue) (c : Context) (functions : List Function) (s : Sta
   found_there = record { fde = step.finds.fde; bases = bases; table = input_at space.image step.finds.frame }
 
   abbrev frame_at : FrameAt
-  frame_at = record { found = found_there; run = step.finds.run }
+  frame_at = Described (record { found = found_there; run = step.finds.run })
 
   -- the return address is a word, for its function ends below 2 ^ 64
   small : s.ra < 2 ^ 64
@@ -93,12 +95,12 @@ module _ (space : SpaceValue) (c : Context) (functions : List Function) (s : Sta
   asked_at = let some : s.ra ≢ 0 = is.called.returns in let low = small in let same = ra_is in omega arith
 
   -- the module finds the description by the tables that it names
-  found_with : (m : Module) → found_by_kind m.frame.text_base m.frame.kind space.image (s.ra - 1) ≡ Some found_there → module_at space.modules (s.ra - 1) ≡ Some m → Met space c s call
+  found_with : (m : Module) (t : FrameInfo) → m.tables ≡ Elf t → found_by_kind t.text_base t.kind space.image (s.ra - 1) ≡ Some found_there → module_at space.modules (s.ra - 1) ≡ Some m → Met space c s call
   unfolding frame_of
-  found_with m finds found =
+  found_with m t elf finds found =
       let nonzero : eqb c.ra 0 ≡ false = let some : s.ra ≢ 0 = is.called.returns in let at : c.ra ≡ s.ra = ra_is in grind (arith, nat_tests) in
       let row : row_at bases step.finds.fde (s.ra - 1) ≡ Ok step.finds.run = step.finds.has_row in
-      let framed : frame_of space c false ≡ Ok (Some frame_at) = rw (nonzero, asked_at, found, finds, row) refl in
+      let framed : frame_of space c false ≡ Ok (Some frame_at) = rw (nonzero, asked_at, found, elf, finds, row) refl in
       let called : caller_by space.image c frame_at ≡ Ok next = rw (step.undoes.is_caller, step.finds.no_signal) refl in
       let kept : columns_of (context_of step.undoes.caller) ≡ step.undoes.caller = λ i k. context_of-holds c step.undoes.caller call.caller step.undoes.shows step.undoes.others k i in
       let asks : AsksAs space.image bases call.callee step.finds.fde = asks_as space.image bases call.callee step.finds.fde is.is_function step.finds.read step.finds.describes in
@@ -121,19 +123,19 @@ module _ (space : SpaceValue) (c : Context) (functions : List Function) (s : Sta
   scans = rw step.finds.found refl
 
   -- so does the module's frame table, or the header that lists what the frame table has
-  by_kind : (m : Module) (kind : FrameInfoKind) → module_of m ≡ step.finds.home → m.frame.kind ≡ kind → found_by_kind m.frame.text_base kind space.image (s.ra - 1) ≡ Some found_there
-  by_kind m (EhFrame f) same named =
-      let address : described.frame_address space.image (tables_of m.frame.kind) ≡ Some step.finds.frame = subst (λ (h : described.Module). described.frame_address space.image h.tables ≡ Some step.finds.frame) (sym same) step.finds.address in
+  by_kind : (m : Module) (t : FrameInfo) (kind : FrameInfoKind) → elf_module m.start m.end t ≡ step.finds.home → t.kind ≡ kind → found_by_kind t.text_base kind space.image (s.ra - 1) ≡ Some found_there
+  by_kind m t (EhFrame f) same named =
+      let address : described.frame_address space.image (tables_of t.kind) ≡ Some step.finds.frame = subst (λ (h : described.Module). described.frame_address space.image h.tables ≡ Some step.finds.frame) (sym same) step.finds.address in
       let at : described.frame_address space.image (tables_of (EhFrame f)) ≡ Some step.finds.frame = rw named at address in
       let place : f ≡ step.finds.frame = cc in
-      let header : described.header_of (tables_of m.frame.kind) ≡ None = rw named refl in
-      let same_bases : described.bases_of step.finds.home step.finds.frame ≡ table_bases m.frame.text_base f =
-      subst (λ (h : described.Module). described.bases_of h step.finds.frame ≡ table_bases m.frame.text_base f) same
-      (subst (λ (g : ℕ). described.bases_of (module_of m) g ≡ table_bases m.frame.text_base f) place (rw header refl)) in
+      let header : described.header_of (tables_of t.kind) ≡ None = rw named refl in
+      let same_bases : described.bases_of step.finds.home step.finds.frame ≡ table_bases t.text_base f =
+      subst (λ (h : described.Module). described.bases_of h step.finds.frame ≡ table_bases t.text_base f) same
+      (subst (λ (g : ℕ). described.bases_of (elf_module m.start m.end t) g ≡ table_bases t.text_base f) place (rw header refl)) in
       rw (← same_bases, place) scans
-  by_kind m (EhFrameHdr h) same named =
+  by_kind m t (EhFrameHdr h) same named =
       let names : step.finds.home.tables ≡ described.Header h = ap (λ (k : described.Module). k.tables) (sym same) ∙ ap tables_of named in
-      let text : m.frame.text_base ≡ step.finds.home.text = ap (λ (k : described.Module). k.text) same in
+      let text : t.text_base ≡ step.finds.home.text = ap (λ (k : described.Module). k.text) same in
       let finds = header_finds space.image step.finds.home step.finds.part step.finds.home_describes h names laid (s.ra - 1) in
       rw text (rw step.finds.framed at finds ∙ scans)
 
@@ -141,10 +143,11 @@ module _ (space : SpaceValue) (c : Context) (functions : List Function) (s : Sta
   met =
       let named : IsOf space.modules step.finds.home = contains_map space.modules step.finds.home step.finds.known in
       let m : Module = named.named in
-      let inside : IsTrue (described.in_module (s.ra - 1) (module_of m)) = subst (λ (h : described.Module). IsTrue (described.in_module (s.ra - 1) h)) (sym named.same) step.finds.inside in
+      let t : FrameInfo = named.frame in
+      let inside : IsTrue (described.in_module (s.ra - 1) (elf_module m.start m.end t)) = subst (λ (h : described.Module). IsTrue (described.in_module (s.ra - 1) h)) (sym named.same) step.finds.inside in
       let both = lists.both_true (leb m.start (s.ra - 1)) (ltb (s.ra - 1) m.end) inside in
       let found : module_at space.modules (s.ra - 1) ≡ Some m = module_at-contains 0 space.modules m (s.ra - 1) apart named.among (leb-true m.start (s.ra - 1) both.0) (ltb-true (s.ra - 1) m.end both.1) in
-      found_with m (by_kind m m.frame.kind named.same refl) found
+      found_with m t named.elf (by_kind m t t.kind named.same refl) found
 
   -- The step undoes the call.
   pub step_undone : Undone (step_of space c false) (columns_of c) call.caller

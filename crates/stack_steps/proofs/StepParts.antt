@@ -11,7 +11,7 @@ use Rattle.stack_steps.specs.declared.answers.Stepped.{Stepped}
 use Rattle.stack_steps.specs.declared.answers.DeliverError.{DeliverError}
 use Rattle.stack_steps.specs.Modules.{SpaceValue}
 use Rattle.stack_steps.specs.Results.{◌>>=◌, result_map}
-use Rattle.stack_steps.specs.Stepping.{FrameAt, frame_by, frame_of, caller_by, caller_at, step_of}
+use Rattle.stack_steps.specs.Stepping.{FrameAt, DescribedFrame, frame_with, frame_by, frame_of, described_caller, caller_by, caller_at, step_of}
 use Rattle.stack_steps.proofs.ContextLemmas.{IsWhole, context_of-columns}
 
 abbrev pub some_next : Result Stepped DeliverError → Result (Option Stepped) DeliverError
@@ -38,12 +38,12 @@ none_framed image c (Ok (Some f)) e = absurd (never (callers f) e)
 none_framed image c (Err x) e = absurd cc
 
 -- what is found, with its row, is the frame
-pub frame_found : (a : ℕ) (o : Option FoundFde) (found : FoundFde) (run : RowInstructions) → Some found ≡ o → row_at found.bases found.fde a ≡ Ok run → frame_by a o ≡ Ok (Some (record { found = found; run = run }))
+pub frame_found : (a : ℕ) (o : Option FoundFde) (found : FoundFde) (run : RowInstructions) → Some found ≡ o → row_at found.bases found.fde a ≡ Ok run → frame_by a o ≡ Ok (frame_with found run)
 frame_found a o found run is row = rw (← is, row) refl
 
 -- a caller's columns are those of the context that holds them
-pub caller_left : (image : List Span) (c next : Context) (found : FoundFde) (f : FrameAt) → found ≡ f.found → IsWhole next → Ok (columns_of next) ≡ caller_of x86_64 (evaluation image) image (columns_of c) f.run →
-    Ok (record { context = next; signal = found.fde.cie.letters.signal }) ≡ caller_by image c f
-caller_left image c next found f same whole is =
+pub caller_left : (image : List Span) (c next : Context) (signal : Bool) (f : DescribedFrame) → signal ≡ f.found.fde.cie.letters.signal → IsWhole next → Ok (columns_of next) ≡ caller_of x86_64 (evaluation image) image (columns_of c) f.run →
+    Ok (record { context = next; signal = signal }) ≡ described_caller image c f
+caller_left image c next signal f same whole is =
     let kept : context_of (columns_of next) ≡ next = context_of-columns next (columns_of next) whole (λ k. refl) in
     rw (← is, kept, same) refl

@@ -2,7 +2,7 @@
 use Rattle.std.proofs.Common.{inl, inr, ◌≡◌, ℕ, zero, suc, ◌<◌, ◌≤◌, Bool, true, false, List, [], ◌∷◌, get_or, Option, Some, None, refl, sym, subst, ◌∙◌, arith, cond, ltb, leb}
 use Rattle.std.specs.Prelude.{◌⊎◌, ◌&&◌, IsFalse, map}
 use Rattle.std.specs.Option.{unwrap_or}
-use Rattle.std.specs.List.{Contains}
+use Rattle.std.specs.List.{Contains, cons_option, filter_map}
 use Rattle.std.proofs.lemmas.Bool.Decides.{nat_tests, eqb_tells}
 use Rattle.std.proofs.lemmas.Bool.{ltb-true}
 use Rattle.unwind_definitions.specs.Caller.{Columns}
@@ -10,24 +10,36 @@ use Rattle.unwind_definitions.specs.State.{RBX, RBP, R12, R13, R14, R15, State, 
 use Rattle.unwind_definitions.specs.Module as described
 use Rattle.unwind_laws.proofs.Booleans as lists
 use Rattle.unwind_arch.specs.declared.x86_64.Context.{Context}
+use Rattle.fde_finders.specs.declared.custom.FrameInfo.{FrameInfo}
 use Rattle.stack_steps.specs.declared.space.Module.{Module}
+use Rattle.stack_steps.specs.declared.space.ModuleTables.{ModuleTables}
+use Rattle.stack_steps.specs.declared.space.ModuleTables.TheVariants.{Elf, Macho, Pe}
 use Rattle.unwind_arch.specs.ContextViews.{columns_of, context_of, general_columns}
 use Rattle.stack_steps.specs.Modules.{AreApart, module_at}
-use Rattle.stack_steps.specs.SpaceViews.{module_of}
+use Rattle.stack_steps.specs.SpaceViews.{elf_module, elf_in, elf_of}
 
--- a module of the process is one of the space
+-- a module of the process is an ELF module of the space
 pub record IsOf (modules : List Module) (home : described.Module) : Type 0 where
   pub named : Module
   pub among : Contains modules named
-  pub same : module_of named ≡ home
+  pub frame : FrameInfo
+  pub elf : named.tables ≡ Elf frame
+  pub same : elf_module named.start named.end frame ≡ home
 
-pub contains_map : (modules : List Module) (home : described.Module) → Contains (map module_of modules) home → IsOf modules home
+pub contains_map : (modules : List Module) (home : described.Module) → Contains (filter_map elf_of modules) home → IsOf modules home
 contains_map [] home has = absurd (lists.none_in_nil home has)
-contains_map (m ∷ ms) home has = go (λ h. contains_map ms home h) (lists.here_or_later (module_of m) (map module_of ms) home has)
+contains_map (m ∷ ms) home has = go m.tables refl (λ h. contains_map ms home h) has
   where
-    go : (Contains (map module_of ms) home → IsOf ms home) → (module_of m ≡ home) ⊎ Contains (map module_of ms) home → IsOf (m ∷ ms) home
-    go earlier (inl e) = record { named = m; among = lists.first m ms; same = e }
-    go earlier (inr h) = let is = earlier h in record { named = is.named; among = lists.later m ms is.named is.among; same = is.same }
+    later : IsOf ms home → IsOf (m ∷ ms) home
+    later is = record { named = is.named; among = lists.later m ms is.named is.among; frame = is.frame; elf = is.elf; same = is.same }
+
+    go : (tables : ModuleTables) → m.tables ≡ tables → (Contains (filter_map elf_of ms) home → IsOf ms home) → Contains (cons_option (elf_in m.start m.end tables) (filter_map elf_of ms)) home → IsOf (m ∷ ms) home
+    go (Elf frame) is earlier h = elim (lists.here_or_later (elf_module m.start m.end frame) (filter_map elf_of ms) home h) [
+      | inl e ↦ record { named = m; among = lists.first m ms; frame = frame; elf = is; same = e }
+      | inr more ↦ later (earlier more)
+    ]
+    go (Macho tables) is earlier h = later (earlier h)
+    go (Pe tables) is earlier h = later (earlier h)
 
 -- modules of which each begins where the one before ends or later begin at or above the lowest of them
 apart_above : (low : ℕ) (modules : List Module) (m : Module) → AreApart low modules → Contains modules m → low ≤ m.start

@@ -438,6 +438,7 @@ walks_before_push = record {
     ends = inr (λ m has inside. absurd (outside m has inside));
   };
   shows = pushing_shows 0x401000;
+  elf = (tt, tt);
   shorter = lit< tt;
 }
 
@@ -454,5 +455,6 @@ walks_in_body = record {
   };
   described = record { are_functions = one_valid.are_functions; chain = one_valid.chain.1; described = tt; ends = inl refl };
   shows = pushing_shows 0x401006;
+  elf = (tt, tt);
   shorter = lit< tt;
 }

@@ -22,11 +22,13 @@ use Rattle.fde_finders.specs.declared.custom.FrameInfoKind.{FrameInfoKind}
 use Rattle.fde_finders.specs.declared.custom.FrameInfoKind.TheVariants.{EhFrame, EhFrameHdr}
 use Rattle.fde_finders.specs.Finding.{FoundFde, table_bases, scanned_in}
 use Rattle.fde_finders.specs.Named.{found_by_kind}
+use Rattle.fde_finders.specs.declared.custom.FrameInfo.{FrameInfo}
 use Rattle.stack_steps.specs.declared.space.Module.{Module}
+use Rattle.stack_steps.specs.declared.space.ModuleTables.TheVariants.{Elf}
 use Rattle.stack_steps.specs.declared.answers.Stepped.{Stepped}
 use Rattle.stack_steps.specs.Modules.{SpaceValue, AreApart, module_at}
-use Rattle.stack_steps.specs.SpaceViews.{tables_of, module_of, process_of}
-use Rattle.stack_steps.specs.Stepping.{step_of, FrameAt, frame_of, caller_by}
+use Rattle.stack_steps.specs.SpaceViews.{tables_of, elf_module, process_of}
+use Rattle.stack_steps.specs.Stepping.{step_of, FrameAt, Described, frame_of, caller_by}
 use Rattle.stack_steps.specs.Undoing.{Undone}
 use Rattle.stack_steps.specs.Stopped.{StandsInPrologue, StandsInBody, IsDescribedStop}
 use Rattle.stack_steps.proofs.HeaderFinds.{header_finds}
@@ -45,19 +47,19 @@ module _ (space : SpaceValue) (columns : Columns) (a : ℕ) (call : Call) (apart
   scans : scanned_in bases (input_at space.image step.finds.frame) a ≡ Some found_there
   scans = rw step.finds.found refl
 
-  by_kind : (m : Module) (kind : FrameInfoKind) → module_of m ≡ step.finds.home → m.frame.kind ≡ kind → found_by_kind m.frame.text_base kind space.image a ≡ Some found_there
-  by_kind m (EhFrame f) same named =
-      let address : described.frame_address space.image (tables_of m.frame.kind) ≡ Some step.finds.frame = subst (λ (h : described.Module). described.frame_address space.image h.tables ≡ Some step.finds.frame) (sym same) step.finds.address in
+  by_kind : (m : Module) (t : FrameInfo) (kind : FrameInfoKind) → elf_module m.start m.end t ≡ step.finds.home → t.kind ≡ kind → found_by_kind t.text_base kind space.image a ≡ Some found_there
+  by_kind m t (EhFrame f) same named =
+      let address : described.frame_address space.image (tables_of t.kind) ≡ Some step.finds.frame = subst (λ (h : described.Module). described.frame_address space.image h.tables ≡ Some step.finds.frame) (sym same) step.finds.address in
       let at : described.frame_address space.image (tables_of (EhFrame f)) ≡ Some step.finds.frame = rw named at address in
       let place : f ≡ step.finds.frame = cc in
-      let header : described.header_of (tables_of m.frame.kind) ≡ None = rw named refl in
-      let same_bases : described.bases_of step.finds.home step.finds.frame ≡ table_bases m.frame.text_base f =
-      subst (λ (h : described.Module). described.bases_of h step.finds.frame ≡ table_bases m.frame.text_base f) same
-      (subst (λ (g : ℕ). described.bases_of (module_of m) g ≡ table_bases m.frame.text_base f) place (rw header refl)) in
+      let header : described.header_of (tables_of t.kind) ≡ None = rw named refl in
+      let same_bases : described.bases_of step.finds.home step.finds.frame ≡ table_bases t.text_base f =
+      subst (λ (h : described.Module). described.bases_of h step.finds.frame ≡ table_bases t.text_base f) same
+      (subst (λ (g : ℕ). described.bases_of (elf_module m.start m.end t) g ≡ table_bases t.text_base f) place (rw header refl)) in
       rw (← same_bases, place) scans
-  by_kind m (EhFrameHdr h) same named =
+  by_kind m t (EhFrameHdr h) same named =
       let names : step.finds.home.tables ≡ described.Header h = ap (λ (k : described.Module). k.tables) (sym same) ∙ ap tables_of named in
-      let text : m.frame.text_base ≡ step.finds.home.text = ap (λ (k : described.Module). k.text) same in
+      let text : t.text_base ≡ step.finds.home.text = ap (λ (k : described.Module). k.text) same in
       let finds = header_finds space.image step.finds.home step.finds.part step.finds.home_describes h names laid a in
       rw text (rw step.finds.framed at finds ∙ scans)
 
@@ -65,16 +67,19 @@ module _ (space : SpaceValue) (columns : Columns) (a : ℕ) (call : Call) (apart
   pub record HasFound : Type 0 where
     pub holder : Module
     pub holds : module_at space.modules a ≡ Some holder
-    pub finds : found_by_kind holder.frame.text_base holder.frame.kind space.image a ≡ Some found_there
+    pub frame : FrameInfo
+    pub elf : holder.tables ≡ Elf frame
+    pub finds : found_by_kind frame.text_base frame.kind space.image a ≡ Some found_there
 
   pub has_found : HasFound
   has_found =
       let named : IsOf space.modules step.finds.home = contains_map space.modules step.finds.home step.finds.known in
       let m : Module = named.named in
-      let inside : IsTrue (described.in_module a (module_of m)) = subst (λ (h : described.Module). IsTrue (described.in_module a h)) (sym named.same) step.finds.inside in
+      let t : FrameInfo = named.frame in
+      let inside : IsTrue (described.in_module a (elf_module m.start m.end t)) = subst (λ (h : described.Module). IsTrue (described.in_module a h)) (sym named.same) step.finds.inside in
       let both = lists.both_true (leb m.start a) (ltb a m.end) inside in
       let found : module_at space.modules a ≡ Some m = module_at-contains 0 space.modules m a apart named.among (leb-true m.start a both.0) (ltb-true a m.end both.1) in
-      record { holder = m; holds = found; finds = by_kind m m.frame.kind named.same refl }
+      record { holder = m; holds = found; frame = t; elf = named.elf; finds = by_kind m t t.kind named.same refl }
 
 module _ (space : SpaceValue) (c : Context) (s : State) (call : Call) (apart : AreApart 0 space.modules) (laid : IsLaidOut 0 space.image)
     (some : s.ra ≢ 0) (shows : Shows (columns_of c) s) where
@@ -87,14 +92,15 @@ module _ (space : SpaceValue) (c : Context) (s : State) (call : Call) (apart : A
   interrupted_undone step =
       let has : HasFound space (columns_of c) s.ra call apart laid step = has_found space (columns_of c) s.ra call apart laid step in
       let there : FoundFde = record { fde = step.finds.fde; bases = described.bases_of step.finds.home step.finds.frame; table = input_at space.image step.finds.frame } in
-      let frame : FrameAt = record { found = there; run = step.finds.run } in
+      let frame : FrameAt = Described (record { found = there; run = step.finds.run }) in
+      let elf : has.holder.tables ≡ Elf has.frame = has.elf in
       let next : Stepped = record { context = context_of step.undoes.caller; signal = false } in
       let at : c.ra ≡ s.ra = ra_is in
       let nonzero : eqb s.ra 0 ≡ false = let other : s.ra ≢ 0 = some in grind (arith, nat_tests) in
       let row : row_at (described.bases_of step.finds.home step.finds.frame) step.finds.fde s.ra ≡ Ok step.finds.run = step.finds.has_row in
       let holds : module_at space.modules s.ra ≡ Some has.holder = has.holds in
-      let finds : found_by_kind has.holder.frame.text_base has.holder.frame.kind space.image s.ra ≡ Some there = has.finds in
-      let framed : frame_of space c true ≡ Ok (Some frame) = rw (at, nonzero, holds, finds, row) refl in
+      let finds : found_by_kind has.frame.text_base has.frame.kind space.image s.ra ≡ Some there = has.finds in
+      let framed : frame_of space c true ≡ Ok (Some frame) = rw (at, nonzero, holds, elf, finds, row) refl in
       let called : caller_by space.image c frame ≡ Ok next = rw (step.undoes.is_caller, step.finds.no_signal) refl in
       let kept : columns_of (context_of step.undoes.caller) ≡ step.undoes.caller = λ i k. context_of-holds c step.undoes.caller call.caller step.undoes.shows step.undoes.others k i in
       record {

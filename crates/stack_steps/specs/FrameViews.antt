@@ -10,26 +10,41 @@ use Rattle.fde_finders.specs.FoundViews.{answered}
 use Rattle.fde_finders.specs.Finding.{FoundFde}
 use Rattle.stack_steps.specs.declared.answers.DeliverError.{DeliverError}
 use Rattle.stack_steps.specs.declared.stepping.FoundFrame.{FoundFrame}
-use Rattle.stack_steps.specs.declared.stepping.FoundFrame.TheVariants.{Searched, Prepared}
-use Rattle.stack_steps.specs.Stepping.{FrameAt}
+use Rattle.stack_steps.specs.declared.stepping.FoundFrame.TheVariants as code
+use Rattle.stack_steps.specs.declared.frames.CompactFrame.{CompactFrame}
+use Rattle.stack_steps.specs.declared.frames.RecordedFrame.{RecordedFrame}
+use Rattle.stack_steps.specs.declared.prepared.PreparedTable.{PreparedTable}
+use Rattle.stack_steps.specs.Stepping.{FrameAt, Described, Compact, Recorded}
+use Rattle.unwind_definitions.specs.Entries.{Fde}
+use Rattle.pe_unwind_info.specs.FunctionTable.{functions_of, lookup_of, table_bytes}
+use Rattle.format_frames.specs.Modules.{macho_module, pe_module}
 
--- what was found: by a search, or by the index of a prepared module
-abbrev pub seen : FoundFrame → FoundFde
-seen (Searched found) = answered found
-seen (Prepared table frame) = record { fde = frame.fde; bases = bases_of table.now.bases; table = table_of table.now.frames }
+-- what the index of a prepared module finds
+abbrev pub prepared_fde : PreparedTable → Fde → FoundFde
+prepared_fde table fde = record { fde = fde; bases = bases_of table.bases; table = table_of table.frames }
 
+-- its row: the one in a room, or the one that the index lends
 abbrev pub IsKeptRow : Result RowValue Fault → RowInstructions → Type 0
 IsKeptRow (Ok row) run = IsRowOf row run
 IsKeptRow (Err e) run = ⊥
 
--- its row: the one in a room, or the one that the index lends
-abbrev pub IsRowIn : FoundFrame → RowValue → RowInstructions → Type 0
-IsRowIn (Searched found) row run = IsRowOf row run
-IsRowIn (Prepared table frame) row run = IsKeptRow frame.row run
+-- a frame is that of a description, with such a row
+abbrev pub IsDescribedBy : FoundFde → (RowInstructions → Type 0) → FrameAt → Type 0
+IsDescribedBy found IsRow (Described f) = (found ≡ f.found) × IsRow f.run
+IsDescribedBy found IsRow _ = ⊥
+
+abbrev pub compact_frame_of : CompactFrame → FrameAt
+compact_frame_of f = Compact (macho_module f.container) f.address f.function
+
+abbrev pub recorded_frame_of : RecordedFrame → FrameAt
+recorded_frame_of f = Recorded (pe_module f.container) f.rva (lookup_of (functions_of (table_bytes f.functions)) f.rva)
 
 -- what was found, and its row, as a frame of the definitions
 abbrev pub IsFrameOf : FoundFrame → RowValue → FrameAt → Type 0
-IsFrameOf frame row due = (seen frame ≡ due.found) × IsRowIn frame row due.run
+IsFrameOf (code.Searched found) row due = IsDescribedBy (answered found) (IsRowOf row) due
+IsFrameOf (code.Prepared table frame) row due = IsDescribedBy (prepared_fde table.now frame.fde) (IsKeptRow frame.row) due
+IsFrameOf (code.Compact frame) row due = due ≡ compact_frame_of frame
+IsFrameOf (code.Recorded frame) row due = due ≡ recorded_frame_of frame
 
 -- what is found at a state, and the row that it leaves in its room
 abbrev pub GivesFrameAt : Result (Option FoundFrame) DeliverError → RowValue → Result (Option FrameAt) DeliverError → Type 0

@@ -14,8 +14,10 @@ use Rattle.stack_steps.specs.declared.prepared.PreparedTable.{PreparedTable}
 use Rattle.stack_steps.specs.declared.space.Extent.{Extent}
 use Rattle.stack_steps.specs.declared.space.Held.{Held}
 use Rattle.stack_steps.specs.declared.space.Module.{Module}
-use Rattle.stack_steps.specs.Modules.{Added, AreApart, module_of, modules_in}
-use Rattle.stack_steps.specs.Preparing.{HasNoIndex, Lists, CannotPrepare, Stays, fdes_in, rows_left, rules_left}
+use Rattle.stack_steps.specs.declared.space.ModuleTables.{ModuleTables}
+use Rattle.stack_steps.specs.declared.space.ModuleTables.TheVariants.{Elf}
+use Rattle.stack_steps.specs.Modules.{Added, AreApart, IsPlaced, module_of, modules_in}
+use Rattle.stack_steps.specs.Preparing.{HasNoIndexIn, Lists, CannotPrepare, Stays, fdes_in, rows_left, rules_left}
 
 -- ---- an index, and the table that it is of
 
@@ -32,16 +34,21 @@ pub record IsTableOf (image : List Span) (tables : FrameInfo) (t : PreparedTable
   pub prepared : IsPreparedFrom (bases_of t.bases) (table_of t.frames) t.index
   pub listed : Lists tables.kind (kept_table t pairs) (fdes_in t.index)
 
+-- only an ELF module has such a table
+abbrev pub IsTableIn : List Span → ModuleTables → PreparedTable → Type 0
+IsTableIn image (Elf tables) t = IsTableOf image tables t
+IsTableIn image _ t = ⊥
+
 -- a table that is prepared keeps no more than is left
-pub record IsTableWithin (image : List Span) (tables : FrameInfo) (left : Left) (t : PreparedTable) : Type 0 where
-  pub is_table : IsTableOf image tables t
+pub record IsTableWithin (image : List Span) (tables : ModuleTables) (left : Left) (t : PreparedTable) : Type 0 where
+  pub is_table : IsTableIn image tables t
   pub rows_fit : t.index.row_count ≤ left.rows
   pub rules_fit : t.index.rule_count ≤ left.rules
-  pub fits : ¬ HasNoIndex image tables left.rows left.rules
+  pub fits : ¬ HasNoIndexIn image tables left.rows left.rules
 
 abbrev pub PreparesTable : List Span → FrameInfo → Left → Option PreparedTable → Type 0
 PreparesTable image tables left None = CannotPrepare image tables left.rows left.rules
-PreparesTable image tables left (Some t) = IsTableWithin image tables left t
+PreparesTable image tables left (Some t) = IsTableWithin image (Elf tables) left t
 
 -- ---- modules in the order of adding
 
@@ -51,19 +58,20 @@ added_of h = record { holder = h.holder; index = option_map index_in h.table }
 abbrev pub holder_of : Held → Module
 holder_of h = h.holder
 
-abbrev pub IsTable : List Span → FrameInfo → Option PreparedTable → Type 0
+abbrev pub IsTable : List Span → ModuleTables → Option PreparedTable → Type 0
 IsTable image tables None = Unit {0}
-IsTable image tables (Some t) = IsTableOf image tables t
+IsTable image tables (Some t) = IsTableIn image tables t
 
-abbrev pub IsHeld : List Span → Held → Type 0
-IsHeld image h = IsTable image h.holder.frame h.table
+pub record IsHeld (image : List Span) (h : Held) : Type 0 where
+  pub is_table : IsTable image h.holder.tables h.table
+  pub placed : IsPlaced h.holder
 
 -- ---- what is made for modules
 
 -- for a module that wasn't prepared its table with an index, if there is one
 abbrev pub MakesTable : List Span → Left → Held → Option PreparedTable → Type 0
 MakesTable image left h None = Stays image left.rows left.rules (added_of h)
-MakesTable image left h (Some t) = (h.table ≡ None) × IsTableWithin image h.holder.frame left t
+MakesTable image left h (Some t) = (h.table ≡ None) × IsTableWithin image h.holder.tables left t
 
 -- what an index leaves, which keeps a row at least
 pub record LeavesBy (left : Left) (index : Index) (after : Left) : Type 0 where
@@ -95,7 +103,7 @@ with_tables (h ∷ hs) (o ∷ made) = with_table h o ∷ with_tables hs made
 
 -- the module by start at a place of the order of adding
 abbrev pub entry_at : ℕ → Module → ℕ × Extent
-entry_at place m = (m.start, record { end = m.end; frame = m.frame; place = place })
+entry_at place m = (m.start, record { end = m.end; tables = m.tables; place = place })
 
 -- each module by start stands at its place
 abbrev pub StandsAt : List Held → ℕ × Extent → Type 0

@@ -3,6 +3,7 @@ pub mod FrameViews
 pub mod Held
 pub mod Modules
 pub mod Preparing
+pub mod PreparedSample
 pub mod Results
 pub mod SpaceViews
 pub mod Stepping
@@ -10,3 +11,4 @@ pub mod StopSample
 pub mod Stopped
 pub mod Ticking
 pub mod Undoing
+pub mod FormatViews

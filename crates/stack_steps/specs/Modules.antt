@@ -1,11 +1,14 @@
 -- Modules by address, and which of them a space takes.
-use Rattle.std.specs.Prelude.{ℕ, ◌<◌, ◌≤◌, Bool, ◌&&◌, List, [], ◌∷◌, Option, Some, None, nat_le, nat_lt, map, if◌then◌else◌}
+use Rattle.std.specs.Prelude.{ℕ, ◌+◌, ◌-◌, ◌^◌, ◌<◌, ◌≤◌, Bool, true, ◌&&◌, List, [], ◌∷◌, ◌++◌, Option, Some, None, nat_le, nat_lt, map, if◌then◌else◌}
+use Rattle.std.specs.List.{AllByRecursion}
 use Rattle.std.specs.Option.{option_map}
 use Rattle.memory_image.specs.Image.{Span, lower}
 use Rattle.eh_frame.specs.Index.{Index}
 use Rattle.stack_steps.specs.declared.space.SpaceError.{SpaceError}
 use Rattle.stack_steps.specs.declared.space.SpaceError.TheVariants.{Wraps, Overlap}
 use Rattle.stack_steps.specs.declared.space.Module.{Module}
+use Rattle.stack_steps.specs.declared.space.ModuleTables.{ModuleTables}
+use Rattle.stack_steps.specs.declared.space.ModuleTables.TheVariants.{Elf, Macho, Pe}
 use Rattle.stack_steps.specs.declared.space.Extent.{Extent}
 
 -- a module that was added, and the index of its frame table, where the module is prepared
@@ -50,14 +53,59 @@ lowest_shared (m ∷ ms) start end = if shares m start end then lower m.start (l
 abbrev pub module_refusal : List Module → Module → Option SpaceError
 module_refusal ms m = if nat_le m.end m.start then Some Wraps else option_map Overlap (lowest_shared ms m.start m.end)
 
+-- a module of so many bytes
+abbrev pub sized : ℕ → ℕ → ModuleTables → Module
+sized base size tables = record { start = base; end = base + size; tables = tables }
+
+abbrev pub macho_sized : ℕ → ℕ → ℕ → Option ℕ → Module
+macho_sized base size unwind_info frames = sized base size (Macho (record { unwind_info = unwind_info; frames = frames }))
+
+abbrev pub pe_sized : ℕ → ℕ → ℕ → ℕ → Module
+pe_sized base size table_rva table_size = sized base size (Pe (record { table_rva = table_rva; table_size = table_size }))
+
+-- the same of a module that is given by its size, which may pass the highest address
+abbrev pub sized_refusal : List Module → Module → Option SpaceError
+sized_refusal ms m = if nat_le (2 ^ 64) m.end then Some Wraps else module_refusal ms m
+
+-- In a Mach-O or a PE module an address is known by how far it is from the base, a number of 32 bits.
+abbrev pub FitsIn : ModuleTables → ℕ → Type 0
+FitsIn (Elf t) size = Unit {0}
+FitsIn (Macho t) size = size < 2 ^ 32
+FitsIn (Pe t) size = size < 2 ^ 32
+
+abbrev pub IsPlaced : Module → Type 0
+IsPlaced m = FitsIn m.tables (m.end - m.start)
+
+-- a Mach-O or a PE module has fewer than 2 ^ 32 bytes
+abbrev pub fits : ModuleTables → ℕ → Bool
+fits (Elf tables) size = true
+fits (Macho tables) size = nat_lt size (2 ^ 32)
+fits (Pe tables) size = nat_lt size (2 ^ 32)
+
+-- why a module is not taken beside these
+abbrev pub given_refusal : List Module → Module → Option SpaceError
+given_refusal taken m = if fits m.tables (m.end - m.start) then module_refusal taken m else Some Wraps
+
+-- all modules are ELF modules
+abbrev pub HasElfTables : ModuleTables → Type 0
+HasElfTables (Elf t) = Unit {0}
+HasElfTables _ = ⊥
+
+abbrev pub AreElf : List Module → Type 0
+AreElf ms = AllByRecursion (λ (m : Module). HasElfTables m.tables) ms
+
 -- the modules with one more, by ascending start
 abbrev pub with_module : Module → List Module → List Module
 with_module m [] = m ∷ []
 with_module m (n ∷ ns) = if nat_lt m.start n.start then m ∷ n ∷ ns else n ∷ with_module m ns
 
+-- a space with one more module, which isn't prepared
+abbrev pub with_added : Module → SpaceValue → SpaceValue
+with_added m space = record space { modules = with_module m space.modules; added = space.added ++ unprepared m ∷ [] }
+
 -- the module that starts at a key of the map
 abbrev pub module_of : ℕ × Extent → Module
-module_of e = record { start = e.0; end = e.1.end; frame = e.1.frame }
+module_of e = record { start = e.0; end = e.1.end; tables = e.1.tables }
 
 -- the modules that a map from starts holds
 abbrev pub modules_in : List (ℕ × Extent) → List Module

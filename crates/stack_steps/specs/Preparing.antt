@@ -1,7 +1,7 @@
 -- Which modules of a space are prepared, by what index, and which become so.
 -- LSB, sections on .eh_frame and .eh_frame_hdr.
-use Rattle.std.specs.Prelude.{◌≡◌, ◌⊎◌, ℕ, ◌-◌, ◌<◌, ◌≤◌, List, [], ◌∷◌, length, map, Option, Some, None, IsSome, is_some, if◌then◌else◌}
-use Rattle.std.specs.List.{count_by, sum_by}
+use Rattle.std.specs.Prelude.{◌≡◌, ◌⊎◌, ℕ, ◌-◌, ◌<◌, ◌≤◌, List, [], ◌∷◌, length, map, Option, Some, None, IfSome, IsSome, is_some, if◌then◌else◌}
+use Rattle.std.specs.List.{Contains, count_by, sum_by}
 use Rattle.memory_image.specs.Image.{Span}
 use Rattle.unwind_definitions.specs.Entries.{Fde}
 use Rattle.unwind_definitions.specs.Header.{PairTable}
@@ -11,6 +11,8 @@ use Rattle.fde_finders.specs.declared.custom.FrameInfo.{FrameInfo}
 use Rattle.fde_finders.specs.declared.custom.FrameInfoKind.{FrameInfoKind}
 use Rattle.fde_finders.specs.declared.custom.FrameInfoKind.TheVariants.{EhFrame, EhFrameHdr}
 use Rattle.fde_finders.specs.FrameTables.{FrameTable, table_by}
+use Rattle.stack_steps.specs.declared.space.ModuleTables.{ModuleTables}
+use Rattle.stack_steps.specs.declared.space.ModuleTables.TheVariants.{Elf}
 use Rattle.stack_steps.specs.Modules.{Added, SpaceValue, contains}
 
 -- ---- the index of a module
@@ -56,6 +58,19 @@ pub record IsUnlisted (image : List Span) (tables : FrameInfo) : Type 0 where
 abbrev pub CannotPrepare : List Span → FrameInfo → ℕ → ℕ → Type 0
 CannotPrepare image tables rows rules = (table_by tables image ≡ None) ⊎ (HasNoIndex image tables rows rules ⊎ IsUnlisted image tables)
 
+-- the same of a module: only an ELF module can be prepared
+abbrev pub IsIndexIn : List Span → ModuleTables → Index → Type 0
+IsIndexIn image (Elf tables) index = IsIndexOf image tables index
+IsIndexIn image _ index = ⊥
+
+abbrev pub HasNoIndexIn : List Span → ModuleTables → ℕ → ℕ → Type 0
+HasNoIndexIn image (Elf tables) rows rules = HasNoIndex image tables rows rules
+HasNoIndexIn image _ rows rules = Unit {0}
+
+abbrev pub CannotPrepareIn : List Span → ModuleTables → ℕ → ℕ → Type 0
+CannotPrepareIn image (Elf tables) rows rules = CannotPrepare image tables rows rules
+CannotPrepareIn image _ rows rules = Unit {0}
+
 -- ---- the indexes of a space
 
 abbrev pub rows_of : Option Index → ℕ
@@ -85,6 +100,11 @@ abbrev pub len_of : Option Index → ℕ
 len_of None = 0
 len_of (Some index) = length index.functions
 
+-- A module in the order of adding is one of those by start, and its index is one of its frame table.
+pub record IsAddedTo (space : SpaceValue) (m : Added) : Type 0 where
+  pub among : Contains space.modules m.holder
+  pub indexed : IfSome m.index (IsIndexIn space.image m.holder.tables)
+
 -- how many descriptions the index of that module has
 abbrev pub prepared_len : SpaceValue → ℕ → ℕ
 prepared_len space a = len_of (index_at space.added a)
@@ -94,15 +114,15 @@ prepared_len space a = len_of (index_at space.added a)
 -- a module that wasn't prepared gets an index, which keeps no more rows and rules than are left
 pub record Becomes (image : List Span) (rows rules : ℕ) (m : Added) (index : Index) : Type 0 where
   pub unprepared : m.index ≡ None
-  pub is_index : IsIndexOf image m.holder.frame index
+  pub is_index : IsIndexIn image m.holder.tables index
   pub rows_fit : index.row_count ≤ rows
   pub rules_fit : index.rule_count ≤ rules
   pub some : 0 < index.row_count
-  pub fits : ¬ HasNoIndex image m.holder.frame rows rules
+  pub fits : ¬ HasNoIndexIn image m.holder.tables rows rules
 
 -- it gets none where it has one, or can't be prepared
 abbrev pub Stays : List Span → ℕ → ℕ → Added → Type 0
-Stays image rows rules m = IsSome m.index ⊎ CannotPrepare image m.holder.frame rows rules
+Stays image rows rules m = IsSome m.index ⊎ CannotPrepareIn image m.holder.tables rows rules
 
 abbrev pub BecomesBy : List Span → ℕ → ℕ → Added → Option Index → Type 0
 BecomesBy image rows rules m None = Stays image rows rules m

@@ -1,17 +1,30 @@
 -- A space as the process of the definitions: memory, and the modules that lie in it.
-use Rattle.std.specs.Prelude.{map}
+use Rattle.std.specs.Prelude.{ℕ, Option, Some, None}
+use Rattle.std.specs.List.{filter_map}
 use Rattle.unwind_definitions.specs.Module.{Tables, Frames, Header, Module as Described, Process}
+use Rattle.fde_finders.specs.declared.custom.FrameInfo.{FrameInfo}
 use Rattle.fde_finders.specs.declared.custom.FrameInfoKind.{FrameInfoKind}
 use Rattle.fde_finders.specs.declared.custom.FrameInfoKind.TheVariants.{EhFrame, EhFrameHdr}
 use Rattle.stack_steps.specs.declared.space.Module.{Module}
+use Rattle.stack_steps.specs.declared.space.ModuleTables.{ModuleTables}
+use Rattle.stack_steps.specs.declared.space.ModuleTables.TheVariants.{Elf, Macho, Pe}
 use Rattle.stack_steps.specs.Modules.{SpaceValue}
 
 abbrev pub tables_of : FrameInfoKind → Tables
 tables_of (EhFrame a) = Frames a
 tables_of (EhFrameHdr h) = Header h
 
-abbrev pub module_of : Module → Described
-module_of m = record { start = m.start; end = m.end; text = m.frame.text_base; tables = tables_of m.frame.kind }
+abbrev pub elf_module : ℕ → ℕ → FrameInfo → Described
+elf_module start end frame = record { start = start; end = end; text = frame.text_base; tables = tables_of frame.kind }
+
+-- an ELF module; no other is one of the process
+abbrev pub elf_in : ℕ → ℕ → ModuleTables → Option Described
+elf_in start end (Elf frame) = Some (elf_module start end frame)
+elf_in start end (Macho tables) = None
+elf_in start end (Pe tables) = None
+
+abbrev pub elf_of : Module → Option Described
+elf_of m = elf_in m.start m.end m.tables
 
 abbrev pub process_of : SpaceValue → Process
-process_of space = record { image = space.image; modules = map module_of space.modules }
+process_of space = record { image = space.image; modules = filter_map elf_of space.modules }

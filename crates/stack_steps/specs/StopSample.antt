@@ -12,6 +12,7 @@ use Rattle.unwind_laws.specs.Pushing as pushing
 use Rattle.unwind_laws.specs.Storing.{cie, state}
 use Rattle.unwind_arch.specs.declared.x86_64.Context.{Context}
 use Rattle.fde_finders.specs.declared.custom.FrameInfoKind.TheVariants.{EhFrame}
+use Rattle.stack_steps.specs.declared.space.ModuleTables.TheVariants.{Elf}
 use Rattle.stack_steps.specs.Modules.{SpaceValue, unprepared}
 use Rattle.stack_steps.specs.declared.space.Module.{Module as LoadedModule}
 
@@ -92,7 +93,7 @@ in_body_of_it = state 0x401012 0x6ff0 1 0x7020 2
 -- ---- a function that pushes RBX, stopped before it does and in its body
 
 abbrev pub pushing_module : LoadedModule
-pushing_module = record { start = 0x401000; end = 0x401010; frame = record { text_base = None; kind = EhFrame 0x500000 } }
+pushing_module = record { start = 0x401000; end = 0x401010; tables = Elf (record { text_base = None; kind = EhFrame 0x500000 }) }
 
 abbrev pub pushing_space : SpaceValue
 pushing_space = record { image = pushing.image; modules = pushing_module ∷ []; added = unprepared pushing_module ∷ [] }

@@ -12,7 +12,7 @@ use Rattle.unwind_definitions.specs.Stopped.{StandsAfter}
 use Rattle.unwind_definitions.specs.Valid.{IsDescribedChain, LiesDescribed}
 use Rattle.unwind_arch.specs.declared.x86_64.Context.{Context}
 use Rattle.unwind_arch.specs.ContextViews.{columns_of}
-use Rattle.stack_steps.specs.Modules.{SpaceValue}
+use Rattle.stack_steps.specs.Modules.{AreElf, SpaceValue}
 use Rattle.stack_steps.specs.SpaceViews.{process_of}
 
 -- A state stands in the prologue of a function, after some of its steps, perhaps none or all, and before the others.
@@ -37,10 +37,11 @@ pub record IsDescribedStop (p : Process) (functions : List Function) (s : State)
   pub stands : StandsInPrologue p.image s c ⊎ StandsInBody p.image s c
   pub caller : IsState c.caller
 
--- A context shows a state that was so stopped, whose caller's state is the innermost of a described chain of calls. The limit has
--- room for all of them.
+-- A context shows a state that was so stopped, whose caller's state is the innermost of a described chain of calls. All modules
+-- are ELF modules, and the limit has room for all states.
 pub record StartsStopped (space : SpaceValue) (c : Context) (limit : ℕ) (functions : List Function) (s : State) (call : Call) (calls : List Call) : Type 0 where
   pub stopped : IsDescribedStop (process_of space) functions s call
   pub described : IsDescribedChain (process_of space) functions call.caller calls
   pub shows : Shows (columns_of c) s
+  pub elf : AreElf space.modules
   pub shorter : length calls + 1 < limit

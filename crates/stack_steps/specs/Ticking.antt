@@ -9,13 +9,20 @@ use Rattle.eh_frame.specs.Index.{AreFewSteps, Index}
 use Rattle.fde_finders.specs.declared.custom.FrameInfoKind.TheVariants.{EhFrame}
 use Rattle.fde_finders.specs.Named.{pairs_by}
 use Rattle.stack_steps.specs.declared.space.Module.{Module}
+use Rattle.stack_steps.specs.declared.space.ModuleTables.{ModuleTables}
+use Rattle.stack_steps.specs.declared.space.ModuleTables.TheVariants.{Elf, Macho, Pe}
 use Rattle.stack_steps.specs.Modules.{Added, SpaceValue, module_at}
 use Rattle.stack_steps.specs.Preparing.{index_at, index_of, len_of}
 
--- how many pairs of a header's table are searched in a module: none where it names a frame table
+-- how many pairs of a header's table are searched in a module: none where it names a frame table, and none in one of another format
+abbrev pub pairs_in : List Span → ModuleTables → ℕ
+pairs_in image (Elf tables) = pairs_by tables image
+pairs_in image (Macho tables) = 0
+pairs_in image (Pe tables) = 0
+
 abbrev pub pairs_in_module : List Span → Option Module → ℕ
 pairs_in_module image None = 0
-pairs_in_module image (Some m) = pairs_by m.frame image
+pairs_in_module image (Some m) = pairs_in image m.tables
 
 -- how long the list is that is searched: the index of a prepared module, or else the table of a header
 abbrev pub searched_in : List Span → Option Index → Option Module → ℕ
@@ -34,7 +41,7 @@ RisesBySearch many old new = (taken : ℕ) × (new ≡ old + taken) × AreWithin
 
 -- in a module: by its index, where it has one, and else by the table of its header
 abbrev pub TicksBy : List Span → Module → Option Index → ℕ → ℕ → Type 0
-TicksBy image m None old new = RisesBySearch (pairs_by m.frame image) old new
+TicksBy image m None old new = RisesBySearch (pairs_in image m.tables) old new
 TicksBy image m (Some index) old new = AreFewSteps (length index.functions) old new
 
 abbrev pub TicksIn : List Span → Added → ℕ → ℕ → Type 0
@@ -46,19 +53,24 @@ pub record TicksAt (space : SpaceValue) (c : Context) (interrupted : Bool) (old 
   pub nowhere : c.ra ≢ 0 → module_at space.modules (address_of_call c.ra interrupted) ≡ None → (index_at space.added (address_of_call c.ra interrupted) ≡ None) × (new ≡ old)
   pub somewhere : c.ra ≢ 0 → (m : Module) → module_at space.modules (address_of_call c.ra interrupted) ≡ Some m → TicksBy space.image m (index_at space.added (address_of_call c.ra interrupted)) old new
 
--- the address asked is in a module that isn't prepared and that names its frame table itself
+-- a module names its frame table itself, or is of another format
+abbrev pub IsUnsearched : ModuleTables → Type 0
+IsUnsearched (Elf tables) = (frame : ℕ) × (tables.kind ≡ EhFrame frame)
+IsUnsearched (Macho tables) = Unit {0}
+IsUnsearched (Pe tables) = Unit {0}
+
+-- the address asked is in a module that isn't prepared and in which nothing is searched
 pub record IsScannedAt (space : SpaceValue) (c : Context) (interrupted : Bool) : Type 0 where
   pub returns : c.ra ≢ 0
   pub holder : Module
   pub holds : module_at space.modules (address_of_call c.ra interrupted) ≡ Some holder
-  pub frame : ℕ
-  pub names : holder.frame.kind ≡ EhFrame frame
+  pub unsearched : IsUnsearched holder.tables
   pub unprepared : index_at space.added (address_of_call c.ra interrupted) ≡ None
 
 -- The number of pairs of each module's header, and that of the descriptions of each index, can be written with so many binary
 -- digits: with none where each module names a frame table, and none is prepared.
 abbrev pub CountsWithin : SpaceValue → ℕ → Type 0
-CountsWithin space digits = AllByRecursion (λ (m : Module). pairs_by m.frame space.image < 2 ^ digits) space.modules × AllByRecursion (λ (m : Added). len_of (index_of m) < 2 ^ digits) space.added
+CountsWithin space digits = AllByRecursion (λ (m : Module). pairs_in space.image m.tables < 2 ^ digits) space.modules × AllByRecursion (λ (m : Added). len_of (index_of m) < 2 ^ digits) space.added
 
 -- A count of steps rises by no more than so many searches take, whichever modules of a space they are in.
 abbrev pub RisesWithin : SpaceValue → ℕ → ℕ → ℕ → Type 0

@@ -4,6 +4,7 @@ ghost use Rattle.stack_steps.specs.declared.answers.DeliverError.{DeliverError};
 ghost use Rattle.stack_steps.specs.declared.answers.DeliverError.TheVariants.{NoMemory};
 
 use eh_frame::Error;
+use format_frames::FrameError;
 use std::alloc::AllocError;
 use unwind_arch::x86_64::Context;
 use unwinding_frames::StepError;
@@ -39,6 +40,27 @@ pub enum DeliverError {
     /// The call frame bytes of a visited address can't be read or run.
     #[error("call frame information: {0}")]
     Table(Error),
+    /// The section of compact unwinding of a Mach-O module, or what a look-up in it comes to, can't
+    /// be read.
+    #[error("compact unwinding: {0}")]
+    MachO(macho_unwind_info::Error),
+    /// In a delivery the opcode of a function says that it has a language table.
+    #[error("the function's opcode has a language table")]
+    CompactHandler,
+    /// The opcode of a function gives no caller: it is null, invalid or of an unknown kind, or asks
+    /// for frame data that wasn't handed in.
+    #[error("the function's opcode gives no caller")]
+    CompactForm,
+    /// The function table of a PE module, an unwind record, or the code up to a function's end that
+    /// may be an epilog's can't be read.
+    #[error("the module's unwind data can't be read")]
+    PeInfo,
+    /// In a delivery an unwind record of a PE module names a handler.
+    #[error("the function's unwind record names a handler")]
+    PeHandler,
+    /// More than 32 unwind records are chained to the first one.
+    #[error("more than 32 chained unwind records")]
+    ChainLimit,
 }
 
 impl From<AllocError> for DeliverError {
@@ -59,6 +81,23 @@ impl From<StepError> for DeliverError {
         match e {
             StepError::Table(error) => DeliverError::Table(error),
             StepError::Unmapped(address) => DeliverError::Unmapped(address),
+        }
+    }
+}
+
+impl From<FrameError> for DeliverError {
+    ghost use Rattle.stack_steps.specs.FormatViews.{format_error};
+
+    ghost from_gives = { λ e r. r ≡ format_error e };
+
+    fn from(e: FrameError) -> DeliverError {
+        match e {
+            FrameError::MachO(error) => DeliverError::MachO(error),
+            FrameError::CompactForm => DeliverError::CompactForm,
+            FrameError::PeInfo(_) => DeliverError::PeInfo,
+            FrameError::ChainLimit => DeliverError::ChainLimit,
+            FrameError::Table(error) => DeliverError::Table(error),
+            FrameError::Unmapped(address) => DeliverError::Unmapped(address),
         }
     }
 }

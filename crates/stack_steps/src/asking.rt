@@ -1,28 +1,57 @@
 // What the language of a frame asks. Itanium C++ ABI, exception handling, level II.
 ghost use Rattle.std.specs.Prelude.{◌≡◌};
+ghost use Rattle.fde_finders.specs.FoundViews.{answered};
+ghost use Rattle.frame_rows.specs.RowValue.{RowValue};
 ghost use Rattle.unwinding_frames.specs.LanguageViews.{action_of};
-ghost use Rattle.stack_steps.specs.Asking.{action_asked};
-ghost use Rattle.stack_steps.specs.FrameViews.{seen};
+ghost use Rattle.stack_steps.specs.Asking.{action_asked, described_action};
+ghost use Rattle.stack_steps.specs.FrameViews.{IsFrameOf};
 ghost use Rattle.stack_steps.specs.Results.{result_map};
+ghost use Rattle.stack_steps.specs.Stepping.{FrameAt};
 
 use crate::answers::{DeliverError, Stepped};
 use crate::stepping::FoundFrame;
+use fde_finders::FDESearchResult;
 use memory_image::MemoryImage;
 use unwinding_frames::{EhAction, eh_action_of, personality_of};
 
+/// What is asked by a description.
+fn described_asked(
+    image: &MemoryImage<'_>,
+    state: &Stepped,
+    found: &FDESearchResult<'_>,
+) -> Result<EhAction, DeliverError>
+    ensures { result_map action_of result ≡ described_action image.now state.now.context
+        state.now.signal (answered found.now) }
+{
+    match personality_of(found, image)? {
+        None => Ok(EhAction::None),
+        Some(_) => Ok(eh_action_of(found, image, state.address()).unwrap_or(EhAction::Terminate)),
+    }
+}
+
 /// What the language of a frame asks. A language table that can't be read ends the program, but
 /// what names the personality has to be read.
+///
+/// # Errors
+///
+/// `Unmapped` where the cell that names the personality isn't wholly mapped; `CompactHandler` where
+/// the opcode of a function says that it has a language table; `PeHandler` where an unwind record of
+/// a PE frame names a handler, and `PeInfo` and `ChainLimit` where its records can't all be read.
 pub fn asked(
     image: &MemoryImage<'_>,
     state: &Stepped,
     frame: &FoundFrame<'_, '_>,
 ) -> Result<EhAction, DeliverError>
-    ensures { result_map action_of result ≡ action_asked image.now state.now.context
-        state.now.signal (seen frame.now) }
+    ensures { (row : RowValue) (f : FrameAt) → IsFrameOf frame.now row f →
+        result_map action_of result ≡ action_asked image.now state.now.context
+        state.now.signal f }
 {
-    let found = frame.found();
-    match personality_of(&found, image)? {
-        None => Ok(EhAction::None),
-        Some(_) => Ok(eh_action_of(&found, image, state.address()).unwrap_or(EhAction::Terminate)),
+    match frame {
+        FoundFrame::Searched(found) => described_asked(image, state, found),
+        FoundFrame::Prepared(table, frame) => {
+            described_asked(image, state, &table.search_result(frame))
+        }
+        FoundFrame::Compact(frame) => frame.asked(),
+        FoundFrame::Recorded(frame) => frame.asked(image),
     }
 }

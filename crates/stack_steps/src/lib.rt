@@ -4,6 +4,8 @@
 
 mod answers;
 mod asking;
+mod frames;
+mod laws;
 mod prepared;
 mod space;
 mod stepping;
@@ -11,7 +13,9 @@ mod stops;
 
 pub use answers::{DeliverError, Stepped};
 pub use asking::asked;
+pub use frames::{CompactFrame, RecordedFrame};
+pub use laws::a_module_is_prepared;
 pub use prepared::PreparedTable;
-pub use space::{Module, Space, SpaceError};
+pub use space::{MachoTables, Module, ModuleTables, PeTables, Space, SpaceError};
 pub use stepping::{FoundFrame, frame_at, leave, step};
 pub use stops::{stops_after_each_step_are_described, walks_from_stops_are_described};

@@ -1,13 +1,15 @@
 // Frame tables of modules with their indexes.
 ghost use Rattle.std.specs.Prelude.{◌≡◌, ◌<◌, ◌≤◌, ◌^◌, IfOk, false, is_some, length, true};
 ghost use Rattle.std.specs.List.{count_by};
+ghost use Rattle.fde_finders.specs.FoundViews.{answered};
 ghost use Rattle.fde_finders.specs.NamedTables.{named_of};
+ghost use Rattle.stack_steps.specs.FrameViews.{prepared_fde};
 ghost use Rattle.stack_steps.specs.Held.{AreMade, LeavesBy, MakesTable, PreparesTable, with_tables};
 ghost use Rattle.stack_steps.specs.Preparing.{Lists, fdes_in};
 
-use crate::space::Held;
-use eh_frame::{Bases, EhFrame, Prepared};
-use fde_finders::{FrameInfo, FrameInfoKind, NamedTable, named_table};
+use crate::space::{Held, ModuleTables};
+use eh_frame::{Bases, EhFrame, Prepared, PreparedFrame};
+use fde_finders::{FDESearchResult, FrameInfo, FrameInfoKind, NamedTable, named_table};
 use memory_image::MemoryImage;
 use std::alloc::{AllocError, Global};
 
@@ -82,6 +84,19 @@ impl<'a> PreparedTable<'a> {
     }
 }
 
+impl<'a> PreparedTable<'a> {
+    /// What a search of the table answers, where its index finds a frame.
+    pub(crate) fn search_result(&self, frame: &PreparedFrame<'_, 'a>) -> FDESearchResult<'a>
+        ensures { answered result ≡ prepared_fde self.now frame.now.fde }
+    {
+        FDESearchResult {
+            fde: frame.fde(),
+            bases: self.bases,
+            eh_frame: self.frames,
+        }
+    }
+}
+
 /// Whether a header that a module names lists exactly the descriptions of an index, by ascending
 /// start.
 fn lists(kind: FrameInfoKind, named: &NamedTable<'_>, index: &Prepared<'_>) -> bool
@@ -113,7 +128,10 @@ fn table_for<'a>(
     if held.table.is_some() {
         return Ok(None);
     }
-    PreparedTable::build(alloc, image, held.holder.frame, left)
+    match held.holder.tables {
+        ModuleTables::Elf(tables) => PreparedTable::build(alloc, image, tables, left),
+        ModuleTables::Macho(_) | ModuleTables::Pe(_) => Ok(None),
+    }
 }
 
 /// The tables of the modules that aren't prepared yet and that can be, one after another, and what

@@ -1,10 +1,14 @@
 // An image of memory, and the modules that lie in it.
-ghost use Rattle.std.specs.Prelude.{◌≡◌, ◌<◌, ◌∷◌, ◌++◌, [], None, IfOk, IfSome, MatchOption, IsOkUnless, OnOk, OnErr};
+ghost use Rattle.std.specs.Prelude.{◌≡◌, ◌<◌, [], None, IfOk, IfSome, MatchOption, ◌-◌, ◌≤◌, true};
+ghost use Rattle.std.specs.Prelude.{IsOkUnless, OnOk, OnErr};
 ghost use Rattle.std.specs.List.{Contains};
 ghost use Rattle.std.specs.Option.{option_map};
 ghost use Rattle.memory_image.specs.Image.{IsLaidOut};
-ghost use Rattle.stack_steps.specs.Modules.{module_refusal, lowest_shared, module_at, module_of, unprepared, with_module, modules_in, AreApart};
-ghost use Rattle.stack_steps.specs.Modules.{last_below, first_between};
+ghost use Rattle.stack_steps.specs.Modules.{module_refusal, lowest_shared, module_at, module_of};
+ghost use Rattle.stack_steps.specs.Modules.{modules_in, AreApart, last_below, first_between};
+ghost use Rattle.stack_steps.specs.Modules.{with_added, FitsIn, sized, sized_refusal, macho_sized};
+ghost use Rattle.stack_steps.specs.Modules.{pe_sized, fits, given_refusal};
+ghost use Rattle.stack_steps.specs.declared.space.ModuleTables.TheVariants.{Elf};
 
 use crate::prepared::{Left, MOST, PreparedTable, keep, tables_for};
 use fde_finders::FrameInfo;
@@ -13,22 +17,51 @@ use std::alloc::{AllocError, Global};
 use std::collections::BTreeMap;
 use std::marker::Model;
 
-/// An ELF module: its addresses are those from `start` to before `end`.
+/// A module: its addresses are those from `start` to before `end`.
 #[derive(Clone, Copy, Debug, PartialEq, Eq)]
 pub struct Module {
-    /// Its first address.
+    /// Its first address, which is the base of a Mach-O or a PE module.
     pub start: u64,
     /// The address after its last.
     pub end: u64,
-    /// Where its frame tables lie.
-    pub frame: FrameInfo,
+    /// Where its tables lie.
+    pub tables: ModuleTables,
+}
+
+/// Where the tables of a module lie, by its format.
+#[derive(Clone, Copy, Debug, PartialEq, Eq)]
+pub enum ModuleTables {
+    /// An ELF module, by its frame table or the header of one.
+    Elf(FrameInfo),
+    /// A Mach-O module, by its section of compact unwinding.
+    Macho(MachoTables),
+    /// A PE module, by its function table.
+    Pe(PeTables),
+}
+
+/// Where the tables of a Mach-O module lie.
+#[derive(Clone, Copy, Debug, PartialEq, Eq)]
+pub struct MachoTables {
+    /// Where its section of compact unwinding begins.
+    pub unwind_info: u64,
+    /// Where its frame data begins, which opcodes may point to, where there is some.
+    pub frames: Option<u64>,
+}
+
+/// Where the tables of a PE module lie.
+#[derive(Clone, Copy, Debug, PartialEq, Eq)]
+pub struct PeTables {
+    /// Where its function table begins, relative to the base.
+    pub table_rva: u32,
+    /// How many bytes the function table has.
+    pub table_size: u32,
 }
 
 /// What a module is beside its start.
 #[derive(Clone, Copy, Debug, Drop)]
 struct Extent {
     end: u64,
-    frame: FrameInfo,
+    tables: ModuleTables,
     // in the order of adding
     place: usize,
 }
@@ -90,7 +123,8 @@ impl<'a> Model for Space<'a> {
 
 impl<'a> Space<'a> {
     ghost use Rattle.stack_steps.specs.Held.{IsHeld, added_of, holder_of};
-    ghost use Rattle.stack_steps.specs.Preparing.{Prepares, index_at, prepared_len};
+    ghost use Rattle.std.specs.List.{AllByRecursion};
+    ghost use Rattle.stack_steps.specs.Preparing.{IsAddedTo, Prepares, index_at, prepared_len};
 
     /// A space without modules. It takes no memory yet.
     pub fn new(alloc: Global, image: MemoryImage<'a>) -> Space<'a>
@@ -115,15 +149,118 @@ impl<'a> Space<'a> {
     /// of an earlier module that shares an address, `NoMemory`. The space is then as before.
     pub fn add_elf(&mut self, start: u64, end: u64, frame: FrameInfo) -> Result<(), SpaceError>
         ensures refused { MatchOption
-            (module_refusal self.old.modules (record { start = start; end = end; frame = frame }))
+            (module_refusal self.old.modules
+            (record { start = start; end = end; tables = Elf frame }))
             (IsOkUnless result SpaceError.NoMemory) (λ error. result ≡ Err error) }
         ensures added { OnOk result
-            (self.new ≡ record self.old {
-              modules = with_module (record { start = start; end = end; frame = frame })
-                  self.old.modules;
-              added = self.old.added
-                  ++ unprepared (record { start = start; end = end; frame = frame }) ∷ [];
-            }) }
+            (self.new ≡ with_added (record { start = start; end = end; tables = Elf frame })
+            self.old) }
+        ensures unchanged { OnErr result (self.new ≡ self.old) }
+    {
+        self.add(start, end, ModuleTables::Elf(frame))
+    }
+
+    /// Adds a Mach-O module of `size` bytes, which begins at `base`: its section of compact
+    /// unwinding begins at `unwind_info`, and the frame data that opcodes may point to at
+    /// `eh_frame`, where there is some.
+    ///
+    /// # Errors
+    ///
+    /// In this order: `Wraps` where the module is empty or ends past the highest address,
+    /// `Overlap` with the lowest start of an earlier module that shares an address, `NoMemory`. The
+    /// space is then as before.
+    pub fn add_macho(
+        &mut self,
+        base: u64,
+        size: u32,
+        unwind_info: u64,
+        eh_frame: Option<u64>,
+    ) -> Result<(), SpaceError>
+        ensures refused { MatchOption
+            (sized_refusal self.old.modules (macho_sized base size unwind_info eh_frame))
+            (IsOkUnless result SpaceError.NoMemory) (λ error. result ≡ Err error) }
+        ensures added { OnOk result
+            (self.new ≡ with_added (macho_sized base size unwind_info eh_frame) self.old) }
+        ensures unchanged { OnErr result (self.new ≡ self.old) }
+    {
+        let tables = ModuleTables::Macho(MachoTables {
+            unwind_info,
+            frames: eh_frame,
+        });
+        self.add_sized(base, size, tables)
+    }
+
+    /// Adds a PE module of `size` bytes, which begins at `base`: its function table has
+    /// `pdata_size` bytes, and begins so far from the base as `pdata_rva` says.
+    ///
+    /// # Errors
+    ///
+    /// Those of [`Space::add_macho`].
+    pub fn add_pe(
+        &mut self,
+        base: u64,
+        size: u32,
+        pdata_rva: u32,
+        pdata_size: u32,
+    ) -> Result<(), SpaceError>
+        ensures refused { MatchOption
+            (sized_refusal self.old.modules (pe_sized base size pdata_rva pdata_size))
+            (IsOkUnless result SpaceError.NoMemory) (λ error. result ≡ Err error) }
+        ensures added { OnOk result
+            (self.new ≡ with_added (pe_sized base size pdata_rva pdata_size) self.old) }
+        ensures unchanged { OnErr result (self.new ≡ self.old) }
+    {
+        let tables = ModuleTables::Pe(PeTables {
+            table_rva: pdata_rva,
+            table_size: pdata_size,
+        });
+        self.add_sized(base, size, tables)
+    }
+
+    /// Adds a module of any format.
+    ///
+    /// # Errors
+    ///
+    /// In this order: `Wraps` where a Mach-O or a PE module has 2^32 bytes or more, or the module's
+    /// range is empty or reversed, `Overlap` with the lowest start of an earlier module that shares
+    /// an address, `NoMemory`. The space is then as before.
+    pub fn add_module(&mut self, module: Module) -> Result<(), SpaceError>
+        ensures refused { MatchOption (given_refusal self.old.modules «module»)
+            (IsOkUnless result SpaceError.NoMemory) (λ error. result ≡ Err error) }
+        ensures added { OnOk result (self.new ≡ with_added «module» self.old) }
+        ensures unchanged { OnErr result (self.new ≡ self.old) }
+    {
+        let Module { start, end, tables } = module;
+        if !fits(tables, end.saturating_sub(start)) {
+            return Err(SpaceError::Wraps);
+        }
+        self.add(start, end, tables)
+    }
+
+    /// Adds a module that is given by its size.
+    fn add_sized(&mut self, base: u64, size: u32, tables: ModuleTables) -> Result<(), SpaceError>
+        ensures refused { MatchOption
+            (sized_refusal self.old.modules (sized base size tables))
+            (IsOkUnless result SpaceError.NoMemory) (λ error. result ≡ Err error) }
+        ensures added { OnOk result (self.new ≡ with_added (sized base size tables) self.old) }
+        ensures unchanged { OnErr result (self.new ≡ self.old) }
+    {
+        match base.checked_add(u64::from(size)) {
+            Some(end) => self.add(base, end, tables),
+            None => Err(SpaceError::Wraps),
+        }
+    }
+
+    /// Adds a module with the addresses from `start` to before `end`.
+    fn add(&mut self, start: u64, end: u64, tables: ModuleTables) -> Result<(), SpaceError>
+        requires placed { FitsIn tables (end - start) }
+        ensures refused { MatchOption
+            (module_refusal self.old.modules
+            (record { start = start; end = end; tables = tables }))
+            (IsOkUnless result SpaceError.NoMemory) (λ error. result ≡ Err error) }
+        ensures added { OnOk result
+            (self.new ≡ with_added (record { start = start; end = end; tables = tables })
+            self.old) }
         ensures unchanged { OnErr result (self.new ≡ self.old) }
     {
         if end <= start {
@@ -136,10 +273,10 @@ impl<'a> Space<'a> {
             return Err(SpaceError::NoMemory);
         }
         let place = self.added.len();
-        match self.modules.insert(start, Extent { end, frame, place }) {
+        match self.modules.insert(start, Extent { end, tables, place }) {
             Ok(_) => {
                 self.added.push_reserved(Held {
-                    holder: Module { start, end, frame },
+                    holder: Module { start, end, tables },
                     table: None,
                 });
                 Ok(())
@@ -152,7 +289,7 @@ impl<'a> Space<'a> {
     /// is run: in the order of adding, of each module that isn't prepared yet and that can be. It
     /// answers how many modules this call prepared.
     ///
-    /// A module can be prepared where
+    /// An ELF module can be prepared where
     ///
     /// - it names its frame table itself; or by a header that can be read, whose frame table's
     ///   address is mapped, and whose table lists exactly the descriptions whose ranges aren't
@@ -208,6 +345,8 @@ impl<'a> Space<'a> {
         ensures index { MatchOption result (index_at self.now.added address ≡ None)
             (λ held. index_at self.now.added address ≡ (added_of held.now).index) }
         ensures table { IfSome result (λ held. IsHeld self.now.image held.now) }
+        ensures within { IfSome result (λ held. (held.now.holder.start ≤ address) ×
+            (address < held.now.holder.end)) }
     {
         match last_below(&self.modules, address) {
             Some((_, extent)) => {
@@ -226,8 +365,20 @@ impl<'a> Space<'a> {
         ensures image { result.now ≡ self.now.image }
         ensures apart { AreApart 0 self.now.modules }
         ensures laid_out { IsLaidOut 0 self.now.image }
+        ensures added { AllByRecursion (IsAddedTo self.now) self.now.added }
     {
         &self.image
+    }
+}
+
+/// Whether a module of a format may have so many bytes.
+fn fits(tables: ModuleTables, size: u64) -> bool
+    ensures fits { result ≡ fits tables size }
+    ensures within { result ≡ true → FitsIn tables size }
+{
+    match tables {
+        ModuleTables::Elf(_) => true,
+        ModuleTables::Macho(_) | ModuleTables::Pe(_) => size < 0x1_0000_0000,
     }
 }
 

@@ -1,40 +1,45 @@
-// From a frame to its caller, by the frame tables of the module that holds it.
-ghost use Rattle.std.specs.Prelude.{◌≡◌, ◌≢◌, ◌↔◌, ◌<◌, ℕ, List, length, Some, None, Ok, Err, IsTrue, IsFalse, OnErr};
+// From a frame to its caller, by the tables of the module that holds it.
+ghost use Rattle.std.specs.Prelude.{◌≡◌, ◌≢◌, ◌↔◌, ◌<◌, ◌≤◌, ℕ, List, length, Some, None, Ok, Err};
+ghost use Rattle.std.specs.Prelude.{IsTrue, IsFalse, OnErr};
 ghost use Rattle.memory_image.specs.Image.{Span, word_at, IsLaidOut};
 ghost use Rattle.unwind_definitions.specs.declared.error.Error.{Error as Fault};
 ghost use Rattle.unwind_definitions.specs.State.{State, Shows};
 ghost use Rattle.unwind_definitions.specs.Function.{Function};
 ghost use Rattle.unwind_definitions.specs.Chain.{Call};
 ghost use Rattle.unwind_definitions.specs.LanguageSearch.{address_of_call};
-ghost use Rattle.unwind_definitions.specs.Row.{RowInstructions, argument_size};
-ghost use Rattle.unwind_definitions.specs.Caller.{x86_64, caller_of};
-ghost use Rattle.unwind_definitions.specs.Expressions.{evaluation};
-ghost use Rattle.unwinding_frames.specs.Calling.{columns_given, written_in};
 ghost use Rattle.unwind_arch.specs.ContextViews.{columns_of};
 ghost use Rattle.eh_frame.specs.Index.{AreFewSteps};
 ghost use Rattle.fde_finders.specs.declared.custom.FrameInfo.{FrameInfo as Tables};
-ghost use Rattle.fde_finders.specs.FoundViews.{answered};
 ghost use Rattle.fde_finders.specs.Named.{found_by, pairs_by};
 ghost use Rattle.frame_rows.specs.RowValue.{RowValue};
+ghost use Rattle.frame_rows.specs.Rows.{IsRowOf};
+ghost use Rattle.macho_unwind_info.specs.declared.error.Error.{Error as MachoFault};
+ghost use Rattle.stack_steps.specs.Asking.{arguments_of};
 ghost use Rattle.stack_steps.specs.Held.{IsHeld, IsTableOf, added_of};
-ghost use Rattle.stack_steps.specs.Modules.{AreApart};
+ghost use Rattle.stack_steps.specs.Modules.{AreApart, IsPlaced};
 ghost use Rattle.stack_steps.specs.Preparing.{prepared_len};
 ghost use Rattle.stack_steps.specs.SpaceViews.{process_of};
 ghost use Rattle.stack_steps.specs.FrameViews.{IsFrameOf, GivesFrameAt};
-ghost use Rattle.stack_steps.specs.Ticking.{IsScannedAt, RisesBySearch, TicksAt, TicksIn, searched_at};
+ghost use Rattle.stack_steps.specs.Ticking.{IsScannedAt, RisesBySearch, TicksAt, TicksIn};
+ghost use Rattle.stack_steps.specs.Ticking.{searched_at, pairs_in};
 ghost use Rattle.stack_steps.specs.Results.{result_map};
-ghost use Rattle.stack_steps.specs.Stepping.{FrameAt, frame_by, frame_in, frame_of, caller_by, step_of, GivesCaller, EndsAt, FaultsAt, ReadIsUnmapped};
+ghost use Rattle.stack_steps.specs.Stepping.{FrameAt, frame_by, frame_in, frame_of, caller_by};
+ghost use Rattle.stack_steps.specs.Stepping.{step_of, GivesCaller, EndsAt, FaultsAt};
+ghost use Rattle.stack_steps.specs.Stepping.{ReadIsUnmapped, DescribedFrame, described_caller};
+ghost use Rattle.stack_steps.specs.Stepping.{IsUnreadSection, IsWithoutForm, IsUnreadInfo};
+ghost use Rattle.stack_steps.specs.Stepping.{IsChainedTooLong};
 ghost use Rattle.stack_steps.specs.Undoing.{IsDescribedCall, Undone};
 ghost use Rattle.stack_steps.specs.Stopped.{IsDescribedStop};
 
 use crate::answers::{DeliverError, Stepped};
+use crate::frames::{CompactFrame, RecordedFrame, compact_frame, recorded_frame};
 use crate::prepared::PreparedTable;
-use crate::space::{Held, Space};
-use eh_frame::{PreparedFrame, RowRoom};
+use crate::space::{Held, Module, ModuleTables, Space};
+use eh_frame::{PreparedFrame, RowRef, RowRoom};
 use fde_finders::{FDESearchResult, FrameInfo, find_named};
 use memory_image::{Ledger, MemoryImage, Steps};
 use unwind_arch::x86_64::{Arch, Context, RSP};
-use unwinding_frames::{StepError, Window, address_asked, write_caller};
+use unwinding_frames::{Window, address_asked, write_caller};
 
 impl Stepped {
     /// The address that is asked of the frame: that of its instruction, or of a byte of its call.
@@ -48,43 +53,21 @@ impl Stepped {
 /// A frame of the stack: what was found for the address asked of it.
 #[derive(Drop)]
 pub enum FoundFrame<'f, 'a> {
-    /// By a search of a module's tables. Its row was made in the room for rows.
+    /// In an ELF module by a search of its tables. Its row was made in the room for rows.
     Searched(FDESearchResult<'a>),
     /// By the index of a prepared module, which lends its row.
     Prepared(&'f PreparedTable<'a>, PreparedFrame<'f, 'a>),
+    /// In a Mach-O module.
+    Compact(CompactFrame),
+    /// In a PE module.
+    Recorded(RecordedFrame<'a>),
 }
 
 impl<'f, 'a> FoundFrame<'f, 'a> {
-    ghost use Rattle.stack_steps.specs.FrameViews.{seen};
-
-    /// The description, what its pointers may be relative to, and its table.
-    pub fn found(&self) -> FDESearchResult<'a>
-        ensures { answered result ≡ seen self.now }
-    {
-        match self {
-            FoundFrame::Searched(found) => *found,
-            FoundFrame::Prepared(table, frame) => FDESearchResult {
-                fde: frame.fde(),
-                bases: table.bases,
-                eh_frame: table.frames,
-            },
-        }
-    }
-
-    /// Whether it is a signal's.
-    fn is_signal_trampoline(&self) -> bool
-        ensures { result ≡ (seen self.now).fde.cie.letters.signal }
-    {
-        match self {
-            FoundFrame::Searched(found) => found.fde.is_signal_trampoline(),
-            FoundFrame::Prepared(_, frame) => frame.is_signal_trampoline(),
-        }
-    }
-
     /// How many bytes of the stack hold arguments that the callee removes. `rows` is the room for
     /// rows in which it was found.
     pub fn arguments(&self, rows: &RowRoom<'_>) -> u64
-        ensures { (f : FrameAt) → IsFrameOf self.now rows.now f → result ≡ argument_size f.run }
+        ensures { (f : FrameAt) → IsFrameOf self.now rows.now f → result ≡ arguments_of f }
     {
         match self {
             FoundFrame::Searched(_) => rows.row().saved_args_size(),
@@ -92,29 +75,7 @@ impl<'f, 'a> FoundFrame<'f, 'a> {
                 Ok(row) => row.saved_args_size(),
                 Err(_) => 0,
             },
-        }
-    }
-
-    /// Makes a copy of its registers those of its caller. `rows` is the room for rows in which it
-    /// was found. After a fault the copy is unspecified.
-    fn write_caller(
-        &self,
-        stack: &Window<'_, '_>,
-        context: &Context,
-        rows: &RowRoom<'_>,
-        caller: &mut Context,
-    ) -> Result<(), StepError>
-        requires { caller.old ≡ context.now }
-        ensures { (f : FrameAt) → IsFrameOf self.now rows.now f →
-            columns_given columns_of (written_in result caller.new) ≡ caller_of x86_64
-            (evaluation stack.now) stack.now (columns_of context.now) f.run }
-    {
-        match self {
-            FoundFrame::Searched(_) => write_caller::<Arch>(stack, context, &rows.row(), caller),
-            FoundFrame::Prepared(_, frame) => match frame.row() {
-                Ok(row) => write_caller::<Arch>(stack, context, row, caller),
-                Err(fault) => Err(StepError::Table(fault)),
-            },
+            FoundFrame::Compact(_) | FoundFrame::Recorded(_) => 0,
         }
     }
 }
@@ -161,7 +122,29 @@ fn prepared_frame<'f, 'a, L: Ledger>(
     }
 }
 
-/// The frame at an address of a module. Here the kinds of modules part.
+/// The frame at an address of a module that isn't prepared. Here the kinds of modules part.
+fn unprepared_frame<'f, 'a, L: Ledger>(
+    image: &MemoryImage<'a>,
+    address: u64,
+    holder: &Module,
+    rows: &mut RowRoom<'a>,
+    steps: &mut Steps<L>,
+) -> Result<Option<FoundFrame<'f, 'a>>, DeliverError>
+    requires placed { IsPlaced holder.now }
+    requires from { holder.now.start ≤ address }
+    requires within { address < holder.now.end }
+    ensures frame { GivesFrameAt result rows.new (frame_in image.now address (Some holder.now)) }
+    ensures ticks { RisesBySearch (pairs_in image.now holder.now.tables) steps.old.number
+        steps.new.number }
+{
+    match holder.tables {
+        ModuleTables::Elf(tables) => searched_frame(image, address, tables, rows, steps),
+        ModuleTables::Macho(tables) => compact_frame(image, address, holder, tables),
+        ModuleTables::Pe(tables) => recorded_frame(image, address, holder, tables),
+    }
+}
+
+/// The frame at an address of a module.
 fn frame_in<'f, 'a, L: Ledger>(
     image: &MemoryImage<'a>,
     address: u64,
@@ -171,13 +154,15 @@ fn frame_in<'f, 'a, L: Ledger>(
 ) -> Result<Option<FoundFrame<'f, 'a>>, DeliverError>
     requires held { IsHeld image.now holder.now }
     requires laid_out { IsLaidOut 0 image.now }
+    requires from { holder.now.holder.start ≤ address }
+    requires within { address < holder.now.holder.end }
     ensures frame { GivesFrameAt result rows.new
         (frame_in image.now address (Some holder.now.holder)) }
     ensures ticks { TicksIn image.now (added_of holder.now) steps.old.number steps.new.number }
 {
     match &holder.table {
         Some(table) => prepared_frame(table, address, steps),
-        None => searched_frame(image, address, holder.holder.frame, rows, steps),
+        None => unprepared_frame(image, address, &holder.holder, rows, steps),
     }
 }
 
@@ -203,32 +188,66 @@ pub fn frame_at<'f, 'a, L: Ledger>(
     }
 }
 
-/// Puts the caller of the frame at a state in the state's place. After a fault the state is as
-/// before. `stack` is a window over the image, and `rows` the room for rows in which the frame was
-/// found.
-pub fn leave(
+/// Puts the caller of a frame by a description, whose row is given, in the place of its state.
+/// After a fault the state is as before. `signal` says whether the description is of a signal's
+/// frame, and `stack` is a window over the image.
+fn leave_described(
     stack: &mut Window<'_, '_>,
     state: &mut Stepped,
-    frame: &FoundFrame<'_, '_>,
-    rows: &RowRoom<'_>,
+    row: &RowRef<'_, '_>,
+    signal: bool,
 ) -> Result<(), DeliverError>
-    ensures caller { (f : FrameAt) → IsFrameOf frame.now rows.now f →
-        result_map (λ done. state.new) result ≡ caller_by stack.old state.old.context f }
+    ensures caller { (f : DescribedFrame) → IsRowOf row.now f.run →
+        signal ≡ f.found.fde.cie.letters.signal →
+        result_map (λ done. state.new) result ≡ described_caller stack.old state.old.context f }
     ensures stays { OnErr result (state.new ≡ state.old) }
     ensures same { stack.new ≡ stack.old }
 {
     let callee = state.context;
     stack.seek(callee.registers[RSP]);
-    match frame.write_caller(stack, &callee, rows, &mut state.context) {
+    match write_caller::<Arch>(stack, &callee, row, &mut state.context) {
         Ok(()) => {
             // A look at them tells the proof that there are sixteen registers.
             let _ = state.context.registers[RSP];
-            state.signal = frame.is_signal_trampoline();
+            state.signal = signal;
             Ok(())
         }
         Err(fault) => {
             state.context = callee;
             Err(DeliverError::from(fault))
+        }
+    }
+}
+
+/// Puts the caller of the frame at a state in the state's place. After a fault the state is as
+/// before. `stack` is a window over the image, and `rows` the room for rows in which the frame was
+/// found.
+pub fn leave<'a>(
+    stack: &mut Window<'_, 'a>,
+    state: &mut Stepped,
+    frame: &FoundFrame<'_, 'a>,
+    rows: &mut RowRoom<'a>,
+) -> Result<(), DeliverError>
+    ensures caller { (f : FrameAt) → IsFrameOf frame.now rows.old f →
+        result_map (λ done. state.new) result ≡ caller_by stack.old state.old.context f }
+    ensures stays { OnErr result (state.new ≡ state.old) }
+    ensures same { stack.new ≡ stack.old }
+{
+    match frame {
+        FoundFrame::Searched(found) => {
+            leave_described(stack, state, &rows.row(), found.fde.is_signal_trampoline())
+        }
+        FoundFrame::Prepared(_, prepared) => match prepared.row() {
+            Ok(row) => leave_described(stack, state, row, prepared.is_signal_trampoline()),
+            Err(fault) => Err(DeliverError::Table(fault)),
+        },
+        FoundFrame::Compact(compact) => {
+            *state = compact.caller(stack.image(), &state.context, rows)?;
+            Ok(())
+        }
+        FoundFrame::Recorded(recorded) => {
+            *state = recorded.caller(stack.image(), &state.context)?;
+            Ok(())
         }
     }
 }
@@ -254,17 +273,21 @@ fn stepped<L: Ledger>(
     let Some(frame) = frame_at(space, &state, &mut rows, steps)? else {
         return Ok(None);
     };
-    leave(&mut stack, &mut state, &frame, &rows)?;
+    leave(&mut stack, &mut state, &frame, &mut rows)?;
     Ok(Some(state))
 }
 
 /// The caller of the frame whose registers `context` holds, `None` at the end of the stack.
 ///
 /// The address asked is `ra`, less one unless the frame was `interrupted`: after a call the
-/// instruction that called is the one before, which may be the last of its function. The stack
-/// ends where `ra` is 0, or where the address is in no module or no description is found for it:
-/// none contains it, or an entry before can't be read. A prepared module is asked by its index, and
-/// answers the same. Steps are counted in the search of an index, one at least, and in that of a
+/// instruction that called is the one before, which may be the last of its function. The module
+/// that holds the address is asked by its format: an ELF module for a description, by which the
+/// caller is found; a Mach-O module for a function in its section of compact unwinding, by the
+/// function's opcode; a PE module by the unwind record that covers the address, and as a leaf where
+/// none does. The stack ends where `ra` is 0, or where the address is in no module, or no
+/// description is found for it in an ELF module, since none contains it or an entry before can't be
+/// read, or no function in a Mach-O module. A prepared module is asked by its index, and answers the
+/// same. Steps are counted in the search of an index, one at least, and in that of a
 /// header's table, at most as many as its length has binary digits, and none in a scan.
 ///
 /// # Errors
@@ -273,6 +296,11 @@ fn stepped<L: Ledger>(
 /// register isn't the machine's; `Unmapped` with the address of a stack slot, or of a number that
 /// an expression reads, that isn't wholly mapped. The first fault counts: those of the row, then
 /// that of the canonical frame address, and then that of the lowest register.
+///
+/// `MachO` where a section of compact unwinding, or what a look-up in it comes to, can't be read;
+/// `CompactForm` where the function's opcode gives no caller; `PeInfo` where a function table, an
+/// unwind record, or code that may be an epilog's can't be read; `ChainLimit` where more than 32
+/// records are chained to the first. Handlers of these formats aren't looked at.
 pub fn step<L: Ledger>(
     space: &Space<'_>,
     context: &Context,
@@ -289,6 +317,15 @@ pub fn step<L: Ledger>(
         word_at space.now.image a ≡ None }
     ensures reads { (a : ℕ) → (result ≡ Err (DeliverError.Unmapped a)) ↔
         ReadIsUnmapped space.now context.now interrupted a }
+    // Those of the other formats come each exactly for its cause, and none of a handler.
+    ensures macho { (e : MachoFault) → (result ≡ Err (DeliverError.MachO e)) ↔
+        IsUnreadSection space.now context.now interrupted e }
+    ensures compact_form { (result ≡ Err DeliverError.CompactForm) ↔
+        IsWithoutForm space.now context.now interrupted }
+    ensures pe_info { (result ≡ Err DeliverError.PeInfo) ↔
+        IsUnreadInfo space.now context.now interrupted }
+    ensures chain_limit { (result ≡ Err DeliverError.ChainLimit) ↔
+        IsChainedTooLong space.now context.now interrupted }
     ensures undone { (functions : List Function) (s : State) (call : Call) →
         IsDescribedCall (process_of space.now) functions s call →
         Shows (columns_of context.now) s → IsFalse interrupted →
@@ -306,7 +343,8 @@ pub fn step<L: Ledger>(
     ensures prepared { let n = prepared_len space.now (address_of_call context.now.ra interrupted)
         in
         context.now.ra ≢ 0 → 0 < n → AreFewSteps n steps.old.number steps.new.number }
-    // None is counted where an unprepared module names its frame table itself.
+    // None is counted where an unprepared module names its frame table itself, or is of another
+    // format.
     ensures scanned { IsScannedAt space.now context.now interrupted →
         steps.new.number ≡ steps.old.number }
 {

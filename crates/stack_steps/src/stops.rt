@@ -4,7 +4,10 @@
 ghost use Rattle.std.specs.Prelude.{◌∷◌, [], ◌≡◌};
 ghost use Rattle.unwind_laws.specs.Pushing as pushing;
 ghost use Rattle.stack_steps.specs.Stopped.{IsDescribedStop, StartsStopped};
-ghost use Rattle.stack_steps.specs.StopSample.{process, function, call, before_steps, after_push, after_set, after_late_push, after_allocation, after_store, in_body_of_it, pushing_space, stopped_at, before_push, after_the_push};
+ghost use Rattle.stack_steps.specs.StopSample.{process, function, call, before_steps, after_push};
+ghost use Rattle.stack_steps.specs.StopSample.{after_set, after_late_push, after_allocation};
+ghost use Rattle.stack_steps.specs.StopSample.{after_store, in_body_of_it, pushing_space};
+ghost use Rattle.stack_steps.specs.StopSample.{stopped_at, before_push, after_the_push};
 
 /// A function that pushes RBP, sets it, pushes RBX, allocates and stores R12 is described wherever
 /// it is stopped: before its first step, after each one, and in its body. Its table tells of RBX

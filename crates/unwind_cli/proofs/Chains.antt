@@ -7,6 +7,7 @@ use Rattle.unwind_definitions.specs.Function.{Function}
 use Rattle.unwind_definitions.specs.Chain.{Call, states_of}
 use Rattle.unwind_arch.specs.declared.x86_64.Context.{Context}
 use Rattle.stack_steps.specs.Modules.{AreApart}
+use Rattle.stack_deliver.specs.Searches.{met_in_delivery}
 use Rattle.stack_deliver.specs.StateViews.{state_of}
 use Rattle.stack_deliver.proofs.Chains as chains
 use Rattle.stack_steps.proofs.ContextLemmas.{IsWhole}
@@ -17,7 +18,8 @@ use Rattle.stack_snapshot.specs.Described.{DescribesChain, DescribesWalk}
 use Rattle.unwind_cli.specs.Due.{delivery_from, walk_from}
 
 -- What is delivered of a snapshot whose tables describe a chain is what the definition says of the chain.
-pub chain_delivered : (s : Content) (functions : List Function) (start : State) (calls : List Call) → AreApart 0 (space_of s).modules → IsLaidOut 0 (space_of s).image → IsWhole s.start → DescribesChain s functions start calls → DeliversChain s.exception start calls (delivery_from s)
+pub chain_delivered : (s : Content) (functions : List Function) (start : State) (calls : List Call) → AreApart 0 (space_of s).modules → IsLaidOut 0 (space_of s).image → IsWhole s.start → DescribesChain s functions start calls →
+    DeliversChain s.exception start calls (delivery_from s) (met_in_delivery (space_of s) s.start s.exception s.resumes s.limit)
 unfolding delivery_from
 chain_delivered s functions start calls apart laid whole is = delivered.chain_delivered (space_of s) s.start s.exception s.resumes s.limit functions start calls apart laid whole is
 

@@ -13,6 +13,7 @@ use Rattle.unwind_laws.proofs.Booleans.{all_contains}
 use Rattle.unwind_laws.proofs.RowFacts.{by_register}
 use Rattle.unwind_laws.proofs.Walk.{valid_described}
 use Rattle.unwind_arch.specs.ContextViews.{columns_of}
+use Rattle.stack_steps.specs.Modules.{AreElf}
 use Rattle.stack_steps.specs.SpaceViews.{process_of}
 use Rattle.stack_steps.specs.Undoing.{IsDescribedCall}
 use Rattle.stack_snapshot.specs.Content.{Content, space_of}
@@ -21,9 +22,10 @@ use Rattle.unwind_cli.specs.FramePointer as frame_pointer
 use Rattle.stack_snapshot.specs.Described.{DescribesChain}
 
 pub described : (s : Content) (functions : List Function) (start : State) (calls : List Call) (columns : Columns) → IsValid (process_of (space_of s)) columns s.resumes functions start calls
-    → Shows (columns_of s.start) start → length calls < s.limit → DescribesChain s functions start calls
-described s functions start calls columns w shows shorter = record {
+    → AreElf (space_of s).modules → Shows (columns_of s.start) start → length calls < s.limit → DescribesChain s functions start calls
+described s functions start calls columns w elf shows shorter = record {
   valid = record { are_functions = w.are_functions; modules = w.modules; no_others = w.no_others; shows = shows; chain = w.chain; resumed = w.resumed };
+  elf = elf;
   shorter = shorter;
 }
 

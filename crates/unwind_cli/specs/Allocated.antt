@@ -6,6 +6,7 @@ use Rattle.unwind_definitions.specs.Chain.{Call}
 use Rattle.unwind_laws.specs.Storing.{cie, storing_fde, storing, state}
 use Rattle.fde_finders.specs.declared.custom.FrameInfoKind.TheVariants.{EhFrame}
 use Rattle.stack_snapshot.specs.Content.{Content}
+use Rattle.stack_steps.specs.declared.space.ModuleTables.TheVariants.{Elf}
 
 abbrev pub frames : List ℕ
 frames = 0x14 ∷ 0x00 ∷ 0x00 ∷ 0x00 ∷ 0x00 ∷ 0x00 ∷ 0x00 ∷ 0x00 ∷ 0x01 ∷ 0x7a ∷ 0x52 ∷ 0x00 ∷ 0x01 ∷ 0x78 ∷ 0x10 ∷ 0x01 ∷ 0x1b ∷ 0x0c ∷ 0x07 ∷ 0x08 ∷ 0x90 ∷ 0x01 ∷ 0x00 ∷ 0x00 ∷
@@ -20,7 +21,7 @@ stack = 0x01 ∷ 0x00 ∷ 0x00 ∷ 0x00 ∷ 0x00 ∷ 0x00 ∷ 0x00 ∷ 0x00 ∷ 
 abbrev pub snapshot : Content
 snapshot = record {
   regions = record { start = 0x500000; bytes = frames } ∷ record { start = 0x7000; bytes = stack } ∷ [];
-  modules = record { start = 0x401000; end = 0x401020; frame = record { text_base = None; kind = EhFrame 0x500000 } } ∷ [];
+  modules = record { start = 0x401000; end = 0x401020; tables = Elf (record { text_base = None; kind = EhFrame 0x500000 }) } ∷ [];
   start = record { registers = 0 ∷ 0 ∷ 0 ∷ 0 ∷ 0 ∷ 0 ∷ 0 ∷ 0x7000 ∷ 0 ∷ 0 ∷ 0 ∷ 0 ∷ 1 ∷ 0 ∷ 0 ∷ 0 ∷ []; ra = 0x401010; mcxsr = 0; fcw = 0 };
   exception = 0;
   class = 0;

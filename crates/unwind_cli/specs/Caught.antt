@@ -6,12 +6,13 @@ use Rattle.unwind_laws.specs.Three as three
 use Rattle.unwind_arch.specs.declared.x86_64.Context.{Context}
 use Rattle.fde_finders.specs.declared.custom.FrameInfoKind.TheVariants.{EhFrame, EhFrameHdr}
 use Rattle.stack_steps.specs.declared.space.Module.{Module}
+use Rattle.stack_steps.specs.declared.space.ModuleTables.TheVariants.{Elf}
 use Rattle.stack_snapshot.specs.Content.{Content}
 use Rattle.stack_report.specs.Report.{line}
 
 -- an ELF module whose frame table lies at 0x500000
 abbrev pub module_at : ℕ → ℕ → Module
-module_at start end = record { start = start; end = end; frame = record { text_base = None; kind = EhFrame 0x500000 } }
+module_at start end = record { start = start; end = end; tables = Elf (record { text_base = None; kind = EhFrame 0x500000 }) }
 
 -- the tables, with a stack after
 abbrev pub regions_with : Span → List Span
@@ -46,7 +47,7 @@ text = line (codes "frame 0 ra=0x401010 sp=0x70b0 rbx=0x7 rbp=0x70c0 r12=0x0 r13
 abbrev pub by_header : Content
 by_header = record snapshot {
   regions = record { start = 0x504000; bytes = three.header } ∷ regions_with (record { start = 0x70b0; bytes = three.stack 0x60 });
-  modules = record { start = 0x401000; end = 0x401080; frame = record { text_base = None; kind = EhFrameHdr 0x504000 } } ∷ [];
+  modules = record { start = 0x401000; end = 0x401080; tables = Elf (record { text_base = None; kind = EhFrameHdr 0x504000 }) } ∷ [];
 }
 
 -- the same where the functions lie in two modules

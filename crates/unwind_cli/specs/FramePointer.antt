@@ -4,11 +4,12 @@ use Rattle.unwind_laws.specs.Storing.{frames, stack}
 use Rattle.fde_finders.specs.declared.custom.FrameInfoKind.TheVariants.{EhFrame}
 use Rattle.stack_snapshot.specs.Content.{Content}
 use Rattle.stack_report.specs.Report.{line}
+use Rattle.stack_steps.specs.declared.space.ModuleTables.TheVariants.{Elf}
 
 abbrev pub snapshot : Content
 snapshot = record {
   regions = record { start = 0x500000; bytes = frames } ∷ record { start = 0x7000; bytes = stack } ∷ [];
-  modules = record { start = 0x401000; end = 0x401040; frame = record { text_base = None; kind = EhFrame 0x500000 } } ∷ [];
+  modules = record { start = 0x401000; end = 0x401040; tables = Elf (record { text_base = None; kind = EhFrame 0x500000 }) } ∷ [];
   start = record { registers = 0 ∷ 0 ∷ 0 ∷ 9 ∷ 0 ∷ 0 ∷ 0x7030 ∷ 0x7000 ∷ 0 ∷ 0 ∷ 0 ∷ 0 ∷ 0x2c ∷ 0 ∷ 0 ∷ 0 ∷ []; ra = 0x401010; mcxsr = 0; fcw = 0 };
   exception = 0;
   class = 0;

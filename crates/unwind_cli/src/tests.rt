@@ -8,6 +8,7 @@ use std::test::Fail;
 
 mod deliveries;
 mod ends;
+mod formats;
 mod generated;
 mod refusals;
 mod rules;

@@ -1,13 +1,16 @@
 //! A frame of the stack: the description of its function, and the row by which its caller is found.
 //! DWARF 5 section 6.4.
 
-ghost use Rattle.std.specs.Prelude.{◌≡◌, ◌≢◌, ◌+◌, ◌%◌, ◌^◌, ℕ, Option, Some, None, Ok, IfOk, [], ◌∷◌, map, IfSome, IfNone, IsTrue};
+ghost use Rattle.std.specs.Prelude.{◌≡◌, ◌≢◌, ◌+◌, ◌%◌, ◌^◌, ℕ, Option, Some, None, Ok, IfOk, []};
+ghost use Rattle.std.specs.Prelude.{◌∷◌, map, IfSome, IfNone, IsTrue};
 ghost use Rattle.std.specs.Bool.{OnTrue, OnFalse};
 ghost use Rattle.std.specs.List.{cons_option};
 ghost use Rattle.std.specs.Option.{unwrap_or};
 ghost use Rattle.unwind_definitions.specs.Row.{RowInstructions, covers_pc};
-ghost use Rattle.unwind_definitions.specs.LanguageSearch.{address_of_call, language_address, personality_address, target};
-ghost use Rattle.unwind_definitions.specs.Caller.{Columns, caller_of, rule_value, cfa_value, word_or_fault, column_or_fault, unruled};
+ghost use Rattle.unwind_definitions.specs.LanguageSearch.{address_of_call, language_address};
+ghost use Rattle.unwind_definitions.specs.LanguageSearch.{personality_address, target};
+ghost use Rattle.unwind_definitions.specs.Caller.{Columns, caller_of, rule_value, cfa_value};
+ghost use Rattle.unwind_definitions.specs.Caller.{word_or_fault, column_or_fault, unruled};
 ghost use Rattle.frame_rows.specs.Rules.{rule_meaning, cfa_meaning, entry_of};
 ghost use Rattle.frame_rows.specs.Left.{left};
 ghost use Rattle.frame_rows.specs.Rows.{IsRowOf};
@@ -16,7 +19,8 @@ ghost use Rattle.fde_finders.specs.Finding.{FoundFde};
 ghost use Rattle.fde_finders.specs.FoundViews.{answered};
 ghost use Rattle.unwinding_frames.specs.Framed.{GivesFrame, GivesRowOf};
 ghost use Rattle.unwind_definitions.specs.Expressions.{evaluation};
-ghost use Rattle.unwinding_frames.specs.Calling.{machine_of, value_given, columns_given, written_in, applied, rule_applied};
+ghost use Rattle.unwinding_frames.specs.Calling.{machine_of, value_given, columns_given};
+ghost use Rattle.unwinding_frames.specs.Calling.{written_in, applied, rule_applied};
 
 use crate::window::Window;
 use eh_frame::{

@@ -6,13 +6,18 @@
 ghost use Rattle.std.specs.Prelude.{◌≡◌, ℕ, length, Some, IfOk};
 ghost use Rattle.std.specs.Option.{option_map};
 ghost use Rattle.unwind_definitions.specs.LanguageTable.{input_at};
-ghost use Rattle.unwind_definitions.specs.LanguageSearch.{LanguageAsks, address, address_of_call, call_site, decision, head, language_action, pad_action, pad_base, search, search_from, site_action, sum_below};
+ghost use Rattle.unwind_definitions.specs.LanguageSearch.{LanguageAsks, address, address_of_call};
+ghost use Rattle.unwind_definitions.specs.LanguageSearch.{call_site, decision, head};
+ghost use Rattle.unwind_definitions.specs.LanguageSearch.{language_action, pad_action, pad_base};
+ghost use Rattle.unwind_definitions.specs.LanguageSearch.{search, search_from, site_action};
+ghost use Rattle.unwind_definitions.specs.LanguageSearch.{sum_below};
 ghost use Rattle.encoded_pointers.specs.PointerViews.{bases_of};
 ghost use Rattle.encoded_pointers.specs.Readers.{GivesOr as Reads};
 ghost use Rattle.encoded_pointers.specs.CursorViews.{at};
 ghost use Rattle.fde_finders.specs.FoundViews.{answered};
 ghost use Rattle.unwinding_frames.specs.Calling.{value_given};
-ghost use Rattle.unwinding_frames.specs.LanguageViews.{action_of, given, head_of, site_of, passes_types, GivesOr};
+ghost use Rattle.unwinding_frames.specs.LanguageViews.{action_of, given, head_of, site_of};
+ghost use Rattle.unwinding_frames.specs.LanguageViews.{passes_types, GivesOr};
 
 use crate::frame::{Frame, StepError, address_asked, lsda_of, return_address, target};
 use eh_frame::{Bases, Error};

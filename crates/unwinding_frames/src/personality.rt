@@ -10,7 +10,8 @@ ghost use Rattle.unwind_definitions.specs.LanguageSearch.{address_of_call};
 ghost use Rattle.unwinding_frames.specs.FrameValue.{FrameValue};
 ghost use Rattle.unwinding_frames.specs.Columns.{with_value};
 ghost use Rattle.unwinding_frames.specs.LanguageViews.{action_of, given};
-ghost use Rattle.unwinding_frames.specs.Personalities.{Asked, Answer, Landing, landed, searched, cleaned, action_of_frame, rust_answers};
+ghost use Rattle.unwinding_frames.specs.Personalities.{Asked, Answer, Landing, landed, searched};
+ghost use Rattle.unwinding_frames.specs.Personalities.{cleaned, action_of_frame, rust_answers};
 
 use crate::abi::context::UnwindContext;
 use crate::abi::{UnwindAction, UnwindReasonCode};

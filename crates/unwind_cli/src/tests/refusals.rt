@@ -10,7 +10,7 @@ const TEXT_MODULE: &str =
     "\"}],\"modules\":[{\"kind\":\"elf\",\"start\":\"0x401000\",\"end\":\"0x401010\",\"eh_frame\":\"0x500000\",\"text_base\":\"0\"}],\"start\":";
 
 const OTHER_MODULE: &str =
-    "\"}],\"modules\":[{\"kind\":\"macho\",\"base\":\"0x401000\",\"size\":\"0x10\",\"unwind_info\":\"0x0\"}],\"start\":";
+    "\"}],\"modules\":[{\"kind\":\"coff\",\"base\":\"0x401000\",\"size\":\"0x10\",\"unwind_info\":\"0x0\"}],\"start\":";
 
 const USAGE: &str = "usage: unwind_cli deliver | walk | generate COUNT SEED";
 

@@ -2,7 +2,8 @@
 //!
 //! Itanium C++ ABI, exception handling, section 1.5.
 
-ghost use Rattle.std.specs.Prelude.{◌≡◌, ◌≢◌, ℕ, pos, Some, Ok, OnSome, IfNone, is_some, if◌then◌else◌};
+ghost use Rattle.std.specs.Prelude.{◌≡◌, ◌≢◌, ℕ, pos, Some, Ok, OnSome, IfNone, is_some};
+ghost use Rattle.std.specs.Prelude.{if◌then◌else◌};
 ghost use Rattle.std.specs.Option.{option_map_or};
 ghost use Rattle.unwind_definitions.specs.LanguageSearch.{language_address};
 ghost use Rattle.unwinding_frames.specs.Calling.{value_given};

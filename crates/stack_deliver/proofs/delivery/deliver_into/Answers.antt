@@ -3,8 +3,12 @@ use Rattle.stack_steps.specs.declared.answers.DeliverError.TheVariants.{NoMemory
 use Rattle.stack_deliver.specs.Causes.{EndsBy}
 use Rattle.stack_deliver.specs.StackDelivery.{DeliveryValue}
 use Rattle.stack_deliver.specs.Walking.{ShowsDelivery}
+use Rattle.stack_deliver.specs.Searches.{met_in_delivery}
+use Rattle.stack_steps.proofs.Counted.{rises_up_to}
 use Rattle.stack_deliver.proofs.DeliverFaults.{delivery_unmapped, delivery_memory}
-use Rattle.stack_deliver.proofs.Results.{delivered_fault, fault_delivered, ending_delivered, delivered_ending}
+use Rattle.stack_deliver.proofs.OneHeader.{counts_within}
+use Rattle.stack_deliver.proofs.SearchCounts.{few_in_delivery}
+use Rattle.stack_deliver.proofs.Results.{delivered_fault, fault_delivered, ending_delivered, few_delivered, delivered_ending}
 use Rattle.stack_deliver.proofs.DeliveryAnswers.{refused_why, why_refused, ended_by, by_end}
 use Rattle.stack_deliver.proofs.ChainDelivered.{chain_delivered}
 use Rattle.stack_deliver.proofs.delivery.deliver_into.Goals as goal
@@ -19,6 +23,20 @@ pub returns-clause-chain : goal.returns-clause-chain
 returns-clause-chain g c functions s calls starts =
     let d = chain_delivered c.args.space.now c.args.start.now c.args.exception c.args.resumes.now c.args.limit functions s calls c.image.ensures.apart c.image.ensures.laid_out c.emptied.ensures.whole starts in
     ending_delivered c.emptied.result c.emptied.new.room _ d.delivered (λ (x : DeliveryValue). ShowsDelivery x c.args.exception s calls) c.emptied.ensures.exact d.is d.shows
+
+pub returns-clause-ticks : goal.returns-clause-ticks
+returns-clause-ticks g c =
+    rises_up_to c.args.space.now _ _ _ _ (few_in_delivery c.args.space.now c.args.start.now c.args.exception c.args.resumes.now c.args.limit) c.emptied.ensures.ticks
+
+pub returns-clause-chain_searches : goal.returns-clause-chain_searches
+returns-clause-chain_searches g c functions s calls starts =
+    let d = chain_delivered c.args.space.now c.args.start.now c.args.exception c.args.resumes.now c.args.limit functions s calls c.image.ensures.apart c.image.ensures.laid_out c.emptied.ensures.whole starts in
+    let few = few_delivered c.emptied.result c.emptied.new.room _ d.delivered (met_in_delivery c.args.space.now c.args.start.now c.args.exception c.args.resumes.now c.args.limit) c.emptied.ensures.exact d.is d.few in
+    rises_up_to c.args.space.now _ _ _ _ few c.emptied.ensures.ticks
+
+pub returns-clause-chain_ticks : goal.returns-clause-chain_ticks
+returns-clause-chain_ticks g c functions s calls digits starts one =
+    returns-clause-chain_searches g c functions s calls starts digits (counts_within c.args.space.now digits one c.image.ensures.added)
 
 pub returns-clause-refused : goal.returns-clause-refused
 returns-clause-refused g c error = (

@@ -1,4 +1,7 @@
+use Rattle.std.proofs.Common.{None}
+use Rattle.stack_steps.proofs.Counted.{rises_up_to}
 use Rattle.stack_deliver.proofs.FrontAnswers.{walk_states, walk_ends, walk_ends_for, walk_stops}
+use Rattle.stack_deliver.proofs.SearchCounts.{few_met}
 use Rattle.stack_deliver.proofs.front.fronted.Goals as goal
 
 pub unframed-requires : goal.unframed-requires
@@ -21,3 +24,9 @@ returns-in-Err-clause-states g c =
 pub returns-in-Err-clause-why : goal.returns-in-Err-clause-why
 returns-in-Err-clause-why g c =
     rw c.stopped.ensures (walk_stops c.args.space.now c.args.limit c.args.start.now c.args.interrupted c.outwards.new.room c.outwards.new.state c.outwards.ensures.reached c.outwards.result c.outwards.ensures.exact c.in-Err.error c.in-Err.is c.address.result c.address.ensures)
+
+pub returns-in-Ok-clause-ticks : goal.returns-in-Ok-clause-ticks
+returns-in-Ok-clause-ticks g c = rises_up_to c.args.space.now _ c.args.limit _ _ (few_met None c.args.space.now c.args.limit c.args.start.now c.args.interrupted) c.outwards.ensures.ticks
+
+pub returns-in-Err-clause-ticks : goal.returns-in-Err-clause-ticks
+returns-in-Err-clause-ticks g c = rises_up_to c.args.space.now _ c.args.limit _ _ (few_met None c.args.space.now c.args.limit c.args.start.now c.args.interrupted) c.outwards.ensures.ticks

@@ -11,7 +11,7 @@ abbrev pub invariant-loop : goal.invariant-loop
 invariant-loop g l = record {
   line : (front : List Context) × (with_contexts front (line_for l.phase l.space (l.limit - l.counter) l.state.context l.state.signal) ≡ line_for l.phase l.space l.limit l.fn.state.context l.fn.state.signal) ×
       AreVisited (visits l.phase) l.room front ×
-      (met_before front (reached_by (turned_from l.phase l.space) (l.limit - l.counter) l.state) ≡ reached_by (turned_from l.phase l.space) l.limit l.fn.state);
+      (met_before front (reached_by (turned_from l.phase l.space) (l.limit - l.counter) l.state) ≡ reached_by (turned_from l.phase l.space) l.limit l.fn.state) × (length front ≡ l.counter);
   visited : visits l.phase ≡ true → length l.room.visited ≡ l.counter;
   stays : visits l.phase ≡ false → l.room ≡ l.fn.room;
   trail : l.room.trail ≡ l.fn.room.trail;

@@ -1,6 +1,7 @@
-use Rattle.std.proofs.Common.{◌≡◌, ◌-◌, ◌*◌, ◌≤◌, length}
+use Rattle.std.proofs.Common.{◌≡◌, ℕ, ◌+◌, ◌-◌, ◌≤◌, length}
 use Rattle.stack_deliver.specs.Passes.{passes_of}
 use Rattle.stack_steps.specs.Ticking.{RisesWithin}
+use Rattle.stack_deliver.specs.Searches.{met_in_passes}
 use Rattle.stack_deliver.specs.PassViews.{with_cleanups}
 use Rattle.stack_deliver.proofs.passes.passes.Given as goal
 
@@ -10,7 +11,8 @@ invariant-loop-ending g l = record {
   full : length l.room.trail ≤ l.limit;
   visited : l.room.visited ≡ l.fn.room.visited;
   places : l.room.limit ≡ l.fn.room.limit;
-  ticks : RisesWithin l.space (length l.room.trail * l.limit) l.fn.steps.number l.steps.number;
+  ticks : (before : ℕ) × RisesWithin l.space before l.fn.steps.number l.steps.number ×
+      (before + met_in_passes l.space l.exception l.kept l.resumes l.limit (l.limit - length l.room.trail) l.context ≡ met_in_passes l.space l.exception l.kept l.resumes l.limit l.limit l.start);
 }
 
 abbrev pub decreases-loop-ending : goal.decreases-loop-ending

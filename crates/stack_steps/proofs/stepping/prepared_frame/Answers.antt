@@ -8,6 +8,7 @@ use Rattle.frame_rows.specs.RowValue.{RowValue}
 use Rattle.eh_frame.specs.Index.{shown_answer}
 use Rattle.eh_frame.specs.EntryViews.{table_of}
 use Rattle.stack_steps.specs.FrameViews.{IsKeptRow}
+use Rattle.stack_steps.specs.Stepping.{Described}
 use Rattle.stack_steps.proofs.IndexFinds.{none_shown, seen_by, shown_row, shown_fault}
 use Rattle.stack_steps.proofs.stepping.prepared_frame.Goals as goal
 
@@ -35,7 +36,7 @@ returns-in-Ok-clause-frame g c image tables row laid is =
     let gives = c.in-Some.ensures.row (bases_of t.bases) (table_of t.frames) is.prepared in
     let lent : frame.row ≡ Ok c.in-Ok.field-0.now = sym c.row.ensures ∙ ap (result_map_both (λ row. row.now) (λ e. e)) c.in-Ok.is in
     let made = subst (λ (r : Result RowValue Fault). GivesRow r (row_at (bases_of t.bases) frame.fde c.args.address)) lent gives in (
-      record { found = seen_by t frame.fde; run = made.0 },
+      Described (record { found = seen_by t frame.fde; run = made.0 }),
       shown_row image tables t c.args.address frame.fde made.0 laid is scanned made.1,
       (refl, subst (λ (r : Result RowValue Fault). IsKeptRow r made.0) (sym lent) made.2),
     )

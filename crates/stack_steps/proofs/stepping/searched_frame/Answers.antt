@@ -1,13 +1,14 @@
 use Rattle.std.proofs.Common.{refl}
 use Rattle.fde_finders.specs.FoundViews.{answered}
 use Rattle.fde_finders.specs.Named.{found_by}
+use Rattle.stack_steps.specs.Stepping.{Described}
 use Rattle.stack_steps.proofs.StepParts.{frame_found}
 use Rattle.stack_steps.proofs.stepping.searched_frame.Goals as goal
 
 pub returns-in-Ok-clause-frame : goal.returns-in-Ok-clause-frame
 returns-in-Ok-clause-frame g c =
     let made = rw c.in-Ok.is at c.make_row.ensures.row in (
-      record { found = answered c.in-Some.found; run = made.0 },
+      Described (record { found = answered c.in-Some.found; run = made.0 }),
       frame_found c.args.address (found_by c.args.tables c.args.image.now c.args.address) (answered c.in-Some.found) made.0 (rw c.in-Some.is at c.find_named.ensures.found) made.1,
       (refl, made.2),
     )

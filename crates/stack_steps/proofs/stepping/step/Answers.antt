@@ -8,6 +8,7 @@ use Rattle.stack_steps.proofs.Counted.{index_is_searched, scan_is_free, ticks_ri
 use Rattle.stack_steps.proofs.MetFrames.{step_undone}
 use Rattle.stack_steps.proofs.StoppedUndone.{stopped_undone}
 use Rattle.stack_steps.proofs.StepAnswers.{step_ends, ends_step, step_unmapped, step_read, read_step, step_table, table_step, step_caller, caller_step}
+use Rattle.stack_steps.proofs.StepAnswers.{step_section, section_step, step_form, form_step, step_info, info_step, step_limit, limit_step}
 use Rattle.stack_steps.proofs.stepping.step.Goals as goal
 
 pub returns-clause-undone : goal.returns-clause-undone
@@ -43,3 +44,15 @@ returns-clause-prepared g c some long = index_is_searched c.args.space.now c.arg
 
 pub returns-clause-scanned : goal.returns-clause-scanned
 returns-clause-scanned g c at = scan_is_free c.args.space.now c.args.context.now c.args.interrupted c.args.steps.now.number c.stepped.new.steps.number c.stepped.ensures.ticks at
+
+pub returns-clause-macho : goal.returns-clause-macho
+returns-clause-macho g c e = (λ is. step_section c.args.space.now c.args.context.now c.args.interrupted e (sym c.stepped.ensures.exact ∙ is), λ faults. c.stepped.ensures.exact ∙ section_step c.args.space.now c.args.context.now c.args.interrupted e faults)
+
+pub returns-clause-compact_form : goal.returns-clause-compact_form
+returns-clause-compact_form g c = (λ is. step_form c.args.space.now c.args.context.now c.args.interrupted (sym c.stepped.ensures.exact ∙ is), λ none. c.stepped.ensures.exact ∙ form_step c.args.space.now c.args.context.now c.args.interrupted none)
+
+pub returns-clause-pe_info : goal.returns-clause-pe_info
+returns-clause-pe_info g c = (λ is. step_info c.args.space.now c.args.context.now c.args.interrupted (sym c.stepped.ensures.exact ∙ is), λ unread. c.stepped.ensures.exact ∙ info_step c.args.space.now c.args.context.now c.args.interrupted unread)
+
+pub returns-clause-chain_limit : goal.returns-clause-chain_limit
+returns-clause-chain_limit g c = (λ is. step_limit c.args.space.now c.args.context.now c.args.interrupted (sym c.stepped.ensures.exact ∙ is), λ many. c.stepped.ensures.exact ∙ limit_step c.args.space.now c.args.context.now c.args.interrupted many)

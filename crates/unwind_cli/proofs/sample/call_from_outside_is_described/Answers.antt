@@ -9,7 +9,7 @@ use Rattle.unwind_cli.proofs.Samples.{described, shows_start}
 use Rattle.unwind_cli.proofs.sample.call_from_outside_is_described.Goals as goal
 
 pub returns-clause-described : goal.returns-clause-described
-returns-clause-described c = described caught.first (three.fa ∷ []) three.start (three.first_call ∷ []) _ first_valid shows_start (omega arith)
+returns-clause-described c = described caught.first (three.fa ∷ []) three.start (three.first_call ∷ []) _ first_valid (tt, tt) shows_start (omega arith)
 
 pub returns-clause-written : goal.returns-clause-written
 unfolding digits hexadecimal state_fields state_line pad_line handler_line

@@ -9,7 +9,7 @@ use Rattle.unwind_cli.proofs.Samples.{described, shows_stored}
 use Rattle.unwind_cli.proofs.sample.frame_pointer_is_described.Goals as goal
 
 pub returns-clause-described : goal.returns-clause-described
-returns-clause-described c = described snapshot storing.functions storing.start storing.calls _ pointed_valid shows_stored (omega arith)
+returns-clause-described c = described snapshot storing.functions storing.start storing.calls _ pointed_valid (tt, tt) shows_stored (omega arith)
 
 pub returns-clause-written : goal.returns-clause-written
 unfolding digits hexadecimal state_fields state_line

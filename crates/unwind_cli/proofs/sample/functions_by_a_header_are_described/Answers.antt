@@ -10,10 +10,10 @@ use Rattle.unwind_cli.proofs.Samples.{described, shows_start}
 use Rattle.unwind_cli.proofs.sample.functions_by_a_header_are_described.Goals as goal
 
 pub returns-clause-described : goal.returns-clause-described
-returns-clause-described c = described caught.by_header three.functions three.start three.calls _ header_valid shows_start (omega arith)
+returns-clause-described c = described caught.by_header three.functions three.start three.calls _ header_valid (tt, tt) shows_start (omega arith)
 
 pub returns-clause-walked : goal.returns-clause-walked
-returns-clause-walked c = (refl, record { described = valid_described three.header_process _ _ three.functions three.start three.calls header_valid; shows = shows_start; shorter = omega arith })
+returns-clause-walked c = (refl, record { described = valid_described three.header_process _ _ three.functions three.start three.calls header_valid; elf = (tt, tt); shows = shows_start; shorter = omega arith })
 
 pub returns-clause-written : goal.returns-clause-written
 unfolding digits hexadecimal state_fields state_line pad_line handler_line

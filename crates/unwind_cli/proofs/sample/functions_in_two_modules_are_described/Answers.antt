@@ -9,7 +9,7 @@ use Rattle.unwind_cli.proofs.Samples.{described, shows_start}
 use Rattle.unwind_cli.proofs.sample.functions_in_two_modules_are_described.Goals as goal
 
 pub returns-clause-described : goal.returns-clause-described
-returns-clause-described c = described caught.in_two_modules three.functions three.start three.calls _ two_valid shows_start (omega arith)
+returns-clause-described c = described caught.in_two_modules three.functions three.start three.calls _ two_valid (tt, (tt, tt)) shows_start (omega arith)
 
 pub returns-clause-written : goal.returns-clause-written
 unfolding digits hexadecimal state_fields state_line pad_line handler_line

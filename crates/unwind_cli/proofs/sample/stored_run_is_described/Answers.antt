@@ -23,6 +23,7 @@ shown = record { ra = refl; sp = refl; saved = saved }
 pub returns-clause-described : goal.returns-clause-described
 returns-clause-described c = let w = one_valid in record {
   valid = record { are_functions = w.are_functions; modules = w.modules; no_others = w.no_others; shows = shown; chain = w.chain; resumed = w.resumed };
+  elf = (tt, tt);
   shorter = omega arith;
 }
 

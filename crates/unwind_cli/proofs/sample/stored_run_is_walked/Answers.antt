@@ -27,7 +27,7 @@ pub returns-clause-described : goal.returns-clause-described
 returns-clause-described c =
     let w = one_valid in
     let described = valid_described (process_of (space_of snapshot)) _ _ (function ∷ []) start calls w in
-    (refl, record { described = described; shows = shown; shorter = omega arith })
+    (refl, record { described = described; elf = (tt, tt); shows = shown; shorter = omega arith })
 
 pub returns-clause-written : goal.returns-clause-written
 unfolding digits hexadecimal state_fields state_line

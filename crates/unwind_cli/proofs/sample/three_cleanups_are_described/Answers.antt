@@ -9,7 +9,7 @@ use Rattle.unwind_cli.proofs.Samples.{described, shows_deep}
 use Rattle.unwind_cli.proofs.sample.three_cleanups_are_described.Goals as goal
 
 pub returns-clause-described : goal.returns-clause-described
-returns-clause-described c = described caught.deep three.functions three.deep_start three.deep_calls _ deep_valid shows_deep (omega arith)
+returns-clause-described c = described caught.deep three.functions three.deep_start three.deep_calls _ deep_valid (tt, tt) shows_deep (omega arith)
 
 pub returns-clause-written : goal.returns-clause-written
 unfolding digits hexadecimal state_fields state_line pad_line handler_line

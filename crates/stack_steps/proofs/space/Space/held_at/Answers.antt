@@ -46,6 +46,15 @@ returns-then-address-extent-clause-table c =
     let stands = all_contains (StandsAt hs) es e c.self.invariant.stand c.in-Some.ensures.stands in
     rw (← c.self.view_is) (all_there (IsHeld c.self.inside.image) hs e.1.place c.index.result.now c.self.invariant.are_held (place_within hs e.1.place (module_of e) stands) c.index.ensures)
 
+pub returns-then-address-extent-clause-within : goal.returns-then-address-extent-clause-within
+returns-then-address-extent-clause-within c =
+    let e : ℕ × Extent = (c.in-Some.field-0-0, c.in-Some.extent) in
+    let es = c.self.inside.modules.entries in
+    let hs = c.self.inside.added.items in
+    let stands = all_contains (StandsAt hs) es e c.self.invariant.stand c.in-Some.ensures.stands in
+    let last = last_is (modules_in es) 0 c.args.address (module_of e) c.self.invariant.apart (sym c.in-Some.ensures.last) in
+    rw (holder_there hs e.1.place (module_of e) c.index.result.now stands c.index.ensures) (last.below, c.if-address-extent.true)
+
 pub returns-else-address-extent-clause-module : goal.returns-else-address-extent-clause-module
 returns-else-address-extent-clause-module c =
     let e : ℕ × Extent = (c.in-Some.field-0-0, c.in-Some.extent) in

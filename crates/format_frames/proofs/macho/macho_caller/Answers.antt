@@ -3,7 +3,7 @@ use Rattle.std.proofs.lemmas.Result.{err_from_is_err_and}
 use Rattle.unwind_arch.specs.ContextViews.{columns_of}
 use Rattle.format_frames.specs.Modules.{macho_module}
 use Rattle.format_frames.proofs.MachoSteps.{opcode_due}
-use Rattle.format_frames.proofs.macho.caller_in.Goals as goal
+use Rattle.format_frames.proofs.macho.macho_caller.Goals as goal
 
 pub returns-in_err-stepped : goal.returns-in_err-stepped
 returns-in_err-stepped c =

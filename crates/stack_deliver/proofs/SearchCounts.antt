@@ -1,0 +1,169 @@
+-- How many contexts a delivery meets, turn by turn and pass by pass.
+use Rattle.std.proofs.Common.{◌≡◌, ℕ, zero, suc, ◌+◌, ◌*◌, ◌<◌, ◌≤◌, Bool, true, false, not, is_some, List, [], ◌∷◌, ◌++◌, length, Option, Some, None, Result, Ok, Err, refl, sym, ap, ◌∙◌, arith, length-append, append-nil}
+use Rattle.std.proofs.Math.Nat.{add-mul}
+use Rattle.unwind_arch.specs.declared.x86_64.Context.{Context}
+use Rattle.stack_steps.specs.declared.answers.Stepped.{Stepped}
+use Rattle.stack_steps.specs.declared.answers.DeliverError.{DeliverError}
+use Rattle.stack_deliver.specs.declared.passes.Phase.{Phase}
+use Rattle.stack_deliver.specs.declared.passes.Phase.TheVariants as phase
+use Rattle.stack_steps.specs.Modules.{SpaceValue}
+use Rattle.stack_deliver.specs.Resumes.{return_of}
+use Rattle.stack_deliver.specs.Fronts.{Reached, reached_after, reached_by, caller_turned, started, turned_from}
+use Rattle.stack_deliver.specs.Passes.{Line, Stop, Turn, Ends, Stops, Goes, turn_for, with_context, line_turn, line_for, pad_of, kept_at, pass_of, PassEnd, Finishes, Elsewhere, cleanup_of, resume_at}
+use Rattle.stack_steps.specs.Ticking.{RisesWithin}
+use Rattle.stack_deliver.specs.Searches.{contexts_met, met_after, met_resumed, met_in_passes, met_toward, met_behind, met_after_search, met_in_delivery}
+use Rattle.stack_steps.proofs.Counted.{rises_up_to, rises_then}
+use Rattle.stack_deliver.proofs.Reaching.{reached, met_before}
+
+-- ---- on the way outwards
+
+-- one more than before, where it goes no further
+pub met_here : (whole : Reached) (front : List Context) (s : Stepped) (n : ℕ) → length front ≡ n → whole ≡ reached (front ++ s.context ∷ []) s → length whole.contexts ≡ n + 1
+met_here whole front s n counted is = ap (λ (r : Reached). length r.contexts) is ∙ length-append front (s.context ∷ []) ∙ omega arith
+
+-- as many as there may be
+pub met_all : (next : Stepped → Option Stepped) (whole : Reached) (front : List Context) (s : Stepped) (n left : ℕ) → length front ≡ n → left ≡ 0 → met_before front (reached_by next left s) ≡ whole → length whole.contexts ≡ n
+met_all next whole front s n left counted none is =
+    let at_end : reached (front ++ []) s ≡ whole = rw none at is in
+    sym (ap (λ (r : Reached). length r.contexts) at_end) ∙ ap length (append-nil front) ∙ counted
+
+few_reached : (next : Stepped → Option Stepped) (room : ℕ) (s : Stepped) → length (reached_by next room s).contexts ≤ room
+few_reached next zero s = omega arith
+few_reached next (suc room) s = go (next s) (few_reached next room)
+  where
+    go : (o : Option Stepped) → ((t : Stepped) → length (reached_by next room t).contexts ≤ room) → length (reached_after s o (reached_by next room)).contexts ≤ suc room
+    go None few = omega arith
+    go (Some t) few = let less = few t in omega arith
+
+-- no more than there may be
+pub few_met : (p : Option Phase) (space : SpaceValue) (limit : ℕ) (c : Context) (interrupted : Bool) → contexts_met p space limit c interrupted ≤ limit
+few_met p space limit c interrupted = few_reached (turned_from p space) limit (started c interrupted)
+
+-- the contexts of the line
+pub line_met : (p : Option Phase) (space : SpaceValue) (room : ℕ) (c : Context) (interrupted : Bool) (line : Line) → line_for p space room c interrupted ≡ Ok line → contexts_met p space room c interrupted ≡ length line.contexts
+line_met p space zero c interrupted line is = absurd cc
+line_met p space (suc room) c interrupted line is = go (turn_for p space c interrupted) (λ d i l. line_met p space room d i l) is
+  where
+    some_line : (x y : Line) → ◌≡◌ {A = Result Line DeliverError} (Ok x) (Ok y) → length x.contexts ≡ length y.contexts
+    some_line x y e = let same : x ≡ y = cc in ap (λ (l : Line). length l.contexts) same
+
+    on : (next : Stepped) → ((d : Context) (i : Bool) (l : Line) → line_for p space room d i ≡ Ok l → contexts_met p space room d i ≡ length l.contexts) → (r : Result Line DeliverError) → line_for p space room next.context next.signal ≡ r → with_context c r ≡ Ok line → suc (contexts_met p space room next.context next.signal) ≡ length line.contexts
+    on next later (Ok l) at e = ap suc (later next.context next.signal l at) ∙ some_line (record l { contexts = c ∷ l.contexts }) line e
+    on next later (Err f) at e = absurd cc
+
+    go : (t : Result Turn DeliverError) → ((d : Context) (i : Bool) (l : Line) → line_for p space room d i ≡ Ok l → contexts_met p space room d i ≡ length l.contexts) → line_turn c interrupted t (line_for p space room) ≡ Ok line → length (reached_after (started c interrupted) (caller_turned t) (reached_by (turned_from p space) room)).contexts ≡ length line.contexts
+    go (Ok Ends) later e = some_line _ line e
+    go (Ok (Stops _ _)) later e = some_line _ line e
+    go (Ok (Goes next)) later e = on next later (line_for p space room next.context next.signal) refl e
+    go (Err f) later e = absurd cc
+
+-- one more than from the caller on
+pub met_beyond : (p : Option Phase) (space : SpaceValue) (room n : ℕ) (c : Context) (interrupted : Bool) (next : Stepped) → room ≡ suc n → turn_for p space c interrupted ≡ Ok (Goes next) →
+    contexts_met p space room c interrupted ≡ suc (contexts_met p space n next.context next.signal)
+met_beyond p space room n c interrupted next turns goes = rw (turns, goes) refl
+
+-- ---- the passes
+module _ (space : SpaceValue) (exception kept : ℕ) (resumes : List (ℕ × ℕ)) (limit : ℕ) where
+  abbrev met : ℕ → Context → ℕ
+  met = met_in_passes space exception kept resumes limit
+
+  abbrev one_pass : Context → ℕ
+  one_pass c = contexts_met (Some phase.Cleanup) space limit c false
+
+  -- those of the first pass among them
+  first_pass : (places : ℕ) (c : Context) → one_pass c ≤ met places c
+  first_pass zero c = omega arith
+  first_pass (suc n) c = omega arith
+
+  -- the last pass
+  pub last_met : (places before whole start middle new : ℕ) (c : Context) → before + met places c ≡ whole → RisesWithin space before start middle → RisesWithin space (one_pass c) middle new → RisesWithin space whole start new
+  last_met places before whole start middle new c is rises pass =
+      let few = first_pass places c in
+      rises_up_to space (before + one_pass c) whole start new (omega arith) (rises_then space before (one_pass c) start middle new rises pass)
+
+  -- one of several
+  pub next_met : (places n pad before whole : ℕ) (c entered d : Context) (r : Result Context DeliverError) → cleanup_of space exception kept limit c ≡ Ok (Elsewhere pad entered) → places ≡ suc n →
+      (0 < places → r ≡ resume_at pad entered (return_of resumes pad)) → r ≡ Ok d → before + met places c ≡ whole → (before + one_pass c) + met n d ≡ whole
+  next_met places n pad before whole c entered d r goes turns resumed fine is =
+      let at : resume_at pad entered (return_of resumes pad) ≡ Ok d = sym (resumed (omega arith)) ∙ fine in
+      let all : met places c ≡ one_pass c + met n d = rw (turns, goes, at) refl in
+      omega arith
+
+  few_passes : (places : ℕ) (c : Context) → met places c ≤ (places + 1) * limit
+  few_passes zero c = let few = few_met (Some phase.Cleanup) space limit c false in omega arith
+  few_passes (suc n) c =
+      let few = few_met (Some phase.Cleanup) space limit c false in
+      let one_more : suc n + 1 ≡ (n + 1) + 1 = omega arith in
+      let sum : (suc n + 1) * limit ≡ (n + 1) * limit + 1 * limit = ap (λ (k : ℕ). k * limit) one_more ∙ add-mul (n + 1) 1 limit in
+      let later = after (cleanup_of space exception kept limit c) (few_passes n) in
+      omega arith
+    where
+      resumed : (r : Result Context DeliverError) → ((d : Context) → met n d ≤ (n + 1) * limit) → met_resumed r (met n) ≤ (n + 1) * limit
+      resumed (Ok d) few = few d
+      resumed (Err e) few = omega arith
+
+      after : (r : Result PassEnd DeliverError) → ((d : Context) → met n d ≤ (n + 1) * limit) → met_after r (λ pad entered. met_resumed (resume_at pad entered (return_of resumes pad)) (met n)) ≤ (n + 1) * limit
+      after (Ok (Finishes ending)) few = omega arith
+      after (Ok (Elsewhere pad entered)) few = resumed (resume_at pad entered (return_of resumes pad)) few
+      after (Err e) few = omega arith
+
+-- ---- a delivery
+
+-- a pad that isn't left out
+pub named_pad : (o p : Option ℕ) (b : Bool) → o ≡ p → is_some o ≡ not b → b ≡ false → (pad : ℕ) × (p ≡ Some pad)
+named_pad o p b same some present = go p (sym (ap is_some same) ∙ some ∙ ap not present)
+  where
+    go : (q : Option ℕ) → is_some q ≡ true → (pad : ℕ) × (q ≡ Some pad)
+    go None is = absurd cc
+    go (Some pad) is = (pad, refl)
+
+module _ (space : SpaceValue) (c : Context) (exception : ℕ) (resumes : List (ℕ × ℕ)) (limit : ℕ) where
+  abbrev searched : ℕ
+  searched = contexts_met (Some phase.Search) space limit c false
+
+  abbrev passed : ℕ → ℕ
+  passed kept = met_in_passes space exception kept resumes limit limit c
+
+  abbrev all : ℕ
+  all = met_in_delivery space c exception resumes limit
+
+  search_among : searched ≤ all
+  unfolding met_in_delivery
+  search_among = omega arith
+
+  -- the search alone
+  pub search_met : (start new : ℕ) → RisesWithin space searched start new → RisesWithin space all start new
+  search_met start new rises = rises_up_to space searched all start new search_among rises
+
+  passes_among : (line : Line) (stop : Stop) (pad : ℕ) → pass_of phase.Search space limit c false ≡ Ok line → line.stop ≡ Some stop → pad_of stop.action ≡ Some pad → searched + passed (kept_at stop.context stop.interrupted) ≤ all
+  unfolding met_in_delivery
+  passes_among line stop pad at stops named = rw (at, stops, named) (omega arith)
+
+  -- the search, and the passes after it
+  pub passes_met : (line : Line) (stop : Stop) (pad start middle new : ℕ) → pass_of phase.Search space limit c false ≡ Ok line → line.stop ≡ Some stop → pad_of stop.action ≡ Some pad →
+      RisesWithin space searched start middle → RisesWithin space (passed (kept_at stop.context stop.interrupted)) middle new → RisesWithin space all start new
+  passes_met line stop pad start middle new at stops named search passes =
+      rises_up_to space (searched + passed (kept_at stop.context stop.interrupted)) all start new (passes_among line stop pad at stops named)
+      (rises_then space searched (passed (kept_at stop.context stop.interrupted)) start middle new search passes)
+
+  toward : (o : Option ℕ) (n : ℕ) → n ≤ (limit + 1) * limit → met_toward o n ≤ (limit + 1) * limit
+  toward None n few = omega arith
+  toward (Some pad) n few = few
+
+  behind : (o : Option Stop) → met_behind o passed ≤ (limit + 1) * limit
+  behind None = omega arith
+  behind (Some stop) = toward (pad_of stop.action) (passed (kept_at stop.context stop.interrupted)) (few_passes space exception (kept_at stop.context stop.interrupted) resumes limit limit c)
+
+  after : (r : Result Line DeliverError) → met_after_search r passed ≤ (limit + 1) * limit
+  after (Ok line) = behind line.stop
+  after (Err e) = omega arith
+
+  -- no more than by the search and one pass more than the limit, each of as many contexts as the limit allows
+  pub few_in_delivery : all ≤ (limit + 2) * limit
+  unfolding met_in_delivery
+  few_in_delivery =
+      let few = few_met (Some phase.Search) space limit c false in
+      let two : (limit + 2) * limit ≡ limit * limit + 2 * limit = add-mul limit 2 limit in
+      let one : (limit + 1) * limit ≡ limit * limit + 1 * limit = add-mul limit 1 limit in
+      let later = after (pass_of phase.Search space limit c false) in
+      omega arith

@@ -1,0 +1,80 @@
+-- How many contexts a delivery meets: the search meets those that it visits, and each pass those from its start outwards. At each
+-- of them a description is searched once at most.
+use Rattle.std.specs.Prelude.{◌≡◌, ℕ, zero, suc, ◌+◌, ◌^◌, ◌<◌, Bool, false, List, [], ◌∷◌, Option, Some, None, Result, Ok, Err, length}
+use Rattle.unwind_arch.specs.declared.x86_64.Context.{Context}
+use Rattle.fde_finders.specs.declared.custom.FrameInfoKind.TheVariants.{EhFrameHdr}
+use Rattle.fde_finders.specs.Named.{pairs_by}
+use Rattle.stack_steps.specs.declared.answers.DeliverError.{DeliverError}
+use Rattle.stack_deliver.specs.declared.passes.Phase.{Phase}
+use Rattle.stack_deliver.specs.declared.passes.Phase.TheVariants as phase
+use Rattle.stack_steps.specs.declared.space.Module.{Module}
+use Rattle.stack_steps.specs.declared.space.ModuleTables.TheVariants.{Elf}
+use Rattle.fde_finders.specs.declared.custom.FrameInfo.{FrameInfo}
+use Rattle.stack_deliver.specs.Fronts.{reached_by, started, turned_from}
+use Rattle.stack_steps.specs.Modules.{SpaceValue}
+use Rattle.stack_deliver.specs.Passes.{Elsewhere, Finishes, Line, PassEnd, Stop, cleanup_of, kept_at, pad_of, pass_of, resume_at}
+use Rattle.stack_deliver.specs.Resumes.{return_of}
+
+-- on the way outwards from a context, of so many at most
+abbrev pub contexts_met : Option Phase → SpaceValue → ℕ → Context → Bool → ℕ
+contexts_met phase space limit c interrupted =
+    length (reached_by (turned_from phase space) limit (started c interrupted)).contexts
+
+-- ---- the passes
+
+-- after a pass that enters a landing pad elsewhere than at the kept frame
+abbrev pub met_after : Result PassEnd DeliverError → (ℕ → Context → ℕ) → ℕ
+met_after (Ok (Finishes ending)) later = 0
+met_after (Ok (Elsewhere pad entered)) later = later pad entered
+met_after (Err e) later = 0
+
+-- from where the next pass starts
+abbrev pub met_resumed : Result Context DeliverError → (Context → ℕ) → ℕ
+met_resumed (Ok c) later = later c
+met_resumed (Err e) later = 0
+
+module _ (space : SpaceValue) (exception kept : ℕ) (resumes : List (ℕ × ℕ)) (limit : ℕ) where
+  -- By the passes from a context on toward the kept frame, where the trail has places for so many cleanups. A context that
+  -- several passes come to is met by each of them.
+  abbrev pub met_in_passes : ℕ → Context → ℕ
+  met_in_passes zero c = contexts_met (Some phase.Cleanup) space limit c false
+  met_in_passes (suc places) c =
+      contexts_met (Some phase.Cleanup) space limit c false
+      + met_after (cleanup_of space exception kept limit c)
+      (λ pad entered. met_resumed (resume_at pad entered (return_of resumes pad)) (met_in_passes places))
+
+-- ---- a delivery
+
+-- toward where the search stopped: nothing where the program ends there
+abbrev pub met_toward : Option ℕ → ℕ → ℕ
+met_toward None passes = 0
+met_toward (Some pad) passes = passes
+
+abbrev pub met_behind : Option Stop → (ℕ → ℕ) → ℕ
+met_behind None passes = 0
+met_behind (Some stop) passes = met_toward (pad_of stop.action) (passes (kept_at stop.context stop.interrupted))
+
+-- after the search: nothing where it found no frame
+abbrev pub met_after_search : Result Line DeliverError → (ℕ → ℕ) → ℕ
+met_after_search (Ok line) passes = met_behind line.stop passes
+met_after_search (Err e) passes = 0
+
+-- By a delivery: by its search, and by its passes, where it comes to these.
+unfoldable pub met_in_delivery : SpaceValue → Context → ℕ → List (ℕ × ℕ) → ℕ → ℕ
+met_in_delivery space c exception resumes limit =
+    contexts_met (Some phase.Search) space limit c false
+    + met_after_search (pass_of phase.Search space limit c false)
+    (λ kept. met_in_passes space exception kept resumes limit limit c)
+
+-- ---- one module
+
+-- A space has one module, which names a header. The number of pairs of the header's table can be written with so many binary
+-- digits.
+pub record HasOneHeader (space : SpaceValue) (digits : ℕ) : Type 0 where
+  pub holder : Module
+  pub tables : FrameInfo
+  pub header : ℕ
+  pub one : space.modules ≡ holder ∷ []
+  pub elf : holder.tables ≡ Elf tables
+  pub names : tables.kind ≡ EhFrameHdr header
+  pub pairs : pairs_by tables space.image < 2 ^ digits

@@ -1,0 +1,12 @@
+use Rattle.std.proofs.Common.{arith}
+use Rattle.pe_unwind_info.specs.FunctionTable.{functions_of, lookup_of, table_bytes}
+use Rattle.format_frames.specs.Modules.{pe_module}
+use Rattle.stack_steps.specs.Stepping.{recorded_columns}
+use Rattle.stack_steps.proofs.FormatCallers.{records_give}
+use Rattle.stack_steps.proofs.frames.RecordedFrame.caller.Goals as goal
+
+pub returns : goal.returns
+returns c =
+    let m = pe_module c.args.self.now.container in
+    let rva = c.args.self.now.rva in
+    records_give m rva (recorded_columns c.args.image.now c.args.context.now m rva (lookup_of (functions_of (table_bytes c.args.self.now.functions)) rva)) c.in_ok-caller.caller (omega arith) c.in_ok-caller.ensures

@@ -1,0 +1,166 @@
+// Frames of Mach-O and PE modules: what is found for an address, and the caller by it.
+ghost use Rattle.std.specs.Prelude.{◌≡◌, ◌-◌, ◌<◌, ◌≤◌, ◌^◌, Bool, List};
+ghost use Rattle.memory_image.specs.Image.{Span};
+ghost use Rattle.unwind_arch.specs.declared.x86_64.Context.{Context as Registers};
+ghost use Rattle.frame_rows.specs.RowValue.{RowValue};
+ghost use Rattle.unwinding_frames.specs.LanguageViews.{action_of};
+ghost use Rattle.stack_steps.specs.Asking.{action_asked};
+ghost use Rattle.stack_steps.specs.FrameViews.{GivesFrameAt, compact_frame_of, recorded_frame_of};
+ghost use Rattle.stack_steps.specs.Results.{result_map};
+ghost use Rattle.stack_steps.specs.Stepping.{caller_by, frame_by_tables};
+ghost use Rattle.stack_steps.specs.declared.space.ModuleTables.TheVariants.{Macho, Pe};
+
+use crate::answers::{DeliverError, Stepped};
+use crate::space::{MachoTables, Module, PeTables};
+use crate::stepping::FoundFrame;
+use eh_frame::RowRoom;
+use format_frames::{
+    MachoModule, PeModule, has_language_table, macho_caller, macho_function, pe_caller,
+    pe_functions, pe_names_handler,
+};
+use macho_unwind_info::Function;
+use memory_image::MemoryImage;
+use pe_unwind_info::x86_64::FunctionTableEntries;
+use unwind_arch::x86_64::{Context, RSP};
+use unwinding_frames::EhAction;
+
+/// A frame of a Mach-O module: the function that its section of compact unwinding has there.
+#[derive(Debug, Drop)]
+pub struct CompactFrame {
+    container: MachoModule,
+    function: Function,
+    // of the frame
+    address: u64,
+}
+
+impl CompactFrame {
+    /// What the function asks. A function with a language table is refused.
+    pub(crate) fn asked(&self) -> Result<EhAction, DeliverError>
+        ensures { (image : List Span) (c : Registers) (interrupted : Bool) →
+            result_map action_of result
+            ≡ action_asked image c interrupted (compact_frame_of self.now) }
+    {
+        if has_language_table(&self.function) {
+            Err(DeliverError::CompactHandler)
+        } else {
+            Ok(EhAction::None)
+        }
+    }
+
+    /// Its caller, by the opcode of the function. A row that it asks for is made in `rows`.
+    pub(crate) fn caller<'a>(
+        &self,
+        image: &MemoryImage<'a>,
+        context: &Context,
+        rows: &mut RowRoom<'a>,
+    ) -> Result<Stepped, DeliverError>
+        ensures { result ≡ caller_by image.now context.now (compact_frame_of self.now) }
+    {
+        let (container, address) = (&self.container, self.address);
+        let caller = macho_caller(image, container, &self.function, address, context, rows)?;
+        // A look at them tells the proof that there are sixteen registers.
+        let _ = caller.context.registers[RSP];
+        Ok(Stepped {
+            context: caller.context,
+            signal: caller.signal,
+        })
+    }
+}
+
+/// A frame of a PE module: the function table in which its function is looked up.
+#[derive(Clone, Copy, Debug)]
+pub struct RecordedFrame<'a> {
+    container: PeModule,
+    functions: FunctionTableEntries<'a>,
+    // how far the frame's address is from the module's base
+    rva: u32,
+}
+
+impl<'a> RecordedFrame<'a> {
+    /// What the function asks. A function whose unwind records name a handler is refused; all of
+    /// them are read.
+    pub(crate) fn asked(&self, image: &MemoryImage<'_>) -> Result<EhAction, DeliverError>
+        ensures { (c : Registers) (interrupted : Bool) → result_map action_of result
+            ≡ action_asked image.now c interrupted (recorded_frame_of self.now) }
+    {
+        if pe_names_handler(image, &self.container, &self.functions, self.rva)? {
+            Err(DeliverError::PeHandler)
+        } else {
+            Ok(EhAction::None)
+        }
+    }
+
+    /// Its caller, by the unwind records of the function.
+    pub(crate) fn caller(
+        &self,
+        image: &MemoryImage<'_>,
+        context: &Context,
+    ) -> Result<Stepped, DeliverError>
+        ensures { result ≡ caller_by image.now context.now (recorded_frame_of self.now) }
+    {
+        let caller = pe_caller(image, &self.container, &self.functions, self.rva, context)?;
+        // A look at them tells the proof that there are sixteen registers.
+        let _ = caller.registers[RSP];
+        Ok(Stepped {
+            context: caller,
+            signal: false,
+        })
+    }
+}
+
+/// The frame at an address of a Mach-O module.
+pub(crate) fn compact_frame<'f, 'a>(
+    image: &MemoryImage<'a>,
+    address: u64,
+    holder: &Module,
+    tables: MachoTables,
+) -> Result<Option<FoundFrame<'f, 'a>>, DeliverError>
+    requires from { holder.now.start ≤ address }
+    requires within { address < holder.now.end }
+    requires placed { holder.now.end - holder.now.start < 2 ^ 32 }
+    ensures { (row : RowValue) → GivesFrameAt result row
+        (frame_by_tables image.now address holder.now (Macho tables)) }
+{
+    let container = MachoModule {
+        base: holder.start,
+        size: (holder.end - holder.start) as u32,
+        unwind_info: tables.unwind_info,
+        frames: tables.frames,
+    };
+    match macho_function(image, &container, (address - holder.start) as u32) {
+        Ok(Some(function)) => Ok(Some(FoundFrame::Compact(CompactFrame {
+            container,
+            function,
+            address,
+        }))),
+        Ok(None) => Ok(None),
+        Err(error) => Err(DeliverError::MachO(error)),
+    }
+}
+
+/// The frame at an address of a PE module.
+pub(crate) fn recorded_frame<'f, 'a>(
+    image: &MemoryImage<'a>,
+    address: u64,
+    holder: &Module,
+    tables: PeTables,
+) -> Result<Option<FoundFrame<'f, 'a>>, DeliverError>
+    requires from { holder.now.start ≤ address }
+    requires within { address < holder.now.end }
+    requires placed { holder.now.end - holder.now.start < 2 ^ 32 }
+    ensures { (row : RowValue) → GivesFrameAt result row
+        (frame_by_tables image.now address holder.now (Pe tables)) }
+{
+    let container = PeModule {
+        base: holder.start,
+        size: (holder.end - holder.start) as u32,
+        table_rva: tables.table_rva,
+        table_size: tables.table_size,
+    };
+    let functions = pe_functions(image, &container)?;
+    Ok(Some(FoundFrame::Recorded(RecordedFrame {
+        container,
+        functions,
+        rva: (address - holder.start) as u32,
+    })))
+}
