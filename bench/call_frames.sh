@@ -8,18 +8,13 @@
 #
 # With FILE, callgrind's counts of the rows are left there, by function (callgrind_annotate tells
 # them). It wants `rt` and `valgrind`, and leaves nothing else behind.
-set -euo pipefail
+
+# shellcheck source-path=SCRIPTDIR source=common.sh
+. "$(dirname "$0")/common.sh"
 
 counts=${1:-/dev/null}
-top=$(cd "$(dirname "$0")/.." && pwd)
-copy=$(mktemp -d)
-trap 'rm -rf "$copy"' EXIT
-cp -r "$top/crates" "$top/crates.txt" "$copy"
-[ ! -e "$top/HANDLES" ] || cp "$top/HANDLES" "$copy"
 
-echo 'call_frames: eh_frame arrayvec anyhow' >>"$copy/crates.txt"
-mkdir -p "$copy/crates/call_frames/src"
-cat >"$copy/crates/call_frames/src/main.rt" <<'RATTLE'
+add_program call_frames eh_frame arrayvec anyhow <<'RATTLE'
 //! Scans a frame table, makes a row, or makes or copies a list of rules:
 //! `call_frames scan|row|room|new|cleared|clone|extend DESCRIPTIONS PASSES`.
 #![tactic(auto)]
@@ -197,27 +192,23 @@ fn main(rt: HostRuntime) -> Result<()> {
     Ok(())
 }
 RATTLE
-(cd "$copy/crates/call_frames" && rt run -- scan 0 0 >"$copy/run.log" 2>&1) || { cat "$copy/run.log" >&2; exit 1; }
-
-count() {
-    valgrind --tool=callgrind --callgrind-out-file="$1" "$copy/crates/call_frames/out/call_frames" "${@:2}" 2>&1 >/dev/null |
-        sed -n 's/.*Collected : //p'
-}
+build_program call_frames scan 0 0
 
 # What a scan of so many descriptions costs more than one of none.
-none=$(($(count /dev/null scan 0 1000) - $(count /dev/null scan 0 0)))
+none=$(($(instructions "$program" scan 0 1000) - $(instructions "$program" scan 0 0)))
 for descriptions in 10 1000; do
-    all=$(($(count /dev/null scan $descriptions 1000) - $(count /dev/null scan $descriptions 0)))
+    all=$(($(instructions "$program" scan "$descriptions" 1000) - $(instructions "$program" scan "$descriptions" 0)))
     echo "scan of $descriptions descriptions: $(((all - none) / (1000 * descriptions))) instructions each"
 done
-few=$(count /dev/null row 0 0)
-many=$(count "$counts" row 0 10000)
+few=$(instructions "$program" row 0 0)
+many=$(instructions "$program" row 0 10000)
+cp "$work/callgrind" "$counts"
 echo "row: $(((many - few) / 10000)) instructions"
-few=$(count /dev/null room 0 0)
-many=$(count /dev/null room 0 10000)
+few=$(instructions "$program" room 0 0)
+many=$(instructions "$program" room 0 10000)
 echo "row in a room: $(((many - few) / 10000)) instructions"
 for kind in new cleared clone extend; do
-    few=$(count /dev/null $kind 0 0)
-    many=$(count /dev/null $kind 0 10000)
+    few=$(instructions "$program" "$kind" 0 0)
+    many=$(instructions "$program" "$kind" 0 10000)
     echo "list, $kind: $(((many - few) / 10000)) instructions"
 done

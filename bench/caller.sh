@@ -6,17 +6,11 @@
 #     bench/caller.sh
 #
 # It wants `rt` and `valgrind`, and leaves nothing behind. The image has three regions.
-set -euo pipefail
 
-top=$(cd "$(dirname "$0")/.." && pwd)
-copy=$(mktemp -d)
-trap 'rm -rf "$copy"' EXIT
-cp -r "$top/crates" "$top/crates.txt" "$copy"
-[ ! -e "$top/HANDLES" ] || cp "$top/HANDLES" "$copy"
+# shellcheck source-path=SCRIPTDIR source=common.sh
+. "$(dirname "$0")/common.sh"
 
-echo 'caller_cost: memory_image unwind_arch eh_frame unwinding_frames anyhow' >>"$copy/crates.txt"
-mkdir -p "$copy/crates/caller_cost/src"
-cat >"$copy/crates/caller_cost/src/main.rt" <<'RATTLE'
+add_program caller_cost memory_image unwind_arch eh_frame unwinding_frames anyhow <<'RATTLE'
 //! Leaves COUNT frames by a row of KIND + 1 rules: `caller_cost KIND COUNT HOW`, HOW 0 for the loop
 //! alone, 1 by `step_by_row`, 2 by `write_caller` with one window.
 #![tactic(auto)]
@@ -124,15 +118,10 @@ fn main(rt: HostRuntime) -> Result<()> {
     Ok(())
 }
 RATTLE
-(cd "$copy/crates/caller_cost" && rt run -- 0 0 0 >"$copy/run.log" 2>&1) || { cat "$copy/run.log" >&2; exit 1; }
-
-count() {
-    valgrind --tool=callgrind --callgrind-out-file=/dev/null "$copy/crates/caller_cost/out/caller_cost" "$@" 2>&1 >/dev/null |
-        sed -n 's/.*Collected : //p'
-}
+build_program caller_cost 0 0 0
 
 for kind in 0 1 2 3; do
-    loop=$(count $kind 10000 0)
-    echo "$((kind + 1)) rules: by step_by_row $((($(count $kind 10000 1) - loop) / 10000))," \
-        "by write_caller with one window $((($(count $kind 10000 2) - loop) / 10000))"
+    loop=$(instructions "$program" "$kind" 10000 0)
+    echo "$((kind + 1)) rules: by step_by_row $((($(instructions "$program" "$kind" 10000 1) - loop) / 10000))," \
+        "by write_caller with one window $((($(instructions "$program" "$kind" 10000 2) - loop) / 10000))"
 done

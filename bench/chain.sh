@@ -1,4 +1,4 @@
-#!/bin/sh
+#!/usr/bin/env bash
 # Measures walks and deliveries over chains of calls, beside the same work over gimli: instructions
 # (callgrind), their growth, and peak memory.
 #
@@ -18,30 +18,19 @@
 #   alone     the walk or the delivery without reading, preparing and reporting, a frame
 #   peak      the largest resident set
 #   parts     of the proved program: reading the snapshot's JSON, and preparing, as a part of that
-set -eu
-here=$(cd "$(dirname "$0")" && pwd)
-proved=$here/../crates/unwind_cli/out/unwind_cli
-work=$(mktemp -d)
-trap 'rm -rf "$work"' EXIT
-[ $# -gt 0 ] || set -- 1000 10000 100000
 
-if [ -n "${REGISTRY:-}" ]; then
-    mkdir -p "$work/.cargo"
-    printf '[source.crates-io]\nreplace-with = "local"\n[source.local]\ndirectory = "%s"\n' \
-        "$REGISTRY" >"$work/.cargo/config.toml"
-fi
-cp -r "$here/gimli" "$work/gimli"
-(cd "$work/gimli" && cargo build --release --quiet ${REGISTRY:+--offline})
+# shellcheck source-path=SCRIPTDIR source=common.sh
+. "$(dirname "$0")/common.sh"
+
+[ $# -gt 0 ] || set -- 1000 10000 100000
+build_cargo gimli
 peer=$work/gimli/target/release/gimli_walk
 
 # PROGRAM WORD: the instructions of a run on the input. Its counts and its report are left in the folder.
-instructions() {
-    valgrind --tool=callgrind --callgrind-out-file="$work/$(basename "$1").counts" "$1" "$2" \
-        2>&1 >"$work/$(basename "$1").report" <"$work/input" | sed -n 's/.*refs: *//p' | tr -d ,
-}
-
-peak() {
-    env time -f '%M' "$1" "$2" 2>&1 >"$work/told" <"$work/input" | tail -1
+counted() {
+    instructions "$1" "$2" <"$work/input"
+    mv "$work/callgrind" "$work/$(basename "$1").counts"
+    mv "$work/told" "$work/$(basename "$1").report"
 }
 
 # NAME..: what the calls of these functions cost in the proved program's last run.
@@ -60,20 +49,20 @@ measure() {
     header=$2
     # whichever of these the compiler keeps as a function
     case $word in
-        walk) alone='walking::walk_into walking::walked passes::outwards' ;;
-        deliver) alone='delivery::deliver_into delivery::emptied delivery::delivered passes::passes passes::outwards' ;;
+        walk) alone=(walking::walk_into walking::walked passes::outwards) ;;
+        deliver) alone=(delivery::deliver_into delivery::emptied delivery::delivered passes::passes passes::outwards) ;;
     esac
     printf '%s, by the %s\n' "$word" "$([ -n "$header" ] && echo 'header table' || echo 'frame table')"
     printf '%8s %14s %8s %7s %8s %14s %8s %8s %9s %9s %12s %12s\n' frames proved a-frame alone growth \
         gimli a-frame alone peak-kB gimli-kB json prepare
-    before= proved_before= peer_before= alone_before=
+    before='' proved_before='' peer_before='' alone_before=''
     shift 2
     for count in "$@"; do
-        python3 "$here/chain.py" "$count" 1 $header >"$work/input"
-        proved_whole=$(instructions "$proved" "$word")
-        peer_whole=$(instructions "$peer" "$word")
+        python3 "$here/chain.py" "$count" 1 ${header:+"$header"} >"$work/input"
+        proved_whole=$(counted "$proved" "$word")
+        peer_whole=$(counted "$peer" "$word")
         cmp "$work/unwind_cli.report" "$work/gimli_walk.report"
-        proved_alone=$(inclusive $alone)
+        proved_alone=$(inclusive "${alone[@]}")
         gimli_alone=$(python3 "$here/inclusive.py" "$work/gimli_walk.counts" "gimli_walk::passes::$word")
         if [ -n "$before" ]; then
             more=$((count - before))
@@ -87,8 +76,8 @@ measure() {
         prepare=$(inclusive Space::prepare prepared::tables_for Prepared::build)
         printf '%8d %14d %8s %7d %8s %14d %8s %8d %9d %9d %12d %12d (%s)\n' "$count" "$proved_whole" \
             "$proved_frame" "$((proved_alone / count))" "$growth" "$peer_whole" "$peer_frame" \
-            "$((gimli_alone / count))" "$(peak "$proved" "$word")" "$(peak "$peer" "$word")" \
-            "$json" "$prepare" "$(ratio "$prepare" "$json")"
+            "$((gimli_alone / count))" "$(peak "$proved" "$word" <"$work/input")" \
+            "$(peak "$peer" "$word" <"$work/input")" "$json" "$prepare" "$(ratio "$prepare" "$json")"
         before=$count proved_before=$proved_whole peer_before=$peer_whole alone_before=$proved_alone
     done
 }

@@ -6,17 +6,11 @@
 #     bench/expressions.sh
 #
 # It wants `rt` and `valgrind`, and leaves nothing behind.
-set -euo pipefail
 
-top=$(cd "$(dirname "$0")/.." && pwd)
-copy=$(mktemp -d)
-trap 'rm -rf "$copy"' EXIT
-cp -r "$top/crates" "$top/crates.txt" "$copy"
-[ ! -e "$top/HANDLES" ] || cp "$top/HANDLES" "$copy"
+# shellcheck source-path=SCRIPTDIR source=common.sh
+. "$(dirname "$0")/common.sh"
 
-echo 'expression_cost: memory_image frame_expressions unwind_arch anyhow hex' >>"$copy/crates.txt"
-mkdir -p "$copy/crates/expression_cost/src"
-cat >"$copy/crates/expression_cost/src/main.rt" <<'RATTLE'
+add_program expression_cost memory_image frame_expressions unwind_arch anyhow hex <<'RATTLE'
 //! Evaluates an expression so many times: `expression_cost HEX COUNT`.
 #![tactic(auto)]
 
@@ -61,21 +55,16 @@ fn main(rt: HostRuntime) -> Result<()> {
     Ok(())
 }
 RATTLE
-(cd "$copy/crates/expression_cost" && rt run -- 96 0 >"$copy/run.log" 2>&1) || { cat "$copy/run.log" >&2; exit 1; }
-
-count() {
-    valgrind --tool=callgrind --callgrind-out-file=/dev/null "$copy/crates/expression_cost/out/expression_cost" "$@" 2>&1 >/dev/null |
-        sed -n 's/.*Collected : //p'
-}
+build_program expression_cost 96 0
 
 # Instructions of 100 evaluations of an expression of so many turns of these bytes.
 evaluated() {
     local bytes
     bytes=$(printf "$1%.0s" $(seq "$2"))
-    echo $(($(count "$bytes" 100) - $(count "$bytes" 0)))
+    echo $(($(instructions "$program" "$bytes" 100) - $(instructions "$program" "$bytes" 0)))
 }
 
-# A turn's cost is told between 10 turns and 50.
+# What a turn costs, between 10 of them and 50.
 told() {
     echo "$1: $((($(evaluated "$2" 50) - $(evaluated "$2" 10)) / 4000)) instructions"
 }

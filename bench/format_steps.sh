@@ -7,17 +7,11 @@
 #     bench/format_steps.sh
 #
 # It wants `rt` and `valgrind`, and leaves nothing behind.
-set -euo pipefail
 
-top=$(cd "$(dirname "$0")/.." && pwd)
-copy=$(mktemp -d)
-trap 'rm -rf "$copy"' EXIT
-cp -r "$top/crates" "$top/crates.txt" "$copy"
-[ ! -e "$top/HANDLES" ] || cp "$top/HANDLES" "$copy"
+# shellcheck source-path=SCRIPTDIR source=common.sh
+. "$(dirname "$0")/common.sh"
 
-echo 'format_steps: memory_image unwind_arch eh_frame format_frames anyhow' >>"$copy/crates.txt"
-mkdir -p "$copy/crates/format_steps/src"
-cat >"$copy/crates/format_steps/src/main.rt" <<'RATTLE'
+add_program format_steps memory_image unwind_arch eh_frame format_frames anyhow <<'RATTLE'
 //! Steps in a PE module and in a Mach-O module of 100,000 functions each.
 #![tactic(auto)]
 
@@ -187,21 +181,13 @@ fn main(rt: HostRuntime) -> Result<()> {
 }
 RATTLE
 
-(cd "$copy/crates/format_steps" && rt run -- 0 31 0 >"$copy/build.log" 2>&1) || {
-    cat "$copy/build.log" >&2
-    exit 1
-}
-
-instructions() {
-    valgrind --tool=callgrind --callgrind-out-file=/dev/null "$copy/crates/format_steps/out/format_steps" "$@" 2>&1 >/dev/null |
-        sed -n 's/.*Collected : //p'
-}
+build_program format_steps 0 31 0
 
 cost() {
     local name=$1 opcode=$2 inside=$3
     local without with
-    without=$(instructions "$opcode" "$inside" 0)
-    with=$(instructions "$opcode" "$inside" 1000000)
+    without=$(instructions "$program" "$opcode" "$inside" 0)
+    with=$(instructions "$program" "$opcode" "$inside" 1000000)
     echo "$name: $(((with - without) / 1000000)) instructions a step"
 }
 

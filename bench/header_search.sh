@@ -7,17 +7,11 @@
 #     bench/header_search.sh
 #
 # It wants `rt` and `valgrind`, and leaves nothing behind.
-set -euo pipefail
 
-top=$(cd "$(dirname "$0")/.." && pwd)
-copy=$(mktemp -d)
-trap 'rm -rf "$copy"' EXIT
-cp -r "$top/crates" "$top/crates.txt" "$copy"
-[ ! -e "$top/HANDLES" ] || cp "$top/HANDLES" "$copy"
+# shellcheck source-path=SCRIPTDIR source=common.sh
+. "$(dirname "$0")/common.sh"
 
-echo 'header_search: memory_image eh_frame anyhow' >>"$copy/crates.txt"
-mkdir -p "$copy/crates/header_search/src"
-cat >"$copy/crates/header_search/src/main.rt" <<'RATTLE'
+add_program header_search memory_image eh_frame anyhow <<'RATTLE'
 //! Searches descriptions: `header_search header|scan DESCRIPTIONS COUNT`.
 #![tactic(auto)]
 
@@ -135,18 +129,13 @@ fn main(rt: HostRuntime) -> Result<()> {
     Ok(())
 }
 RATTLE
-(cd "$copy/crates/header_search" && rt run -- header 10 10 >"$copy/run.log" 2>&1) || { cat "$copy/run.log" >&2; exit 1; }
-
-count() {
-    valgrind --tool=callgrind --callgrind-out-file=/dev/null "$copy/crates/header_search/out/header_search" "$@" 2>&1 >"$copy/found" |
-        sed -n 's/.*Collected : //p'
-}
+build_program header_search header 10 10
 
 # WORD DESCRIPTIONS FEW MANY: what a search costs.
 measure() {
-    few=$(count "$1" "$2" "$3")
-    many=$(count "$1" "$2" "$4")
-    [ "$(cat "$copy/found")" = "$4" ] || { echo "$1 $2: found $(cat "$copy/found") of $4" >&2; exit 1; }
+    few=$(instructions "$program" "$1" "$2" "$3")
+    many=$(instructions "$program" "$1" "$2" "$4")
+    [ "$(cat "$work/told")" = "$4" ] || { echo "$1 $2: found $(cat "$work/told") of $4" >&2; exit 1; }
     echo $(((many - few) / ($4 - $3)))
 }
 

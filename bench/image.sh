@@ -1,19 +1,15 @@
-#!/bin/bash
+#!/usr/bin/env bash
 # Measures an image of memory: instructions (callgrind) of adding regions and of reading.
 #
 #     bench/image.sh
 #
 # Makes a program over a copy of crates/memory_image, builds it by `rt run`, and runs it under
 # valgrind. A read includes the loop around it, some 14 instructions.
-set -eu
-here=$(cd "$(dirname "$0")" && pwd)
-work=$(mktemp -d)
-trap 'rm -rf "$work"' EXIT
-mkdir -p "$work/crates/image/src"
-cp -r "$here/../crates/memory_image" "$work/crates/memory_image"
-printf 'memory_image:\nimage: memory_image\n' >"$work/crates.txt"
-cp "$here/../HANDLES" "$work/HANDLES"
-cat >"$work/crates/image/src/main.rt" <<'PROGRAM'
+
+# shellcheck source-path=SCRIPTDIR source=common.sh
+. "$(dirname "$0")/common.sh"
+
+add_program image memory_image <<'PROGRAM'
 //! Adds regions of one byte in an order, and reads each so many times: `image ORDER COUNT PASSES BYTES`.
 #![tactic(auto)]
 
@@ -95,25 +91,20 @@ fn main(rt: HostRuntime) -> ExitCode {
     }
 }
 PROGRAM
-(cd "$work/crates/image" && rt run -- ascending 0 0 1 >/dev/null)
+build_program image ascending 0 0 1
 
-count() {
-    valgrind --tool=callgrind --callgrind-out-file=/dev/null "$work/crates/image/out/image" "$@" 2>&1 |
-        awk '/Collected/ {print $4}'
-}
-
-base=$(count ascending 0 0 1)
+base=$(instructions "$program" ascending 0 0 1)
 for order in ascending descending shuffled; do
-    adds=$(count $order 1000000 0 1)
-    all=$(count $order 1000000 1 1)
+    adds=$(instructions "$program" "$order" 1000000 0 1)
+    all=$(instructions "$program" "$order" 1000000 1 1)
     echo "$order: 1,000,000 adds $adds, adds and one read of each $all;" \
         "an add $(((adds - base) / 1000000)), a read $(((all - adds) / 1000000))"
 done
 for regions in 1 100 10000; do
     for bytes in 1 8; do
         passes=$((1000000 / regions))
-        adds=$(count ascending $regions 0 $bytes)
-        all=$(count ascending $regions $passes $bytes)
+        adds=$(instructions "$program" ascending "$regions" 0 "$bytes")
+        all=$(instructions "$program" ascending "$regions" "$passes" "$bytes")
         echo "$regions regions of $bytes bytes: a read $(((all - adds) / (regions * passes)))"
     done
 done

@@ -1,19 +1,19 @@
 #!/usr/bin/env bash
-# Runs the program on texts of 64 MiB, the most that it takes, and on small ones that ask for much work: its status,
-# its last line, the processor time and the peak memory; and beside it the same of plain Rust (bench/plain), which
-# knows one kind of frame alone and so leaves out those after the first seven.
+# Runs the program on texts of 64 MiB, the most that it takes, and on small ones that ask for much
+# work: its status, its last line, the processor time and the peak memory; and beside it the same of
+# plain Rust (bench/plain), which knows one kind of frame alone and so leaves out those after the
+# first seven.
 #
 #     bench/limits.sh [KIND..]        the kinds are those of bench/large.py
 #
-# Wants GNU time and python3, the program as `rt run` or `rt ci` left it in crates/unwind_cli/out (or UNWIND_CLI=PROGRAM), and
-# bench/plain as `cargo build --release` leaves it (or PLAIN=PROGRAM, which bench/program.sh says how to build).
-set -euo pipefail
+# Wants GNU time and python3, the program as `rt run` or `rt ci` left it in crates/unwind_cli/out (or
+# UNWIND_CLI=PROGRAM), and bench/plain as `cargo build --release` leaves it (or PLAIN=PROGRAM, which
+# bench/program.sh says how to build).
 
-here=$(cd "$(dirname "$0")" && pwd)
-proved=${UNWIND_CLI:-$here/../crates/unwind_cli/out/unwind_cli}
+# shellcheck source-path=SCRIPTDIR source=common.sh
+. "$(dirname "$0")/common.sh"
+
 plain=${PLAIN:-$here/plain/target/release/plain}
-work=$(mktemp -d)
-trap 'rm -rf "$work"' EXIT
 
 # The status, seconds of processor time, peak memory and last line of a run.
 told() {

@@ -6,29 +6,22 @@
 #     bench/macho_lookup.sh [PAGES]
 #
 # It wants `rt` and `valgrind`, and leaves nothing behind.
-set -euo pipefail
+
+# shellcheck source-path=SCRIPTDIR source=common.sh
+. "$(dirname "$0")/common.sh"
 
 pages=${1:-1000}
-top=$(cd "$(dirname "$0")/.." && pwd)
-copy=$(mktemp -d)
-trap 'rm -rf "$copy"' EXIT
-cp -r "$top/crates" "$top/crates.txt" "$copy"
-[ ! -e "$top/HANDLES" ] || cp "$top/HANDLES" "$copy"
 
-echo 'macho_lookup: macho_unwind_info anyhow' >>"$copy/crates.txt"
-mkdir -p "$copy/crates/macho_lookup/src"
-
-program() {
-    sed -e "s/PAGES_HERE/$pages/" -e "s/COUNT_HERE/$1/" >"$copy/crates/macho_lookup/src/main.rt" <<'RATTLE'
-//! Look-ups in a section of compressed pages.
+sed "s/PAGES_HERE/$pages/" <<'RATTLE' | add_program macho_lookup macho_unwind_info anyhow
+//! Looks up so many addresses in a section of compressed pages: `macho_lookup COUNT`.
 #![tactic(auto)]
 
 use anyhow::Result;
 use macho_unwind_info::UnwindInfo;
 use std::alloc::AllocError;
+use std::env;
 
 const PAGES: u32 = PAGES_HERE;
-const COUNT: u32 = COUNT_HERE;
 const FUNCTIONS: u16 = 100;
 
 fn push_u16(bytes: &mut Vec<u8>, n: u16) -> Result<(), AllocError> {
@@ -73,6 +66,12 @@ fn push_page(bytes: &mut Vec<u8>) -> Result<(), AllocError> {
 }
 
 fn main(rt: HostRuntime) -> Result<()> {
+    let mut count = 0u32;
+    for word in env::args(&rt)? {
+        if let Ok(number) = word.parse::<u32>() {
+            count = number;
+        }
+    }
     let mut bytes = Vec::new(rt.alloc());
     push_header(&mut bytes)?;
     push_pages(&mut bytes)?;
@@ -82,7 +81,7 @@ fn main(rt: HostRuntime) -> Result<()> {
     let info = UnwindInfo::parse(&bytes)?;
     let mut state = 1u32;
     let mut starts = 0u32;
-    for _ in 0..COUNT {
+    for _ in 0..count {
         state = state.wrapping_mul(1_664_525).wrapping_add(1_013_904_223);
         let pc = (state >> 8) % (PAGES * 0x10000);
         if let Some(function) = info.lookup(pc)? {
@@ -93,15 +92,8 @@ fn main(rt: HostRuntime) -> Result<()> {
     Ok(())
 }
 RATTLE
-}
+build_program macho_lookup 0
 
-instructions() {
-    program "$1"
-    (cd "$copy/crates/macho_lookup" && rt run >"$copy/run.log" 2>&1) || { cat "$copy/run.log" >&2; exit 1; }
-    valgrind --tool=callgrind --callgrind-out-file=/dev/null "$copy/crates/macho_lookup/out/macho_lookup" 2>&1 >/dev/null |
-        sed -n 's/.*Collected : //p'
-}
-
-without=$(instructions 0)
-with=$(instructions 1000000)
+without=$(instructions "$program" 0)
+with=$(instructions "$program" 1000000)
 echo "pages $pages: $without instructions without look-ups, $with with 1000000, $(((with - without) / 1000000)) a look-up"

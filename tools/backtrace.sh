@@ -1,13 +1,16 @@
 #!/usr/bin/env bash
-# Prints the backtrace of a process or a core: gdb takes the snapshot, unwind_cli walks it, and names.py
-# names its frames.
+# Prints the backtrace of a process or a core: gdb takes the snapshot, backtrace finds its frames, and
+# names.py names them.
 #
 #   backtrace.sh PID [--threads]
 #   backtrace.sh PROGRAM CORE [--threads]
 #
-# UNWIND_CLI names the built program where it isn't crates/unwind_cli/out/unwind_cli.
+# BACKTRACE names the built program where it isn't crates/backtrace/out/backtrace. Where that isn't built,
+# unwind_cli (UNWIND_CLI, crates/unwind_cli/out/unwind_cli) walks the snapshot; it prints no frame where a
+# stack can't be walked to its end.
 set -uo pipefail
 tools=$(cd "$(dirname "$0")" && pwd)
+backtrace=${BACKTRACE:-$tools/../crates/backtrace/out/backtrace}
 unwind_cli=${UNWIND_CLI:-$tools/../crates/unwind_cli/out/unwind_cli}
 
 usage() {
@@ -40,10 +43,22 @@ take() {
     fi
 }
 
-# The backtrace of a snapshot or of a thread's file. A walk that is refused says why.
+# Leaves the program that is built, with its words, in `reader`.
+find_reader() {
+    if [ -x "$backtrace" ]; then
+        reader=("$backtrace")
+    elif [ -x "$unwind_cli" ]; then
+        reader=("$unwind_cli" walk)
+    else
+        echo "backtrace.sh: $backtrace isn't built: run \`rt run\` in crates/backtrace" >&2
+        exit 1
+    fi
+}
+
+# The backtrace of a snapshot or of a thread's file. Its last line says why there are no more frames.
 print_one() {
     "$tools/join.py" "$1" > "$scratch/joined" || return 1
-    "$unwind_cli" walk < "$scratch/joined" > "$scratch/report"
+    "${reader[@]}" < "$scratch/joined" > "$scratch/report"
     local status=$?
     "$tools/names.py" "$scratch/report" "$scratch/joined" "$file" || return 1
     return $status
@@ -51,17 +66,17 @@ print_one() {
 
 print_threads() {
     local part failed=0
-    for part in $(ls -v "$scratch"/taken/thread-*.json); do
+    while IFS= read -r part; do
         echo "Thread $(sed -nE 's/^  "(id|name)": "?([^",]*)"?,?$/\2/p' "$part" | paste -sd ' '):"
         print_one "$part" || failed=$?
         echo
-    done
+    done < <(printf '%s\n' "$scratch"/taken/thread-*.json | sort -V)
     return $failed
 }
 
 [ $# -gt 0 ] || usage
 read_words "$@"
-[ -x "$unwind_cli" ] || { echo "backtrace.sh: $unwind_cli isn't built: run \`rt run\` in crates/unwind_cli" >&2; exit 1; }
+find_reader
 scratch=$(mktemp -d)
 trap 'rm -rf "$scratch"' EXIT
 take

@@ -1,10 +1,10 @@
 #!/usr/bin/env python3
-"""Prints the report of a walk as a backtrace with names.
+"""Gives the frames of a backtrace, or of the report of a walk, names.
 
     names.py REPORT SNAPSHOT [FILE]...        REPORT may be -, for standard input
 
-SNAPSHOT is what was walked: a snapshot, or a thread's file of `snapshot DIR --threads`. Its modules
-tell the files, whose symbols and debug information give the names: by `llvm-symbolizer` or, where
+REPORT is what `backtrace` or `unwind_cli walk` prints. SNAPSHOT is what it was made of: a snapshot, or
+a thread's file of `snapshot DIR --threads`. Its modules name the files, whose symbols and debug information give the names: by `llvm-symbolizer` or, where
 there is none, by `addr2line` (Debian: llvm, binutils), with debug information that lies apart in
 /usr/lib/debug. A file whose build id isn't that of the snapshot is not asked; a FILE that has it is,
 where the module's own is gone (/proc/PID/exe, while the process lives).
@@ -14,6 +14,8 @@ where the module's own is gone (/proc/PID/exe, while the process lives).
     #2 0x7f5c01234567 in read from /lib/x86_64-linux-gnu/libc.so.6     a symbol of a library
     #3 0x7f5c01234567 in libplain.so+0x1567    no symbol
     #4 <signal handler called>
+
+The last line is why there are no more frames, unless the last one is the outermost.
 """
 from __future__ import annotations
 
@@ -31,16 +33,19 @@ from frame_table import Table, frame_table_of_header, signal_trampolines
 from snapshot_file import Object, Region, read_snapshot, regions_of
 
 DEBUG_FOLDER = "/usr/lib/debug/.build-id"
-FRAME_LINE = re.compile(r"^frame (\d+) ra=(0x[0-9a-f]+) ")
+# A frame of a backtrace, with what is said of it; or of a walk, where that outside of the outermost one returns to 0.
+FRAME_LINE = re.compile(r"^#\d+ +(0x[0-9a-f]+)\b.*?( \(.*\))?$|^frame \d+ ra=(?!0x0 )(0x[0-9a-f]+) ")
+OUTERMOST = ("end: the outermost frame, which returns to 0", "end")
 
 
 @dataclass(frozen=True)
 class ReportedFrame:
-    """A frame of a report. `address` lies in the call where the frame stands after one."""
+    """A frame of a report. `address` lies in the call where the frame stands after one. `note` is what the report says of it."""
 
     counter: int
     address: int
     is_signal: bool = False
+    note: str = ""
 
 
 @dataclass(frozen=True)
@@ -117,20 +122,20 @@ def reported_frames(report: str, interrupted: bool, trampolines: list[tuple[int,
     found = []
     for line in report.splitlines():
         match = FRAME_LINE.match(line)
-        if match is None or int(match.group(2), 16) == 0:
+        if match is None:
             continue
-        counter = int(match.group(2), 16)
+        counter = int(match.group(1) or match.group(3), 16)
         address = counter if interrupted else counter - 1
         is_signal = any(start <= address < end for start, end in trampolines)
-        found.append(ReportedFrame(counter, address, is_signal))
+        found.append(ReportedFrame(counter, address, is_signal, match.group(2) or ""))
         interrupted = is_signal
     return found
 
 
 def last_line(report: str) -> str | None:
-    """How a report ends, where it says more than `end`."""
+    """Why a report has no more frames, unless the last one is the outermost."""
     lines = report.splitlines()
-    return lines[-1] if lines and not FRAME_LINE.match(lines[-1]) and lines[-1] != "end" else None
+    return lines[-1] if lines and not lines[-1].startswith(("#", "frame ")) and lines[-1] not in OUTERMOST else None
 
 
 # ---- names
@@ -290,13 +295,13 @@ def texts_of(frame: ReportedFrame, modules: list[Module], symbols: dict[str, Sym
         return ["<signal handler called>"]
     module = module_at(modules, frame.address)
     if module is None:
-        return [f"{frame.counter:#x} in ??"]
+        return [f"{frame.counter:#x} in ??{frame.note}"]
     known, address = symbols[module.path], (frame.address - module.bias) % WORD
     if has_lines(known, address):
         texts = [f"{place.function} at {place.line}" for place in known.places[address]]
     else:
         texts = [text_without_line(frame, module, function_at(known.functions, address), program)]
-    return [f"{frame.counter:#x} in {texts[0]}", *texts[1:]]
+    return [f"{frame.counter:#x} in {texts[0]}{frame.note}", *texts[1:]]
 
 
 def text_without_line(frame: ReportedFrame, module: Module, name: str | None, program: str) -> str:

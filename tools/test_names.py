@@ -56,6 +56,19 @@ class Reports(unittest.TestCase):
         expected = [ReportedFrame(0x100, 0x100), ReportedFrame(0x205, 0x204, True), ReportedFrame(0x300, 0x300)]
         self.assertEqual(frames, expected)
 
+    def test_frames_of_a_backtrace(self) -> None:
+        report = (
+            "#0  0x0000000000000000\n#1  0x0000000000000205 in a+0x205 (return address on the stack)\n"
+            "#2  0x0000000000000300 in (a)+0x300\n#10 0x0000000000000400 sp=0x1\nend: more frames than the limit\n"
+        )
+        expected = [
+            ReportedFrame(0, 0), ReportedFrame(0x205, 0x204, note=" (return address on the stack)"),
+            ReportedFrame(0x300, 0x2FF), ReportedFrame(0x400, 0x3FF),
+        ]
+        self.assertEqual(reported_frames(report, True, []), expected)
+        self.assertEqual(last_line(report), "end: more frames than the limit")
+        self.assertIsNone(last_line("#0  0x0000000000000100\nend: the outermost frame, which returns to 0\n"))
+
     def test_frames_of_a_start_after_a_call(self) -> None:
         frames = reported_frames(self.REPORT, False, [])
         self.assertEqual([frame.address for frame in frames], [0xFF, 0x204, 0x2FF])
