@@ -1,8 +1,10 @@
 // The reports are those of tools/generated_stack.py, which makes the states as calls do and unwinds nothing.
 use super::*;
 use memory_image::{Counted, Steps};
-use stack_deliver::{Room, deliver, deliver_into, walk};
+use stack_deliver::{Delivery, Room, Space, Visited, deliver, deliver_into, walk};
 use stack_report::{report_of, walk_report_of};
+use stack_snapshot::Snapshot;
+use std::alloc::{AllocError, Global};
 use std::test::Fail;
 
 /// What is delivered to the chain of seven calls that the seed 7 gives.
@@ -28,10 +30,15 @@ frame 3 ra=0x0 sp=0x7fff00000000 rbx=0x2a rbp=0x0 r12=0x0 r13=0x0 r14=0x0 r15=0x
 end
 ";
 
-#[test]
-fn generated_case_is_delivered(rt: HostRuntime) -> Result<(), Fail> {
-    let alloc = rt.alloc();
-    let snapshot = make_case(alloc, 7, 7)?;
+// The case of a chain of so many calls.
+fn case_of_calls(alloc: Global, count: u32, seed: u64) -> Result<Snapshot, AllocError> {
+    if count == 0 || count > 100_000 {
+        return Err(AllocError);
+    }
+    make_case(alloc, count, seed)
+}
+
+fn delivery_over(alloc: Global, snapshot: &Snapshot) -> Result<Delivery, Fail> {
     let space = snapshot.space(alloc)?;
     let delivery = deliver(
         alloc,
@@ -42,15 +49,22 @@ fn generated_case_is_delivered(rt: HostRuntime) -> Result<(), Fail> {
         snapshot.resumes(),
         snapshot.limit(),
     )?;
-    let report = report_of(alloc, &delivery)?;
-    assert_eq!(rt; report.bytes(), DELIVERED.as_bytes());
-    Ok(())
+    Ok(delivery)
+}
+
+fn is_reported(alloc: Global, delivery: &Delivery, report: &str) -> Result<bool, AllocError> {
+    Ok(report_of(alloc, delivery)?.bytes() == report.as_bytes())
 }
 
 #[test]
-fn generated_case_is_walked(rt: HostRuntime) -> Result<(), Fail> {
-    let alloc = rt.alloc();
-    let snapshot = make_case(alloc, 3, 42)?;
+fn generated_case_is_delivered(rt: HostRuntime) -> Result<(), Fail> {
+    let snapshot = case_of_calls(rt.alloc(), 7, 7)?;
+    let delivery = delivery_over(rt.alloc(), &snapshot)?;
+    assert!(rt; is_reported(rt.alloc(), &delivery, DELIVERED)?);
+    Ok(())
+}
+
+fn walk_over(alloc: Global, snapshot: &Snapshot) -> Result<Visited, Fail> {
     let space = snapshot.space(alloc)?;
     let visited = walk(
         alloc,
@@ -59,22 +73,33 @@ fn generated_case_is_walked(rt: HostRuntime) -> Result<(), Fail> {
         snapshot.interrupted(),
         snapshot.limit(),
     )?;
-    let report = walk_report_of(alloc, &visited)?;
-    assert_eq!(rt; report.bytes(), WALKED.as_bytes());
+    Ok(visited)
+}
+
+fn is_walk_reported(alloc: Global, visited: &Visited, report: &str) -> Result<bool, AllocError> {
+    Ok(walk_report_of(alloc, visited)?.bytes() == report.as_bytes())
+}
+
+#[test]
+fn generated_case_is_walked(rt: HostRuntime) -> Result<(), Fail> {
+    let snapshot = case_of_calls(rt.alloc(), 3, 42)?;
+    let visited = walk_over(rt.alloc(), &snapshot)?;
+    assert!(rt; is_walk_reported(rt.alloc(), &visited, WALKED)?);
     Ok(())
 }
 
-/// What is counted is what the delivery's ledger counts.
-#[test]
-fn probes_are_the_count_of_a_ledger(rt: HostRuntime) -> Result<(), Fail> {
-    let alloc = rt.alloc();
-    let snapshot = make_case(alloc, 1000, 7)?;
+fn prepared<'a>(alloc: Global, snapshot: &'a Snapshot) -> Result<(Space<'a>, u32), AllocError> {
     let mut space = snapshot.space(alloc)?;
-    assert_eq!(rt; space.prepare()?, 1);
+    let count = space.prepare()?;
+    Ok((space, count))
+}
+
+// How many steps a delivery into a room of 1001 states takes.
+fn steps_over(alloc: Global, snapshot: &Snapshot, space: &Space<'_>) -> Result<u64, Fail> {
     let mut room = Room::new(alloc, 1001)?;
     let mut steps = Steps::new(Counted { count: 0 });
     deliver_into(
-        &space,
+        space,
         &snapshot.start(),
         snapshot.exception(),
         snapshot.class(),
@@ -83,11 +108,24 @@ fn probes_are_the_count_of_a_ledger(rt: HostRuntime) -> Result<(), Fail> {
         &mut room,
         &mut steps,
     )?;
+    Ok(steps.ledger().count)
+}
+
+// The probes of the delivery over a case of 1000 calls, and how many functions, frames and cleanups
+// there are.
+fn summary_of_1000(alloc: Global) -> Result<(u64, (u32, usize, usize)), AllocError> {
     let summary = deliver_case(alloc, 1000, 7)?;
-    assert_eq!(rt; summary.probes, steps.ledger().count);
-    assert_eq!(rt;
-        (summary.functions, summary.frames, summary.cleanups),
-        (1000, 1000, 249)
-    );
+    let sizes = (summary.functions, summary.frames, summary.cleanups);
+    Ok((summary.probes, sizes))
+}
+
+/// What is counted is what the delivery's ledger counts.
+#[test]
+fn probes_are_the_count_of_a_ledger(rt: HostRuntime) -> Result<(), Fail> {
+    let snapshot = case_of_calls(rt.alloc(), 1000, 7)?;
+    let (space, count) = prepared(rt.alloc(), &snapshot)?;
+    assert!(rt; count == 1);
+    let steps = steps_over(rt.alloc(), &snapshot, &space)?;
+    assert!(rt; summary_of_1000(rt.alloc())? == (steps, (1000, 1000, 249)));
     Ok(())
 }

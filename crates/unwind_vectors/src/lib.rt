@@ -5,6 +5,8 @@
 #[cfg(test)]
 mod macho;
 #[cfg(test)]
+mod macho_damaged;
+#[cfg(test)]
 mod macho_linked;
 #[cfg(test)]
 mod pe;

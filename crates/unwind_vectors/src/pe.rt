@@ -8,6 +8,7 @@ use pe_unwind_info::x86_64::{
     FrameFault, FunctionEpilogInstruction, FunctionTableEntries, InstructionParseError, Register,
     UnwindInfo, UnwindInfoTrailer, UnwindOperation, UnwindState, XmmRegister,
 };
+use std::alloc::{AllocError, Global};
 use std::test::Fail;
 
 /// A machine in memory: its registers, and words of its stack from an address on.
@@ -61,258 +62,328 @@ fn stopped_at(stack_pointer: u64, words: [u64; 8]) -> Machine {
 }
 
 // one record, for 0x1000 to 0x1100, whose unwind record stands at 0x2010
-const TABLE: [u8; 12] = [0, 0x10, 0, 0, 0, 0x11, 0, 0, 0x10, 0x20, 0, 0];
+const TABLE: &[u8] = &[0, 0x10, 0, 0, 0, 0x11, 0, 0, 0x10, 0x20, 0, 0];
 
 // a record that is chained to itself
-const LOOP: [u8; 16] = [
+const LOOP: &[u8] = &[
     0x21, 0, 0, 0, 0, 0x10, 0, 0, 0, 0x11, 0, 0, 0x10, 0x20, 0, 0,
 ];
 
-#[test]
-fn epilogs_are_read(rt: HostRuntime) -> Result<(), Fail> {
-    let code = [0x48, 0x83, 0xc4, 0x20, 0x5b, 0x41, 0x5e, 0xc3];
-    let epilog = FunctionEpilogInstruction::parse_sequence(&code, None)?;
-    assert!(rt;
-        matches!(
-            epilog.as_slice(),
+// An epilog that moves the stack pointer and pops two registers.
+fn is_addition_and_two_pops(code: &[u8]) -> bool {
+    match FunctionEpilogInstruction::parse_sequence(code, None) {
+        Ok(instructions) => matches!(
+            instructions.as_slice(),
             [
                 FunctionEpilogInstruction::AddSP(32),
                 FunctionEpilogInstruction::Pop(Register::RBX),
                 FunctionEpilogInstruction::Pop(Register::R14),
             ]
-        )
-    );
-    let cut = FunctionEpilogInstruction::parse_sequence(&[0x48, 0x81, 0xc4, 0], None);
-    assert!(rt; matches!(cut, Err(InstructionParseError::NotEnoughData)));
-    let nop = FunctionEpilogInstruction::parse_sequence(&[0x90], None);
-    assert!(rt; matches!(nop, Err(InstructionParseError::InvalidInstruction)));
-    let bare = FunctionEpilogInstruction::parse_sequence(&[0x48, 0x83, 0xc4], None);
-    assert!(rt; matches!(bare, Err(InstructionParseError::InvalidInstruction)));
-    let mut pops = [0x5b; 14];
-    pops[13] = 0xc3;
-    let many = FunctionEpilogInstruction::parse_sequence(&pops, None);
-    assert!(rt; matches!(many, Err(InstructionParseError::TooManyInstructions)));
-    assert!(rt; FunctionEpilogInstruction::parse_sequence(&pops[1..], None).is_ok());
-    assert!(rt; FunctionEpilogInstruction::parse_sequence(&[0xc3], None)?.is_empty());
-    Ok(())
+        ),
+        Err(_) => false,
+    }
 }
 
+// How many instructions an epilog has before its end, or why code is none.
+fn epilog_of(code: &[u8]) -> Result<usize, &'static str> {
+    match FunctionEpilogInstruction::parse_sequence(code, None) {
+        Ok(instructions) => Ok(instructions.len()),
+        Err(InstructionParseError::NotEnoughData) => Err("cut"),
+        Err(InstructionParseError::InvalidInstruction) => Err("invalid"),
+        Err(InstructionParseError::TooManyInstructions) => Err("many"),
+    }
+}
+
+const EPILOGS: &[(&[u8], Result<usize, &str>)] = &[
+    (b"\x48\x83\xc4\x20\x5b\x41\x5e\xc3", Ok(3)),
+    (b"\xc3", Ok(0)),
+    (b"\x48\x81\xc4\x00", Err("cut")),
+    (b"\x90", Err("invalid")),
+    (b"\x48\x83\xc4", Err("invalid")),
+    // twelve pops, and thirteen
+    (
+        b"\x5b\x5b\x5b\x5b\x5b\x5b\x5b\x5b\x5b\x5b\x5b\x5b\xc3",
+        Ok(12),
+    ),
+    (
+        b"\x5b\x5b\x5b\x5b\x5b\x5b\x5b\x5b\x5b\x5b\x5b\x5b\x5b\xc3",
+        Err("many"),
+    ),
+];
+
 #[test]
-fn operations_are_read(rt: HostRuntime) -> Result<(), Fail> {
-    let info = UnwindInfo::parse(&[1, 4, 1, 0, 4, 0x42]).ok_or("info")?;
-    let mut operations = info.unwind_operations();
-    assert!(rt;
-        matches!(
-            operations.next(),
-            Some((4, UnwindOperation::UnStackAlloc(40)))
-        )
-    );
-    assert!(rt; operations.next().is_none());
-    assert!(rt; info.trailer().is_none());
-    let bytes = [2, 4, 3, 0, 3, 0x16, 0, 6, 4, 0x42];
-    let mut operations = UnwindInfo::parse(&bytes).ok_or("info")?.unwind_operations();
-    match operations.next() {
-        Some((3, UnwindOperation::EpilogInformation(epilog))) => {
-            assert_eq!(rt; epilog.as_header().epilog_size(), 3);
-            assert!(rt; epilog.as_header().single_epilog());
+fn epilogs_are_read(rt: HostRuntime) {
+    for (code, wanted) in EPILOGS {
+        assert!(rt; epilog_of(code) == *wanted);
+    }
+    assert!(rt; is_addition_and_two_pops(b"\x48\x83\xc4\x20\x5b\x41\x5e\xc3"));
+}
+
+// An operation by its name and numbers.
+fn plain(operation: UnwindOperation) -> (&'static str, [u32; 3]) {
+    match operation {
+        UnwindOperation::UnStackAlloc(size) => ("allocates", [size, 0, 0]),
+        UnwindOperation::PopNonVolatile(register) => ("pushes", [register as u32, 0, 0]),
+        UnwindOperation::ReadXMM(register, offset) => {
+            ("stores", [register as u32, offset.value(), 0])
         }
-        _ => return Err(Fail::from("epilog")),
-    }
-    match operations.next() {
-        Some((0, UnwindOperation::EpilogInformation(epilog))) => {
-            assert_eq!(rt; epilog.as_offset(), 0);
+        UnwindOperation::EpilogInformation(epilog) => {
+            let header = epilog.as_header();
+            let single = header.single_epilog() as u32;
+            (
+                "epilog",
+                [
+                    u32::from(header.epilog_size()),
+                    u32::from(epilog.as_offset()),
+                    single,
+                ],
+            )
         }
-        _ => return Err(Fail::from("offset")),
+        _ => ("other", [0; 3]),
     }
-    assert!(rt;
-        matches!(
-            operations.next(),
-            Some((4, UnwindOperation::UnStackAlloc(40)))
-        )
-    );
-    Ok(())
 }
 
-#[test]
-fn nothing_is_read_behind_the_end(rt: HostRuntime) -> Result<(), Fail> {
-    let info = UnwindInfo::parse(&[1, 0, 2, 0, 0, 0xb, 4, 0x42]).ok_or("info")?;
+type Operations = &'static [(u8, &'static str, [u32; 3])];
+
+// Whether a record has these operations, and no more.
+fn has_operations(info: &UnwindInfo<'_>, expected: Operations) -> bool {
     let mut operations = info.unwind_operations();
-    assert!(rt; operations.next().is_none());
-    assert!(rt; operations.next().is_none());
-    assert!(rt; operations.unwind_code().is_none());
-    Ok(())
-}
-
-#[test]
-fn trailers_stand_behind_the_slots(rt: HostRuntime) -> Result<(), Fail> {
-    let bytes = [
-        0x21, 0, 0, 0, 0, 0x10, 0, 0, 0, 0x11, 0, 0, 0, 0x20, 0, 0, 0xa5,
-    ];
-    for size in 4..16 {
-        let info = UnwindInfo::parse(&bytes[..size]).ok_or("info")?;
-        assert!(rt; info.trailer().is_none());
-    }
-    for size in 16..18 {
-        match UnwindInfo::parse(&bytes[..size]).ok_or("info")?.trailer() {
-            Some(UnwindInfoTrailer::ChainedUnwindInfo { chained }) => {
-                assert_eq!(rt; chained.begin_address, 0x1000);
-                assert_eq!(rt; chained.end_address, 0x1100);
-                assert_eq!(rt; chained.unwind_info_address, 0x2000);
+    for (place, name, numbers) in expected {
+        match operations.next() {
+            Some((at, operation)) => {
+                if at != *place || plain(operation) != (*name, *numbers) {
+                    return false;
+                }
             }
-            _ => return Err(Fail::from("trailer")),
+            None => return false,
         }
     }
-    let table = FunctionTableEntries::parse(&[0; 13]);
-    assert_eq!(rt; table.functions_len(), 1);
-    assert!(rt; table.functions().is_none());
-    assert_eq!(rt; table.count(), 1);
-    Ok(())
+    operations.next().is_none() && operations.next().is_none() && operations.unwind_code().is_none()
 }
 
-// code of which nothing is an epilog
-const CODE_OF_NOPS: [u8; 176] = [0x90; 176];
-
-#[test]
-fn endless_chains_are_left(rt: HostRuntime) -> Result<(), Fail> {
-    let mut state = stopped_at(0x7000, [0; 8]);
-    let looped = FunctionTableEntries::parse(&TABLE).try_unwind_frame(
-        &mut state,
-        |rva| {
-            if rva == 0x2010 {
-                Some(LOOP.as_slice())
-            } else {
-                Some(CODE_OF_NOPS.as_slice())
-            }
-        },
-        0x1050,
-    );
-    assert_eq!(rt; looped, Err(FrameFault::ChainLimit));
-    Ok(())
+// A record, its flags, the size of its prologue, and its operations. None has a frame register.
+struct Record {
+    bytes: &'static [u8],
+    flags: u8,
+    prolog_size: u8,
+    operations: Operations,
 }
 
-#[test]
-fn faults_carry_their_addresses(rt: HostRuntime) -> Result<(), Fail> {
-    let table = FunctionTableEntries::parse(&TABLE);
-    let mut state = stopped_at(0x7000, [0; 8]);
-    let unmapped = table.try_unwind_frame(
-        &mut state,
-        |rva| if rva == 0 {
-            Some(LOOP.as_slice())
-        } else {
-            None
-        },
-        0x1050,
-    );
-    assert_eq!(rt; unmapped, Err(FrameFault::Memory(0x2010)));
-    let short = table.try_unwind_frame(
-        &mut state,
-        |rva| if rva == 0x2010 {
-            Some(&LOOP[..3])
-        } else {
-            None
-        },
-        0x1050,
-    );
-    assert_eq!(rt; short, Err(FrameFault::Info(0x2010)));
-    state.registers[Register::RSP as usize] = 0x7041;
-    let stack = table.try_unwind_frame(
-        &mut state,
-        |rva| if rva == 0 {
-            Some(LOOP.as_slice())
-        } else {
-            None
-        },
-        0x1100,
-    );
-    assert_eq!(rt; stack, Err(FrameFault::Stack(0x7041)));
-    Ok(())
-}
+const RECORDS: &[Record] = &[
+    Record {
+        bytes: &[1, 4, 1, 0, 4, 0x42],
+        flags: 0,
+        prolog_size: 4,
+        operations: &[(4, "allocates", [40, 0, 0])],
+    },
+    // version 2: a single epilog of three bytes, and a place without one
+    Record {
+        bytes: &[2, 4, 3, 0, 3, 0x16, 0, 6, 4, 0x42],
+        flags: 0,
+        prolog_size: 4,
+        operations: &[
+            (3, "epilog", [3, 0x103, 1]),
+            (0, "epilog", [0, 0, 0]),
+            (4, "allocates", [40, 0, 0]),
+        ],
+    },
+    // nothing is read behind an operation that isn't known
+    Record {
+        bytes: &[1, 0, 2, 0, 0, 0xb, 4, 0x42],
+        flags: 0,
+        prolog_size: 0,
+        operations: &[],
+    },
+    // what gcc makes of a function that keeps three vectors and pushes RBX
+    Record {
+        bytes: &[
+            0x01, 0x15, 0x08, 0x00, 0x15, 0x88, 0x05, 0x00, 0x0f, 0x78, 0x04, 0x00, 0x0a, 0x68,
+            0x03, 0x00, 0x05, 0xb2, 0x01, 0x30,
+        ],
+        flags: 0,
+        prolog_size: 21,
+        operations: &[
+            (0x15, "stores", [8, 0x50, 0]),
+            (0x0f, "stores", [7, 0x40, 0]),
+            (0x0a, "stores", [6, 0x30, 0]),
+            (0x05, "allocates", [96, 0, 0]),
+            (0x01, "pushes", [Register::RBX as u32, 0, 0]),
+        ],
+    },
+    Record {
+        bytes: CLANG_HANDLER,
+        flags: 3,
+        prolog_size: 5,
+        operations: &[
+            (0x05, "allocates", [48, 0, 0]),
+            (0x01, "pushes", [Register::RSI as u32, 0, 0]),
+        ],
+    },
+];
 
-#[test]
-fn gcc_stores_are_read(rt: HostRuntime) -> Result<(), Fail> {
-    let bytes = [
-        0x01, 0x15, 0x08, 0x00, 0x15, 0x88, 0x05, 0x00, 0x0f, 0x78, 0x04, 0x00, 0x0a, 0x68, 0x03,
-        0x00, 0x05, 0xb2, 0x01, 0x30,
-    ];
-    let info = UnwindInfo::parse(&bytes).ok_or("info")?;
-    assert_eq!(rt; info.header().prolog_size, 21);
-    assert_eq!(rt; info.frame_register(), None);
-    let mut operations = info.unwind_operations();
-    match operations.next() {
-        Some((0x15, UnwindOperation::ReadXMM(XmmRegister::XMM8, offset))) => {
-            assert_eq!(rt; offset.value(), 0x50);
+// What clang makes of a function with a handler.
+const CLANG_HANDLER: &[u8] = &[
+    0x19, 0x05, 0x02, 0x00, 0x05, 0x52, 0x01, 0x60, 0x00, 0x00, 0x00, 0x00, 0xff, 0xff, 0x01, 0x08,
+];
+
+fn is_read(record: &Record) -> bool {
+    match UnwindInfo::parse(record.bytes) {
+        Some(info) => {
+            info.flags_raw() == record.flags
+                && info.header().prolog_size == record.prolog_size
+                && info.frame_register().is_none()
+                && has_operations(&info, record.operations)
         }
-        _ => return Err(Fail::from("XMM8")),
+        None => false,
     }
-    match operations.next() {
-        Some((0x0f, UnwindOperation::ReadXMM(XmmRegister::XMM7, offset))) => {
-            assert_eq!(rt; offset.value(), 0x40);
-        }
-        _ => return Err(Fail::from("XMM7")),
-    }
-    assert!(rt; matches!(operations.next(), Some((0x0a, _))));
-    assert!(rt;
-        matches!(
-            operations.next(),
-            Some((0x05, UnwindOperation::UnStackAlloc(96)))
-        )
-    );
-    assert!(rt;
-        matches!(
-            operations.next(),
-            Some((0x01, UnwindOperation::PopNonVolatile(Register::RBX)))
-        )
-    );
-    assert!(rt; operations.next().is_none());
-    Ok(())
 }
 
 #[test]
-fn clang_handlers_are_read(rt: HostRuntime) -> Result<(), Fail> {
-    let bytes = [
-        0x19, 0x05, 0x02, 0x00, 0x05, 0x52, 0x01, 0x60, 0x00, 0x00, 0x00, 0x00, 0xff, 0xff, 0x01,
-        0x08,
-    ];
-    let info = UnwindInfo::parse(&bytes).ok_or("info")?;
-    assert_eq!(rt; info.flags_raw(), 3);
+fn operations_are_read(rt: HostRuntime) {
+    for record in RECORDS {
+        assert!(rt; is_read(record));
+    }
+}
+
+const CHAINED: &[u8] = &[
+    0x21, 0, 0, 0, 0, 0x10, 0, 0, 0, 0x11, 0, 0, 0, 0x20, 0, 0, 0xa5,
+];
+
+// What stands behind the operations of a record.
+fn trailer_of(bytes: &[u8]) -> (&'static str, [u32; 3]) {
+    let Some(info) = UnwindInfo::parse(bytes) else {
+        return ("no record", [0; 3]);
+    };
     match info.trailer() {
+        None => ("nothing", [0; 3]),
+        Some(UnwindInfoTrailer::ChainedUnwindInfo { chained }) => (
+            "record",
+            [
+                chained.begin_address,
+                chained.end_address,
+                chained.unwind_info_address,
+            ],
+        ),
         Some(
             UnwindInfoTrailer::ExceptionHandler {
                 handler_address,
                 handler_data,
             },
         ) => {
-            assert_eq!(rt; handler_address, 0);
-            assert_eq!(rt; handler_data, [0xff, 0xff, 0x01, 0x08].as_slice());
+            let is_data = handler_data == [0xff, 0xff, 0x01, 0x08].as_slice();
+            ("handler", [handler_address, is_data as u32, 0])
         }
-        _ => return Err(Fail::from("trailer")),
+        Some(_) => ("other", [0; 3]),
     }
-    let mut operations = info.unwind_operations();
-    assert!(rt;
-        matches!(
-            operations.next(),
-            Some((0x05, UnwindOperation::UnStackAlloc(48)))
-        )
-    );
-    assert!(rt;
-        matches!(
-            operations.next(),
-            Some((0x01, UnwindOperation::PopNonVolatile(Register::RSI)))
-        )
-    );
-    assert!(rt; operations.next().is_none());
-    Ok(())
+}
+
+#[test]
+fn trailers_stand_behind_the_slots(rt: HostRuntime) {
+    for size in 4..18 {
+        let wanted = if size < 16 {
+            ("nothing", [0; 3])
+        } else {
+            ("record", [0x1000, 0x1100, 0x2000])
+        };
+        assert!(rt; trailer_of(&CHAINED[..size]) == wanted);
+    }
+    assert!(rt; trailer_of(&[1, 4, 1, 0, 4, 0x42]) == ("nothing", [0; 3]));
+    assert!(rt; trailer_of(CLANG_HANDLER) == ("handler", [0, 1, 0]));
+}
+
+#[test]
+fn a_cut_table_has_its_whole_records(rt: HostRuntime) {
+    let table = FunctionTableEntries::parse(&[0; 13]);
+    assert!(rt; table.functions_len() == 1);
+    assert!(rt; table.functions().is_none());
+    assert!(rt; table.count() == 1);
+}
+
+// code of which nothing is an epilog
+const CODE_OF_NOPS: &[u8] = &[0x90; 176];
+
+// Bytes at an address, and what is read at each other one.
+struct Mapped {
+    at: u32,
+    bytes: &'static [u8],
+    elsewhere: Option<&'static [u8]>,
+}
+
+fn unwound_in(mapped: &Mapped, stack_pointer: u64, address: u32) -> Result<u64, FrameFault> {
+    let mut state = stopped_at(stack_pointer, [0; 8]);
+    let memory_at_rva = |rva: u32| -> Option<&[u8]> {
+        if rva == mapped.at {
+            Some(mapped.bytes)
+        } else {
+            mapped.elsewhere
+        }
+    };
+    FunctionTableEntries::parse(TABLE).try_unwind_frame(&mut state, memory_at_rva, address)
+}
+
+const FAULTS: &[(Mapped, u64, u32, FrameFault)] = &[
+    // an endless chain is left
+    (
+        Mapped {
+            at: 0x2010,
+            bytes: LOOP,
+            elsewhere: Some(CODE_OF_NOPS),
+        },
+        0x7000,
+        0x1050,
+        FrameFault::ChainLimit,
+    ),
+    // a record that isn't mapped
+    (
+        Mapped {
+            at: 0,
+            bytes: LOOP,
+            elsewhere: None,
+        },
+        0x7000,
+        0x1050,
+        FrameFault::Memory(0x2010),
+    ),
+    // and one that is cut
+    (
+        Mapped {
+            at: 0x2010,
+            bytes: &[0x21, 0, 0],
+            elsewhere: None,
+        },
+        0x7000,
+        0x1050,
+        FrameFault::Info(0x2010),
+    ),
+    // outside of functions the return address is read from the stack
+    (
+        Mapped {
+            at: 0,
+            bytes: LOOP,
+            elsewhere: None,
+        },
+        0x7041,
+        0x1100,
+        FrameFault::Stack(0x7041),
+    ),
+];
+
+#[test]
+fn faults_carry_their_addresses(rt: HostRuntime) {
+    for (mapped, stack_pointer, address, fault) in FAULTS {
+        assert!(rt; unwound_in(mapped, *stack_pointer, *address) == Err(*fault));
+    }
 }
 
 // gcc's `long v(long n) { char a[n]; return g(a, n) + n; }`: its code and its unwind record
-const CODE: [u8; 54] = [
+const CODE: &[u8] = &[
     0x55, 0x53, 0x48, 0x83, 0xec, 0x28, 0x48, 0x8d, 0x6c, 0x24, 0x20, 0x48, 0x63, 0xc1, 0x48, 0x89,
     0xc3, 0x48, 0x83, 0xc0, 0x0f, 0x48, 0x83, 0xe0, 0xf0, 0xe8, 0x00, 0x00, 0x00, 0x00, 0x48, 0x29,
     0xc4, 0x89, 0xda, 0x48, 0x8d, 0x4c, 0x24, 0x20, 0xe8, 0x00, 0x00, 0x00, 0x00, 0x01, 0xd8, 0x48,
     0x8d, 0x65, 0x08, 0x5b, 0x5d, 0xc3,
 ];
 
-const INFO: [u8; 12] = [
+const INFO: &[u8] = &[
     0x01, 0x0b, 0x04, 0x25, 0x0b, 0x03, 0x06, 0x42, 0x02, 0x30, 0x01, 0x50,
 ];
 
@@ -327,7 +398,7 @@ fn unwound(place: u32, rbx: u64, rbp: u64, rsp: u64) -> Option<[u64; 4]> {
         &mut state,
         |rva| {
             if rva == 0x2000 {
-                Some(INFO.as_slice())
+                Some(INFO)
             } else if rva >= 0x1000 && rva - 0x1000 <= 54 {
                 Some(&CODE[(rva - 0x1000) as usize..])
             } else {
@@ -344,70 +415,76 @@ fn unwound(place: u32, rbx: u64, rbp: u64, rsp: u64) -> Option<[u64; 4]> {
     ])
 }
 
-#[test]
-fn gcc_frames_are_left(rt: HostRuntime) -> Result<(), Fail> {
-    let caller = Some([0x1111, 0x51, 0x52, 0x7040]);
-    assert_eq!(rt;
-        unwound(0x1000, 0x51, 0x52, 0x7038),
-        caller,
-        "before the prologue"
-    );
-    assert_eq!(rt;
-        unwound(0x1002, 0, 0x52, 0x7028),
-        caller,
-        "behind the pushes"
-    );
-    assert_eq!(rt; unwound(0x102d, 0, 0x7020, 0x6f00), caller, "in the body");
-    assert_eq!(rt; unwound(0x102f, 0, 0x7020, 0x6f00), caller, "at the epilog");
-    assert_eq!(rt; unwound(0x1034, 0x51, 0, 0x7030), caller, "in the epilog");
-    assert_eq!(rt;
-        unwound(0x1035, 0x51, 0x52, 0x7038),
-        caller,
-        "at the return"
-    );
-    Ok(())
-}
+const PLACES: &[(u32, u64, u64, u64)] = &[
+    // before the prologue, and behind the pushes
+    (0x1000, 0x51, 0x52, 0x7038),
+    (0x1002, 0, 0x52, 0x7028),
+    // in the body
+    (0x102d, 0, 0x7020, 0x6f00),
+    // at the epilog, in it, and at the return
+    (0x102f, 0, 0x7020, 0x6f00),
+    (0x1034, 0x51, 0, 0x7030),
+    (0x1035, 0x51, 0x52, 0x7038),
+];
 
 #[test]
-fn images_are_searched_by_section(rt: HostRuntime) -> Result<(), Fail> {
-    // one section, of 0x100 bytes at 0x2000, which stands at 0x80 in the file
+fn gcc_frames_are_left(rt: HostRuntime) {
+    for (place, rbx, rbp, rsp) in PLACES {
+        assert!(rt; unwound(*place, *rbx, *rbp, *rsp) == Some([0x1111, 0x51, 0x52, 0x7040]));
+    }
+}
+
+// one section, of 0x100 bytes at 0x2000, which stands at 0x80 in the file
+fn image() -> [u8; 0xa0] {
     let mut image = [0; 0xa0];
     image[0x3c] = 0x3c;
     image[0x42] = 1;
     image[0x5d] = 1;
     image[0x61] = 0x20;
     image[0x68] = 0x80;
-    image[0x90..].copy_from_slice(&LOOP);
-    let table = FunctionTableEntries::parse(&TABLE);
+    image[0x90..].copy_from_slice(LOOP);
+    image
+}
+
+// The frame by so many bytes of an image.
+fn unwound_with(image: &[u8], size: usize, address: u32) -> Option<u64> {
+    let held = image.get(..size)?;
     let mut state = stopped_at(0x7000, [0x1111; 8]);
-    let leaf = table.unwind_frame_with_image(&mut state, &image, 0x1100);
-    assert_eq!(rt; leaf, Some(0x1111));
-    assert_eq!(rt;
-        table.unwind_frame_with_image(&mut state, &image, 0x1050),
-        None
-    );
-    assert_eq!(rt;
-        table.unwind_frame_with_image(&mut state, &image[..0x50], 0x1100),
-        None
-    );
-    Ok(())
+    FunctionTableEntries::parse(TABLE).unwind_frame_with_image(&mut state, held, address)
+}
+
+#[test]
+fn images_are_searched_by_section(rt: HostRuntime) {
+    let image = image();
+    assert!(rt; unwound_with(&image, 0xa0, 0x1100) == Some(0x1111));
+    assert!(rt; unwound_with(&image, 0xa0, 0x1050).is_none());
+    assert!(rt; unwound_with(&image, 0x50, 0x1100).is_none());
+}
+
+const ERRORS: &[(InstructionParseError, &str)] = &[
+    (InstructionParseError::NotEnoughData, "not enough data"),
+    (
+        InstructionParseError::InvalidInstruction,
+        "invalid instruction found",
+    ),
+    (
+        InstructionParseError::TooManyInstructions,
+        "too many instructions for epilog",
+    ),
+];
+
+fn is_printed(
+    alloc: Global,
+    error: &InstructionParseError,
+    text: &str,
+) -> Result<bool, AllocError> {
+    Ok(error.to_string(alloc)?.as_str() == text)
 }
 
 #[test]
 fn errors_are_printed(rt: HostRuntime) -> Result<(), Fail> {
-    for (error, expected) in &[
-        (InstructionParseError::NotEnoughData, "not enough data"),
-        (
-            InstructionParseError::InvalidInstruction,
-            "invalid instruction found",
-        ),
-        (
-            InstructionParseError::TooManyInstructions,
-            "too many instructions for epilog",
-        ),
-    ] {
-        let text = error.to_string(rt.alloc())?;
-        assert_eq!(rt; text.as_str(), *expected);
+    for (error, text) in ERRORS {
+        assert!(rt; is_printed(rt.alloc(), error, text)?);
     }
     Ok(())
 }
