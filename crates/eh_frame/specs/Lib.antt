@@ -8,4 +8,5 @@ pub mod Listing
 pub mod Listed
 pub mod FdeLists
 pub mod Index
+pub mod Looks
 pub mod PreparedSample

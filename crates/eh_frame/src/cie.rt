@@ -44,6 +44,7 @@ impl<'a> Cie<'a> {
     ghost use Rattle.eh_frame.specs.EntryViews.{cie_of};
 
     // What stands after the first four bytes of the entry at `offset`.
+    #[inline(never)]
     pub(crate) fn read(offset: u64, body: Cursor<'a>, bases: &Bases) -> Result<Cie<'a>, Error>
         ensures { Answers cie_of result (cie_body (bases_of bases.now) offset (at body.entry)) }
     {

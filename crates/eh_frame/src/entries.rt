@@ -191,6 +191,7 @@ impl<'a> EhFrame<'a> {
     /// What stands at an offset, `None` at the end of the list. A common information entry that is
     /// known isn't read again.
     #[tactic(auto, unfolding(unwind_definitions::specs::Entries::entry_at))]
+    #[inline(always)]
     pub(crate) fn entry_at(
         &self,
         offset: u64,
@@ -216,6 +217,7 @@ impl<'a> EhFrame<'a> {
     }
 
     // The entry at `offset`, whose body is `body`.
+    #[inline(always)]
     fn entry_in(
         &self,
         offset: u64,
@@ -242,6 +244,7 @@ impl<'a> EhFrame<'a> {
     }
 
     // The common information entry at an offset: that which is known, where it stands there.
+    #[inline(always)]
     fn known_or_read(
         &self,
         offset: u64,
@@ -260,6 +263,7 @@ impl<'a> EhFrame<'a> {
     }
 
     // The common information entry at an offset.
+    #[inline(never)]
     fn cie_at(&self, offset: u64, bases: &Bases) -> Result<Cie<'a>, Error>
         ensures { Answers cie_of result
             (cie_at (bases_of bases.now) (table_of self.now) offset) }

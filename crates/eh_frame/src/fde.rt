@@ -42,6 +42,7 @@ impl<'a> Fde<'a> {
     ghost use Rattle.eh_frame.specs.FdeLists.{IsTold, fde_with};
 
     // What stands after the first four bytes of the entry at `offset`, which names `cie`.
+    #[inline(always)]
     pub(crate) fn read(
         cie: Cie<'a>,
         offset: u64,

@@ -57,6 +57,7 @@ impl<'a> FdeList<'a> {
     }
 
     /// The common information entry at an index.
+    #[inline(always)]
     pub(crate) fn cie(&self, index: Option<usize>) -> Option<Cie<'a>>
         requires { IfSome index (λ i. i < length self.now.cies.items) }
         ensures { (bases : SpecBases) (table : Input) →
@@ -71,6 +72,7 @@ impl<'a> FdeList<'a> {
 
     /// Adds an entry of a table: a description whose range isn't empty, or what others share.
     /// `known` is an index at which the common information entry may stand.
+    #[inline(always)]
     pub(crate) fn push(&mut self, entry: &Entry<'a>, known: Option<usize>) -> Result<(), AllocError>
         requires { IfSome known (λ i. i < length self.old.cies.items) }
         ensures { OnOk result ((bases : SpecBases) (table : Input) (fdes : List Described) →
@@ -91,6 +93,7 @@ impl<'a> FdeList<'a> {
     }
 
     // The index of a common information entry, which is added where it isn't the one that is known.
+    #[inline(always)]
     fn keep_cie(&mut self, cie: Cie<'a>, known: Option<usize>) -> Result<usize, AllocError>
         requires { IfSome known (λ i. i < length self.old.cies.items) }
         ensures kept { IfOk result (λ index.
