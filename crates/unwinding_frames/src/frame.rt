@@ -6,7 +6,7 @@ ghost use Rattle.std.specs.Prelude.{◌∷◌, map, IfSome, IfNone, IsTrue};
 ghost use Rattle.std.specs.Bool.{OnTrue, OnFalse};
 ghost use Rattle.std.specs.List.{cons_option};
 ghost use Rattle.std.specs.Option.{unwrap_or};
-ghost use Rattle.unwind_definitions.specs.Row.{RowInstructions, covers_pc};
+ghost use Rattle.unwind_definitions.specs.Row.{RowInstructions, covers_pc, row_at};
 ghost use Rattle.unwind_definitions.specs.LanguageSearch.{address_of_call, language_address};
 ghost use Rattle.unwind_definitions.specs.LanguageSearch.{personality_address, target};
 ghost use Rattle.unwind_definitions.specs.Caller.{Columns, caller_of, rule_value, cfa_value};
@@ -124,6 +124,24 @@ impl<'a, M: Machine> Frame<'a, M> {
             return Ok(None);
         }
         Frame::by_finder(image, finder, address_asked(ra, signal), steps)
+    }
+
+    /// The frame of a description that was found, and of its row at an address that it contains. It
+    /// is the one that [`Frame::from_context`] gives at that address over a finder that answers
+    /// `found`.
+    pub fn from_parts(found: FDESearchResult<'a>, row: Row<'a>) -> Frame<'a, M>
+        ensures parts { (result.found ≡ answered found.entry) × (result.row ≡ row.entry) }
+        ensures frame { (address : ℕ) (run : RowInstructions) →
+            IsTrue (covers_pc (answered found.entry).fde address) →
+            row_at (answered found.entry).bases (answered found.entry).fde address ≡ Ok run →
+            IsRowOf row.entry run →
+            GivesFrame address (Some (answered found.entry)) (Ok (Some result)) }
+    {
+        Frame {
+            fde_result: found,
+            row,
+            machine: PhantomData,
+        }
     }
 
     // The frame of the description that a finder answers for an address.
