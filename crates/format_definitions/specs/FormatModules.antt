@@ -3,7 +3,8 @@
 use Rattle.std.specs.Prelude.{◌≡◌, ◌⊎◌, ℕ, ◌+◌, ◌-◌, Bool, ◌&&◌, List, Ok, IsTrue, nat_le, nat_lt}
 use Rattle.std.specs.List.{filter, Contains, AllByRecursion}
 use Rattle.memory_image.specs.Image.{Span, table_at}
-use Rattle.unwind_definitions.specs.State.{State}
+use Rattle.unwind_definitions.specs.Caller.{Columns}
+use Rattle.unwind_definitions.specs.State.{State, KeepsOthers}
 use Rattle.unwind_definitions.specs.Prologue.{Convention, SystemV, Windows}
 use Rattle.unwind_definitions.specs.Function.{Function, IsFunction}
 use Rattle.unwind_definitions.specs.Module.{Module, DescribesModule, CoversNot}
@@ -15,6 +16,7 @@ use Rattle.format_definitions.specs.CompactStep.{MachoModule}
 use Rattle.format_definitions.specs.MachoModules.{DescribesMacho}
 use Rattle.format_definitions.specs.PeImage.{PeModule}
 use Rattle.format_definitions.specs.PeModules.{DescribesPe}
+use Rattle.format_definitions.specs.PeRegisters.{KeepsScratchColumns}
 
 pub data FormatModule : Type 0 where
   Elf : Module → FormatModule
@@ -35,6 +37,13 @@ abbrev pub convention_of : FormatModule → Convention
 convention_of (Elf m) = SystemV
 convention_of (Macho m) = SystemV
 convention_of (Pe m) = Windows
+
+-- From a frame in a module to its caller all columns that no state has are kept, but for RSI and RDI by a frame in a PE module,
+-- which restores them.
+abbrev pub KeepsIn : FormatModule → Columns → Columns → Type 0
+KeepsIn (Elf m) old new = KeepsOthers old new
+KeepsIn (Macho m) old new = KeepsOthers old new
+KeepsIn (Pe m) old new = KeepsScratchColumns old new
 
 abbrev pub part_of : FormatModule → List Function → List Function
 part_of m functions = filter (λ (f : Function). in_format f.start m) functions

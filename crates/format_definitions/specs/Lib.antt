@@ -7,6 +7,7 @@ pub mod PeEpilogs
 pub mod CompactStep
 pub mod MachoModules
 pub mod FormatModules
+pub mod FormatCalls
 pub mod FormatProcess
 pub mod FormatValid
 pub mod ElfStep

@@ -38,10 +38,10 @@ use Rattle.format_laws.proofs.FormatLines.{can_undo, link_undone}
 -- ---- what functions ask
 
 -- a function of a Mach-O or PE module has no language table
-listed_silent : (image : List Span) (m : MachoModule) (part : List Function) (d : DescribesFormat image (Macho m) part) (f : Function) → Contains part f → f.sites ≡ None
+pub listed_silent : (image : List Span) (m : MachoModule) (part : List Function) (d : DescribesFormat image (Macho m) part) (f : Function) → Contains part f → f.sites ≡ None
 listed_silent image m part d f has = (lists.all_contains (HasListed image d.info m) part f d.each has).describes.no_sites
 
-recorded_silent : (image : List Span) (m : PeModule) (part : List Function) (d : DescribesFormat image (Pe m) part) (f : Function) → Contains part f → f.sites ≡ None
+pub recorded_silent : (image : List Span) (m : PeModule) (part : List Function) (d : DescribesFormat image (Pe m) part) (f : Function) → Contains part f → f.sites ≡ None
 recorded_silent image m part d f has = go (lists.all_contains (λ (g : Function). HasRecord image m d.table g ⊎ DescribesLeaf m d.table g) part f d.each has)
   where
     go : HasRecord image m d.table f ⊎ DescribesLeaf m d.table f → f.sites ≡ None
@@ -57,7 +57,7 @@ elf_alone image (Pe m) part f d has some = absurd (some (recorded_silent image m
 pub table_in_elf : (image : List Span) (modules : List FormatModule) (functions : List Function) (f : Function) (lies : LiesInFormat image modules functions f) → Contains functions f → f.sites ≢ None → (m : Module) × (lies.home ≡ Elf m)
 table_in_elf image modules functions f lies has some = elf_alone image lies.home (part_of lies.home functions) f lies.describes (in_part functions f lies.home has lies.inside) some
 
-silent_action : (f : Function) (a : ℕ) → f.sites ≡ None → action_at f a ≡ NoAction
+pub silent_action : (f : Function) (a : ℕ) → f.sites ≡ None → action_at f a ≡ NoAction
 silent_action f a e = ap (λ (o : Option (List Site)). option_map_or (λ sites. action_among sites a) o NoAction) e
 
 -- two calls that one ELF module undoes at one address ask the same there

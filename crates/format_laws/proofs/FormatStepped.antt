@@ -21,11 +21,11 @@ use Rattle.unwind_laws.proofs.Booleans as lists
 use Rattle.unwind_laws.proofs.Found.{not_found}
 use Rattle.format_definitions.specs.CompactStep.{Stepped, stepped_with, by_row}
 use Rattle.format_definitions.specs.ElfStep.{some_caller, by_found, by_frame_table, elf_step}
-use Rattle.format_definitions.specs.FormatModules.{FormatModule, Elf, Macho, Pe, in_format, IsUncoveredIn, IsUncoveredBy}
+use Rattle.format_definitions.specs.FormatModules.{FormatModule, Elf, Macho, Pe, in_format, KeepsIn, IsUncoveredIn, IsUncoveredBy}
 use Rattle.format_definitions.specs.FormatProcess.{FormatsApart}
 use Rattle.format_definitions.specs.FormatStep.{FormatFault, from_elf, from_macho, from_pe, holder_of, step_in, step_by, step_at, format_step}
 use Rattle.format_laws.specs.FormatUndone.{FormatUndone, columns_after}
-use Rattle.format_laws.specs.FormatStepped.{KeepsIn, StepUndone}
+use Rattle.format_laws.specs.FormatStepped.{StepUndone}
 use Rattle.format_laws.proofs.FormatSteps.{uncovered_ends, shown_after}
 use Rattle.format_laws.proofs.FormatHomes.{holder_is, holder_holds}
 

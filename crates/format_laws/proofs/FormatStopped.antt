@@ -69,7 +69,7 @@ module _ (image : List Span) (s : State) (c : Call) where
   pe_lies m table is (at_leaf leaf p) = leaf_lies is leaf.no_steps p
   pe_lies m table is (at_epilog r st) = epilog_lies m table r st
 
-  stop_lies : (home : FormatModule) (part : List Function) (d : DescribesFormat image home part) → IsFunction (convention_of home) c.callee → StandsIn image home part d s c → (c.callee.start ≤ s.ra) × (s.ra < c.callee.end)
+  pub stop_lies : (home : FormatModule) (part : List Function) (d : DescribesFormat image home part) → IsFunction (convention_of home) c.callee → StandsIn image home part d s c → (c.callee.start ≤ s.ra) × (s.ra < c.callee.end)
   stop_lies (Elf m) part d is (inl p) = elf.stands_inside c.callee image p.done p.later c.caller s is p.stands
   stop_lies (Elf m) part d is (inr body) = body_lies SystemV c.callee s.ra is body.inside
   stop_lies (Macho m) part d is body = body_lies SystemV c.callee s.ra is body.inside
@@ -95,7 +95,7 @@ module _ (image : List Span) (s : State) (c : Call) where
   stop_below (Pe m) part d (at_leaf leaf p) = early_below p
   stop_below (Pe m) part d (at_epilog r st) = epilog_below st.pushed st.rooms r.describes.grouped.set st.todo st.left st.room st.stands
 
-module _ (image : List Span) (modules : List FormatModule) (apart : AllPairs FormatsApart modules) (functions : List Function) (s : State) (c : Call) (stop : IsFormatStop image modules functions s c)
+module _ (image : List Span) (modules : List FormatModule) (functions : List Function) (s : State) (c : Call) (stop : IsFormatStop image modules functions s c)
     (columns : Columns) (shows : Shows columns s) where
   -- ---- by each format
 
@@ -110,7 +110,7 @@ module _ (image : List Span) (modules : List FormatModule) (apart : AllPairs For
   leaf_entered m table leaf p =
       subst (λ (done : List PrologueStep). IsEntered image false (steps_of done) c.caller s) (none_done p.done p.later (sym leaf.no_steps ∙ p.stands.steps)) p.stands.entered
 
-  undone_at : (home : FormatModule) → IsTrue (in_format c.callee.start home) → (is : IsFunction (convention_of home) c.callee) → (d : DescribesFormat image home (part_of home functions)) →
+  pub undone_at : (home : FormatModule) → IsTrue (in_format c.callee.start home) → (is : IsFunction (convention_of home) c.callee) → (d : DescribesFormat image home (part_of home functions)) →
       StandsIn image home (part_of home functions) d s c → FormatUndone image home columns s.ra c
   undone_at (Elf m) within is d (inl p) =
       step_inside (record { image = image; modules = m ∷ [] }) (evaluation image) functions p.done p.later s c columns
@@ -124,13 +124,15 @@ module _ (image : List Span) (modules : List FormatModule) (apart : AllPairs For
       leaf_call_undone image m (part_of (Pe m) functions) d c.callee is c.caller s stop.caller columns shows leaf s.ra lies.0 lies.1 (leaf_entered m d.table leaf p)
   undone_at (Pe m) within is d (at_epilog r st) = epilog_call_undone image m (part_of (Pe m) functions) d c.callee is c.caller s stop.caller columns shows r st
 
+module _ (image : List Span) (modules : List FormatModule) (apart : AllPairs FormatsApart modules) (functions : List Function) (s : State) (c : Call) (stop : IsFormatStop image modules functions s c)
+    (columns : Columns) (shows : Shows columns s) where
   -- The step from the stopped state.
   pub stop_undone : StepUndone stop.lies.home (format_step image modules true columns) columns c.caller
   stop_undone =
       let home : FormatModule = stop.lies.home in
       let lies = stop_lies image s c home (part_of home functions) stop.lies.describes stop.lies.is_function stop.stands in
       let inside = in_home image modules functions c.callee stop.lies stop.listed s.ra lies.0 lies.1 in
-      undone_by image modules home s.ra columns c (format_step image modules true columns) (undone_at home stop.lies.inside stop.lies.is_function stop.lies.describes stop.stands)
+      undone_by image modules home s.ra columns c (format_step image modules true columns) (undone_at image modules functions s c stop columns shows home stop.lies.inside stop.lies.is_function stop.lies.describes stop.stands)
       (step_is image modules true columns s s.ra home apart stop.lies.known inside shows stop.returns refl)
 
   -- one more state below a chain

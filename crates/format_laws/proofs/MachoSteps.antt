@@ -85,6 +85,17 @@ found_at image f table offset d = go (ltb (length (table_at image table)) offset
     go false e = rw e (ap (λ r. r >>= fde_in) d.reads)
     go true e = let none = past_end (frame_bases table) image table offset (ltb-true (length (table_at image table)) offset e) in let bad = sym none ∙ d.reads in absurd cc
 
+-- ---- what a listing finds
+
+-- the function of a listing that describes a function is found for each address of that
+pub listed_found : (image : List Span) (m : MachoModule) (functions : List Function) (d : DescribesMacho image m functions) (f : Function) (h : HasListed image d.info m f) (a : ℕ) → f.start ≤ a → a < f.end →
+    lookup_of d.info (a - m.base) ≡ Ok (Some h.listed)
+listed_found image m functions d f h a low high =
+    let start = h.describes.start in
+    let end = h.describes.end in
+    let covers : Covers h.listed (a - m.base) = (omega arith, omega arith) in
+    each d.info (a - m.base) (lookup_of d.info (a - m.base)) d.pages (lookup_of-is d.info (a - m.base)) h.listed (record { listed = h.among; covers = covers })
+
 -- ---- each opcode
 
 called : (result : Result Columns StepFault) (columns : Columns) (t : State) → Called result columns t → OpcodeUndoes (Some (stepped_with false result)) columns t
@@ -141,9 +152,7 @@ module _ (image : List Span) (f : Function) (is : IsFunction SystemV f) (s t : S
   macho_undone_by m functions d h =
       let lies = body_inside f a is inside in
       let start = h.describes.start in
-      let end = h.describes.end in
-      let covers : Covers h.listed (a - m.base) = (omega (arith, lies.0), omega (arith, lies.1)) in
-      let found : lookup_of d.info (a - m.base) ≡ Ok (Some h.listed) = each d.info (a - m.base) (lookup_of d.info (a - m.base)) d.pages (lookup_of-is d.info (a - m.base)) h.listed (record { listed = h.among; covers = covers }) in
+      let found : lookup_of d.info (a - m.base) ≡ Ok (Some h.listed) = listed_found image m functions d f h a (omega (arith, lies.0)) lies.1 in
       let u = opcode_undone m.frames h.listed.opcode h.describes.opcode in
       let address : m.base + (a - m.base) ≡ a = omega (arith, lies.0) in
       record {

@@ -161,20 +161,24 @@ stands_inside image m function f d is done later t s st = (let h = st.behind in 
         let low = ends.0 in let high = ends.1 in
         omega (arith, below, same)
 
-module _ (image : List Span) (m : PeModule) (functions : List Function) (d : DescribesPe image m functions) (f : Function) (is : IsFunction Windows f) (t s : State) (words : IsState t) (columns : Columns) (shows : Shows columns s) where
-  found_by_record : (r : HasRecord image m d.table f) (a : ℕ) → f.start ≤ a → a < f.end → lookup_of (Some d.table) (a - m.base) ≡ Some r.function
+-- what a function table finds for an address of a described function
+module _ (image : List Span) (m : PeModule) (functions : List Function) (d : DescribesPe image m functions) (f : Function) where
+  pub found_by_record : (r : HasRecord image m d.table f) (a : ℕ) → f.start ≤ a → a < f.end → lookup_of (Some d.table) (a - m.base) ≡ Some r.function
   found_by_record r a low high = holder_is_found d.table 0 m.size (a - m.base) r.function d.ordered r.listed (record_holds image m r.function f a r.describes low high)
 
+  pub leaf_not_found : DescribesLeaf m d.table f → (a : ℕ) → f.start ≤ a → a < f.end → lookup_of (Some d.table) (a - m.base) ≡ None
+  leaf_not_found leaf a low high = none_is_found d.table 0 m.size (a - m.base) d.ordered (leaf_apart m.base a d.table f leaf.apart leaf.inside.0 low high)
+
+module _ (image : List Span) (m : PeModule) (functions : List Function) (d : DescribesPe image m functions) (f : Function) (is : IsFunction Windows f) (t s : State) (words : IsState t) (columns : Columns) (shows : Shows columns s) where
   pub leaf_call_undone : DescribesLeaf m d.table f → (a : ℕ) → f.start ≤ a → a < f.end → IsEntered image false [] t s → CallUndone (pe_step image m (a - m.base) columns) columns t
   leaf_call_undone leaf a low high entered =
-      call_undone image m d.bytes d.table None (a - m.base) columns s t d.mapped d.reads
-      (none_is_found d.table 0 m.size (a - m.base) d.ordered (leaf_apart m.base a d.table f leaf.apart leaf.inside.0 low high)) shows
+      call_undone image m d.bytes d.table None (a - m.base) columns s t d.mapped d.reads (leaf_not_found image m functions d f leaf a low high) shows
       (leaf_undone image (memory_of image m.base) t s (a - m.base) (registers_in columns) words (shows_registers columns s shows) entered)
 
   body_call_undone_by : HasRecord image m d.table f ⊎ DescribesLeaf m d.table f → (a : ℕ) → IsTrue (in_body f a) → IsEntered image f.outermost (steps_of f.prologue) t s → CallUndone (pe_step image m (a - m.base) columns) columns t
   body_call_undone_by (inl r) a inside entered =
       let lies = ranges_inside f.bodies (f.start + last_end f.prologue) f.end a is.bodies inside in
-      call_undone image m d.bytes d.table (Some r.function) (a - m.base) columns s t d.mapped d.reads (found_by_record r a (omega (arith, lies.0)) lies.1) shows
+      call_undone image m d.bytes d.table (Some r.function) (a - m.base) columns s t d.mapped d.reads (found_by_record image m functions d f r a (omega (arith, lies.0)) lies.1) shows
       (in_body_undone image m r.function f r.describes t s words (registers_in columns) (shows_registers columns s shows) is a inside
       (false_outermost image f.outermost f.prologue t s r.describes.plain.not_outermost entered))
   body_call_undone_by (inr leaf) a inside entered =
@@ -191,7 +195,7 @@ module _ (image : List Span) (m : PeModule) (functions : List Function) (d : Des
       CallUndone (pe_step image m (s.ra - m.base) columns) columns t
   prologue_call_undone r done later st quiet =
       let lies = stands_inside image m r.function f r.describes is done later t s st in
-      call_undone image m d.bytes d.table (Some r.function) (s.ra - m.base) columns s t d.mapped d.reads (found_by_record r s.ra lies.0 lies.1) shows
+      call_undone image m d.bytes d.table (Some r.function) (s.ra - m.base) columns s t d.mapped d.reads (found_by_record image m functions d f r s.ra lies.0 lies.1) shows
       (in_prologue_undone image m r.function f r.describes t s words (registers_in columns) (shows_registers columns s shows) is done later st quiet)
 
   -- a state that stands in an epilog
@@ -203,5 +207,5 @@ module _ (image : List Span) (m : PeModule) (functions : List Function) (d : Des
       let long' = length-append st.terminator st.rest in
       let low = st.begins in let here = st.begun in
       let inside : s.ra < f.end = omega arith in
-      call_undone image m d.bytes d.table (Some r.function) (s.ra - m.base) columns s t d.mapped d.reads (found_by_record r s.ra (omega arith) inside) shows
+      call_undone image m d.bytes d.table (Some r.function) (s.ra - m.base) columns s t d.mapped d.reads (found_by_record image m functions d f r s.ra (omega arith) inside) shows
       (in_epilog_undone image m r.function f r.describes is t s words (registers_in columns) (shows_registers columns s shows) st)

@@ -1,18 +1,11 @@
 -- What it is for the step of a process with modules of three formats to undo a call, and for columns to show the states of a chain.
 use Rattle.std.specs.Prelude.{◌≡◌, false, List, [], ◌∷◌, Option, Some, Result, Ok}
 use Rattle.unwind_definitions.specs.Caller.{Columns}
-use Rattle.unwind_definitions.specs.State.{State, Shows, KeepsOthers}
+use Rattle.unwind_definitions.specs.State.{State, Shows}
 use Rattle.unwind_definitions.specs.Chain.{Call, states_of, StacksRise}
 use Rattle.format_definitions.specs.CompactStep.{Stepped}
-use Rattle.format_definitions.specs.PeRegisters.{KeepsScratchColumns}
-use Rattle.format_definitions.specs.FormatModules.{FormatModule, Elf, Macho, Pe}
+use Rattle.format_definitions.specs.FormatModules.{FormatModule, KeepsIn}
 use Rattle.format_definitions.specs.FormatStep.{FormatFault}
-
--- all columns that no state has are kept, but for RSI and RDI by a frame in a PE module, which restores them
-abbrev pub KeepsIn : FormatModule → Columns → Columns → Type 0
-KeepsIn (Elf m) old new = KeepsOthers old new
-KeepsIn (Macho m) old new = KeepsOthers old new
-KeepsIn (Pe m) old new = KeepsScratchColumns old new
 
 -- A step from a frame in a module answers columns that show a state, which stands after a call, and keeps the others.
 pub record StepUndone (home : FormatModule) (result : Result (Option Stepped) FormatFault) (columns : Columns) (t : State) : Type 0 where

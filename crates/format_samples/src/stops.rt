@@ -1,0 +1,58 @@
+//! Functions of PE modules that were stopped in a prologue and in an epilog, and what the step
+//! answers there.
+
+ghost use Rattle.std.specs.Prelude.{[], ◌∷◌, ◌++◌};
+ghost use Rattle.unwind_definitions.specs.Stopped.{StandsAfter};
+ghost use Rattle.unwind_laws.specs.Columns.{columns_of};
+ghost use Rattle.unwind_laws.specs.Windows as windows;
+ghost use Rattle.format_definitions.specs.FormatModules.{IsFormatChain};
+ghost use Rattle.format_definitions.specs.FormatProcess.{IsFormatProcess};
+ghost use Rattle.format_definitions.specs.FormatStops.{IsFormatStop};
+ghost use Rattle.format_definitions.specs.PeStep.{pe_step};
+ghost use Rattle.format_laws.specs.FormatSample as mixed;
+ghost use Rattle.format_laws.specs.PeSamples as pe;
+ghost use Rattle.format_laws.specs.PeUndone.{GivesState};
+ghost use Rattle.format_samples.specs.StopSamples as samples;
+
+/// A function whose first two steps a chained record tells of, stopped after the first of its own
+/// steps, which allocates, and after the second, which sets RBP above the stack pointer.
+pub fn stops_after_chained_steps_are_described()
+    ensures process { IsFormatProcess pe.chained_image mixed.pe_modules }
+    ensures allocated { StandsAfter pe.chained_image windows.function
+        (pe.inherited_steps ++ samples.allocation) (samples.setting ++ samples.stores)
+        windows.caller samples.allocated_state
+        × IsFormatStop pe.chained_image mixed.pe_modules (windows.function ∷ [])
+        samples.allocated_state samples.chained_call }
+    ensures set { StandsAfter pe.chained_image windows.function
+        (pe.inherited_steps ++ (samples.allocation ++ samples.setting)) samples.stores
+        windows.caller samples.set_state
+        × IsFormatStop pe.chained_image mixed.pe_modules (windows.function ∷ [])
+        samples.set_state samples.chained_call }
+    ensures chain { IsFormatChain pe.chained_image mixed.pe_modules (windows.function ∷ [])
+        windows.caller [] }
+    ensures allocated_step { GivesState (pe_step pe.chained_image pe.module_of_one 0x1004
+        (columns_of samples.allocated_state)) windows.caller }
+    ensures set_step { GivesState (pe_step pe.chained_image pe.module_of_one 0x1009
+        (columns_of samples.set_state)) windows.caller }
+{}
+
+/// A function with an epilog at its end, whose record of version 1 lists none, stopped before each
+/// of the epilog's instructions: before the stack pointer is given back, before RBX is popped, and
+/// before the return.
+pub fn stops_in_an_unlisted_epilog_are_described()
+    ensures process { IsFormatProcess samples.returning_image mixed.pe_modules }
+    ensures add { IsFormatStop samples.returning_image mixed.pe_modules
+        (samples.returning_function ∷ []) samples.at_add samples.returning_call }
+    ensures pop { IsFormatStop samples.returning_image mixed.pe_modules
+        (samples.returning_function ∷ []) samples.at_pop samples.returning_call }
+    ensures returns { IsFormatStop samples.returning_image mixed.pe_modules
+        (samples.returning_function ∷ []) samples.at_return samples.returning_call }
+    ensures chain { IsFormatChain samples.returning_image mixed.pe_modules
+        (samples.returning_function ∷ []) samples.returning_caller [] }
+    ensures add_step { GivesState (pe_step samples.returning_image pe.module_of_one 0x103a
+        (columns_of samples.at_add)) samples.returning_caller }
+    ensures pop_step { GivesState (pe_step samples.returning_image pe.module_of_one 0x103e
+        (columns_of samples.at_pop)) samples.returning_caller }
+    ensures returns_step { GivesState (pe_step samples.returning_image pe.module_of_one 0x103f
+        (columns_of samples.at_return)) samples.returning_caller }
+{}
