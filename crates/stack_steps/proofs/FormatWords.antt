@@ -1,5 +1,5 @@
 -- What the steps of Mach-O and PE modules can't read isn't mapped.
-use Rattle.std.proofs.Common.{◌≡◌, ℕ, zero, suc, ◌+◌, ◌*◌, ◌-◌, ◌/◌, ◌≤◌, Bool, true, false, cond, ltb, length, take, List, [], ◌∷◌, Option, Some, None, Result, Ok, Err, refl, sym, ap, subst, ◌∙◌, arith}
+use Rattle.std.proofs.Common.{◌≡◌, ℕ, zero, suc, ◌+◌, ◌*◌, ◌-◌, ◌/◌, ◌≤◌, Bool, true, false, cond, ltb, length, take, List, [], ◌∷◌, Option, Some, None, Result, Ok, Err, refl, ap, subst, arith}
 use Rattle.std.specs.Option.{option_and_then, option_map, option_map_or}
 use Rattle.memory_image.specs.Image.{Span, byte_at, number_at, half_at, word_at, table_at}
 use Rattle.unwind_definitions.specs.declared.error.Error.{Error as Fault}
@@ -28,7 +28,7 @@ use Rattle.pe_unwind_info.specs.declared.x86_64.operations.UnwindOperation.TheVa
 use Rattle.pe_unwind_info.specs.declared.x86_64.epilog.FunctionEpilogInstruction.{FunctionEpilogInstruction}
 use Rattle.pe_unwind_info.specs.declared.x86_64.epilog.FunctionEpilogInstruction.TheVariants.{AddSP, AddSPFromFP, Pop}
 use Rattle.pe_unwind_info.specs.declared.x86_64.unwind_info.UnwindInfoHeader.{UnwindInfoHeader}
-use Rattle.pe_unwind_info.specs.Machine.{Registers, Stack, FrameEnd, Returned, Faulted, After, Goes, Ends, word_or, word_or_fault, with_word, returned_or, pop_return, then_goes, then_ends, stack_pointer, plus}
+use Rattle.pe_unwind_info.specs.Machine.{Registers, Stack, FrameEnd, Returned, Faulted, After, Goes, Ends, word_or, word_or_fault, with_word, returned_or, pop_return, then_goes, then_ends, stack_pointer}
 use Rattle.pe_unwind_info.specs.Operations.{Placed}
 use Rattle.pe_unwind_info.specs.Steps.{act, run, epilog_act, epilog_run}
 use Rattle.pe_unwind_info.specs.Info.{Info, parsed_info}
@@ -36,7 +36,7 @@ use Rattle.pe_unwind_info.specs.InfoOperations.{operations_in}
 use Rattle.pe_unwind_info.specs.Header.{frame_register_of}
 use Rattle.pe_unwind_info.specs.EpilogList.{leading_epilogs, behind_epilogs, is_due}
 use Rattle.pe_unwind_info.specs.Epilog.{sequence_of}
-use Rattle.pe_unwind_info.specs.Frame.{epilog_or_none, info_in, info_or, chained_of, operations_alone, from_place, Link, Follows, Stops, follow, link_of, at_limit, epilog_in}
+use Rattle.pe_unwind_info.specs.Frame.{epilog_or_none, info_in, info_or, chained_of, operations_alone, from_place, follow, link_of, at_limit, epilog_in}
 use Rattle.pe_unwind_info.specs.FrameOf.{Image, then_follows, linked, left_by, tested, by_test, in_record, framed}
 use Rattle.pe_unwind_info.specs.FunctionTable.{functions_of, lookup_of as record_at}
 use Rattle.format_definitions.specs.CompactStep.{then_on, half_or_fault, read_up, read_down, by_frame, by_cfa, frame_bases, with_column, fields_up, registers_back, MachoModule, MachoFault, InSection, NoForm, InStep, answered_by, stepped_with, by_row, by_description, compact_step, stepped_by, found_in, macho_step}

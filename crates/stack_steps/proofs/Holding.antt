@@ -33,7 +33,7 @@ last_stands p (d ∷ es) t e h = go t (p d.0) refl (λ t. last_stands p es t e) 
         let rest : filter (λ d. p d.0) es ≡ t ++ e ∷ [] = cc in
         later d es e (more t rest)
 
-holds : (m : Module) (a : ℕ) → contains m a ≡ true → (m.start ≤ a) × (a < m.end)
+pub holds : (m : Module) (a : ℕ) → contains m a ≡ true → (m.start ≤ a) × (a < m.end)
 holds m a is =
     let both = both_true (leb m.start a) (ltb a m.end) is in
     let low = both.0 in let high = both.1 in
@@ -78,7 +78,24 @@ none_contains (d ∷ es) a e none has is = go (contains (module_of d) a) refl (n
       | inr more ↦ let rest : module_at (modules_in es) a ≡ None = rw there at none in ih rest more is
     ]
 
+-- the module of an entry that contains an address is the one that does
+pub contained : (es : List (ℕ × Extent)) (low a : ℕ) (e : ℕ × Extent) → AreApart low (modules_in es) → Contains es e → contains (module_of e) a ≡ true → module_at (modules_in es) a ≡ Some (module_of e)
+contained [] low a e apart has is = absurd (none_in_nil e has)
+contained (d ∷ es) low a e apart has is = go (contains (module_of d) a) refl (contained es d.1.end a e apart.2)
+  where
+    go : (b : Bool) → contains (module_of d) a ≡ b → (Contains es e → contains (module_of e) a ≡ true → module_at (modules_in es) a ≡ Some (module_of e)) → module_at (modules_in (d ∷ es)) a ≡ Some (module_of e)
+    go true here ih = rw here (ap (λ (x : ℕ × Extent). Some (module_of x)) (one_contains (d ∷ es) low a d e apart (first d es) has here is))
+    go false there ih = elim (here_or_later d es e has) [
+      | inl same ↦ let here : contains (module_of d) a ≡ true = subst (λ (x : ℕ × Extent). contains (module_of x) a ≡ true) (sym same) is in absurd cc
+      | inr more ↦ rw there (ih more is)
+    ]
+
 -- ---- in the order of adding
+
+pub holder_at : (hs : List Held) (k : ℕ) (h : Held) → k < length hs → h ≡ get_or hs k h → slice_get (map holder_of hs) k ≡ Some (holder_of h)
+holder_at [] k h lt at = absurd (omega arith)
+holder_at (g ∷ hs) zero h lt at = ap (λ (x : Held). Some (holder_of x)) (sym at)
+holder_at (g ∷ hs) (suc k) h lt at = holder_at hs k h (omega arith) at
 
 pub place_within : (hs : List Held) (k : ℕ) (m : Module) → slice_get (map holder_of hs) k ≡ Some m → k < length hs
 place_within [] k m is = absurd cc

@@ -3,6 +3,10 @@ pub mod Apart
 pub mod ContextLemmas
 pub mod Counted
 pub mod FormatCallers
+pub mod FormatFrames
+pub mod FormatHolders
+pub mod FormatMet
+pub mod FormatStopSamples
 pub mod FormatWords
 pub mod HeaderFinds
 pub mod Holding

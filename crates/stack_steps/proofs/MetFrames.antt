@@ -5,7 +5,7 @@ use Rattle.std.proofs.lemmas.Bool.Decides.{nat_tests}
 use Rattle.std.proofs.lemmas.Bool.{ltb-true, leb-true}
 use Rattle.memory_image.specs.Image.{Span, IsLaidOut}
 use Rattle.unwind_definitions.specs.Pointers.{Bases}
-use Rattle.unwind_definitions.specs.Row.{row_at, argument_size}
+use Rattle.unwind_definitions.specs.Row.{row_at}
 use Rattle.unwind_definitions.specs.LanguageTable.{input_at}
 use Rattle.unwind_definitions.specs.LanguageSearch.{address_of_call}
 use Rattle.unwind_definitions.specs.Caller.{Columns}
@@ -50,9 +50,13 @@ pub record Met (space : SpaceValue) (c : Context) (s : State) (call : Call) : Ty
   pub called : caller_by space.image c frame ≡ Ok next
   pub unmarked : next.signal ≡ false
   pub shows : Shows (columns_of next.context) call.caller
-  pub others : KeepsOthers (columns_of c) (columns_of next.context)
   pub whole : IsWhole next.context
   pub address : s.ra < 2 ^ 64
+
+-- such a frame, where the caller's context keeps every column that no state has
+record MetKeeping (space : SpaceValue) (c : Context) (s : State) (call : Call) : Type 0 where
+  met : Met space c s call
+  others : KeepsOthers (columns_of c) (columns_of met.next.context)
 
 -- what is asked, where a description asks what its function does
 asked_as : (image : List Span) (c : Context) (found : FoundFde) (f : Function) (a : ℕ) → AsksAs image found.bases f found.fde → address_of_call c.ra false ≡ a → described_action image c false found ≡ Ok (action_at f a)
@@ -95,7 +99,7 @@ module _ (space : SpaceValue) (c : Context) (functions : List Function) (s : Sta
   asked_at = let some : s.ra ≢ 0 = is.called.returns in let low = small in let same = ra_is in omega arith
 
   -- the module finds the description by the tables that it names
-  found_with : (m : Module) (t : FrameInfo) → m.tables ≡ Elf t → found_by_kind t.text_base t.kind space.image (s.ra - 1) ≡ Some found_there → module_at space.modules (s.ra - 1) ≡ Some m → Met space c s call
+  found_with : (m : Module) (t : FrameInfo) → m.tables ≡ Elf t → found_by_kind t.text_base t.kind space.image (s.ra - 1) ≡ Some found_there → module_at space.modules (s.ra - 1) ≡ Some m → MetKeeping space c s call
   unfolding frame_of
   found_with m t elf finds found =
       let nonzero : eqb c.ra 0 ≡ false = let some : s.ra ≢ 0 = is.called.returns in let at : c.ra ≡ s.ra = ra_is in grind (arith, nat_tests) in
@@ -105,17 +109,19 @@ module _ (space : SpaceValue) (c : Context) (functions : List Function) (s : Sta
       let kept : columns_of (context_of step.undoes.caller) ≡ step.undoes.caller = λ i k. context_of-holds c step.undoes.caller call.caller step.undoes.shows step.undoes.others k i in
       let asks : AsksAs space.image bases call.callee step.finds.fde = asks_as space.image bases call.callee step.finds.fde is.is_function step.finds.read step.finds.describes in
       record {
-        frame = frame_at;
-        framed = framed;
-        asks = asked_as space.image c found_there call.callee (s.ra - 1) asks asked_at;
-        no_arguments = step.finds.no_arguments;
-        next = next;
-        called = called;
-        unmarked = refl;
-        shows = subst (λ (columns : Columns). Shows columns call.caller) (sym kept) step.undoes.shows;
+        met = record {
+          frame = frame_at;
+          framed = framed;
+          asks = asked_as space.image c found_there call.callee (s.ra - 1) asks asked_at;
+          no_arguments = step.finds.no_arguments;
+          next = next;
+          called = called;
+          unmarked = refl;
+          shows = subst (λ (columns : Columns). Shows columns call.caller) (sym kept) step.undoes.shows;
+          whole = refl;
+          address = small;
+        };
         others = subst (λ (columns : Columns). KeepsOthers (columns_of c) columns) (sym kept) step.undoes.others;
-        whole = refl;
-        address = small;
       }
 
   -- a scan of the frame table finds it
@@ -139,8 +145,8 @@ module _ (space : SpaceValue) (c : Context) (functions : List Function) (s : Sta
       let finds = header_finds space.image step.finds.home step.finds.part step.finds.home_describes h names laid (s.ra - 1) in
       rw text (rw step.finds.framed at finds ∙ scans)
 
-  pub met : Met space c s call
-  met =
+  met_keeping : MetKeeping space c s call
+  met_keeping =
       let named : IsOf space.modules step.finds.home = contains_map space.modules step.finds.home step.finds.known in
       let m : Module = named.named in
       let t : FrameInfo = named.frame in
@@ -149,12 +155,15 @@ module _ (space : SpaceValue) (c : Context) (functions : List Function) (s : Sta
       let found : module_at space.modules (s.ra - 1) ≡ Some m = module_at-contains 0 space.modules m (s.ra - 1) apart named.among (leb-true m.start (s.ra - 1) both.0) (ltb-true (s.ra - 1) m.end both.1) in
       found_with m t named.elf (by_kind m t t.kind named.same refl) found
 
+  pub met : Met space c s call
+  met = met_keeping.met
+
   -- The step undoes the call.
   pub step_undone : Undone (step_of space c false) (columns_of c) call.caller
   step_undone = record {
-    next = met.next;
-    answered = step_is space c false ∙ ap (stepped_by space.image c) met.framed ∙ ap some_next met.called;
-    unmarked = met.unmarked;
-    shows = met.shows;
-    others = met.others;
+    next = met_keeping.met.next;
+    answered = step_is space c false ∙ ap (stepped_by space.image c) met_keeping.met.framed ∙ ap some_next met_keeping.met.called;
+    unmarked = met_keeping.met.unmarked;
+    shows = met_keeping.met.shows;
+    others = met_keeping.others;
   }

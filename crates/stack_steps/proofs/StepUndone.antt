@@ -6,6 +6,7 @@ use Rattle.std.specs.List.{Contains, cons_option, filter_map}
 use Rattle.std.proofs.lemmas.Bool.Decides.{nat_tests, eqb_tells}
 use Rattle.std.proofs.lemmas.Bool.{ltb-true}
 use Rattle.unwind_definitions.specs.Caller.{Columns}
+use Rattle.unwind_definitions.specs.Membership.{is_among}
 use Rattle.unwind_definitions.specs.State.{RBX, RBP, R12, R13, R14, R15, State, value_of, Shows, is_followed, KeepsOthers}
 use Rattle.unwind_definitions.specs.Module as described
 use Rattle.unwind_laws.proofs.Booleans as lists
@@ -15,6 +16,7 @@ use Rattle.stack_steps.specs.declared.space.Module.{Module}
 use Rattle.stack_steps.specs.declared.space.ModuleTables.{ModuleTables}
 use Rattle.stack_steps.specs.declared.space.ModuleTables.TheVariants.{Elf, Macho, Pe}
 use Rattle.unwind_arch.specs.ContextViews.{columns_of, context_of, general_columns}
+use Rattle.format_definitions.specs.PeRegisters.{KeepsScratchColumns}
 use Rattle.stack_steps.specs.Modules.{AreApart, module_at}
 use Rattle.stack_steps.specs.SpaceViews.{elf_module, elf_in, elf_of}
 
@@ -87,22 +89,23 @@ general-at f (suc (suc (suc (suc (suc (suc (suc (suc (suc (suc (suc (suc (suc (s
 some_kept : (o : Option ℕ) (v : ℕ) → o ≡ Some v → Some (unwrap_or o 0) ≡ o
 some_kept o v e = rw e refl
 
--- The columns of the context that holds a caller's columns, which show a state and keep the others.
-module _ (old : Context) (caller : Columns) (t : State) (shows : Shows caller t) (others : KeepsOthers (columns_of old) caller) where
+-- The columns of the context that holds a caller's columns, which show a state, have values for RSI and RDI, and keep the others.
+module _ (old : Context) (caller : Columns) (t : State) (shows : Shows caller t) (others : KeepsScratchColumns (columns_of old) caller)
+    (rsi : (v : ℕ) × (caller 4 ≡ Some v)) (rdi : (v : ℕ) × (caller 5 ≡ Some v)) where
   -- each general column has a value
   value_at : (k : ℕ) → k < 16 → (v : ℕ) × (caller k ≡ Some v)
-  value_at zero low = (get_or old.registers 0 0, others 0 refl)
-  value_at (suc zero) low = (get_or old.registers 1 0, others 1 refl)
-  value_at (suc (suc zero)) low = (get_or old.registers 2 0, others 2 refl)
+  value_at zero low = (get_or old.registers 0 0, others 0 refl refl)
+  value_at (suc zero) low = (get_or old.registers 1 0, others 1 refl refl)
+  value_at (suc (suc zero)) low = (get_or old.registers 2 0, others 2 refl refl)
   value_at (suc (suc (suc zero))) low = (value_of RBX t, shows.saved RBX)
-  value_at (suc (suc (suc (suc zero)))) low = (get_or old.registers 4 0, others 4 refl)
-  value_at (suc (suc (suc (suc (suc zero))))) low = (get_or old.registers 5 0, others 5 refl)
+  value_at (suc (suc (suc (suc zero)))) low = rsi
+  value_at (suc (suc (suc (suc (suc zero))))) low = rdi
   value_at (suc (suc (suc (suc (suc (suc zero)))))) low = (value_of RBP t, shows.saved RBP)
   value_at (suc (suc (suc (suc (suc (suc (suc zero))))))) low = (t.sp, shows.sp)
-  value_at (suc (suc (suc (suc (suc (suc (suc (suc zero)))))))) low = (get_or old.registers 8 0, others 8 refl)
-  value_at (suc (suc (suc (suc (suc (suc (suc (suc (suc zero))))))))) low = (get_or old.registers 9 0, others 9 refl)
-  value_at (suc (suc (suc (suc (suc (suc (suc (suc (suc (suc zero)))))))))) low = (get_or old.registers 10 0, others 10 refl)
-  value_at (suc (suc (suc (suc (suc (suc (suc (suc (suc (suc (suc zero))))))))))) low = (get_or old.registers 11 0, others 11 refl)
+  value_at (suc (suc (suc (suc (suc (suc (suc (suc zero)))))))) low = (get_or old.registers 8 0, others 8 refl refl)
+  value_at (suc (suc (suc (suc (suc (suc (suc (suc (suc zero))))))))) low = (get_or old.registers 9 0, others 9 refl refl)
+  value_at (suc (suc (suc (suc (suc (suc (suc (suc (suc (suc zero)))))))))) low = (get_or old.registers 10 0, others 10 refl refl)
+  value_at (suc (suc (suc (suc (suc (suc (suc (suc (suc (suc (suc zero))))))))))) low = (get_or old.registers 11 0, others 11 refl refl)
   value_at (suc (suc (suc (suc (suc (suc (suc (suc (suc (suc (suc (suc zero)))))))))))) low = (value_of R12 t, shows.saved R12)
   value_at (suc (suc (suc (suc (suc (suc (suc (suc (suc (suc (suc (suc (suc zero))))))))))))) low = (value_of R13 t, shows.saved R13)
   value_at (suc (suc (suc (suc (suc (suc (suc (suc (suc (suc (suc (suc (suc (suc zero)))))))))))))) low = (value_of R14 t, shows.saved R14)
@@ -113,20 +116,21 @@ module _ (old : Context) (caller : Columns) (t : State) (shows : Shows caller t)
   holds-special k high = elim (eqb_tells k 16) as (λ d. columns_of (context_of caller) k ≡ caller k) [
     | inl e ↦ let at : k ≡ 16 = e.1 in rw at (some_kept (caller 16) t.ra shows.ra)
     | inr a ↦ elim (eqb_tells k 64) as (λ d. columns_of (context_of caller) k ≡ caller k) [
-      | inl e ↦ let at : k ≡ 64 = e.1 in rw at (some_kept (caller 64) old.mcxsr (others 64 refl))
+      | inl e ↦ let at : k ≡ 64 = e.1 in rw at (some_kept (caller 64) old.mcxsr (others 64 refl refl))
       | inr b ↦ elim (eqb_tells k 65) as (λ d. columns_of (context_of caller) k ≡ caller k) [
-        | inl e ↦ let at : k ≡ 65 = e.1 in rw at (some_kept (caller 65) old.fcw (others 65 refl))
+        | inl e ↦ let at : k ≡ 65 = e.1 in rw at (some_kept (caller 65) old.fcw (others 65 refl refl))
         | inr c ↦
             let free : IsFalse (is_followed k) = grind (arith, nat_tests) in
+            let other : IsFalse (is_among (4 ∷ 5 ∷ []) k) = grind (arith, nat_tests) in
             let none : columns_of old k ≡ None = rw (high, a.0, b.0, c.0) refl in
             let here : columns_of (context_of caller) k ≡ None = rw (high, a.0, b.0, c.0) refl in
-            here ∙ sym (others k free ∙ none)
+            here ∙ sym (others k free other ∙ none)
       ]
     ]
   ]
 
-  pub context_of-holds : (k : ℕ) → columns_of (context_of caller) k ≡ caller k
-  context_of-holds k = go (ltb k 16) refl
+  pub context_of-scratch : (k : ℕ) → columns_of (context_of caller) k ≡ caller k
+  context_of-scratch k = go (ltb k 16) refl
     where
       go : (b : Bool) → ltb k 16 ≡ b → columns_of (context_of caller) k ≡ caller k
       go true low =
@@ -134,3 +138,7 @@ module _ (old : Context) (caller : Columns) (t : State) (shows : Shows caller t)
           let v = value_at k small in
           rw (low, general-at (λ i. unwrap_or (caller i) 0) k small) (some_kept (caller k) v.0 v.1)
       go false high = holds-special k high
+
+-- the same where RSI and RDI are kept too
+pub context_of-holds : (old : Context) (caller : Columns) (t : State) → Shows caller t → KeepsOthers (columns_of old) caller → (k : ℕ) → columns_of (context_of caller) k ≡ caller k
+context_of-holds old caller t shows others k = context_of-scratch old caller t shows (λ j free other. others j free) (get_or old.registers 4 0, others 4 refl) (get_or old.registers 5 0, others 5 refl) k

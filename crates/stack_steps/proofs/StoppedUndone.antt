@@ -30,7 +30,8 @@ use Rattle.stack_steps.specs.Modules.{SpaceValue, AreApart, module_at}
 use Rattle.stack_steps.specs.SpaceViews.{tables_of, elf_module, process_of}
 use Rattle.stack_steps.specs.Stepping.{step_of, FrameAt, Described, frame_of, caller_by}
 use Rattle.stack_steps.specs.Undoing.{Undone}
-use Rattle.stack_steps.specs.Stopped.{StandsInPrologue, StandsInBody, IsDescribedStop}
+use Rattle.format_definitions.specs.FormatStops.{StandsInPrologue, StandsInBody}
+use Rattle.stack_steps.specs.Stopped.{IsDescribedStop}
 use Rattle.stack_steps.proofs.HeaderFinds.{header_finds}
 use Rattle.stack_steps.proofs.StepParts.{some_next, stepped_by, step_is}
 use Rattle.stack_steps.proofs.StepUndone.{IsOf, contains_map, module_at-contains, context_of-holds}

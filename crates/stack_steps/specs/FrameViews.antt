@@ -41,7 +41,7 @@ recorded_frame_of f = Recorded (pe_module f.container) f.rva (lookup_of (functio
 
 -- what was found, and its row, as a frame of the definitions
 abbrev pub IsFrameOf : FoundFrame → RowValue → FrameAt → Type 0
-IsFrameOf (code.Searched found) row due = IsDescribedBy (answered found) (IsRowOf row) due
+IsFrameOf (code.Searched found) row due = IsDescribedBy (answered found.now) (IsRowOf row) due
 IsFrameOf (code.Prepared table frame) row due = IsDescribedBy (prepared_fde table.now frame.fde) (IsKeptRow frame.row) due
 IsFrameOf (code.Compact frame) row due = due ≡ compact_frame_of frame
 IsFrameOf (code.Recorded frame) row due = due ≡ recorded_frame_of frame

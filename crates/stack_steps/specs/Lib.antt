@@ -12,3 +12,4 @@ pub mod Stopped
 pub mod Ticking
 pub mod Undoing
 pub mod FormatViews
+pub mod FormatStopSample

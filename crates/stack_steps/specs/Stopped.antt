@@ -1,30 +1,18 @@
 -- A program that was stopped anywhere in a function, where it stands and not in a call: its state, and its caller.
-use Rattle.std.specs.Prelude.{◌≢◌, ◌⊎◌, ℕ, ◌+◌, ◌<◌, List, length, IsTrue, IsFalse}
+use Rattle.std.specs.Prelude.{◌≢◌, ◌⊎◌, ℕ, ◌+◌, ◌<◌, List, length, IsFalse}
 use Rattle.std.specs.List.{Contains}
-use Rattle.memory_image.specs.Image.{Span}
 use Rattle.unwind_definitions.specs.State.{State, Shows, IsState}
-use Rattle.unwind_definitions.specs.Prologue.{SystemV, PrologueStep, steps_of}
-use Rattle.unwind_definitions.specs.Entered.{IsEntered}
-use Rattle.unwind_definitions.specs.Function.{Function, IsFunction, in_body}
+use Rattle.unwind_definitions.specs.Prologue.{SystemV}
+use Rattle.unwind_definitions.specs.Function.{Function, IsFunction}
 use Rattle.unwind_definitions.specs.Chain.{Call}
 use Rattle.unwind_definitions.specs.Module.{Process}
-use Rattle.unwind_definitions.specs.Stopped.{StandsAfter}
 use Rattle.unwind_definitions.specs.Valid.{IsDescribedChain, LiesDescribed}
 use Rattle.unwind_arch.specs.declared.x86_64.Context.{Context}
 use Rattle.unwind_arch.specs.ContextViews.{columns_of}
+use Rattle.format_definitions.specs.FormatModules.{IsFormatChain}
+use Rattle.format_definitions.specs.FormatStops.{StandsInPrologue, StandsInBody, IsFormatStop}
 use Rattle.stack_steps.specs.Modules.{AreElf, SpaceValue}
-use Rattle.stack_steps.specs.SpaceViews.{process_of}
-
--- A state stands in the prologue of a function, after some of its steps, perhaps none or all, and before the others.
-pub record StandsInPrologue (image : List Span) (s : State) (c : Call) : Type 0 where
-  pub done : List PrologueStep
-  pub later : List PrologueStep
-  pub stands : StandsAfter image c.callee done later c.caller s
-
--- A state stands in the body of a function, which was entered by its whole prologue.
-pub record StandsInBody (image : List Span) (s : State) (c : Call) : Type 0 where
-  pub inside : IsTrue (in_body c.callee s.ra)
-  pub entered : IsEntered image c.callee.outermost (steps_of c.callee.prologue) c.caller s
+use Rattle.stack_steps.specs.SpaceViews.{process_of, formats_of}
 
 -- A state was stopped at an instruction, which its address is, of a listed function that a module describes: in the prologue or
 -- in the body. The function was called from its caller's state, and is not an outermost one.
@@ -44,4 +32,12 @@ pub record StartsStopped (space : SpaceValue) (c : Context) (limit : ℕ) (funct
   pub described : IsDescribedChain (process_of space) functions call.caller calls
   pub shows : Shows (columns_of c) s
   pub elf : AreElf space.modules
+  pub shorter : length calls + 1 < limit
+
+-- The same where modules are of whatever format each: the function was stopped where unwind data of its module's format tell of
+-- it, and its caller's state is the innermost of a chain of calls that the modules describe.
+pub record StartsFormatStop (space : SpaceValue) (c : Context) (limit : ℕ) (functions : List Function) (s : State) (call : Call) (calls : List Call) : Type 0 where
+  pub stopped : IsFormatStop space.image (formats_of space) functions s call
+  pub described : IsFormatChain space.image (formats_of space) functions call.caller calls
+  pub shows : Shows (columns_of c) s
   pub shorter : length calls + 1 < limit

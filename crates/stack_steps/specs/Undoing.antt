@@ -11,6 +11,7 @@ use Rattle.unwind_definitions.specs.Valid.{LiesDescribed}
 use Rattle.unwind_arch.specs.ContextViews.{columns_of}
 use Rattle.stack_steps.specs.declared.answers.Stepped.{Stepped}
 use Rattle.stack_steps.specs.declared.answers.DeliverError.{DeliverError}
+use Rattle.format_definitions.specs.FormatModules.{FormatModule, KeepsIn}
 
 -- A state is stopped in the body of a listed function, which was called from its caller's state and which a module describes.
 -- The caller of an outermost function has the return address 0.
@@ -29,3 +30,11 @@ pub record Undone (result : Result (Option Stepped) DeliverError) (columns : Col
   pub unmarked : next.signal ≡ false
   pub shows : Shows (columns_of next.context) t
   pub others : KeepsOthers columns (columns_of next.context)
+
+-- The same of a step from a frame in a module of whatever format: what it keeps goes by the format.
+pub record UndoneIn (home : FormatModule) (result : Result (Option Stepped) DeliverError) (columns : Columns) (t : State) : Type 0 where
+  pub next : Stepped
+  pub answered : result ≡ Ok (Some next)
+  pub unmarked : next.signal ≡ false
+  pub shows : Shows (columns_of next.context) t
+  pub others : KeepsIn home columns (columns_of next.context)

@@ -4,17 +4,20 @@ ghost use Rattle.fde_finders.specs.FoundViews.{answered};
 ghost use Rattle.frame_rows.specs.RowValue.{RowValue};
 ghost use Rattle.unwinding_frames.specs.LanguageViews.{action_of};
 ghost use Rattle.stack_steps.specs.Asking.{action_asked, described_action};
-ghost use Rattle.stack_steps.specs.FrameViews.{IsFrameOf};
+ghost use Rattle.stack_steps.specs.FrameViews.{IsFrameOf, prepared_fde};
 ghost use Rattle.stack_steps.specs.Results.{result_map};
 ghost use Rattle.stack_steps.specs.Stepping.{FrameAt};
 
 use crate::answers::{DeliverError, Stepped};
+use crate::prepared::PreparedTable;
 use crate::stepping::FoundFrame;
+use eh_frame::PreparedFrame;
 use fde_finders::FDESearchResult;
 use memory_image::MemoryImage;
 use unwinding_frames::{EhAction, eh_action_of, personality_of};
 
 /// What is asked by a description.
+#[inline(always)]
 fn described_asked(
     image: &MemoryImage<'_>,
     state: &Stepped,
@@ -27,6 +30,37 @@ fn described_asked(
         None => Ok(EhAction::None),
         Some(_) => Ok(eh_action_of(found, image, state.address()).unwrap_or(EhAction::Terminate)),
     }
+}
+
+/// What is asked by a description that an index found. One that names no personality isn't copied.
+fn prepared_asked(
+    image: &MemoryImage<'_>,
+    state: &Stepped,
+    table: &PreparedTable<'_>,
+    frame: &PreparedFrame<'_, '_>,
+) -> Result<EhAction, DeliverError>
+    ensures { result_map action_of result ≡ described_action image.now state.now.context
+        state.now.signal (prepared_fde table.now frame.now.fde) }
+{
+    if frame.has_personality() {
+        copied_asked(image, state, table, frame)
+    } else {
+        Ok(EhAction::None)
+    }
+}
+
+/// The same by a copy of the description, which is large.
+#[inline(never)]
+fn copied_asked(
+    image: &MemoryImage<'_>,
+    state: &Stepped,
+    table: &PreparedTable<'_>,
+    frame: &PreparedFrame<'_, '_>,
+) -> Result<EhAction, DeliverError>
+    ensures { result_map action_of result ≡ described_action image.now state.now.context
+        state.now.signal (prepared_fde table.now frame.now.fde) }
+{
+    described_asked(image, state, &table.search_result(frame))
 }
 
 /// What the language of a frame asks. A language table that can't be read ends the program, but
@@ -48,9 +82,7 @@ pub fn asked(
 {
     match frame {
         FoundFrame::Searched(found) => described_asked(image, state, found),
-        FoundFrame::Prepared(table, frame) => {
-            described_asked(image, state, &table.search_result(frame))
-        }
+        FoundFrame::Prepared(table, frame) => prepared_asked(image, state, table, frame),
         FoundFrame::Compact(frame) => frame.asked(),
         FoundFrame::Recorded(frame) => frame.asked(image),
     }

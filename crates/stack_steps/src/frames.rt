@@ -48,6 +48,7 @@ impl CompactFrame {
     }
 
     /// Its caller, by the opcode of the function. A row that it asks for is made in `rows`.
+    #[inline(never)]
     pub(crate) fn caller<'a>(
         &self,
         image: &MemoryImage<'a>,
@@ -79,6 +80,7 @@ pub struct RecordedFrame<'a> {
 impl<'a> RecordedFrame<'a> {
     /// What the function asks. A function whose unwind records name a handler is refused; all of
     /// them are read.
+    #[inline(never)]
     pub(crate) fn asked(&self, image: &MemoryImage<'_>) -> Result<EhAction, DeliverError>
         ensures { (c : Registers) (interrupted : Bool) → result_map action_of result
             ≡ action_asked image.now c interrupted (recorded_frame_of self.now) }
@@ -91,6 +93,7 @@ impl<'a> RecordedFrame<'a> {
     }
 
     /// Its caller, by the unwind records of the function.
+    #[inline(never)]
     pub(crate) fn caller(
         &self,
         image: &MemoryImage<'_>,
@@ -109,6 +112,7 @@ impl<'a> RecordedFrame<'a> {
 }
 
 /// The frame at an address of a Mach-O module.
+#[inline(never)]
 pub(crate) fn compact_frame<'f, 'a>(
     image: &MemoryImage<'a>,
     address: u64,
@@ -139,6 +143,7 @@ pub(crate) fn compact_frame<'f, 'a>(
 }
 
 /// The frame at an address of a PE module.
+#[inline(never)]
 pub(crate) fn recorded_frame<'f, 'a>(
     image: &MemoryImage<'a>,
     address: u64,

@@ -1,5 +1,5 @@
 // An image of memory, and the modules that lie in it.
-ghost use Rattle.std.specs.Prelude.{◌≡◌, ◌<◌, [], None, IfOk, IfSome, MatchOption, ◌-◌, ◌≤◌, true};
+ghost use Rattle.std.specs.Prelude.{◌≡◌, ◌<◌, [], None, Some, IfOk, IfSome, MatchOption, ◌-◌, ◌≤◌, true};
 ghost use Rattle.std.specs.Prelude.{IsOkUnless, OnOk, OnErr};
 ghost use Rattle.std.specs.List.{Contains};
 ghost use Rattle.std.specs.Option.{option_map};
@@ -7,7 +7,7 @@ ghost use Rattle.memory_image.specs.Image.{IsLaidOut};
 ghost use Rattle.stack_steps.specs.Modules.{module_refusal, lowest_shared, module_at, module_of};
 ghost use Rattle.stack_steps.specs.Modules.{modules_in, AreApart, last_below, first_between};
 ghost use Rattle.stack_steps.specs.Modules.{with_added, FitsIn, sized, sized_refusal, macho_sized};
-ghost use Rattle.stack_steps.specs.Modules.{pe_sized, fits, given_refusal};
+ghost use Rattle.stack_steps.specs.Modules.{pe_sized, fits, given_refusal, contains};
 ghost use Rattle.stack_steps.specs.declared.space.ModuleTables.TheVariants.{Elf};
 
 use crate::prepared::{Left, MOST, PreparedTable, keep, tables_for};
@@ -26,6 +26,15 @@ pub struct Module {
     pub end: u64,
     /// Where its tables lie.
     pub tables: ModuleTables,
+}
+
+impl Module {
+    /// Whether it contains the address.
+    fn contains(&self, address: u64) -> bool
+        ensures { result ≡ contains self.now address }
+    {
+        self.start <= address && address < self.end
+    }
 }
 
 /// Where the tables of a module lie, by its format.
@@ -348,15 +357,54 @@ impl<'a> Space<'a> {
         ensures within { IfSome result (λ held. (held.now.holder.start ≤ address) ×
             (address < held.now.holder.end)) }
     {
+        self.held_near(address, &mut 0)
+    }
+
+    /// The same. The module at the place `near` in the order of adding is tried first, and the place
+    /// becomes that of the module that is found by a search.
+    pub(crate) fn held_near(&self, address: u64, near: &mut usize) -> Option<&Held<'a>>
+        ensures module { option_map (λ held. holder_of held.now) result ≡
+            module_at self.now.modules address }
+        ensures index { MatchOption result (index_at self.now.added address ≡ None)
+            (λ held. index_at self.now.added address ≡ (added_of held.now).index) }
+        ensures table { IfSome result (λ held. IsHeld self.now.image held.now) }
+        ensures within { IfSome result (λ held. (held.now.holder.start ≤ address) ×
+            (address < held.now.holder.end)) }
+    {
+        if let Some(held) = self.held_there(address, *near) {
+            return Some(held);
+        }
         match last_below(&self.modules, address) {
             Some((_, extent)) => {
                 if address < extent.end {
+                    *near = extent.place;
                     Some(&self.added[extent.place])
                 } else {
                     None
                 }
             }
             None => None,
+        }
+    }
+
+    /// The module at a place in the order of adding, if there is one and it contains the address.
+    fn held_there(&self, address: u64, place: usize) -> Option<&Held<'a>>
+        ensures module { IfSome result (λ held.
+            module_at self.now.modules address ≡ Some (holder_of held.now)) }
+        ensures index { IfSome result (λ held.
+            index_at self.now.added address ≡ (added_of held.now).index) }
+        ensures table { IfSome result (λ held. IsHeld self.now.image held.now) }
+        ensures within { IfSome result (λ held. (held.now.holder.start ≤ address) ×
+            (address < held.now.holder.end)) }
+    {
+        if place >= self.added.len() {
+            return None;
+        }
+        let held = &self.added[place];
+        if held.holder.contains(address) {
+            Some(held)
+        } else {
+            None
         }
     }
 

@@ -1,6 +1,6 @@
 // From a frame to its caller, by the tables of the module that holds it.
-ghost use Rattle.std.specs.Prelude.{◌≡◌, ◌≢◌, ◌↔◌, ◌<◌, ◌≤◌, ℕ, List, length, Some, None, Ok, Err};
-ghost use Rattle.std.specs.Prelude.{IsTrue, IsFalse, OnErr};
+ghost use Rattle.std.specs.Prelude.{◌≡◌, ◌≢◌, ◌↔◌, ◌<◌, ◌≤◌, ◌^◌, ℕ, List, length, Some, None, Ok};
+ghost use Rattle.std.specs.Prelude.{Err, IsTrue, IsFalse, OnErr};
 ghost use Rattle.memory_image.specs.Image.{Span, word_at, IsLaidOut};
 ghost use Rattle.unwind_definitions.specs.declared.error.Error.{Error as Fault};
 ghost use Rattle.unwind_definitions.specs.State.{State, Shows};
@@ -14,11 +14,13 @@ ghost use Rattle.fde_finders.specs.Named.{found_by, pairs_by};
 ghost use Rattle.frame_rows.specs.RowValue.{RowValue};
 ghost use Rattle.frame_rows.specs.Rows.{IsRowOf};
 ghost use Rattle.macho_unwind_info.specs.declared.error.Error.{Error as MachoFault};
+ghost use Rattle.format_definitions.specs.FormatCalls.{IsFormatCall};
+ghost use Rattle.format_definitions.specs.FormatStops.{IsFormatStop};
 ghost use Rattle.stack_steps.specs.Asking.{arguments_of};
 ghost use Rattle.stack_steps.specs.Held.{IsHeld, IsTableOf, added_of};
 ghost use Rattle.stack_steps.specs.Modules.{AreApart, IsPlaced};
 ghost use Rattle.stack_steps.specs.Preparing.{prepared_len};
-ghost use Rattle.stack_steps.specs.SpaceViews.{process_of};
+ghost use Rattle.stack_steps.specs.SpaceViews.{process_of, formats_of};
 ghost use Rattle.stack_steps.specs.FrameViews.{IsFrameOf, GivesFrameAt};
 ghost use Rattle.stack_steps.specs.Ticking.{IsScannedAt, RisesBySearch, TicksAt, TicksIn};
 ghost use Rattle.stack_steps.specs.Ticking.{searched_at, pairs_in};
@@ -28,7 +30,7 @@ ghost use Rattle.stack_steps.specs.Stepping.{step_of, GivesCaller, EndsAt, Fault
 ghost use Rattle.stack_steps.specs.Stepping.{ReadIsUnmapped, DescribedFrame, described_caller};
 ghost use Rattle.stack_steps.specs.Stepping.{IsUnreadSection, IsWithoutForm, IsUnreadInfo};
 ghost use Rattle.stack_steps.specs.Stepping.{IsChainedTooLong};
-ghost use Rattle.stack_steps.specs.Undoing.{IsDescribedCall, Undone};
+ghost use Rattle.stack_steps.specs.Undoing.{IsDescribedCall, Undone, UndoneIn};
 ghost use Rattle.stack_steps.specs.Stopped.{IsDescribedStop};
 
 use crate::answers::{DeliverError, Stepped};
@@ -53,8 +55,9 @@ impl Stepped {
 /// A frame of the stack: what was found for the address asked of it.
 #[derive(Drop)]
 pub enum FoundFrame<'f, 'a> {
-    /// In an ELF module by a search of its tables. Its row was made in the room for rows.
-    Searched(FDESearchResult<'a>),
+    /// In an ELF module by a search of its tables, lent from the place for it, as it is large. Its row
+    /// was made in the room for rows.
+    Searched(&'f FDESearchResult<'a>),
     /// By the index of a prepared module, which lends its row.
     Prepared(&'f PreparedTable<'a>, PreparedFrame<'f, 'a>),
     /// In a Mach-O module.
@@ -80,11 +83,26 @@ impl<'f, 'a> FoundFrame<'f, 'a> {
     }
 }
 
+/// Puts what was found into the place for it, and lends it.
+fn lent<'f, 'a>(
+    place: &'f mut Option<FDESearchResult<'a>>,
+    found: FDESearchResult<'a>,
+) -> &'f FDESearchResult<'a>
+    ensures { result.now ≡ found.entry }
+{
+    *place = Some(found);
+    match place {
+        Some(found) => found,
+        None => unreachable!(),
+    }
+}
+
 /// The frame at an address of an ELF module, by its frame tables. The row is made in `rows`.
 fn searched_frame<'f, 'a, L: Ledger>(
     image: &MemoryImage<'a>,
     address: u64,
     tables: FrameInfo,
+    place: &'f mut Option<FDESearchResult<'a>>,
     rows: &mut RowRoom<'a>,
     steps: &mut Steps<L>,
 ) -> Result<Option<FoundFrame<'f, 'a>>, DeliverError>
@@ -96,7 +114,7 @@ fn searched_frame<'f, 'a, L: Ledger>(
         return Ok(None);
     };
     match found.make_row(address, rows) {
-        Ok(()) => Ok(Some(FoundFrame::Searched(found))),
+        Ok(()) => Ok(Some(FoundFrame::Searched(lent(place, found)))),
         Err(fault) => Err(DeliverError::Table(fault)),
     }
 }
@@ -123,10 +141,12 @@ fn prepared_frame<'f, 'a, L: Ledger>(
 }
 
 /// The frame at an address of a module that isn't prepared. Here the kinds of modules part.
+#[inline(never)]
 fn unprepared_frame<'f, 'a, L: Ledger>(
     image: &MemoryImage<'a>,
     address: u64,
     holder: &Module,
+    place: &'f mut Option<FDESearchResult<'a>>,
     rows: &mut RowRoom<'a>,
     steps: &mut Steps<L>,
 ) -> Result<Option<FoundFrame<'f, 'a>>, DeliverError>
@@ -138,7 +158,7 @@ fn unprepared_frame<'f, 'a, L: Ledger>(
         steps.new.number }
 {
     match holder.tables {
-        ModuleTables::Elf(tables) => searched_frame(image, address, tables, rows, steps),
+        ModuleTables::Elf(tables) => { searched_frame(image, address, tables, place, rows, steps) }
         ModuleTables::Macho(tables) => compact_frame(image, address, holder, tables),
         ModuleTables::Pe(tables) => recorded_frame(image, address, holder, tables),
     }
@@ -149,6 +169,7 @@ fn frame_in<'f, 'a, L: Ledger>(
     image: &MemoryImage<'a>,
     address: u64,
     holder: &'f Held<'a>,
+    place: &'f mut Option<FDESearchResult<'a>>,
     rows: &mut RowRoom<'a>,
     steps: &mut Steps<L>,
 ) -> Result<Option<FoundFrame<'f, 'a>>, DeliverError>
@@ -162,16 +183,21 @@ fn frame_in<'f, 'a, L: Ledger>(
 {
     match &holder.table {
         Some(table) => prepared_frame(table, address, steps),
-        None => unprepared_frame(image, address, &holder.holder, rows, steps),
+        None => unprepared_frame(image, address, &holder.holder, place, rows, steps),
     }
 }
 
-/// The frame at a state: what was found for the address asked, `None` at the end of the stack. A row
-/// that isn't lent by an index is made in `rows`.
+/// The frame at a state: what was found for the address asked, `None` at the end of the stack. What
+/// isn't lent by an index is put into `place`, and its row made in `rows`.
+///
+/// `near` is where the module may stand in the order of adding. It changes no answer: who goes from
+/// frame to frame keeps it, so that the module of the frame before is tried first.
 #[tactic(auto, unfolding(crate::specs::Stepping::frame_of))]
 pub fn frame_at<'f, 'a, L: Ledger>(
     space: &'f Space<'a>,
     state: &Stepped,
+    near: &mut usize,
+    place: &'f mut Option<FDESearchResult<'a>>,
     rows: &mut RowRoom<'a>,
     steps: &mut Steps<L>,
 ) -> Result<Option<FoundFrame<'f, 'a>>, DeliverError>
@@ -182,8 +208,10 @@ pub fn frame_at<'f, 'a, L: Ledger>(
 {
     let image = space.image();
     let address = state.address();
-    match space.held_at(address) {
-        Some(holder) if state.context.ra != 0 => frame_in(image, address, holder, rows, steps),
+    match space.held_near(address, near) {
+        Some(holder) if state.context.ra != 0 => {
+            frame_in(image, address, holder, place, rows, steps)
+        }
         _ => Ok(None),
     }
 }
@@ -191,6 +219,7 @@ pub fn frame_at<'f, 'a, L: Ledger>(
 /// Puts the caller of a frame by a description, whose row is given, in the place of its state.
 /// After a fault the state is as before. `signal` says whether the description is of a signal's
 /// frame, and `stack` is a window over the image.
+#[inline(always)]
 fn leave_described(
     stack: &mut Window<'_, '_>,
     state: &mut Stepped,
@@ -261,6 +290,7 @@ fn stepped<L: Ledger>(
     ensures exact { result ≡ step_of space.now context.now interrupted }
     ensures apart { AreApart 0 space.now.modules }
     ensures laid_out { IsLaidOut 0 space.now.image }
+    ensures word { context.now.ra < 2 ^ 64 }
     ensures ticks { TicksAt space.now context.now interrupted steps.old.number steps.new.number }
 {
     let image = space.image();
@@ -270,7 +300,8 @@ fn stepped<L: Ledger>(
         context: *context,
         signal: interrupted,
     };
-    let Some(frame) = frame_at(space, &state, &mut rows, steps)? else {
+    let mut place = None;
+    let Some(frame) = frame_at(space, &state, &mut 0, &mut place, &mut rows, steps)? else {
         return Ok(None);
     };
     leave(&mut stack, &mut state, &frame, &mut rows)?;
@@ -335,6 +366,16 @@ pub fn step<L: Ledger>(
         IsDescribedStop (process_of space.now) functions s call →
         Shows (columns_of context.now) s → IsTrue interrupted →
         Undone result (columns_of context.now) call.caller }
+    // Both in a module of whatever format: a call, and a stop in the body of a function of any, in
+    // the prologue of one of an ELF or a PE module, or in an epilog of one of a PE module.
+    ensures undone_in { (functions : List Function) (s : State) (call : Call) →
+        (calls : IsFormatCall space.now.image (formats_of space.now) functions s call) →
+        Shows (columns_of context.now) s → IsFalse interrupted →
+        UndoneIn calls.lies.home result (columns_of context.now) call.caller }
+    ensures stopped_in { (functions : List Function) (s : State) (call : Call) →
+        (stop : IsFormatStop space.now.image (formats_of space.now) functions s call) →
+        Shows (columns_of context.now) s → IsTrue interrupted →
+        UndoneIn stop.lies.home result (columns_of context.now) call.caller }
     // A search takes as many steps at most as there are binary digits in the length of what is
     // searched: the index of a prepared module, or else the table of a header.
     ensures ticks { RisesBySearch (searched_at space.now context.now interrupted) steps.old.number

@@ -2,7 +2,15 @@
 //! stands in a contract here is proved.
 
 ghost use Rattle.std.specs.Prelude.{◌∷◌, [], ◌≡◌};
+ghost use Rattle.memory_image.specs.Image.{IsLaidOut};
 ghost use Rattle.unwind_laws.specs.Pushing as pushing;
+ghost use Rattle.format_definitions.specs.FormatCalls.{IsFormatCall};
+ghost use Rattle.format_definitions.specs.FormatStops.{IsFormatStop};
+ghost use Rattle.format_laws.specs.FormatSample as mixed;
+ghost use Rattle.format_laws.specs.PeSamples.{epilog_function, epilog_start, epilog_state};
+ghost use Rattle.stack_steps.specs.FormatStopSample.{space_of_three, space_with_epilog};
+ghost use Rattle.stack_steps.specs.Modules.{AreApart};
+ghost use Rattle.stack_steps.specs.SpaceViews.{formats_of};
 ghost use Rattle.stack_steps.specs.Stopped.{IsDescribedStop, StartsStopped};
 ghost use Rattle.stack_steps.specs.StopSample.{process, function, call, before_steps, after_push};
 ghost use Rattle.stack_steps.specs.StopSample.{after_set, after_late_push, after_allocation};
@@ -29,4 +37,24 @@ pub fn walks_from_stops_are_described()
         (pushing.state 0x401000 0x7000 9) before_push [] }
     ensures body { StartsStopped pushing_space (stopped_at 0x401006) 2 (pushing.function ∷ [])
         pushing.start after_the_push [] }
+{}
+
+/// A call of a Mach-O function by one of a PE module is described over a space with modules of three
+/// formats, and so are stops in their bodies and in the prologue of the PE function, and over a
+/// space with another PE module stops in the epilog of its function.
+pub fn calls_and_stops_in_formats_are_described()
+    ensures laid_out { IsLaidOut 0 space_of_three.image }
+    ensures apart { AreApart 0 space_of_three.modules }
+    ensures called { IsFormatCall space_of_three.image (formats_of space_of_three)
+        mixed.functions mixed.caught_start mixed.caught_frameless }
+    ensures macho_body { IsFormatStop space_of_three.image (formats_of space_of_three)
+        mixed.functions mixed.caught_start mixed.caught_frameless }
+    ensures pe_body { IsFormatStop space_of_three.image (formats_of space_of_three)
+        mixed.functions mixed.caught_room mixed.caught_pushing }
+    ensures pe_prologue { IsFormatStop space_of_three.image (formats_of space_of_three)
+        mixed.functions mixed.pushed_room mixed.caught_pushing }
+    ensures before_pop { IsFormatStop space_with_epilog.image (formats_of space_with_epilog)
+        (epilog_function ∷ []) epilog_start mixed.epilog_call }
+    ensures after_pop { IsFormatStop space_with_epilog.image (formats_of space_with_epilog)
+        (epilog_function ∷ []) epilog_state mixed.epilog_call }
 {}

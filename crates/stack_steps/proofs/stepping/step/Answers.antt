@@ -1,10 +1,11 @@
-use Rattle.std.proofs.Common.{◌≡◌, true, false, sym, subst, ◌∙◌, Result, Option}
+use Rattle.std.proofs.Common.{◌≡◌, ℕ, ◌^◌, ◌<◌, true, false, sym, subst, ◌∙◌, Result, Option, Some}
 use Rattle.stack_steps.specs.declared.answers.DeliverError.{DeliverError}
 use Rattle.stack_steps.specs.declared.answers.Stepped.{Stepped}
 use Rattle.unwind_arch.specs.ContextViews.{columns_of}
-use Rattle.stack_steps.specs.Undoing.{Undone}
+use Rattle.stack_steps.specs.Undoing.{Undone, UndoneIn}
 use Rattle.stack_steps.specs.Stepping.{step_of}
 use Rattle.stack_steps.proofs.Counted.{index_is_searched, scan_is_free, ticks_rise}
+use Rattle.stack_steps.proofs.FormatMet.{format_undone, format_stopped}
 use Rattle.stack_steps.proofs.MetFrames.{step_undone}
 use Rattle.stack_steps.proofs.StoppedUndone.{stopped_undone}
 use Rattle.stack_steps.proofs.StepAnswers.{step_ends, ends_step, step_unmapped, step_read, read_step, step_table, table_step, step_caller, caller_step}
@@ -20,6 +21,21 @@ pub returns-clause-stopped : goal.returns-clause-stopped
 returns-clause-stopped g c functions s call is shows marked =
     let at : step_of c.args.space.now c.args.context.now true ≡ c.stepped.result = sym (rw marked at c.stepped.ensures.exact) in
     subst (λ (r : Result (Option Stepped) DeliverError). Undone r (columns_of c.args.context.now) call.caller) at (stopped_undone c.args.space.now c.args.context.now s call c.stepped.ensures.apart c.stepped.ensures.laid_out is.returns shows functions is)
+
+pub returns-clause-undone_in : goal.returns-clause-undone_in
+returns-clause-undone_in g c functions s call calls shows called =
+    let at : step_of c.args.space.now c.args.context.now false ≡ c.stepped.result = sym (rw called at c.stepped.ensures.exact) in
+    let ra : columns_of c.args.context.now 16 ≡ Some s.ra = shows.ra in
+    let same : c.args.context.now.ra ≡ s.ra = cc in
+    let low : s.ra < 2 ^ 64 = subst (λ (ra : ℕ). ra < 2 ^ 64) same c.stepped.ensures.word in
+    subst (λ (r : Result (Option Stepped) DeliverError). UndoneIn calls.lies.home r (columns_of c.args.context.now) call.caller) at
+    (format_undone c.args.space.now c.args.context.now functions s call c.stepped.ensures.apart c.stepped.ensures.laid_out calls shows low)
+
+pub returns-clause-stopped_in : goal.returns-clause-stopped_in
+returns-clause-stopped_in g c functions s call stop shows marked =
+    let at : step_of c.args.space.now c.args.context.now true ≡ c.stepped.result = sym (rw marked at c.stepped.ensures.exact) in
+    subst (λ (r : Result (Option Stepped) DeliverError). UndoneIn stop.lies.home r (columns_of c.args.context.now) call.caller) at
+    (format_stopped c.args.space.now c.args.context.now functions s call c.stepped.ensures.apart c.stepped.ensures.laid_out stop shows)
 
 pub returns-clause-ends : goal.returns-clause-ends
 returns-clause-ends g c = (λ e. step_ends c.args.space.now c.args.context.now c.args.interrupted (sym c.stepped.ensures.exact ∙ e), λ ends. c.stepped.ensures.exact ∙ ends_step c.args.space.now c.args.context.now c.args.interrupted ends)
