@@ -7,8 +7,8 @@ use Rattle.command_ends.specs.declared.status.Status.{Status}
 use Rattle.command_ends.specs.declared.status.Status.TheVariants.{Done, TooLong}
 use Rattle.command_ends.specs.Verdicts.{verdict, IsReadyOrFailed}
 use Rattle.stack_steps.specs.Modules.{SpaceValue}
-use Rattle.stack_deliver.specs.Fronts.{started}
-use Rattle.stack_deliver.proofs.FrontAnswers.{one_front}
+use Rattle.stack_walks.specs.Fronts.{started}
+use Rattle.stack_walks.proofs.FrontAnswers.{one_front}
 use Rattle.stack_snapshot.specs.declared.errors.SnapshotError.{SnapshotError}
 use Rattle.stack_snapshot.specs.declared.errors.SnapshotError.TheVariants as faults
 use Rattle.stack_snapshot.specs.Answers.{content_of, value_of}

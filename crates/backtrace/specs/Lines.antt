@@ -6,8 +6,8 @@ use Rattle.unwind_definitions.specs.State.{State}
 use Rattle.unwind_definitions.specs.declared.error.Error.{Error}
 use Rattle.unwind_definitions.specs.LanguageSearch.{address_of_call}
 use Rattle.unwind_arch.specs.declared.x86_64.Context.{Context}
-use Rattle.stack_deliver.specs.declared.front.Front.{Front}
-use Rattle.stack_deliver.specs.declared.front.Front.TheVariants.{Outermost, NoModule, NoDescription, UnreadableTable, Refused, Limit}
+use Rattle.stack_walks.specs.declared.front.Front.{Front}
+use Rattle.stack_walks.specs.declared.front.Front.TheVariants.{Outermost, NoModule, NoDescription, UnreadableTable, Refused, Limit}
 use Rattle.stack_deliver.specs.StateViews.{state_of}
 use Rattle.stack_snapshot.specs.Origins.{OriginValue, origin_at, file_name}
 use Rattle.stack_snapshot.specs.declared.errors.Field.{Field}

@@ -3,9 +3,9 @@ use Rattle.std.specs.Prelude.{◌≡◌, ℕ, ◌+◌, ◌-◌, ◌%◌, ◌^◌
 use Rattle.memory_image.specs.Image.{Span, word_at}
 use Rattle.unwind_arch.specs.declared.x86_64.Context.{Context}
 use Rattle.unwind_arch.specs.Columns as column
-use Rattle.stack_deliver.specs.declared.front.Front.{Front}
+use Rattle.stack_walks.specs.declared.front.Front.{Front}
 use Rattle.stack_steps.specs.Modules.{SpaceValue, module_at}
-use Rattle.stack_deliver.specs.Fronts.{ComesTo, front_of}
+use Rattle.stack_walks.specs.Fronts.{ComesTo, front_of}
 
 -- the registers after a return to an address: it is popped, and every other register stays
 abbrev pub returned_to : Context → ℕ → Context

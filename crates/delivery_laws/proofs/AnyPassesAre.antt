@@ -26,12 +26,13 @@ use Rattle.unwinding_frames.specs.Seen.{Thrown}
 use Rattle.stack_deliver.specs.declared.answers.Outcome.TheVariants.{FatalPhase1}
 use Rattle.stack_steps.specs.declared.answers.DeliverError.{DeliverError}
 use Rattle.stack_steps.specs.declared.answers.DeliverError.TheVariants.{CompactHandler, FrameLimit, PassLimit, PeHandler}
-use Rattle.stack_deliver.specs.declared.passes.Phase.{Phase}
-use Rattle.stack_deliver.specs.declared.passes.Phase.TheVariants as phase
+use Rattle.stack_walks.specs.declared.outward.Phase.{Phase}
+use Rattle.stack_walks.specs.declared.outward.Phase.TheVariants as phase
 use Rattle.delivery_laws.specs.AnyPasses.{marked, no_routine, undoing_in, sees_in, stepping_in, rust_in, answer_left, Search, TakenBy, Untaken, search_end, search_stop, search_line, search_of, pass_end, FollowedBy, ResumedBy, IsSearchBy, IsPassBy, ArePassesBy, IsDeliveredAfter, IsDeliveredBy, IsDeliveryBy}
 use Rattle.stack_steps.specs.Modules.{SpaceValue}
 use Rattle.stack_steps.specs.Asking.{action_if_named, action_asked, arguments_of, or_terminate, recorded_action, unless_handled}
-use Rattle.stack_deliver.specs.Passes.{Line, Stop, Turn, Ends, Stops, Goes, stops, stop_by, turn_at, turn_in, turn_for, line_turn, line_for, pass_of, past_arguments, pad_of, enters, kept_at, with_context, PassEnd, Finishes, Elsewhere, end_at, end_by, end_of, cleanup_of, landed, cleanup_at, resume_at, CleanupsRun, with_cleanup, resumed, followed, passes_of}
+use Rattle.stack_walks.specs.Turns.{Line, Stop, Turn, Ends, Stops, Goes, stops, stop_by, turn_at, turn_in, turn_for, line_turn, line_for, pass_of, past_arguments, pad_of, enters, kept_at, with_context}
+use Rattle.stack_deliver.specs.Passes.{PassEnd, Finishes, Elsewhere, end_at, end_by, end_of, cleanup_of, landed, cleanup_at, resume_at, CleanupsRun, with_cleanup, resumed, followed, passes_of}
 use Rattle.stack_deliver.specs.StackDelivery.{DeliveryValue, delivery_after, delivery_at, delivery_to, delivery_by, stack_delivery}
 use Rattle.stack_deliver.specs.Resumes.{return_of}
 use Rattle.delivery_laws.specs.Personality.{InCleanup, IsAsked, AnswersCleanup, answer_for}

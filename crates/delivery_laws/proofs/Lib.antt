@@ -1,3 +1,4 @@
 pub mod AnyPassesAre
 pub mod PersonalityAsks
 pub mod SameAnswers
+pub mod FormatStarts

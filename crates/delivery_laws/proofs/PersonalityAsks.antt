@@ -14,9 +14,9 @@ use Rattle.unwinding_frames.specs.declared.abi.UnwindReasonCode.{UnwindReasonCod
 use Rattle.unwinding_frames.specs.declared.abi.TheConstants.UnwindReasonCode.{CONTINUE_UNWIND, HANDLER_FOUND}
 use Rattle.unwinding_frames.specs.Personalities.{Asked, Answer, landed, searched, answered_by}
 use Rattle.stack_steps.specs.declared.answers.DeliverError.{DeliverError}
-use Rattle.stack_deliver.specs.declared.passes.Phase.TheVariants as phase
+use Rattle.stack_walks.specs.declared.outward.Phase.TheVariants as phase
 use Rattle.stack_steps.specs.Asking.{or_terminate, action_if_named}
-use Rattle.stack_deliver.specs.Passes.{enters, stops, pad_of}
+use Rattle.stack_walks.specs.Turns.{enters, stops, pad_of}
 use Rattle.delivery_laws.specs.Personality.{landing_columns, InSearch, InCleanup, IsAsked, AnswersCleanup, answer_for, code_of}
 use Rattle.stack_steps.proofs.ContextLemmas.{IsWhole, Holds, with_column-holds}
 

@@ -4,12 +4,14 @@ use Rattle.unwind_arch.specs.declared.x86_64.Context.{Context}
 use Rattle.stack_steps.specs.declared.answers.DeliverError.{DeliverError}
 use Rattle.stack_steps.specs.declared.answers.DeliverError.TheVariants.{PassLimit}
 use Rattle.stack_steps.specs.declared.answers.Stepped.{Stepped}
-use Rattle.stack_deliver.specs.declared.answers.Trail.{Trail}
-use Rattle.stack_deliver.specs.declared.passes.Phase.{Phase}
-use Rattle.stack_deliver.specs.declared.passes.Phase.TheVariants as phase
-use Rattle.stack_deliver.specs.StackDelivery.{delivery_at, delivery_by, delivery_to, stack_delivery, line_after, line_of, with_first}
+use Rattle.stack_walks.specs.declared.room.Trail.{Trail}
+use Rattle.stack_walks.specs.declared.outward.Phase.{Phase}
+use Rattle.stack_walks.specs.declared.outward.Phase.TheVariants as phase
+use Rattle.stack_walks.specs.Lines.{line_after, line_of, with_first}
+use Rattle.stack_deliver.specs.StackDelivery.{delivery_at, delivery_by, delivery_to, stack_delivery}
 use Rattle.stack_steps.specs.Modules.{Added, SpaceValue}
-use Rattle.stack_deliver.specs.Passes.{Ends, Stops, Goes, Elsewhere, Finishes, Line, CleanupsRun, PassEnd, Stop, Turn, cleanup_at, cleanup_of, end_of, followed, kept_at, line_for, line_turn, pad_of, pass_of, passes_of, resume_at, resumed, turn_for, with_cleanup, with_context}
+use Rattle.stack_walks.specs.Turns.{Ends, Stops, Goes, Line, Stop, Turn, kept_at, line_for, line_turn, pad_of, pass_of, turn_for, with_context}
+use Rattle.stack_deliver.specs.Passes.{Elsewhere, Finishes, CleanupsRun, PassEnd, cleanup_at, cleanup_of, end_of, followed, passes_of, resume_at, resumed, with_cleanup}
 use Rattle.stack_deliver.specs.Resumes.{return_of}
 use Rattle.stack_steps.specs.Stepping.{frame_of, step_of}
 

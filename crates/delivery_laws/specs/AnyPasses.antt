@@ -18,16 +18,17 @@ use Rattle.unwinding_frames.specs.Passes as any
 use Rattle.unwinding_frames.specs.Personalities.{Answer, rust_answers}
 use Rattle.unwinding_frames.specs.Seen.{FrameSeen, Thrown, answering}
 use Rattle.stack_steps.specs.declared.answers.Stepped.{Stepped}
-use Rattle.stack_deliver.specs.declared.answers.Trail.{Trail}
+use Rattle.stack_walks.specs.declared.room.Trail.{Trail}
 use Rattle.stack_deliver.specs.declared.answers.Outcome.{Outcome}
 use Rattle.stack_deliver.specs.declared.answers.Outcome.TheVariants.{EndOfStack, FatalPhase1}
 use Rattle.stack_steps.specs.declared.answers.DeliverError.{DeliverError}
 use Rattle.stack_steps.specs.declared.answers.DeliverError.TheVariants.{CompactHandler, FrameLimit, PassLimit}
-use Rattle.stack_deliver.specs.declared.passes.Phase.TheVariants as phase
+use Rattle.stack_walks.specs.declared.outward.Phase.TheVariants as phase
 use Rattle.stack_deliver.specs.StackDelivery.{DeliveryValue, delivery_after, no_delivery}
 use Rattle.stack_steps.specs.Modules.{SpaceValue}
-use Rattle.stack_deliver.specs.Passes.{Stop, PassEnd, Finishes, Elsewhere, CleanupsRun, past_arguments, pass_of, kept_at, pad_of, fatal, landed, cleanup_at, resume_at, with_cleanup}
-use Rattle.stack_deliver.specs.Passes as stopped
+use Rattle.stack_walks.specs.Turns.{Stop, past_arguments, pass_of, kept_at, pad_of}
+use Rattle.stack_deliver.specs.Passes.{PassEnd, Finishes, Elsewhere, CleanupsRun, fatal, landed, cleanup_at, resume_at, with_cleanup}
+use Rattle.stack_walks.specs.Turns as stopped
 use Rattle.delivery_laws.specs.Personality.{landing_columns}
 use Rattle.stack_deliver.specs.Resumes.{return_of}
 use Rattle.stack_steps.specs.Results.{result_map}

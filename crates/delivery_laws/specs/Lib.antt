@@ -1,2 +1,3 @@
 pub mod AnyPasses
 pub mod Personality
+pub mod FormatSpace

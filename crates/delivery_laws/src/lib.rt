@@ -1,10 +1,13 @@
 //! Laws of steps, walks and deliveries, as functions with empty bodies: what stands in a contract
-//! here is proved. The passes of a delivery are those over any stack by the personality of Rust, and
-//! no answer depends on which modules are prepared.
+//! here is proved. The passes of a delivery are those over any stack by the personality of Rust, no
+//! answer depends on which modules are prepared, and walks and deliveries may start over a space
+//! with modules of three formats.
 #![tactic(auto)]
 
+mod formats;
 mod personality;
 mod preparing;
 
+pub use formats::{calls_through_formats_start_walks_and_deliveries, stops_in_formats_start_walks};
 pub use personality::{a_handler_is_asked_for, deliveries_are_passes, passes_ask_the_personality};
 pub use preparing::answers_stay_as_modules_are_prepared;

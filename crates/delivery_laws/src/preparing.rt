@@ -1,7 +1,8 @@
 // What is answered over a space, whichever of its modules are prepared.
 ghost use Rattle.std.specs.Prelude.{◌≡◌, ℕ, Bool, List};
 ghost use Rattle.unwind_arch.specs.declared.x86_64.Context.{Context as Registers};
-ghost use Rattle.stack_deliver.specs.StackDelivery.{stack_delivery, line_of};
+ghost use Rattle.stack_walks.specs.Lines.{line_of};
+ghost use Rattle.stack_deliver.specs.StackDelivery.{stack_delivery};
 ghost use Rattle.stack_steps.specs.Modules.{Added, SpaceValue};
 ghost use Rattle.stack_steps.specs.Stepping.{step_of};
 

@@ -9,7 +9,7 @@ use Rattle.unwind_arch.specs.declared.x86_64.Context.{Context}
 use Rattle.stack_deliver.specs.declared.answers.Outcome.{Outcome}
 use Rattle.stack_deliver.specs.declared.answers.Outcome.TheVariants.{Installed, EndOfStack, FatalPhase1, FatalPhase2}
 use Rattle.stack_steps.specs.Modules.{SpaceValue}
-use Rattle.stack_deliver.specs.Walking.{StartsValidChain}
+use Rattle.stack_deliver.specs.Delivering.{StartsValidChain}
 use Rattle.stack_deliver.specs.StackDelivery.{DeliveryValue}
 use Rattle.stack_deliver.specs.StateViews.{state_of, pair_of, outcome_of, delivery_shown}
 use Rattle.generated_chains.specs.Caught.{IsCaught}

@@ -6,12 +6,12 @@ use Rattle.unwind_definitions.specs.LanguageSearch.{personality_address}
 use Rattle.unwind_definitions.specs.Caller as calls
 use Rattle.unwind_arch.specs.declared.x86_64.Context.{Context}
 use Rattle.fde_finders.specs.Finding.{FoundFde}
-use Rattle.stack_deliver.specs.declared.answers.Trail.{Trail}
+use Rattle.stack_walks.specs.declared.room.Trail.{Trail}
 use Rattle.stack_steps.specs.declared.answers.Stepped.{Stepped}
 use Rattle.stack_steps.specs.declared.answers.DeliverError.{DeliverError}
 use Rattle.stack_steps.specs.declared.answers.DeliverError.TheVariants.{CompactHandler, FrameLimit, PassLimit, NoResume, PeHandler}
-use Rattle.stack_deliver.specs.declared.passes.Phase.{Phase}
-use Rattle.stack_deliver.specs.declared.passes.Phase.TheVariants as phase
+use Rattle.stack_walks.specs.declared.outward.Phase.{Phase}
+use Rattle.stack_walks.specs.declared.outward.Phase.TheVariants as phase
 use Rattle.stack_steps.specs.Modules.{SpaceValue}
 use Rattle.stack_deliver.specs.Resumes.{return_of}
 use Rattle.stack_steps.specs.Stepping.{step_of, refusal_of, frame_refusal, FrameAt, Described, Compact, Recorded, frame_of, caller_by}
@@ -20,11 +20,12 @@ use Rattle.pe_unwind_info.specs.declared.x86_64.fault.FrameFault.TheVariants as 
 use Rattle.format_definitions.specs.PeImage.{memory_of}
 use Rattle.format_frames.specs.Handlers.{has_language_table, handler_in}
 use Rattle.stack_steps.specs.Asking.{action_if_named, action_asked, recorded_action, unless_handled}
-use Rattle.stack_deliver.specs.Passes.{turn_at, stops, Line, Stop, Turn, Ends, Stops, Goes, turn_of, with_context, line_turn, pass_of, kept_at, pad_of, PassEnd, Finishes, Elsewhere, end_of, cleanup_of, cleanup_at, resume_at, CleanupsRun, with_cleanup, resumed, followed, passes_of, turn_for}
+use Rattle.stack_walks.specs.Turns.{turn_at, stops, Line, Stop, Turn, Ends, Stops, Goes, turn_of, with_context, line_turn, pass_of, kept_at, pad_of, turn_for}
+use Rattle.stack_deliver.specs.Passes.{PassEnd, Finishes, Elsewhere, end_of, cleanup_of, cleanup_at, resume_at, CleanupsRun, with_cleanup, resumed, followed, passes_of}
 use Rattle.stack_deliver.specs.StackDelivery.{delivery_after, delivery_at, delivery_to, delivery_by, stack_delivery}
 use Rattle.stack_steps.proofs.StepParts.{some_next, stepped_by, step_is}
 use Rattle.stack_deliver.proofs.TurnParts.{goes, turn_asked, turn_by}
-use Rattle.stack_deliver.proofs.LineAnswers.{IsStepFault, OnStepFault, step_faults}
+use Rattle.stack_walks.proofs.LineAnswers.{IsStepFault, OnStepFault, step_faults}
 use Rattle.stack_deliver.specs.Causes.{TakenAt, SomePass, TrailIsFull, HasNoReturn, InPasses}
 
 module _ (space : SpaceValue) (exception kept : ℕ) (resumes : List (ℕ × ℕ)) (limit : ℕ) where

@@ -9,24 +9,25 @@ use Rattle.unwind_definitions.specs.State.{State}
 use Rattle.unwind_definitions.specs.Function.{Function, Action, NoAction, Cleanup, Catch, Filter, Terminate}
 use Rattle.unwind_definitions.specs.Chain.{Call, states_of}
 use Rattle.unwind_definitions.specs.Delivery as described
-use Rattle.unwind_definitions.specs.Valid.{IsDescribedChain}
-use Rattle.unwind_laws.proofs.Walk.{valid_described}
+use Rattle.format_definitions.specs.FormatModules.{IsFormatChain}
+use Rattle.format_laws.proofs.FormatParts.{valid_described}
 use Rattle.unwind_arch.specs.declared.x86_64.Context.{Context}
 use Rattle.unwind_arch.specs.ContextViews.{columns_of}
 use Rattle.stack_deliver.specs.declared.answers.Outcome.TheVariants.{EndOfStack, FatalPhase1}
 use Rattle.stack_steps.specs.declared.answers.DeliverError.{DeliverError}
-use Rattle.stack_deliver.specs.declared.passes.Phase.TheVariants as phase
+use Rattle.stack_walks.specs.declared.outward.Phase.TheVariants as phase
 use Rattle.stack_steps.specs.Modules.{SpaceValue, AreApart}
-use Rattle.stack_steps.specs.SpaceViews.{process_of}
+use Rattle.stack_steps.specs.SpaceViews.{formats_of}
 use Rattle.stack_deliver.specs.StateViews.{state_of, outcome_of}
-use Rattle.stack_deliver.specs.Walking.{EachShows}
-use Rattle.stack_deliver.specs.Passes.{Stop, CleanupsRun, pass_of, kept_at, pad_of, passes_of}
+use Rattle.stack_walks.specs.Walking.{EachShows}
+use Rattle.stack_walks.specs.Turns.{Stop, pass_of, kept_at, pad_of}
+use Rattle.stack_deliver.specs.Passes.{CleanupsRun, passes_of}
 use Rattle.stack_deliver.specs.StackDelivery.{DeliveryValue, delivery_after, no_delivery, delivery_at, delivery_to, stack_delivery}
-use Rattle.stack_deliver.specs.Walking.{StartsValidChain, ShowsDelivery}
+use Rattle.stack_deliver.specs.Delivering.{StartsValidFormatChain, ShowsDelivery}
 use Rattle.stack_steps.proofs.ContextLemmas.{IsWhole}
 use Rattle.stack_deliver.proofs.Chains.{shown_states}
 use Rattle.stack_deliver.specs.Searches.{met_in_passes, met_behind, met_in_delivery}
-use Rattle.stack_deliver.proofs.SearchCounts.{line_met}
+use Rattle.stack_walks.proofs.TurnCounts.{line_met}
 use Rattle.stack_deliver.proofs.PassesShow.{seen, StopIs, StopShows, SearchShows, search_shows, by_pass, by_count, lands_in, passes_show}
 
 -- a frame that is found decides
@@ -56,9 +57,9 @@ pub record DeliversChain (exception : ℕ) (s : State) (calls : List Call) (r : 
   pub few : met ≤ 2 * length delivered.visited + length delivered.trail
 
 module _ (space : SpaceValue) (c : Context) (exception : ℕ) (resumes : List (ℕ × ℕ)) (limit : ℕ) (functions : List Function) (s : State) (calls : List Call) (apart : AreApart 0 space.modules) (laid : IsLaidOut 0 space.image) (whole : IsWhole c)
-    (is : StartsValidChain space c resumes limit functions s calls) where
-  chain : IsDescribedChain (process_of space) functions s calls
-  chain = valid_described (process_of space) (columns_of c) resumes functions s calls is.valid
+    (is : StartsValidFormatChain space c resumes limit functions s calls) where
+  chain : IsFormatChain space.image (formats_of space) functions s calls
+  chain = valid_described space.image (formats_of space) (columns_of c) resumes functions s calls is.valid
 
   abbrev passes : ℕ → Result CleanupsRun DeliverError
   passes kept = passes_of space exception kept resumes limit limit c
@@ -114,23 +115,23 @@ module _ (space : SpaceValue) (c : Context) (exception : ℕ) (resumes : List (�
 
     accepted : (x : Action) (pad : ℕ) → described.action_of_frame f ≡ x → IsTrue (described.accepts x) → pad_of x ≡ Some pad →
         described.decided_by exception (described.inner_frames s calls) f.state x ≡ described.installed exception (described.inner_frames s calls) f.state pad →
-        lands_in space apart laid is.elf functions is.valid.are_functions exception (kept_at stop.context stop.interrupted) resumes limit f.state x ≡ Some (described.landing_at exception f.state pad) →
+        lands_in space apart laid functions exception (kept_at stop.context stop.interrupted) resumes limit f.state x ≡ Some (described.landing_at exception f.state pad) →
         DeliversChain exception s calls (delivery_to contexts (Some stop) passes) (met contexts (Some stop))
     accepted x pad acts accepts named due lands =
         let kept : ℕ = kept_at stop.context stop.interrupted in
         let accepting : IsTrue (described.accepts (described.action_of_frame f)) = subst (λ (y : Action). IsTrue (described.accepts y)) (sym acts) accepts in
         let within = is.shorter in
-        let shown = passes_show space apart laid is.elf functions is.valid.are_functions exception kept resumes limit s calls c limit limit f is.valid.chain chain.described is.valid.shows whole within within (omega arith) decided accepting kept_is
+        let shown = passes_show space apart laid functions exception kept resumes limit s calls c limit limit f is.valid.chain chain.described is.valid.shows whole within within (omega arith) decided accepting kept_is
         (is.valid.resumed f decided accepting) in
         let toward : met_behind (Some stop) (λ kept. met_in_passes space exception kept resumes limit limit c) ≡ met_in_passes space exception kept resumes limit limit c = rw (pad_is x acts, named) refl in
-        let counted = by_count space apart laid is.elf functions is.valid.are_functions exception kept resumes limit limit c in
+        let counted = by_count space apart laid functions exception kept resumes limit limit c in
         let run_met = shown.met in
         let long = visited_count in
-        let run : passes kept ≡ Ok shown.passed = by_pass space apart laid is.elf functions is.valid.are_functions exception kept resumes limit limit c ∙ shown.is in
+        let run : passes kept ≡ Ok shown.passed = by_pass space apart laid functions exception kept resumes limit limit c ∙ shown.is in
         record {
           delivered = record { visited = contexts; trail = shown.passed.trail; outcome = shown.passed.ending.outcome; landing = shown.passed.ending.landing };
           is = ap (λ (o : Option ℕ). delivery_at contexts o (passes kept)) (pad_is x acts ∙ named) ∙ ap (delivery_after contexts) run;
-          shows = same_made _ _ _ _ _ _ _ _ visited shown.trail (shown.landing ∙ ap (lands_in space apart laid is.elf functions is.valid.are_functions exception kept resumes limit f.state) acts ∙ lands) (ap outcome_of shown.outcome) ∙ sym (due_is x acts ∙ due);
+          shows = same_made _ _ _ _ _ _ _ _ visited shown.trail (shown.landing ∙ ap (lands_in space apart laid functions exception kept resumes limit f.state) acts ∙ lands) (ap outcome_of shown.outcome) ∙ sym (due_is x acts ∙ due);
           few = omega arith;
         }
 
@@ -154,6 +155,6 @@ module _ (space : SpaceValue) (c : Context) (exception : ℕ) (resumes : List (�
   pub chain_delivered : DeliversChain exception s calls (stack_delivery space c exception resumes limit) (met_in_delivery space c exception resumes limit)
   unfolding stack_delivery met_in_delivery
   chain_delivered =
-      let search : SearchShows (pass_of phase.Search space limit c false) s calls = search_shows space apart laid is.elf functions is.valid.are_functions s calls c limit is.valid.chain chain.described is.valid.shows is.shorter in
+      let search : SearchShows (pass_of phase.Search space limit c false) s calls = search_shows space apart laid functions s calls c limit is.valid.chain chain.described is.valid.shows is.shorter in
       let counted = line_met (Some phase.Search) space limit c false search.line search.is in
       rw (search.is, counted) (by_stop search.line.contexts (described.deciding_frame s calls) search.line.stop refl search.stop search.states)

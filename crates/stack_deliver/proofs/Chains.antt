@@ -1,29 +1,11 @@
--- What a walk over a described chain visits, and what is delivered to one without language tables.
+-- The states that contexts show.
 use Rattle.std.proofs.Common.{◌≡◌, ℕ, false, List, [], ◌∷◌, Some, Ok, get_or, refl}
 use Rattle.std.specs.Prelude.{map}
-use Rattle.memory_image.specs.Image.{IsLaidOut}
 use Rattle.unwind_definitions.specs.State.{RBX, RBP, R12, R13, R14, R15, State, Shows}
-use Rattle.unwind_definitions.specs.Function.{Function}
-use Rattle.unwind_definitions.specs.Chain.{Call}
-use Rattle.unwind_definitions.specs.Valid.{IsDescribedChain}
-use Rattle.unwind_laws.proofs.Walk.{chain_rises}
 use Rattle.unwind_arch.specs.declared.x86_64.Context.{Context}
 use Rattle.unwind_arch.specs.ContextViews.{columns_of}
-use Rattle.stack_steps.specs.Modules.{SpaceValue, AreApart}
-use Rattle.stack_steps.specs.SpaceViews.{process_of}
-use Rattle.stack_deliver.specs.StackDelivery.{line_of}
 use Rattle.stack_deliver.specs.StateViews.{state_of}
-use Rattle.stack_deliver.specs.Walking.{EachShows}
-use Rattle.stack_deliver.specs.Walking.{StartsChain, ShowChain}
-use Rattle.stack_deliver.proofs.LineShows.{line_shows}
-
--- the walk over a chain that the limit has room for
-pub chain_walked : (space : SpaceValue) (c : Context) (limit : ℕ) (functions : List Function) (s : State) (calls : List Call) → AreApart 0 space.modules → IsLaidOut 0 space.image → StartsChain space c limit functions s calls →
-    (cs : List Context) × (line_of space limit c false ≡ Ok cs) × ShowChain cs s calls
-chain_walked space c limit functions s calls apart laid is =
-    let chain : IsDescribedChain (process_of space) functions s calls = is.described in
-    let line = line_shows space apart laid is.elf functions chain.are_functions s calls c limit chain.chain chain.described is.shows is.shorter in
-    (line.0, line.1, record { states = line.2; rise = chain_rises (process_of space) functions s calls chain.chain })
+use Rattle.stack_walks.specs.Walking.{EachShows}
 
 -- ---- contexts that show states
 

@@ -7,19 +7,20 @@ use Rattle.stack_deliver.specs.declared.answers.Outcome.{Outcome}
 use Rattle.stack_deliver.specs.declared.answers.Outcome.TheVariants.{Installed, EndOfStack, FatalPhase1, FatalPhase2}
 use Rattle.stack_steps.specs.declared.answers.DeliverError.{DeliverError}
 use Rattle.stack_steps.specs.declared.answers.DeliverError.TheVariants.{NoMemory, Unmapped, FrameLimit, PassLimit, NoResume, Table, MachO, CompactHandler, CompactForm, PeInfo, PeHandler, ChainLimit}
-use Rattle.stack_deliver.specs.declared.passes.Phase.{Phase}
-use Rattle.stack_deliver.specs.declared.passes.Phase.TheVariants as phase
+use Rattle.stack_walks.specs.declared.outward.Phase.{Phase}
+use Rattle.stack_walks.specs.declared.outward.Phase.TheVariants as phase
 use Rattle.stack_steps.specs.Modules.{SpaceValue}
-use Rattle.stack_deliver.proofs.LineAnswers.{IsStepFault}
-use Rattle.stack_deliver.specs.Passes.{Line, Stop, pass_of, kept_at, pad_of, cleanup_of, CleanupsRun, passes_of}
-use Rattle.stack_deliver.proofs.PassLines.{stop_in}
+use Rattle.stack_walks.proofs.LineAnswers.{IsStepFault}
+use Rattle.stack_walks.specs.Turns.{Line, Stop, pass_of, kept_at, pad_of}
+use Rattle.stack_deliver.specs.Passes.{cleanup_of, CleanupsRun, passes_of}
+use Rattle.stack_walks.proofs.TurnLines.{stop_in}
 use Rattle.stack_deliver.specs.StackDelivery.{DeliveryValue, delivery_after, no_delivery, delivery_at, delivery_to, delivery_by, stack_delivery}
 use Rattle.stack_deliver.specs.Causes.{CantRead, Meets, GoesOnFrom}
 use Rattle.stack_deliver.specs.Causes.{TakenAt, SomePass, NeedMore, MeetFault, IsRefused, EndsBy}
 use Rattle.stack_deliver.proofs.MeetAnswers.{turn_fails, more_pass, meets_never}
 use Rattle.stack_deliver.proofs.CauseAnswers.{RefusesNow, refused_in, some_refused, some_pass, turn_faults, refused_either, search_refuses, refuses, limit_met, met_limit, unresumed, no_return}
 use Rattle.stack_deliver.proofs.DeliverFaults.{delivery_memory}
-use Rattle.stack_deliver.proofs.LineAnswers.{IsStepFault, OnStepFault}
+use Rattle.stack_walks.proofs.LineAnswers.{IsStepFault, OnStepFault}
 use Rattle.stack_deliver.proofs.OutcomeAnswers.{line_stops, line_fails, stop_of, ended_meets, meets_ended, failed_meets, meets_failed, limit_goes, fatal_meets, meets_fatal, Finished, finished, finishes, cleanup_refused, refuses_cleanup, FinishesSo, finished_in, finish_all, some_holds}
 
 -- what can't be read has a fault of tables or of memory

@@ -12,12 +12,12 @@ use Rattle.unwind_arch.specs.declared.x86_64.Context.{Context}
 use Rattle.stack_steps.specs.declared.answers.Stepped.{Stepped}
 use Rattle.stack_steps.specs.declared.answers.DeliverError.{DeliverError}
 use Rattle.stack_steps.specs.declared.answers.DeliverError.TheVariants.{CompactHandler, FrameLimit, PeHandler}
-use Rattle.stack_deliver.specs.declared.passes.Phase.{Phase}
+use Rattle.stack_walks.specs.declared.outward.Phase.{Phase}
 use Rattle.stack_steps.specs.Modules.{SpaceValue}
 use Rattle.stack_steps.specs.Stepping.{step_of, FrameAt, DescribedFrame, Described, Compact, Recorded, frame_of, caller_by}
 use Rattle.stack_steps.specs.Asking.{or_terminate, action_if_named, action_asked, arguments_of, described_action, recorded_action, unless_handled}
-use Rattle.stack_deliver.specs.Passes.{turn_at, stops, past_arguments, Line, Stop, Turn, Ends, Stops, Goes, turn_of, with_context, line_turn, pass_of, turn_for}
-use Rattle.stack_deliver.proofs.PassLines.{stop_in}
+use Rattle.stack_walks.specs.Turns.{turn_at, stops, past_arguments, Line, Stop, Turn, Ends, Stops, Goes, turn_of, with_context, line_turn, pass_of, turn_for}
+use Rattle.stack_walks.proofs.TurnLines.{stop_in}
 use Rattle.stack_deliver.specs.Causes.{Asks, GoesTo, EndsProgram, StackEnds, CantRead, RecordsRefused, HandlerRefused, Meets, GoesOnFrom}
 use Rattle.stack_steps.proofs.StepParts.{some_next, stepped_by, step_is, none_framed}
 use Rattle.stack_deliver.proofs.TurnParts.{goes, turn_asked, turn_by}

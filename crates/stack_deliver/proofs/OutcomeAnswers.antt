@@ -4,18 +4,19 @@ use Rattle.std.proofs.lemmas.Bool.Decides.{nat_tests}
 use Rattle.std.specs.Prelude.{◌⊎◌}
 use Rattle.unwind_definitions.specs.Function.{Action, NoAction, Cleanup, Catch, Filter, Terminate}
 use Rattle.unwind_arch.specs.declared.x86_64.Context.{Context}
-use Rattle.stack_deliver.specs.declared.answers.Trail.{Trail}
+use Rattle.stack_walks.specs.declared.room.Trail.{Trail}
 use Rattle.stack_deliver.specs.declared.answers.Ending.{Ending}
 use Rattle.stack_deliver.specs.declared.answers.Outcome.{Outcome}
 use Rattle.stack_deliver.specs.declared.answers.Outcome.TheVariants.{Installed, EndOfStack, FatalPhase1, FatalPhase2}
 use Rattle.stack_steps.specs.declared.answers.DeliverError.{DeliverError}
 use Rattle.stack_steps.specs.declared.answers.DeliverError.TheVariants.{FrameLimit, PassLimit}
-use Rattle.stack_deliver.specs.declared.passes.Phase.{Phase}
-use Rattle.stack_deliver.specs.declared.passes.Phase.TheVariants as phase
+use Rattle.stack_walks.specs.declared.outward.Phase.{Phase}
+use Rattle.stack_walks.specs.declared.outward.Phase.TheVariants as phase
 use Rattle.stack_steps.specs.Modules.{SpaceValue}
 use Rattle.stack_deliver.specs.Resumes.{return_of}
-use Rattle.stack_deliver.specs.Passes.{stops, Line, Stop, Ends, Stops, turn_of, pass_of, kept_at, pad_of, fatal, landed, enters, PassEnd, Finishes, Elsewhere, end_at, end_by, end_of, cleanup_of, cleanup_at, resume_at, CleanupsRun, with_cleanup, resumed, followed, passes_of}
-use Rattle.stack_deliver.proofs.PassLines.{stop_in}
+use Rattle.stack_walks.specs.Turns.{stops, Line, Stop, Ends, Stops, turn_of, pass_of, kept_at, pad_of, enters}
+use Rattle.stack_deliver.specs.Passes.{fatal, landed, PassEnd, Finishes, Elsewhere, end_at, end_by, end_of, cleanup_of, cleanup_at, resume_at, CleanupsRun, with_cleanup, resumed, followed, passes_of}
+use Rattle.stack_walks.proofs.TurnLines.{stop_in}
 use Rattle.stack_deliver.specs.Causes.{Asks, EndsProgram, StackEnds, CantRead, Meets, GoesOnFrom, TakesAt, Fails}
 use Rattle.stack_deliver.specs.Causes.{SomePass}
 use Rattle.stack_deliver.proofs.MeetAnswers.{Last, turn_meets, turn_ends, turn_fails, ends_asks, asks_ends, pass_last, last_pass, meets_too, meets_either, StopsFor, meets_stop}

@@ -6,12 +6,12 @@ use Rattle.std.specs.Option.{option_map}
 use Rattle.std.proofs.lemmas.Bool.Decides.{nat_tests}
 use Rattle.memory_image.specs.Image.{IsLaidOut}
 use Rattle.unwind_definitions.specs.State.{State, Shows}
-use Rattle.unwind_definitions.specs.Prologue.{SystemV, steps_of}
-use Rattle.unwind_definitions.specs.Function.{Function, IsFunction, Action, NoAction, Cleanup, Catch, Filter, Terminate, in_body, action_at}
-use Rattle.unwind_definitions.specs.Module.{IsUncovered}
+use Rattle.unwind_definitions.specs.Prologue.{steps_of}
+use Rattle.unwind_definitions.specs.Function.{Function, Action, NoAction, Cleanup, Catch, Filter, Terminate, in_body, action_at}
 use Rattle.unwind_definitions.specs.Chain.{Call, IsChain, states_of}
 use Rattle.unwind_definitions.specs.Delivery.{Frame, frames_of, action_of_frame, is_deciding, accepts, cleanup_of, cleanup_pad, states_in, inner_frames, deciding_frame, Landing, landing_at, resume_of, GoesOn, Resumes}
-use Rattle.unwind_definitions.specs.Valid.{LiesDescribed}
+use Rattle.format_definitions.specs.FormatCalls.{IsFormatCall}
+use Rattle.format_definitions.specs.FormatModules.{IsUncoveredBy, LiesInFormat}
 use Rattle.unwind_laws.proofs.Undo.{rises}
 use Rattle.unwind_laws.proofs.OneChain.{before_cons, before_now}
 use Rattle.unwind_arch.specs.declared.x86_64.Context.{Context}
@@ -20,21 +20,24 @@ use Rattle.stack_deliver.specs.declared.answers.Ending.{Ending}
 use Rattle.stack_deliver.specs.declared.answers.Outcome.TheVariants.{Installed}
 use Rattle.stack_steps.specs.declared.answers.DeliverError.{DeliverError}
 use Rattle.stack_steps.specs.declared.answers.DeliverError.TheVariants.{PassLimit}
-use Rattle.stack_deliver.specs.declared.passes.Phase.TheVariants as phase
-use Rattle.stack_steps.specs.Modules.{SpaceValue, AreApart, AreElf}
-use Rattle.stack_steps.specs.SpaceViews.{process_of}
+use Rattle.stack_walks.specs.declared.outward.Phase.TheVariants as phase
+use Rattle.stack_steps.specs.Modules.{SpaceValue, AreApart}
+use Rattle.stack_steps.specs.SpaceViews.{formats_of}
 use Rattle.stack_deliver.specs.Resumes.{return_of}
 use Rattle.stack_deliver.specs.StateViews.{state_of, landing_of, pair_of}
-use Rattle.stack_steps.specs.Undoing.{IsDescribedCall}
-use Rattle.stack_deliver.specs.Walking.{EachShows}
-use Rattle.stack_deliver.specs.Passes.{Line, Stop, stops, with_context, pass_of, kept_at, pad_of, enters, landed, PassEnd, Finishes, Elsewhere, end_at, end_of, cleanup_at, resume_at, CleanupsRun, with_cleanup, resumed, followed, passes_of}
+use Rattle.stack_walks.specs.Walking.{EachShows}
+use Rattle.stack_walks.specs.Turns.{Line, Stop, stops, with_context, pass_of, kept_at, pad_of, enters}
+use Rattle.stack_deliver.specs.Passes.{landed, PassEnd, Finishes, Elsewhere, end_at, end_of, cleanup_at, resume_at, CleanupsRun, with_cleanup, resumed, followed, passes_of}
 use Rattle.stack_steps.proofs.ContextLemmas.{IsWhole}
 use Rattle.stack_deliver.proofs.Chains.{shown_state}
 use Rattle.stack_steps.proofs.MetFrames.{Met, met}
-use Rattle.stack_deliver.proofs.PassLines.{stop_at}
-use Rattle.stack_deliver.specs.Searches.{contexts_met, met_after, met_resumed, met_in_passes}
-use Rattle.stack_deliver.proofs.SearchCounts.{line_met}
-use Rattle.stack_deliver.proofs.Turns.{action_in, pass_stops_at, pass_goes_on, met_goes_on, pass_ends_at, call_in, returning, call_resumed, entered_shows, entered_sp, entered_rax, entered_rdx}
+use Rattle.stack_steps.proofs.FormatMet.{format_met}
+use Rattle.stack_walks.proofs.LineShows.{call_in}
+use Rattle.stack_walks.proofs.TurnLines.{stop_at}
+use Rattle.stack_walks.specs.ContextsMet.{contexts_met}
+use Rattle.stack_deliver.specs.Searches.{met_after, met_resumed, met_in_passes}
+use Rattle.stack_walks.proofs.TurnCounts.{line_met}
+use Rattle.stack_deliver.proofs.Turns.{action_in, pass_stops_at, pass_goes_on, met_goes_on, pass_ends_at, returning, elf_call_back, asks_some, call_resumed, entered_shows, entered_sp, entered_rax, entered_rdx}
 
 -- the frame of a call's callee
 abbrev pub frame_in : State → Call → Frame
@@ -86,24 +89,24 @@ resume_same (e ∷ es) pad = go (e.0 == pad) refl (resume_same es pad)
     go true is later = rw is refl
     go false is later = rw is later
 
-module _ (space : SpaceValue) (apart : AreApart 0 space.modules) (laid : IsLaidOut 0 space.image) (elf : AreElf space.modules) (functions : List Function) (are : AllByRecursion (IsFunction SystemV) functions) where
+module _ (space : SpaceValue) (apart : AreApart 0 space.modules) (laid : IsLaidOut 0 space.image) (functions : List Function) where
   abbrev Chain : State → List Call → Type 0
-  Chain s calls = IsChain space.image (IsUncovered (process_of space)) functions s calls
+  Chain s calls = IsChain space.image (IsUncoveredBy space.image (formats_of space)) functions s calls
 
   abbrev Lie : List Call → Type 0
-  Lie calls = AllByRecursion (λ (k : Call). LiesDescribed (process_of space) functions k.callee) calls
+  Lie calls = AllByRecursion (λ (k : Call). LiesInFormat space.image (formats_of space) functions k.callee) calls
 
   -- ---- the search
 
   pub search_shows : (s : State) (calls : List Call) (c : Context) (room : ℕ) → Chain s calls → Lie calls → Shows (columns_of c) s → length calls < room → SearchShows (pass_of phase.Search space room c false) s calls
   search_shows s [] c room chain lie shows less = record {
     line = record { contexts = c ∷ []; stop = None };
-    is = pass_ends_at space laid elf functions c s phase.Search room (omega arith) shows chain;
+    is = pass_ends_at space apart laid functions c s phase.Search room (omega arith) shows chain;
     states = (shows, tt);
     stop = tt;
   }
   search_shows s (k ∷ calls) c room chain lie shows less =
-      let here : Met space c s k = met space c functions s k apart laid (call_in space functions are s k calls chain lie.0) shows in
+      let here : Met space c s k = format_met space c functions s k apart laid (call_in space functions s k calls chain lie.0) shows chain.0.state.ra in
       go here (search_shows k.caller calls here.next.context (room - 1) chain.1 lie.1 here.shows (omega arith)) (is_deciding (frame_in s k)) refl
     where
       go : (here : Met space c s k) → SearchShows (pass_of phase.Search space (room - 1) here.next.context false) k.caller calls → (b : Bool) → is_deciding (frame_in s k) ≡ b → SearchShows (pass_of phase.Search space room c false) s (k ∷ calls)
@@ -288,11 +291,11 @@ module _ (space : SpaceValue) (apart : AreApart 0 space.modules) (laid : IsLaidO
     passes_show s (k ∷ calls) c room places f chain lie shows whole less within fits decided accepted at resume =
         go (λ d room places shows whole less fits decided resume. passes_show k.caller calls d room places f chain.1 lie.1 shows whole less (omega arith) fits decided accepted at resume) (action_in s k) refl
       where
-        is_call : IsDescribedCall (process_of space) functions s k
-        is_call = call_in space functions are s k calls chain lie.0
+        is_call : IsFormatCall space.image (formats_of space) functions s k
+        is_call = call_in space functions s k calls chain lie.0
 
         here : Met space c s k
-        here = met space c functions s k apart laid is_call shows
+        here = format_met space c functions s k apart laid is_call shows chain.0.state.ra
 
         small : s.sp < 2 ^ 64
         small = chain.0.state.sp
@@ -334,7 +337,7 @@ module _ (space : SpaceValue) (apart : AreApart 0 space.modules) (laid : IsLaidO
             let entered : Context = enters c exception pad in
             let d : Context = record entered { ra = ret } in
             let shows_too : Shows (columns_of d) (returning s ret) = entered_shows c s exception pad shows ret in
-            let again : Met space d (returning s ret) k = met space d functions (returning s ret) k apart laid (call_resumed space functions s k ret is_call returns inside) shows_too in
+            let again : Met space d (returning s ret) k = met space d functions (returning s ret) k apart laid (call_resumed space functions s k ret (elf_call_back space functions s k is_call (asks_some k.callee (s.ra - 1) pad is)) returns inside) shows_too in
             let quiet : stops phase.Cleanup (action_in (returning s ret) k) ≡ false = rw silent refl in
             let rest : PassesShow k.caller calls f n (limit - 1) again.next.context =
             outer again.next.context (limit - 1) n again.shows again.whole (omega arith) (omega arith) (later asks) (resumes_inner asks).1 in

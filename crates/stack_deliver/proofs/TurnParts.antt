@@ -5,10 +5,10 @@ use Rattle.unwind_definitions.specs.Function.{Action}
 use Rattle.unwind_arch.specs.declared.x86_64.Context.{Context}
 use Rattle.stack_steps.specs.declared.answers.Stepped.{Stepped}
 use Rattle.stack_steps.specs.declared.answers.DeliverError.{DeliverError}
-use Rattle.stack_deliver.specs.declared.passes.Phase.{Phase}
+use Rattle.stack_walks.specs.declared.outward.Phase.{Phase}
 use Rattle.stack_steps.specs.Results.{◌>>=◌, result_map}
 use Rattle.stack_steps.specs.Stepping.{FrameAt}
-use Rattle.stack_deliver.specs.Passes.{Turn, Goes, stop_by, turn_at, turn_in}
+use Rattle.stack_walks.specs.Turns.{Turn, Goes, stop_by, turn_at, turn_in}
 
 -- ---- a turn
 

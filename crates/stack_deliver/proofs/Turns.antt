@@ -1,32 +1,34 @@
 -- The turn of a pass at a state of a described chain.
-use Rattle.std.proofs.Common.{◌≡◌, ◌≢◌, ℕ, zero, suc, ◌+◌, ◌-◌, ◌%◌, ◌^◌, ◌<◌, Bool, true, false, List, [], ◌∷◌, length, get_or, set, Option, Some, None, Ok, refl, ap, ◌∙◌, arith}
+use Rattle.std.proofs.Common.{◌≡◌, ◌≢◌, ℕ, zero, suc, ◌+◌, ◌-◌, ◌%◌, ◌^◌, ◌<◌, Bool, true, false, List, [], ◌∷◌, length, get_or, set, Option, Some, None, Ok, refl, ap, subst, ◌∙◌, arith}
 use Rattle.std.specs.Prelude.{IsTrue}
-use Rattle.std.specs.List.{AllByRecursion}
+use Rattle.std.specs.List.{Contains}
 use Rattle.std.proofs.lemmas.List.{set-get_or, get_or-set_same, get_or-set_other}
 use Rattle.std.proofs.Math.ListN.{length-set}
 use Rattle.memory_image.specs.Image.{IsLaidOut}
 use Rattle.stack_steps.specs.Asking.{arguments_of}
-use Rattle.unwind_definitions.specs.State.{CalleeSaved, RBX, RBP, R12, R13, R14, R15, State, IsState, value_of, column_of, Shows}
-use Rattle.unwind_definitions.specs.Prologue.{SystemV, steps_of}
+use Rattle.unwind_definitions.specs.State.{CalleeSaved, RBX, RBP, R12, R13, R14, R15, State, value_of, column_of, Shows}
+use Rattle.unwind_definitions.specs.Prologue.{steps_of}
 use Rattle.unwind_definitions.specs.Entered.{IsEntered}
-use Rattle.unwind_definitions.specs.Function.{Function, IsFunction, Action, in_body, action_at}
-use Rattle.unwind_definitions.specs.Module.{IsUncovered}
-use Rattle.unwind_definitions.specs.Chain.{Call, IsEnd, IsLink, IsChain}
-use Rattle.unwind_definitions.specs.Valid.{LiesDescribed}
-use Rattle.unwind_laws.proofs.Booleans as lists
+use Rattle.unwind_definitions.specs.Function.{Function, IsFunction, Action, NoAction, Cleanup, in_body, action_at}
+use Rattle.unwind_definitions.specs.Module.{Module}
+use Rattle.unwind_definitions.specs.Chain.{Call, IsEnd}
+use Rattle.format_definitions.specs.FormatCalls.{IsFormatCall}
+use Rattle.format_definitions.specs.FormatModules.{FormatModule, Elf, in_format, convention_of, part_of, DescribesFormat, IsUncoveredBy}
+use Rattle.format_laws.proofs.FormatOne.{table_in_elf, silent_action}
 use Rattle.unwind_arch.specs.declared.x86_64.Context.{Context}
 use Rattle.unwind_arch.specs.ContextViews.{columns_of}
-use Rattle.stack_deliver.specs.declared.passes.Phase.{Phase}
-use Rattle.stack_steps.specs.Modules.{AreElf, SpaceValue}
-use Rattle.stack_steps.specs.SpaceViews.{process_of}
+use Rattle.stack_walks.specs.declared.outward.Phase.{Phase}
+use Rattle.stack_steps.specs.Modules.{AreApart, SpaceValue}
+use Rattle.stack_steps.specs.SpaceViews.{process_of, formats_of}
 use Rattle.stack_steps.specs.Undoing.{IsDescribedCall}
-use Rattle.stack_deliver.specs.Passes.{stops, past_arguments, Stops, Goes, turn_of, with_context, pass_of, enters, turn_for}
-use Rattle.stack_deliver.specs.Searches.{contexts_met}
+use Rattle.stack_steps.proofs.FormatHolders.{elf_from_format}
+use Rattle.stack_walks.specs.Turns.{stops, past_arguments, Stops, Goes, turn_of, with_context, pass_of, enters, turn_for}
+use Rattle.stack_walks.specs.ContextsMet.{contexts_met}
 use Rattle.stack_steps.proofs.ContextLemmas.{IsWhole}
-use Rattle.stack_deliver.proofs.LineShows.{ends}
+use Rattle.stack_walks.proofs.LineShows.{ends}
 use Rattle.stack_steps.proofs.MetFrames.{Met}
-use Rattle.stack_deliver.proofs.PassLines.{stop_at}
-use Rattle.stack_deliver.proofs.SearchCounts.{met_beyond}
+use Rattle.stack_walks.proofs.TurnLines.{stop_at}
+use Rattle.stack_walks.proofs.TurnCounts.{met_beyond}
 
 abbrev pub action_in : State → Call → Action
 action_in s k = action_at k.callee (s.ra - 1)
@@ -68,31 +70,15 @@ module _ (space : SpaceValue) (c : Context) (s : State) (k : Call) (m : Met spac
 -- ---- the end of the stack
 
 -- a pass ends there
-pub pass_ends_at : (space : SpaceValue) → IsLaidOut 0 space.image → AreElf space.modules → (functions : List Function) (c : Context) (s : State) (p : Phase) (room : ℕ) → 0 < room → Shows (columns_of c) s → IsEnd space.image (IsUncovered (process_of space)) functions s →
+pub pass_ends_at : (space : SpaceValue) → AreApart 0 space.modules → IsLaidOut 0 space.image → (functions : List Function) (c : Context) (s : State) (p : Phase) (room : ℕ) → 0 < room → Shows (columns_of c) s →
+    IsEnd space.image (IsUncoveredBy space.image (formats_of space)) functions s →
     pass_of p space room c false ≡ Ok (record { contexts = c ∷ []; stop = None })
 unfolding turn_for
-pass_ends_at space laid elf functions c s p zero some shows end = absurd (omega arith)
-pass_ends_at space laid elf functions c s p (suc n) some shows end =
-    rw (ends space laid elf functions c s shows end) refl
+pass_ends_at space apart laid functions c s p zero some shows end = absurd (omega arith)
+pass_ends_at space apart laid functions c s p (suc n) some shows end =
+    rw (ends space apart laid functions c s shows end) refl
 
 -- ---- calls of a chain
-
-pub call_in : (space : SpaceValue) (functions : List Function) → AllByRecursion (IsFunction SystemV) functions → (s : State) (k : Call) (calls : List Call) → IsChain space.image (IsUncovered (process_of space)) functions s (k ∷ calls) →
-    LiesDescribed (process_of space) functions k.callee → IsDescribedCall (process_of space) functions s k
-call_in space functions are s k calls chain lies =
-    let link : IsLink space.image functions s k calls = chain.0 in
-    record {
-      is_function = lists.all_contains (IsFunction SystemV) functions k.callee are link.listed;
-      listed = link.listed;
-      lies = lies;
-      called = link.called;
-      caller = state_in k.caller calls chain.1;
-      ends = λ outer. (link.last outer).1;
-    }
-  where
-    state_in : (t : State) (rest : List Call) → IsChain space.image (IsUncovered (process_of space)) functions t rest → IsState t
-    state_in t [] chain = chain.state
-    state_in t (k ∷ rest) chain = chain.0.state
 
 -- at another return address
 abbrev pub returning : State → ℕ → State
@@ -105,6 +91,32 @@ kept_value s ret R12 = refl
 kept_value s ret R13 = refl
 kept_value s ret R14 = refl
 kept_value s ret R15 = refl
+
+-- a function that asks for a cleanup has a language table
+pub asks_some : (f : Function) (a pad : ℕ) → action_at f a ≡ Cleanup pad → f.sites ≢ None
+asks_some f a pad asks none = let silent : action_at f a ≡ NoAction = silent_action f a none in absurd cc
+
+-- a call of a function with a language table, which lies in an ELF module
+pub elf_call_back : (space : SpaceValue) (functions : List Function) (s : State) (k : Call) → IsFormatCall space.image (formats_of space) functions s k → k.callee.sites ≢ None → IsDescribedCall (process_of space) functions s k
+elf_call_back space functions s k is some = go alone.0 alone.1
+  where
+    alone : (m : Module) × (is.lies.home ≡ Elf m)
+    alone = table_in_elf space.image (formats_of space) functions k.callee is.lies is.listed some
+
+    go : (m : Module) → is.lies.home ≡ Elf m → IsDescribedCall (process_of space) functions s k
+    go m home = record {
+      is_function = subst (λ (h : FormatModule). IsFunction (convention_of h) k.callee) home is.lies.is_function;
+      listed = is.listed;
+      lies = record {
+        home = m;
+        known = elf_from_format space.modules m (subst (λ (h : FormatModule). Contains (formats_of space) h) home is.lies.known);
+        inside = subst (λ (h : FormatModule). IsTrue (in_format k.callee.start h)) home is.lies.inside;
+        describes = subst (λ (h : FormatModule). DescribesFormat space.image h (part_of h functions)) home is.lies.describes;
+      };
+      called = is.called;
+      caller = is.caller;
+      ends = is.ends;
+    }
 
 -- a call's function goes on elsewhere in its body, with the same registers
 pub call_resumed : (space : SpaceValue) (functions : List Function) (s : State) (k : Call) (ret : ℕ) → IsDescribedCall (process_of space) functions s k → ret ≢ 0 → IsTrue (in_body k.callee (ret - 1)) → IsDescribedCall (process_of space) functions (returning s ret) k

@@ -8,18 +8,19 @@ use Rattle.stack_steps.specs.declared.answers.DeliverError.TheVariants.{NoMemory
 use Rattle.stack_steps.specs.Modules.{SpaceValue}
 use Rattle.stack_deliver.specs.Resumes.{return_of}
 use Rattle.stack_steps.specs.Asking.{action_asked}
-use Rattle.stack_deliver.specs.Passes.{Line, Stop, pass_of, kept_at, pad_of, Elsewhere, cleanup_of, stops}
+use Rattle.stack_walks.specs.Turns.{Line, Stop, pass_of, kept_at, pad_of, stops}
+use Rattle.stack_deliver.specs.Passes.{Elsewhere, cleanup_of}
 use Rattle.unwind_definitions.specs.Caller.{StepFault}
 use Rattle.unwind_definitions.specs.Function.{Action, Terminate}
 use Rattle.unwind_definitions.specs.LanguageSearch.{personality_address, address_of_call, language_action}
 use Rattle.stack_steps.specs.declared.answers.Stepped.{Stepped}
-use Rattle.stack_deliver.specs.declared.passes.Phase.{Phase}
+use Rattle.stack_walks.specs.declared.outward.Phase.{Phase}
 use Rattle.memory_image.specs.Image.{Span}
 use Rattle.pe_unwind_info.specs.declared.x86_64.fault.FrameFault.{FrameFault}
 use Rattle.format_definitions.specs.PeImage.{memory_of}
 use Rattle.format_frames.specs.Handlers.{has_language_table, handler_in}
 use Rattle.stack_steps.specs.Stepping.{FrameAt, DescribedFrame, Described, Compact, Recorded, frame_of, step_of, refusal_of, frame_refusal}
-use Rattle.stack_deliver.specs.declared.passes.Phase.TheVariants as phase
+use Rattle.stack_walks.specs.declared.outward.Phase.TheVariants as phase
 
 -- ---- what a pass comes to: where the stack ends, what is asked of a frame, and what can't be read
 

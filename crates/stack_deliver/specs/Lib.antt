@@ -1,10 +1,8 @@
 pub mod Causes
-pub mod StackDelivery
-pub mod FrontSample
-pub mod Fronts
-pub mod Passes
+pub mod Delivering
 pub mod PassViews
+pub mod Passes
 pub mod Resumes
 pub mod Searches
+pub mod StackDelivery
 pub mod StateViews
-pub mod Walking

@@ -5,20 +5,15 @@ use Rattle.unwind_arch.specs.declared.x86_64.Context.{Context}
 use Rattle.fde_finders.specs.declared.custom.FrameInfoKind.TheVariants.{EhFrameHdr}
 use Rattle.fde_finders.specs.Named.{pairs_by}
 use Rattle.stack_steps.specs.declared.answers.DeliverError.{DeliverError}
-use Rattle.stack_deliver.specs.declared.passes.Phase.{Phase}
-use Rattle.stack_deliver.specs.declared.passes.Phase.TheVariants as phase
+use Rattle.stack_walks.specs.declared.outward.Phase.TheVariants as phase
 use Rattle.stack_steps.specs.declared.space.Module.{Module}
 use Rattle.stack_steps.specs.declared.space.ModuleTables.TheVariants.{Elf}
 use Rattle.fde_finders.specs.declared.custom.FrameInfo.{FrameInfo}
-use Rattle.stack_deliver.specs.Fronts.{reached_by, started, turned_from}
 use Rattle.stack_steps.specs.Modules.{SpaceValue}
-use Rattle.stack_deliver.specs.Passes.{Elsewhere, Finishes, Line, PassEnd, Stop, cleanup_of, kept_at, pad_of, pass_of, resume_at}
+use Rattle.stack_walks.specs.Turns.{Line, Stop, kept_at, pad_of, pass_of}
+use Rattle.stack_deliver.specs.Passes.{Elsewhere, Finishes, PassEnd, cleanup_of, resume_at}
 use Rattle.stack_deliver.specs.Resumes.{return_of}
-
--- on the way outwards from a context, of so many at most
-abbrev pub contexts_met : Option Phase → SpaceValue → ℕ → Context → Bool → ℕ
-contexts_met phase space limit c interrupted =
-    length (reached_by (turned_from phase space) limit (started c interrupted)).contexts
+use Rattle.stack_walks.specs.ContextsMet.{contexts_met}
 
 -- ---- the passes
 

@@ -1,17 +1,9 @@
 // What a delivery did.
 ghost use Rattle.std.specs.Prelude.{◌≡◌, length, slice_get};
 
+use stack_walks::Trail;
 use std::marker::Model;
 use unwind_arch::x86_64::Context;
-
-/// A cleanup that ran.
-#[derive(Clone, Copy, Debug, PartialEq, Eq)]
-pub struct Trail {
-    /// The landing pad at which the cleanup begins.
-    pub pad: u64,
-    /// The stack pointer with which it was installed.
-    pub sp: u64,
-}
 
 /// How a delivery ended.
 #[derive(Clone, Copy, Debug, PartialEq, Eq)]

@@ -7,18 +7,19 @@ ghost use Rattle.unwind_definitions.specs.Function.{Function};
 ghost use Rattle.unwind_definitions.specs.Chain.{Call};
 ghost use Rattle.stack_deliver.specs.Causes.{IsRefused, EndsBy};
 ghost use Rattle.stack_deliver.specs.Searches.{HasOneHeader, met_in_delivery};
-ghost use Rattle.stack_deliver.specs.StackDelivery.{GivesUnlessNoMemory, stack_delivery};
+ghost use Rattle.stack_walks.specs.Lines.{GivesUnlessNoMemory};
+ghost use Rattle.stack_deliver.specs.StackDelivery.{stack_delivery};
 ghost use Rattle.stack_steps.specs.Ticking.{RisesWithin};
-ghost use Rattle.stack_deliver.specs.Walking.{StartsValidChain, ShowsDelivery, IsDelivered};
-ghost use Rattle.stack_deliver.specs.Walking.{delivered_in};
+ghost use Rattle.stack_deliver.specs.Delivering.{StartsValidChain, StartsValidFormatChain};
+ghost use Rattle.stack_deliver.specs.Delivering.{ShowsDelivery, IsDelivered, delivered_in};
 
 use crate::answers::{Delivery, Ending, Outcome};
-use crate::passes::{Phase, outwards, passes};
+use crate::passes::passes;
 use crate::resumes::Resumes;
-use crate::room::Room;
 use eh_frame::RowRoom;
 use memory_image::{Ledger, NoLedger, Steps};
 use stack_steps::{DeliverError, Space, Stepped};
+use stack_walks::{Phase, Room, outwards};
 use std::alloc::Global;
 use unwind_arch::x86_64::Context;
 
@@ -161,6 +162,10 @@ pub fn deliver_into<L: Ledger>(
     ensures chain { (functions : List Function) (s : State) (calls : List Call) →
         StartsValidChain space.now start.now resumes.now limit functions s calls →
         IsOkAnd result (λ ending. ShowsDelivery (delivered_in room.new ending) exception s calls) }
+    // So it is where the chain goes through modules of whatever format.
+    ensures chain_in { (functions : List Function) (s : State) (calls : List Call) →
+        StartsValidFormatChain space.now start.now resumes.now limit functions s calls →
+        IsOkAnd result (λ ending. ShowsDelivery (delivered_in room.new ending) exception s calls) }
     // Each state that the search or a pass meets is searched for at most once.
     ensures searches { RisesWithin space.now
         (met_in_delivery space.now start.now exception resumes.now limit)
@@ -172,6 +177,10 @@ pub fn deliver_into<L: Ledger>(
     // state of each cleanup by the pass after it too.
     ensures chain_searches { (functions : List Function) (s : State) (calls : List Call) →
         StartsValidChain space.now start.now resumes.now limit functions s calls →
+        RisesWithin space.now (2 * length room.new.visited + length room.new.trail)
+        steps.old.number steps.new.number }
+    ensures chain_searches_in { (functions : List Function) (s : State) (calls : List Call) →
+        StartsValidFormatChain space.now start.now resumes.now limit functions s calls →
         RisesWithin space.now (2 * length room.new.visited + length room.new.trail)
         steps.old.number steps.new.number }
     // In one module that names a header a search takes as many steps as the number of the header's
@@ -227,6 +236,11 @@ pub fn deliver(
     // What is delivered to a valid chain is what the definition says of the chain.
     ensures chain { (functions : List Function) (s : State) (calls : List Call) →
         StartsValidChain space.now start.now resumes.now limit functions s calls →
+        (result ≡ Err DeliverError.NoMemory) ⊎
+        IsOkAnd result (λ delivery. ShowsDelivery delivery exception s calls) }
+    // So it is where the chain goes through modules of whatever format.
+    ensures chain_in { (functions : List Function) (s : State) (calls : List Call) →
+        StartsValidFormatChain space.now start.now resumes.now limit functions s calls →
         (result ≡ Err DeliverError.NoMemory) ⊎
         IsOkAnd result (λ delivery. ShowsDelivery delivery exception s calls) }
 {

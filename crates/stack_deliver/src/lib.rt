@@ -36,22 +36,18 @@
 
 mod answers;
 mod delivery;
-mod front;
 mod passes;
 mod resumes;
-mod room;
-mod walking;
 
-pub use answers::{Delivery, Ending, Outcome, Trail};
+pub use answers::{Delivery, Ending, Outcome};
 pub use delivery::{deliver, deliver_into};
 pub use eh_frame::Error;
 pub use fde_finders::{FrameInfo, FrameInfoKind};
-pub use front::{Front, each_reason_is_given, walk_front_into};
-pub use passes::Phase;
 pub use resumes::{Resumes, first_entry_counts};
-pub use room::Room;
 pub use stack_steps::{
     DeliverError, MachoTables, Module, ModuleTables, PeTables, Space, SpaceError, Stepped, step,
 };
+pub use stack_walks::{
+    Front, Phase, Room, Trail, Visited, each_reason_is_given, walk, walk_front_into, walk_into,
+};
 pub use unwind_arch::x86_64::Context;
-pub use walking::{Visited, walk, walk_into};

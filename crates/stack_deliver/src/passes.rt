@@ -3,215 +3,24 @@
 ghost use Rattle.std.specs.Prelude.{◌≡◌, ◌≤◌, ◌<◌, ◌+◌, ◌*◌, ◌++◌, ◌∷◌, Err, [], true, false};
 ghost use Rattle.std.specs.Prelude.{length, Some, OnOk, OnErr, IfOk};
 ghost use Rattle.std.specs.Option.{option_map};
-ghost use Rattle.unwinding_frames.specs.LanguageViews.{action_of};
-ghost use Rattle.stack_deliver.specs.Passes.{stops, stop_of, past_arguments, turn_for, line_for};
-ghost use Rattle.stack_deliver.specs.Passes.{kept_at, pad_of, enters, end_by, cleanup_of};
+ghost use Rattle.stack_deliver.specs.Passes.{end_by, cleanup_of};
 ghost use Rattle.stack_deliver.specs.Passes.{cleanup_at, resume_at, passes_of};
-ghost use Rattle.stack_deliver.specs.Fronts.{reached_by, turned_from, IsReached};
-ghost use Rattle.stack_steps.specs.FrameViews.{IsFrameOf};
-ghost use Rattle.frame_rows.specs.RowValue.{RowValue};
-ghost use Rattle.stack_steps.specs.Stepping.{FrameAt};
-ghost use Rattle.stack_deliver.specs.PassViews.{turn_shown, stop_shown, end_shown, visits};
-ghost use Rattle.stack_deliver.specs.PassViews.{visited_with, StaysAt, IsOutward, GivesCleanupsRun};
+ghost use Rattle.stack_walks.specs.TurnViews.{stop_shown};
+ghost use Rattle.stack_deliver.specs.PassViews.{end_shown};
+ghost use Rattle.stack_deliver.specs.PassViews.{GivesCleanupsRun};
 ghost use Rattle.stack_steps.specs.Results.{result_map};
 ghost use Rattle.stack_deliver.specs.Resumes.{return_of};
-ghost use Rattle.stack_deliver.specs.Searches.{contexts_met, met_in_passes};
-ghost use Rattle.stack_steps.specs.Ticking.{RisesWithin, TicksAt};
+ghost use Rattle.stack_walks.specs.ContextsMet.{contexts_met};
+ghost use Rattle.stack_deliver.specs.Searches.{met_in_passes};
+ghost use Rattle.stack_steps.specs.Ticking.{RisesWithin};
 
-use crate::answers::{Ending, Outcome, Trail};
+use crate::answers::{Ending, Outcome};
 use crate::resumes::Resumes;
-use crate::room::Room;
 use eh_frame::RowRoom;
-use memory_image::{Ledger, MemoryImage, Steps};
-use stack_steps::{DeliverError, FoundFrame, Space, Stepped, asked, frame_at, leave};
-use unwind_arch::x86_64::{Context, RAX, RDX, RSP};
-use unwinding_frames::{EhAction, Window};
-
-/// What a pass over the stack is for.
-#[derive(Clone, Copy)]
-pub enum Phase {
-    /// To find a frame that takes the exception.
-    Search,
-    /// To run the cleanups on the way to it, and to enter its handler.
-    Cleanup,
-}
-
-impl Phase {
-    /// Whether a pass stops at a frame of which this is asked.
-    fn stops(self, action: EhAction) -> bool
-        ensures { result ≡ stops self (action_of action) }
-    {
-        match action {
-            EhAction::None => false,
-            EhAction::Cleanup(_) => matches!(self, Phase::Cleanup),
-            EhAction::Catch(_) | EhAction::Filter(_) | EhAction::Terminate => true,
-        }
-    }
-}
-
-/// Where a pass stops.
-#[derive(Clone, Copy)]
-pub(crate) struct Stop {
-    state: Stepped,
-    action: EhAction,
-    // how many bytes of arguments the frame's callee removes
-    arguments: u64,
-}
-
-impl Stop {
-    /// The landing pad that is asked for, `None` where the program is to end.
-    pub(crate) fn pad(&self) -> Option<u64>
-        ensures { result ≡ pad_of (action_of self.now.action) }
-    {
-        match self.action {
-            EhAction::Cleanup(pad) | EhAction::Catch(pad) | EhAction::Filter(pad) => Some(pad),
-            EhAction::None | EhAction::Terminate => None,
-        }
-    }
-
-    /// The mark by which a later pass knows the frame.
-    pub(crate) fn kept(&self) -> u64
-        ensures { result ≡ kept_at self.now.state.context self.now.state.signal }
-    {
-        let stack_pointer = self.state.context.registers[RSP];
-        if self.state.signal {
-            stack_pointer.wrapping_sub(1)
-        } else {
-            stack_pointer
-        }
-    }
-
-    /// The registers with which a landing pad is entered.
-    fn entering(&self, exception: u64, pad: u64) -> Context
-        ensures { result ≡ enters (past_arguments self.now.state.context self.now.arguments)
-            exception pad }
-    {
-        let mut context = self.state.context;
-        // Past the arguments that the callee removes.
-        context.registers[RSP] = context.registers[RSP].wrapping_add(self.arguments);
-        context.registers[RAX] = exception;
-        context.registers[RDX] = 0;
-        context.ra = pad;
-        context
-    }
-}
-
-/// What is met at a state.
-#[derive(Clone, Copy)]
-enum Turn {
-    /// The end of the stack.
-    End,
-    /// An action for which the pass stops, and how many bytes of arguments the callee removes.
-    Stop(EhAction, u64),
-    /// The caller, which stands in the state's place.
-    Caller,
-}
-
-/// The action for which a pass stops at a frame. A walk, which has no phase, stops for none.
-fn stop_action(
-    phase: Option<Phase>,
-    image: &MemoryImage<'_>,
-    state: &Stepped,
-    frame: &FoundFrame<'_, '_>,
-) -> Result<Option<EhAction>, DeliverError>
-    ensures { (row : RowValue) (f : FrameAt) → IsFrameOf frame.now row f →
-        result_map (option_map action_of) result ≡ stop_of phase image.now state.now.context
-        state.now.signal f }
-{
-    let Some(phase) = phase else {
-        return Ok(None);
-    };
-    let action = asked(image, state, frame)?;
-    if phase.stops(action) {
-        Ok(Some(action))
-    } else {
-        Ok(None)
-    }
-}
-
-/// What a walk or a pass meets at a state. Where that is the caller, it stands in the state's
-/// place.
-#[tactic(auto, unfolding(crate::specs::Passes::turn_for))]
-fn meet<'a, L: Ledger>(
-    phase: Option<Phase>,
-    space: &Space<'a>,
-    stack: &mut Window<'_, 'a>,
-    state: &mut Stepped,
-    rows: &mut RowRoom<'a>,
-    steps: &mut Steps<L>,
-) -> Result<Turn, DeliverError>
-    requires { stack.old ≡ space.now.image }
-    ensures same { stack.new ≡ stack.old }
-    ensures met { result_map (turn_shown state.new) result ≡ turn_for phase space.now
-        state.old.context state.old.signal }
-    ensures stays { IfOk result (λ turn. StaysAt turn state.old state.new) }
-    ensures unmoved { OnErr result (state.new ≡ state.old) }
-    ensures ticks { TicksAt space.now state.old.context state.old.signal steps.old.number
-        steps.new.number }
-{
-    let Some(frame) = frame_at(space, state, rows, steps)? else {
-        return Ok(Turn::End);
-    };
-    let image = space.image();
-    if let Some(action) = stop_action(phase, image, state, &frame)? {
-        return Ok(Turn::Stop(action, frame.arguments(rows)));
-    }
-    leave(stack, state, &frame, rows)?;
-    Ok(Turn::Caller)
-}
-
-/// Puts a state into the room, but in a cleanup pass: the search put it there.
-fn visit(phase: Option<Phase>, state: &Stepped, room: &mut Room)
-    requires { visits phase ≡ true → length room.old.visited < room.old.limit }
-    ensures { room.new ≡ visited_with (visits phase) room.old state.now.context }
-{
-    match phase {
-        Some(Phase::Cleanup) => {}
-        None | Some(Phase::Search) => room.visit(state.context),
-    }
-}
-
-/// Goes from a state outwards: a walk, which has no phase and puts each state into the room, the
-/// search, which does so too, or a cleanup pass. It answers where it stops, `None` at the end of
-/// the stack. `state` is then the last state that was met or, after `FrameLimit`, the next.
-pub(crate) fn outwards<'a, L: Ledger>(
-    phase: Option<Phase>,
-    space: &Space<'a>,
-    state: &mut Stepped,
-    limit: u32,
-    room: &mut Room,
-    rows: &mut RowRoom<'a>,
-    steps: &mut Steps<L>,
-) -> Result<Option<Stop>, DeliverError>
-    requires within { limit ≤ room.old.limit }
-    requires empty { visits phase ≡ true → room.old.visited ≡ [] }
-    ensures exact { IsOutward (visits phase) result room.new
-        (line_for phase space.now limit state.old.context state.old.signal) }
-    ensures reached { IsReached (visits phase) room.new state.new
-        (reached_by (turned_from phase space.now) limit state.old) }
-    ensures kept { (room.new.trail ≡ room.old.trail) × (room.new.limit ≡ room.old.limit) }
-    ensures stays { visits phase ≡ false → room.new ≡ room.old }
-    ensures ticks { RisesWithin space.now
-        (contexts_met phase space.now limit state.old.context state.old.signal)
-        steps.old.number steps.new.number }
-{
-    let mut stack = Window::new(space.image(), state.context.registers[RSP]);
-    for _ in 0..limit {
-        visit(phase, state, room);
-        match meet(phase, space, &mut stack, state, rows, steps)? {
-            Turn::End => return Ok(None),
-            Turn::Stop(action, arguments) => {
-                return Ok(Some(Stop {
-                    state: *state,
-                    action,
-                    arguments,
-                }));
-            }
-            Turn::Caller => {}
-        }
-    }
-    Err(DeliverError::FrameLimit)
-}
+use memory_image::{Ledger, Steps};
+use stack_steps::{DeliverError, Space, Stepped};
+use stack_walks::{Phase, Room, Stop, Trail, outwards};
+use unwind_arch::x86_64::{Context, RSP};
 
 /// How a cleanup pass ends.
 #[derive(Clone, Copy)]

@@ -3,7 +3,8 @@ use Rattle.std.specs.Prelude.{List, IsFalse}
 use Rattle.unwind_definitions.specs.State.{State}
 use Rattle.unwind_definitions.specs.Function.{Function}
 use Rattle.unwind_definitions.specs.Chain.{Call}
-use Rattle.stack_deliver.specs.Walking.{StartsChain, StartsValidChain}
+use Rattle.stack_walks.specs.Walking.{StartsChain, StartsFormatChain}
+use Rattle.stack_deliver.specs.Delivering.{StartsValidChain, StartsValidFormatChain}
 use Rattle.stack_snapshot.specs.Content.{Content, space_of}
 
 -- The tables that the snapshot's modules name, frame tables or headers of them, describe functions, and its start shows the
@@ -16,3 +17,13 @@ DescribesChain s functions start calls = StartsValidChain (space_of s) s.start s
 -- to describe functions, which may have language tables.
 abbrev pub DescribesWalk : Content → List Function → State → List Call → Type 0
 DescribesWalk s functions start calls = IsFalse s.interrupted × StartsChain (space_of s) s.start s.limit functions start calls
+
+-- ---- modules of whatever format
+
+-- The same of a snapshot whose modules are of whatever format each, ELF, Mach-O or PE: the unwind data that its modules name
+-- describe the functions.
+abbrev pub DescribesFormatChain : Content → List Function → State → List Call → Type 0
+DescribesFormatChain s functions start calls = StartsValidFormatChain (space_of s) s.start s.resumes s.limit functions start calls
+
+abbrev pub DescribesFormatWalk : Content → List Function → State → List Call → Type 0
+DescribesFormatWalk s functions start calls = IsFalse s.interrupted × StartsFormatChain (space_of s) s.start s.limit functions start calls

@@ -6,6 +6,7 @@ use std::alloc::{AllocError, Global};
 use std::process::Abort;
 use std::test::Fail;
 
+mod damage;
 mod deliveries;
 mod ends;
 mod formats;
@@ -32,6 +33,9 @@ fn joined(alloc: Global, pieces: &[&str], ending: &str) -> Result<String, AllocE
     Ok(text)
 }
 
+/// How many bytes a read gives at most.
+const PIECE: usize = 64;
+
 /// The number that a run answers and the text that it writes. The calls of its ends that are named fail.
 fn run_over(
     alloc: Global,
@@ -44,7 +48,7 @@ fn run_over(
     for word in words {
         list.push(word)?;
     }
-    let mut source = MemorySource::new(input.as_bytes(), 100, reads);
+    let mut source = MemorySource::new(input.as_bytes(), PIECE, reads);
     let mut sink = MemorySink::new(alloc, 4096, writes)?;
     let status = run(alloc, &list, &mut source, &mut sink);
     Ok((status.number(), Vec::from_slice(alloc, sink.held())?))

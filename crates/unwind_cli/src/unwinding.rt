@@ -1,7 +1,8 @@
 // What is delivered and walked of a snapshot, over indexes of its frame tables.
 ghost use Rattle.std.specs.Prelude.{◌≡◌, ℕ, Bool, List, IfOk};
 ghost use Rattle.unwind_arch.specs.declared.x86_64.Context.{Context};
-ghost use Rattle.stack_deliver.specs.StackDelivery.{GivesUnlessNoMemory, line_of, stack_delivery};
+ghost use Rattle.stack_walks.specs.Lines.{GivesUnlessNoMemory, line_of};
+ghost use Rattle.stack_deliver.specs.StackDelivery.{stack_delivery};
 ghost use Rattle.stack_snapshot.specs.Content.{space_of};
 ghost use Rattle.unwind_cli.specs.Due.{delivery_from, walk_from};
 

@@ -5,7 +5,7 @@ use Rattle.generated_chains.specs.Outlines.{outlines}
 use Rattle.generated_chains.specs.Code.{functions_of}
 use Rattle.generated_chains.specs.Calls.{state_of, calls_of}
 use Rattle.stack_steps.specs.Modules.{SpaceValue}
-use Rattle.stack_deliver.specs.Walking.{delivered_in}
+use Rattle.stack_deliver.specs.Delivering.{delivered_in}
 use Rattle.stack_snapshot.specs.Content.{Content, space_of}
 use Rattle.generated_cases.specs.Case.{case_of}
 use Rattle.generated_cases.proofs.Pairs.{case_has_header}

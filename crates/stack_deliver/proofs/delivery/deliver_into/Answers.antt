@@ -2,15 +2,16 @@ use Rattle.std.proofs.Common.{◌≡◌, subst}
 use Rattle.stack_steps.specs.declared.answers.DeliverError.TheVariants.{NoMemory, Unmapped}
 use Rattle.stack_deliver.specs.Causes.{EndsBy}
 use Rattle.stack_deliver.specs.StackDelivery.{DeliveryValue}
-use Rattle.stack_deliver.specs.Walking.{ShowsDelivery}
+use Rattle.stack_deliver.specs.Delivering.{ShowsDelivery}
 use Rattle.stack_deliver.specs.Searches.{met_in_delivery}
 use Rattle.stack_steps.proofs.Counted.{rises_up_to}
 use Rattle.stack_deliver.proofs.DeliverFaults.{delivery_unmapped, delivery_memory}
 use Rattle.stack_deliver.proofs.OneHeader.{counts_within}
 use Rattle.stack_deliver.proofs.SearchCounts.{few_in_delivery}
-use Rattle.stack_deliver.proofs.Results.{delivered_fault, fault_delivered, ending_delivered, few_delivered, delivered_ending}
+use Rattle.stack_deliver.proofs.DeliveryResults.{delivered_fault, fault_delivered, ending_delivered, few_delivered, delivered_ending}
 use Rattle.stack_deliver.proofs.DeliveryAnswers.{refused_why, why_refused, ended_by, by_end}
 use Rattle.stack_deliver.proofs.ChainDelivered.{chain_delivered}
+use Rattle.stack_deliver.proofs.ElfDeliveries.{elf_starts_valid}
 use Rattle.stack_deliver.proofs.delivery.deliver_into.Goals as goal
 
 pub returns-clause-unmapped : goal.returns-clause-unmapped
@@ -19,20 +20,28 @@ returns-clause-unmapped g c a e = delivery_unmapped c.args.space.now c.args.star
 pub returns-clause-takes_no_memory : goal.returns-clause-takes_no_memory
 returns-clause-takes_no_memory g c e = delivery_memory c.args.space.now c.args.start.now c.args.exception c.args.resumes.now c.args.limit (delivered_fault c.emptied.result c.emptied.new.room _ NoMemory c.emptied.ensures.exact e)
 
-pub returns-clause-chain : goal.returns-clause-chain
-returns-clause-chain g c functions s calls starts =
+pub returns-clause-chain_in : goal.returns-clause-chain_in
+returns-clause-chain_in g c functions s calls starts =
     let d = chain_delivered c.args.space.now c.args.start.now c.args.exception c.args.resumes.now c.args.limit functions s calls c.image.ensures.apart c.image.ensures.laid_out c.emptied.ensures.whole starts in
     ending_delivered c.emptied.result c.emptied.new.room _ d.delivered (λ (x : DeliveryValue). ShowsDelivery x c.args.exception s calls) c.emptied.ensures.exact d.is d.shows
+
+pub returns-clause-chain : goal.returns-clause-chain
+returns-clause-chain g c functions s calls starts =
+    returns-clause-chain_in g c functions s calls (elf_starts_valid c.args.space.now c.args.start.now c.args.limit functions s c.args.resumes.now calls starts)
 
 pub returns-clause-ticks : goal.returns-clause-ticks
 returns-clause-ticks g c =
     rises_up_to c.args.space.now _ _ _ _ (few_in_delivery c.args.space.now c.args.start.now c.args.exception c.args.resumes.now c.args.limit) c.emptied.ensures.ticks
 
-pub returns-clause-chain_searches : goal.returns-clause-chain_searches
-returns-clause-chain_searches g c functions s calls starts =
+pub returns-clause-chain_searches_in : goal.returns-clause-chain_searches_in
+returns-clause-chain_searches_in g c functions s calls starts =
     let d = chain_delivered c.args.space.now c.args.start.now c.args.exception c.args.resumes.now c.args.limit functions s calls c.image.ensures.apart c.image.ensures.laid_out c.emptied.ensures.whole starts in
     let few = few_delivered c.emptied.result c.emptied.new.room _ d.delivered (met_in_delivery c.args.space.now c.args.start.now c.args.exception c.args.resumes.now c.args.limit) c.emptied.ensures.exact d.is d.few in
     rises_up_to c.args.space.now _ _ _ _ few c.emptied.ensures.ticks
+
+pub returns-clause-chain_searches : goal.returns-clause-chain_searches
+returns-clause-chain_searches g c functions s calls starts =
+    returns-clause-chain_searches_in g c functions s calls (elf_starts_valid c.args.space.now c.args.start.now c.args.limit functions s c.args.resumes.now calls starts)
 
 pub returns-clause-chain_ticks : goal.returns-clause-chain_ticks
 returns-clause-chain_ticks g c functions s calls digits starts one =

@@ -1,5 +1,5 @@
 use Rattle.std.proofs.Common.{Some, refl}
-use Rattle.stack_deliver.specs.PassViews.{line_shown, stop_shown}
+use Rattle.stack_walks.specs.TurnViews.{line_shown, stop_shown}
 use Rattle.stack_deliver.proofs.SearchCounts.{named_pad, search_met, passes_met}
 use Rattle.stack_deliver.proofs.delivery.delivered.Goals as goal
 

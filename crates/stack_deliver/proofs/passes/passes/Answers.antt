@@ -1,8 +1,9 @@
 use Rattle.std.proofs.Common.{◌≡◌, ◌+◌, ◌-◌, ◌++◌, ◌∷◌, [], ℕ, suc, length, false, Some, refl, sym, ap, subst, ◌∙◌, arith, length-append}
 use Rattle.std.proofs.lemmas.Result.{err_from_is_err_and}
-use Rattle.stack_deliver.specs.declared.passes.Phase.TheVariants as phase
+use Rattle.stack_walks.specs.declared.outward.Phase.TheVariants as phase
 use Rattle.stack_deliver.specs.Passes.{passes_of, cleanup_at}
-use Rattle.stack_deliver.specs.Searches.{contexts_met, met_in_passes}
+use Rattle.stack_walks.specs.ContextsMet.{contexts_met}
+use Rattle.stack_deliver.specs.Searches.{met_in_passes}
 use Rattle.stack_deliver.specs.PassViews.{with_cleanups}
 use Rattle.stack_deliver.proofs.PassLines.{no_front, passes_fault, passes_finish, passes_refused, passes_go}
 use Rattle.stack_steps.proofs.Counted.{rises_none, rises_then}

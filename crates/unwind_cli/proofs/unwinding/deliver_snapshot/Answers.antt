@@ -1,6 +1,7 @@
 use Rattle.std.proofs.Common.{◌≡◌, Result, ◌∙◌, refl, subst}
 use Rattle.stack_steps.specs.declared.answers.DeliverError.{DeliverError}
-use Rattle.stack_deliver.specs.StackDelivery.{DeliveryValue, GivesUnlessNoMemory, stack_delivery}
+use Rattle.stack_walks.specs.Lines.{GivesUnlessNoMemory}
+use Rattle.stack_deliver.specs.StackDelivery.{DeliveryValue, stack_delivery}
 use Rattle.stack_snapshot.specs.Content.{space_of}
 use Rattle.unwind_cli.specs.Due.{delivery_from}
 use Rattle.unwind_cli.proofs.unwinding.deliver_snapshot.Goals as goal

@@ -1,5 +1,6 @@
 use Rattle.std.proofs.Common.{◌∙◌, ap}
-use Rattle.stack_deliver.specs.StackDelivery.{line_of, stack_delivery}
+use Rattle.stack_walks.specs.Lines.{line_of}
+use Rattle.stack_deliver.specs.StackDelivery.{stack_delivery}
 use Rattle.stack_steps.specs.Modules.{SpaceValue}
 use Rattle.stack_steps.specs.Preparing.{with_indexes}
 use Rattle.delivery_laws.proofs.SameAnswers.{delivery_same, line_same}

@@ -1,0 +1,12 @@
+pub mod ChainWalked
+pub mod ElfChains
+pub mod FrontAnswers
+pub mod LineAnswers
+pub mod LineShows
+pub mod Reaching
+pub mod Results
+pub mod StoppedWalk
+pub mod StopsRise
+pub mod TurnCounts
+pub mod TurnLines
+pub mod Unread

@@ -1,0 +1,22 @@
+use Rattle.std.proofs.Common.{inr}
+use Rattle.stack_walks.proofs.walking.walk.Goals as goal
+
+pub returns-in_err-walk_into-clause-stopped : goal.returns-in_err-walk_into-clause-stopped
+returns-in_err-walk_into-clause-stopped c functions s call calls starts marked =
+    let broken = (c.in_err-walk_into.ensures.stopped functions s call calls starts marked).0 in
+    absurd cc
+
+pub returns-clause-stopped : goal.returns-clause-stopped
+returns-clause-stopped c functions s call calls starts marked =
+    let walked = c.in_ok-walk_into.ensures.stopped functions s call calls starts marked in
+    inr (rw c.into_parts-states.ensures.0 walked.1)
+
+pub returns-in_err-walk_into-clause-stopped_in : goal.returns-in_err-walk_into-clause-stopped_in
+returns-in_err-walk_into-clause-stopped_in c functions s call calls starts marked =
+    let broken = (c.in_err-walk_into.ensures.stopped_in functions s call calls starts marked).0 in
+    absurd cc
+
+pub returns-clause-stopped_in : goal.returns-clause-stopped_in
+returns-clause-stopped_in c functions s call calls starts marked =
+    let walked = c.in_ok-walk_into.ensures.stopped_in functions s call calls starts marked in
+    inr (rw c.into_parts-states.ensures.0 walked.1)

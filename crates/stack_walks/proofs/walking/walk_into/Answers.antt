@@ -1,0 +1,50 @@
+use Rattle.std.proofs.Common.{List, ◌∷◌, true, false, subst}
+use Rattle.unwind_arch.specs.declared.x86_64.Context.{Context}
+use Rattle.stack_steps.specs.declared.answers.DeliverError.TheVariants.{NoMemory, FrameLimit, Unmapped}
+use Rattle.stack_walks.specs.Lines.{line_of}
+use Rattle.stack_walks.specs.Walking.{IsWalked, ShowChain}
+use Rattle.stack_walks.proofs.LineAnswers.{line_limit, limit_line, line_fault, fault_line, line_unmapped, line_memory}
+use Rattle.stack_walks.proofs.Results.{walked_fault, fault_walked, states_walked}
+use Rattle.stack_walks.proofs.ChainWalked.{chain_walked}
+use Rattle.stack_walks.proofs.ElfChains.{elf_starts, elf_starts_stopped}
+use Rattle.stack_walks.proofs.StoppedWalk.{stopped_walked}
+use Rattle.stack_walks.proofs.walking.walk_into.Goals as goal
+
+pub returns-clause-frame_limit : goal.returns-clause-frame_limit
+returns-clause-frame_limit g c = (
+  λ e. line_limit c.args.space.now c.args.limit c.args.start.now c.args.interrupted (walked_fault c.walked.result c.walked.new.room _ FrameLimit c.walked.ensures.exact e),
+  λ more. fault_walked c.walked.result c.walked.new.room _ FrameLimit c.walked.ensures.exact (limit_line c.args.space.now c.args.limit c.args.start.now c.args.interrupted more),
+)
+
+pub returns-clause-step_fault : goal.returns-clause-step_fault
+returns-clause-step_fault g c e other = (
+  λ is. line_fault c.args.space.now c.args.limit c.args.start.now c.args.interrupted e other (walked_fault c.walked.result c.walked.new.room _ e c.walked.ensures.exact is),
+  λ fails. fault_walked c.walked.result c.walked.new.room _ e c.walked.ensures.exact (fault_line c.args.space.now c.args.limit c.args.start.now c.args.interrupted e fails),
+)
+
+pub returns-clause-unmapped : goal.returns-clause-unmapped
+returns-clause-unmapped g c a e = line_unmapped c.args.space.now c.args.limit c.args.start.now c.args.interrupted a (walked_fault c.walked.result c.walked.new.room _ (Unmapped a) c.walked.ensures.exact e)
+
+pub returns-clause-takes_no_memory : goal.returns-clause-takes_no_memory
+returns-clause-takes_no_memory g c e = line_memory c.args.space.now c.args.limit c.args.start.now c.args.interrupted (walked_fault c.walked.result c.walked.new.room _ NoMemory c.walked.ensures.exact e)
+
+pub returns-clause-chain_in : goal.returns-clause-chain_in
+returns-clause-chain_in g c functions s calls starts called =
+    let w = chain_walked c.args.space.now c.args.start.now c.args.limit functions s calls c.image.ensures.apart c.image.ensures.laid_out starts in
+    let exact : IsWalked c.walked.result c.walked.new.room (line_of c.args.space.now c.args.limit c.args.start.now false) = rw called at c.walked.ensures.exact in
+    let r = states_walked c.walked.result c.walked.new.room _ w.0 exact w.1 in
+    (r.0, subst (λ (cs : List Context). ShowChain cs s calls) r.1 w.2)
+
+pub returns-clause-chain : goal.returns-clause-chain
+returns-clause-chain g c functions s calls starts called = returns-clause-chain_in g c functions s calls (elf_starts c.args.space.now c.args.start.now c.args.limit functions s calls starts) called
+
+pub returns-clause-stopped_in : goal.returns-clause-stopped_in
+returns-clause-stopped_in g c functions s call calls starts marked =
+    let w = stopped_walked c.args.space.now functions s call calls c.args.start.now c.image.ensures.apart c.image.ensures.laid_out c.args.limit starts in
+    let exact : IsWalked c.walked.result c.walked.new.room (line_of c.args.space.now c.args.limit c.args.start.now true) = rw marked at c.walked.ensures.exact in
+    let r = states_walked c.walked.result c.walked.new.room _ w.0 exact w.1 in
+    (r.0, subst (λ (cs : List Context). ShowChain cs s (call ∷ calls)) r.1 w.2)
+
+pub returns-clause-stopped : goal.returns-clause-stopped
+returns-clause-stopped g c functions s call calls starts marked =
+    returns-clause-stopped_in g c functions s call calls (elf_starts_stopped c.args.space.now c.args.start.now c.args.limit functions s call calls starts) marked

@@ -1,0 +1,25 @@
+use Rattle.std.proofs.Common.{None}
+use Rattle.stack_walks.specs.Turns.{line_for}
+use Rattle.stack_walks.specs.Lines.{line_of}
+use Rattle.stack_steps.proofs.Counted.{rises_up_to}
+use Rattle.stack_walks.proofs.TurnLines.{walk_line, walked_by}
+use Rattle.stack_walks.proofs.TurnCounts.{few_met}
+use Rattle.stack_walks.proofs.walking.walked.Goals as goal
+
+pub returns-in-Ok-clause-exact : goal.returns-in-Ok-clause-exact
+returns-in-Ok-clause-exact g c =
+    rw c.in-Ok.is at
+    (walked_by c.outwards.result c.outwards.new.room (line_for None c.args.space.now c.args.limit c.args.start.now c.args.interrupted) (line_of c.args.space.now c.args.limit c.args.start.now c.args.interrupted) c.outwards.ensures.exact
+    (walk_line c.args.space.now c.args.limit c.args.start.now c.args.interrupted))
+
+pub returns-in-Err-clause-exact : goal.returns-in-Err-clause-exact
+returns-in-Err-clause-exact g c =
+    rw c.in-Err.is at
+    (walked_by c.outwards.result c.outwards.new.room (line_for None c.args.space.now c.args.limit c.args.start.now c.args.interrupted) (line_of c.args.space.now c.args.limit c.args.start.now c.args.interrupted) c.outwards.ensures.exact
+    (walk_line c.args.space.now c.args.limit c.args.start.now c.args.interrupted))
+
+pub returns-in-Ok-clause-ticks : goal.returns-in-Ok-clause-ticks
+returns-in-Ok-clause-ticks g c = rises_up_to c.args.space.now _ c.args.limit _ _ (few_met None c.args.space.now c.args.limit c.args.start.now c.args.interrupted) c.outwards.ensures.ticks
+
+pub returns-in-Err-clause-ticks : goal.returns-in-Err-clause-ticks
+returns-in-Err-clause-ticks g c = rises_up_to c.args.space.now _ c.args.limit _ _ (few_met None c.args.space.now c.args.limit c.args.start.now c.args.interrupted) c.outwards.ensures.ticks

@@ -1,0 +1,155 @@
+-- How far a walk comes, and why it ends there.
+use Rattle.std.specs.Prelude.{◌≡◌, ◌≢◌, ◌⊎◌, ℕ, zero, suc, ◌-◌, Bool, List, [], ◌∷◌, Option, Some, None, Result, Ok, Err}
+use Rattle.memory_image.specs.Image.{Span}
+use Rattle.unwind_definitions.specs.declared.error.Error.{Error as Fault}
+use Rattle.unwind_definitions.specs.Input.{Input}
+use Rattle.unwind_definitions.specs.Pointers.{Bases}
+use Rattle.unwind_definitions.specs.LanguageTable.{input_at}
+use Rattle.unwind_definitions.specs.LanguageSearch.{address_of_call}
+use Rattle.unwind_arch.specs.declared.x86_64.Context.{Context}
+use Rattle.eh_frame.specs.Search.{IsUnreadable, NoneContains}
+use Rattle.fde_finders.specs.declared.custom.FrameInfoKind.{FrameInfoKind}
+use Rattle.fde_finders.specs.declared.custom.FrameInfoKind.TheVariants.{EhFrame, EhFrameHdr}
+use Rattle.fde_finders.specs.Finding.{table_bases, relative_to}
+use Rattle.fde_finders.specs.HeaderFinding.{found_by_header}
+use Rattle.stack_steps.specs.declared.answers.Stepped.{Stepped}
+use Rattle.stack_steps.specs.declared.answers.DeliverError.{DeliverError}
+use Rattle.stack_steps.specs.declared.answers.DeliverError.TheVariants.{FrameLimit}
+use Rattle.stack_walks.specs.declared.front.Front.{Front}
+use Rattle.stack_walks.specs.declared.front.Front.TheVariants.{Outermost, NoModule, NoDescription, UnreadableTable, Refused, Limit}
+use Rattle.stack_walks.specs.declared.outward.Phase.{Phase}
+use Rattle.stack_steps.specs.declared.space.Module.{Module}
+use Rattle.stack_steps.specs.declared.space.ModuleTables.{ModuleTables}
+use Rattle.stack_steps.specs.declared.space.ModuleTables.TheVariants.{Elf, Macho, Pe}
+use Rattle.format_definitions.specs.CompactStep.{MachoModule}
+use Rattle.format_frames.specs.Refusals.{function_at}
+use Rattle.stack_steps.specs.Modules.{SpaceValue, module_at}
+use Rattle.stack_steps.specs.Stepping.{macho_of, step_of}
+use Rattle.stack_walks.specs.Lines.{NeedsMore}
+use Rattle.stack_walks.specs.Turns.{Turn, Ends, Stops, Goes, turn_for}
+use Rattle.stack_walks.specs.TurnViews.{AreVisited}
+use Rattle.stack_walks.specs.Walking.{RoomValue}
+
+-- ---- how far it comes
+
+-- contexts that are met on the way outwards, and the state after them: the last of them where it goes no further, else the next
+pub record Reached : Type 0 where
+  pub contexts : List Context
+  pub state : Stepped
+
+abbrev pub reached_after : Stepped → Option Stepped → (Stepped → Reached) → Reached
+reached_after s None outer = record { contexts = s.context ∷ []; state = s }
+reached_after s (Some next) outer = record { contexts = s.context ∷ (outer next).contexts; state = (outer next).state }
+
+-- from a state outwards, where each state has one next state or none, and at most so many
+abbrev pub reached_by : (Stepped → Option Stepped) → ℕ → Stepped → Reached
+reached_by next zero s = record { contexts = []; state = s }
+reached_by next (suc room) s = reached_after s (next s) (reached_by next room)
+
+-- the caller, where a step gives one: not at the end of the stack, and not after a fault
+abbrev pub caller_in : Result (Option Stepped) DeliverError → Option Stepped
+caller_in (Ok s) = s
+caller_in (Err e) = None
+
+abbrev pub caller_from : SpaceValue → Stepped → Option Stepped
+caller_from space s = caller_in (step_of space s.context s.signal)
+
+abbrev pub started : Context → Bool → Stepped
+started c interrupted = record { context = c; signal = interrupted }
+
+-- The contexts from one outwards, at most so many, each the caller of the one before: up to the end of the stack, or to the
+-- first whose step has a fault.
+abbrev pub front_of : SpaceValue → ℕ → Context → Bool → List Context
+front_of space limit c interrupted = (reached_by (caller_from space) limit (started c interrupted)).contexts
+
+-- the same for a pass, which goes to the caller or ends
+abbrev pub caller_turned : Result Turn DeliverError → Option Stepped
+caller_turned (Ok Ends) = None
+caller_turned (Ok (Stops _ _)) = None
+caller_turned (Ok (Goes next)) = Some next
+caller_turned (Err e) = None
+
+abbrev pub turned_from : Option Phase → SpaceValue → Stepped → Option Stepped
+turned_from phase space s = caller_turned (turn_for phase space s.context s.signal)
+
+-- what the way outwards leaves: the contexts in a room, where they are visited, and the state
+abbrev pub IsReached : Bool → RoomValue → Stepped → Reached → Type 0
+IsReached visited room state due = AreVisited visited room due.contexts × (state ≡ due.state)
+
+-- ---- why it ends
+
+-- the bytes of a table at its address
+abbrev pub input_of : ℕ → List ℕ → Input
+input_of base bytes = record { base = base; offset = 0; bytes = bytes }
+
+-- The entry at an offset of a frame table can't be read, and no entry before it contains the address. These entries are those
+-- from some place on.
+abbrev pub IsUnreadableAt : Bases → Input → ℕ → ℕ → ℕ → Fault → Type 0
+IsUnreadableAt bases table a from offset e = (u : IsUnreadable bases table a from e) × (u.offset ≡ offset)
+
+-- Why a frame table has no description for an address: none of its entries, all of which can be read, contains it; or an entry
+-- can't be read, and none before it contains it.
+abbrev pub IsUndescribedIn : Bases → Input → ℕ → Front → Type 0
+IsUndescribedIn bases table a (NoDescription b) = (b ≡ a) × NoneContains bases table a 0
+IsUndescribedIn bases table a (UnreadableTable b offset e) = (b ≡ a) × IsUnreadableAt bases table a 0 offset e
+IsUndescribedIn bases table a _ = ⊥
+
+-- By a header nothing is found, for whichever cause.
+abbrev pub IsUnlisted : Bases → List Span → ℕ → ℕ → Front → Type 0
+IsUnlisted bases image header a (NoDescription b) = (b ≡ a) × (found_by_header bases image header a ≡ None)
+IsUnlisted bases image header a _ = ⊥
+
+-- why the tables that a module names have no description for an address
+abbrev pub IsUndescribed : List Span → Option ℕ → FrameInfoKind → ℕ → Front → Type 0
+IsUndescribed image text (EhFrame frame) a why = IsUndescribedIn (table_bases text frame) (input_at image frame) a why
+IsUndescribed image text (EhFrameHdr header) a why = IsUnlisted (relative_to text None) image header a why
+
+-- A section of compact unwinding lists no function at an address.
+abbrev pub IsUnlistedIn : List Span → MachoModule → ℕ → Front → Type 0
+IsUnlistedIn image m a (NoDescription b) = (b ≡ a) × (function_at image m (a - m.base) ≡ Ok None)
+IsUnlistedIn image m a _ = ⊥
+
+-- by the tables of the module that holds it; in a PE module an address without a record is one of a leaf
+abbrev pub IsUnknownIn : List Span → Module → ModuleTables → ℕ → Front → Type 0
+IsUnknownIn image m (Elf tables) a why = IsUndescribed image tables.text_base tables.kind a why
+IsUnknownIn image m (Macho tables) a why = IsUnlistedIn image (macho_of m tables) a why
+IsUnknownIn image m (Pe tables) a why = ⊥
+
+-- no module holds an address
+abbrev pub IsUnheld : ℕ → Front → Type 0
+IsUnheld a (NoModule b) = b ≡ a
+IsUnheld a _ = ⊥
+
+-- why nothing is known of an address, by the module that holds it
+abbrev pub IsUnknown : List Span → Option Module → ℕ → Front → Type 0
+IsUnknown image None a why = IsUnheld a why
+IsUnknown image (Some m) a why = IsUnknownIn image m m.tables a why
+
+-- Why a walk goes no further than a context: its return address is 0; or it isn't, but the stack ends, since nothing is known of
+-- the address asked; or its step has a fault.
+abbrev pub EndsFor : Front → SpaceValue → Context → Bool → Type 0
+EndsFor Outermost space c interrupted = c.ra ≡ 0
+EndsFor (Refused a e) space c interrupted =
+    (a ≡ address_of_call c.ra interrupted) × (step_of space c interrupted ≡ Err e)
+EndsFor Limit space c interrupted = ⊥
+EndsFor why space c interrupted =
+    (c.ra ≢ 0) × (step_of space c interrupted ≡ Ok None)
+    × IsUnknown space.image (module_at space.modules (address_of_call c.ra interrupted))
+    (address_of_call c.ra interrupted) why
+
+-- why it goes no further where it meets the limit, or a fault
+abbrev pub stopped_by : ℕ → DeliverError → Front
+stopped_by a FrameLimit = Limit
+stopped_by a e = Refused a e
+
+-- Of so many contexts from one outwards, each the caller of the one before, one is so.
+abbrev pub Meets : SpaceValue → (Context → Bool → Type 0) → ℕ → Context → Bool → Type 0
+Meets space P zero c interrupted = ⊥
+Meets space P (suc room) c interrupted =
+    P c interrupted
+    ⊎ ((s : Stepped) × (step_of space c interrupted ≡ Ok (Some s)) × Meets space P room s.context s.signal)
+
+-- Why a walk from a context of at most so many states ends: each of so many has a caller, or one of them has none.
+abbrev pub ComesTo : Front → SpaceValue → ℕ → Context → Bool → Type 0
+ComesTo Limit space limit c interrupted = NeedsMore space limit c interrupted
+ComesTo why space limit c interrupted = Meets space (EndsFor why space) limit c interrupted

@@ -1,0 +1,106 @@
+-- What is met at a context on the way outwards over a stack: by a walk, which has no phase, and by the passes of a delivery.
+-- Itanium C++ ABI, exception handling, level I, section 1.3.
+use Rattle.std.specs.Prelude.{ℕ, zero, suc, ◌+◌, ◌-◌, ◌%◌, ◌^◌, ◌==◌, Bool, true, false, List, [], ◌∷◌, Option, Some, None, Result, Ok, Err, slice_index, slice_set, if◌then◌else◌}
+use Rattle.memory_image.specs.Image.{Span}
+use Rattle.unwind_definitions.specs.Function.{Action, NoAction, Cleanup, Catch, Filter}
+use Rattle.unwind_definitions.specs.Delivery.{decides}
+use Rattle.unwind_arch.specs.declared.x86_64.Context.{Context}
+use Rattle.unwind_arch.specs.Columns.{rax, rdx, rsp}
+use Rattle.stack_steps.specs.declared.answers.Stepped.{Stepped}
+use Rattle.stack_steps.specs.declared.answers.DeliverError.{DeliverError}
+use Rattle.stack_steps.specs.declared.answers.DeliverError.TheVariants.{FrameLimit}
+use Rattle.stack_walks.specs.declared.outward.Phase.{Phase}
+use Rattle.stack_walks.specs.declared.outward.Phase.TheVariants as phase
+use Rattle.stack_steps.specs.Modules.{SpaceValue}
+use Rattle.stack_steps.specs.Results.{◌>>=◌, result_map}
+use Rattle.stack_steps.specs.Asking.{action_asked, arguments_of}
+use Rattle.stack_steps.specs.Stepping.{FrameAt, frame_of, caller_by}
+
+-- ---- a pass
+
+-- the search stops where a frame decides, and a cleanup pass where anything is asked
+abbrev pub stops : Phase → Action → Bool
+stops phase.Search action = decides action
+stops phase.Cleanup NoAction = false
+stops phase.Cleanup _ = true
+
+-- a context whose stack pointer is past the arguments that the callee removes
+abbrev pub past_arguments : Context → ℕ → Context
+past_arguments c size = record c { registers = slice_set c.registers rsp ((slice_index c.registers rsp + size) % 2 ^ 64) }
+
+-- where a pass stops: the context, whether it stands after a signal's frame, what is asked there, and the context past its
+-- arguments, with which a landing pad is entered
+pub record Stop : Type 0 where
+  pub context : Context
+  pub interrupted : Bool
+  pub action : Action
+  pub past : Context
+
+-- what a pass meets at a context: the end of the stack, an action for which it stops, or the caller
+pub data Turn : Type 0 where
+  Ends : Turn
+  Stops : Action → Context → Turn
+  Goes : Stepped → Turn
+
+-- the action, where the pass stops for it
+abbrev pub stop_by : Phase → Action → Option Action
+stop_by p action = if stops p action then Some action else None
+
+-- For which action a frame stops who goes outwards: a walk, which has no phase, for none, and a pass for what the frame asks.
+abbrev pub stop_of : Option Phase → List Span → Context → Bool → FrameAt → Result (Option Action) DeliverError
+stop_of None image c interrupted f = Ok None
+stop_of (Some p) image c interrupted f = result_map (stop_by p) (action_asked image c interrupted f)
+
+-- at a frame: it stops there for an action, or its caller is next
+abbrev pub turn_at : List Span → Context → FrameAt → Option Action → Result Turn DeliverError
+turn_at image c f None = result_map Goes (caller_by image c f)
+turn_at image c f (Some action) = Ok (Stops action (past_arguments c (arguments_of f)))
+
+abbrev pub turn_in : Option Phase → List Span → Context → Bool → Option FrameAt → Result Turn DeliverError
+turn_in phase image c interrupted None = Ok Ends
+turn_in phase image c interrupted (Some f) = stop_of phase image c interrupted f >>= turn_at image c f
+
+-- A walk or a pass at a context. What is found there is read first, a row among it, then what names the handler, then the language
+-- table, and the caller last.
+unfoldable pub turn_for : Option Phase → SpaceValue → Context → Bool → Result Turn DeliverError
+turn_for phase space c interrupted = frame_of space c interrupted >>= turn_in phase space.image c interrupted
+
+abbrev pub turn_of : Phase → SpaceValue → Context → Bool → Result Turn DeliverError
+turn_of p = turn_for (Some p)
+
+-- the contexts that are met on the way outwards, and where it stops, None at the end of the stack
+pub record Line : Type 0 where
+  pub contexts : List Context
+  pub stop : Option Stop
+
+abbrev pub with_context : Context → Result Line DeliverError → Result Line DeliverError
+with_context c (Ok line) = Ok (record line { contexts = c ∷ line.contexts })
+with_context c (Err e) = Err e
+
+abbrev pub line_turn : Context → Bool → Result Turn DeliverError → (Context → Bool → Result Line DeliverError) → Result Line DeliverError
+line_turn c interrupted (Ok Ends) outer = Ok (record { contexts = c ∷ []; stop = None })
+line_turn c interrupted (Ok (Stops action past)) outer = Ok (record { contexts = c ∷ []; stop = Some (record { context = c; interrupted = interrupted; action = action; past = past }) })
+line_turn c interrupted (Ok (Goes next)) outer = with_context c (outer next.context next.signal)
+line_turn c interrupted (Err e) outer = Err e
+
+-- From a context outwards, where there is room for so many contexts.
+abbrev pub line_for : Option Phase → SpaceValue → ℕ → Context → Bool → Result Line DeliverError
+line_for phase space zero c interrupted = Err FrameLimit
+line_for phase space (suc room) c interrupted = line_turn c interrupted (turn_for phase space c interrupted) (line_for phase space room)
+
+abbrev pub pass_of : Phase → SpaceValue → ℕ → Context → Bool → Result Line DeliverError
+pass_of p = line_for (Some p)
+
+-- the mark by which a pass knows the frame that the search decided for: its stack pointer, less 1 after a signal's frame
+abbrev pub kept_at : Context → Bool → ℕ
+kept_at c interrupted = if interrupted then (slice_index c.registers rsp + (2 ^ 64 - 1)) % 2 ^ 64 else slice_index c.registers rsp
+
+abbrev pub pad_of : Action → Option ℕ
+pad_of (Cleanup pad) = Some pad
+pad_of (Catch pad) = Some pad
+pad_of (Filter pad) = Some pad
+pad_of _ = None
+
+-- a context that enters a landing pad: RAX holds the exception, and RDX 0
+abbrev pub enters : Context → ℕ → ℕ → Context
+enters c exception pad = record c { registers = slice_set (slice_set c.registers rax exception) rdx 0; ra = pad }

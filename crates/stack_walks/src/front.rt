@@ -1,0 +1,254 @@
+// How far a walk comes, and why it ends there.
+ghost use Rattle.std.specs.Prelude.{◌≡◌, ◌≢◌, ◌≤◌, ◌↔◌, ℕ, suc, List, [], Ok, Err, false, None};
+ghost use Rattle.std.specs.Prelude.{length, take};
+ghost use Rattle.memory_image.specs.Image.{table_at};
+ghost use Rattle.unwind_definitions.specs.declared.error.Error.{Error as Fault};
+ghost use Rattle.unwind_definitions.specs.Scan.{scan};
+ghost use Rattle.unwind_arch.specs.declared.x86_64.Context.{Context};
+ghost use Rattle.eh_frame.specs.Listing.{listing_of};
+ghost use Rattle.fde_finders.specs.Finding.{table_bases};
+ghost use Rattle.stack_walks.specs.Lines.{line_of};
+ghost use Rattle.stack_walks.specs.FrontSample.{after_call, bad_row, cut_entry, held_by};
+ghost use Rattle.stack_walks.specs.FrontSample.{no_entry, nowhere};
+ghost use Rattle.stack_walks.specs.Fronts.{ComesTo, EndsFor, front_of, input_of, IsUndescribed};
+ghost use Rattle.stack_walks.specs.Fronts.{IsUndescribedIn, stopped_by, IsUnknownIn};
+ghost use Rattle.stack_steps.specs.Stepping.{FindsNone, step_of, FindsNoneIn};
+ghost use Rattle.stack_steps.specs.Ticking.{RisesWithin};
+
+use crate::outward::outwards;
+use crate::room::Room;
+use eh_frame::{Bases, EhFrame, Entries, Error, RowRoom};
+use fde_finders::{FrameInfo, FrameInfoKind};
+use memory_image::{Ledger, MemoryImage, Steps};
+use stack_steps::{DeliverError, Module, ModuleTables, Space, Stepped};
+use unwind_arch::x86_64::Context;
+
+/// Why a walk goes no further than its last state.
+///
+/// Each address is the one asked at that state: that of its instruction where it was interrupted,
+/// else the byte before its return address.
+#[derive(Clone, Copy, Debug, PartialEq, Eq)]
+pub enum Front {
+    /// Its return address is 0: it is the outermost.
+    Outermost,
+    /// No module holds the address.
+    NoModule(u64),
+    /// No description is found for the address: every entry of the frame table that its module
+    /// names can be read, and none contains it; or by the header that its module names nothing is
+    /// found; or the section of compact unwinding of its module lists no function there.
+    NoDescription(u64),
+    /// An entry of the frame table can't be read, and none before it contains the address.
+    UnreadableTable {
+        /// The address.
+        address: u64,
+        /// How many bytes of the table stand before the entry.
+        offset: u64,
+        /// Why it can't be read.
+        error: Error,
+    },
+    /// The step to its caller has a fault.
+    Refused {
+        /// The address.
+        address: u64,
+        /// The fault.
+        error: DeliverError,
+    },
+    /// It has a caller, but there are as many states as the limit allows.
+    Limit,
+}
+
+/// The entry for which the scan of a frame table for an address fails.
+fn unreadable(entries: &mut Entries<'_>, turns: usize, address: u64, error: Error) -> Front
+    requires starts { ((listing_of entries.old).offset ≡ 0) ×
+        ((listing_of entries.old).is_over ≡ false) }
+    requires enough { turns ≡ suc (length (listing_of entries.old).table.bytes) }
+    requires fails { scan (listing_of entries.old).bases (listing_of entries.old).table address ≡
+        Err error }
+    requires unread { error ≢ Error.NoUnwindInfoForAddress }
+    ensures { IsUndescribedIn (listing_of entries.old).bases (listing_of entries.old).table address
+        result }
+{
+    for _ in 0..turns {
+        let offset = entries.offset();
+        if entries.next().is_err() {
+            return Front::UnreadableTable {
+                address,
+                offset,
+                error,
+            };
+        }
+    }
+    unreachable!()
+}
+
+/// Why the scan of a frame table finds no description for an address.
+fn unlisted(bytes: &[u8], table: u64, text_base: Option<u64>, address: u64) -> Front
+    requires { (e : Fault) × (scan (table_bases text_base table)
+        (input_of table bytes.now) address ≡ Err e) }
+    ensures { IsUndescribedIn (table_bases text_base table)
+        (input_of table bytes.now) address result }
+{
+    let bases = Bases {
+        text: text_base,
+        data_base: None,
+        func: None,
+        hdr: None,
+        frame: Some(table),
+    };
+    let frames = EhFrame::new(bytes, table);
+    match frames.fde_for_address(&bases, address) {
+        Ok(_) => unreachable!(),
+        Err(Error::NoUnwindInfoForAddress) => Front::NoDescription(address),
+        Err(error) => {
+            let mut entries = frames.entries(&bases);
+            unreadable(&mut entries, bytes.len() + 1, address, error)
+        }
+    }
+}
+
+/// The bytes from an address to the end of its region, none where nothing is mapped.
+fn bytes_at<'a>(image: &MemoryImage<'a>, address: u64) -> &'a [u8]
+    ensures { result.now ≡ table_at image.now address }
+{
+    image.from(address).unwrap_or(&[])
+}
+
+/// Why no description is found for an address by the tables that its module names.
+fn undescribed(image: &MemoryImage<'_>, address: u64, tables: FrameInfo) -> Front
+    requires { FindsNone image.now tables.text_base tables.kind address }
+    ensures { IsUndescribed image.now tables.text_base tables.kind address result }
+{
+    match tables.kind {
+        FrameInfoKind::EhFrameHdr(_) => Front::NoDescription(address),
+        FrameInfoKind::EhFrame(table) => {
+            unlisted(bytes_at(image, table), table, tables.text_base, address)
+        }
+    }
+}
+
+/// Why nothing is known of an address by the tables of its module.
+fn unknown(image: &MemoryImage<'_>, address: u64, holder: &Module) -> Front
+    requires { FindsNoneIn image.now holder.now holder.now.tables address }
+    ensures { IsUnknownIn image.now holder.now holder.now.tables address result }
+{
+    match holder.tables {
+        ModuleTables::Elf(tables) => undescribed(image, address, tables),
+        ModuleTables::Macho(_) => Front::NoDescription(address),
+        // An address without a record is one of a leaf.
+        ModuleTables::Pe(_) => unreachable!(),
+    }
+}
+
+/// Why there is no frame at a state.
+fn unframed(space: &Space<'_>, state: &Stepped) -> Front
+    requires { step_of space.now state.now.context state.now.signal ≡ Ok None }
+    ensures { EndsFor result space.now state.now.context state.now.signal }
+{
+    if state.context.ra == 0 {
+        return Front::Outermost;
+    }
+    let address = state.address();
+    match space.module_at(address) {
+        None => Front::NoModule(address),
+        Some(holder) => unknown(space.image(), address, &holder),
+    }
+}
+
+/// Why a walk goes no further where it meets the limit or a fault.
+fn stopped(address: u64, error: DeliverError) -> Front
+    ensures { result ≡ stopped_by address error }
+{
+    match error {
+        DeliverError::FrameLimit => Front::Limit,
+        error => Front::Refused { address, error },
+    }
+}
+
+/// Visits the states from the start outwards, in a room that is emptied first.
+fn fronted<L: Ledger>(
+    space: &Space<'_>,
+    start: &Context,
+    interrupted: bool,
+    limit: u32,
+    room: &mut Room,
+    steps: &mut Steps<L>,
+) -> Front
+    requires { limit ≤ room.old.limit }
+    ensures states { room.new.visited ≡ front_of space.now limit start.now interrupted }
+    ensures why { ComesTo result space.now limit start.now interrupted }
+    ensures no_cleanup { room.new.trail ≡ [] }
+    ensures places { room.new.limit ≡ room.old.limit }
+    ensures ticks { RisesWithin space.now limit steps.old.number steps.new.number }
+{
+    room.clear();
+    let mut state = Stepped {
+        context: *start,
+        signal: interrupted,
+    };
+    match outwards(
+        None,
+        space,
+        &mut state,
+        limit,
+        room,
+        &mut RowRoom::new(),
+        steps,
+    ) {
+        Ok(_) => unframed(space, &state),
+        Err(error) => stopped(state.address(), error),
+    }
+}
+
+/// Walks the stack whose innermost frame has the registers `start` into a room as far as it goes,
+/// and answers why it goes no further.
+///
+/// The room is emptied first. Then it holds the states from the start outwards: each next one is
+/// the caller of the one before, by `step`, up to the end of the stack, to the first state whose
+/// step has a fault, or to the limit. `interrupted` says whether the start stands before its
+/// instruction and not after a call. So where `walk_into` answers, these are its states; where it
+/// is refused, they are the states before its fault. No memory is taken, and nothing is refused.
+pub fn walk_front_into<L: Ledger>(
+    space: &Space<'_>,
+    start: &Context,
+    interrupted: bool,
+    limit: u32,
+    room: &mut Room,
+    steps: &mut Steps<L>,
+) -> Front
+    requires { limit ≤ room.old.limit }
+    // The states are those from the start outwards, each the caller of the one before.
+    ensures states { room.new.visited ≡ front_of space.now limit start.now interrupted }
+    // They are all of a line that the limit has room for, and the first of any longer one.
+    ensures whole { (states : List Context) →
+        line_of space.now limit start.now interrupted ≡ Ok states →
+        room.new.visited ≡ states }
+    ensures front { (longer : ℕ) (states : List Context) → limit ≤ longer →
+        line_of space.now longer start.now interrupted ≡ Ok states →
+        room.new.visited ≡ take limit states }
+    // Each reason is given exactly for its cause.
+    ensures why { (reason : Front) → (result ≡ reason) ↔
+        ComesTo reason space.now limit start.now interrupted }
+    ensures no_cleanup { room.new.trail ≡ [] }
+    ensures places { room.new.limit ≡ room.old.limit }
+    // As many searches as the limit allows states; none is counted where each module names a frame
+    // table and none is prepared.
+    ensures ticks { RisesWithin space.now limit steps.old.number steps.new.number }
+{
+    fronted(space, start, interrupted, limit, room, steps)
+}
+
+/// Each reason can be given, so that its cause can be met: after a call that returns to 0, to an
+/// address that no module holds, and into a module whose frame table is empty, is cut, or has a
+/// description with an unknown instruction; and where no state is allowed. The function does
+/// nothing.
+pub fn each_reason_is_given()
+    ensures outermost { ComesTo Front.Outermost nowhere 1 (after_call 0) false }
+    ensures no_module { ComesTo (Front.NoModule 0x1004) nowhere 1 (after_call 0x1005) false }
+    ensures no_description { ComesTo (Front.NoDescription 0x1004)
+        (held_by no_entry) 1 (after_call 0x1005) false }
+    ensures unreadable { ComesTo (Front.UnreadableTable 0x1004 0 Error.UnexpectedEof)
+        (held_by cut_entry) 1 (after_call 0x1005) false }
+    ensures refused { ComesTo (Front.Refused 0x1004 (DeliverError.Table Error.UnknownInstruction))
+        (held_by bad_row) 1 (after_call 0x1005) false }
+    ensures limit { ComesTo Front.Limit nowhere 0 (after_call 0x1005) false }
+{}

@@ -1,0 +1,15 @@
+//! The way outwards over a stack that lies in an image of memory: the states from the innermost frame
+//! on, how far they go and why no further, and place for them.
+//!
+//! Users take these by `stack_deliver`, which goes the same way for its passes.
+#![tactic(auto)]
+
+mod front;
+mod outward;
+mod room;
+mod walking;
+
+pub use front::{Front, each_reason_is_given, walk_front_into};
+pub use outward::{Phase, Stop, outwards};
+pub use room::{Room, Trail};
+pub use walking::{Visited, walk, walk_into};

@@ -1,0 +1,217 @@
+// The states of a stack, from its innermost frame outwards.
+ghost use Rattle.std.specs.Prelude.{◌≡◌, ◌≢◌, ◌⊎◌, ◌↔◌, ◌≤◌, ℕ, List, [], ◌∷◌, None, Err, length};
+ghost use Rattle.std.specs.Prelude.{slice_get, IsOk, IsOkAnd, IsTrue, IsFalse, OnErr};
+ghost use Rattle.memory_image.specs.Image.{word_at};
+ghost use Rattle.unwind_definitions.specs.State.{State};
+ghost use Rattle.unwind_definitions.specs.Function.{Function};
+ghost use Rattle.unwind_definitions.specs.Chain.{Call};
+ghost use Rattle.stack_walks.specs.Lines.{GivesUnlessNoMemory, NeedsMore, line_of};
+ghost use Rattle.stack_steps.specs.Ticking.{RisesWithin};
+ghost use Rattle.stack_walks.specs.Walking.{IsWalked, StepFails, ShowChain};
+ghost use Rattle.stack_walks.specs.Walking.{StartsChain, StartsFormatChain};
+ghost use Rattle.stack_steps.specs.Stopped.{StartsStopped, StartsFormatStop};
+
+use crate::outward::outwards;
+use crate::room::Room;
+use eh_frame::RowRoom;
+use memory_image::{Ledger, NoLedger, Steps};
+use stack_steps::{DeliverError, Space, Stepped};
+use std::alloc::Global;
+use std::marker::Model;
+use unwind_arch::x86_64::Context;
+
+/// Visits the states from the start outwards, in a room that is emptied first, and after an error
+/// again.
+fn walked<L: Ledger>(
+    space: &Space<'_>,
+    start: &Context,
+    interrupted: bool,
+    limit: u32,
+    room: &mut Room,
+    steps: &mut Steps<L>,
+) -> Result<(), DeliverError>
+    requires { limit ≤ room.old.limit }
+    ensures exact { IsWalked result room.new (line_of space.now limit start.now interrupted) }
+    ensures emptied { OnErr result (room.new.visited ≡ []) }
+    ensures no_cleanup { room.new.trail ≡ [] }
+    ensures places { room.new.limit ≡ room.old.limit }
+    ensures ticks { RisesWithin space.now limit steps.old.number steps.new.number }
+{
+    room.clear();
+    let mut state = Stepped {
+        context: *start,
+        signal: interrupted,
+    };
+    match outwards(
+        None,
+        space,
+        &mut state,
+        limit,
+        room,
+        &mut RowRoom::new(),
+        steps,
+    ) {
+        Ok(_) => Ok(()),
+        Err(error) => {
+            room.clear();
+            Err(error)
+        }
+    }
+}
+
+/// Walks the stack whose innermost frame has the registers `start` into a room.
+///
+/// The room is emptied first. Then it holds the states from the start outwards: each next one is
+/// the caller of the one before, by `step`, until the stack ends. `interrupted` says whether the
+/// start stands before its instruction and not after a call; so does each state after a signal's
+/// frame. No memory is taken.
+///
+/// # Errors
+///
+/// `FrameLimit` where more than `limit` states are needed; the errors of a step, as they are. A
+/// fault of the step from the last allowed state comes before `FrameLimit`. The room is then empty.
+pub fn walk_into<L: Ledger>(
+    space: &Space<'_>,
+    start: &Context,
+    interrupted: bool,
+    limit: u32,
+    room: &mut Room,
+    steps: &mut Steps<L>,
+) -> Result<(), DeliverError>
+    requires { limit ≤ room.old.limit }
+    // The states are the line of the start, and an error is the line's first fault.
+    ensures exact { IsWalked result room.new (line_of space.now limit start.now interrupted) }
+    ensures emptied { OnErr result (room.new.visited ≡ []) }
+    ensures no_cleanup { room.new.trail ≡ [] }
+    ensures places { room.new.limit ≡ room.old.limit }
+    // The limit is met exactly where more states are needed.
+    ensures frame_limit { (result ≡ Err DeliverError.FrameLimit) ↔
+        NeedsMore space.now limit start.now interrupted }
+    ensures step_fault { (error : DeliverError) → error ≢ DeliverError.FrameLimit →
+        (result ≡ Err error) ↔ StepFails space.now limit start.now interrupted error }
+    ensures unmapped { (a : ℕ) → result ≡ Err (DeliverError.Unmapped a) →
+        word_at space.now.image a ≡ None }
+    ensures takes_no_memory { result ≢ Err DeliverError.NoMemory }
+    // A described chain that the limit has room for is walked to its end.
+    ensures chain { (functions : List Function) (s : State) (calls : List Call) →
+        StartsChain space.now start.now limit functions s calls → IsFalse interrupted →
+        IsOk result × ShowChain room.new.visited s calls }
+    // So is a function that was stopped at any instruction of its prologue or its body, and then
+    // the described chain that its caller begins.
+    ensures stopped { (functions : List Function) (s : State) (call : Call) (calls : List Call) →
+        StartsStopped space.now start.now limit functions s call calls → IsTrue interrupted →
+        IsOk result × ShowChain room.new.visited s (call ∷ calls) }
+    // The same through modules of whatever format: of a described chain, and of a function that was
+    // stopped in its body, in the prologue where it is of an ELF or a PE module, or in an epilog
+    // where it is of a PE module.
+    ensures chain_in { (functions : List Function) (s : State) (calls : List Call) →
+        StartsFormatChain space.now start.now limit functions s calls → IsFalse interrupted →
+        IsOk result × ShowChain room.new.visited s calls }
+    ensures stopped_in { (functions : List Function) (s : State) (call : Call)
+        (calls : List Call) →
+        StartsFormatStop space.now start.now limit functions s call calls → IsTrue interrupted →
+        IsOk result × ShowChain room.new.visited s (call ∷ calls) }
+    // As many searches as the limit allows states; none is counted where each module names a frame
+    // table and none is prepared.
+    ensures ticks { RisesWithin space.now limit steps.old.number steps.new.number }
+{
+    // No two of its modules share an address, as a space's type says.
+    let _ = space.image();
+    walked(space, start, interrupted, limit, room, steps)
+}
+
+/// The states of a stack that was walked.
+///
+/// Contracts see them from the start outwards.
+#[derive(Drop)]
+pub struct Visited {
+    states: Vec<Context>,
+}
+
+impl Model for Visited {
+    ghost use Rattle.std.specs.Prelude.{List};
+    ghost use Rattle.unwind_arch.specs.declared.x86_64.Context.{Context};
+
+    ghost Value = { List Context };
+
+    ghost view = { λ v. v.states.items };
+}
+
+impl Visited {
+    /// How many states there are.
+    pub fn len(&self) -> usize
+        ensures { result ≡ length self.now }
+    {
+        self.states.len()
+    }
+
+    /// The state at this place, from the start outwards.
+    pub fn get(&self, i: usize) -> Option<Context>
+        ensures { result ≡ slice_get self.now i }
+    {
+        self.states.get(i).copied()
+    }
+}
+
+/// Walks the stack whose innermost frame has the registers `start`.
+///
+/// It is `walk_into` over a room of `limit` places, which is reserved for it and not filled.
+///
+/// # Errors
+///
+/// `NoMemory` where memory ran out; else the errors of `walk_into`.
+pub fn walk(
+    alloc: Global,
+    space: &Space<'_>,
+    start: &Context,
+    interrupted: bool,
+    limit: u32,
+) -> Result<Visited, DeliverError>
+    ensures exact { GivesUnlessNoMemory result (line_of space.now limit start.now interrupted) }
+    // The limit is met exactly where more states are needed.
+    ensures frame_limit { result ≡ Err DeliverError.FrameLimit →
+        NeedsMore space.now limit start.now interrupted }
+    ensures needs_more { NeedsMore space.now limit start.now interrupted →
+        (result ≡ Err DeliverError.NoMemory) ⊎ (result ≡ Err DeliverError.FrameLimit) }
+    ensures step_fault { (error : DeliverError) → error ≢ DeliverError.FrameLimit →
+        error ≢ DeliverError.NoMemory → result ≡ Err error →
+        StepFails space.now limit start.now interrupted error }
+    ensures step_fails { (error : DeliverError) → error ≢ DeliverError.FrameLimit →
+        StepFails space.now limit start.now interrupted error →
+        (result ≡ Err DeliverError.NoMemory) ⊎ (result ≡ Err error) }
+    ensures unmapped { (a : ℕ) → result ≡ Err (DeliverError.Unmapped a) →
+        word_at space.now.image a ≡ None }
+    // A described chain that the limit has room for is walked to its end.
+    ensures chain { (functions : List Function) (s : State) (calls : List Call) →
+        StartsChain space.now start.now limit functions s calls → IsFalse interrupted →
+        (result ≡ Err DeliverError.NoMemory) ⊎
+        IsOkAnd result (λ visited. ShowChain visited s calls) }
+    // So is a function that was stopped at any instruction of its prologue or its body, and then
+    // the described chain that its caller begins.
+    ensures stopped { (functions : List Function) (s : State) (call : Call) (calls : List Call) →
+        StartsStopped space.now start.now limit functions s call calls → IsTrue interrupted →
+        (result ≡ Err DeliverError.NoMemory) ⊎
+        IsOkAnd result (λ visited. ShowChain visited s (call ∷ calls)) }
+    // The same through modules of whatever format.
+    ensures chain_in { (functions : List Function) (s : State) (calls : List Call) →
+        StartsFormatChain space.now start.now limit functions s calls → IsFalse interrupted →
+        (result ≡ Err DeliverError.NoMemory) ⊎
+        IsOkAnd result (λ visited. ShowChain visited s calls) }
+    ensures stopped_in { (functions : List Function) (s : State) (call : Call)
+        (calls : List Call) →
+        StartsFormatStop space.now start.now limit functions s call calls → IsTrue interrupted →
+        (result ≡ Err DeliverError.NoMemory) ⊎
+        IsOkAnd result (λ visited. ShowChain visited s (call ∷ calls)) }
+{
+    let mut room = Room::new(alloc, limit)?;
+    walk_into(
+        space,
+        start,
+        interrupted,
+        limit,
+        &mut room,
+        &mut Steps::new(NoLedger),
+    )?;
+    let (states, _) = room.into_parts();
+    Ok(Visited { states })
+}
