@@ -6,7 +6,7 @@ use super::*;
 /// RBP, sets it, pushes RBX and allocates 8. That at 0x401020 pushes RBX, and has a language table with a
 /// cleanup at 0x401040. That at 0x401050 pushes R14 and RBX and allocates 8; its language table has a
 /// handler at 0x401070.
-const TABLE: &str =
+pub(super) const TABLE: &str =
     "{\"regions\":[{\"address\":\"0x500000\",\"bytes\":\"1400000000000000017a5200017810011b0c070890010000180000001c000000e00ff0ff2000000000410e108602430d064583031c00000000000000017a504c5200017810079bb92f00001b1b0c0708900100001800000024000000c40ff0ff30000000049b1f0000410e10830200002000000040000000d80ff0ff30000000048b1f0000420e10410e18440e2083038e02000000000000";
 
 /// The same where the row of the first function asks for an expression.
@@ -31,18 +31,18 @@ const HEADER: &str =
 
 /// The two language tables, the cell that holds the personality's address, and what is to come is the
 /// rest of a stack's address and its bytes.
-const LANGUAGE: &str =
+pub(super) const LANGUAGE: &str =
     "\"},{\"address\":\"0x502000\",\"bytes\":\"ffff01080810200020100000ff9b0c010408102001010000000000\"},{\"address\":\"0x503000\",\"bytes\":\"0040400000000000\"},{\"address\":\"0x70";
 
 /// The module, and what is to come is the start.
-const MODULE: &str =
+pub(super) const MODULE: &str =
     "\"}],\"modules\":[{\"kind\":\"elf\",\"start\":\"0x401000\",\"end\":\"0x401080\",\"eh_frame\":\"0x500000\"}],\"exception\":\"0x900000\",\"limit\":8,\"start\":";
 
 /// The module by its header.
 const HEADER_MODULE: &str =
     "\"}],\"modules\":[{\"kind\":\"elf\",\"start\":\"0x401000\",\"end\":\"0x401080\",\"eh_frame_hdr\":\"0x504000\"}],\"exception\":\"0x900000\",\"limit\":8,\"start\":";
 
-const STACK: &str =
+pub(super) const STACK: &str =
     "b0\",\"bytes\":\"000000000000000011000000000000000c0000000000000030104000000000002200000000000000601040000000000000000000000000000b000000000000000e000000000000000000000000000000";
 
 /// The cleanup's function calls itself twice.
@@ -57,7 +57,7 @@ const UNLISTED_STACK: &str =
 const LAST_CALL_STACK: &str =
     "b0\",\"bytes\":\"000000000000000011000000000000000c0000000000000050104000000000002200000000000000601040000000000000000000000000000b000000000000000e000000000000000000000000000000";
 
-const START: &str =
+pub(super) const START: &str =
     "{\"rip\":\"0x401010\",\"rsp\":\"0x70b0\",\"rbx\":\"0x7\",\"rbp\":\"0x70c0\",\"r14\":\"0x2e\"}";
 
 /// A stack pointer 48 lower.
@@ -71,7 +71,7 @@ const DEEP_START: &str =
 const SECOND_START: &str =
     "{\"rip\":\"0x401030\",\"rsp\":\"0x70d0\",\"rbx\":\"0x11\",\"rbp\":\"0xc\",\"r14\":\"0x2e\"}";
 
-const RESUMES: &str = ",\"resumes\":[[\"0x401040\",\"0x401048\"]]}";
+pub(super) const RESUMES: &str = ",\"resumes\":[[\"0x401040\",\"0x401048\"]]}";
 
 /// A second entry of the pad doesn't count.
 const TWICE: &str = ",\"resumes\":[[\"0x401040\",\"0x401048\"],[\"0x401040\",\"0x0\"]]}";
@@ -79,21 +79,21 @@ const TWICE: &str = ",\"resumes\":[[\"0x401040\",\"0x401048\"],[\"0x401040\",\"0
 /// Its address less one is under no call site.
 const NOWHERE: &str = ",\"resumes\":[[\"0x401040\",\"0x401040\"]]}";
 
-const FIRST: &str =
+pub(super) const FIRST: &str =
     "frame 0 ra=0x401010 sp=0x70b0 rbx=0x7 rbp=0x70c0 r12=0x0 r13=0x0 r14=0x2e r15=0x0";
 
-const SECOND: &str =
+pub(super) const SECOND: &str =
     "frame 1 ra=0x401030 sp=0x70d0 rbx=0x11 rbp=0xc r12=0x0 r13=0x0 r14=0x2e r15=0x0";
 
-const THIRD: &str =
+pub(super) const THIRD: &str =
     "frame 2 ra=0x401060 sp=0x70e0 rbx=0x22 rbp=0xc r12=0x0 r13=0x0 r14=0x2e r15=0x0";
 
-const CLEANUP: &str = "cleanup pad=0x401040 sp=0x70d0";
+pub(super) const CLEANUP: &str = "cleanup pad=0x401040 sp=0x70d0";
 
-const LANDING: &str =
+pub(super) const LANDING: &str =
     "landing ra=0x401070 sp=0x70e0 rbx=0x22 rbp=0xc r12=0x0 r13=0x0 r14=0x2e r15=0x0 rax=0x900000 rdx=0x0";
 
-const INSTALLED: &str = "outcome installed";
+pub(super) const INSTALLED: &str = "outcome installed";
 
 static CASES: [Case; 20] = [
     Case {

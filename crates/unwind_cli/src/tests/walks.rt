@@ -36,7 +36,70 @@ const BEHIND_NOTHING: &str =
 const OUTERMOST_STATE: &str =
     "frame 0 ra=0x0 sp=0x7000 rbx=0x9 rbp=0x0 r12=0x0 r13=0x0 r14=0x0 r15=0x0";
 
-static CASES: [Case; 13] = [
+/// The frame table of a function from 0x402000 that pushes R15, R14 and RBX, whose saved registers it
+/// names at the end of the prologue alone; and the start of a stack at 0x7000.
+const LATE_TABLE: &str =
+    "{\"regions\":[{\"address\":\"0x500000\",\"bytes\":\"1400000000000000017a5200017810011b0c0708900100001c0000001c000000e01ff0ff2000000000420e10420e18410e2083048e038f0200000000\"},{\"address\":\"0x7000\",\"bytes\":\"";
+
+/// What R14 and R15 hold, and the return address 0.
+const TWO_PUSHED: &str = "140000000000000015000000000000000000000000000000";
+
+const LATE_MODULE: &str =
+    "\"}],\"modules\":[{\"kind\":\"elf\",\"start\":\"0x402000\",\"end\":\"0x402020\",\"eh_frame\":\"0x500000\"}],\"start\":";
+
+/// The function has pushed R15 and R14.
+const AFTER_TWO: &str =
+    "{\"rip\":\"0x402004\",\"rsp\":\"0x7000\",\"r14\":\"0x14\",\"r15\":\"0x15\"},";
+
+/// Before the push.
+const AT_PUSH: &str = "{\"rip\":\"0x401000\",\"rsp\":\"0x7000\",\"rbx\":\"0x9\"},";
+
+static CASES: [Case; 16] = [
+    Case {
+        words: &["walk"],
+        input: &[
+            TABLE,
+            STACK,
+            MODULE,
+            AT_PUSH,
+            "\"limit\":2,\"interrupted\":true}",
+        ],
+        number: 0,
+        lines: &[
+            "frame 0 ra=0x401000 sp=0x7000 rbx=0x9 rbp=0x0 r12=0x0 r13=0x0 r14=0x0 r15=0x0",
+            "frame 1 ra=0x5 sp=0x7008 rbx=0x9 rbp=0x0 r12=0x0 r13=0x0 r14=0x0 r15=0x0",
+            "end",
+        ],
+    },
+    Case {
+        words: &["walk"],
+        input: &[
+            TABLE,
+            STACK,
+            MODULE,
+            START,
+            "\"limit\":2,\"interrupted\":true}",
+        ],
+        number: 0,
+        lines: &[FIRST, SECOND, "end"],
+    },
+    // Stopped between two pushes, it has not changed R14 and R15 yet.
+    Case {
+        words: &["walk"],
+        input: &[
+            LATE_TABLE,
+            TWO_PUSHED,
+            LATE_MODULE,
+            AFTER_TWO,
+            "\"limit\":2,\"interrupted\":true}",
+        ],
+        number: 0,
+        lines: &[
+            "frame 0 ra=0x402004 sp=0x7000 rbx=0x0 rbp=0x0 r12=0x0 r13=0x0 r14=0x14 r15=0x15",
+            "frame 1 ra=0x0 sp=0x7018 rbx=0x0 rbp=0x0 r12=0x0 r13=0x0 r14=0x14 r15=0x15",
+            "end",
+        ],
+    },
     Case {
         words: &["walk"],
         input: &[TABLE, STACK, MODULE, START, "\"limit\":2}"],
