@@ -3,6 +3,7 @@
 #
 #   take.sh walk NAME SNAPSHOT FRAMES        where it stops, the program's module alone: gdb's frames
 #   take.sh whole NAME SNAPSHOT FRAMES       the same with all modules, up to the outermost frame's outside
+#   take.sh formats NAME SNAPSHOT FRAMES     the same of one with a PE and a Mach-O image: what its run showed
 #   take.sh steps NAME COUNT                 before each of so many instructions, into out/NAME.steps
 #   take.sh delivery NAME SNAPSHOT REPORT    where it throws: gdb's frames, the landing pads, the handler
 #
@@ -83,6 +84,14 @@ take_stopped() {
 
 take_whole() {
     take_stop "$@" '' --outside
+}
+
+# Run instruction by instruction to where it stops, with the images that it maps: the callers are those that the
+# run has shown.
+take_formats() {
+    env -i HOME=/nonexistent gdb -nx -q -batch -ix ../../tools/snapshot.py -x ../../tools/stepped.py \
+        -ex "stepped_to_wait $1.taken ../$3 $1.pe $1.macho" "$1" > /dev/null
+    for_all "$1" "$2"
 }
 
 take_steps() {

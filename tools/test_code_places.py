@@ -40,6 +40,13 @@ class CodePlacesTest(unittest.TestCase):
         found = places("test   %rdi,%rdi", "je     0x401005", "push   %rbx", "pop    %rbx", "ret", "ret")
         self.assertEqual(found, ["other"] * 6)
 
+    def test_windows(self) -> None:
+        """In a PE image more registers are kept, RBP may be set above the stack pointer, and of jumps in bodies nothing is said."""
+        text = ["push   %rbp", "sub    $0x40,%rsp", "lea    0x20(%rsp),%rbp", "movups %xmm6,0x20(%rsp)", "movups %xmm1,(%rsp)",
+                "jmp    0x401006", "movups 0x20(%rsp),%xmm6", "add    $0x40,%rsp", "pop    %rbp", "rex.W jmp *%rax"]
+        found = list(code_places(listing(*text), of_windows=True).values())
+        self.assertEqual(found, ["prologue"] * 4 + ["body", "other", "body", "body", "epilogue", "epilogue"])
+
 
 if __name__ == "__main__":
     unittest.main()

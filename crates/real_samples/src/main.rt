@@ -21,15 +21,20 @@ const WALKS: [&str; 8] = [
     "frame_pointer-clang-O2",
 ];
 
-/// Snapshots to be walked by frame tables alone. The last four stopped at a lazily bound call, in signal
-/// handlers and in `vfork`; the last three have all modules of their processes.
-const MORE_WALKS: [&str; 6] = [
+/// Snapshots to be walked by frame tables alone, four of them stopped at a lazily bound call, in signal
+/// handlers and in `vfork`, of which three have all modules of their processes; and by those of ELF, PE
+/// and Mach-O modules that call one another.
+const MORE_WALKS: [&str; 10] = [
     "realigned-gcc-O0.json",
     "realigned-gcc-O2.json",
     "lazy_call-gcc-O0.json",
     "lazy_call-gcc-O2.json",
     "signals-gcc-O2.json",
     "vfork-gcc-O2.json",
+    "three_formats-gcc-O0.json",
+    "three_formats-gcc-O2.json",
+    "three_formats-clang-O0.json",
+    "three_formats-clang-O2.json",
 ];
 
 /// Programs that throw, to be delivered to.
