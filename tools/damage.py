@@ -278,7 +278,10 @@ LANDED = rb"(?:cleanup pad=# sp=#\n)*landing STATE rax=# rdx=#\noutcome installe
 ENDED = rb"outcome (?:end of stack|fatal phase 1)\n"
 ENDED_INSIDE = rb"(?:cleanup pad=# sp=#\n)*outcome fatal phase 2\n"
 FIELDS = rb"object|regions|modules|start|exception|class|resumes|limit|interrupted"
-REFUSED = rb"unmapped #|frame limit|pass limit|no resume #|table [A-Z][A-Za-z0-9]+"
+REFUSED = (
+    rb"unmapped #|frame limit|pass limit|no resume #|table [A-Z][A-Za-z0-9]+"
+    rb"|macho [A-Z][A-Za-z0-9]+(?: [A-Z][A-Za-z0-9]+)?|compact (?:handler|form)|pe (?:info|handler)|chain limit"
+)
 
 
 def pattern(text: bytes) -> re.Pattern[bytes]:
