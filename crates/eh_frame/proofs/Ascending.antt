@@ -1,17 +1,14 @@
 -- Ranges that ascend and lie apart: what a search that halves finds among them.
-use Rattle.std.proofs.Common.{◌≡◌, ◌⊎◌, inl, inr, ℕ, zero, suc, ◌+◌, ◌-◌, ◌*◌, ◌/◌, ◌^◌, ◌<◌, ◌≤◌, Bool, true, false, ◌&&◌, List, [], ◌∷◌, length, get_or, Some, None, refl, sym, ap, subst, arith}
+use Rattle.std.proofs.Common.{◌≡◌, ℕ, zero, suc, ◌+◌, ◌-◌, ◌/◌, ◌<◌, ◌≤◌, Bool, true, false, ◌&&◌, List, [], ◌∷◌, length, get_or, Some, None, refl, sym, ap, subst, arith}
 use Rattle.std.specs.Prelude.{nat_le, nat_lt}
 use Rattle.std.specs.List.{AllByRecursion}
-use Rattle.std.proofs.lemmas.Bool.Decides.{leb_tells}
-use Rattle.std.proofs.lemmas.Nat.{pow_pos}
-use Rattle.std.proofs.Math.Nat.{pow-succ'}
-use Rattle.std.proofs.Math.Pow.{pow_mono}
 use Rattle.std.proofs.lemmas.Bool.{leb-true, le-leb, lt-leb, lt-ltb, le-ltb, ltb-true}
 use Rattle.unwind_definitions.specs.Entries.{Fde}
 use Rattle.unwind_definitions.specs.Row.{covers_pc}
 use Rattle.eh_frame.specs.Index.{AreFewSteps, AscendApart, Described, FindsIndex, described_fde, end_of}
-use Rattle.eh_frame.specs.Looks.{IsFirstLook}
-use Rattle.eh_frame.proofs.Halving.{IsHalved, IsLeft}
+use Rattle.eh_frame.specs.Looking.{Narrows}
+use Rattle.eh_frame.specs.declared.starts.Bounds.{Bounds}
+use Rattle.eh_frame.proofs.Halving.{IsHalved, IsLeft, halved}
 
 -- ---- whether a range contains an address
 
@@ -104,26 +101,13 @@ module _ (fs : List Described) (pc : ℕ) where
     pub below : StartsBelow low
     pub after : (d : Described) → high < length fs → pc < (get_or fs high d).fde.start
 
-  pub begun : (n : ℕ) → n ≡ length fs → IsBetween 0 n
-  begun n is = record { ordered = omega arith; within = omega arith; below = tt; after = λ d lt. absurd (omega arith) }
-
-  -- what the first look says
-  pub looked : (size low : ℕ) → AscendApart described_fde 0 fs → 0 < size → size ≤ length fs → length fs < 2 * size → IsFirstLook fs pc size low → IsBetween low (low + size - 1)
-  looked size low apart some le top (inl h) =
-      let none : low ≡ 0 = h.0 in
-      subst (λ n. IsBetween n (n + size - 1)) (sym none) (record { ordered = omega arith; within = omega arith; below = tt; after = λ d lt. subst (λ n. pc < (get_or fs n d).fde.start) at (h.1 d) })
+  -- the functions in a bounds
+  pub narrow : (w : Bounds) → Narrows fs pc w → IsBetween w.low w.high
+  narrow w n = let some = n.some in record { ordered = omega arith; within = n.within; below = below w.low n.before; after = n.after }
     where
-      at : size - 1 ≡ 0 + size - 1
-      at = omega arith
-  looked size zero apart some le top (inr h) = let all = h.0 in absurd (omega arith)
-  looked size (suc i) apart some le top (inr h) =
-      let all = h.0 in
-      record {
-        ordered = omega arith;
-        within = omega arith;
-        below = λ d. let rise = starts_rise described_fde fs 0 i (size - 1) d apart (omega arith) (omega arith) in let last = h.1 d in omega arith;
-        after = λ d lt. absurd (omega arith);
-      }
+      below : (low : ℕ) → ((i : ℕ) (d : Described) → i < low → (get_or fs i d).fde.start ≤ pc) → StartsBelow low
+      below zero before = tt
+      below (suc i) before = λ d. before i d (omega arith)
 
   pub raised : (low high middle start : ℕ) → IsBetween low high → middle < high → ((d : Described) → start ≡ (get_or fs middle d).fde.start) → start ≤ pc → IsBetween (middle + 1) high
   raised low high middle start s lt at le =
@@ -166,32 +150,19 @@ module _ (fs : List Described) (pc : ℕ) where
 
 -- ---- the steps
 
--- so many are left, and one was taken unless all are left
+-- so many are left, and one was taken unless some are left
 pub record AreLeft (count before now size : ℕ) : Type 0 where
   pub halved : IsHalved count before now size
-  pub some : size < count → before < now
+  pub some : size ≡ 0 → before < now
 
--- After the first look, at one of a list, so many are left: one less than a power of two that is no more than there are.
-pub looked_once : (count before now size k : ℕ) → size ≡ 2 ^ k → size ≤ count → now ≡ before + 1 → AreLeft count before now (size - 1)
-looked_once count before now size k is le one = record { halved = record { taken = 1; counted = one; digits = λ d lt. left d lt }; some = λ lt. omega arith }
-  where
-    some_digits : (d : ℕ) → count < 2 ^ d → k < d
-    some_digits d lt = elim (leb_tells d k) [
-      | inl p ↦ let more : 2 ^ d ≤ 2 ^ k = pow_mono p.1 in absurd (omega arith)
-      | inr p ↦ p.1
-    ]
+-- before the first look some are left, and no more than there are
+pub not_begun : (count now size : ℕ) → 0 < size → size ≤ count → AreLeft count now now size
+not_begun count now size some le = record { halved = record { taken = 0; counted = omega arith; digits = λ d lt. record { left = d; both = omega arith; below = omega arith } }; some = λ none. absurd (omega arith) }
 
-    left : (d : ℕ) → count < 2 ^ d → IsLeft d 1 (size - 1)
-    left d lt =
-        let more = some_digits d lt in
-        let power : 2 ^ k ≤ 2 ^ (d - 1) = pow_mono (omega arith) in
-        let some : 0 < 2 ^ k = pow_pos k in
-        record { left = d - 1; both = omega arith; below = omega arith }
-
--- half of a power of two is another, or none where that was one
-pub half_power : (size k : ℕ) → size ≡ 2 ^ k → (2 * (size / 2) - 1 ≡ size - 1) × ((size / 2 ≡ 0) ⊎ ((j : ℕ) × (size / 2 ≡ 2 ^ j)))
-half_power size zero is = (omega arith, inl (omega arith))
-half_power size (suc j) is = let double : 2 ^ suc j ≡ 2 * 2 ^ j = pow-succ' 2 j in (omega arith, inr (j, omega arith))
+pub one_look : (count before now next size new : ℕ) → next ≡ now + 1 → AreLeft count before now size → 0 < size → new ≤ size / 2 → AreLeft count before next new
+one_look count before now next size new step left some le =
+    let counted = left.halved.counted in
+    record { halved = halved count before now next size new step left.halved some le; some = λ none. omega arith }
 
 pub few : (count before now size : ℕ) → 0 < count → size ≡ 0 → AreLeft count before now size → AreFewSteps count before now
 few count before now size some none left = record { one = left.some (omega arith); digits = λ d lt. go d (left.halved.digits d lt) }

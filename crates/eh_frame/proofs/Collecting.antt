@@ -1,5 +1,5 @@
 -- The entries of a table, read one after another.
-use Rattle.std.proofs.Common.{◌≡◌, ℕ, ◌<◌, ◌≤◌, false, List, [], ◌∷◌, ◌++◌, length, map, Option, Some, None, Result, Ok, Err, refl, sym, ap, ◌∙◌, subst, arith}
+use Rattle.std.proofs.Common.{◌≡◌, ℕ, ◌<◌, ◌≤◌, List, [], ◌∷◌, ◌++◌, length, map, Some, None, Ok, Err, refl, sym, ap, ◌∙◌, subst, arith}
 use Rattle.std.specs.List.{AllByRecursion, filter}
 use Rattle.std.proofs.lemmas.List.Elements.{filter-append, filter_map-append}
 use Rattle.unwind_definitions.specs.Input.{Input}
@@ -7,11 +7,11 @@ use Rattle.unwind_definitions.specs.Pointers.{Bases}
 use Rattle.unwind_definitions.specs.declared.error.Error.{Error as Fault}
 use Rattle.unwind_definitions.specs.Entries.{Fde, Entry, Found, AreEntries, entry_at}
 use Rattle.unwind_definitions.specs.Scan.{fde_of, fdes_of}
-use Rattle.eh_frame.specs.FdeLists.{IsListOf, IsListedIn, fde_in}
+use Rattle.eh_frame.specs.FdeLists.{IsListOf, IsFunctionIn, function_in}
 use Rattle.eh_frame.specs.Listed.{HasUnreadable, IsWhole, has_bytes, nonempty}
 use Rattle.eh_frame.specs.Shared.{StandsIn, shared}
 use Rattle.eh_frame.specs.declared.cie.Cie.{Cie as CodeCie}
-use Rattle.eh_frame.specs.declared.listed_fde.ListedFde.{ListedFde}
+use Rattle.eh_frame.specs.declared.prepared.PreparedFunction.{PreparedFunction}
 use Rattle.eh_frame.proofs.Ahead.{next_within}
 use Rattle.eh_frame.proofs.ListingFdes.{none_yet}
 use Rattle.eh_frame.proofs.Sharing.{shared_stands}
@@ -33,17 +33,17 @@ nonempty_append es fs = ap (filter has_bytes) (filter_map-append fde_of es fs) �
 
 module _ (bases : Bases) (table : Input) where
   -- the entries up to an offset are read, and those of them that are nonempty descriptions are listed
-  pub record IsReadTo (cies : List CodeCie) (listed : List ListedFde) (offset : ℕ) : Type 0 where
+  pub record IsReadTo (cies : List CodeCie) (listed : List PreparedFunction) (offset : ℕ) : Type 0 where
     pub within : offset ≤ length table.bytes
     pub done : List Entry
     pub precede : Precede bases table 0 0 done offset
     pub list : IsListOf bases table cies listed (nonempty done)
 
-  pub none_read : (cies : List CodeCie) (listed : List ListedFde) → cies ≡ [] → listed ≡ [] → IsReadTo cies listed 0
+  pub none_read : (cies : List CodeCie) (listed : List PreparedFunction) → cies ≡ [] → listed ≡ [] → IsReadTo cies listed 0
   none_read cies listed no_cies no_fdes = record { within = omega arith; done = []; precede = refl; list = none_yet bases table cies listed no_cies no_fdes }
 
-  module _ (cies : List CodeCie) (listed : List ListedFde) (offset : ℕ) (s : IsReadTo cies listed offset) where
-    pub all_read : entry_at bases table offset ≡ Ok None → IsWhole bases table (map (fde_in cies) listed) × AllByRecursion (IsListedIn cies) listed
+  module _ (cies : List CodeCie) (listed : List PreparedFunction) (offset : ℕ) (s : IsReadTo cies listed offset) where
+    pub all_read : entry_at bases table offset ≡ Ok None → IsWhole bases table (map (function_in cies) listed) × AllByRecursion (IsFunctionIn cies) listed
     all_read at = (record { entries = s.done; are = all_precede bases table 0 s.done offset s.precede at; nonempty = s.list.are }, s.list.named)
 
     pub one_unread : (f : Fault) → entry_at bases table offset ≡ Err f → HasUnreadable bases table
@@ -53,12 +53,12 @@ module _ (bases : Bases) (table : Input) where
       pub read_further : (offset < found.next) × (found.next ≤ length table.bytes)
       read_further = next_within bases table offset found start s.within at
 
-      pub one_read : (new : List CodeCie) (more : List ListedFde) →
-          ((bases : Bases) (table : Input) (fdes : List Fde) → IsListOf bases table cies listed fdes → StandsIn bases table (shared found.entry) → IsListOf bases table new more (fdes ++ nonempty (found.entry ∷ []))) →
+      pub one_read : (new : List CodeCie) (more : List PreparedFunction) →
+          ((fdes : List Fde) → IsListOf bases table cies listed fdes → StandsIn bases table (shared found.entry) → IsListOf bases table new more (fdes ++ nonempty (found.entry ∷ []))) →
           IsReadTo new more found.next
       one_read new more adds = record {
         within = read_further.1;
         done = s.done ++ found.entry ∷ [];
         precede = precede_push bases table 0 s.done offset found.entry found.next s.precede at;
-        list = subst (λ (l : List Fde). IsListOf bases table new more l) (sym (nonempty_append s.done (found.entry ∷ []))) (adds bases table (nonempty s.done) s.list (shared_stands bases table offset found at));
+        list = subst (λ (l : List Fde). IsListOf bases table new more l) (sym (nonempty_append s.done (found.entry ∷ []))) (adds (nonempty s.done) s.list (shared_stands bases table offset found at));
       }

@@ -1,15 +1,24 @@
 -- What stands at an offset of a frame table, by what is read there.
-use Rattle.std.proofs.Common.{◌≡◌, ℕ, ◌-◌, ◌≤◌, Option, Some, Ok, Err, refl, sym, ap, ◌∙◌}
+use Rattle.std.proofs.Common.{◌≡◌, ℕ, ◌-◌, ◌<◌, ◌≤◌, Option, Some, None, Ok, Err, refl, sym, ap, ◌∙◌}
 use Rattle.unwind_definitions.specs.Faults.{◌>>=◌}
 use Rattle.std.specs.Int.{w32}
-use Rattle.std.proofs.lemmas.Bool.{ne_eqb, le-ltb}
+use Rattle.std.proofs.lemmas.Bool.{ne_eqb, le-ltb, lt-ltb}
 use Rattle.unwind_definitions.specs.declared.error.Error.{Error as Fault}
+use Rattle.unwind_definitions.specs.declared.error.Error.TheVariants.{NotCie}
 use Rattle.unwind_definitions.specs.Input.{Input, skip, number}
 use Rattle.unwind_definitions.specs.Pointers.{Bases}
-use Rattle.unwind_definitions.specs.Entries.{Cie, Fde, Entry, AFde, body, cie_in, cie_at, fde_body, entry_in, found_in, entry_at}
+use Rattle.unwind_definitions.specs.Entries.{Cie, Fde, Entry, ACie, AFde, body, cie_body, cie_in, cie_at, fde_body, entry_in, found_in, entry_at}
 
 -- a body is read at an offset
 module _ (bases : Bases) (table : Input) (offset : ℕ) (c : Input) (stands : c ≡ skip offset table) where
+  pub no_body : (e : Fault) → body c ≡ Err e → entry_at bases table offset ≡ Err e
+  unfolding entry_at
+  no_body e fault = ap (λ (x : Input). body x >>= λ r. found_in bases table offset r.0 r.1.offset) (sym stands) ∙ rw fault refl
+
+  pub no_more : (next : Input) → body c ≡ Ok (None, next) → entry_at bases table offset ≡ Ok None
+  unfolding entry_at
+  no_more next none = ap (λ (x : Input). body x >>= λ r. found_in bases table offset r.0 r.1.offset) (sym stands) ∙ rw none refl
+
   pub cie_is : (found : Option Input) (next : Input) → body c ≡ Ok (found, next) → cie_at bases table offset ≡ cie_in bases offset found
   cie_is found next read = ap (λ (x : Input). body x >>= λ b. cie_in bases offset b.0) (sym stands) ∙ rw read refl
 
@@ -21,6 +30,18 @@ module _ (bases : Bases) (table : Input) (offset : ℕ) (c : Input) (stands : c 
     pub whole_entry : (entry : Entry) → entry_in bases table offset b ≡ Ok entry → entry_at bases table offset ≡ Ok (Some (record { entry = entry; next = next.offset }))
     unfolding entry_at
     whole_entry entry found = ap (λ (x : Input). body x >>= λ r. found_in bases table offset r.0 r.1.offset) (sym stands) ∙ rw (read, found) refl
+
+-- a body is a common information entry's
+module _ (bases : Bases) (table : Input) (offset : ℕ) (b rest : Input) (read : number w32 b ≡ Ok (0, rest)) where
+  pub no_common : (e : Fault) → cie_body bases offset rest ≡ Err e → entry_in bases table offset b ≡ Err e
+  no_common e fault = rw (read, fault) refl
+
+  pub whole_common : (cie : Cie) → cie_body bases offset rest ≡ Ok cie → entry_in bases table offset b ≡ Ok (ACie cie)
+  whole_common cie found = rw (read, found) refl
+
+-- a distance leads out of the table
+pub no_place : (bases : Bases) (table : Input) (offset : ℕ) (b rest : Input) (id : ℕ) → number w32 b ≡ Ok (id, rest) → (id ≡ 0 → ⊥) → b.offset < id → entry_in bases table offset b ≡ Err NotCie
+no_place bases table offset b rest id read other out = rw (read, ne_eqb id 0 other, lt-ltb b.offset id out) refl
 
 -- a body names a common information entry
 module _ (bases : Bases) (table : Input) (offset : ℕ) (b rest : Input) (id place : ℕ) (read : number w32 b ≡ Ok (id, rest)) (other : id ≡ 0 → ⊥) (stands : place ≡ b.offset) (within : id ≤ place) where

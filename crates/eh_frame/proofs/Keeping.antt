@@ -1,9 +1,10 @@
 -- The rows of descriptions are kept, one description after another.
-use Rattle.std.proofs.Common.{◌≡◌, ℕ, zero, suc, ◌+◌, ◌-◌, ◌<◌, ◌≤◌, List, [], ◌∷◌, ◌++◌, length, map, take, drop, get_or, None, refl, sym, ap, ◌∙◌, subst, inl, inr, arith, length-append, length-drop}
+use Rattle.std.proofs.Common.{◌≡◌, ℕ, zero, suc, ◌+◌, ◌-◌, ◌<◌, ◌≤◌, List, [], ◌∷◌, ◌++◌, length, map, take, drop, get_or, set, length-set, None, refl, sym, ap, ◌∙◌, subst, inl, inr, arith, length-append, length-drop}
 use Rattle.std.specs.Prelude.{slice_range}
 use Rattle.std.specs.List.{AllByRecursion, sum_by}
-use Rattle.std.proofs.lemmas.List.{take-append-le, drop-append-le, length-map, map-append, take_more}
+use Rattle.std.proofs.lemmas.List.{take-append-le, drop-append-le, length-map, map-append, take_more, get_or-set_other}
 use Rattle.std.proofs.lemmas.List.Sums.{sum_by_more_le, sum_by_push}
+use Rattle.std.proofs.lemmas.Grind.{take-set_at}
 use Rattle.std.proofs.Math.Seq.{drop-append_seam, take-length}
 use Rattle.unwind_definitions.specs.Pointers.{Bases}
 use Rattle.unwind_definitions.specs.Entries.{Fde}
@@ -59,6 +60,30 @@ pub has_size : {X : Type 0} (f : X → Fde) (low : ℕ) (xs : List X) (i : ℕ) 
 has_size f low [] i x apart lt is = absurd (omega arith)
 has_size f low (y ∷ ys) zero x apart lt is = subst (λ z. 0 < (f z).size) (sym is) apart.1
 has_size f low (y ∷ ys) (suc i) x apart lt is = has_size f (end_of (f y)) ys i x apart.2 (omega arith) is
+
+-- ---- rows are noted in place
+
+-- from one on what is listed stays
+pub record IsAhead (i : ℕ) (old new : List PreparedFunction) : Type 0 where
+  pub same_length : length new ≡ length old
+  pub still : (k : ℕ) (d : PreparedFunction) → i ≤ k → get_or new k d ≡ get_or old k d
+
+pub all_ahead : (xs : List PreparedFunction) → IsAhead 0 xs xs
+all_ahead xs = record { same_length = refl; still = λ k d le. refl }
+
+-- what is written through a view of all
+pub written_whole : {X : Type 0} (n : ℕ) (new old : List X) → n ≡ length old → length new ≡ length old → take n (new ++ drop (length new) old) ≡ new
+written_whole n new old all same = take-append-le n new (drop (length new) old) (omega arith) ∙ ap (λ n. take n new) (all ∙ sym same) ∙ take-length new
+
+module _ (old new : List PreparedFunction) (i : ℕ) (a : IsAhead i old new) (f : PreparedFunction) (lt : i < length old) where
+  pub noted_ahead : IsAhead (i + 1) old (set new i f)
+  noted_ahead = record {
+    same_length = length-set new i f ∙ a.same_length;
+    still = λ k d le. get_or-set_other new i k f d (λ same. omega arith) ∙ a.still k d (omega arith);
+  }
+
+  pub noted_taken : take (i + 1) (set new i f) ≡ take i new ++ f ∷ []
+  noted_taken = let n = a.same_length in take-set_at new i (i + 1) f refl (omega arith)
 
 -- ---- rows that are kept so far
 

@@ -13,9 +13,12 @@ mod PastEnd
 mod Named
 mod HeaderParts
 mod Ascending
+mod Directory
 pub mod Indexed
 mod Keeping
+mod Turning
 mod ListingFdes
+mod Descriptions
 mod Collecting
 mod Preparing
 pub mod Exactly

@@ -1,19 +1,18 @@
 -- Descriptions whose common information entries stand in a list: the list grows, and what it says stays.
-use Rattle.std.proofs.Common.{◌≡◌, ℕ, zero, suc, ◌+◌, ◌<◌, ◌≤◌, true, false, List, [], ◌∷◌, ◌++◌, length, map, get_or, Ok, Result, refl, sym, ap, ◌∙◌, subst, arith, length-append}
+use Rattle.std.proofs.Common.{◌≡◌, ℕ, zero, suc, ◌<◌, Bool, cond, true, false, Some, List, [], ◌∷◌, ◌++◌, length, map, Ok, Result, refl, sym, ap, ◌∙◌, subst, arith, length-append}
+use Rattle.std.specs.Prelude.{nat_lt}
 use Rattle.std.specs.List.{AllByRecursion}
-use Rattle.std.proofs.lemmas.Bool.{lt-ltb, le-ltb}
-use Rattle.std.proofs.lemmas.List.{append-nil, length-map, map-append}
+use Rattle.std.proofs.lemmas.List.{append-nil, map-append}
 use Rattle.unwind_definitions.specs.Input.{Input}
 use Rattle.unwind_definitions.specs.Pointers.{Bases}
 use Rattle.unwind_definitions.specs.declared.error.Error.{Error as Fault}
-use Rattle.unwind_definitions.specs.Entries.{Cie, Fde, Entry, ACie, AFde, cie_at}
-use Rattle.eh_frame.specs.FdeLists.{IsListOf, IsListedIn, IsTold, KeepsCie, cie_in, fde_in, fde_with, no_cie}
+use Rattle.unwind_definitions.specs.Entries.{Cie, Fde, AFde, cie_at}
+use Rattle.eh_frame.specs.FdeLists.{IsListOf, IsFunctionIn, IsTold, KeepsCie, ListsCie, cie_in, function_in, fde_with}
 use Rattle.eh_frame.specs.Listed.{nonempty}
 use Rattle.eh_frame.specs.Shared.{StandsIn}
 use Rattle.eh_frame.specs.EntryViews.{cie_of}
 use Rattle.eh_frame.specs.declared.cie.Cie.{Cie as CodeCie}
-use Rattle.eh_frame.specs.declared.listed_fde.ListedFde.{ListedFde}
-use Rattle.eh_frame.proofs.Indexed.{cie_there}
+use Rattle.eh_frame.specs.declared.prepared.PreparedFunction.{PreparedFunction}
 use Rattle.eh_frame.proofs.Keeping.{all_also, all_push}
 
 -- ---- what stands at an index
@@ -28,16 +27,16 @@ grown_cie (c ∷ cies) more zero lt = refl
 grown_cie (c ∷ cies) more (suc i) lt = grown_cie cies more i (omega arith)
 
 module _ (cies more : List CodeCie) where
-  grown_listed : (f : ListedFde) → IsListedIn cies f → IsListedIn (cies ++ more) f
+  grown_listed : (f : PreparedFunction) → IsFunctionIn cies f → IsFunctionIn (cies ++ more) f
   grown_listed f is =
       let w = is.within in let n = length-append cies more in
-      record { within = omega arith; told = subst (λ (c : Cie). IsTold c f) (sym (grown_cie cies more f.cie w)) is.told }
+      record { within = omega arith; told = subst (λ (c : Cie). IsTold c f.fde) (sym (grown_cie cies more f.fde.cie w)) is.told }
 
-  grown_fdes : (fs : List ListedFde) → AllByRecursion (IsListedIn cies) fs → map (fde_in (cies ++ more)) fs ≡ map (fde_in cies) fs
+  grown_fdes : (fs : List PreparedFunction) → AllByRecursion (IsFunctionIn cies) fs → map (function_in (cies ++ more)) fs ≡ map (function_in cies) fs
   grown_fdes [] all = refl
   grown_fdes (f ∷ fs) all =
-      ap (λ (l : List Fde). fde_in (cies ++ more) f ∷ l) (grown_fdes fs all.1)
-      ∙ ap (λ (c : Cie). fde_with c f ∷ map (fde_in cies) fs) (grown_cie cies more f.cie all.0.within)
+      ap (λ (l : List Fde). function_in (cies ++ more) f ∷ l) (grown_fdes fs all.1)
+      ∙ ap (λ (c : Cie). fde_with c f.fde ∷ map (function_in cies) fs) (grown_cie cies more f.fde.cie all.0.within)
 
 same_value : (a b : Cie) (r : Result Cie Fault) → r ≡ Ok a → r ≡ Ok b → a ≡ b
 same_value a b r at_a at_b = cc
@@ -57,15 +56,6 @@ module _ (bases : Bases) (table : Input) where
 
 -- ---- a common information entry is kept
 
-pub found_known : (cies : List CodeCie) (i : ℕ) (code : CodeCie) (cie : Cie) → i < length cies → code ≡ get_or cies i code → code.offset ≡ cie.offset → KeepsCie cies cie i cies
-found_known cies i code cie lt is same = record {
-  more = [];
-  grown = sym (append-nil cies);
-  within = lt;
-  is = λ bases table all one. same_cie bases table (cie_in cies i) cie (stands_at bases table cies i all lt) one (ap (λ (c : Cie). c.offset) (cie_there cies i code lt is) ∙ same);
-  stand = λ bases table all one. all;
-}
-
 pub added_last : (cies new : List CodeCie) (code : CodeCie) (i : ℕ) → new ≡ cies ++ code ∷ [] → i ≡ length cies → KeepsCie cies (cie_of code) i new
 added_last cies new code i is at =
     let n = ap length is in let m = length-append cies (code ∷ []) in
@@ -79,41 +69,47 @@ added_last cies new code i is at =
 
 -- ---- an entry is added
 
-pub none_yet : (bases : Bases) (table : Input) (cies : List CodeCie) (listed : List ListedFde) → cies ≡ [] → listed ≡ [] → IsListOf bases table cies listed []
+pub known_listed : (bases : Bases) (table : Input) (cies : List CodeCie) (i offset : ℕ) → AllByRecursion (StandsIn bases table) (map cie_of cies) → i < length cies → (cie_in cies i).offset ≡ offset → ListsCie bases table offset cies (Some i) cies
+known_listed bases table cies i offset all lt same = (
+  cie_in cies i,
+  ap (cie_at bases table) (sym same) ∙ stands_at bases table cies i all lt,
+  record { more = []; grown = sym (append-nil cies); within = lt; is = λ bases table all one. refl; stand = λ bases table all one. all },
+)
+
+pub read_listed : (bases : Bases) (table : Input) (cies new : List CodeCie) (i offset : ℕ) (code : CodeCie) → cie_at bases table offset ≡ Ok (cie_of code) → new ≡ cies ++ code ∷ [] → i ≡ length cies → ListsCie bases table offset cies (Some i) new
+read_listed bases table cies new i offset code found is at = (cie_of code, found, added_last cies new code i is at)
+
+pub none_yet : (bases : Bases) (table : Input) (cies : List CodeCie) (listed : List PreparedFunction) → cies ≡ [] → listed ≡ [] → IsListOf bases table cies listed []
 none_yet bases table cies listed no_cies no_fdes =
     subst (λ (l : List CodeCie). IsListOf bases table l listed []) (sym no_cies)
-    (subst (λ (l : List ListedFde). IsListOf bases table [] l []) (sym no_fdes) (record { stand = tt; named = tt; are = refl }))
+    (subst (λ (l : List PreparedFunction). IsListOf bases table [] l []) (sym no_fdes) (record { stand = tt; named = tt; are = refl }))
 
-module _ (bases : Bases) (table : Input) (cies : List CodeCie) (listed : List ListedFde) (fdes : List Fde) (list : IsListOf bases table cies listed fdes) where
+module _ (bases : Bases) (table : Input) (cies : List CodeCie) (listed : List PreparedFunction) (fdes : List Fde) (list : IsListOf bases table cies listed fdes) where
   pub cie_added : (new : List CodeCie) (code : CodeCie) → new ≡ cies ++ code ∷ [] → StandsIn bases table (cie_of code) → IsListOf bases table new listed (fdes ++ [])
   cie_added new code is one = subst (λ (l : List CodeCie). IsListOf bases table l listed (fdes ++ [])) (sym is) (record {
     stand = stand_more bases table cies code list.stand one;
-    named = all_also (IsListedIn cies) (IsListedIn (cies ++ code ∷ [])) listed list.named (grown_listed cies (code ∷ []));
+    named = all_also (IsFunctionIn cies) (IsFunctionIn (cies ++ code ∷ [])) listed list.named (grown_listed cies (code ∷ []));
     are = grown_fdes cies (code ∷ []) listed list.named ∙ list.are ∙ sym (append-nil fdes);
   })
 
-  pub nothing_added : IsListOf bases table cies listed (fdes ++ [])
-  nothing_added = record { stand = list.stand; named = list.named; are = list.are ∙ sym (append-nil fdes) }
-
-  pub fde_added : (new : List CodeCie) (more : List ListedFde) (fde : Fde) (i : ℕ) (f : ListedFde) → KeepsCie cies fde.cie i new → more ≡ listed ++ f ∷ [] → f.cie ≡ i → fde_with fde.cie f ≡ fde → IsTold fde.cie f →
-      StandsIn bases table fde.cie → IsListOf bases table new more (fdes ++ fde ∷ [])
-  fde_added new more fde i f k is at with_cie told one = subst (λ (l : List ListedFde). IsListOf bases table new l (fdes ++ fde ∷ [])) (sym is) (record {
+  pub cie_kept : (new : List CodeCie) (cie : Cie) (i : ℕ) → KeepsCie cies cie i new → StandsIn bases table cie → IsListOf bases table new listed fdes
+  cie_kept new cie i k one = record {
     stand = k.stand bases table list.stand one;
-    named = all_push (IsListedIn new) listed f old_listed (let w = k.within in record { within = omega arith; told = subst (λ (c : Cie). IsTold c f) (sym there) told });
-    are = map-append (fde_in new) listed (f ∷ [])
-        ∙ ap (λ (l : List Fde). l ++ fde_in new f ∷ []) (subst (λ (l : List CodeCie). map (fde_in l) listed ≡ map (fde_in cies) listed) (sym k.grown) (grown_fdes cies k.more listed list.named) ∙ list.are)
-        ∙ ap (λ (c : Cie). fdes ++ fde_with c f ∷ []) there ∙ ap (λ (x : Fde). fdes ++ x ∷ []) with_cie;
-  })
+    named = subst (λ (l : List CodeCie). AllByRecursion (IsFunctionIn l) listed) (sym k.grown) (all_also (IsFunctionIn cies) (IsFunctionIn (cies ++ k.more)) listed list.named (grown_listed cies k.more));
+    are = subst (λ (l : List CodeCie). map (function_in l) listed ≡ map (function_in cies) listed) (sym k.grown) (grown_fdes cies k.more listed list.named) ∙ list.are;
+  }
+
+  pub function_added : (f : PreparedFunction) (more : List PreparedFunction) → IsFunctionIn cies f → more ≡ cond (nat_lt 0 f.fde.len) (listed ++ f ∷ []) listed → IsListOf bases table cies more (fdes ++ nonempty (AFde (function_in cies f) ∷ []))
+  function_added f more named is = subst (λ (l : List PreparedFunction). IsListOf bases table cies l (fdes ++ nonempty (AFde (function_in cies f) ∷ []))) (sym is) (go (nat_lt 0 f.fde.len) refl)
     where
-      there : cie_in new f.cie ≡ fde.cie
-      there = ap (cie_in new) at ∙ k.is bases table list.stand one
-
-      old_listed : AllByRecursion (IsListedIn new) listed
-      old_listed = subst (λ (l : List CodeCie). AllByRecursion (IsListedIn l) listed) (sym k.grown) (all_also (IsListedIn cies) (IsListedIn (cies ++ k.more)) listed list.named (grown_listed cies k.more))
-
--- which descriptions an entry adds
-pub one_description : (fde : Fde) → 0 < fde.size → nonempty (AFde fde ∷ []) ≡ fde ∷ []
-one_description fde some = rw (lt-ltb 0 fde.size some) refl
-
-pub empty_description : (fde : Fde) → fde.size ≡ 0 → nonempty (AFde fde ∷ []) ≡ []
-empty_description fde none = rw none refl
+      go : (b : Bool) → nat_lt 0 f.fde.len ≡ b → IsListOf bases table cies (cond b (listed ++ f ∷ []) listed) (fdes ++ nonempty (AFde (function_in cies f) ∷ []))
+      go true e =
+          let one : nonempty (AFde (function_in cies f) ∷ []) ≡ function_in cies f ∷ [] = rw e refl in
+          subst (λ (l : List Fde). IsListOf bases table cies (listed ++ f ∷ []) (fdes ++ l)) (sym one) (record {
+            stand = list.stand;
+            named = all_push (IsFunctionIn cies) listed f list.named named;
+            are = map-append (function_in cies) listed (f ∷ []) ∙ ap (λ (l : List Fde). l ++ function_in cies f ∷ []) list.are;
+          })
+      go false e =
+          let none : nonempty (AFde (function_in cies f) ∷ []) ≡ [] = rw e refl in
+          subst (λ (l : List Fde). IsListOf bases table cies listed (fdes ++ l)) (sym none) (record { stand = list.stand; named = list.named; are = list.are ∙ sym (append-nil fdes) })

@@ -55,7 +55,7 @@ module _ (bases : Bases) (offset : ℕ) where
       through (λ fde. fde.cie ≡ cie) (fde_data bases cie start.0 len.1) (λ found. Ok (record { offset = offset; cie = cie; start = start.0; size = len.0; language = found.0; program = found.1 })) (λ found. refl))))
 
 -- an entry that is found at an offset stands at its own
-at_own : (bases : Bases) (table : Input) (offset : ℕ) (cie : Cie) → cie_at bases table offset ≡ Ok cie → StandsIn bases table cie
+pub at_own : (bases : Bases) (table : Input) (offset : ℕ) (cie : Cie) → cie_at bases table offset ≡ Ok cie → StandsIn bases table cie
 at_own bases table offset cie is =
     let b = before (body (skip offset table)) _ cie is in
     let same : cie.offset ≡ offset = in_offset bases offset b.0.0 cie b.2 in

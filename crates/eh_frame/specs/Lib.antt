@@ -8,5 +8,7 @@ pub mod Listing
 pub mod Listed
 pub mod FdeLists
 pub mod Index
-pub mod Looks
+pub mod Turns
+pub mod Directory
+pub mod Looking
 pub mod PreparedSample

@@ -1,5 +1,5 @@
 -- The descriptions of a table whose ranges aren't empty, in the table's order.
-use Rattle.std.specs.Prelude.{◌≡◌, ℕ, ◌≤◌, Bool, List, nat_lt, Option, Some, None, Err}
+use Rattle.std.specs.Prelude.{◌≡◌, ℕ, ◌≤◌, Bool, List, nat_lt, Err}
 use Rattle.std.specs.List.{count_by, filter}
 use Rattle.unwind_definitions.specs.declared.error.Error.{Error as Fault}
 use Rattle.unwind_definitions.specs.Input.{Input}

@@ -3,10 +3,11 @@
 ghost use Rattle.std.specs.Prelude.{◌≡◌, ◌≢◌, ◌↔◌, ◌++◌, ◌∷◌, [], IfErr, IfOk, IfSome, IsTrue};
 ghost use Rattle.std.specs.Prelude.{OnOk, Result};
 ghost use Rattle.std.specs.Prelude.{Some, false, map};
+ghost use Rattle.std.specs.List.{AllByRecursion};
 ghost use Rattle.std.specs.Result.{IsErrOf};
 ghost use Rattle.std.specs.Option.{option_map, option_map_or};
 ghost use Rattle.unwind_definitions.specs.Input.{skip};
-ghost use Rattle.unwind_definitions.specs.Entries.{Fde as Described, body, length_behind, cie_at};
+ghost use Rattle.unwind_definitions.specs.Entries.{Fde as Described, body, length_behind, cie_at, cie_body};
 ghost use Rattle.unwind_definitions.specs.Entries.{cie_in};
 ghost use Rattle.unwind_definitions.specs.Entries.{entry_in, entry_at};
 ghost use Rattle.unwind_definitions.specs.Row.{covers_pc};
@@ -18,7 +19,7 @@ ghost use Rattle.eh_frame.specs.Search.{IsFirst, NoneContains, IsUnreadable};
 ghost use Rattle.encoded_pointers.specs.CursorViews.{at};
 ghost use Rattle.encoded_pointers.specs.PointerViews.{bases_of};
 ghost use Rattle.eh_frame.specs.Listing.{listing_of};
-ghost use Rattle.eh_frame.specs.FdeLists.{ListsFdes};
+ghost use Rattle.eh_frame.specs.FdeLists.{AddsCie, ListsCie, ListsEntry, ListsFdes};
 ghost use Rattle.eh_frame.specs.EntryViews.{cie_of, fde_of, entry_of, found_of, table_of};
 
 use crate::cie::Cie;
@@ -142,25 +143,73 @@ impl<'a> EhFrame<'a> {
         let mut list = FdeList::new(alloc);
         let mut offset = 0;
         loop {
-            let known = list.index_of(self.named_by(offset));
-            match self.entry_at(offset, &list.cie(known), bases) {
+            let mut input = self.from(offset);
+            match read_body(&mut input) {
                 Err(_) => return Ok(None),
                 Ok(None) => return Ok(Some(list)),
-                Ok(Some(found)) => {
-                    list.push(&found.entry, known)?;
-                    offset = found.next;
+                Ok(Some(body)) => {
+                    if !self.list_entry(offset, body, bases, &mut list)? {
+                        return Ok(None);
+                    }
+                    offset = input.offset();
                 }
             }
         }
     }
 
-    // The offset of the common information entry that the entry at an offset names, if it names one
-    // and is of ordinary length.
-    fn named_by(&self, offset: u64) -> u64 {
-        let mut input = self.from(offset.saturating_add(4));
-        match input.read_u32() {
-            Ok(distance) => offset.saturating_add(4).saturating_sub(distance as u64),
-            Err(_) => 0,
+    // Lists the entry at `offset`, whose body is `body`. `false` where it can't be read. A
+    // description is read where its common information entry stands in the list, which isn't copied.
+    #[inline(always)]
+    fn list_entry(
+        &self,
+        offset: u64,
+        body: Cursor<'a>,
+        bases: &Bases,
+        list: &mut FdeList<'a>,
+    ) -> Result<bool, AllocError>
+        requires { AllByRecursion (StandsIn (bases_of bases.now) (table_of self.now))
+            (map cie_of list.old.cies.items) }
+        ensures { IfOk result (λ readable. ListsEntry (bases_of bases.now) (table_of self.now)
+            offset (at body.entry) list.old readable list.new) }
+    {
+        let origin = body.offset();
+        let mut input = body;
+        let id = match input.read_u32() {
+            Ok(id) => id as u64,
+            Err(_) => return Ok(false),
+        };
+        if id == 0 {
+            return list_cie(offset, input, bases, list);
+        }
+        if id > origin {
+            return Ok(false);
+        }
+        match self.list_named(origin - id, bases, list)? {
+            Some(cie) => list.push_fde(cie, offset, input, bases),
+            None => Ok(false),
+        }
+    }
+
+    // The index of the common information entry at an offset, which is read and listed where it
+    // isn't yet. `None` where it can't be read.
+    fn list_named(
+        &self,
+        offset: u64,
+        bases: &Bases,
+        list: &mut FdeList<'a>,
+    ) -> Result<Option<usize>, AllocError>
+        requires { AllByRecursion (StandsIn (bases_of bases.now) (table_of self.now))
+            (map cie_of list.old.cies.items) }
+        ensures cie { IfOk result (λ index. ListsCie (bases_of bases.now) (table_of self.now)
+            offset list.old.cies.items index list.new.cies.items) }
+        ensures fdes { list.new.fdes ≡ list.old.fdes }
+    {
+        if let Some(index) = list.index_of(offset) {
+            return Ok(Some(index));
+        }
+        match self.cie_at(offset, bases) {
+            Ok(cie) => Ok(Some(list.push_cie(cie)?)),
+            Err(_) => Ok(None),
         }
     }
 
@@ -312,6 +361,28 @@ fn described<'a>(found: Option<Found<'a>>) -> Result<Fde<'a>, Error>
             },
         ) => Ok(fde),
         _ => Err(Error::NotFde),
+    }
+}
+
+// Lists the common information entry at `offset`. `body` is what stands after its first four bytes.
+// `false` where it can't be read.
+fn list_cie<'a>(
+    offset: u64,
+    body: Cursor<'a>,
+    bases: &Bases,
+    list: &mut FdeList<'a>,
+) -> Result<bool, AllocError>
+    ensures cies { IfOk result (λ readable. AddsCie
+        (cie_body (bases_of bases.now) offset (at body.entry))
+        list.old.cies.items readable list.new.cies.items) }
+    ensures fdes { list.new.fdes ≡ list.old.fdes }
+{
+    match Cie::read(offset, body, bases) {
+        Ok(cie) => {
+            list.push_cie(cie)?;
+            Ok(true)
+        }
+        Err(_) => Ok(false),
     }
 }
 

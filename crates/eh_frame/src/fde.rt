@@ -1,19 +1,17 @@
 //! Frame description entries: where a function's code lies, and how its frame is undone.
 
-ghost use Rattle.std.specs.Prelude.{◌≡◌, ◌+◌, ◌<◌, ◌^◌, IfOk, is_some};
+ghost use Rattle.std.specs.Prelude.{◌≡◌, ◌+◌, ◌<◌, ◌^◌, is_some};
 ghost use Rattle.std.specs.Option.{option_map};
-ghost use Rattle.unwind_definitions.specs.Entries.{is_pointing, language_pointer};
-ghost use Rattle.encoded_pointers.specs.Readers.{GivesOr, Answers};
+ghost use Rattle.unwind_definitions.specs.Entries.{is_pointing};
+ghost use Rattle.encoded_pointers.specs.Readers.{Answers};
 ghost use Rattle.encoded_pointers.specs.CursorViews.{at};
 ghost use Rattle.encoded_pointers.specs.PointerViews.{bases_of, pointer_of};
-ghost use Rattle.eh_frame.specs.Letters.{byte_of, letters_of};
+ghost use Rattle.eh_frame.specs.Letters.{letters_of};
 
 use crate::cie::Cie;
 use crate::entries::EhFrame;
 use crate::listed_fde::ListedFde;
-use encoded_pointers::{
-    Bases, Cursor, DwEhPe, Pointer, parse_direct_pointer, parse_encoded_pointer, read_value,
-};
+use encoded_pointers::{Bases, Cursor, Pointer};
 use frame_rows::{Row, RowRoom};
 use unwind_definitions::Error;
 
@@ -35,7 +33,7 @@ pub struct Fde<'a> {
 impl<'a> Fde<'a> {
     ghost use Rattle.std.specs.Prelude.{◌&&◌};
     ghost use Rattle.unwind_definitions.specs.Augmentation.{has_letter, language_letter};
-    ghost use Rattle.unwind_definitions.specs.Entries.{fde_body, fde_data};
+    ghost use Rattle.unwind_definitions.specs.Entries.{fde_body};
     ghost use Rattle.unwind_definitions.specs.Row.{covers_pc, row_at};
     ghost use Rattle.eh_frame.specs.EntryViews.{cie_of, fde_of};
     ghost use Rattle.frame_rows.specs.Rows.{GivesRow, made};
@@ -52,43 +50,9 @@ impl<'a> Fde<'a> {
         ensures { Answers fde_of result
             (fde_body (bases_of bases.now) (cie_of cie.entry) offset (at body.entry)) }
     {
-        let encoding = cie.start_encoding();
-        let mut input = body;
-        let initial_address = parse_direct_pointer(encoding, bases, &mut input)?;
-        let len = read_value(encoding, &mut input)?;
-        if len > u64::MAX - initial_address {
-            return Err(Error::AddressOverflow);
-        }
-        let lsda = Fde::read_augmentation_data(&cie, bases, initial_address, &mut input)?;
-        Ok(Fde {
-            offset,
-            cie,
-            initial_address,
-            len,
-            lsda,
-            program: input,
-        })
-    }
-
-    // The bytes of an augmentation, where there is one: their number, and so many, with the pointer
-    // to the language table of the function at `start`. After a fault the cursor is unspecified.
-    fn read_augmentation_data(
-        cie: &Cie,
-        bases: &Bases,
-        start: u64,
-        input: &mut Cursor,
-    ) -> Result<Option<Pointer>, Error>
-        ensures reads { GivesOr (option_map pointer_of) result
-            (fde_data (bases_of bases.now) (cie_of cie.now) start (at input.old)) (at input.new) }
-        ensures told { IfOk result
-            (λ lsda. is_some lsda ≡ is_pointing (letters_of cie.now.letters).language) }
-    {
-        if cie.augmentation().is_empty() {
-            return Ok(None);
-        }
-        let count = input.read_uleb128()?;
-        let block = input.split(count)?;
-        read_language_pointer(cie.lsda_encoding(), bases, start, block)
+        // it stands alone here, and is in no list
+        let listed = ListedFde::read(&cie, 0, offset, body, bases)?;
+        Ok(Fde::with_cie(cie, &listed))
     }
 
     /// How many bytes of the table stand before the entry.
@@ -117,22 +81,6 @@ impl<'a> Fde<'a> {
         ensures { result ≡ (fde_of self.now).size }
     {
         self.len
-    }
-
-    // The same as it stands in a list, whose common information entry stands at an index of another.
-    pub(crate) fn listed(&self, cie: usize) -> ListedFde<'a>
-        ensures fde { fde_with (fde_of self.now).cie result ≡ fde_of self.now }
-        ensures told { IsTold (fde_of self.now).cie result }
-        ensures cie { result.cie ≡ cie }
-    {
-        ListedFde {
-            cie,
-            offset: self.offset,
-            initial_address: self.initial_address,
-            len: self.len,
-            lsda: self.lsda,
-            program: self.program,
-        }
     }
 
     // A description of a list, with its common information entry.
@@ -266,31 +214,5 @@ impl<'a> Fde<'a> {
             self.initial_address,
             pc,
         )
-    }
-}
-
-// The pointer to the language table of the function at `start`, `None` where the augmentation has
-// no `L` or its encoding says that there is none.
-fn read_language_pointer(
-    encoding: Option<DwEhPe>,
-    bases: &Bases,
-    start: u64,
-    block: Cursor,
-) -> Result<Option<Pointer>, Error>
-    ensures reads { Answers (option_map pointer_of) result
-        (language_pointer (bases_of bases.now) start (option_map byte_of encoding)
-        (at block.entry)) }
-    ensures told { IfOk result (λ lsda. is_some lsda ≡ is_pointing (option_map byte_of encoding)) }
-{
-    match encoding {
-        Some(encoding) if !encoding.is_absent() => {
-            let bases = Bases {
-                func: Some(start),
-                ..*bases
-            };
-            let mut input = block;
-            Ok(Some(parse_encoded_pointer(encoding, &bases, &mut input)?))
-        }
-        _ => Ok(None),
     }
 }

@@ -34,6 +34,7 @@
 #![tactic(auto)]
 
 mod augmentation;
+mod begun_cies;
 mod cie;
 mod entries;
 mod fde;
@@ -45,6 +46,7 @@ mod laws;
 mod listed_fde;
 mod listing;
 mod prepared;
+mod starts;
 
 pub use cie::Cie;
 pub use encoded_pointers::{
@@ -61,12 +63,3 @@ pub use laws::{index_answers_as_a_scan, table_of_a_push_is_prepared};
 pub use listing::Entries;
 pub use prepared::{Found, Prepared, PreparedFrame};
 pub use unwind_definitions::Error;
-
-#[cfg(test)]
-mod entry_tests;
-#[cfg(test)]
-mod header_tests;
-#[cfg(test)]
-mod prepared_tests;
-#[cfg(test)]
-mod tests;

@@ -1,11 +1,22 @@
 //! A description whose common information entry stands in a list.
 
-ghost use Rattle.std.specs.Prelude.{◌+◌, ◌<◌, ◌^◌};
+ghost use Rattle.std.specs.Prelude.{◌≡◌, ◌+◌, ◌<◌, ◌^◌, IfOk, is_some};
+ghost use Rattle.std.specs.Option.{option_map};
+ghost use Rattle.unwind_definitions.specs.Entries.{fde_data, is_pointing, language_pointer};
+ghost use Rattle.encoded_pointers.specs.Readers.{Answers, GivesOr};
+ghost use Rattle.encoded_pointers.specs.CursorViews.{at};
+ghost use Rattle.encoded_pointers.specs.PointerViews.{bases_of, pointer_of};
+ghost use Rattle.eh_frame.specs.EntryViews.{cie_of};
+ghost use Rattle.eh_frame.specs.Letters.{byte_of, letters_of};
 
+use crate::begun_cies::CommonRun;
 use crate::cie::Cie;
-use encoded_pointers::{Bases, Cursor, Pointer};
+use encoded_pointers::{
+    Bases, Cursor, DwEhPe, Pointer, parse_direct_pointer, parse_encoded_pointer, read_value,
+};
 use frame_rows::RowTableBuilder;
 use std::alloc::AllocError;
+use unwind_definitions::Error;
 
 /// A frame description entry whose common information entry stands in a list, so that those of many
 /// functions take one's place.
@@ -22,13 +33,46 @@ pub(crate) struct ListedFde<'a> {
 }
 
 impl<'a> ListedFde<'a> {
-    ghost use Rattle.std.specs.Prelude.{◌≡◌, true};
-    ghost use Rattle.encoded_pointers.specs.PointerViews.{bases_of};
-    ghost use Rattle.frame_rows.specs.Begun.{HasBegun};
+    ghost use Rattle.unwind_definitions.specs.Entries.{fde_body};
+    ghost use Rattle.unwind_definitions.specs.Instructions.{Program};
+    ghost use Rattle.frame_rows.specs.Begun.{HasBegun, HasBegunBefore};
     ghost use Rattle.frame_rows.specs.KeptRows.{Adds};
-    ghost use Rattle.eh_frame.specs.FdeLists.{fde_with};
+    ghost use Rattle.eh_frame.specs.FdeLists.{IsTold, fde_with};
     ghost use Rattle.eh_frame.specs.Index.{common_program, end_of, own_program};
-    ghost use Rattle.eh_frame.specs.EntryViews.{cie_of};
+    ghost use Rattle.eh_frame.specs.Turns.{ComesBefore, WasBegun};
+
+    /// What stands after the first four bytes of the entry at `offset`, which names `cie`: that
+    /// stands at `index` in the list.
+    #[inline(always)]
+    pub(crate) fn read(
+        cie: &Cie<'a>,
+        index: usize,
+        offset: u64,
+        body: Cursor<'a>,
+        bases: &Bases,
+    ) -> Result<ListedFde<'a>, Error>
+        ensures reads { Answers (fde_with (cie_of cie.now)) result
+            (fde_body (bases_of bases.now) (cie_of cie.now) offset (at body.entry)) }
+        ensures told { IfOk result (λ fde. IsTold (cie_of cie.now) fde) }
+        ensures cie { IfOk result (λ fde. fde.cie ≡ index) }
+    {
+        let encoding = cie.start_encoding();
+        let mut input = body;
+        let initial_address = parse_direct_pointer(encoding, bases, &mut input)?;
+        let len = read_value(encoding, &mut input)?;
+        if len > u64::MAX - initial_address {
+            return Err(Error::AddressOverflow);
+        }
+        let lsda = read_augmentation_data(cie, bases, initial_address, &mut input)?;
+        Ok(ListedFde {
+            cie: index,
+            offset,
+            initial_address,
+            len,
+            lsda,
+            program: input,
+        })
+    }
 
     /// The address after the function's last byte.
     pub(crate) fn end(&self) -> u64
@@ -38,16 +82,16 @@ impl<'a> ListedFde<'a> {
     }
 
     /// Adds the function's rows to those of others. `false` where they would be too many. `cie` is
-    /// the common information entry, and `is_begun` says whether its program was the last to run.
+    /// the common information entry, and `run` says whether its program was run before.
     pub(crate) fn add_rows(
         &self,
         cie: &Cie<'a>,
-        is_begun: bool,
+        run: CommonRun,
         bases: &Bases,
         rows: &mut RowTableBuilder<'a>,
     ) -> Result<bool, AllocError>
         requires some { 0 < self.now.len }
-        requires begun { is_begun ≡ true → HasBegun rows.old
+        requires begun { WasBegun run rows.old
             (common_program (bases_of bases.now) (fde_with (cie_of cie.now) self.now)) }
         ensures rows { let fde = fde_with (cie_of cie.now) self.now in
             let bases = bases_of bases.now in
@@ -56,13 +100,65 @@ impl<'a> ListedFde<'a> {
         ensures limits { rows.new.limits ≡ rows.old.limits }
         ensures begun { HasBegun rows.new
             (common_program (bases_of bases.now) (fde_with (cie_of cie.now) self.now)) }
+        ensures before { (before : Program) → ComesBefore run rows.old before →
+            HasBegunBefore rows.new before }
     {
         let (start, end) = (self.initial_address, self.end());
         let coding = cie.coding(bases);
-        if is_begun {
-            rows.add_next(self.program, coding, start, end)
-        } else {
-            rows.add(cie.instructions(), self.program, coding, start, end)
+        match run {
+            CommonRun::Last => rows.add_next(self.program, coding, start, end),
+            CommonRun::BeforeLast => {
+                rows.turn();
+                rows.add_next(self.program, coding, start, end)
+            }
+            CommonRun::Other => rows.add(cie.instructions(), self.program, coding, start, end),
         }
+    }
+}
+
+// The bytes of an augmentation, where there is one: their number, and so many, with the pointer
+// to the language table of the function at `start`. After a fault the cursor is unspecified.
+fn read_augmentation_data(
+    cie: &Cie,
+    bases: &Bases,
+    start: u64,
+    input: &mut Cursor,
+) -> Result<Option<Pointer>, Error>
+    ensures reads { GivesOr (option_map pointer_of) result
+        (fde_data (bases_of bases.now) (cie_of cie.now) start (at input.old)) (at input.new) }
+    ensures told { IfOk result
+        (λ lsda. is_some lsda ≡ is_pointing (letters_of cie.now.letters).language) }
+{
+    if cie.augmentation().is_empty() {
+        return Ok(None);
+    }
+    let count = input.read_uleb128()?;
+    let block = input.split(count)?;
+    read_language_pointer(cie.lsda_encoding(), bases, start, block)
+}
+
+// The pointer to the language table of the function at `start`, `None` where the augmentation has
+// no `L` or its encoding says that there is none.
+fn read_language_pointer(
+    encoding: Option<DwEhPe>,
+    bases: &Bases,
+    start: u64,
+    block: Cursor,
+) -> Result<Option<Pointer>, Error>
+    ensures reads { Answers (option_map pointer_of) result
+        (language_pointer (bases_of bases.now) start (option_map byte_of encoding)
+        (at block.entry)) }
+    ensures told { IfOk result (λ lsda. is_some lsda ≡ is_pointing (option_map byte_of encoding)) }
+{
+    match encoding {
+        Some(encoding) if !encoding.is_absent() => {
+            let bases = Bases {
+                func: Some(start),
+                ..*bases
+            };
+            let mut input = block;
+            Ok(Some(parse_encoded_pointer(encoding, &bases, &mut input)?))
+        }
+        _ => Ok(None),
     }
 }

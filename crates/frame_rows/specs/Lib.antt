@@ -8,4 +8,5 @@ pub mod KeptRows
 pub mod Stretches
 pub mod Bodies
 pub mod TableRows
+pub mod BegunPrograms
 pub mod Begun

@@ -11,6 +11,7 @@
 //! Source: DWARF 5 section 6.4.
 #![tactic(auto)]
 
+mod begun;
 mod coding;
 pub mod constants;
 mod instruction;
@@ -38,6 +39,3 @@ pub use row_table_builder::RowTableBuilder;
 pub use rule::{CfaRule, RegisterRule};
 pub use unwind_arch::{Register, RegisterMap};
 pub use unwind_definitions::Error;
-
-#[cfg(test)]
-mod row_tests;

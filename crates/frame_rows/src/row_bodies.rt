@@ -34,8 +34,21 @@ pub(crate) struct RowBody<'a> {
 pub(crate) struct RowBodies<'a> {
     bodies: Vec<RowBody<'a>>,
     rules: Vec<(Register, RegisterRule<'a>)>,
-    // by a number that is made of what a body says: the place of the last one of that number
-    known: [usize; KNOWN],
+}
+
+/// Where bodies stand, by a number that is made of what they say: the last one of each number.
+///
+/// It serves while bodies are kept, and isn't part of them.
+#[derive(Drop)]
+pub(crate) struct KnownBodies {
+    places: [usize; KNOWN],
+}
+
+impl KnownBodies {
+    /// None is known.
+    pub(crate) fn new() -> KnownBodies {
+        KnownBodies { places: [0; KNOWN] }
+    }
 }
 
 impl<'a> Model for RowBodies<'a> {
@@ -61,7 +74,6 @@ impl<'a> RowBodies<'a> {
         RowBodies {
             bodies: Vec::new(alloc),
             rules: Vec::new(alloc),
-            known: [0; KNOWN],
         }
     }
 
@@ -73,9 +85,10 @@ impl<'a> RowBodies<'a> {
         kept(&self.rules, self.bodies[place])
     }
 
-    /// Where a body stands. One that isn't found by what it says is added.
+    /// Where a body stands. One that isn't found by what it says is added, and known from then on.
     pub(crate) fn keep(
         &mut self,
+        known: &mut KnownBodies,
         cfa: Result<CfaRule<'a>, Error>,
         rules: &[(Register, RegisterRule<'a>)],
         saved_args_size: u64,
@@ -87,13 +100,13 @@ impl<'a> RowBodies<'a> {
             (kept_answer cfa.entry (map entry_of rules.now) saved_args_size)) }
     {
         let number = number_of(cfa, rules);
-        let known = self.known[number];
-        if self.says(known, cfa, rules, saved_args_size) {
-            return Ok(known);
+        let last = known.places[number];
+        if self.says(last, cfa, rules, saved_args_size) {
+            return Ok(last);
         }
         let place = self.bodies.len();
         self.add(cfa, rules, saved_args_size)?;
-        self.known[number] = place;
+        known.places[number] = place;
         Ok(place)
     }
 

@@ -11,7 +11,7 @@ ghost use Rattle.frame_rows.specs.Rows.{GivesRow};
 ghost use Rattle.frame_rows.specs.Bodies.{kept_answer};
 ghost use Rattle.frame_rows.specs.TableRows.{HoldsAt, IsLastAt, Pushes};
 
-use crate::row_bodies::RowBodies;
+use crate::row_bodies::{KnownBodies, RowBodies};
 use crate::row_ref::RowRef;
 use crate::rule::{CfaRule, RegisterRule};
 use std::alloc::{AllocError, Global};
@@ -111,9 +111,11 @@ impl<'a> RowTable<'a> {
         self.bodies.get(rows[last_at(rows, pc)].body)
     }
 
-    /// Keeps a row or a fault for a location. `false` where it would be too much.
+    /// Keeps a row or a fault for a location. `false` where it would be too much. `known` is where
+    /// bodies stand that may say the same.
     pub(crate) fn push(
         &mut self,
+        known: &mut KnownBodies,
         location: u64,
         answer: Result<RowRef<'_, 'a>, Error>,
         limits: RowLimits,
@@ -124,19 +126,21 @@ impl<'a> RowTable<'a> {
     {
         match answer {
             Ok(row) => self.push_entry(
+                known,
                 location,
                 Ok(row.cfa()),
                 row.entries(),
                 row.saved_args_size(),
                 limits,
             ),
-            Err(e) => self.push_entry(location, Err(e), &[], 0, limits),
+            Err(e) => self.push_entry(known, location, Err(e), &[], 0, limits),
         }
     }
 
     // Keeps a row by its parts, or a fault.
     fn push_entry(
         &mut self,
+        known: &mut KnownBodies,
         location: u64,
         cfa: Result<CfaRule<'a>, Error>,
         rules: &[(Register, RegisterRule<'a>)],
@@ -153,7 +157,7 @@ impl<'a> RowTable<'a> {
         if self.rows.len() >= limits.rows as usize || rule_count > limits.rules as usize {
             return Ok(false);
         }
-        let body = self.bodies.keep(cfa, rules, saved_args_size)?;
+        let body = self.bodies.keep(known, cfa, rules, saved_args_size)?;
         self.rows.push(TableRow { location, body })?;
         self.rule_count = rule_count as u32;
         Ok(true)

@@ -6,13 +6,15 @@ ghost use Rattle.unwind_definitions.specs.Row.{RowInstructions, from_common};
 ghost use Rattle.encoded_pointers.specs.CursorViews.{at};
 ghost use Rattle.frame_rows.specs.InstructionViews.{coding_in};
 ghost use Rattle.frame_rows.specs.KeptRows.{Adds};
-ghost use Rattle.frame_rows.specs.Begun.{HasBegun};
+ghost use Rattle.frame_rows.specs.Begun.{HasBegun, HasBegunBefore};
 ghost use Rattle.frame_rows.specs.Running.{Represents, outcome};
 ghost use Rattle.frame_rows.specs.TableRows.{Keeps};
 
+use crate::begun::BegunPrograms;
 use crate::coding::Coding;
-use crate::machine::{Machine, RowState};
+use crate::machine::Machine;
 use crate::program::run_common;
+use crate::row_bodies::KnownBodies;
 use crate::row_table::{RowLimits, RowTable};
 use crate::stretch::{Instructions, run_stretch};
 use encoded_pointers::Cursor;
@@ -26,11 +28,9 @@ use unwind_definitions::Error;
 pub struct RowTableBuilder<'a> {
     table: RowTable<'a>,
     limits: RowLimits,
+    known: KnownBodies,
     machine: Machine<'a>,
-    // what the program of the common information entry that was begun last ended with: a row, or a
-    // fault
-    common: RowState<'a>,
-    fault: Option<Error>,
+    begun: BegunPrograms<'a>,
 }
 
 impl<'a> RowTableBuilder<'a> {
@@ -42,9 +42,9 @@ impl<'a> RowTableBuilder<'a> {
         RowTableBuilder {
             table: RowTable::new(alloc),
             limits,
+            known: KnownBodies::new(),
             machine: Machine::new(),
-            common: RowState::new(),
-            fault: None,
+            begun: BegunPrograms::new(),
         }
     }
 
@@ -67,6 +67,8 @@ impl<'a> RowTableBuilder<'a> {
             (program coding (at own.entry)) self.old.table result self.new.table }
         ensures limits { self.new.limits ≡ self.old.limits }
         ensures begun { HasBegun self.new (program (coding_in coding.entry) (at common.entry)) }
+        ensures before { (before : Program) → HasBegun self.old before →
+            HasBegunBefore self.new before }
     {
         self.begin(common, coding);
         self.add_next(own, coding, start, end)
@@ -87,24 +89,43 @@ impl<'a> RowTableBuilder<'a> {
             (program (coding_in coding.entry) (at own.entry)) self.old.table result self.new.table }
         ensures limits { self.new.limits ≡ self.old.limits }
         ensures begun { (common : Program) → HasBegun self.old common → HasBegun self.new common }
+        ensures before { (before : Program) → HasBegunBefore self.old before →
+            HasBegunBefore self.new before }
     {
-        match self.fault {
-            Some(e) => self.table.push(start, Err(e), self.limits),
+        let common = self.begun.last();
+        match common.fault {
+            Some(e) => self.table.push(&mut self.known, start, Err(e), self.limits),
             None => {
-                self.machine.begin_after(&self.common, start);
+                self.machine.begin_after(&common.state, start);
                 self.add_rows(own, coding, start, end)
             }
         }
     }
 
-    // Runs the program of a common information entry, which those of its descriptions follow.
-    fn begin(&mut self, common: Cursor<'a>, coding: Coding)
-        ensures begun { HasBegun self.new (program (coding_in coding.entry) (at common.entry)) }
+    /// Makes the common information entry that was begun before the last one that whose descriptions
+    /// [`RowTableBuilder::add_next`] adds, and the last one the one before it.
+    pub fn turn(&mut self)
+        ensures begun { (common : Program) → HasBegunBefore self.old common →
+            HasBegun self.new common }
+        ensures before { (before : Program) → HasBegun self.old before →
+            HasBegunBefore self.new before }
         ensures table { self.new.table ≡ self.old.table }
         ensures limits { self.new.limits ≡ self.old.limits }
     {
-        self.fault = run_common(&mut self.machine, common, coding).err();
-        self.machine.put_state(&mut self.common);
+        self.begun.turn();
+    }
+
+    // Runs the program of a common information entry, which those of its descriptions follow.
+    fn begin(&mut self, common: Cursor<'a>, coding: Coding)
+        ensures begun { HasBegun self.new (program (coding_in coding.entry) (at common.entry)) }
+        ensures before { (before : Program) → HasBegun self.old before →
+            HasBegunBefore self.new before }
+        ensures table { self.new.table ≡ self.old.table }
+        ensures limits { self.new.limits ≡ self.old.limits }
+    {
+        self.begun.turn();
+        let fault = run_common(&mut self.machine, common, coding).err();
+        self.begun.put(&self.machine, fault);
     }
 
     /// How many rows and faults there are so far.
@@ -136,8 +157,7 @@ impl<'a> RowTableBuilder<'a> {
             Adds self.old.limits start end common (program (coding_in coding.entry) (at own.entry))
             self.old.table result self.new.table }
         ensures limits { self.new.limits ≡ self.old.limits }
-        ensures common { self.new.common ≡ self.old.common }
-        ensures fault { self.new.fault ≡ self.old.fault }
+        ensures begun { self.new.begun ≡ self.old.begun }
     {
         let mut instructions = Instructions::new(own);
         let mut location = start;
@@ -166,12 +186,16 @@ impl<'a> RowTableBuilder<'a> {
             result self.new.table }
         ensures machine { self.new.machine ≡ self.old.machine }
         ensures limits { self.new.limits ≡ self.old.limits }
-        ensures common { self.new.common ≡ self.old.common }
-        ensures fault { self.new.fault ≡ self.old.fault }
+        ensures begun { self.new.begun ≡ self.old.begun }
     {
         match next {
-            Ok(_) => self.table.push(location, self.machine.row(), self.limits),
-            Err(e) => self.table.push(location, Err(e), self.limits),
+            Ok(_) => {
+                let row = self.machine.row();
+                self.table.push(&mut self.known, location, row, self.limits)
+            }
+            Err(e) => self
+                .table
+                .push(&mut self.known, location, Err(e), self.limits),
         }
     }
 }

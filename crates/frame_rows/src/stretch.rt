@@ -64,6 +64,10 @@ pub(crate) fn run_stretch<'a>(
         IfSome next (λ _. instructions.new.left < instructions.old.left)) }
 {
     while let Some(instruction) = instructions.next(coding)? {
+        // Programs are filled up with these: they are told apart before what the others do.
+        if let CallFrameInstruction::Nop = instruction {
+            continue;
+        }
         if let Some(next) = machine.leads_on(instruction) {
             return Ok(Some(next));
         }

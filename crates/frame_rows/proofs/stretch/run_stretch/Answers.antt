@@ -1,10 +1,11 @@
-use Rattle.std.proofs.Common.{◌<◌, [], ◌∷◌, sym, ap, subst, ◌∙◌, arith}
+use Rattle.std.proofs.Common.{◌<◌, [], ◌∷◌, refl, sym, ap, subst, ◌∙◌, arith}
 use Rattle.std.proofs.lemmas.Result.{err_from_is_err_and}
-use Rattle.unwind_definitions.specs.Instructions.{Coding}
+use Rattle.unwind_definitions.specs.Instructions.{Coding, Nop}
 use Rattle.unwind_definitions.specs.Row.{location}
 use Rattle.frame_rows.specs.InstructionViews.{coding_in, meaning}
 use Rattle.frame_rows.specs.Running.{push}
 use Rattle.frame_rows.specs.Stretches.{left_of, IsStill}
+use Rattle.frame_rows.proofs.Steps.{step_nop}
 use Rattle.frame_rows.proofs.StretchSteps.{further, cannot, leads_further, ends, unreadable}
 use Rattle.frame_rows.proofs.stretch.run_stretch.Goals as goal
 
@@ -25,6 +26,16 @@ returns-in-Some-leads_on-clause-ends c start run rep =
     let here = now.1.here in
     leads_further start run (left_of coding c.args.instructions.now) now.0 (left_of coding c.loop-instruction.instructions) now.2 i c.in-Some-leads_on.next (left_of coding c.next.new.self) c.loop-instruction.machine
     reads now.1 (ap (λ a. location a (i ∷ [])) (sym here) ∙ leads.0) (subst (λ a. a < c.in-Some-leads_on.next) here leads.1) leads.2
+
+pub loop-instruction-preserved-in-Nop : goal.loop-instruction-preserved-in-Nop
+loop-instruction-preserved-in-Nop c = (
+  let less = rw c.in-Some.is at c.in_ok-instruction.ensures.fewer in let before = c.loop-instruction.invariant.0 in omega (arith, less),
+  λ start run rep.
+      let now = c.loop-instruction.invariant.1 start run rep in
+      let coding : Coding = coding_in c.args.coding in
+      let reads = rw (c.in-Some.is, c.in-Nop.is) at (c.in_ok-instruction.ensures.reads) in
+      (push now.0 Nop, step_nop start c.loop-instruction.machine now.0 now.1, further start run (left_of coding c.args.instructions.now) now.0 (left_of coding c.loop-instruction.instructions) now.2 Nop (left_of coding c.next.new.self) reads tt refl),
+)
 
 pub loop-instruction-preserved : goal.loop-instruction-preserved
 loop-instruction-preserved c = (

@@ -24,7 +24,6 @@ loop-next-init c = (
             (begin c.args.start c.args.end common own c.args.self.now.table run c.requires ran),
       ),
   refl,
-  refl,
 )
 
 pub returns-then-not-branch-clause-rows : goal.returns-then-not-branch-clause-rows
@@ -56,8 +55,7 @@ loop-next-preserved c = (
         kept_on c.args.start c.args.end common own c.args.self.now.table run ran c.loop-next.location now.0 (left_of coding c.loop-next.instructions) c.loop-next.self.table now.2 c.loop-next.self.limits m (left_of coding c.run_stretch-next.new.instructions)
             c.keep.new.self.table c.in-Ok-Some.next st kept c.if-next-end.false,
       ),
-  c.in_ok-keep.ensures.common ∙ c.loop-next.invariant.2,
-  c.in_ok-keep.ensures.fault ∙ c.loop-next.invariant.3,
+  c.in_ok-keep.ensures.begun ∙ c.loop-next.invariant.2,
 )
 
 pub returns-then-next-end-clause-rows : goal.returns-then-next-end-clause-rows

@@ -14,7 +14,7 @@ invariant-loop-next l = (l.self.limits ≡ l.fn.self.limits) × ((common : Progr
     outcome 0 None (from_common []) common ≡ Ok run → Represents l.start l.fn.self.machine (from_common common.instructions) →
     (now : RowInstructions) × Represents l.start l.self.machine now ×
     IsAdding l.start l.end common (program (coding_in l.coding) (at l.own)) l.fn.self.table l.location now (left_of (coding_in l.coding) l.instructions) l.self.table)
-    × (l.self.common ≡ l.fn.self.common) × (l.self.fault ≡ l.fn.self.fault)
+    × (l.self.begun ≡ l.fn.self.begun)
 
 abbrev pub decreases-loop-next : goal.decreases-loop-next
 decreases-loop-next l = l.instructions.left
