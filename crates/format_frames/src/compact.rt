@@ -26,21 +26,34 @@ use eh_frame::{Bases, EhFrame, Fde, RowRoom};
 use macho_unwind_info::opcodes::{OpcodeX86_64, RegisterNameX86_64};
 use memory_image::MemoryImage;
 use unwind_arch::x86_64::{Arch, Context, RBP, RBX, RSP};
-use unwinding_frames::{StepError, step_by_row};
+use unwinding_frames::{StepError, Window, step_by_row};
+
+// Where the registers that an opcode can name stand among a context's. A look-up here is faster than
+// a branch to a store for each of them.
+static COLUMNS: [usize; 6] = [RBX, 12, 13, 14, 15, RBP];
+
+// a register's place among those that an opcode can name
+fn place(register: RegisterNameX86_64) -> usize
+    ensures is { slice_index COLUMNS result ≡ column_of (saved_as register) }
+    ensures fits { slice_index COLUMNS result < 16 }
+    ensures below { result < 6 }
+{
+    match register {
+        RegisterNameX86_64::Rbx => 0,
+        RegisterNameX86_64::R12 => 1,
+        RegisterNameX86_64::R13 => 2,
+        RegisterNameX86_64::R14 => 3,
+        RegisterNameX86_64::R15 => 4,
+        RegisterNameX86_64::Rbp => 5,
+    }
+}
 
 // a register's place among a context's
 fn column(register: RegisterNameX86_64) -> usize
     ensures is { result ≡ column_of (saved_as register) }
     ensures fits { result < 16 }
 {
-    match register {
-        RegisterNameX86_64::Rbx => RBX,
-        RegisterNameX86_64::R12 => 12,
-        RegisterNameX86_64::R13 => 13,
-        RegisterNameX86_64::R14 => 14,
-        RegisterNameX86_64::R15 => 15,
-        RegisterNameX86_64::Rbp => RBP,
-    }
+    COLUMNS[place(register)]
 }
 
 // gives a general register, by its column, another value
@@ -59,13 +72,25 @@ fn write_return(context: &mut Context, value: u64)
     context.ra = value;
 }
 
-// the word at an address, which has to be mapped
-fn word_at(image: &MemoryImage<'_>, address: u64) -> Result<u64, StepError>
+// the word at an address that isn't in a window, which has to be mapped
+#[cold]
+#[inline(never)]
+fn far_word_at(image: &MemoryImage<'_>, address: u64) -> Result<u64, StepError>
     ensures { value_given result ≡ word_or_fault image.now address }
 {
     match image.read_u64(address) {
         Some(word) => Ok(word),
         None => Err(StepError::Unmapped(address)),
+    }
+}
+
+// the word of the stack at an address, which has to be mapped
+fn word_at(stack: &Window<'_, '_>, address: u64) -> Result<u64, StepError>
+    ensures { value_given result ≡ word_or_fault stack.now address }
+{
+    match stack.read_u64(address) {
+        Some(word) => Ok(word),
+        None => far_word_at(stack.image(), address),
     }
 }
 
@@ -112,16 +137,16 @@ fn first_fields(
 // Reads the register that a field names, if it names one, from the word at an address. After a
 // fault the registers are unspecified.
 fn read_field(
-    image: &MemoryImage<'_>,
+    stack: &Window<'_, '_>,
     address: u64,
     field: Option<RegisterNameX86_64>,
     caller: &mut Context,
 ) -> Result<(), StepError>
     ensures { columns_given columns_of (written_in result caller.new)
-        ≡ field_read image.now address (saved_in field) (columns_of caller.old) }
+        ≡ field_read stack.now address (saved_in field) (columns_of caller.old) }
 {
     if let Some(register) = field {
-        let value = word_at(image, address)?;
+        let value = word_at(stack, address)?;
         write(caller, column(register), value);
     }
     Ok(())
@@ -130,17 +155,17 @@ fn read_field(
 // Reads registers from words upwards, the first at an address; a field without a register is
 // passed. After a fault the registers are unspecified.
 fn read_up(
-    image: &MemoryImage<'_>,
+    stack: &Window<'_, '_>,
     address: u64,
     fields: &[Option<RegisterNameX86_64>],
     caller: &mut Context,
 ) -> Result<(), StepError>
     ensures { columns_given columns_of (written_in result caller.new)
-        ≡ read_up image.now address (map saved_in fields.now) (columns_of caller.old) }
+        ≡ read_up stack.now address (map saved_in fields.now) (columns_of caller.old) }
 {
     let mut place = address;
     for field in fields {
-        read_field(image, place, *field, caller)?;
+        read_field(stack, place, *field, caller)?;
         place = place.wrapping_add(8);
     }
     Ok(())
@@ -159,17 +184,17 @@ fn place_below(place: u64, listed: Option<RegisterNameX86_64>) -> u64
 // Reads registers from words downwards, the first at an address. After a fault the registers are
 // unspecified.
 fn read_down(
-    image: &MemoryImage<'_>,
+    stack: &Window<'_, '_>,
     address: u64,
     registers: &[Option<RegisterNameX86_64>],
     caller: &mut Context,
 ) -> Result<(), StepError>
     ensures { columns_given columns_of (written_in result caller.new)
-        ≡ read_down image.now address (filter_map saved_in registers.now) (columns_of caller.old) }
+        ≡ read_down stack.now address (filter_map saved_in registers.now) (columns_of caller.old) }
 {
     let mut place = address;
     for listed in registers {
-        read_field(image, place, *listed, caller)?;
+        read_field(stack, place, *listed, caller)?;
         place = place_below(place, *listed);
     }
     Ok(())
@@ -179,74 +204,74 @@ fn read_down(
 // bytes, from so far below it upwards. After a fault the registers are unspecified.
 #[tactic(auto, using(crate::proofs::Fields::first_named))]
 fn read_fields(
-    image: &MemoryImage<'_>,
+    stack: &Window<'_, '_>,
     rbp: u64,
     offset: u16,
     fields: &[Option<RegisterNameX86_64>; 5],
     caller: &mut Context,
 ) -> Result<(), StepError>
     ensures { columns_given columns_of (written_in result caller.new)
-        ≡ read_up image.now (rbp +w negative offset) (take (offset / 8) (fields_up fields.now))
+        ≡ read_up stack.now (rbp +w negative offset) (take (offset / 8) (fields_up fields.now))
         (columns_of caller.old) }
 {
     let up = fields_up(fields);
     let lowest = rbp.wrapping_sub(u64::from(offset));
-    read_up(image, lowest, first_fields(&up, offset / 8), caller)
+    read_up(stack, lowest, first_fields(&up, offset / 8), caller)
 }
 
 // Leaves a frame whose frame pointer is the word at RBP: that word is the caller's RBP, and the
 // return address stands above it. After a fault the registers are unspecified.
-fn leave_frame(image: &MemoryImage<'_>, rbp: u64, caller: &mut Context) -> Result<(), StepError>
+fn leave_frame(stack: &Window<'_, '_>, rbp: u64, caller: &mut Context) -> Result<(), StepError>
     ensures { columns_given columns_of (written_in result caller.new)
-        ≡ frame_left image.now rbp (columns_of caller.old) }
+        ≡ frame_left stack.now rbp (columns_of caller.old) }
 {
-    let saved = word_at(image, rbp)?;
-    let return_address = word_at(image, rbp.wrapping_add(8))?;
+    let saved = word_at(stack, rbp)?;
+    let return_address = word_at(stack, rbp.wrapping_add(8))?;
     write(caller, RBP, saved);
     write(caller, RSP, rbp.wrapping_add(16));
     write_return(caller, return_address);
     Ok(())
 }
 
-// The caller of a frame with a frame pointer: the fields lie `offset` bytes below the word at RBP.
+// Leaves a frame with a frame pointer: the fields lie `offset` bytes below the word at RBP. After a
+// fault the registers are unspecified.
 fn by_frame(
-    image: &MemoryImage<'_>,
+    stack: &Window<'_, '_>,
     offset: u16,
     fields: &[Option<RegisterNameX86_64>; 5],
-    context: &Context,
-) -> Result<Context, StepError>
-    ensures { columns_given columns_of result ≡ by_frame image.now offset (fields_up fields.now)
-        (columns_of context.now) (slice_index context.now.registers 6) }
+    caller: &mut Context,
+) -> Result<(), StepError>
+    ensures { columns_given columns_of (written_in result caller.new)
+        ≡ by_frame stack.now offset (fields_up fields.now)
+        (columns_of caller.old) (slice_index caller.old.registers 6) }
 {
-    let rbp = context.registers[RBP];
-    let mut caller = *context;
-    read_fields(image, rbp, offset, fields, &mut caller)?;
-    leave_frame(image, rbp, &mut caller)?;
-    Ok(caller)
+    let rbp = caller.registers[RBP];
+    read_fields(stack, rbp, offset, fields, caller)?;
+    leave_frame(stack, rbp, caller)
 }
 
-// The caller of a frame without a frame pointer, by its canonical frame address: the return address
-// is just below it, and below that the registers from the last back.
+// Leaves a frame without a frame pointer, by its canonical frame address: the return address is just
+// below it, and below that the registers from the last back. After a fault the registers are
+// unspecified.
+#[inline(always)]
 fn by_cfa(
-    image: &MemoryImage<'_>,
+    stack: &Window<'_, '_>,
     registers: &[Option<RegisterNameX86_64>; 6],
-    context: &Context,
+    caller: &mut Context,
     cfa: u64,
-) -> Result<Context, StepError>
-    ensures { columns_given columns_of result ≡ by_cfa image.now (registers_back registers.now)
-        (columns_of context.now) cfa }
+) -> Result<(), StepError>
+    ensures { columns_given columns_of (written_in result caller.new)
+        ≡ by_cfa stack.now (registers_back registers.now) (columns_of caller.old) cfa }
 {
-    let return_address = word_at(image, cfa.wrapping_sub(8))?;
-    let mut caller = *context;
-    write(&mut caller, RSP, cfa);
-    write_return(&mut caller, return_address);
+    let return_address = word_at(stack, cfa.wrapping_sub(8))?;
+    write(caller, RSP, cfa);
+    write_return(caller, return_address);
     read_down(
-        image,
+        stack,
         cfa.wrapping_sub(16),
         &registers_back(registers),
-        &mut caller,
-    )?;
-    Ok(caller)
+        caller,
+    )
 }
 
 // the description at an offset of the frame data, which lies at an address
@@ -318,22 +343,35 @@ fn indirect_size(
     Ok(u64::from(adjust) + u64::from(size))
 }
 
-// the caller by the canonical frame address that is so far above the stack pointer
+// Leaves a frame by the canonical frame address that is so far above the stack pointer. After a fault
+// the registers are unspecified.
+#[inline(always)]
 fn by_size(
-    image: &MemoryImage<'_>,
+    stack: &Window<'_, '_>,
     registers: &[Option<RegisterNameX86_64>; 6],
-    context: &Context,
+    caller: &mut Context,
     size: u64,
-) -> Result<Context, StepError>
-    ensures { columns_given columns_of result ≡ by_cfa image.now (registers_back registers.now)
-        (columns_of context.now) (slice_index context.now.registers 7 +w size) }
+) -> Result<(), StepError>
+    ensures { columns_given columns_of (written_in result caller.new)
+        ≡ by_cfa stack.now (registers_back registers.now) (columns_of caller.old)
+        (slice_index caller.old.registers 7 +w size) }
 {
-    by_cfa(
-        image,
-        registers,
-        context,
-        context.registers[RSP].wrapping_add(size),
-    )
+    let cfa = caller.registers[RSP].wrapping_add(size);
+    by_cfa(stack, registers, caller, cfa)
+}
+
+// The same registers. The general ones are copied by themselves: so many bytes are copied in place,
+// and all of a context would be by a call.
+#[inline(always)]
+fn copy_of(context: &Context) -> Context
+    ensures { result ≡ context.now }
+{
+    Context {
+        registers: context.registers,
+        ra: context.ra,
+        mcxsr: context.mcxsr,
+        fcw: context.fcw,
+    }
 }
 
 // a caller that stands after a call
@@ -353,13 +391,16 @@ fn after_call(context: Context) -> Stepped
 /// made in `rows`. `None` where the opcode gives no caller: it is null, invalid or of an unknown
 /// kind, or asks for frame data that there is not.
 ///
+/// `stack` is a window over the image. It is moved to the frame unless it is there, so who goes from
+/// frame to frame keeps it, and looks up the stack's region once.
+///
 /// # Errors
 ///
 /// The first fault: `Unmapped` with the address of a slot of the stack, or of the size in the
 /// function's code, that isn't wholly mapped; `Table` where the description can't be read, its row
 /// can't be made, or a register isn't the machine's.
 pub fn compact_step<'a>(
-    image: &MemoryImage<'a>,
+    stack: &mut Window<'_, 'a>,
     frames: Option<u64>,
     start: u64,
     address: u64,
@@ -367,22 +408,31 @@ pub fn compact_step<'a>(
     opcode: &OpcodeX86_64,
     rows: &mut RowRoom<'a>,
 ) -> Result<Option<Stepped>, StepError>
-    ensures { opcode_given result
-        ≡ compact_step image.now frames start address (columns_of context.now) opcode.now }
+    ensures step { opcode_given result
+        ≡ compact_step stack.old frames start address (columns_of context.now) opcode.now }
+    ensures same { stack.new ≡ stack.old }
 {
+    // What a frame saves stands at its stack pointer or above.
+    stack.seek(context.registers[RSP]);
+    let mut caller = copy_of(context);
     match opcode {
         OpcodeX86_64::FrameBased {
             stack_offset_in_bytes,
             saved_regs,
         } => {
-            let caller = by_frame(image, *stack_offset_in_bytes, saved_regs, context)?;
+            by_frame(stack, *stack_offset_in_bytes, saved_regs, &mut caller)?;
             Ok(Some(after_call(caller)))
         }
         OpcodeX86_64::FramelessImmediate {
             stack_size_in_bytes,
             saved_regs,
         } => {
-            let caller = by_size(image, saved_regs, context, u64::from(*stack_size_in_bytes))?;
+            by_size(
+                stack,
+                saved_regs,
+                &mut caller,
+                u64::from(*stack_size_in_bytes),
+            )?;
             Ok(Some(after_call(caller)))
         }
         OpcodeX86_64::FramelessIndirect {
@@ -391,13 +441,20 @@ pub fn compact_step<'a>(
             saved_regs,
         } => {
             let offset = *immediate_offset_from_function_start;
-            let size = indirect_size(image, start, offset, *stack_adjust_in_bytes)?;
-            let caller = by_size(image, saved_regs, context, size)?;
+            let size = indirect_size(stack.image(), start, offset, *stack_adjust_in_bytes)?;
+            by_size(stack, saved_regs, &mut caller, size)?;
             Ok(Some(after_call(caller)))
         }
         OpcodeX86_64::Dwarf { eh_frame_fde } => match frames {
             Some(frames) => {
-                let stepped = by_frame_data(image, frames, *eh_frame_fde, address, context, rows)?;
+                let stepped = by_frame_data(
+                    stack.image(),
+                    frames,
+                    *eh_frame_fde,
+                    address,
+                    context,
+                    rows,
+                )?;
                 Ok(Some(stepped))
             }
             None => Ok(None),

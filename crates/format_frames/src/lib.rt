@@ -22,6 +22,3 @@ pub use handlers::pe_names_handler;
 pub use machine::Stepped;
 pub use macho::{MachoModule, has_language_table, macho_caller, macho_function, macho_step};
 pub use pe::{PeModule, pe_caller, pe_functions, pe_step};
-
-#[cfg(test)]
-mod tests;

@@ -1,11 +1,12 @@
 // What a step gives, and the machine that is unwound in a PE module.
-ghost use Rattle.std.specs.Prelude.{◌≡◌, ◌<◌};
+ghost use Rattle.std.specs.Prelude.{◌≡◌, ◌<◌, slice_index};
 ghost use Rattle.format_definitions.specs.PeRegisters.{column_at};
-ghost use Rattle.pe_unwind_info.specs.Registers.{register_number};
+ghost use Rattle.pe_unwind_info.specs.Machine.{changed};
+ghost use Rattle.pe_unwind_info.specs.Registers.{register_number, xmm_number};
 
-use memory_image::MemoryImage;
 use pe_unwind_info::x86_64::{Register, UnwindState, XmmRegister};
 use unwind_arch::x86_64::{Context, RAX, RBP, RBX, RCX, RDI, RDX, RSI, RSP};
+use unwinding_frames::Window;
 
 /// A caller's registers, as a step leaves them.
 #[derive(Clone, Copy, Debug, PartialEq, Eq)]
@@ -42,17 +43,26 @@ fn column(register: Register) -> usize
     }
 }
 
-// The registers that are unwound, and the memory that the stack is part of. What is written to XMM
-// registers is let go with it.
-#[derive(Drop)]
-pub(crate) struct Machine<'i, 'a> {
-    pub(crate) context: Context,
-    pub(crate) xmm_registers: [u128; 16],
-    pub(crate) image: &'i MemoryImage<'a>,
+// gives an XMM register another value
+fn write_xmm(registers: &mut [u128; 16], register: XmmRegister, value: u128)
+    ensures { (λ number. slice_index registers.new number)
+        ≡ changed (λ number. slice_index registers.old number) (xmm_number register) value }
+{
+    registers[register as usize] = value;
 }
 
-impl UnwindState for Machine<'_, '_> {
-    ghost use Rattle.std.specs.Prelude.{slice_index};
+// The registers that are unwound, and a window over the memory that the stack is part of. XMM
+// registers hold 0 until one is written, and are let go with it.
+#[derive(Drop)]
+pub(crate) struct Machine<'w, 'i, 'a> {
+    pub(crate) context: Context,
+    pub(crate) xmm_registers: Option<[u128; 16]>,
+    pub(crate) stack: &'w Window<'i, 'a>,
+}
+
+impl UnwindState for Machine<'_, '_, '_> {
+    ghost use Rattle.std.specs.Prelude.{slice_index, replicate};
+    ghost use Rattle.std.specs.Option.{unwrap_or};
     ghost use Rattle.memory_image.specs.Image.{word_at};
     ghost use Rattle.unwind_arch.specs.ContextViews.{columns_of};
     ghost use Rattle.format_definitions.specs.PeRegisters.{registers_in};
@@ -60,16 +70,20 @@ impl UnwindState for Machine<'_, '_> {
     ghost registers = { λ machine register. (registers_in (columns_of machine.context)).general
         register };
 
-    ghost xmm_registers = { λ machine register. slice_index machine.xmm_registers register };
+    ghost xmm_registers = { λ machine register.
+        slice_index (unwrap_or machine.xmm_registers (replicate 16 0)) register };
 
-    ghost stack = { λ machine address. word_at machine.image.now address };
+    ghost stack = { λ machine address. word_at machine.stack.now address };
 
     fn read_register(&mut self, register: Register) -> u64 {
         self.context.registers[column(register)]
     }
 
     fn read_stack(&mut self, addr: u64) -> Option<u64> {
-        self.image.read_u64(addr)
+        match self.stack.read_u64(addr) {
+            Some(word) => Some(word),
+            None => self.stack.image().read_u64(addr),
+        }
     }
 
     #[tactic(auto, using(crate::proofs::PeRegisters::register_written))]
@@ -78,6 +92,8 @@ impl UnwindState for Machine<'_, '_> {
     }
 
     fn write_xmm_register(&mut self, register: XmmRegister, value: u128) {
-        self.xmm_registers[register as usize] = value;
+        let mut registers = self.xmm_registers.unwrap_or([0; 16]);
+        write_xmm(&mut registers, register, value);
+        self.xmm_registers = Some(registers);
     }
 }

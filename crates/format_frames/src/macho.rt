@@ -16,6 +16,7 @@ use macho_unwind_info::opcodes::{OpcodeBitfield, OpcodeX86_64};
 use macho_unwind_info::{Function, UnwindInfo};
 use memory_image::MemoryImage;
 use unwind_arch::x86_64::Context;
+use unwinding_frames::Window;
 
 /// A Mach-O module of a process, by addresses in its memory.
 #[derive(Clone, Copy, Debug, PartialEq, Eq)]
@@ -54,26 +55,28 @@ pub fn has_language_table(function: &Function) -> bool
 }
 
 /// The caller of the frame at `address`, in a function of a Mach-O module, whose registers
-/// `context` holds. A row that the function's opcode asks for is made in `rows`.
+/// `context` holds. A row that the function's opcode asks for is made in `rows`, and `stack` is a
+/// window over the image, as [`compact_step`] has it.
 ///
 /// # Errors
 ///
 /// `CompactForm` where the opcode gives no caller; `Unmapped` and `Table` as [`compact_step`] has
 /// them.
 pub fn macho_caller<'a>(
-    image: &MemoryImage<'a>,
+    stack: &mut Window<'_, 'a>,
     module: &MachoModule,
     function: &Function,
     address: u64,
     context: &Context,
     rows: &mut RowRoom<'a>,
 ) -> Result<Stepped, FrameError>
-    ensures { caller_given result ≡ caller_due image.now (macho_module module.now) address
+    ensures caller { caller_given result ≡ caller_due stack.old (macho_module module.now) address
         (columns_of context.now) function.now }
+    ensures same { stack.new ≡ stack.old }
 {
     let start = module.base.wrapping_add(u64::from(function.start_address));
     let opcode = OpcodeX86_64::parse(function.opcode);
-    match compact_step(image, module.frames, start, address, context, &opcode, rows)? {
+    match compact_step(stack, module.frames, start, address, context, &opcode, rows)? {
         Some(stepped) => Ok(stepped),
         None => Err(FrameError::CompactForm),
     }
@@ -83,7 +86,7 @@ pub fn macho_caller<'a>(
 /// `None` where the section of compact unwinding has no function there: the stack ends.
 ///
 /// The opcode is that of the function that a look-up answers. A row that it asks for is made in
-/// `rows`.
+/// `rows`, and `stack` is a window over the image, as [`compact_step`] has it.
 ///
 /// # Errors
 ///
@@ -91,7 +94,7 @@ pub fn macho_caller<'a>(
 /// - `CompactForm` where the opcode gives no caller;
 /// - `Unmapped` and `Table` as [`compact_step`] has them.
 pub fn macho_step<'a>(
-    image: &MemoryImage<'a>,
+    stack: &mut Window<'_, 'a>,
     module: &MachoModule,
     address: u64,
     context: &Context,
@@ -99,12 +102,13 @@ pub fn macho_step<'a>(
 ) -> Result<Option<Stepped>, FrameError>
     requires from { module.now.base ≤ address }
     requires near { address - module.now.base < 2 ^ 32 }
-    ensures { macho_given result ≡ macho_due (macho_step image.now (macho_module module.now)
+    ensures step { macho_given result ≡ macho_due (macho_step stack.old (macho_module module.now)
         (address - module.now.base) (columns_of context.now)) }
+    ensures same { stack.new ≡ stack.old }
 {
-    match macho_function(image, module, (address - module.base) as u32)? {
+    match macho_function(stack.image(), module, (address - module.base) as u32)? {
         Some(function) => {
-            let stepped = macho_caller(image, module, &function, address, context, rows)?;
+            let stepped = macho_caller(stack, module, &function, address, context, rows)?;
             Ok(Some(stepped))
         }
         None => Ok(None),

@@ -17,7 +17,8 @@ use crate::machine::Machine;
 use crate::memory::bytes_at;
 use memory_image::MemoryImage;
 use pe_unwind_info::x86_64::{FrameFault, FunctionTableEntries};
-use unwind_arch::x86_64::Context;
+use unwind_arch::x86_64::{Context, RSP};
+use unwinding_frames::Window;
 
 /// A PE module of a process.
 #[derive(Clone, Copy, Debug, PartialEq, Eq)]
@@ -81,22 +82,23 @@ pub fn pe_functions<'a>(
 
 // the caller by a function table, of the frame that stands so far from the module's base
 fn caller_by(
-    image: &MemoryImage<'_>,
+    stack: &Window<'_, '_>,
     base: u64,
     functions: &FunctionTableEntries<'_>,
     rva: u32,
     context: &Context,
 ) -> Result<Context, FrameFault>
     ensures { frame_given result ≡ columns_at (columns_of context.now)
-        (framed (memory_of image.now base) (word_at image.now) rva
+        (framed (memory_of stack.now base) (word_at stack.now) rva
         (lookup_of (functions_of (table_bytes functions.now)) rva)
         (registers_in (columns_of context.now))) }
 {
     let mut machine = Machine {
         context: *context,
-        xmm_registers: [0; 16],
-        image,
+        xmm_registers: None,
+        stack,
     };
+    let image = stack.image();
     let memory_at_rva = |rva: u32| -> Option<&[u8]>
         ensures { option_map (λ bytes. bytes.now) result ≡ memory_of image.entry.now base rva }
     { image.from(base.wrapping_add(u64::from(rva))) };
@@ -112,23 +114,29 @@ fn caller_by(
 /// `context` holds, by the module's function table. At an address that no record of it covers
 /// stands a leaf. What the frame has of XMM registers isn't kept.
 ///
+/// `stack` is a window over the image. It is moved to the frame unless it is there, so who goes from
+/// frame to frame keeps it, and looks up the stack's region once.
+///
 /// # Errors
 ///
 /// Those of [`pe_step`] but that of the function table.
 pub fn pe_caller(
-    image: &MemoryImage<'_>,
+    stack: &mut Window<'_, '_>,
     module: &PeModule,
     functions: &FunctionTableEntries<'_>,
     rva: u32,
     context: &Context,
 ) -> Result<Context, FrameError>
-    ensures { pe_given result ≡ pe_due (pe_module module.now) rva
+    ensures caller { pe_given result ≡ pe_due (pe_module module.now) rva
         (columns_at (columns_of context.now)
-        (framed (memory_of image.now module.now.base) (word_at image.now) rva
+        (framed (memory_of stack.old module.now.base) (word_at stack.old) rva
         (lookup_of (functions_of (table_bytes functions.now)) rva)
         (registers_in (columns_of context.now)))) }
+    ensures same { stack.new ≡ stack.old }
 {
-    match caller_by(image, module.base, functions, rva, context) {
+    // What a frame saves stands at its stack pointer or above.
+    stack.seek(context.registers[RSP]);
+    match caller_by(stack, module.base, functions, rva, context) {
         Ok(caller) => Ok(caller),
         Err(fault) => Err(refusal(module, rva, fault)),
     }
@@ -136,7 +144,7 @@ pub fn pe_caller(
 
 /// The caller of the frame at `address`, in a PE module, whose registers `context` holds. At an
 /// address that no record of the function table covers stands a leaf. What the frame has of XMM
-/// registers isn't kept.
+/// registers isn't kept. `stack` is a window over the image, as [`pe_caller`] has it.
 ///
 /// # Errors
 ///
@@ -146,18 +154,19 @@ pub fn pe_caller(
 /// `ChainLimit` where more than 32 records follow one another; `Unmapped` with the address of a
 /// word of the stack that isn't wholly mapped.
 pub fn pe_step(
-    image: &MemoryImage<'_>,
+    stack: &mut Window<'_, '_>,
     module: &PeModule,
     address: u64,
     context: &Context,
 ) -> Result<Context, FrameError>
     requires from { module.now.base ≤ address }
     requires near { address - module.now.base < 2 ^ 32 }
-    ensures { pe_given result ≡ pe_due (pe_module module.now) (address - module.now.base)
-        (pe_step image.now (pe_module module.now) (address - module.now.base)
+    ensures step { pe_given result ≡ pe_due (pe_module module.now) (address - module.now.base)
+        (pe_step stack.old (pe_module module.now) (address - module.now.base)
         (columns_of context.now)) }
+    ensures same { stack.new ≡ stack.old }
 {
-    let functions = pe_functions(image, module)?;
+    let functions = pe_functions(stack.image(), module)?;
     let rva = (address - module.base) as u32;
-    pe_caller(image, module, &functions, rva, context)
+    pe_caller(stack, module, &functions, rva, context)
 }

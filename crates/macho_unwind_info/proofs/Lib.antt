@@ -5,7 +5,7 @@ pub mod IterationLemmas
 pub mod Tiling
 pub mod Covering
 pub mod TextLemmas
-pub mod DigitLemmas
 pub mod PairLemmas
 pub mod PermutationTable
+pub mod PermutationRows
 pub mod LookupLemmas

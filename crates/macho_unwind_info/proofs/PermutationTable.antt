@@ -22,7 +22,7 @@ abbrev checks : ℕ → ℕ → Bool
 checks k n = spells_back k n (permutation k n)
 
 -- a test at each of n numbers from a on
-abbrev all_from : ℕ → ℕ → (ℕ → Bool) → Bool
+abbrev pub all_from : ℕ → ℕ → (ℕ → Bool) → Bool
 all_from a zero p = true
 all_from a (suc n) p = p a && all_from (suc a) n p
 
@@ -31,7 +31,7 @@ abbrev every : ℕ → List ℕ → (List ℕ → Bool) → Bool
 every zero left p = p []
 every (suc k) left p = list_all (λ x. every k (without x left) (λ rs. p (x ∷ rs))) left
 
-abbrev same_list : List ℕ → List ℕ → Bool
+abbrev pub same_list : List ℕ → List ℕ → Bool
 same_list [] [] = true
 same_list (x ∷ xs) (y ∷ ys) = eqb x y && same_list xs ys
 same_list [] (y ∷ ys) = false
@@ -66,7 +66,7 @@ lists (suc (suc (suc (suc (suc zero))))) low high = refl
 lists (suc (suc (suc (suc (suc (suc zero)))))) low high = refl
 lists (suc (suc (suc (suc (suc (suc (suc k))))))) low high = absurd (omega arith)
 
-each_from : (n a : ℕ) (p : ℕ → Bool) → all_from a n p ≡ true → (x : ℕ) → a ≤ x → x < a + n → p x ≡ true
+pub each_from : (n a : ℕ) (p : ℕ → Bool) → all_from a n p ≡ true → (x : ℕ) → a ≤ x → x < a + n → p x ≡ true
 each_from zero a p h x low high = absurd (omega arith)
 each_from (suc n) a p h x low high = go (ltb a x) refl (λ low'. each_from n (suc a) p (both_true (p a) (all_from (suc a) n p) h).1 x low' (omega arith))
   where
@@ -169,7 +169,7 @@ within_six (r ∷ rs) once =
     let c = both_true (not (list_any (λ q. eqb q r) rs)) (distinct rs) b.1 in
     (in_six r (leb-true 1 r a.0) (leb-true r 6 b.0), within_six rs c.1)
 
-same_is : (xs ys : List ℕ) → same_list xs ys ≡ true → xs ≡ ys
+pub same_is : (xs ys : List ℕ) → same_list xs ys ≡ true → xs ≡ ys
 same_is [] [] e = refl
 same_is [] (y ∷ ys) e = absurd cc
 same_is (x ∷ xs) [] e = absurd cc

@@ -8,6 +8,7 @@ pub mod Iteration
 pub mod Described
 pub mod Bits
 pub mod Permutation
+pub mod FirstOnes
 pub mod RegisterText
 pub mod X86_64
 pub mod X86

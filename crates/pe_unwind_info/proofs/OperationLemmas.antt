@@ -1,11 +1,13 @@
 -- The operations that slots spell, one after another.
-use Rattle.std.proofs.Common.{◌≡◌, ℕ, zero, suc, ◌+◌, ◌*◌, ◌≤◌, Bool, true, false, cond, eqb, ltb, List, [], ◌∷◌, length, drop, Option, Some, None, refl, ap, ◌∙◌, subst, arith}
+use Rattle.std.proofs.Common.{◌≡◌, ℕ, zero, suc, ◌+◌, ◌*◌, ◌<◌, ◌≤◌, Bool, true, false, cond, eqb, ltb, List, [], ◌∷◌, length, drop, Option, Some, None, refl, ap, ◌∙◌, subst, arith}
+use Rattle.std.proofs.lemmas.Bool.{lt-ltb}
 use Rattle.std.proofs.lemmas.List.{length-drop}
 use Rattle.pe_unwind_info.specs.Numbers.{u16_at, u32_at, first_u16, first_u32, scaled}
 use Rattle.pe_unwind_info.specs.declared.x86_64.operations.UnwindCode.{UnwindCode}
 use Rattle.pe_unwind_info.specs.declared.x86_64.operations.UnwindOperation.{UnwindOperation}
 use Rattle.pe_unwind_info.specs.declared.x86_64.operations.UnwindOperationCode.{UnwindOperationCode}
 use Rattle.pe_unwind_info.specs.declared.x86_64.operations.UnwindOperationCode.TheVariants.{PushNonvol, AllocLarge, AllocSmall, SetFPReg, SaveNonvol, SaveNonvolFar, Epilog as EpilogCode, Spare, SaveXmm128, SaveXmm128Far, PushMachframe}
+use Rattle.pe_unwind_info.specs.EpilogList.{told_by, first_epilog}
 use Rattle.pe_unwind_info.specs.Operations.{Head, First, Placed, counts, code_of, code_number, code_information, head_by, head_of, placed_at, first_of, then_later, operations_from, operations_of}
 
 -- what is left behind a head has at most n bytes
@@ -121,3 +123,62 @@ fewer_left version bytes p e = subst (LeavesFewer (length bytes)) e (first_less 
 pub operations_none : (version : ℕ) → operations_of version [] ≡ []
 unfolding operations_of
 operations_none version = refl
+
+-- ---- records of version 1
+-- a code that neither tells of an epilog nor is spare
+plain : Option UnwindOperationCode → Bool
+plain (Some EpilogCode) = false
+plain (Some Spare) = false
+plain _ = true
+
+plain_cond : (b : Bool) (x y : Option UnwindOperationCode) → plain x ≡ true → plain y ≡ true → plain (cond b x y) ≡ true
+plain_cond true x y p q = p
+plain_cond false x y p q = q
+
+plain_code : (version n : ℕ) → version < 2 → plain (code_of version n) ≡ true
+unfolding plain
+plain_code version n old =
+    let no : (code : UnwindOperationCode) → plain (cond (ltb version 2) None (Some code)) ≡ true = λ code. rw (lt-ltb version 2 old) refl in
+    plain_cond (eqb n 0) _ _ refl (plain_cond (eqb n 1) _ _ refl (plain_cond (eqb n 2) _ _ refl (plain_cond (eqb n 3) _ _ refl (
+    plain_cond (eqb n 4) _ _ refl (plain_cond (eqb n 5) _ _ refl (plain_cond (eqb n 6) _ _ (no EpilogCode) (plain_cond (eqb n 7) _ _ (no Spare) (
+    plain_cond (eqb n 8) _ _ refl (plain_cond (eqb n 9) _ _ refl (plain_cond (eqb n 10) _ _ refl refl))))))))))
+
+-- whether the first of some operations tells of no epilog, where their head is such
+abbrev untold : ℕ → (List ℕ → List Placed) → Head → Type 0
+untold offset later head = first_epilog (then_later (placed_at offset head) later) ≡ None
+
+untold_cond : (offset : ℕ) (later : List ℕ → List Placed) (b : Bool) (h k : Head) → untold offset later h → untold offset later k → untold offset later (cond b h k)
+untold_cond offset later true h k p q = p
+untold_cond offset later false h k p q = q
+
+untold_counts : (offset : ℕ) (later : List ℕ → List Placed) (operation : ℕ → UnwindOperation) (number : Option (ℕ × List ℕ)) → ((n : ℕ) → told_by (operation n) ≡ None) → untold offset later (counts operation number)
+untold_counts offset later operation None h = refl
+untold_counts offset later operation (Some (n, rest)) h = h n
+
+untold_head : (offset : ℕ) (later : List ℕ → List Placed) (code : Option UnwindOperationCode) (slot : UnwindCode) (rest : List ℕ) → plain code ≡ true → untold offset later (head_by code slot rest)
+unfolding plain
+untold_head offset later None slot rest p = refl
+untold_head offset later (Some PushNonvol) slot rest p = refl
+untold_head offset later (Some AllocLarge) slot rest p =
+    untold_cond offset later (eqb (code_information slot) 0) _ _ (untold_counts offset later _ (scaled 8 (first_u16 rest)) (λ n. refl))
+    (untold_cond offset later (eqb (code_information slot) 1) _ _ (untold_counts offset later _ (first_u32 rest) (λ n. refl)) refl)
+untold_head offset later (Some AllocSmall) slot rest p = refl
+untold_head offset later (Some SetFPReg) slot rest p = refl
+untold_head offset later (Some SaveNonvol) slot rest p = untold_counts offset later _ (scaled 8 (first_u16 rest)) (λ n. refl)
+untold_head offset later (Some SaveNonvolFar) slot rest p = untold_counts offset later _ (first_u32 rest) (λ n. refl)
+untold_head offset later (Some EpilogCode) slot rest p = absurd cc
+untold_head offset later (Some Spare) slot rest p = absurd cc
+untold_head offset later (Some SaveXmm128) slot rest p = untold_counts offset later _ (scaled 16 (first_u16 rest)) (λ n. refl)
+untold_head offset later (Some SaveXmm128Far) slot rest p = untold_counts offset later _ (first_u32 rest) (λ n. refl)
+untold_head offset later (Some PushMachframe) slot rest p = refl
+
+-- in a record of version 1 no operation tells of an epilog
+pub old_untold : (version : ℕ) (bytes : List ℕ) → version < 2 → first_epilog (operations_of version bytes) ≡ None
+old_untold version bytes old = ap first_epilog (operations_step version bytes) ∙ go bytes
+  where
+    go : (bytes : List ℕ) → first_epilog (then_later (first_of version bytes) (operations_of version)) ≡ None
+    go [] = refl
+    go (x ∷ []) = refl
+    go (x ∷ y ∷ rest) =
+        let slot : UnwindCode = record { prolog_offset = x; opcode_and_opinfo = y } in
+        untold_head x (operations_of version) (code_of version (code_number slot)) slot rest (plain_code version (code_number slot) old)

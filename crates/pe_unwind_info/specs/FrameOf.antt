@@ -1,5 +1,5 @@
 -- The frame at an address as a function, where the memory of the image is one.
-use Rattle.std.specs.Prelude.{ℕ, zero, suc, ◌-◌, Bool, true, false, List, Option, Some, None, Result, Ok, Err}
+use Rattle.std.specs.Prelude.{◌≡◌, ℕ, zero, suc, ◌-◌, Bool, true, false, List, Option, Some, None, Result, Ok, Err}
 use Rattle.pe_unwind_info.specs.declared.x86_64.registers.Register.{Register}
 use Rattle.pe_unwind_info.specs.declared.x86_64.fault.FrameFault.{FrameFault}
 use Rattle.pe_unwind_info.specs.declared.x86_64.function_table.RuntimeFunction.{RuntimeFunction}
@@ -11,7 +11,9 @@ use Rattle.pe_unwind_info.specs.Operations.{Placed}
 use Rattle.pe_unwind_info.specs.EpilogList.{leading_epilogs, behind_epilogs, is_due}
 use Rattle.pe_unwind_info.specs.Machine.{Registers, Stack, FrameEnd, Faulted, pop_return, then_ends}
 use Rattle.pe_unwind_info.specs.Steps.{run, epilog_run}
-use Rattle.pe_unwind_info.specs.Frame.{info_in, epilog_in, operations_alone, from_place, Link, Follows, Stops, link_of, at_limit, chained_of}
+use Rattle.pe_unwind_info.specs.Frame.{info_in, epilog_in, operations_alone, from_place, Link, Follows, Stops, ShowsEnd, link_of, at_limit, chained_of}
+use Rattle.pe_unwind_info.specs.FunctionTable.{lookup_of}
+use Rattle.pe_unwind_info.specs.Sections.{memory_by, sections_in}
 
 -- what stands in memory from a relative virtual address on
 abbrev pub Image : Type 0
@@ -49,3 +51,9 @@ in_record memory stack address function (Ok info) regs =
 abbrev pub framed : Image → Stack → ℕ → Option RuntimeFunction → Registers → FrameEnd
 framed memory stack address None regs = pop_return stack regs
 framed memory stack address (Some function) regs = in_record memory stack address function (info_in function.unwind_info_address (memory function.unwind_info_address)) regs
+
+-- the same by a function table and the memory of an image in its file layout; an image without sections gives no address, and leaves
+-- the registers
+abbrev pub IsUnwoundBy : List ℕ → Option (List ℕ) → Stack → Option (List RuntimeFunction) → ℕ → Registers → Option ℕ → Registers → Type 0
+IsUnwoundBy image None stack functions address regs result left = (result ≡ None) × (left ≡ regs)
+IsUnwoundBy image (Some headers) stack functions address regs result left = ShowsEnd result left (framed (memory_by image (sections_in headers)) stack address (lookup_of functions address) regs)

@@ -4,7 +4,7 @@ use Rattle.memory_image.specs.Records.{records_in}
 use Rattle.pe_unwind_info.specs.declared.x86_64.sections.Section.{Section}
 use Rattle.pe_unwind_info.specs.declared.x86_64.sections.Sections.{Sections}
 use Rattle.pe_unwind_info.specs.Numbers.{u16_at, u32_at}
-use Rattle.pe_unwind_info.specs.Search.{IsSearched}
+use Rattle.pe_unwind_info.specs.Search.{IsSearched, boundary_in}
 
 -- a section header of forty bytes
 abbrev pub section_of : List ℕ → Section
@@ -64,3 +64,7 @@ memory_in image rva (Some section) = if extends_over section rva then from_offse
 abbrev pub IsMemoryAt : List ℕ → List Section → ℕ → Option (List ℕ) → Type 0
 IsMemoryAt image sections rva memory =
     (found : Option Section) × IsSearched virtual_address sections rva found × (memory ≡ memory_in image rva found)
+
+-- the memory at each relative virtual address, by the section that halving answers
+abbrev pub memory_by : List ℕ → List Section → ℕ → Option (List ℕ)
+memory_by image sections rva = memory_in image rva (boundary_in virtual_address sections rva)

@@ -1,67 +1,128 @@
 // Lists of registers that are packed into ten bits.
 ghost use Rattle.std.specs.Prelude.{◌≡◌, ◌-◌, ◌≤◌, ◌<◌, ◌↔◌, ◌++◌, ℕ, List, true, length, Some};
-ghost use Rattle.std.specs.Prelude.{None, Ok, IfOk, IsOkAnd, IsErr, slice_get, take, replicate};
-ghost use Rattle.macho_unwind_info.specs.Permutation.{permutation, digits, unused, six, is_used};
-ghost use Rattle.macho_unwind_info.specs.Permutation.{arrangements, encoded, distinct};
+ghost use Rattle.std.specs.Prelude.{None, Ok, IfOk, IsOkAnd, IsErr, slice_index, replicate};
+ghost use Rattle.macho_unwind_info.specs.Permutation.{permutation, arrangements, encoded, distinct};
 ghost use Rattle.macho_unwind_info.specs.Permutation.{IsArrangement};
+ghost use Rattle.macho_unwind_info.specs.FirstOnes.{kept_at, first_ones};
 
-/// The registers 1 to 6.
-const REGISTERS: [u8; 6] = [1, 2, 3, 4, 5, 6];
+/// By what the number of a list of so many registers is multiplied to be that of the list of all six
+/// which begins with them and goes on in order: by that list's digits behind theirs, which are 0.
+static SCALES: [u64; 7] = [0, 120, 24, 6, 2, 1, 1];
 
-/// The digits of a number, the first first and zeros behind the last.
-fn digits(count: u32, n: u32) -> [u32; 6]
-    requires { count ≤ 6 }
-    ensures { take count result ≡ digits count n }
+/// How many lists of all six registers there are.
+const LISTS: u64 = 720;
+
+/// By the first two digits, taken together, the two registers that they name, and then the other four
+/// in order.
+static PAIRS: [[u8; 6]; 30] = [
+    [1, 2, 3, 4, 5, 6],
+    [1, 3, 2, 4, 5, 6],
+    [1, 4, 2, 3, 5, 6],
+    [1, 5, 2, 3, 4, 6],
+    [1, 6, 2, 3, 4, 5],
+    [2, 1, 3, 4, 5, 6],
+    [2, 3, 1, 4, 5, 6],
+    [2, 4, 1, 3, 5, 6],
+    [2, 5, 1, 3, 4, 6],
+    [2, 6, 1, 3, 4, 5],
+    [3, 1, 2, 4, 5, 6],
+    [3, 2, 1, 4, 5, 6],
+    [3, 4, 1, 2, 5, 6],
+    [3, 5, 1, 2, 4, 6],
+    [3, 6, 1, 2, 4, 5],
+    [4, 1, 2, 3, 5, 6],
+    [4, 2, 1, 3, 5, 6],
+    [4, 3, 1, 2, 5, 6],
+    [4, 5, 1, 2, 3, 6],
+    [4, 6, 1, 2, 3, 5],
+    [5, 1, 2, 3, 4, 6],
+    [5, 2, 1, 3, 4, 6],
+    [5, 3, 1, 2, 4, 6],
+    [5, 4, 1, 2, 3, 6],
+    [5, 6, 1, 2, 3, 4],
+    [6, 1, 2, 3, 4, 5],
+    [6, 2, 1, 3, 4, 5],
+    [6, 3, 1, 2, 4, 5],
+    [6, 4, 1, 2, 3, 5],
+    [6, 5, 1, 2, 3, 4],
+];
+
+/// By the digits behind the first two, taken together, where in a row of `PAIRS` the last four
+/// registers stand.
+static ORDERS: [[u8; 4]; 24] = [
+    [2, 3, 4, 5],
+    [2, 3, 5, 4],
+    [2, 4, 3, 5],
+    [2, 4, 5, 3],
+    [2, 5, 3, 4],
+    [2, 5, 4, 3],
+    [3, 2, 4, 5],
+    [3, 2, 5, 4],
+    [3, 4, 2, 5],
+    [3, 4, 5, 2],
+    [3, 5, 2, 4],
+    [3, 5, 4, 2],
+    [4, 2, 3, 5],
+    [4, 2, 5, 3],
+    [4, 3, 2, 5],
+    [4, 3, 5, 2],
+    [4, 5, 2, 3],
+    [4, 5, 3, 2],
+    [5, 2, 3, 4],
+    [5, 2, 4, 3],
+    [5, 3, 2, 4],
+    [5, 3, 4, 2],
+    [5, 4, 2, 3],
+    [5, 4, 3, 2],
+];
+
+/// The register at a place of a row.
+fn register_at(row: &[u8; 6], place: u8) -> u8
+    ensures { result ≡ slice_index row.now place }
 {
-    match count {
-        0 => [0; 6],
-        1 => [n, 0, 0, 0, 0, 0],
-        2 => [n / 5, n % 5, 0, 0, 0, 0],
-        3 => [n / 4 / 5, n / 4 % 5, n % 4, 0, 0, 0],
-        4 => [n / 3 / 4 / 5, n / 3 / 4 % 5, n / 3 % 4, n % 3, 0, 0],
-        5 => [
-            n / 2 / 3 / 4 / 5,
-            n / 2 / 3 / 4 % 5,
-            n / 2 / 3 % 4,
-            n / 2 % 3,
-            n % 2,
-            0,
-        ],
-        // the sixth digit is always 0
-        6 => [
-            n / 2 / 3 / 4 / 5,
-            n / 2 / 3 / 4 % 5,
-            n / 2 / 3 % 4,
-            n / 2 % 3,
-            n % 2,
-            0,
-        ],
-        _ => unreachable!(),
+    match row.get(usize::from(place)) {
+        Some(register) => *register,
+        None => 0,
     }
 }
 
-/// Whether a register is among those that are used.
-fn is_used(used: &[u8], register: u8) -> bool
-    ensures { result ≡ is_used used.now register }
+/// The list of all six registers that a number spells.
+fn all_six(number: u64) -> [u8; 6]
+    requires { number < 720 }
+    ensures { permutation 6 number ≡ Some result }
 {
-    used.iter().any(|u| *u == register)
+    let row = &PAIRS[(number / 24) as usize];
+    let order = &ORDERS[(number % 24) as usize];
+    [
+        row[0],
+        row[1],
+        register_at(row, order[0]),
+        register_at(row, order[1]),
+        register_at(row, order[2]),
+        register_at(row, order[3]),
+    ]
 }
 
-/// The nth register, from 0, that isn't used.
-fn nth_unused(used: &[u8], n: u32) -> Option<u8>
-    ensures { result ≡ slice_get (unused used.now six) n }
+/// A register at a place of a list, which is kept where the list is longer, or else 0.
+fn kept_at(place: u32, count: u32, register: u8) -> u8
+    ensures { result ≡ kept_at count place register }
 {
-    let mut left = n;
-    for register in &REGISTERS {
-        if is_used(used, *register) {
-            continue;
-        }
-        if left == 0 {
-            return Some(*register);
-        }
-        left -= 1;
-    }
-    None
+    if place < count { register } else { 0 }
+}
+
+/// The first registers of a list, so many, and then zeros.
+fn first_ones(count: u32, registers: [u8; 6]) -> [u8; 6]
+    ensures { result ≡ first_ones count registers }
+{
+    let [first, second, third, fourth, fifth, sixth] = registers;
+    [
+        kept_at(0, count, first),
+        kept_at(1, count, second),
+        kept_at(2, count, third),
+        kept_at(3, count, fourth),
+        kept_at(4, count, fifth),
+        kept_at(5, count, sixth),
+    ]
 }
 
 /// The list of `count` distinct registers from 1 to 6 that a number spells, followed by zeros.
@@ -91,7 +152,7 @@ pub fn decode_permutation_6(count: u32, encoding: u32) -> Result<[u8; 6], ()>
     decoded(count, encoding)
 }
 
-/// The list of registers, digit by digit.
+/// The list of registers: the first ones of the list of all six that begins with them.
 fn decoded(count: u32, encoding: u32) -> Result<[u8; 6], ()>
     ensures ok { IfOk result (λ registers. permutation count encoding ≡ Some registers) }
     ensures refused { IsErr result ↔ (permutation count encoding ≡ None) }
@@ -99,13 +160,9 @@ fn decoded(count: u32, encoding: u32) -> Result<[u8; 6], ()>
     if count > 6 {
         return Err(());
     }
-    let digits = digits(count, encoding);
-    let mut registers = [0; 6];
-    for i in 0..count as usize {
-        match nth_unused(&registers[..i], digits[i]) {
-            Some(register) => registers[i] = register,
-            None => return Err(()),
-        }
+    let number = u64::from(encoding) * SCALES[count as usize];
+    if number >= LISTS {
+        return Err(());
     }
-    Ok(registers)
+    Ok(first_ones(count, all_six(number)))
 }

@@ -39,13 +39,14 @@ impl RegisterNameX86_64 {
     pub fn parse(n: u8) -> Option<Self>
         ensures { result ≡ register_of n }
     {
-        match n {
-            1 => Some(RegisterNameX86_64::Rbx),
-            2 => Some(RegisterNameX86_64::R12),
-            3 => Some(RegisterNameX86_64::R13),
-            4 => Some(RegisterNameX86_64::R14),
-            5 => Some(RegisterNameX86_64::R15),
-            6 => Some(RegisterNameX86_64::Rbp),
+        // counted from 0 they are the registers' places, so that no table is made of them
+        match n.wrapping_sub(1) {
+            0 => Some(RegisterNameX86_64::Rbx),
+            1 => Some(RegisterNameX86_64::R12),
+            2 => Some(RegisterNameX86_64::R13),
+            3 => Some(RegisterNameX86_64::R14),
+            4 => Some(RegisterNameX86_64::R15),
+            5 => Some(RegisterNameX86_64::Rbp),
             _ => None,
         }
     }
@@ -162,6 +163,7 @@ fn fields_of(opcode: u32) -> [Option<RegisterNameX86_64>; 5]
 }
 
 /// The registers that an opcode's count and number spell, if they spell any.
+#[inline(always)]
 fn registers_of(opcode: u32) -> Option<[Option<RegisterNameX86_64>; 6]>
     ensures { result ≡ option_map (map register_of)
         (permutation (bits opcode 10 3) (bits opcode 0 10)) }

@@ -16,6 +16,9 @@ fn next_epilog(operations: &mut UnwindOperations<'_>) -> Option<EpilogInformatio
         (place, UnwindOperation.EpilogInformation epilog) ∷ operations_left
         operations.new)) }
 {
+    if !operations.may_tell_of_epilogs() {
+        return None;
+    }
     let mut rest = *operations;
     match rest.next() {
         Some((_, UnwindOperation::EpilogInformation(epilog))) => {

@@ -7,9 +7,9 @@ ghost use Rattle.pe_unwind_info.specs.Frame.{operations_alone, from_place, link_
 ghost use Rattle.pe_unwind_info.specs.Frame.{link_end, IsLinked, IsTested, Leaves, ByRun, InRecord};
 ghost use Rattle.pe_unwind_info.specs.Frame.{IsFunctionFrame, IsFrame, IsUnwound, ShowsEnd};
 ghost use Rattle.pe_unwind_info.specs.Frame.{IsUnwoundIn};
-ghost use Rattle.pe_unwind_info.specs.FrameOf.{Image, framed};
+ghost use Rattle.pe_unwind_info.specs.FrameOf.{Image, framed, IsUnwoundBy};
 ghost use Rattle.pe_unwind_info.specs.Sections.{section_table, image_of, headers_of, sections_in};
-ghost use Rattle.pe_unwind_info.specs.Sections.{IsMemoryAt};
+ghost use Rattle.pe_unwind_info.specs.Sections.{memory_by};
 ghost use Rattle.pe_unwind_info.specs.FunctionTable.{table_bytes, functions_of, IsLookup};
 ghost use Rattle.pe_unwind_info.specs.FunctionTable.{lookup_of};
 ghost use Rattle.pe_unwind_info.specs.Header.{frame_register_of};
@@ -29,7 +29,7 @@ use crate::x86_64::operations::UnwindOperations;
 use crate::x86_64::registers::Register;
 use crate::x86_64::sections::Sections;
 use crate::x86_64::state::{UnwindState, pop_return_address};
-use crate::x86_64::steps::{apply_all, apply_instructions};
+use crate::x86_64::steps::{apply_all, apply_from, apply_instructions};
 use crate::x86_64::unwind_info::{UnwindInfo, UnwindInfoTrailer};
 use arrayvec::ArrayVec;
 use std::ops::ControlFlow;
@@ -110,21 +110,6 @@ fn epilog_at<'m, M: Fn(u32) -> Option<&'m [u8]>>(
     } else {
         Ok(None)
     }
-}
-
-// the operations from the first with a place at or below an offset
-#[tactic(auto, unfolding(crate::specs::Frame::from_place))]
-fn skip_to(mut operations: UnwindOperations<'_>, offset: u32) -> UnwindOperations<'_>
-    ensures { operations_left result ≡ from_place offset (operations_left operations.entry) }
-{
-    let mut rest = operations;
-    while let Some((place, _)) = rest.next() {
-        if u32::from(place) <= offset {
-            return operations;
-        }
-        operations = rest;
-    }
-    operations
 }
 
 // does the instructions of an epilog and pops the return address
@@ -227,24 +212,26 @@ fn unwind_links<'m, S: UnwindState, M: Fn(u32) -> Option<&'m [u8]>>(
     }
 }
 
-// does operations of the first record, goes on with the chained ones, and pops the return address
+// does the operations of what the prologue has done up to an offset, goes on with the chained
+// records, and pops the return address
 fn leave_by_operations<'m, S: UnwindState, M: Fn(u32) -> Option<&'m [u8]>>(
     info: &UnwindInfo<'_>,
     state: &mut S,
     memory_at_rva: &M,
     operations: UnwindOperations<'_>,
+    offset: u32,
 ) -> Result<u64, FrameFault>
     requires { M.IsAlwaysCallable memory_at_rva.now }
     ensures registers { ByRun
         (run (info_of info.now).header (S.stack state.old)
-        (operations_alone (operations_left operations.entry))
+        (operations_alone (from_place offset (operations_left operations.entry)))
         (registers_of (S.registers state.old) (S.xmm_registers state.old)))
         (IsLinked (Gives (M.post memory_at_rva.now) (option_map (λ bytes. bytes.now)))
         (S.stack state.old) 32 (chained_of (info_of info.now)))
         (frame_end result (registers_of (S.registers state.new) (S.xmm_registers state.new))) }
     ensures stack { S.stack state.new ≡ S.stack state.old }
 {
-    match apply_all(&info.header(), state, operations)? {
+    match apply_from(&info.header(), state, operations, offset)? {
         ControlFlow::Continue(()) => unwind_links(state, memory_at_rva, chained(info)),
         ControlFlow::Break(address) => Ok(address),
     }
@@ -271,7 +258,7 @@ fn leave<'m, S: UnwindState, M: Fn(u32) -> Option<&'m [u8]>>(
 {
     match epilog {
         Some(instructions) => leave_by_epilog(info.frame_register(), state, &instructions),
-        None => leave_by_operations(info, state, memory_at_rva, skip_to(operations, offset)),
+        None => leave_by_operations(info, state, memory_at_rva, operations, offset),
     }
 }
 
@@ -407,6 +394,16 @@ impl<'a> FunctionTableEntries<'a> {
             (registers_of (S.registers state.old) (S.xmm_registers state.old)) end
             × ShowsEnd result (registers_of (S.registers state.new) (S.xmm_registers state.new))
             end }
+
+        // Where it gives one memory at each address, the answer and the writes are determined.
+        ensures repeats { (memory : Image)
+            → ((rva : ℕ) (given : Option (List ℕ))
+            → Gives (M.post memory_at_rva) (option_map (λ bytes. bytes.now)) rva given
+            → given ≡ memory rva)
+            → ShowsEnd result (registers_of (S.registers state.new) (S.xmm_registers state.new))
+            (framed memory (S.stack state.old) address
+            (lookup_of (functions_of (table_bytes self.now)) address)
+            (registers_of (S.registers state.old) (S.xmm_registers state.old))) }
         ensures stack { S.stack state.new ≡ S.stack state.old }
     {
         match self.try_unwind_frame(state, memory_at_rva, address) {
@@ -427,14 +424,20 @@ impl<'a> FunctionTableEntries<'a> {
             (functions_of (table_bytes self.now)) address
             (registers_of (S.registers state.old) (S.xmm_registers state.old)) result
             (registers_of (S.registers state.new) (S.xmm_registers state.new)) }
+
+        // The answer and the writes are determined, also where sections are out of order.
+        ensures repeats { IsUnwoundBy image.now (section_table image.now) (S.stack state.old)
+            (functions_of (table_bytes self.now)) address
+            (registers_of (S.registers state.old) (S.xmm_registers state.old)) result
+            (registers_of (S.registers state.new) (S.xmm_registers state.new)) }
         ensures stack { S.stack state.new ≡ S.stack state.old }
     {
         match Sections::parse(image) {
             Some(sections) => {
                 let memory_at_rva = |rva: u32| -> Option<&[u8]>
-                    ensures { IsMemoryAt (image_of sections.entry)
-                        (sections_in (headers_of sections.entry)) rva
-                        (option_map (λ bytes. bytes.now) result) }
+                    ensures { option_map (λ bytes. bytes.now) result ≡
+                        memory_by (image_of sections.entry)
+                        (sections_in (headers_of sections.entry)) rva }
                 { sections.memory_at_rva(rva) };
                 self.unwind_frame(state, memory_at_rva, address)
             }

@@ -1,7 +1,9 @@
 // Unwind operations, and the slots that spell them.
-ghost use Rattle.std.specs.Prelude.{◌≡◌, ◌*◌, ◌≤◌};
+ghost use Rattle.std.specs.Prelude.{◌≡◌, ◌*◌, ◌≤◌, None};
+ghost use Rattle.std.specs.Bool.{OnFalse};
 ghost use Rattle.std.specs.Option.{option_map};
 ghost use Rattle.pe_unwind_info.specs.Numbers.{first_u16, scaled};
+ghost use Rattle.pe_unwind_info.specs.EpilogList.{first_epilog};
 ghost use Rattle.pe_unwind_info.specs.Operations.{code_number, code_information, code_of};
 ghost use Rattle.pe_unwind_info.specs.Operations.{offset_value, head_by, first_of, slots_left};
 ghost use Rattle.pe_unwind_info.specs.Operations.{operations_left, operations_of, first_code};
@@ -278,6 +280,14 @@ impl<'a> UnwindOperations<'a> {
         UnwindOperations { version, slots }
     }
 
+    /// Whether one of them may tell of an epilog: that is so from version 2 on.
+    #[tactic(auto, using(crate::proofs::OperationLemmas::old_untold))]
+    pub(crate) fn may_tell_of_epilogs(&self) -> bool
+        ensures { OnFalse result (first_epilog (operations_left self.now) ≡ None) }
+    {
+        self.version >= 2
+    }
+
     /// The next slot that hasn't been read; `None` exactly where none is left.
     pub fn unwind_code(&self) -> Option<UnwindCode>
         ensures { result ≡ first_code (slots_left self.now) }
@@ -303,6 +313,7 @@ impl<'a> Iterator for UnwindOperations<'a> {
 
     ghost remaining = { item_count operations_left };
 
+    #[inline(always)]
     #[tactic(auto, using(crate::proofs::OperationLemmas::operations_end, crate::proofs::OperationLemmas::operations_skip, crate::proofs::OperationLemmas::operations_give, crate::proofs::OperationLemmas::operations_none, crate::proofs::OperationLemmas::fewer_left))]
     fn next(&mut self) -> Option<(u8, UnwindOperation)>
         ensures steps { YieldsFirst operations_left self.old result self.new }

@@ -3,7 +3,7 @@ ghost use Rattle.std.specs.Prelude.{◌≡◌, None, MatchOption};
 ghost use Rattle.std.specs.Option.{option_map};
 ghost use Rattle.pe_unwind_info.specs.Sections.{image_of, headers_of, section_table, sections_in};
 ghost use Rattle.pe_unwind_info.specs.Sections.{IsMemoryAt, virtual_size, virtual_address};
-ghost use Rattle.pe_unwind_info.specs.Sections.{raw_pointer};
+ghost use Rattle.pe_unwind_info.specs.Sections.{raw_pointer, memory_by};
 
 use crate::x86_64::little_endian::{u16_at, u32_at};
 use crate::x86_64::search::{Located, boundary};
@@ -112,11 +112,14 @@ impl<'a> Sections<'a> {
 
     /// The image's bytes from a relative virtual address on, up to the image's end. `None` where
     /// no section's extent holds the address and none begins at it, and where the bytes would
-    /// begin past the image's end. Where sections are out of order, any section that begins at or
-    /// below the address, and whose successor begins above it, counts as the last one that does.
+    /// begin past the image's end. Where sections are out of order, the one to which halving comes
+    /// counts: it begins at or below the address, and its successor begins above it.
     pub fn memory_at_rva(&self, rva: u32) -> Option<&'a [u8]>
-        ensures { IsMemoryAt (image_of self.now) (sections_in (headers_of self.now)) rva
+        ensures memory { IsMemoryAt (image_of self.now) (sections_in (headers_of self.now)) rva
             (option_map (λ bytes. bytes.now) result) }
+        // Which section counts is determined, also where they are out of order.
+        ensures repeats { option_map (λ bytes. bytes.now) result ≡ memory_by (image_of self.now)
+            (sections_in (headers_of self.now)) rva }
     {
         let sections = Records::<Section>::over(
             self.headers,

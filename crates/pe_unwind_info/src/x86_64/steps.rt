@@ -1,5 +1,7 @@
 // What unwind operations and the instructions of an epilog do to a state.
-ghost use Rattle.std.specs.Prelude.{◌≡◌, ℕ, map};
+ghost use Rattle.std.specs.Prelude.{◌≡◌, ℕ, [], map, IfNone};
+ghost use Rattle.std.specs.List.{cons_option};
+ghost use Rattle.pe_unwind_info.specs.Frame.{from_place, operations_alone};
 ghost use Rattle.pe_unwind_info.specs.Header.{frame_register_of, frame_distance, base_register};
 ghost use Rattle.pe_unwind_info.specs.Header.{base_distance};
 ghost use Rattle.pe_unwind_info.specs.Info.{info_of};
@@ -187,6 +189,7 @@ fn pop_machine_frame<S: UnwindState>(
 }
 
 // does an operation of a record with this header
+#[inline(always)]
 fn apply<S: UnwindState>(
     header: &UnwindInfoHeader,
     state: &mut S,
@@ -231,6 +234,7 @@ fn apply<S: UnwindState>(
 }
 
 /// Does the operations of a record with this header, one after another.
+#[inline(always)]
 #[tactic(auto, unfolding(crate::specs::Steps::run))]
 pub(crate) fn apply_all<S: UnwindState>(
     header: &UnwindInfoHeader,
@@ -249,6 +253,46 @@ pub(crate) fn apply_all<S: UnwindState>(
         }
     }
     Ok(ControlFlow::Continue(()))
+}
+
+// takes the operations up to the first with a place at or below an offset, and answers that one
+#[tactic(auto, unfolding(crate::specs::Frame::from_place))]
+fn first_from(operations: &mut UnwindOperations<'_>, offset: u32) -> Option<UnwindOperation>
+    ensures from { operations_alone (from_place offset (operations_left operations.old))
+        ≡ cons_option result (operations_alone (operations_left operations.new)) }
+    ensures ended { IfNone result (operations_left operations.new ≡ []) }
+{
+    while let Some((place, operation)) = operations.next() {
+        if u32::from(place) <= offset {
+            return Some(operation);
+        }
+    }
+    None
+}
+
+/// Does the operations of a record with this header, from the first with a place at or below an
+/// offset on.
+#[tactic(auto, unfolding(crate::specs::Steps::run))]
+pub(crate) fn apply_from<S: UnwindState>(
+    header: &UnwindInfoHeader,
+    state: &mut S,
+    mut operations: UnwindOperations<'_>,
+    offset: u32,
+) -> Result<ControlFlow<u64>, FrameFault>
+    ensures registers { flow_end result
+        (registers_of (S.registers state.new) (S.xmm_registers state.new))
+        ≡ run header.now (S.stack state.old)
+        (operations_alone (from_place offset (operations_left operations.entry)))
+        (registers_of (S.registers state.old) (S.xmm_registers state.old)) }
+    ensures stack { S.stack state.new ≡ S.stack state.old }
+{
+    let Some(first) = first_from(&mut operations, offset) else {
+        return Ok(ControlFlow::Continue(()));
+    };
+    match apply(header, state, &first)? {
+        ControlFlow::Continue(()) => apply_all(header, state, operations),
+        ControlFlow::Break(address) => Ok(ControlFlow::Break(address)),
+    }
 }
 
 // does an instruction of an epilog

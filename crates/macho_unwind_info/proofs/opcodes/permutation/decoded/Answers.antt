@@ -1,21 +1,16 @@
-use Rattle.std.proofs.Common.{◌≡◌, ◌<◌, length, take, sym, ap, ◌∙◌, arith, length-set}
-use Rattle.std.proofs.lemmas.List.{length-take-le, get_or-take}
-use Rattle.macho_unwind_info.specs.Permutation.{unused, six}
-use Rattle.std.specs.Prelude.{slice_get}
-use Rattle.macho_unwind_info.proofs.DigitLemmas.{named_step, zeros_step}
+use Rattle.std.proofs.Common.{ℕ, List, Some, refl, sym, ap, ◌∙◌, arith}
+use Rattle.macho_unwind_info.proofs.PermutationRows.{fewer_is, none_is}
 use Rattle.macho_unwind_info.proofs.opcodes.permutation.decoded.Goals as goal
 
-pub loop-i-preserved : goal.loop-i-preserved
-loop-i-preserved c =
-    let i = c.loop-i.i in
-    let rs = c.loop-i.registers in
-    let ds = c.digits-digits.result in
-    let count = c.args.count in
-    let long : length (take count ds) ≡ count = length-take-le count ds (omega arith) in
-    let below : i < 6 = omega arith in
-    record {
-      six_long = length-set rs i c.in-Some.register ∙ c.loop-i.invariant.six_long;
-      zeros = zeros_step rs i c.in-Some.register below c.loop-i.invariant.zeros;
-      named_so_far = named_step (take count ds) rs i c.in-Some.register _ (omega arith) (omega arith)
-          (c.in-Some.ensures ∙ ap (slice_get (unused (take i rs) six)) (sym (get_or-take count ds i 0 (omega arith)))) c.loop-i.invariant.named_so_far;
-    }
+pub returns-then-number-ge-LISTS-clause-refused : goal.returns-then-number-ge-LISTS-clause-refused
+returns-then-number-ge-LISTS-clause-refused c = (
+  λ _. none_is c.args.count c.args.encoding (let h = c.if-count-gt6.false in omega arith)
+      (let h = c.if-number-ge-LISTS.true in let e = c.from.ensures in rw (sym e) h),
+  λ _. refl,
+)
+
+pub returns-clause-ok : goal.returns-clause-ok
+returns-clause-ok c =
+    fewer_is c.args.count c.args.encoding _ (let h = c.if-count-gt6.false in omega arith)
+    (let h = c.if-number-ge-LISTS.false in let e = c.from.ensures in rw (sym e) h) (rw c.from.ensures at c.all_six.ensures)
+    ∙ ap (λ (xs : List ℕ). Some xs) (sym c.first_ones.ensures)
