@@ -103,7 +103,7 @@ fn resume(
     if room.trail_len() >= limit as usize {
         return Err(DeliverError::PassLimit);
     }
-    room.run_cleanup(Trail {
+    let _ = room.run_cleanup(Trail {
         pad,
         sp: entered.registers[RSP],
     });

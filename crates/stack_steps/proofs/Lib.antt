@@ -14,6 +14,7 @@ pub mod IndexFinds
 pub mod Making
 pub mod MetFrames
 pub mod RowReads
+pub mod Sharing
 pub mod StepAnswers
 pub mod StepParts
 pub mod StepUndone

@@ -11,6 +11,7 @@ use Rattle.fde_finders.specs.declared.custom.FrameInfo.{FrameInfo}
 use Rattle.fde_finders.specs.FrameTables.{FrameTable, table_by}
 use Rattle.stack_steps.specs.declared.prepared.Left.{Left}
 use Rattle.stack_steps.specs.declared.prepared.PreparedTable.{PreparedTable}
+use Rattle.stack_steps.specs.declared.shared_table.Tried.{Tried}
 use Rattle.stack_steps.specs.declared.space.Extent.{Extent}
 use Rattle.stack_steps.specs.declared.space.Held.{Held}
 use Rattle.stack_steps.specs.declared.space.Module.{Module}
@@ -82,6 +83,24 @@ pub record LeavesBy (left : Left) (index : Index) (after : Left) : Type 0 where
 abbrev pub Leaves : Left → Option PreparedTable → Left → Type 0
 Leaves left None after = after ≡ left
 Leaves left (Some t) after = LeavesBy left t.index after
+
+-- what holds of what is left holds of what an index leaves, if one is made
+abbrev pub LeavesAfter : {X : Type 0} → (Left → X → Type 0) → Left → Option PreparedTable → X → Type 0
+LeavesAfter Holds left made x = (after : Left) → Leaves left made after → Holds after x
+
+-- what is made of tables that a module names: one of them with an index, or they can't be prepared within what is left
+abbrev pub IsMadeOf : List Span → Left → FrameInfo → Option PreparedTable → Type 0
+IsMadeOf image left tables None = CannotPrepare image tables left.rows left.rules
+IsMadeOf image left tables (Some t) = IsTableOf image tables t
+
+abbrev pub IsTried : List Span → Left → Option Tried → Type 0
+IsTried image left None = Unit {0}
+IsTried image left (Some tried) = IsMadeOf image left tried.tables tried.table
+
+-- an index keeps no more than is left
+abbrev pub FitsWithin : Left → Option PreparedTable → Type 0
+FitsWithin left None = Unit {0}
+FitsWithin left (Some t) = (t.index.row_count ≤ left.rows) × (t.index.rule_count ≤ left.rules)
 
 -- tables are made for modules, one after another
 abbrev pub AreMade : List Span → Left → List Held → List (Option PreparedTable) → Left → Type 0

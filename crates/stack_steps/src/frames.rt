@@ -22,7 +22,7 @@ use macho_unwind_info::Function;
 use memory_image::MemoryImage;
 use pe_unwind_info::x86_64::FunctionTableEntries;
 use unwind_arch::x86_64::{Context, RSP};
-use unwinding_frames::EhAction;
+use unwinding_frames::{EhAction, Window};
 
 /// A frame of a Mach-O module: the function that its section of compact unwinding has there.
 #[derive(Debug, Drop)]
@@ -47,18 +47,20 @@ impl CompactFrame {
         }
     }
 
-    /// Its caller, by the opcode of the function. A row that it asks for is made in `rows`.
+    /// Its caller, by the opcode of the function. A row that it asks for is made in `rows`, and
+    /// `stack` is a window over the image.
     #[inline(never)]
     pub(crate) fn caller<'a>(
         &self,
-        image: &MemoryImage<'a>,
+        stack: &mut Window<'_, 'a>,
         context: &Context,
         rows: &mut RowRoom<'a>,
     ) -> Result<Stepped, DeliverError>
-        ensures { result ≡ caller_by image.now context.now (compact_frame_of self.now) }
+        ensures caller { result ≡ caller_by stack.old context.now (compact_frame_of self.now) }
+        ensures same { stack.new ≡ stack.old }
     {
         let (container, address) = (&self.container, self.address);
-        let caller = macho_caller(image, container, &self.function, address, context, rows)?;
+        let caller = macho_caller(stack, container, &self.function, address, context, rows)?;
         // A look at them tells the proof that there are sixteen registers.
         let _ = caller.context.registers[RSP];
         Ok(Stepped {
@@ -92,16 +94,17 @@ impl<'a> RecordedFrame<'a> {
         }
     }
 
-    /// Its caller, by the unwind records of the function.
+    /// Its caller, by the unwind records of the function. `stack` is a window over the image.
     #[inline(never)]
     pub(crate) fn caller(
         &self,
-        image: &MemoryImage<'_>,
+        stack: &mut Window<'_, '_>,
         context: &Context,
     ) -> Result<Stepped, DeliverError>
-        ensures { result ≡ caller_by image.now context.now (recorded_frame_of self.now) }
+        ensures caller { result ≡ caller_by stack.old context.now (recorded_frame_of self.now) }
+        ensures same { stack.new ≡ stack.old }
     {
-        let caller = pe_caller(image, &self.container, &self.functions, self.rva, context)?;
+        let caller = pe_caller(stack, &self.container, &self.functions, self.rva, context)?;
         // A look at them tells the proof that there are sixteen registers.
         let _ = caller.registers[RSP];
         Ok(Stepped {

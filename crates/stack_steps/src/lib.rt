@@ -7,6 +7,7 @@ mod asking;
 mod frames;
 mod laws;
 mod prepared;
+mod shared_table;
 mod space;
 mod stepping;
 mod stops;

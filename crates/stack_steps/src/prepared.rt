@@ -4,9 +4,11 @@ ghost use Rattle.std.specs.List.{count_by};
 ghost use Rattle.fde_finders.specs.FoundViews.{answered};
 ghost use Rattle.fde_finders.specs.NamedTables.{named_of};
 ghost use Rattle.stack_steps.specs.FrameViews.{prepared_fde};
-ghost use Rattle.stack_steps.specs.Held.{AreMade, LeavesBy, MakesTable, PreparesTable, with_tables};
+ghost use Rattle.stack_steps.specs.Held.{AreMade, IsTried, LeavesAfter, LeavesBy, MakesTable};
+ghost use Rattle.stack_steps.specs.Held.{PreparesTable, with_tables};
 ghost use Rattle.stack_steps.specs.Preparing.{Lists, fdes_in};
 
+use crate::shared_table::{SharedTable, Tried, shared_table};
 use crate::space::{Held, ModuleTables};
 use eh_frame::{Bases, EhFrame, Prepared, PreparedFrame};
 use fde_finders::{FDESearchResult, FrameInfo, FrameInfoKind, NamedTable, named_table};
@@ -113,6 +115,7 @@ fn lists(kind: FrameInfoKind, named: &NamedTable<'_>, index: &Prepared<'_>) -> b
 }
 
 /// The table of a module that isn't prepared yet, with an index that keeps no more than is left.
+/// `tried` is what was made for the last module that was tried, and becomes what is made for this.
 ///
 /// # Errors
 ///
@@ -122,20 +125,23 @@ fn table_for<'a>(
     image: &MemoryImage<'a>,
     held: &Held<'a>,
     left: Left,
-) -> Result<Option<PreparedTable<'a>>, AllocError>
-    ensures { IfOk result (λ table. MakesTable image.now left held.now table) }
+    tried: &mut Option<Tried<'a>>,
+) -> Result<Option<SharedTable<'a>>, AllocError>
+    requires { IsTried image.now left tried.old }
+    ensures made { IfOk result (λ table. MakesTable image.now left held.now table) }
+    ensures tried { IfOk result (λ table. LeavesAfter (IsTried image.now) left table tried.new) }
 {
     if held.table.is_some() {
         return Ok(None);
     }
     match held.holder.tables {
-        ModuleTables::Elf(tables) => PreparedTable::build(alloc, image, tables, left),
+        ModuleTables::Elf(tables) => shared_table(alloc, image, tables, left, tried),
         ModuleTables::Macho(_) | ModuleTables::Pe(_) => Ok(None),
     }
 }
 
 /// The tables of the modules that aren't prepared yet and that can be, one after another, and what
-/// is left after them.
+/// is left after them. Modules that name the same tables one after another share one.
 ///
 /// # Errors
 ///
@@ -145,15 +151,16 @@ pub(crate) fn tables_for<'a>(
     image: &MemoryImage<'a>,
     added: &[Held<'a>],
     most: Left,
-) -> Result<(Vec<Option<PreparedTable<'a>>>, Left), AllocError>
+) -> Result<(Vec<Option<SharedTable<'a>>>, Left), AllocError>
     ensures { IfOk result (λ r. AreMade image.now most added.now r.0.items r.1) }
 {
     let mut left = most;
+    let mut tried = None;
     let mut made = Vec::new(alloc);
     for held in added {
-        let table = table_for(alloc, image, held, left)?;
-        if let Some(table) = &table {
-            left = left.after(&table.index);
+        let table = table_for(alloc, image, held, left, &mut tried)?;
+        if let Some(shared) = &table {
+            left = left.after(&shared.table().index);
         }
         made.push(table)?;
     }
@@ -161,7 +168,7 @@ pub(crate) fn tables_for<'a>(
 }
 
 /// Keeps the tables that were made for modules. It answers how many these are.
-pub(crate) fn keep<'a>(added: &mut [Held<'a>], made: Vec<Option<PreparedTable<'a>>>) -> u32
+pub(crate) fn keep<'a>(added: &mut [Held<'a>], made: Vec<Option<SharedTable<'a>>>) -> u32
     requires each { length made.items ≡ length added.old }
     requires few { count_by is_some made.items < 2 ^ 32 }
     ensures tables { added.new ≡ with_tables added.old made.entry.items }

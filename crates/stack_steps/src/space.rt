@@ -10,7 +10,8 @@ ghost use Rattle.stack_steps.specs.Modules.{with_added, FitsIn, sized, sized_ref
 ghost use Rattle.stack_steps.specs.Modules.{pe_sized, fits, given_refusal, contains};
 ghost use Rattle.stack_steps.specs.declared.space.ModuleTables.TheVariants.{Elf};
 
-use crate::prepared::{Left, MOST, PreparedTable, keep, tables_for};
+use crate::prepared::{Left, MOST, keep, tables_for};
+use crate::shared_table::SharedTable;
 use fde_finders::FrameInfo;
 use memory_image::MemoryImage;
 use std::alloc::{AllocError, Global};
@@ -79,7 +80,7 @@ struct Extent {
 #[derive(Drop)]
 pub(crate) struct Held<'a> {
     pub(crate) holder: Module,
-    pub(crate) table: Option<PreparedTable<'a>>,
+    pub(crate) table: Option<SharedTable<'a>>,
 }
 
 /// Why a module isn't taken.
@@ -308,7 +309,8 @@ impl<'a> Space<'a> {
     /// - and the index keeps no more than what the others have left of 1,048,576 rows and 4,194,304
     ///   rules of registers in the whole space.
     ///
-    /// Each frame table is read once, and each of its programs is run once.
+    /// Each frame table is read once, and each of its programs is run once. Modules that name the
+    /// same tables one after another share one index, of which each keeps as much.
     ///
     /// # Errors
     ///
@@ -330,7 +332,7 @@ impl<'a> Space<'a> {
     {
         match self.held_at(address) {
             Some(held) => match &held.table {
-                Some(table) => table.index.len(),
+                Some(shared) => shared.table().index.len(),
                 None => 0,
             },
             None => 0,

@@ -6,7 +6,6 @@ pub mod LineShows
 pub mod Reaching
 pub mod Results
 pub mod StoppedWalk
-pub mod StopsRise
 pub mod TurnCounts
 pub mod TurnLines
 pub mod Unread

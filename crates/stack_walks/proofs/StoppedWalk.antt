@@ -17,7 +17,7 @@ use Rattle.stack_walks.specs.Walking.{ShowChain}
 use Rattle.stack_steps.specs.Stopped.{StartsFormatStop}
 use Rattle.stack_walks.proofs.ChainWalked.{chain_rises}
 use Rattle.stack_walks.proofs.LineShows.{line_shows}
-use Rattle.stack_walks.proofs.StopsRise.{stop_below}
+use Rattle.format_laws.proofs.FormatStopped.{stop_below}
 use Rattle.stack_steps.proofs.FormatMet.{format_stopped}
 
 -- one more state below a chain

@@ -171,7 +171,9 @@ fn visit(phase: Option<Phase>, state: &Stepped, room: &mut Room)
 {
     match phase {
         Some(Phase::Cleanup) => {}
-        None | Some(Phase::Search) => room.visit(state.context),
+        None | Some(Phase::Search) => {
+            let _ = room.visit(state.context);
+        }
     }
 }
 

@@ -1,5 +1,6 @@
 // Place for what a walk or a delivery visits.
-ghost use Rattle.std.specs.Prelude.{◌≡◌, ◌<◌, ◌∷◌, ◌++◌, [], length, slice_get, IfOk};
+ghost use Rattle.std.specs.Prelude.{◌≡◌, ◌<◌, ◌≤◌, ◌∷◌, ◌++◌, [], length, slice_get, IfOk, true};
+ghost use Rattle.std.specs.Prelude.{false};
 
 use std::alloc::{AllocError, Global};
 use std::marker::Model;
@@ -22,7 +23,7 @@ pub struct Trail {
 /// Contracts see the states, the cleanups, and of how many of each there are the places.
 #[derive(Drop)]
 pub struct Room {
-    visited: Vec<Context>,
+    pub(crate) visited: Vec<Context>,
     trail: Vec<Trail>,
     limit: u32,
 }
@@ -91,20 +92,34 @@ impl Room {
         self.trail.get(i).copied()
     }
 
-    /// Puts one more state into its place.
-    pub fn visit(&mut self, state: Context)
-        requires { length self.old.visited < self.old.limit }
-        ensures { self.new ≡ record self.old { visited = self.old.visited ++ state ∷ [] } }
+    /// Puts one more state into its place. It answers whether there was a place for it: nothing
+    /// changes where as many states stand in the room as it has places for.
+    pub fn visit(&mut self, state: Context) -> bool
+        ensures put { length self.old.visited < self.old.limit → (result ≡ true) ×
+            (self.new ≡ record self.old { visited = self.old.visited ++ state ∷ [] }) }
+        ensures full { self.old.limit ≤ length self.old.visited → (result ≡ false) ×
+            (self.new ≡ self.old) }
     {
+        if self.visited.len() >= self.limit as usize {
+            return false;
+        }
         self.visited.push_reserved(state);
+        true
     }
 
-    /// Puts one more cleanup into its place.
-    pub fn run_cleanup(&mut self, cleanup: Trail)
-        requires { length self.old.trail < self.old.limit }
-        ensures { self.new ≡ record self.old { trail = self.old.trail ++ cleanup ∷ [] } }
+    /// Puts one more cleanup into its place. It answers whether there was a place for it: nothing
+    /// changes where as many cleanups stand in the room as it has places for.
+    pub fn run_cleanup(&mut self, cleanup: Trail) -> bool
+        ensures put { length self.old.trail < self.old.limit → (result ≡ true) ×
+            (self.new ≡ record self.old { trail = self.old.trail ++ cleanup ∷ [] }) }
+        ensures full { self.old.limit ≤ length self.old.trail → (result ≡ false) ×
+            (self.new ≡ self.old) }
     {
+        if self.trail.len() >= self.limit as usize {
+            return false;
+        }
         self.trail.push_reserved(cleanup);
+        true
     }
 
     /// Takes out what stands in it. The places stay.

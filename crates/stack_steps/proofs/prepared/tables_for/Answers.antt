@@ -21,18 +21,20 @@ loop-held-preserved c =
     let held = c.held-item.result in
     let o = c.in_ok-table.table in
     let leaves : Leaves c.loop-held.left o c.match-table.left = elim c.match-table.branch [
-      | in-Some w ↦ leaves_some c.loop-held.left c.match-table.left w.after-left.result o w.in-Some.table w.in-Some.is w.left-is w.after-left.ensures
+      | in-Some w ↦ leaves_some c.loop-held.left c.match-table.left w.after-left.result o w.in-Some.shared w.in-Some.is w.left-is (subst (λ (t : PreparedTable). LeavesBy c.loop-held.left t.index w.after-left.result) w.table.ensures w.after-left.ensures)
       | in_default w ↦ leaves_none c.loop-held.left c.match-table.left o w.in_default.is w.left-is
     ] in
-    let more = made_push c.args.image.now c.args.most c.loop-held.left c.match-table.left (take k xs) c.loop-held.made.items held o c.loop-held.invariant c.in_ok-table.ensures leaves in
+    let more = made_push c.args.image.now c.args.most c.loop-held.left c.match-table.left (take k xs) c.loop-held.made.items held o c.loop-held.invariant.0 c.in_ok-table.ensures.made leaves in
     let items = c.in_ok-push.ensures.items in
-    let front : take k xs ++ held ∷ [] ≡ take (k + 1) xs = ap (λ (h : Held). take k xs ++ h ∷ []) c.held-item.is ∙ sym (take_more xs k held (omega arith)) in
-    subst (λ (l : List (Option PreparedTable)). AreMade c.args.image.now c.args.most (take (k + 1) xs) l c.match-table.left) (sym items)
-    (subst (λ (l : List Held). AreMade c.args.image.now c.args.most l (c.loop-held.made.items ++ o ∷ []) c.match-table.left) front more)
+    let front : take k xs ++ held ∷ [] ≡ take (k + 1) xs = ap (λ (h : Held). take k xs ++ h ∷ []) c.held-item.is ∙ sym (take_more xs k held (omega arith)) in (
+      subst (λ (l : List (Option PreparedTable)). AreMade c.args.image.now c.args.most (take (k + 1) xs) l c.match-table.left) (sym items)
+          (subst (λ (l : List Held). AreMade c.args.image.now c.args.most l (c.loop-held.made.items ++ o ∷ []) c.match-table.left) front more),
+      c.in_ok-table.ensures.tried c.match-table.left leaves,
+    )
 
 pub returns : goal.returns
 returns c =
     let xs = c.args.added.now in
     let k = c.loop-held.held-index in
     let all : take k xs ≡ xs = take_all k xs (omega arith) in
-    subst (λ (l : List Held). AreMade c.args.image.now c.args.most l c.loop-held.made.items c.loop-held.left) all c.loop-held.invariant
+    subst (λ (l : List Held). AreMade c.args.image.now c.args.most l c.loop-held.made.items c.loop-held.left) all c.loop-held.invariant.0

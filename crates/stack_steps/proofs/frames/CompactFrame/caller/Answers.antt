@@ -7,15 +7,15 @@ use Rattle.format_frames.specs.Modules.{macho_module}
 use Rattle.stack_steps.proofs.FormatCallers.{opcode_faults, opcode_gives}
 use Rattle.stack_steps.proofs.frames.CompactFrame.caller.Goals as goal
 
-pub returns-in_err-caller : goal.returns-in_err-caller
-returns-in_err-caller c =
+pub returns-in_err-caller-clause-caller : goal.returns-in_err-caller-clause-caller
+returns-in_err-caller-clause-caller c =
     let m = macho_module c.args.self.now.container in
     let listed = c.args.self.now.function in
     let p = err_from_is_err_and c.from_residual.result c.from_residual.ensures.1 in
-    rw (p.1, p.2) (opcode_faults (compact_step c.args.image.now m.frames (m.base + listed.start_address) c.args.self.now.address (columns_of c.args.context.now) (opcode_of listed.opcode)) c.in_err-caller.field-0.0 c.in_err-caller.ensures)
+    rw (p.1, p.2) (opcode_faults (compact_step c.args.stack.now m.frames (m.base + listed.start_address) c.args.self.now.address (columns_of c.args.context.now) (opcode_of listed.opcode)) c.in_err-caller.field-0.0 c.in_err-caller.ensures.caller)
 
-pub returns : goal.returns
-returns c =
+pub returns-clause-caller : goal.returns-clause-caller
+returns-clause-caller c =
     let m = macho_module c.args.self.now.container in
     let listed = c.args.self.now.function in
-    opcode_gives (compact_step c.args.image.now m.frames (m.base + listed.start_address) c.args.self.now.address (columns_of c.args.context.now) (opcode_of listed.opcode)) c.in_ok-caller.caller (omega arith) c.in_ok-caller.ensures
+    opcode_gives (compact_step c.args.stack.now m.frames (m.base + listed.start_address) c.args.self.now.address (columns_of c.args.context.now) (opcode_of listed.opcode)) c.in_ok-caller.caller (omega arith) c.in_ok-caller.ensures.caller

@@ -5,8 +5,8 @@ use Rattle.stack_steps.specs.Stepping.{recorded_columns}
 use Rattle.stack_steps.proofs.FormatCallers.{records_give}
 use Rattle.stack_steps.proofs.frames.RecordedFrame.caller.Goals as goal
 
-pub returns : goal.returns
-returns c =
+pub returns-clause-caller : goal.returns-clause-caller
+returns-clause-caller c =
     let m = pe_module c.args.self.now.container in
     let rva = c.args.self.now.rva in
-    records_give m rva (recorded_columns c.args.image.now c.args.context.now m rva (lookup_of (functions_of (table_bytes c.args.self.now.functions)) rva)) c.in_ok-caller.caller (omega arith) c.in_ok-caller.ensures
+    records_give m rva (recorded_columns c.args.stack.now c.args.context.now m rva (lookup_of (functions_of (table_bytes c.args.self.now.functions)) rva)) c.in_ok-caller.caller (omega arith) c.in_ok-caller.ensures.caller
