@@ -1,3 +1,3 @@
 pub mod AnyPasses
 pub mod Personality
-pub mod FormatSpace
+pub mod StateRegisters

@@ -9,19 +9,20 @@ ghost use Rattle.stack_steps.specs.SpaceViews.{formats_of};
 ghost use Rattle.stack_steps.specs.Stopped.{StartsFormatStop};
 ghost use Rattle.stack_walks.specs.Walking.{StartsFormatChain};
 ghost use Rattle.stack_deliver.specs.Delivering.{StartsValidFormatChain};
-ghost use Rattle.delivery_laws.specs.FormatSpace.{format_space, registers_of};
+ghost use Rattle.stack_steps.specs.FormatStopSample.{space_of_three};
+ghost use Rattle.delivery_laws.specs.StateRegisters.{registers_of};
 
 /// A space with an ELF, a Mach-O and a PE module, where a function of the Mach-O module was called
 /// by one of the PE module, and that by two of the ELF module. A walk may start there, and so may a
 /// delivery, in which the cleanup of the first ELF function runs and the second one's handler takes
 /// the exception. The function does nothing.
 pub fn calls_through_formats_start_walks_and_deliveries()
-    ensures memory { IsLaidOut 0 format_space.image }
-    ensures apart { AreApart 0 format_space.modules }
-    ensures modules { formats_of format_space ≡ mixed.modules }
-    ensures walk { StartsFormatChain format_space (registers_of mixed.caught_start) 5
+    ensures memory { IsLaidOut 0 space_of_three.image }
+    ensures apart { AreApart 0 space_of_three.modules }
+    ensures modules { formats_of space_of_three ≡ mixed.modules }
+    ensures walk { StartsFormatChain space_of_three (registers_of mixed.caught_start) 5
         mixed.functions mixed.caught_start mixed.caught_calls }
-    ensures delivery { StartsValidFormatChain format_space (registers_of mixed.caught_start)
+    ensures delivery { StartsValidFormatChain space_of_three (registers_of mixed.caught_start)
         three.resumes 5 mixed.functions mixed.caught_start mixed.caught_calls }
     ensures delivered { delivery_of three.exception mixed.caught_start mixed.caught_calls
         ≡ mixed.caught_delivery }
@@ -30,11 +31,11 @@ pub fn calls_through_formats_start_walks_and_deliveries()
 /// A walk over the same space may as well start where the Mach-O function was stopped in its body,
 /// or the PE function in its body or behind the push of its prologue. The function does nothing.
 pub fn stops_in_formats_start_walks()
-    ensures macho_body { StartsFormatStop format_space (registers_of mixed.caught_start) 5
+    ensures macho_body { StartsFormatStop space_of_three (registers_of mixed.caught_start) 5
         mixed.functions mixed.caught_start mixed.caught_frameless
         (mixed.caught_pushing ∷ mixed.outer_calls) }
-    ensures pe_body { StartsFormatStop format_space (registers_of mixed.caught_room) 4
+    ensures pe_body { StartsFormatStop space_of_three (registers_of mixed.caught_room) 4
         mixed.functions mixed.caught_room mixed.caught_pushing mixed.outer_calls }
-    ensures pe_prologue { StartsFormatStop format_space (registers_of mixed.pushed_room) 4
+    ensures pe_prologue { StartsFormatStop space_of_three (registers_of mixed.pushed_room) 4
         mixed.functions mixed.pushed_room mixed.caught_pushing mixed.outer_calls }
 {}

@@ -86,7 +86,7 @@ module _ (image : List Span) (s : State) (c : Call) where
   body_below : StandsInBody image s c → s.sp < c.caller.sp
   body_below body = rises image c.callee.outermost (steps_of c.callee.prologue) c.caller s body.entered
 
-  stop_below : (home : FormatModule) (part : List Function) (d : DescribesFormat image home part) → StandsIn image home part d s c → s.sp < c.caller.sp
+  pub stop_below : (home : FormatModule) (part : List Function) (d : DescribesFormat image home part) → StandsIn image home part d s c → s.sp < c.caller.sp
   stop_below (Elf m) part d (inl p) = early_below p
   stop_below (Elf m) part d (inr body) = body_below body
   stop_below (Macho m) part d body = body_below body
