@@ -19,6 +19,3 @@ pub use cursor::Cursor;
 pub use encoding::{DwEhPe, parse_pointer_encoding};
 pub use pointer::{Pointer, parse_direct_pointer, parse_encoded_pointer, read_value};
 pub use unwind_definitions::Error;
-
-#[cfg(test)]
-mod tests;

@@ -1,4 +1,5 @@
 // Headers of frame tables, by themselves and under a walk.
+use crate::asserting::expect_equal;
 use memory_image::{Counted, MemoryImage, Steps};
 use stack_deliver::{Context, FrameInfo, FrameInfoKind, Space, walk};
 use std::alloc::Global;
@@ -60,8 +61,8 @@ fn three_functions_are_found_by_a_header(rt: HostRuntime) -> Result<(), Fail> {
     ];
     for (pc, start) in cases {
         let (at, tables, entries) = found(&image, pc);
-        assert_eq!(rt; at, start);
-        assert_eq!(rt; tables, start.is_some());
+        expect_equal(&rt, at, start);
+        expect_equal(&rt, tables, start.is_some());
         assert!(rt; entries <= 2);
     }
     Ok(())

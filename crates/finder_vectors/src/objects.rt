@@ -1,4 +1,5 @@
 // Finders by program headers.
+use crate::asserting::expect_equal;
 use crate::headers::{FRAMES, HEADER};
 use memory_image::{MemoryImage, NoLedger, Records, Steps};
 use std::alloc::Global;
@@ -77,16 +78,16 @@ fn an_object_is_searched_by_its_headers(rt: HostRuntime) -> Result<(), Fail> {
         assert!(rt; false);
         return Ok(());
     };
-    assert_eq!(rt; found.fde.initial_address(), 0x40_1020);
-    assert_eq!(rt; found.bases.text, Some(0x40_1000));
-    assert_eq!(rt; found.bases.data_base, Some(0x40_6000));
-    assert_eq!(rt; found.bases.hdr, Some(0x50_4000));
-    assert_eq!(rt; found.bases.frame, Some(0x50_0000));
+    expect_equal(&rt, found.fde.initial_address(), 0x40_1020);
+    expect_equal(&rt, found.bases.text, Some(0x40_1000));
+    expect_equal(&rt, found.bases.data_base, Some(0x40_6000));
+    expect_equal(&rt, found.bases.hdr, Some(0x50_4000));
+    expect_equal(&rt, found.bases.frame, Some(0x50_0000));
     let Some(found) = asked(rt.alloc(), &image, &whole, 0x40_1050)? else {
         assert!(rt; false);
         return Ok(());
     };
-    assert_eq!(rt; found.bases.text, Some(0x40_0000));
+    expect_equal(&rt, found.bases.text, Some(0x40_0000));
     assert!(rt; asked(rt.alloc(), &image, &whole, 0x40_1080)?.is_none());
     Ok(())
 }

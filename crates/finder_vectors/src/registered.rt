@@ -1,4 +1,5 @@
 // Registered frame tables, and finders that are asked in turn.
+use crate::asserting::expect_equal;
 use crate::headers::{FRAMES, HEADER};
 use memory_image::{MemoryImage, NoLedger, Steps};
 use std::test::Fail;
@@ -56,18 +57,18 @@ fn tables_are_registered_and_removed(rt: HostRuntime) -> Result<(), Fail> {
     let mut registry = Registry::new(rt.alloc());
     registry.register_frame(0x50_0000)?;
     registry.register_frame_info(0x50_0000)?;
-    assert_eq!(rt; start(&registry, &image, 0x40_1005), Some(0x40_1000));
+    expect_equal(&rt, start(&registry, &image, 0x40_1005), Some(0x40_1000));
     let table = Some(object(0x50_0000, false));
-    assert_eq!(rt; registry.deregister_frame(0x50_0000), table);
-    assert_eq!(rt; registry.deregister_frame(0x50_0000), table);
-    assert_eq!(rt; registry.deregister_frame(0x50_0000), None);
-    assert_eq!(rt; start(&registry, &image, 0x40_1005), None);
+    expect_equal(&rt, registry.deregister_frame(0x50_0000), table);
+    expect_equal(&rt, registry.deregister_frame(0x50_0000), table);
+    expect_equal(&rt, registry.deregister_frame(0x50_0000), None);
+    expect_equal(&rt, start(&registry, &image, 0x40_1005), None);
     // 0 is the address of no table
     registry.register_frame(0)?;
     registry.register_frame_info_bases(0, 1, 2)?;
     registry.register_frame_table(0)?;
     registry.register_frame_info_table(0)?;
-    assert_eq!(rt; registry.deregister_frame_info(0), None);
+    expect_equal(&rt, registry.deregister_frame_info(0), None);
     Ok(())
 }
 
@@ -81,22 +82,22 @@ fn each_registration_is_found(rt: HostRuntime) -> Result<(), Fail> {
     image.add(0x50_5000, &list)?;
     let mut registry = Registry::new(rt.alloc());
     registry.register_frame_info_bases(0x50_0000, 0, 0)?;
-    assert_eq!(rt; start(&registry, &image, 0x40_1005), Some(0x40_1000));
-    assert_eq!(rt; start(&registry, &image, 0x40_1010), None);
+    expect_equal(&rt, start(&registry, &image, 0x40_1005), Some(0x40_1000));
+    expect_equal(&rt, start(&registry, &image, 0x40_1010), None);
     let table = Some(object(0x50_0000, false));
-    assert_eq!(rt; registry.deregister_frame_info_bases(0x50_0000), table);
+    expect_equal(&rt, registry.deregister_frame_info_bases(0x50_0000), table);
     let listed = Some(object(0x50_5000, true));
     let mut registry = Registry::new(rt.alloc());
     registry.register_frame_info_table_bases(0x50_5000, 0, 0)?;
-    assert_eq!(rt; start(&registry, &image, 0x40_1005), Some(0x40_1000));
-    assert_eq!(rt; registry.deregister_frame_info(0x50_5000), listed);
+    expect_equal(&rt, start(&registry, &image, 0x40_1005), Some(0x40_1000));
+    expect_equal(&rt, registry.deregister_frame_info(0x50_5000), listed);
     let mut registry = Registry::new(rt.alloc());
     registry.register_frame_info_table(0x50_5000)?;
-    assert_eq!(rt; start(&registry, &image, 0x40_1005), Some(0x40_1000));
-    assert_eq!(rt; registry.deregister_frame(0x50_5000), listed);
+    expect_equal(&rt, start(&registry, &image, 0x40_1005), Some(0x40_1000));
+    expect_equal(&rt, registry.deregister_frame(0x50_5000), listed);
     let mut registry = Registry::new(rt.alloc());
     registry.register_frame_table(0x50_5000)?;
-    assert_eq!(rt; start(&registry, &image, 0x40_1005), Some(0x40_1000));
+    expect_equal(&rt, start(&registry, &image, 0x40_1005), Some(0x40_1000));
     Ok(())
 }
 
@@ -119,12 +120,12 @@ fn finders_are_asked_in_turn(rt: HostRuntime) -> Result<(), Fail> {
         phdr: Some(PhdrFinder::new(rt.alloc())),
         fixed: Some(StaticFinder::new(0x40_1000, 0x40_1050, 0x50_0000)),
     };
-    assert_eq!(rt; start(&finder, &image, 0x50_1005), Some(0x50_1000));
-    assert_eq!(rt; start(&finder, &image, 0x40_1020), Some(0x40_1020));
-    assert_eq!(rt; start(&finder, &image, 0x40_1050), None);
+    expect_equal(&rt, start(&finder, &image, 0x50_1005), Some(0x50_1000));
+    expect_equal(&rt, start(&finder, &image, 0x40_1020), Some(0x40_1020));
+    expect_equal(&rt, start(&finder, &image, 0x40_1050), None);
     finder.gnu = Some(GnuHdrFinder::new(0x40_1050, 0x40_1080, 0x50_4000));
-    assert_eq!(rt; start(&finder, &image, 0x40_1050), Some(0x40_1050));
+    expect_equal(&rt, start(&finder, &image, 0x40_1050), Some(0x40_1050));
     finder.fixed = None;
-    assert_eq!(rt; start(&finder, &image, 0x40_1020), None);
+    expect_equal(&rt, start(&finder, &image, 0x40_1020), None);
     Ok(())
 }

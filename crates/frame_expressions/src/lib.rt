@@ -24,6 +24,3 @@ pub use laws::{
     unmapped_word_is_a_fault,
 };
 pub use unwind_definitions::Error;
-
-#[cfg(test)]
-mod tests;

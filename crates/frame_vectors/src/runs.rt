@@ -3,6 +3,7 @@
 ghost use Rattle.std.specs.Prelude.{◌≡◌};
 ghost use Rattle.frame_vectors.specs.Visiting.{visit, visited};
 
+use crate::asserting::expect_equal;
 use crate::languages::{CELL, FRAMES, LANGUAGES, bytes_of};
 use memory_image::{MemoryImage, NoLedger, Steps};
 use std::alloc::Global;
@@ -167,17 +168,19 @@ fn forced(alloc: Global, stop: Visits, limit: u32) -> Result<(Option<i32>, (u64,
 fn forced_unwinding_asks_the_stop(rt: HostRuntime) -> Result<(), Fail> {
     let alloc = rt.alloc();
     let end = UnwindReasonCode::END_OF_STACK.0;
-    assert_eq!(rt; forced(alloc, NONE, 4)?, (Some(end), (2, 10, 26)));
+    expect_equal(&rt, forced(alloc, NONE, 4)?, (Some(end), (2, 10, 26)));
     let fatal = UnwindReasonCode::FATAL_PHASE2_ERROR.0;
-    assert_eq!(rt; forced(alloc, REFUSED, 4)?, (Some(fatal), (1, 10, 10)));
-    assert_eq!(rt; forced(alloc, NONE, 1)?, (None, (1, 10, 10)));
-    assert_eq!(rt;
+    expect_equal(&rt, forced(alloc, REFUSED, 4)?, (Some(fatal), (1, 10, 10)));
+    expect_equal(&rt, forced(alloc, NONE, 1)?, (None, (1, 10, 10)));
+    expect_equal(
+        &rt,
         UnwindAction(10).contains(UnwindAction::CLEANUP_PHASE),
-        true
+        true,
     );
-    assert_eq!(rt;
+    expect_equal(
+        &rt,
         UnwindAction::empty().contains(UnwindAction::empty()),
-        false
+        false,
     );
     Ok(())
 }
@@ -213,21 +216,32 @@ fn backtraces_visit_frames(rt: HostRuntime) -> Result<(), Fail> {
     let end = UnwindReasonCode::END_OF_STACK.0;
     let fatal = UnwindReasonCode::FATAL_PHASE1_ERROR.0;
     let ip = 0x40_1006;
-    assert_eq!(rt; traced(alloc, NONE, None, 4)?, (end, None, (2, ip, 0)));
-    assert_eq!(rt;
+    expect_equal(&rt, traced(alloc, NONE, None, 4)?, (end, None, (2, ip, 0)));
+    expect_equal(
+        &rt,
         traced(alloc, NONE, Some(0x40_1000), 4)?,
-        (end, None, (1, 0, 0))
+        (end, None, (1, 0, 0)),
     );
-    assert_eq!(rt; traced(alloc, NONE, Some(1), 4)?, (end, None, (0, 0, 0)));
+    expect_equal(
+        &rt,
+        traced(alloc, NONE, Some(1), 4)?,
+        (end, None, (0, 0, 0)),
+    );
     let crowded = Some(Cause::FrameLimit);
-    assert_eq!(rt; traced(alloc, NONE, None, 0)?, (fatal, crowded, (0, 0, 0)));
-    assert_eq!(rt;
-        traced(alloc, NONE, None, 1)?,
-        (fatal, crowded, (1, ip, ip))
+    expect_equal(
+        &rt,
+        traced(alloc, NONE, None, 0)?,
+        (fatal, crowded, (0, 0, 0)),
     );
-    assert_eq!(rt;
+    expect_equal(
+        &rt,
+        traced(alloc, NONE, None, 1)?,
+        (fatal, crowded, (1, ip, ip)),
+    );
+    expect_equal(
+        &rt,
         traced(alloc, REFUSED, None, 4)?,
-        (fatal, None, (1, ip, ip))
+        (fatal, None, (1, ip, ip)),
     );
     Ok(())
 }
@@ -307,15 +321,23 @@ fn a_raise_goes_to_its_handler(rt: HostRuntime) -> Result<(), Fail> {
     let alloc = rt.alloc();
     let cleanup = Some((0x40_1040, 0x70d0, 0x11, 0x90_0000, false));
     let (first, found, second) = raised(alloc, Kept::Handler(0), 0x40_1048)?;
-    assert_eq!(rt; first, cleanup);
-    assert_eq!(rt; found == Kept::Handler(0x70e0), true);
-    assert_eq!(rt; second, Some((0x40_1070, 0x70e0, 0x22, 0x90_0000, true)));
+    expect_equal(&rt, first, cleanup);
+    expect_equal(&rt, found == Kept::Handler(0x70e0), true);
+    expect_equal(
+        &rt,
+        second,
+        Some((0x40_1070, 0x70e0, 0x22, 0x90_0000, true)),
+    );
     // by force the handler's landing pad is entered too, but not as the handler's
     let (_, _, by_force) = raised(alloc, Kept::Stop, 0x40_1048)?;
-    assert_eq!(rt; by_force, Some((0x40_1070, 0x70e0, 0x22, 0x90_0000, false)));
+    expect_equal(
+        &rt,
+        by_force,
+        Some((0x40_1070, 0x70e0, 0x22, 0x90_0000, false)),
+    );
     // after an address that no call site holds
     let (_, _, none) = raised(alloc, Kept::Handler(0), 0x40_1040)?;
-    assert_eq!(rt; none, None);
+    expect_equal(&rt, none, None);
     Ok(())
 }
 
@@ -325,8 +347,8 @@ fn a_raise_without_handler_keeps_the_exception(rt: HostRuntime) -> Result<(), Fa
     let frames = bytes_of(alloc, PUSHES)?;
     let stack = bytes_of(alloc, "05000000000000000000000000000000")?;
     let mut image = MemoryImage::new(alloc);
-    assert_eq!(rt; image.add(0x50_0000, &frames), Ok(()));
-    assert_eq!(rt; image.add(0x7000, &stack), Ok(()));
+    expect_equal(&rt, image.add(0x50_0000, &frames), Ok(()));
+    expect_equal(&rt, image.add(0x7000, &stack), Ok(()));
     let finder = finder(0x40_1010);
     let mut steps = Steps::new(NoLedger);
     let mut exception = UnwindException::new(0x22, 0x90_0000);
@@ -349,24 +371,29 @@ fn a_raise_without_handler_keeps_the_exception(rt: HostRuntime) -> Result<(), Fa
     );
     match end {
         Unwound::Code { code, cause } => {
-            assert_eq!(rt; code.0, UnwindReasonCode::END_OF_STACK.0);
-            assert_eq!(rt; cause, None);
+            expect_equal(&rt, code.0, UnwindReasonCode::END_OF_STACK.0);
+            expect_equal(&rt, cause, None);
         }
         Unwound::Install { .. } => assert!(rt; false),
     }
-    assert_eq!(rt; exception == UnwindException::new(0x22, 0x90_0000), true);
-    assert_eq!(rt; stop.seen(), (0, 0, 0));
+    expect_equal(
+        &rt,
+        exception == UnwindException::new(0x22, 0x90_0000),
+        true,
+    );
+    expect_equal(&rt, stop.seen(), (0, 0, 0));
     let enclosing = _Unwind_FindEnclosingFunction(&image, &finder, 0x40_1010, &mut steps);
-    assert_eq!(rt; enclosing, 0x40_1000);
-    assert_eq!(rt;
+    expect_equal(&rt, enclosing, 0x40_1000);
+    expect_equal(
+        &rt,
         _Unwind_FindEnclosingFunction(&image, &finder, 0, &mut steps),
-        0
+        0,
     );
     let mut reason = 0;
     _Unwind_DeleteException(
         &exception,
         Some(|code: UnwindReasonCode, _gone: &UnwindException| reason = code.0),
     );
-    assert_eq!(rt; reason, 1);
+    expect_equal(&rt, reason, 1);
     Ok(())
 }

@@ -2,7 +2,14 @@
 ghost use Rattle.std.specs.Prelude.{◌+◌, ◌≤◌, ◌^◌, length};
 
 use super::*;
+use std::fmt::Debug;
+use std::process::Abort;
 use std::test::Fail;
+
+/// Asserts that a value is the one that is expected. It is proved once, and a call of it is a call.
+fn expect_equal<T: PartialEq + Debug + Drop>(rt: &impl Abort, value: T, expected: T) {
+    assert_eq!(rt; value, expected);
+}
 
 /// A record of two numbers, as formats have them: an address at 0 and a size at 4.
 #[derive(Clone, Copy, Debug, PartialEq, Eq)]
@@ -42,30 +49,32 @@ impl Record for Entry {
 #[test]
 fn regions_are_taken_or_refused(rt: HostRuntime) -> Result<(), Fail> {
     let mut image = MemoryImage::new(rt.alloc());
-    assert_eq!(rt; image.add(0x7000, &[]), Err(ImageError::Empty));
-    assert_eq!(rt; image.add(u64::MAX, &[7]), Ok(()));
-    assert_eq!(rt; image.add(u64::MAX, &[7, 8]), Err(ImageError::Wraps));
-    assert_eq!(rt; image.add(0x7000, &[0xaa; 16]), Ok(()));
-    assert_eq!(rt;
+    expect_equal(&rt, image.add(0x7000, &[]), Err(ImageError::Empty));
+    expect_equal(&rt, image.add(u64::MAX, &[7]), Ok(()));
+    expect_equal(&rt, image.add(u64::MAX, &[7, 8]), Err(ImageError::Wraps));
+    expect_equal(&rt, image.add(0x7000, &[0xaa; 16]), Ok(()));
+    expect_equal(
+        &rt,
         image.add(0x7008, &[0; 16]),
-        Err(ImageError::Overlap(0x7000))
+        Err(ImageError::Overlap(0x7000)),
     );
-    assert_eq!(rt; image.add(0x7010, &[1, 2, 3, 4]), Ok(()));
-    assert_eq!(rt;
+    expect_equal(&rt, image.add(0x7010, &[1, 2, 3, 4]), Ok(()));
+    expect_equal(
+        &rt,
         image.add(0x6fff, &[9; 100]),
-        Err(ImageError::Overlap(0x7000))
+        Err(ImageError::Overlap(0x7000)),
     );
-    assert_eq!(rt; image.read_u64(0x7008), Some(0xaaaa_aaaa_aaaa_aaaa));
-    assert_eq!(rt; image.read_u64(0x700c), Some(0x0403_0201_aaaa_aaaa));
-    assert_eq!(rt; image.read_u64(0x700d), None);
-    assert_eq!(rt; image.read_u32(0x7010), Some(0x0403_0201));
-    assert_eq!(rt; image.read_u32(0x700f), Some(0x0302_01aa));
-    assert_eq!(rt; image.read_u32(0x7012), None);
-    assert_eq!(rt; image.read_u64(u64::MAX), None);
-    assert_eq!(rt; image.byte(u64::MAX), Some(7));
-    assert_eq!(rt; image.byte(0x6fff), None);
-    assert_eq!(rt; image.from(0x700e), Some([0xaa, 0xaa].as_slice()));
-    assert_eq!(rt; image.from(0x7014).is_none(), true);
+    expect_equal(&rt, image.read_u64(0x7008), Some(0xaaaa_aaaa_aaaa_aaaa));
+    expect_equal(&rt, image.read_u64(0x700c), Some(0x0403_0201_aaaa_aaaa));
+    expect_equal(&rt, image.read_u64(0x700d), None);
+    expect_equal(&rt, image.read_u32(0x7010), Some(0x0403_0201));
+    expect_equal(&rt, image.read_u32(0x700f), Some(0x0302_01aa));
+    expect_equal(&rt, image.read_u32(0x7012), None);
+    expect_equal(&rt, image.read_u64(u64::MAX), None);
+    expect_equal(&rt, image.byte(u64::MAX), Some(7));
+    expect_equal(&rt, image.byte(0x6fff), None);
+    expect_equal(&rt, image.from(0x700e), Some([0xaa, 0xaa].as_slice()));
+    expect_equal(&rt, image.from(0x7014).is_none(), true);
     Ok(())
 }
 
@@ -80,7 +89,7 @@ fn errors_are_told(rt: HostRuntime) -> Result<(), Fail> {
         ),
         (ImageError::NoMemory, "no memory"),
     ] {
-        assert_eq!(rt; format!(in rt.alloc(); "{error}")?.as_str(), text);
+        expect_equal(&rt, format!(in rt.alloc(); "{error}")?.as_str(), text);
     }
     Ok(())
 }
@@ -97,17 +106,22 @@ fn records_are_read(rt: HostRuntime) -> Result<(), Fail> {
         address: 0x40_2011,
         size: 0x104,
     };
-    assert_eq!(rt; records.len(), 2);
-    assert_eq!(rt; records.get(1), Some(second));
-    assert_eq!(rt; first(&records.after(1)), Some(second));
-    assert_eq!(rt; records.get(2), None);
-    assert_eq!(rt; records.after(usize::MAX).len(), 0);
-    assert_eq!(rt; Records::<Entry>::over(&bytes, 3, 2).is_none(), true);
-    assert_eq!(rt; Records::<Entry>::over(&bytes, 14, 0).is_some(), true);
-    assert_eq!(rt; Records::<Entry>::over(&bytes, u64::MAX, 0).is_none(), true);
-    assert_eq!(rt;
+    expect_equal(&rt, records.len(), 2);
+    expect_equal(&rt, records.get(1), Some(second));
+    expect_equal(&rt, first(&records.after(1)), Some(second));
+    expect_equal(&rt, records.get(2), None);
+    expect_equal(&rt, records.after(usize::MAX).len(), 0);
+    expect_equal(&rt, Records::<Entry>::over(&bytes, 3, 2).is_none(), true);
+    expect_equal(&rt, Records::<Entry>::over(&bytes, 14, 0).is_some(), true);
+    expect_equal(
+        &rt,
+        Records::<Entry>::over(&bytes, u64::MAX, 0).is_none(),
+        true,
+    );
+    expect_equal(
+        &rt,
         Records::<Entry>::over(&bytes, 0, usize::MAX).is_none(),
-        true
+        true,
     );
     Ok(())
 }
@@ -121,12 +135,12 @@ fn take_two<L: Ledger>(steps: &mut Steps<L>) {
 fn steps_are_counted(rt: HostRuntime) -> Result<(), Fail> {
     let mut counted = Steps::new(Counted { count: 0 });
     take_two(&mut counted);
-    assert_eq!(rt; counted.ledger().count, 2);
+    expect_equal(&rt, counted.ledger().count, 2);
     let mut none = Steps::new(NoLedger);
     take_two(&mut none);
-    assert_eq!(rt; *none.ledger(), NoLedger);
-    assert_eq!(rt; std::mem::size_of::<Steps<NoLedger>>(), 0);
-    assert_eq!(rt; std::mem::size_of::<Steps<Counted>>(), 8);
+    expect_equal(&rt, *none.ledger(), NoLedger);
+    expect_equal(&rt, std::mem::size_of::<Steps<NoLedger>>(), 0);
+    expect_equal(&rt, std::mem::size_of::<Steps<Counted>>(), 8);
     Ok(())
 }
 
@@ -142,33 +156,33 @@ fn take<S: Sink>(sink: &mut S, from: &[u8]) -> Result<usize, Failed> {
 fn sources_give(rt: HostRuntime) -> Result<(), Fail> {
     let mut into = [0; 8];
     let mut source = MemorySource::new(b"abcdef", 4, &[1]);
-    assert_eq!(rt; give(&mut source, &mut into), Ok(4));
-    assert_eq!(rt; give(&mut source, &mut into), Err(Failed));
-    assert_eq!(rt; give(&mut source, &mut into), Ok(2));
-    assert_eq!(rt; &into[..4], b"efcd".as_slice());
-    assert_eq!(rt; give(&mut source, &mut into), Ok(0));
+    expect_equal(&rt, give(&mut source, &mut into), Ok(4));
+    expect_equal(&rt, give(&mut source, &mut into), Err(Failed));
+    expect_equal(&rt, give(&mut source, &mut into), Ok(2));
+    expect_equal(&rt, &into[..4], b"efcd".as_slice());
+    expect_equal(&rt, give(&mut source, &mut into), Ok(0));
     let mut plain = PlainSource::new(b"xyz", 2);
-    assert_eq!(rt; give(&mut plain, &mut into), Ok(2));
-    assert_eq!(rt; give(&mut plain, &mut into), Ok(1));
-    assert_eq!(rt; give(&mut plain, &mut into), Ok(0));
+    expect_equal(&rt, give(&mut plain, &mut into), Ok(2));
+    expect_equal(&rt, give(&mut plain, &mut into), Ok(1));
+    expect_equal(&rt, give(&mut plain, &mut into), Ok(0));
     let mut standard = StdinSource::new(rt.stdin());
-    assert_eq!(rt; give(&mut standard, &mut []), Ok(0));
+    expect_equal(&rt, give(&mut standard, &mut []), Ok(0));
     Ok(())
 }
 
 #[test]
 fn sinks_take(rt: HostRuntime) -> Result<(), Fail> {
     let mut sink = MemorySink::new(rt.alloc(), 3, &[0])?;
-    assert_eq!(rt; take(&mut sink, b"ab"), Err(Failed));
-    assert_eq!(rt; take(&mut sink, b"ab"), Ok(2));
-    assert_eq!(rt; take(&mut sink, b"cd"), Ok(1));
-    assert_eq!(rt; take(&mut sink, b"d"), Err(Failed));
-    assert_eq!(rt; take(&mut sink, b""), Ok(0));
-    assert_eq!(rt; sink.held(), b"abc".as_slice());
+    expect_equal(&rt, take(&mut sink, b"ab"), Err(Failed));
+    expect_equal(&rt, take(&mut sink, b"ab"), Ok(2));
+    expect_equal(&rt, take(&mut sink, b"cd"), Ok(1));
+    expect_equal(&rt, take(&mut sink, b"d"), Err(Failed));
+    expect_equal(&rt, take(&mut sink, b""), Ok(0));
+    expect_equal(&rt, sink.held(), b"abc".as_slice());
     let mut plain = PlainSink::new();
-    assert_eq!(rt; take(&mut plain, b"abc"), Ok(3));
-    assert_eq!(rt; plain.taken(), 3);
+    expect_equal(&rt, take(&mut plain, b"abc"), Ok(3));
+    expect_equal(&rt, plain.taken(), 3);
     let mut standard = StdoutSink::new(rt.stdout());
-    assert_eq!(rt; take(&mut standard, b""), Ok(0));
+    expect_equal(&rt, take(&mut standard, b""), Ok(0));
     Ok(())
 }

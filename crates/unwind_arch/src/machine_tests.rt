@@ -5,6 +5,7 @@ ghost use Rattle.std.specs.Prelude.{◌≡◌, true, is_some};
 
 use crate::register::Register;
 use crate::register_map::RegisterMap;
+use crate::tests::expect_equal;
 use crate::{Machine, aarch64, loongarch64, riscv32, riscv64, x86};
 use std::test::Fail;
 
@@ -23,33 +24,36 @@ fn filled<M: Machine>(context: &M::Context) -> M::Context
 #[test]
 fn machines_of_64_bits_have_their_columns(rt: HostRuntime) -> Result<(), Fail> {
     let mut arm = filled::<aarch64::Arch>(&aarch64::Context::default());
-    assert_eq!(&rt;
+    expect_equal(
+        &rt,
         (arm.sp, arm.gp[30], arm.gp[0], arm.gp[1]),
-        (0x7ffe0000, 0x401000, 0xe0, 0xe1)
+        (0x7ffe0000, 0x401000, 0xe0, 0xe1),
     );
     let risc = filled::<riscv64::Arch>(&riscv64::Context::default());
-    assert_eq!(&rt;
+    expect_equal(
+        &rt,
         (risc.gp[2], risc.gp[1], risc.gp[10], risc.gp[11]),
-        (0x7ffe0000, 0x401000, 0xe0, 0xe1)
+        (0x7ffe0000, 0x401000, 0xe0, 0xe1),
     );
     let mut loong = filled::<loongarch64::Arch>(&loongarch64::Context::default());
-    assert_eq!(&rt;
+    expect_equal(
+        &rt,
         (loong.gp[3], loong.gp[1], loong.gp[4], loong.gp[5]),
-        (0x7ffe0000, 0x401000, 0xe0, 0xe1)
+        (0x7ffe0000, 0x401000, 0xe0, 0xe1),
     );
     arm.fp[0] = 64;
     arm.fp[31] = 95;
     for column in [64, 95] {
-        assert_eq!(&rt; arm.get(Register(column)), Some(u64::from(column)));
+        expect_equal(&rt, arm.get(Register(column)), Some(u64::from(column)));
     }
     for column in [32, 63, 96] {
-        assert_eq!(&rt; arm.set(Register(column), 1), None);
+        expect_equal(&rt, arm.set(Register(column), 1), None);
     }
     for column in [0, 31, 32, 40, 63] {
-        assert_eq!(&rt; loong.set(Register(column), 1), Some(()));
+        expect_equal(&rt, loong.set(Register(column), 1), Some(()));
     }
-    assert_eq!(&rt; (loong.gp[31], loong.fp[0], loong.fp[31]), (1, 1, 1));
-    assert_eq!(&rt; loong.set(Register(64), 1), None);
+    expect_equal(&rt, (loong.gp[31], loong.fp[0], loong.fp[31]), (1, 1, 1));
+    expect_equal(&rt, loong.set(Register(64), 1), None);
     Ok(())
 }
 
@@ -57,20 +61,21 @@ fn machines_of_64_bits_have_their_columns(rt: HostRuntime) -> Result<(), Fail> {
 fn machines_of_32_bits_have_their_columns(rt: HostRuntime) -> Result<(), Fail> {
     let mut intel = x86::Context::default();
     for column in [3, 8, 39] {
-        assert_eq!(&rt; intel.set(Register(column), 5), Some(()));
+        expect_equal(&rt, intel.set(Register(column), 5), Some(()));
     }
-    assert_eq!(&rt;
+    expect_equal(
+        &rt,
         (intel.registers[3], intel.ra, intel.mcxsr, intel.fcw),
-        (5, 5, 5, 0)
+        (5, 5, 5, 0),
     );
     for column in [9, 38, 40] {
-        assert_eq!(&rt; intel.get(Register(column)), None);
+        expect_equal(&rt, intel.get(Register(column)), None);
     }
     let mut risc = riscv32::Context::default();
-    assert_eq!(&rt; risc.set(Register(31), 5), Some(()));
-    assert_eq!(&rt; risc.gp[31], 5);
+    expect_equal(&rt, risc.set(Register(31), 5), Some(()));
+    expect_equal(&rt, risc.gp[31], 5);
     for column in [32, 40, 63] {
-        assert_eq!(&rt; risc.set(Register(column), 5), None);
+        expect_equal(&rt, risc.set(Register(column), 5), None);
     }
     Ok(())
 }

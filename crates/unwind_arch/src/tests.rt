@@ -6,7 +6,14 @@ use crate::Machine;
 use crate::register::Register;
 use crate::register_map::RegisterMap;
 use crate::x86_64::{Arch, Context};
+use std::fmt::Debug;
+use std::process::Abort;
 use std::test::Fail;
+
+/// Asserts that a value is the one that is expected. It is proved once, and a call of it is a call.
+pub(crate) fn expect_equal<T: PartialEq + Debug + Drop>(rt: &impl Abort, value: T, expected: T) {
+    assert_eq!(rt; value, expected);
+}
 
 // What a machine's stack pointer holds, by the machine alone.
 fn stack_pointer<M: Machine>(context: &M::Context) -> Option<u64>
@@ -22,23 +29,23 @@ fn columns_are_those_of_the_abi(rt: HostRuntime) -> Result<(), Fail> {
     context.ra = 0x401000;
     context.mcxsr = 0x1f80;
     context.fcw = 0x37f;
-    assert_eq!(&rt; context.get(Register(3)), Some(0x33));
-    assert_eq!(&rt; context.get(Register(16)), Some(0x401000));
-    assert_eq!(&rt; context.get(Register(64)), Some(0x1f80));
-    assert_eq!(&rt; context.get(Register(65)), Some(0x37f));
-    assert_eq!(&rt; context.get(Register(17)), None);
-    assert_eq!(&rt; context.set(Register(15), 5), Some(()));
-    assert_eq!(&rt; context.registers[15], 5);
-    assert_eq!(&rt; context.set(Register(66), 5), None);
+    expect_equal(&rt, context.get(Register(3)), Some(0x33));
+    expect_equal(&rt, context.get(Register(16)), Some(0x401000));
+    expect_equal(&rt, context.get(Register(64)), Some(0x1f80));
+    expect_equal(&rt, context.get(Register(65)), Some(0x37f));
+    expect_equal(&rt, context.get(Register(17)), None);
+    expect_equal(&rt, context.set(Register(15), 5), Some(()));
+    expect_equal(&rt, context.registers[15], 5);
+    expect_equal(&rt, context.set(Register(66), 5), None);
     Ok(())
 }
 
 #[test]
 fn a_machine_names_its_columns(rt: HostRuntime) -> Result<(), Fail> {
     let mut context = Context::default();
-    assert_eq!(&rt; context.set(Register(7), 0x7ffe0000), Some(()));
-    assert_eq!(&rt; stack_pointer::<Arch>(&context), Some(0x7ffe0000));
-    assert_eq!(&rt; context.set(Arch::UNWIND_DATA_REG.1, 9), Some(()));
-    assert_eq!(&rt; context.registers[1], 9);
+    expect_equal(&rt, context.set(Register(7), 0x7ffe0000), Some(()));
+    expect_equal(&rt, stack_pointer::<Arch>(&context), Some(0x7ffe0000));
+    expect_equal(&rt, context.set(Arch::UNWIND_DATA_REG.1, 9), Some(()));
+    expect_equal(&rt, context.registers[1], 9);
     Ok(())
 }

@@ -4,7 +4,7 @@
 ghost use Rattle.std.specs.Prelude.{◌≡◌, ◌≢◌, ℕ, Some, None, ◌==◌, is_some, OnSome, IfNone};
 ghost use Rattle.std.specs.Prelude.{if◌then◌else◌};
 
-use super::*;
+use frame_expressions::*;
 use memory_image::{ImageError, MemoryImage};
 use std::alloc::Global;
 use std::process::Abort;

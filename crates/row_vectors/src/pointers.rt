@@ -1,6 +1,6 @@
 //! Numbers and pointers, with the values that the standard and Python's `struct` give them.
 
-use super::*;
+use encoded_pointers::*;
 
 // Whether a number in LEB128 is read so, by so many bytes.
 fn unsigned(bytes: &[u8], number: Result<u64, Error>, size: u64) -> bool {
