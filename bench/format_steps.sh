@@ -11,7 +11,7 @@
 # shellcheck source-path=SCRIPTDIR source=common.sh
 . "$(dirname "$0")/common.sh"
 
-add_program format_steps memory_image unwind_arch eh_frame format_frames anyhow <<'RATTLE'
+add_program format_steps memory_image unwind_arch eh_frame unwinding_frames format_frames anyhow <<'RATTLE'
 //! Steps in a PE module and in a Mach-O module of 100,000 functions each.
 #![tactic(auto)]
 
@@ -22,6 +22,7 @@ use memory_image::MemoryImage;
 use std::alloc::{AllocError, Global};
 use std::env;
 use unwind_arch::x86_64::{Context, RBP, RSP};
+use unwinding_frames::Window;
 
 const PAGES: u32 = 1_000;
 const PAGE_FUNCTIONS: u16 = 100;
@@ -99,6 +100,7 @@ fn next_address(state: &mut u32, base: u64, apart: u32, from: u32) -> u64 {
 }
 
 fn pe_steps(image: &MemoryImage<'_>, context: &Context, inside: u32, count: u32) -> Result<u64> {
+    let mut stack = Window::new(image, context.registers[RSP]);
     let module = PeModule {
         base: PE_BASE,
         size: 0x300_0000,
@@ -112,12 +114,13 @@ fn pe_steps(image: &MemoryImage<'_>, context: &Context, inside: u32, count: u32)
         if address < PE_BASE || address - PE_BASE > 0xffff_ffff {
             bail!("outside");
         }
-        sum = sum.wrapping_add(pe_step(image, &module, address, context)?.ra);
+        sum = sum.wrapping_add(pe_step(&mut stack, &module, address, context)?.ra);
     }
     Ok(sum)
 }
 
 fn macho_steps(image: &MemoryImage<'_>, context: &Context, count: u32) -> Result<u64> {
+    let mut stack = Window::new(image, context.registers[RSP]);
     let module = MachoModule {
         base: MACHO_BASE,
         size: 0x1000_0000,
@@ -132,7 +135,7 @@ fn macho_steps(image: &MemoryImage<'_>, context: &Context, count: u32) -> Result
         if address < MACHO_BASE || address - MACHO_BASE > 0xffff_ffff {
             bail!("outside");
         }
-        match macho_step(image, &module, address, context, &mut rows)? {
+        match macho_step(&mut stack, &module, address, context, &mut rows)? {
             Some(stepped) => sum = sum.wrapping_add(stepped.context.ra),
             None => bail!("end"),
         }
