@@ -28,5 +28,11 @@ KEPT long growing(long n) {
 }
 
 int main(void) {
+#ifdef EVERY_INSTRUCTION
+    /* With the loop's other numbers of turns each instruction runs. */
+    char one;
+    return (int)growing(30) + (int)fill(0, 0) + (int)fill(&one, 1);
+#else
     return (int)growing(30);
+#endif
 }
