@@ -35,6 +35,10 @@ KEPT Word counting(Word turns) {
 
 /* A call at the end, which is a jump where it is optimised. */
 KEPT Word ending(Word turns) {
+#ifdef EVERY_INSTRUCTION
+    /* With other numbers of turns each instruction of `counting` runs. */
+    turns += (counting(0) + counting(40)) % 2;
+#endif
     Word sum = counting(turns);
     return leaf(sum, counting(turns + 1));
 }
