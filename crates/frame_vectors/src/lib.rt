@@ -1,17 +1,27 @@
-//! Worked examples of call frames, language tables and stacks, and tables that compilers made, as
-//! tests. There is nothing here to call.
+//! Worked examples of finders, call frames, language tables, stacks and generated chains, and what
+//! compilers' tables ask, as tests. There is nothing here to call.
 #![tactic(auto)]
 
 #[cfg(test)]
 mod asserting;
 #[cfg(test)]
+mod cases;
+#[cfg(test)]
+mod chains;
+#[cfg(test)]
 mod frames;
 #[cfg(test)]
 mod fronts;
 #[cfg(test)]
+mod headers;
+#[cfg(test)]
 mod languages;
 #[cfg(test)]
+mod objects;
+#[cfg(test)]
 mod prepared;
+#[cfg(test)]
+mod registered;
 #[cfg(test)]
 mod resumes;
 #[cfg(test)]

@@ -1,5 +1,5 @@
-//! Worked examples of Mach-O and PE unwind data, and sections that compilers and linkers made, as
-//! tests. There is nothing here to call.
+//! Worked examples of Mach-O and PE unwind data and of steps in such modules, and sections that
+//! compilers and linkers made, as tests. There is nothing here to call.
 #![tactic(auto)]
 
 #[cfg(test)]
@@ -10,3 +10,5 @@ mod macho_damaged;
 mod macho_linked;
 #[cfg(test)]
 mod pe;
+#[cfg(test)]
+mod steps;

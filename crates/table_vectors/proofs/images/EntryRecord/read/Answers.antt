@@ -1,6 +1,6 @@
 use Rattle.std.proofs.Common.{◌≡◌, ◌∙◌, lit≤, arith}
 use Rattle.memory_image.specs.Words.{u16_at, u32_at, u16_at-take, u32_at-take, from_le_bytes-u16_at, from_le_bytes-u32_at}
-use Rattle.memory_image.proofs.tests.EntryRecord.read.Goals as goal
+use Rattle.table_vectors.proofs.images.EntryRecord.read.Goals as goal
 
 pub returns : goal.returns
 returns c =

@@ -1,0 +1,186 @@
+// Images of memory, records, counted steps and the two ends: outside values, that calls can succeed,
+// and each type through its trait once.
+ghost use Rattle.std.specs.Prelude.{◌+◌, ◌≤◌, ◌^◌, length};
+
+use crate::asserting::expect_equal;
+use memory_image::{
+    Counted, Failed, ImageError, Ledger, MemoryImage, MemorySink, MemorySource, NoLedger,
+    PlainSink, PlainSource, Record, Records, Sink, Source, StdinSource, StdoutSink, Steps,
+};
+use std::test::Fail;
+
+/// A record of two numbers, as formats have them: an address at 0 and a size at 4.
+#[derive(Clone, Copy, Debug, PartialEq, Eq)]
+struct Entry {
+    address: u32,
+    size: u16,
+}
+
+impl Record for Entry {
+    ghost use Rattle.std.proofs.Common.{ℕ, ◌≡◌, ◌∙◌, ◌+◌, ◌≤◌, List, length, drop, ap, sym, subst};
+    ghost use Rattle.std.proofs.Common.{lit≤};
+    ghost use Rattle.memory_image.specs.Words.{u16_at, u32_at, same_from_u16_at, same_from_u32_at};
+    ghost use Rattle.memory_image.specs.Words.{same_end};
+    ghost use Rattle.table_vectors.specs.declared.images.Entry.{Entry as Value};
+
+    const SIZE: usize = 6;
+
+    ghost SIZE = { 6 };
+
+    ghost value_of = { λ bytes. record { address = u32_at bytes 0; size = u16_at bytes 4 } };
+
+    fn read(bytes: &[u8]) -> Entry {
+        Entry {
+            address: u32::from_le_bytes([bytes[0], bytes[1], bytes[2], bytes[3]]),
+            size: u16::from_le_bytes([bytes[4], bytes[5]]),
+        }
+    }
+
+    ghost has_size = { lit≤ tt };
+
+    ghost keeps_all = { λ xs ys m n b c e.
+        let same : length xs ≡ length ys = m ∙ sym n in
+        let sizes : drop 4 xs ≡ drop 4 ys = same_from_u16_at xs ys 4 same (subst (λ l. 6 ≤ l) (sym m) (lit≤ tt)) b c (ap (λ (v : Value). v.size) e) (same_end 6 xs ys m n) in
+        same_from_u32_at xs ys 0 same (subst (λ l. 4 ≤ l) (sym m) (lit≤ tt)) b c (ap (λ (v : Value). v.address) e) sizes };
+}
+
+#[test]
+fn regions_are_taken_or_refused(rt: HostRuntime) -> Result<(), Fail> {
+    let mut image = MemoryImage::new(rt.alloc());
+    expect_equal(&rt, image.add(0x7000, &[]), Err(ImageError::Empty));
+    expect_equal(&rt, image.add(u64::MAX, &[7]), Ok(()));
+    expect_equal(&rt, image.add(u64::MAX, &[7, 8]), Err(ImageError::Wraps));
+    expect_equal(&rt, image.add(0x7000, &[0xaa; 16]), Ok(()));
+    expect_equal(
+        &rt,
+        image.add(0x7008, &[0; 16]),
+        Err(ImageError::Overlap(0x7000)),
+    );
+    expect_equal(&rt, image.add(0x7010, &[1, 2, 3, 4]), Ok(()));
+    expect_equal(
+        &rt,
+        image.add(0x6fff, &[9; 100]),
+        Err(ImageError::Overlap(0x7000)),
+    );
+    expect_equal(&rt, image.read_u64(0x7008), Some(0xaaaa_aaaa_aaaa_aaaa));
+    expect_equal(&rt, image.read_u64(0x700c), Some(0x0403_0201_aaaa_aaaa));
+    expect_equal(&rt, image.read_u64(0x700d), None);
+    expect_equal(&rt, image.read_u32(0x7010), Some(0x0403_0201));
+    expect_equal(&rt, image.read_u32(0x700f), Some(0x0302_01aa));
+    expect_equal(&rt, image.read_u32(0x7012), None);
+    expect_equal(&rt, image.read_u64(u64::MAX), None);
+    expect_equal(&rt, image.byte(u64::MAX), Some(7));
+    expect_equal(&rt, image.byte(0x6fff), None);
+    expect_equal(&rt, image.from(0x700e), Some([0xaa, 0xaa].as_slice()));
+    expect_equal(&rt, image.from(0x7014).is_none(), true);
+    Ok(())
+}
+
+#[test]
+fn errors_are_told(rt: HostRuntime) -> Result<(), Fail> {
+    for (error, text) in [
+        (ImageError::Empty, "empty region"),
+        (ImageError::Wraps, "region past the last address"),
+        (
+            ImageError::Overlap(0x7000),
+            "region overlaps the one at 0x7000",
+        ),
+        (ImageError::NoMemory, "no memory"),
+    ] {
+        expect_equal(&rt, format!(in rt.alloc(); "{error}")?.as_str(), text);
+    }
+    Ok(())
+}
+
+fn first<T: Record>(records: &Records<'_, T>) -> Option<T> {
+    records.get(0)
+}
+
+#[test]
+fn records_are_read(rt: HostRuntime) -> Result<(), Fail> {
+    let bytes = [9, 0x10, 0x20, 0x40, 0, 3, 0, 0x11, 0x20, 0x40, 0, 4, 1, 9];
+    let records = Records::<Entry>::over(&bytes, 1, 2).ok_or("fits")?;
+    let second = Entry {
+        address: 0x40_2011,
+        size: 0x104,
+    };
+    expect_equal(&rt, records.len(), 2);
+    expect_equal(&rt, records.get(1), Some(second));
+    expect_equal(&rt, first(&records.after(1)), Some(second));
+    expect_equal(&rt, records.get(2), None);
+    expect_equal(&rt, records.after(usize::MAX).len(), 0);
+    expect_equal(&rt, Records::<Entry>::over(&bytes, 3, 2).is_none(), true);
+    expect_equal(&rt, Records::<Entry>::over(&bytes, 14, 0).is_some(), true);
+    expect_equal(
+        &rt,
+        Records::<Entry>::over(&bytes, u64::MAX, 0).is_none(),
+        true,
+    );
+    expect_equal(
+        &rt,
+        Records::<Entry>::over(&bytes, 0, usize::MAX).is_none(),
+        true,
+    );
+    Ok(())
+}
+
+fn take_two<L: Ledger>(steps: &mut Steps<L>) {
+    steps.tick();
+    steps.tick();
+}
+
+#[test]
+fn steps_are_counted(rt: HostRuntime) -> Result<(), Fail> {
+    let mut counted = Steps::new(Counted { count: 0 });
+    take_two(&mut counted);
+    expect_equal(&rt, counted.ledger().count, 2);
+    let mut none = Steps::new(NoLedger);
+    take_two(&mut none);
+    expect_equal(&rt, *none.ledger(), NoLedger);
+    expect_equal(&rt, std::mem::size_of::<Steps<NoLedger>>(), 0);
+    expect_equal(&rt, std::mem::size_of::<Steps<Counted>>(), 8);
+    Ok(())
+}
+
+fn give<S: Source>(source: &mut S, into: &mut [u8]) -> Result<usize, Failed> {
+    source.read(into)
+}
+
+fn take<S: Sink>(sink: &mut S, from: &[u8]) -> Result<usize, Failed> {
+    sink.write(from)
+}
+
+#[test]
+fn sources_give(rt: HostRuntime) -> Result<(), Fail> {
+    let mut into = [0; 8];
+    let mut source = MemorySource::new(b"abcdef", 4, &[1]);
+    expect_equal(&rt, give(&mut source, &mut into), Ok(4));
+    expect_equal(&rt, give(&mut source, &mut into), Err(Failed));
+    expect_equal(&rt, give(&mut source, &mut into), Ok(2));
+    expect_equal(&rt, &into[..4], b"efcd".as_slice());
+    expect_equal(&rt, give(&mut source, &mut into), Ok(0));
+    let mut plain = PlainSource::new(b"xyz", 2);
+    expect_equal(&rt, give(&mut plain, &mut into), Ok(2));
+    expect_equal(&rt, give(&mut plain, &mut into), Ok(1));
+    expect_equal(&rt, give(&mut plain, &mut into), Ok(0));
+    let mut standard = StdinSource::new(rt.stdin());
+    expect_equal(&rt, give(&mut standard, &mut []), Ok(0));
+    Ok(())
+}
+
+#[test]
+fn sinks_take(rt: HostRuntime) -> Result<(), Fail> {
+    let mut sink = MemorySink::new(rt.alloc(), 3, &[0])?;
+    expect_equal(&rt, take(&mut sink, b"ab"), Err(Failed));
+    expect_equal(&rt, take(&mut sink, b"ab"), Ok(2));
+    expect_equal(&rt, take(&mut sink, b"cd"), Ok(1));
+    expect_equal(&rt, take(&mut sink, b"d"), Err(Failed));
+    expect_equal(&rt, take(&mut sink, b""), Ok(0));
+    expect_equal(&rt, sink.held(), b"abc".as_slice());
+    let mut plain = PlainSink::new();
+    expect_equal(&rt, take(&mut plain, b"abc"), Ok(3));
+    expect_equal(&rt, plain.taken(), 3);
+    let mut standard = StdoutSink::new(rt.stdout());
+    expect_equal(&rt, take(&mut standard, b""), Ok(0));
+    Ok(())
+}
