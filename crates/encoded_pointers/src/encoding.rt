@@ -1,6 +1,7 @@
 //! How a pointer in call frame bytes is encoded. LSB, DWARF exception header encoding.
 
 ghost use Rattle.std.specs.Prelude.{◌≡◌, ◌==◌, OnErr};
+ghost use Rattle.unwind_definitions.specs.PointerEncodings.{DW_EH_PE_omit};
 ghost use Rattle.unwind_definitions.specs.Pointers.{application_of, encoding, format_of};
 ghost use Rattle.unwind_definitions.specs.Pointers.{is_indirect, is_known};
 ghost use Rattle.encoded_pointers.specs.Readers.{GivesOr};
@@ -57,7 +58,7 @@ impl DwEhPe {
 
     /// Whether there is no pointer: `DW_EH_PE_omit`.
     pub fn is_absent(self) -> bool
-        ensures { result ≡ (self.0 == 0xff) }
+        ensures { result ≡ (self.0 == DW_EH_PE_omit) }
     {
         self == DwEhPe::OMIT
     }

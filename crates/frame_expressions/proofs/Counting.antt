@@ -8,7 +8,7 @@ use Rattle.unwind_definitions.specs.declared.error.Error.TheVariants.{StackFull,
 use Rattle.unwind_definitions.specs.Input.{Input}
 use Rattle.unwind_definitions.specs.Caller.{Columns, StepFault, Table, Unmapped, column_or_fault, fault_in}
 use Rattle.unwind_definitions.specs.Operations.{Operation, Nop, Pop, Swap, Rotate, Push, PushColumn, Pick, Load, Change, Combine, Divide, Skip, Branch, operation}
-use Rattle.unwind_definitions.specs.Expressions.{Configuration, push, pick, popped, swapped, rotated, changed, combined, divided, goes_on, within, moved, branched, loaded, loaded_or_fault, pushed_column, done, done_where_read, step, rest_at, last_of, is_at_end, top_of, fault_at, HasFault, IsEndless}
+use Rattle.unwind_definitions.specs.Expressions.{Configuration, push, pick, after_pop, after_swap, after_rotation, after_change, after_combination, after_division, goes_on, within, after_move, after_branch, after_load, load_or_fault, after_column_push, done, done_where_read, step, rest_at, last_of, is_at_end, top_of, fault_at, HasFault, IsEndless}
 use Rattle.frame_expressions.proofs.Within.{operation_counts_none}
 
 -- a result that doesn't tell of too many operations
@@ -57,31 +57,31 @@ pick_counts n stack = go (slice_get stack n) refl
     go None e = rw e empty_apart
     go (Some a) e = rw e (push_counts a stack)
 
-popped_counts : (stack : List ℕ) → CountsNone (popped stack)
+popped_counts : (stack : List ℕ) → CountsNone (after_pop stack)
 popped_counts [] = empty_apart
 popped_counts (a ∷ stack) = tt
 
-swapped_counts : (stack : List ℕ) → CountsNone (swapped stack)
+swapped_counts : (stack : List ℕ) → CountsNone (after_swap stack)
 swapped_counts [] = empty_apart
 swapped_counts (a ∷ []) = empty_apart
 swapped_counts (a ∷ b ∷ stack) = tt
 
-rotated_counts : (stack : List ℕ) → CountsNone (rotated stack)
+rotated_counts : (stack : List ℕ) → CountsNone (after_rotation stack)
 rotated_counts [] = empty_apart
 rotated_counts (a ∷ []) = empty_apart
 rotated_counts (a ∷ b ∷ []) = empty_apart
 rotated_counts (a ∷ b ∷ c ∷ stack) = tt
 
-changed_counts : (f : ℕ → ℕ) (stack : List ℕ) → CountsNone (changed f stack)
+changed_counts : (f : ℕ → ℕ) (stack : List ℕ) → CountsNone (after_change f stack)
 changed_counts f [] = empty_apart
 changed_counts f (a ∷ stack) = tt
 
-combined_counts : (f : ℕ → ℕ → ℕ) (stack : List ℕ) → CountsNone (combined f stack)
+combined_counts : (f : ℕ → ℕ → ℕ) (stack : List ℕ) → CountsNone (after_combination f stack)
 combined_counts f [] = empty_apart
 combined_counts f (a ∷ []) = empty_apart
 combined_counts f (a ∷ b ∷ stack) = tt
 
-divided_counts : (f : ℕ → ℕ → ℕ) (stack : List ℕ) → CountsNone (divided f stack)
+divided_counts : (f : ℕ → ℕ → ℕ) (stack : List ℕ) → CountsNone (after_division f stack)
 divided_counts f [] = empty_apart
 divided_counts f (a ∷ []) = empty_apart
 divided_counts f (b ∷ a ∷ stack) = chosen (b == 0) (Err DivisionByZero) (Ok (f a b ∷ stack)) division_apart tt
@@ -93,24 +93,24 @@ goes_on_tells next (Err e) h = h
 within_tells : (x : List ℕ) (target : ℕ) (stack : List ℕ) → TellsNone (within x target stack)
 within_tells x target stack = chosen_step (nat_le target (length x)) (Ok (record { position = target; stack = stack })) (Err (Table BadBranch)) tt branch_apart
 
-moved_tells : (x : List ℕ) (next distance : ℕ) (stack : List ℕ) → TellsNone (moved x next distance stack)
+moved_tells : (x : List ℕ) (next distance : ℕ) (stack : List ℕ) → TellsNone (after_move x next distance stack)
 moved_tells x next distance stack =
     chosen_step (nat_lt distance (2 ^ 63)) _ _ (within_tells x (next + distance) stack)
     (chosen_step (nat_lt next (2 ^ 64 - distance)) (Err (Table BadBranch)) (within x (next - (2 ^ 64 - distance)) stack) branch_apart (within_tells x (next - (2 ^ 64 - distance)) stack))
 
-branched_tells : (x : List ℕ) (next distance : ℕ) (stack : List ℕ) → TellsNone (branched x next distance stack)
+branched_tells : (x : List ℕ) (next distance : ℕ) (stack : List ℕ) → TellsNone (after_branch x next distance stack)
 branched_tells x next distance [] = empty_apart
-branched_tells x next distance (a ∷ stack) = chosen_step (a == 0) (Ok (record { position = next; stack = stack })) (moved x next distance stack) tt (moved_tells x next distance stack)
+branched_tells x next distance (a ∷ stack) = chosen_step (a == 0) (Ok (record { position = next; stack = stack })) (after_move x next distance stack) tt (moved_tells x next distance stack)
 
-loaded_tells : (image : List Span) (next n : ℕ) (stack : List ℕ) → TellsNone (loaded image next n stack)
+loaded_tells : (image : List Span) (next n : ℕ) (stack : List ℕ) → TellsNone (after_load image next n stack)
 loaded_tells image next n [] = empty_apart
 loaded_tells image next n (a ∷ stack) = go (number_at image a n)
   where
-    go : (v : Option ℕ) → TellsNone (loaded_or_fault next a stack v)
+    go : (v : Option ℕ) → TellsNone (load_or_fault next a stack v)
     go None = tt
     go (Some v) = tt
 
-pushed_column_tells : (next n : ℕ) (stack : List ℕ) (v : Option ℕ) → TellsNone (pushed_column next n stack (column_or_fault v))
+pushed_column_tells : (next n : ℕ) (stack : List ℕ) (v : Option ℕ) → TellsNone (after_column_push next n stack (column_or_fault v))
 pushed_column_tells next n stack None = register_apart
 pushed_column_tells next n stack (Some v) = goes_on_tells next _ (push_counts _ stack)
 

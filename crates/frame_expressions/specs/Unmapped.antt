@@ -11,7 +11,7 @@ use Rattle.unwind_definitions.specs.Input.{Input, Reads, number, sleb}
 use Rattle.unwind_definitions.specs.Instructions.{column}
 use Rattle.unwind_definitions.specs.Caller.{Columns, StepFault, Table, Unmapped, column_or_fault, fault_in}
 use Rattle.unwind_definitions.specs.Operations.{Operation, Nop, Pop, Swap, Rotate, Push, PushColumn, Pick, Load, Change, Combine, Divide, Skip, Branch, says, with_operand, pushes_column, loads, unknown, constant, rearrangement, arithmetic, decision, extension, operation_of, operation}
-use Rattle.unwind_definitions.specs.Expressions.{Configuration, goes_on, within, moved, branched, loaded, loaded_or_fault, pushed_column, done, done_where_read, step, rest_at, last_of, is_at_end, top_of, fault_at, HasFault, begun, operation_limit, evaluation}
+use Rattle.unwind_definitions.specs.Expressions.{Configuration, goes_on, within, after_move, after_branch, after_load, load_or_fault, after_column_push, done, done_where_read, step, rest_at, last_of, is_at_end, top_of, fault_at, HasFault, begun, operation_limit, evaluation}
 use Rattle.frame_expressions.specs.Runs.{answer_is}
 
 -- ---- the numbers that operations read
@@ -168,25 +168,25 @@ goes_on_missing image next (Err e) = tt
 within_missing : (image : List Span) (x : List ℕ) (target : ℕ) (stack : List ℕ) → Missing image (within x target stack)
 within_missing image x target stack = chosen image (nat_le target (length x)) (Ok (record { position = target; stack = stack })) (Err (Table BadBranch)) tt tt
 
-moved_missing : (image : List Span) (x : List ℕ) (next distance : ℕ) (stack : List ℕ) → Missing image (moved x next distance stack)
+moved_missing : (image : List Span) (x : List ℕ) (next distance : ℕ) (stack : List ℕ) → Missing image (after_move x next distance stack)
 moved_missing image x next distance stack =
     chosen image (nat_lt distance (2 ^ 63)) _ _ (within_missing image x (next + distance) stack)
     (chosen image (nat_lt next (2 ^ 64 - distance)) (Err (Table BadBranch)) (within x (next - (2 ^ 64 - distance)) stack) tt (within_missing image x (next - (2 ^ 64 - distance)) stack))
 
-branched_missing : (image : List Span) (x : List ℕ) (next distance : ℕ) (stack : List ℕ) → Missing image (branched x next distance stack)
+branched_missing : (image : List Span) (x : List ℕ) (next distance : ℕ) (stack : List ℕ) → Missing image (after_branch x next distance stack)
 branched_missing image x next distance [] = tt
-branched_missing image x next distance (a ∷ stack) = chosen image (a == 0) (Ok (record { position = next; stack = stack })) (moved x next distance stack) tt (moved_missing image x next distance stack)
+branched_missing image x next distance (a ∷ stack) = chosen image (a == 0) (Ok (record { position = next; stack = stack })) (after_move x next distance stack) tt (moved_missing image x next distance stack)
 
-loaded_missing : (image : List Span) (next n : ℕ) (stack : List ℕ) → n ≤ 8 → Missing image (loaded image next n stack)
+loaded_missing : (image : List Span) (next n : ℕ) (stack : List ℕ) → n ≤ 8 → Missing image (after_load image next n stack)
 unfolding word_at
 loaded_missing image next n [] h = tt
 loaded_missing image next n (a ∷ stack) h = go (number_at image a n) refl
   where
-    go : (v : Option ℕ) → number_at image a n ≡ v → Missing image (loaded_or_fault next a stack v)
+    go : (v : Option ℕ) → number_at image a n ≡ v → Missing image (load_or_fault next a stack v)
     go None e = more_unmapped image a n 8 h e
     go (Some v) e = tt
 
-pushed_column_missing : (image : List Span) (next n : ℕ) (stack : List ℕ) (v : Option ℕ) → Missing image (pushed_column next n stack (column_or_fault v))
+pushed_column_missing : (image : List Span) (next n : ℕ) (stack : List ℕ) (v : Option ℕ) → Missing image (after_column_push next n stack (column_or_fault v))
 pushed_column_missing image next n stack None = tt
 pushed_column_missing image next n stack (Some v) = goes_on_missing image next _
 

@@ -4,8 +4,8 @@ ghost use Rattle.std.specs.Prelude.{◌≡◌, ℕ, List, Result, ◌≤◌, ◌
 ghost use Rattle.memory_image.specs.Image.{number_at};
 ghost use Rattle.unwind_definitions.specs.declared.error.Error.{Error as Fault};
 ghost use Rattle.unwind_definitions.specs.Caller.{column_or_fault};
-ghost use Rattle.unwind_definitions.specs.Expressions.{done, goes_on, moved, branched, loaded};
-ghost use Rattle.unwind_definitions.specs.Expressions.{pushed_column};
+ghost use Rattle.unwind_definitions.specs.Expressions.{done, goes_on, after_move, after_branch, after_load};
+ghost use Rattle.unwind_definitions.specs.Expressions.{after_column_push};
 ghost use Rattle.frame_expressions.specs.OperationViews.{meaning};
 ghost use Rattle.frame_expressions.specs.Answers.{GoesOn, Leaves};
 
@@ -73,7 +73,7 @@ fn push_register<R: RegisterMap<Word = u64>>(
     registers: &R,
 ) -> Result<u64, EvalError>
     ensures does { GoesOn result stack.new
-        (pushed_column next offset stack.old
+        (after_column_push next offset stack.old
         (column_or_fault (R.columns registers.now register.0))) }
     ensures within { IfOk result (λ n. n ≡ next) }
 {
@@ -89,7 +89,7 @@ fn load(
     stack: &mut Stack,
     image: &MemoryImage<'_>,
 ) -> Result<u64, EvalError>
-    ensures does { GoesOn result stack.new (loaded image.now next count.count stack.old) }
+    ensures does { GoesOn result stack.new (after_load image.now next count.count stack.old) }
     ensures within { IfOk result (λ n. n ≡ next) }
 {
     let address = stack.pop()?;
@@ -119,7 +119,7 @@ fn target(distance: u64, next: u64, end: u64) -> Result<u64, EvalError>
     requires next { next ≤ end }
     requires end { end < 2 ^ 63 }
     ensures leads { (expression stack : List ℕ) → length expression ≡ end →
-        GoesOn result stack (moved expression next distance stack) }
+        GoesOn result stack (after_move expression next distance stack) }
     ensures within { IfOk result (λ n. n ≤ end) }
 {
     let target = next.wrapping_add(distance);
@@ -134,7 +134,7 @@ fn branch(distance: u64, next: u64, end: u64, stack: &mut Stack) -> Result<u64, 
     requires next { next ≤ end }
     requires end { end < 2 ^ 63 }
     ensures leads { (expression : List ℕ) → length expression ≡ end →
-        GoesOn result stack.new (branched expression next distance stack.old) }
+        GoesOn result stack.new (after_branch expression next distance stack.old) }
     ensures within { IfOk result (λ n. n ≤ end) }
 {
     let word = stack.pop()?;

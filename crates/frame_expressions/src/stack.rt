@@ -1,8 +1,9 @@
 //! The stack that expressions work on. DWARF 5 section 2.5.1.
 
 ghost use Rattle.std.specs.Prelude.{◌≡◌, ◌≢◌, ◌<◌, ◌∷◌, [], OnErr, IfOk, IfErr};
-ghost use Rattle.unwind_definitions.specs.Expressions.{push, pick, popped, swapped, rotated};
-ghost use Rattle.unwind_definitions.specs.Expressions.{changed, combined, divided, top_of};
+ghost use Rattle.unwind_definitions.specs.Expressions.{push, pick, after_pop, after_swap};
+ghost use Rattle.unwind_definitions.specs.Expressions.{after_rotation, after_change};
+ghost use Rattle.unwind_definitions.specs.Expressions.{after_combination, after_division, top_of};
 ghost use Rattle.frame_expressions.specs.OperationViews.{changed_by, combined_by, divided_by};
 ghost use Rattle.frame_expressions.specs.Answers.{Leaves, stack_of};
 
@@ -91,7 +92,7 @@ impl Stack {
 
     /// Takes the top away and doesn't look at it.
     pub(crate) fn discard(&mut self) -> Result<(), Error>
-        ensures { Leaves result self.new (popped self.old) }
+        ensures { Leaves result self.new (after_pop self.old) }
     {
         let _ = self.pop()?;
         Ok(())
@@ -99,7 +100,7 @@ impl Stack {
 
     /// Exchanges the top and the second word.
     pub(crate) fn swap(&mut self) -> Result<(), Error>
-        ensures { Leaves result self.new (swapped self.old) }
+        ensures { Leaves result self.new (after_swap self.old) }
     {
         let top = self.pop()?;
         let second = self.pop()?;
@@ -109,7 +110,7 @@ impl Stack {
 
     /// Makes the top the third word, the second the top, and the third the second.
     pub(crate) fn rotate(&mut self) -> Result<(), Error>
-        ensures { Leaves result self.new (rotated self.old) }
+        ensures { Leaves result self.new (after_rotation self.old) }
     {
         let top = self.pop()?;
         let second = self.pop()?;
@@ -121,7 +122,7 @@ impl Stack {
 
     /// Puts another word in the place of the top.
     pub(crate) fn change(&mut self, change: Change) -> Result<(), Error>
-        ensures { Leaves result self.new (changed (changed_by change) self.old) }
+        ensures { Leaves result self.new (after_change (changed_by change) self.old) }
     {
         let word = self.pop()?;
         self.push(words::changed(change, word))
@@ -129,7 +130,7 @@ impl Stack {
 
     /// Puts one word in the place of the second and the top.
     pub(crate) fn combine(&mut self, combination: Combination) -> Result<(), Error>
-        ensures { Leaves result self.new (combined (combined_by combination) self.old) }
+        ensures { Leaves result self.new (after_combination (combined_by combination) self.old) }
     {
         let top = self.pop()?;
         let second = self.pop()?;
@@ -138,7 +139,7 @@ impl Stack {
 
     /// Puts a quotient or a remainder in the place of the second word and the top.
     pub(crate) fn divide(&mut self, division: Division) -> Result<(), Error>
-        ensures { Leaves result self.new (divided (divided_by division) self.old) }
+        ensures { Leaves result self.new (after_division (divided_by division) self.old) }
     {
         let top = self.pop()?;
         let second = self.pop()?;

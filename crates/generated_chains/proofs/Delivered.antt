@@ -7,7 +7,7 @@ use Rattle.std.proofs.lemmas.List.{length-append, length-map}
 use Rattle.std.proofs.lemmas.Bool.{ne_eqb, eq-eqb, cases_eq}
 use Rattle.unwind_definitions.specs.State.{State}
 use Rattle.unwind_definitions.specs.Function.{Action, NoAction, Cleanup, Catch}
-use Rattle.unwind_definitions.specs.Delivery.{Frame, frames_of, action_of_frame, decides, is_deciding, cleanup_of, cleanup_pad, Delivery, delivery_of, installed, states_in}
+use Rattle.unwind_definitions.specs.Delivery.{Frame, frames_of, action_of_frame, decides, is_deciding, cleanup_of, cleanup_pad, Delivery, delivery_of, delivery_at_handler, states_in}
 use Rattle.generated_chains.specs.declared.outline.Handling.{Handling}
 use Rattle.generated_chains.specs.declared.outline.Handling.TheVariants.{PassesOn, CleansUp, Catches}
 use Rattle.generated_chains.specs.declared.outline.Outline.{Outline}
@@ -99,7 +99,7 @@ caught exception seed (suc outer) some =
     let s : State = state_of seed (outlines seed (suc outer)) in
     let c = caught_from seed seed 0 outer in
     let inside : List Frame = before_first is_deciding (frames_of s (calls_of seed (outlines seed (suc outer)))) in
-    let d : delivery_of exception s (calls_of seed (outlines seed (suc outer))) ≡ installed exception inside c.frame.state c.pad = rw (c.found, c.asks) refl in
+    let d : delivery_of exception s (calls_of seed (outlines seed (suc outer))) ≡ delivery_at_handler exception inside c.frame.state c.pad = rw (c.found, c.asks) refl in
     let long : length (states_in inside ++ c.frame.state ∷ []) ≡ suc outer = rw (length-append, length-map) (let n = c.count in omega arith) in
     let trail : length (filter_map cleanup_of inside) ≡ (suc outer - 1) / 4 = c.ran ∙ (let all = cleanups_are 0 outer in omega arith) in
     subst (λ (x : Delivery). IsCaught x (suc outer)) (sym d) (record { outcome = refl; visited = long; cleanups = trail })

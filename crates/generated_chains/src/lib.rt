@@ -19,6 +19,3 @@ pub use laws::{
 pub use outline::{Handling, Kind, Outline, outlines};
 pub use stack::{Registers, Stack, resumes, stack_of};
 pub use tables::{FRAMES, HEADER, LANGUAGES, TEXT, frame_table, header_table, language_tables};
-
-#[cfg(test)]
-mod tests;

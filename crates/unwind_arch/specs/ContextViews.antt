@@ -2,8 +2,8 @@
 use Rattle.std.specs.Prelude.{ℕ, ◌==◌, List, [], ◌∷◌, Option, Some, None, nat_lt, map, slice_index, slice_set, if◌then◌else◌}
 use Rattle.std.specs.Option.{unwrap_or}
 use Rattle.unwind_definitions.specs.Caller.{Columns}
+use Rattle.unwind_definitions.specs.Columns.{ra, mxcsr, fcw}
 use Rattle.unwind_arch.specs.declared.x86_64.Context.{Context}
-use Rattle.unwind_arch.specs.Columns.{ra, mxcsr, fcw}
 
 -- what a context holds in a column
 abbrev pub columns_of : Context → Columns

@@ -1,4 +1,3 @@
-pub mod Columns
 pub mod ContextViews
 pub mod X86
 pub mod Aarch64

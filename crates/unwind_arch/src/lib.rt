@@ -21,8 +21,3 @@ pub use machine::Machine;
 pub use numbers::numbers_are_those_of_the_abis;
 pub use register::Register;
 pub use register_map::RegisterMap;
-
-#[cfg(test)]
-mod machine_tests;
-#[cfg(test)]
-mod tests;

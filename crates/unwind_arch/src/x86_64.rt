@@ -27,6 +27,22 @@ pub const RDI: usize = 5;
 pub const RBP: usize = 6;
 /// The place of RSP.
 pub const RSP: usize = 7;
+/// The place of R8.
+pub const R8: usize = 8;
+/// The place of R9.
+pub const R9: usize = 9;
+/// The place of R10.
+pub const R10: usize = 10;
+/// The place of R11.
+pub const R11: usize = 11;
+/// The place of R12.
+pub const R12: usize = 12;
+/// The place of R13.
+pub const R13: usize = 13;
+/// The place of R14.
+pub const R14: usize = 14;
+/// The place of R15.
+pub const R15: usize = 15;
 
 /// The registers of an x86-64 machine at one instruction.
 ///
@@ -34,7 +50,7 @@ pub const RSP: usize = 7;
 /// RDI, RBP and RSP are 0 to 7, and R8 to R15 are 8 to 15. Each register is a word of 64 bits.
 #[derive(Clone, Copy, Debug, Default, PartialEq, Eq)]
 pub struct Context {
-    /// The sixteen general registers by their columns: [`RAX`] to [`RSP`], and then R8 to R15.
+    /// The sixteen general registers by their columns: [`RAX`] to [`R15`].
     pub registers: [u64; 16],
     /// Column 16: the return address, or the instruction pointer.
     pub ra: u64,

@@ -7,7 +7,11 @@ use Rattle.unwind_definitions.specs.Membership.{is_among}
 abbrev pub is_version : ℕ → Bool
 is_version v = is_among (1 ∷ 3 ∷ 4 ∷ []) v
 
--- the letters of an augmentation: the encoding of language table pointers, a personality, the encoding of addresses, and a
+-- what an augmentation with letters begins with, a z: their data has a length
+abbrev pub length_letter : ℕ
+length_letter = 0x7a
+
+-- the letters after it: the encoding of language table pointers, a personality, the encoding of addresses, and a
 -- signal's frame
 abbrev pub language_letter : ℕ
 language_letter = 0x4c
@@ -36,4 +40,4 @@ has_letter letter text = is_among (letters_in text) letter
 -- none, or a z and letters after it
 abbrev pub is_augmentation : List ℕ → Bool
 is_augmentation [] = true
-is_augmentation (z ∷ letters) = (z == 0x7a) && list_all is_letter letters
+is_augmentation (z ∷ letters) = (z == length_letter) && list_all is_letter letters

@@ -1,7 +1,17 @@
--- The instructions of frame programs whose first byte is below 64, by their names. DWARF 5 section 7.24; LSB, section on
--- DWARF extensions, for the last.
+-- The instructions of frame programs by their names. DWARF 5 section 7.24; LSB, section on DWARF extensions, for the last.
 use Rattle.std.specs.Prelude.{ℕ}
 
+-- the two high bits of a first byte whose six low bits are an operand
+abbrev pub DW_CFA_advance_loc : ℕ
+DW_CFA_advance_loc = 1
+
+abbrev pub DW_CFA_offset : ℕ
+DW_CFA_offset = 2
+
+abbrev pub DW_CFA_restore : ℕ
+DW_CFA_restore = 3
+
+-- the others, whose first byte is below 64
 abbrev pub DW_CFA_nop : ℕ
 DW_CFA_nop = 0x00
 

@@ -2,6 +2,7 @@
 use Rattle.std.specs.Prelude.{ℕ, zero, suc, ◌+◌, ◌%◌, ◌^◌, List, [], ◌∷◌, Option, Some, None, Result, Ok, Err, ◌==◌, if◌then◌else◌}
 use Rattle.std.specs.Option.{option_map_or, option_or}
 use Rattle.memory_image.specs.Image.{Span, word_at}
+use Rattle.unwind_definitions.specs.Columns as column
 use Rattle.unwind_definitions.specs.Faults.{Fault, UnsupportedRegister, NoCfaRegister}
 use Rattle.unwind_definitions.specs.Instructions.{Rule, Undefined, SameValue, Offset, ValOffset, InRegister, Expression, ValExpression}
 use Rattle.unwind_definitions.specs.Row.{RowInstructions, CfaRule, ColumnAndOffset, ByExpression, rule_of, cfa_rule}
@@ -17,7 +18,7 @@ pub record Machine : Type 0 where
 
 -- System V x86-64 psABI, table of DWARF register numbers
 abbrev pub x86_64 : Machine
-x86_64 = record { stack_pointer = 7; return_address = 16 }
+x86_64 = record { stack_pointer = column.rsp; return_address = column.ra }
 
 pub data StepFault : Type 0 where
   Table : Fault → StepFault
@@ -70,12 +71,12 @@ cfa_value evaluates columns (ColumnAndOffset c n) = offset_from n (column_or_fau
 cfa_value evaluates columns (ByExpression bytes) = evaluates bytes [] columns
 
 -- what a column without a rule holds in the caller: the stack pointer the CFA, the return address 0, others what they held
-abbrev pub unruled : Machine → Columns → ℕ → ℕ → Option ℕ
-unruled machine columns cfa c = if c == machine.stack_pointer then Some cfa else (if c == machine.return_address then Some 0 else columns c)
+abbrev pub value_without_rule : Machine → Columns → ℕ → ℕ → Option ℕ
+value_without_rule machine columns cfa c = if c == machine.stack_pointer then Some cfa else (if c == machine.return_address then Some 0 else columns c)
 
 -- what a column holds in the caller
 abbrev pub column_value : Machine → Evaluates → List Span → Columns → ℕ → RowInstructions → ℕ → Result (Option ℕ) StepFault
-column_value machine evaluates image columns cfa run c = option_map_or (λ rule. value_for_column (columns c) (rule_value evaluates image columns cfa c rule)) (rule_of run c) (Ok (unruled machine columns cfa c))
+column_value machine evaluates image columns cfa run c = option_map_or (λ rule. value_for_column (columns c) (rule_value evaluates image columns cfa c rule)) (rule_of run c) (Ok (value_without_rule machine columns cfa c))
 
 abbrev pub fault_in : {A : Type 0} → Result A StepFault → Option StepFault
 fault_in (Ok v) = None

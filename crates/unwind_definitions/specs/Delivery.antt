@@ -77,8 +77,8 @@ abbrev pub landing_at : ℕ → State → ℕ → Landing
 landing_at exception s pad = record { state = record s { ra = pad }; rax = exception; rdx = 0 }
 
 -- A handler of a state takes the exception: the cleanups of the frames inside it run, each once.
-abbrev pub installed : ℕ → List Frame → State → ℕ → Delivery
-installed exception inside s pad = record {
+abbrev pub delivery_at_handler : ℕ → List Frame → State → ℕ → Delivery
+delivery_at_handler exception inside s pad = record {
   visited = states_in inside ++ s ∷ [];
   trail = filter_map cleanup_of inside;
   landing = Some (landing_at exception s pad);
@@ -86,19 +86,19 @@ installed exception inside s pad = record {
 }
 
 -- no handler takes it, and nothing runs
-abbrev pub not_installed : List State → Outcome → Delivery
-not_installed visited outcome = record { visited = visited; trail = []; landing = None; outcome = outcome }
+abbrev pub delivery_without_handler : List State → Outcome → Delivery
+delivery_without_handler visited outcome = record { visited = visited; trail = []; landing = None; outcome = outcome }
 
 -- what the deciding action makes of the frames inside it
 abbrev pub decided_by : ℕ → List Frame → State → Action → Delivery
-decided_by exception inside s (Catch pad) = installed exception inside s pad
-decided_by exception inside s (Filter pad) = installed exception inside s pad
-decided_by exception inside s _ = not_installed (states_in inside ++ s ∷ []) FatalPhase1
+decided_by exception inside s (Catch pad) = delivery_at_handler exception inside s pad
+decided_by exception inside s (Filter pad) = delivery_at_handler exception inside s pad
+decided_by exception inside s _ = delivery_without_handler (states_in inside ++ s ∷ []) FatalPhase1
 
 -- the delivery of an exception to a chain
 abbrev pub delivery_of : ℕ → State → List Call → Delivery
 delivery_of exception s calls = option_map_or (λ (f : Frame). decided_by exception (inner_frames s calls) f.state (action_of_frame f)) (deciding_frame s calls)
-    (not_installed (states_of s calls) EndOfStack)
+    (delivery_without_handler (states_of s calls) EndOfStack)
 
 -- ---- resuming after a cleanup
 

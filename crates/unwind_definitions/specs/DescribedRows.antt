@@ -3,6 +3,7 @@
 use Rattle.std.specs.Prelude.{◌≡◌, ◌⊎◌, ℕ, ◌-◌, ◌^◌, ◌<◌, ◌≤◌, Bool, List, [], ◌∷◌, Option, Some, None, Ok, IsTrue, IsFalse, MatchOption, nat_le}
 use Rattle.std.specs.List.{filter}
 use Rattle.std.specs.Option.{option_map_or}
+use Rattle.unwind_definitions.specs.Columns as column
 use Rattle.unwind_definitions.specs.Membership.{is_among}
 use Rattle.unwind_definitions.specs.Pointers.{Bases}
 use Rattle.unwind_definitions.specs.Instructions.{Rule, Offset, SameValue, Undefined}
@@ -18,7 +19,7 @@ negative d = 2 ^ 64 - d
 
 -- the stack pointer, RSP, so far above itself; or RBP, once it is set, so far above what it was set to
 abbrev pub cfa_after : List Step → CfaRule
-cfa_after steps = option_map_or (λ d. ColumnAndOffset 6 d) (frame_depth steps) (ColumnAndOffset 7 (depth steps))
+cfa_after steps = option_map_or (λ d. ColumnAndOffset column.rbp d) (frame_depth steps) (ColumnAndOffset column.rsp (depth steps))
 
 -- no rule, or the one that says so
 abbrev pub IsUnchanged : Option Rule → Type 0
@@ -30,12 +31,12 @@ FindsRegister distance rule = MatchOption distance (IsUnchanged rule) (λ d. rul
 
 -- the columns that may have a rule: the callee-saved registers, and the return address
 abbrev pub may_have_rule : ℕ → Bool
-may_have_rule c = is_among (3 ∷ 6 ∷ 12 ∷ 13 ∷ 14 ∷ 15 ∷ 16 ∷ []) c
+may_have_rule c = is_among (column.rbx ∷ column.rbp ∷ column.r12 ∷ column.r13 ∷ column.r14 ∷ column.r15 ∷ column.ra ∷ []) c
 
 -- the row of a frame whose prologue has run
 pub record IsBodyRow (steps : List Step) (run : RowInstructions) : Type 0 where
   pub cfa : cfa_rule run ≡ Some (cfa_after steps)
-  pub ret : rule_of run 16 ≡ Some (Offset (negative 8))
+  pub ret : rule_of run column.ra ≡ Some (Offset (negative 8))
   pub saved : (r : CalleeSaved) → FindsRegister (distance r steps) (rule_of run (column_of r))
   pub others : (c : ℕ) → IsFalse (may_have_rule c) → rule_of run c ≡ None
   pub arguments : argument_size run ≡ 0
@@ -47,15 +48,15 @@ MayFindLate r steps rule = FindsRegister (distance r steps) rule ⊎ ((rule ≡ 
 -- the row of a frame that has run these steps of its prologue
 pub record IsPrologueRow (steps : List Step) (run : RowInstructions) : Type 0 where
   pub cfa : cfa_rule run ≡ Some (cfa_after steps)
-  pub ret : rule_of run 16 ≡ Some (Offset (negative 8))
+  pub ret : rule_of run column.ra ≡ Some (Offset (negative 8))
   pub saved : (r : CalleeSaved) → MayFindLate r steps (rule_of run (column_of r))
   pub others : (c : ℕ) → IsFalse (may_have_rule c) → rule_of run c ≡ None
   pub arguments : argument_size run ≡ 0
 
 -- the row of an outermost frame, which has no caller to return to
 pub record IsOutermostRow (run : RowInstructions) : Type 0 where
-  pub cfa : cfa_rule run ≡ Some (ColumnAndOffset 7 8)
-  pub ret : rule_of run 16 ≡ Some Undefined
+  pub cfa : cfa_rule run ≡ Some (ColumnAndOffset column.rsp 8)
+  pub ret : rule_of run column.ra ≡ Some Undefined
   pub saved : (r : CalleeSaved) → IsUnchanged (rule_of run (column_of r))
   pub others : (c : ℕ) → IsFalse (may_have_rule c) → rule_of run c ≡ None
   pub arguments : argument_size run ≡ 0

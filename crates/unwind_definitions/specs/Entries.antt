@@ -6,6 +6,7 @@ use Rattle.std.specs.Int.{w8, w32, w64}
 use Rattle.unwind_definitions.specs.Faults.{Fault, UnsupportedAddressSize, UnknownVersion, UnknownAugmentation, NotCie, AddressOverflow, ◌>>=◌, unless}
 use Rattle.unwind_definitions.specs.Input.{Input, Reads, skip, split, number, uleb, sleb, text}
 use Rattle.unwind_definitions.specs.Augmentation.{is_version, is_augmentation, language_letter, personality_letter, address_letter, signal_letter}
+use Rattle.unwind_definitions.specs.PointerEncodings.{DW_EH_PE_absptr, DW_EH_PE_omit}
 use Rattle.unwind_definitions.specs.Pointers.{Bases, Pointer, encoding, pointer, value, direct, format_of}
 use Rattle.unwind_definitions.specs.Instructions.{Coding, column}
 
@@ -37,7 +38,7 @@ pub record Fde : Type 0 where
 
 -- the encoding of addresses; where it isn't named they are whole words
 abbrev pub address_encoding : Cie → ℕ
-address_encoding cie = unwrap_or cie.letters.address 0
+address_encoding cie = unwrap_or cie.letters.address DW_EH_PE_absptr
 
 abbrev pub coding_of : Bases → Cie → Coding
 coding_of bases cie = record { code_factor = cie.code_factor; data_factor = cie.data_factor; address = address_encoding cie; bases = bases }
@@ -99,12 +100,12 @@ cie_body bases offset c = do
 -- whether a pointer is read by an encoding, if there is one: not by the one that says that there is none
 abbrev pub is_pointing : Option ℕ → Bool
 is_pointing None = false
-is_pointing (Some e) = not (e == 255)
+is_pointing (Some e) = not (e == DW_EH_PE_omit)
 
 -- with the letter L a pointer, unless its encoding says that there is none
 abbrev pub language_pointer : Bases → ℕ → Option ℕ → Input → Result (Option Pointer) Fault
 language_pointer bases start None c = Ok None
-language_pointer bases start (Some e) c = if e == 255 then Ok None else (pointer e (record bases { func = Some start }) c >>= λ p. Ok (Some p.0))
+language_pointer bases start (Some e) c = if e == DW_EH_PE_omit then Ok None else (pointer e (record bases { func = Some start }) c >>= λ p. Ok (Some p.0))
 
 -- after a z a length, and so many bytes with the language table's pointer
 abbrev pub fde_data : Bases → Cie → ℕ → Reads (Option Pointer)

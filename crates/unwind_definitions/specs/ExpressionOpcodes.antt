@@ -121,6 +121,9 @@ DW_OP_lt = 0x2d
 abbrev pub DW_OP_ne : ℕ
 DW_OP_ne = 0x2e
 
+abbrev pub DW_OP_regx : ℕ
+DW_OP_regx = 0x90
+
 abbrev pub DW_OP_bregx : ℕ
 DW_OP_bregx = 0x92
 
@@ -132,6 +135,9 @@ DW_OP_nop = 0x96
 
 abbrev pub DW_OP_lit0 : ℕ
 DW_OP_lit0 = 0x30
+
+abbrev pub DW_OP_reg0 : ℕ
+DW_OP_reg0 = 0x50
 
 abbrev pub DW_OP_breg0 : ℕ
 DW_OP_breg0 = 0x70

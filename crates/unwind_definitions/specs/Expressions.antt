@@ -21,30 +21,30 @@ pick n stack = do
   a ← word_below (slice_get stack n)
   push a stack
 
-abbrev pub popped : List ℕ → Result (List ℕ) Fault
-popped [] = Err PopWithEmptyStack
-popped (a ∷ stack) = Ok stack
+abbrev pub after_pop : List ℕ → Result (List ℕ) Fault
+after_pop [] = Err PopWithEmptyStack
+after_pop (a ∷ stack) = Ok stack
 
-abbrev pub swapped : List ℕ → Result (List ℕ) Fault
-swapped (a ∷ b ∷ stack) = Ok (b ∷ a ∷ stack)
-swapped _ = Err PopWithEmptyStack
+abbrev pub after_swap : List ℕ → Result (List ℕ) Fault
+after_swap (a ∷ b ∷ stack) = Ok (b ∷ a ∷ stack)
+after_swap _ = Err PopWithEmptyStack
 
 -- the top becomes the third, the second the top and the third the second
-abbrev pub rotated : List ℕ → Result (List ℕ) Fault
-rotated (a ∷ b ∷ c ∷ stack) = Ok (b ∷ c ∷ a ∷ stack)
-rotated _ = Err PopWithEmptyStack
+abbrev pub after_rotation : List ℕ → Result (List ℕ) Fault
+after_rotation (a ∷ b ∷ c ∷ stack) = Ok (b ∷ c ∷ a ∷ stack)
+after_rotation _ = Err PopWithEmptyStack
 
-abbrev pub changed : (ℕ → ℕ) → List ℕ → Result (List ℕ) Fault
-changed f [] = Err PopWithEmptyStack
-changed f (a ∷ stack) = Ok (f a ∷ stack)
+abbrev pub after_change : (ℕ → ℕ) → List ℕ → Result (List ℕ) Fault
+after_change f [] = Err PopWithEmptyStack
+after_change f (a ∷ stack) = Ok (f a ∷ stack)
 
-abbrev pub combined : (ℕ → ℕ → ℕ) → List ℕ → Result (List ℕ) Fault
-combined f (b ∷ a ∷ stack) = Ok (f a b ∷ stack)
-combined f _ = Err PopWithEmptyStack
+abbrev pub after_combination : (ℕ → ℕ → ℕ) → List ℕ → Result (List ℕ) Fault
+after_combination f (b ∷ a ∷ stack) = Ok (f a b ∷ stack)
+after_combination f _ = Err PopWithEmptyStack
 
-abbrev pub divided : (ℕ → ℕ → ℕ) → List ℕ → Result (List ℕ) Fault
-divided f (b ∷ a ∷ stack) = if b == 0 then Err DivisionByZero else Ok (f a b ∷ stack)
-divided f _ = Err PopWithEmptyStack
+abbrev pub after_division : (ℕ → ℕ → ℕ) → List ℕ → Result (List ℕ) Fault
+after_division f (b ∷ a ∷ stack) = if b == 0 then Err DivisionByZero else Ok (f a b ∷ stack)
+after_division f _ = Err PopWithEmptyStack
 
 -- ---- runs
 
@@ -66,43 +66,43 @@ abbrev pub within : List ℕ → ℕ → List ℕ → Result Configuration StepF
 within expression target stack = if nat_le target (length expression) then Ok (record { position = target; stack = stack }) else Err (Table BadBranch)
 
 -- a distance further, which must not lead out of the expression
-abbrev pub moved : List ℕ → ℕ → ℕ → List ℕ → Result Configuration StepFault
-moved expression next distance stack =
+abbrev pub after_move : List ℕ → ℕ → ℕ → List ℕ → Result Configuration StepFault
+after_move expression next distance stack =
     if nat_lt distance (2 ^ 63) then within expression (next + distance) stack
     else (if nat_lt next (2 ^ 64 - distance) then Err (Table BadBranch) else within expression (next - (2 ^ 64 - distance)) stack)
 
-abbrev pub branched : List ℕ → ℕ → ℕ → List ℕ → Result Configuration StepFault
-branched expression next distance [] = Err (Table PopWithEmptyStack)
-branched expression next distance (a ∷ stack) = if a == 0 then Ok (record { position = next; stack = stack }) else moved expression next distance stack
+abbrev pub after_branch : List ℕ → ℕ → ℕ → List ℕ → Result Configuration StepFault
+after_branch expression next distance [] = Err (Table PopWithEmptyStack)
+after_branch expression next distance (a ∷ stack) = if a == 0 then Ok (record { position = next; stack = stack }) else after_move expression next distance stack
 
 -- the number of n bytes at an address, which all have to be mapped
-abbrev pub loaded_or_fault : ℕ → ℕ → List ℕ → Option ℕ → Result Configuration StepFault
-loaded_or_fault next a stack None = Err (Unmapped a)
-loaded_or_fault next a stack (Some v) = Ok (record { position = next; stack = v ∷ stack })
+abbrev pub load_or_fault : ℕ → ℕ → List ℕ → Option ℕ → Result Configuration StepFault
+load_or_fault next a stack None = Err (Unmapped a)
+load_or_fault next a stack (Some v) = Ok (record { position = next; stack = v ∷ stack })
 
-abbrev pub loaded : List Span → ℕ → ℕ → List ℕ → Result Configuration StepFault
-loaded image next n [] = Err (Table PopWithEmptyStack)
-loaded image next n (a ∷ stack) = loaded_or_fault next a stack (number_at image a n)
+abbrev pub after_load : List Span → ℕ → ℕ → List ℕ → Result Configuration StepFault
+after_load image next n [] = Err (Table PopWithEmptyStack)
+after_load image next n (a ∷ stack) = load_or_fault next a stack (number_at image a n)
 
-abbrev pub pushed_column : ℕ → ℕ → List ℕ → Result ℕ StepFault → Result Configuration StepFault
-pushed_column next n stack (Err e) = Err e
-pushed_column next n stack (Ok v) = goes_on next (push (v +w n) stack)
+abbrev pub after_column_push : ℕ → ℕ → List ℕ → Result ℕ StepFault → Result Configuration StepFault
+after_column_push next n stack (Err e) = Err e
+after_column_push next n stack (Ok v) = goes_on next (push (v +w n) stack)
 
 -- What an operation does to a stack. The next operation stands at `next`.
 unfoldable pub done : List Span → Columns → List ℕ → ℕ → List ℕ → Operation → Result Configuration StepFault
 done image columns expression next stack Nop = goes_on next (Ok stack)
-done image columns expression next stack Pop = goes_on next (popped stack)
-done image columns expression next stack Swap = goes_on next (swapped stack)
-done image columns expression next stack Rotate = goes_on next (rotated stack)
+done image columns expression next stack Pop = goes_on next (after_pop stack)
+done image columns expression next stack Swap = goes_on next (after_swap stack)
+done image columns expression next stack Rotate = goes_on next (after_rotation stack)
 done image columns expression next stack (Push a) = goes_on next (push a stack)
-done image columns expression next stack (PushColumn r n) = pushed_column next n stack (column_or_fault (columns r))
+done image columns expression next stack (PushColumn r n) = after_column_push next n stack (column_or_fault (columns r))
 done image columns expression next stack (Pick n) = goes_on next (pick n stack)
-done image columns expression next stack (Load n) = loaded image next n stack
-done image columns expression next stack (Change f) = goes_on next (changed f stack)
-done image columns expression next stack (Combine f) = goes_on next (combined f stack)
-done image columns expression next stack (Divide f) = goes_on next (divided f stack)
-done image columns expression next stack (Skip distance) = moved expression next distance stack
-done image columns expression next stack (Branch distance) = branched expression next distance stack
+done image columns expression next stack (Load n) = after_load image next n stack
+done image columns expression next stack (Change f) = goes_on next (after_change f stack)
+done image columns expression next stack (Combine f) = goes_on next (after_combination f stack)
+done image columns expression next stack (Divide f) = goes_on next (after_division f stack)
+done image columns expression next stack (Skip distance) = after_move expression next distance stack
+done image columns expression next stack (Branch distance) = after_branch expression next distance stack
 
 abbrev pub done_where_read : List Span → Columns → List ℕ → List ℕ → Result (Operation × Input) Fault → Result Configuration StepFault
 done_where_read image columns expression stack (Err e) = Err (Table e)

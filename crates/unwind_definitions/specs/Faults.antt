@@ -1,13 +1,8 @@
 -- Why call frame bytes can't be read or run, and readings that stop at the first fault.
 use Rattle.std.specs.Prelude.{Result, Ok, Err, Bool, if◌then◌else◌}
+pub use Rattle.memory_image.specs.Results.{◌>>=◌}
 pub use Rattle.unwind_definitions.specs.declared.error.Error.{Error as Fault}
 pub use Rattle.unwind_definitions.specs.declared.error.Error.TheVariants.{UnexpectedEof, UnknownPointerEncoding, UnsupportedPointerEncoding, CannotParseOmitPointerEncoding, UndefinedBase, BadUnsignedLeb128, BadSignedLeb128, UnknownVersion, UnsupportedAddressSize, UnknownAugmentation, NotCie, NotFde, AddressOverflow, LocationGoesBack, UnknownInstruction, NoCfaRegister, TooManyRegisterRules, StackFull, PopWithEmptyStack, UnsupportedRegister, UnknownOperation, DivisionByZero, BadBranch, TooManyOperations, NoUnwindInfoForAddress}
-
--- the second reading, where the first one gave a value
-infixl 10 ◌>>=◌
-abbrev pub ◌>>=◌ : {A B : Type 0} → Result A Fault → (A → Result B Fault) → Result B Fault
-(Ok x) >>= f = f x
-(Err e) >>= f = Err e
 
 -- what holds, or else is a fault
 abbrev pub unless : Bool → Fault → Result (Unit {0}) Fault

@@ -1,10 +1,14 @@
 -- When a frame table describes functions. Its entries have the form that compilers emit; those of other code are free.
 -- LSB, section on the .eh_frame section; DWARF 5 section 6.4.
-use Rattle.std.specs.Prelude.{◌≡◌, ◌≢◌, ◌⊎◌, ℕ, ◌+◌, ◌-◌, ◌^◌, ◌<◌, ◌≤◌, Bool, ◌&&◌, List, [], ◌∷◌, ◌++◌, replicate, Some, None, Ok, IsFalse, MatchOption, ◌==◌}
+use Rattle.std.specs.Prelude.{◌≡◌, ◌≢◌, ◌⊎◌, ℕ, ◌+◌, ◌*◌, ◌-◌, ◌^◌, ◌<◌, ◌≤◌, Bool, ◌&&◌, List, [], ◌∷◌, ◌++◌, replicate, Some, None, Ok, IsFalse, MatchOption, ◌==◌}
 use Rattle.std.specs.Int.{w32}
 use Rattle.std.specs.List.{filter, list_any, Contains, AllByRecursion}
 use Rattle.memory_image.specs.Image.{Span, word_at}
 use Rattle.unwind_definitions.specs.Input.{Input, number, skip}
+use Rattle.unwind_definitions.specs.Augmentation.{length_letter, language_letter, personality_letter, address_letter}
+use Rattle.unwind_definitions.specs.CallFrameOpcodes.{DW_CFA_def_cfa, DW_CFA_offset}
+use Rattle.unwind_definitions.specs.Columns as column
+use Rattle.unwind_definitions.specs.PointerEncodings.{pcrel_sdata4, indirect_pcrel_sdata4}
 use Rattle.unwind_definitions.specs.Pointers.{Bases, Pointer, Direct, Indirect}
 use Rattle.unwind_definitions.specs.Entries.{Cie, Fde, Entry, ACie, AFde, AreEntries}
 use Rattle.unwind_definitions.specs.Scan.{fdes_of}
@@ -16,7 +20,10 @@ use Rattle.unwind_definitions.specs.LanguageTable.{LeadsToLanguage}
 
 -- zR, zPR and zPLR
 abbrev pub IsEmittedAugmentation : List ℕ → Type 0
-IsEmittedAugmentation text = (text ≡ 0x7a ∷ 0x52 ∷ []) ⊎ (text ≡ 0x7a ∷ 0x50 ∷ 0x52 ∷ []) ⊎ (text ≡ 0x7a ∷ 0x50 ∷ 0x4c ∷ 0x52 ∷ [])
+IsEmittedAugmentation text =
+    (text ≡ length_letter ∷ address_letter ∷ [])
+    ⊎ (text ≡ length_letter ∷ personality_letter ∷ address_letter ∷ [])
+    ⊎ (text ≡ length_letter ∷ personality_letter ∷ language_letter ∷ address_letter ∷ [])
 
 -- an indirect pointer whose cell holds a word
 abbrev pub IsCell : List Span → Pointer → Type 0
@@ -25,20 +32,20 @@ IsCell image (Indirect a) = word_at image a ≢ None
 
 -- a personality is named by four signed bytes relative to their place, directly, or through a cell
 abbrev pub IsEmittedPersonality : List Span → ℕ × Pointer → Type 0
-IsEmittedPersonality image p = (p.0 ≡ 0x1b) ⊎ ((p.0 ≡ 0x9b) × IsCell image p.1)
+IsEmittedPersonality image p = (p.0 ≡ pcrel_sdata4) ⊎ ((p.0 ≡ indirect_pcrel_sdata4) × IsCell image p.1)
 
 -- At a function's start the CFA is the stack pointer plus 8, and the return address is just below it.
 abbrev pub entry_rules : List ℕ
-entry_rules = 0x0c ∷ 7 ∷ 8 ∷ 0x90 ∷ 1 ∷ []
+entry_rules = DW_CFA_def_cfa ∷ column.rsp ∷ 8 ∷ (64 * DW_CFA_offset + column.ra) ∷ 1 ∷ []
 
 pub record IsEmittedCie (image : List Span) (cie : Cie) : Type 0 where
   pub version : cie.version ≡ 1
   pub code_factor : cie.code_factor ≡ 1
   pub data_factor : cie.data_factor ≡ negative 8
-  pub return_column : cie.return_column ≡ 16
+  pub return_column : cie.return_column ≡ column.ra
   pub augmentation : IsEmittedAugmentation cie.augmentation
-  pub address : cie.letters.address ≡ Some 0x1b
-  pub language : (cie.letters.language ≡ None) ⊎ (cie.letters.language ≡ Some 0x1b)
+  pub address : cie.letters.address ≡ Some pcrel_sdata4
+  pub language : (cie.letters.language ≡ None) ⊎ (cie.letters.language ≡ Some pcrel_sdata4)
   pub personality : MatchOption cie.letters.personality (Unit {0}) (IsEmittedPersonality image)
   pub program : (nops : ℕ) × (cie.program.bytes ≡ entry_rules ++ replicate nops 0)
 

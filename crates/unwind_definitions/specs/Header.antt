@@ -5,6 +5,7 @@ use Rattle.std.specs.Option.{option_map}
 use Rattle.std.specs.Int.{w8}
 use Rattle.unwind_definitions.specs.Faults.{Fault, UnsupportedPointerEncoding, UnknownVersion, ◌>>=◌, unless}
 use Rattle.unwind_definitions.specs.Input.{Input, Reads, skip, number}
+use Rattle.unwind_definitions.specs.PointerEncodings.{DW_EH_PE_absptr, DW_EH_PE_udata2, DW_EH_PE_udata4, DW_EH_PE_udata8, DW_EH_PE_sdata2, DW_EH_PE_sdata4, DW_EH_PE_sdata8, DW_EH_PE_pcrel, DW_EH_PE_omit}
 use Rattle.unwind_definitions.specs.Pointers.{Bases, Pointer, format_of, encoding, value, pointer, direct}
 
 -- where the frame table is, how many pairs there are, how their addresses are encoded and what they may be relative to,
@@ -20,20 +21,24 @@ pub record FrameHeader : Type 0 where
 abbrev pub bases_in : ℕ → Bases → Bases
 bases_in header bases = record bases { data_base = Some header }
 
--- a format alone: a value that is relative to nothing, and not the address of one
+-- a format alone, below every application: a value that is relative to nothing, and not the address of one
 abbrev pub is_format : ℕ → Bool
-is_format e = nat_lt e 16
+is_format e = nat_lt e DW_EH_PE_pcrel
 
 -- the number of pairs, by its encoding and that of the addresses; none, and no number, where one of the two is left out
 abbrev pub pair_count : ℕ → ℕ → Reads ℕ
-pair_count e addresses c = if (e == 255) || (addresses == 255) then Ok (0, c) else (unless (is_format e) UnsupportedPointerEncoding >>= λ _. value (format_of e) c)
+pair_count e addresses c = if (e == DW_EH_PE_omit) || (addresses == DW_EH_PE_omit) then Ok (0, c) else (unless (is_format e) UnsupportedPointerEncoding >>= λ _. value (format_of e) c)
 
--- A header's bytes: version 1; the encodings of the frame table's address, of the number of pairs and of their addresses;
+-- the one version of a header
+abbrev pub header_version : ℕ
+header_version = 1
+
+-- A header's bytes: the version; the encodings of the frame table's address, of the number of pairs and of their addresses;
 -- the first two of these; and the pairs.
 abbrev pub header : Bases → Input → Result FrameHeader Fault
 header bases c = do
   version ← number w8 c
-  _ ← unless (version.0 == 1) UnknownVersion
+  _ ← unless (version.0 == header_version) UnknownVersion
   framed ← encoding version.1
   counted ← encoding framed.1
   addressed ← encoding counted.1
@@ -46,9 +51,9 @@ header bases c = do
 -- how many bytes a number of a format takes, where that doesn't vary
 abbrev pub width_of : ℕ → Option ℕ
 width_of format =
-    if (format == 2) || (format == 10) then Some 2
-    else (if (format == 3) || (format == 11) then Some 4
-    else (if (format == 0) || (format == 4) || (format == 12) then Some 8
+    if (format == DW_EH_PE_udata2) || (format == DW_EH_PE_sdata2) then Some 2
+    else (if (format == DW_EH_PE_udata4) || (format == DW_EH_PE_sdata4) then Some 4
+    else (if (format == DW_EH_PE_absptr) || (format == DW_EH_PE_udata8) || (format == DW_EH_PE_sdata8) then Some 8
     else None))
 
 -- A table that can be searched: how many pairs it has, how many bytes each address of one takes, and how it is read.

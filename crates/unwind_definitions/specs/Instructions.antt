@@ -4,7 +4,7 @@ use Rattle.std.specs.Int.{Width, w8, w16, w32}
 use Rattle.unwind_definitions.specs.Faults.{Fault, UnknownInstruction, UnsupportedRegister, ◌>>=◌}
 use Rattle.unwind_definitions.specs.Input.{Input, Reads, split, number, uleb, sleb}
 use Rattle.unwind_definitions.specs.Pointers.{Bases, direct}
-use Rattle.unwind_definitions.specs.CallFrameOpcodes.{DW_CFA_nop, DW_CFA_set_loc, DW_CFA_advance_loc1, DW_CFA_advance_loc2, DW_CFA_advance_loc4, DW_CFA_offset_extended, DW_CFA_restore_extended, DW_CFA_undefined, DW_CFA_same_value, DW_CFA_register, DW_CFA_remember_state, DW_CFA_restore_state, DW_CFA_def_cfa, DW_CFA_def_cfa_register, DW_CFA_def_cfa_offset, DW_CFA_def_cfa_expression, DW_CFA_expression, DW_CFA_offset_extended_sf, DW_CFA_def_cfa_sf, DW_CFA_def_cfa_offset_sf, DW_CFA_val_offset, DW_CFA_val_offset_sf, DW_CFA_val_expression, DW_CFA_GNU_args_size}
+use Rattle.unwind_definitions.specs.CallFrameOpcodes.{DW_CFA_advance_loc, DW_CFA_offset, DW_CFA_restore, DW_CFA_nop, DW_CFA_set_loc, DW_CFA_advance_loc1, DW_CFA_advance_loc2, DW_CFA_advance_loc4, DW_CFA_offset_extended, DW_CFA_restore_extended, DW_CFA_undefined, DW_CFA_same_value, DW_CFA_register, DW_CFA_remember_state, DW_CFA_restore_state, DW_CFA_def_cfa, DW_CFA_def_cfa_register, DW_CFA_def_cfa_offset, DW_CFA_def_cfa_expression, DW_CFA_expression, DW_CFA_offset_extended_sf, DW_CFA_def_cfa_sf, DW_CFA_def_cfa_offset_sf, DW_CFA_val_offset, DW_CFA_val_offset_sf, DW_CFA_val_expression, DW_CFA_GNU_args_size}
 
 -- how a column's value in the caller is found; offsets are words
 pub data Rule : Type 0 where
@@ -189,9 +189,9 @@ saves coding r c = do
 -- an instruction by the two high and the six low bits of its first byte
 unfoldable pub instruction_of : Coding → ℕ → ℕ → Reads Instruction
 instruction_of coding high low =
-    if high == 1 then gives (Advance (low * coding.code_factor))
-    else (if high == 2 then saves coding low
-    else (if high == 3 then gives (Reset low)
+    if high == DW_CFA_advance_loc then gives (Advance (low * coding.code_factor))
+    else (if high == DW_CFA_offset then saves coding low
+    else (if high == DW_CFA_restore then gives (Reset low)
     else operation coding low))
 
 abbrev pub instruction : Coding → Reads Instruction

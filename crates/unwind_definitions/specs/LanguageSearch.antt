@@ -2,9 +2,11 @@
 -- Itanium C++ ABI, exception handling tables: the table's head, its call sites in order, and the action table.
 use Rattle.std.specs.Prelude.{◌≡◌, ◌≢◌, ◌⊎◌, ℕ, zero, suc, ◌+◌, ◌-◌, ◌%◌, ◌^◌, ◌<◌, ◌≤◌, Bool, List, [], ◌∷◌, length, Option, Some, None, Result, Ok, Err, nat_lt, ◌==◌, if◌then◌else◌}
 use Rattle.std.specs.Option.{option_map, option_map_or}
+use Rattle.std.specs.Result.{result_map_both}
 use Rattle.memory_image.specs.Image.{Span}
-use Rattle.unwind_definitions.specs.Faults.{Fault, AddressOverflow}
+use Rattle.unwind_definitions.specs.Faults.{Fault, AddressOverflow, ◌>>=◌}
 use Rattle.unwind_definitions.specs.Input.{Input, skip, split, uleb, sleb}
+use Rattle.unwind_definitions.specs.PointerEncodings.{DW_EH_PE_omit}
 use Rattle.unwind_definitions.specs.Pointers.{Bases, Pointer, Direct, Indirect, encoding, pointer}
 use Rattle.unwind_definitions.specs.Entries.{Fde}
 use Rattle.unwind_definitions.specs.Function.{Action, NoAction, Cleanup, Terminate}
@@ -13,16 +15,9 @@ use Rattle.unwind_definitions.specs.Caller.{StepFault, Table, word_or_fault}
 
 -- ---- readings that also follow pointers into the memory
 
--- the second reading, where the first one gave a value
-infixl 10 ◌>>=◌
-abbrev pub ◌>>=◌ : {A B : Type 0} → Result A StepFault → (A → Result B StepFault) → Result B StepFault
-(Ok x) >>= f = f x
-(Err e) >>= f = Err e
-
 -- a reading of the table's own bytes
 abbrev pub read : {A : Type 0} → Result A Fault → Result A StepFault
-read (Ok x) = Ok x
-read (Err e) = Err (Table e)
+read = result_map_both (λ x. x) Table
 
 -- where a pointer leads: to its address, or to the address that the cell there holds
 abbrev pub target : List Span → Pointer → Result ℕ StepFault
@@ -53,7 +48,7 @@ pub record Head : Type 0 where
 abbrev pub pad_base : List Span → Bases → ℕ → Input → Result (ℕ × Input) StepFault
 pad_base image bases start c = do
   e ← read (encoding c)
-  if e.0 == 0xff then Ok (start, e.1) else address image e.0 bases e.1
+  if e.0 == DW_EH_PE_omit then Ok (start, e.1) else address image e.0 bases e.1
 
 -- the landing pads' base, the types, how call sites are encoded, how many bytes they take, and these
 abbrev pub head : List Span → Bases → ℕ → Input → Result Head StepFault

@@ -5,6 +5,7 @@ use Rattle.std.specs.Int.{w8}
 use Rattle.memory_image.specs.Image.{Span, table_at}
 use Rattle.unwind_definitions.specs.Faults.{Fault, UnsupportedPointerEncoding, ◌>>=◌, unless}
 use Rattle.unwind_definitions.specs.Input.{Input, Reads, skip, split, number, uleb, sleb}
+use Rattle.unwind_definitions.specs.PointerEncodings.{DW_EH_PE_uleb128, DW_EH_PE_omit}
 use Rattle.unwind_definitions.specs.Pointers.{Pointer, Direct, Indirect, encoding}
 use Rattle.unwind_definitions.specs.Function.{Function, Site, Action, NoAction, Cleanup, Catch, Filter}
 
@@ -38,20 +39,20 @@ abbrev pub AreSites : ℕ → Input → Input → List Site → Type 0
 AreSites start actions c [] = c.bytes ≡ []
 AreSites start actions c (s ∷ ss) = (next : Input) × (site_at start actions c ≡ Ok (s, next)) × AreSites start actions next ss
 
--- an encoding of types, and a number unless it is ff
+-- an encoding of types, and a number unless there are none
 abbrev pub types : Reads ℕ
 types c = do
   type ← encoding c
-  if type.0 == 0xff then Ok type else uleb type.1
+  if type.0 == DW_EH_PE_omit then Ok type else uleb type.1
 
 -- what stands before the sites: no pad base, the types, sites in uleb128 numbers, and how many bytes they take
 abbrev pub site_bytes : Reads ℕ
 site_bytes c = do
   base ← number w8 c
-  _ ← unless (base.0 == 0xff) UnsupportedPointerEncoding
+  _ ← unless (base.0 == DW_EH_PE_omit) UnsupportedPointerEncoding
   behind ← types base.1
   site ← number w8 behind.1
-  _ ← unless (site.0 == 0x01) UnsupportedPointerEncoding
+  _ ← unless (site.0 == DW_EH_PE_uleb128) UnsupportedPointerEncoding
   uleb site.1
 
 -- At an address, which isn't 0, stands a language table of a function that starts here, with these sites, and the action

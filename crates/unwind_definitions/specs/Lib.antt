@@ -1,6 +1,7 @@
 -- The definitions, in an order to read them in.
 --
 -- A machine that calls: what a stopped function's registers are, what a prologue did, which calls lead to the state.
+pub mod Columns
 pub mod State
 pub mod Prologue
 pub mod Entered
@@ -25,8 +26,10 @@ pub mod CallFrameOpcodes
 pub mod Instructions
 pub mod Entries
 pub mod Row
--- After these the theorem on chains asks for nothing more. What is said of any bytes beside it: what a scan and a header
--- answer, the caller by a row, what a language table asks, a state inside a prologue, and how numbers are spelled.
+-- The files above say what the theorems on chains ask of a start, with three words of the files below: Caller.Columns, what
+-- the columns of a machine hold; Scan.fdes_of, the descriptions among entries; and Header.header_version. All else below is
+-- said of any bytes: the caller by a row, expressions, what a scan and a header answer, what a language table asks, a state
+-- inside a prologue, and how numbers are spelled.
 pub mod Caller
 pub mod ExpressionOpcodes
 pub mod Operations

@@ -7,8 +7,10 @@ use Rattle.std.specs.List.Sorted.{IsPermutation}
 use Rattle.memory_image.specs.Image.{Span, table_at, IsLaidOut}
 use Rattle.unwind_definitions.specs.Faults.{Fault}
 use Rattle.unwind_definitions.specs.Input.{Input, number, skip}
+use Rattle.unwind_definitions.specs.PointerEncodings.{DW_EH_PE_udata4, pcrel_sdata4, datarel_sdata4}
 use Rattle.unwind_definitions.specs.Pointers.{Bases, direct}
 use Rattle.unwind_definitions.specs.Entries.{Fde, Entry, AreEntries}
+use Rattle.unwind_definitions.specs.Header.{header_version}
 use Rattle.unwind_definitions.specs.Row.{covers_pc}
 use Rattle.unwind_definitions.specs.Scan.{fdes_of}
 use Rattle.unwind_definitions.specs.Function.{Function}
@@ -58,16 +60,16 @@ header_bases h = record no_bases { data_base = Some h }
 
 -- a header's version, and its encodings of the frame table's address, of the count, and of addresses in the table
 abbrev pub header_form : List ℕ
-header_form = 1 ∷ 0x1b ∷ 0x03 ∷ 0x3b ∷ []
+header_form = header_version ∷ pcrel_sdata4 ∷ DW_EH_PE_udata4 ∷ datarel_sdata4 ∷ []
 
 -- the frame table's address: four signed bytes after those, relative to their place
 abbrev pub header_pointer : List Span → ℕ → Result (ℕ × Input) Fault
-header_pointer image h = direct 0x1b no_bases (skip 4 (input_at image h))
+header_pointer image h = direct pcrel_sdata4 no_bases (skip 4 (input_at image h))
 
 -- one pair of addresses after another, four signed bytes each
 abbrev pub ArePairs : ℕ → Input → List (ℕ × ℕ) → Type 0
 ArePairs h c [] = Unit {0}
-ArePairs h c (p ∷ ps) = (middle : Input) × (next : Input) × (direct 0x3b (header_bases h) c ≡ Ok (p.0, middle)) × (direct 0x3b (header_bases h) middle ≡ Ok (p.1, next)) × ArePairs h next ps
+ArePairs h c (p ∷ ps) = (middle : Input) × (next : Input) × (direct datarel_sdata4 (header_bases h) c ≡ Ok (p.0, middle)) × (direct datarel_sdata4 (header_bases h) middle ≡ Ok (p.1, next)) × ArePairs h next ps
 
 -- a description's start, and its own address in the frame table
 abbrev pub pair_of : ℕ → Fde → ℕ × ℕ

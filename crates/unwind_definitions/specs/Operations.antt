@@ -6,7 +6,7 @@ use Rattle.unwind_definitions.specs.Input.{Reads, number, uleb, sleb}
 use Rattle.unwind_definitions.specs.Pointers.{signed_number}
 use Rattle.unwind_definitions.specs.Instructions.{column}
 use Rattle.unwind_definitions.specs.Caller.{◌+w◌}
-use Rattle.unwind_definitions.specs.ExpressionOpcodes.{DW_OP_addr, DW_OP_deref, DW_OP_const1u, DW_OP_const1s, DW_OP_const2u, DW_OP_const2s, DW_OP_const4u, DW_OP_const4s, DW_OP_const8u, DW_OP_const8s, DW_OP_constu, DW_OP_consts, DW_OP_dup, DW_OP_drop, DW_OP_over, DW_OP_pick, DW_OP_swap, DW_OP_rot, DW_OP_abs, DW_OP_and, DW_OP_div, DW_OP_minus, DW_OP_mod, DW_OP_mul, DW_OP_neg, DW_OP_not, DW_OP_or, DW_OP_plus, DW_OP_plus_uconst, DW_OP_shl, DW_OP_shr, DW_OP_shra, DW_OP_xor, DW_OP_bra, DW_OP_eq, DW_OP_ge, DW_OP_gt, DW_OP_le, DW_OP_lt, DW_OP_ne, DW_OP_bregx, DW_OP_deref_size, DW_OP_nop, DW_OP_lit0, DW_OP_breg0}
+use Rattle.unwind_definitions.specs.ExpressionOpcodes.{DW_OP_addr, DW_OP_deref, DW_OP_const1u, DW_OP_const1s, DW_OP_const2u, DW_OP_const2s, DW_OP_const4u, DW_OP_const4s, DW_OP_const8u, DW_OP_const8s, DW_OP_constu, DW_OP_consts, DW_OP_dup, DW_OP_drop, DW_OP_over, DW_OP_pick, DW_OP_swap, DW_OP_rot, DW_OP_abs, DW_OP_and, DW_OP_div, DW_OP_minus, DW_OP_mod, DW_OP_mul, DW_OP_neg, DW_OP_not, DW_OP_or, DW_OP_plus, DW_OP_plus_uconst, DW_OP_shl, DW_OP_shr, DW_OP_shra, DW_OP_xor, DW_OP_bra, DW_OP_eq, DW_OP_ge, DW_OP_gt, DW_OP_le, DW_OP_lt, DW_OP_ne, DW_OP_regx, DW_OP_bregx, DW_OP_deref_size, DW_OP_nop, DW_OP_lit0, DW_OP_reg0, DW_OP_breg0}
 
 -- What one operation says. Words and distances below 0 count from 2 ^ 64.
 pub data Operation : Type 0 where
@@ -100,7 +100,7 @@ loads c = do
 abbrev pub unknown : Reads Operation
 unknown c = Err UnknownOperation
 
--- up to 0x11
+-- before DW_OP_dup
 unfoldable pub constant : ℕ → Reads Operation
 constant op =
     if op == DW_OP_addr then with_operand (number w64) Push
@@ -117,7 +117,7 @@ constant op =
     else (if op == DW_OP_consts then with_operand sleb Push
     else unknown)))))))))))
 
--- from 0x12 to 0x18
+-- from DW_OP_dup to before DW_OP_abs
 unfoldable pub rearrangement : ℕ → Reads Operation
 rearrangement op =
     if op == DW_OP_dup then says (Pick 0)
@@ -128,7 +128,7 @@ rearrangement op =
     else (if op == DW_OP_rot then says Rotate
     else unknown)))))
 
--- from 0x19 to 0x27
+-- from DW_OP_abs to before DW_OP_bra
 unfoldable pub arithmetic : ℕ → Reads Operation
 arithmetic op =
     if op == DW_OP_abs then says (Change magnitude)
@@ -148,7 +148,7 @@ arithmetic op =
     else (if op == DW_OP_xor then says (Combine bit_xor)
     else unknown))))))))))))))
 
--- from 0x28 to 0x2f
+-- from DW_OP_bra to before DW_OP_lit0
 unfoldable pub decision : ℕ → Reads Operation
 decision op =
     if op == DW_OP_bra then with_operand (signed_number w16 16) Branch
@@ -160,7 +160,7 @@ decision op =
     else (if op == DW_OP_ne then says (Combine is_unequal)
     else with_operand (signed_number w16 16) Skip))))))
 
--- from 0x90 on
+-- from DW_OP_regx on
 unfoldable pub extension : ℕ → Reads Operation
 extension op =
     if op == DW_OP_bregx then pushes_column
@@ -168,16 +168,17 @@ extension op =
     else (if op == DW_OP_nop then says Nop
     else unknown))
 
--- the operation of a first byte; the literals 0 to 31 stand from 0x30, and registers 0 to 31 from 0x70
+-- the operation of a first byte; the literals 0 to 31 stand from DW_OP_lit0, and registers 0 to 31 from
+-- DW_OP_breg0
 unfoldable pub operation_of : ℕ → Reads Operation
 operation_of op =
-    if nat_lt op 0x12 then constant op
-    else (if nat_lt op 0x19 then rearrangement op
-    else (if nat_lt op 0x28 then arithmetic op
-    else (if nat_lt op 0x30 then decision op
-    else (if nat_lt op 0x50 then says (Push (op - DW_OP_lit0))
-    else (if nat_lt op 0x70 then unknown
-    else (if nat_lt op 0x90 then with_operand sleb (PushColumn (op - DW_OP_breg0))
+    if nat_lt op DW_OP_dup then constant op
+    else (if nat_lt op DW_OP_abs then rearrangement op
+    else (if nat_lt op DW_OP_bra then arithmetic op
+    else (if nat_lt op DW_OP_lit0 then decision op
+    else (if nat_lt op DW_OP_reg0 then says (Push (op - DW_OP_lit0))
+    else (if nat_lt op DW_OP_breg0 then unknown
+    else (if nat_lt op DW_OP_regx then with_operand sleb (PushColumn (op - DW_OP_breg0))
     else extension op))))))
 
 abbrev pub operation : Reads Operation

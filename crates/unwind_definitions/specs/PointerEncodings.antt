@@ -1,5 +1,5 @@
 -- The bytes that say how a pointer is encoded, by their names. LSB, section on DWARF exception header encoding.
-use Rattle.std.specs.Prelude.{ℕ}
+use Rattle.std.specs.Prelude.{ℕ, ◌+◌}
 
 -- formats: a word, an unsigned LEB128 number, two, four and eight bytes, a signed LEB128 number, and signed ones
 abbrev pub DW_EH_PE_absptr : ℕ
@@ -52,3 +52,14 @@ DW_EH_PE_indirect = 0x80
 -- there is no pointer
 abbrev pub DW_EH_PE_omit : ℕ
 DW_EH_PE_omit = 0xff
+
+-- Those that compilers and linkers emit: four signed bytes from the pointer's own place, or from the data, or from the place
+-- to a cell that holds the pointer.
+abbrev pub pcrel_sdata4 : ℕ
+pcrel_sdata4 = DW_EH_PE_pcrel + DW_EH_PE_sdata4
+
+abbrev pub datarel_sdata4 : ℕ
+datarel_sdata4 = DW_EH_PE_datarel + DW_EH_PE_sdata4
+
+abbrev pub indirect_pcrel_sdata4 : ℕ
+indirect_pcrel_sdata4 = DW_EH_PE_indirect + pcrel_sdata4

@@ -107,8 +107,8 @@ abbrev pub distinct : List ℕ → List ℕ
 distinct [] = []
 distinct (x ∷ xs) = x ∷ filter (λ y. not (y == x)) (distinct xs)
 
-abbrev pub ruled_columns : RowInstructions → List ℕ
-ruled_columns run = filter (λ c. is_some (rule_of run c)) (distinct (filter_map column_named (run.common ++ run.own)))
+abbrev pub columns_with_rules : RowInstructions → List ℕ
+columns_with_rules run = filter (λ c. is_some (rule_of run c)) (distinct (filter_map column_named (run.common ++ run.own)))
 
 abbrev pub remembers : Instruction → Option Bool
 remembers Remember = Some true
@@ -128,7 +128,7 @@ fault_where b e = if b then Some e else None
 
 -- a rule for a 33rd column
 abbrev pub has_too_many_rules : RowInstructions → ℕ → Option Rule → Bool
-has_too_many_rules run column rule = is_some rule && (not (is_some (rule_of run column)) && nat_le 32 (length (ruled_columns run)))
+has_too_many_rules run column rule = is_some rule && (not (is_some (rule_of run column)) && nat_le 32 (length (columns_with_rules run)))
 
 -- Whether an instruction can't follow those that ran before it, in a program that began at a location.
 abbrev pub fault_of : ℕ → RowInstructions → Instruction → Option Fault

@@ -2,6 +2,7 @@
 -- keeps for its caller. System V x86-64 psABI, section 3.2.1 and the table of DWARF register numbers.
 use Rattle.std.specs.Prelude.{◌≡◌, ℕ, ◌^◌, ◌<◌, Bool, true, false, [], ◌∷◌, Some, IsFalse}
 use Rattle.unwind_definitions.specs.Membership.{is_among}
+use Rattle.unwind_definitions.specs.Columns as column
 use Rattle.unwind_definitions.specs.Caller.{Columns}
 
 -- the callee-saved registers, but for the stack pointer
@@ -29,12 +30,12 @@ value_of R15 s = s.r15
 
 -- the DWARF number of a register
 abbrev pub column_of : CalleeSaved → ℕ
-column_of RBX = 3
-column_of RBP = 6
-column_of R12 = 12
-column_of R13 = 13
-column_of R14 = 14
-column_of R15 = 15
+column_of RBX = column.rbx
+column_of RBP = column.rbp
+column_of R12 = column.r12
+column_of R13 = column.r13
+column_of R14 = column.r14
+column_of R15 = column.r15
 
 abbrev pub is_same : CalleeSaved → CalleeSaved → Bool
 is_same RBX RBX = true
@@ -53,13 +54,13 @@ pub record IsState (s : State) : Type 0 where
 
 -- columns show a state where they hold its return address, its stack pointer and its registers
 pub record Shows (columns : Columns) (s : State) : Type 0 where
-  pub ra : columns 16 ≡ Some s.ra
-  pub sp : columns 7 ≡ Some s.sp
+  pub ra : columns column.ra ≡ Some s.ra
+  pub sp : columns column.rsp ≡ Some s.sp
   pub saved : (r : CalleeSaved) → columns (column_of r) ≡ Some (value_of r s)
 
 -- the columns of a state
 abbrev pub is_followed : ℕ → Bool
-is_followed c = is_among (3 ∷ 6 ∷ 7 ∷ 12 ∷ 13 ∷ 14 ∷ 15 ∷ 16 ∷ []) c
+is_followed c = is_among (column.rbx ∷ column.rbp ∷ column.rsp ∷ column.r12 ∷ column.r13 ∷ column.r14 ∷ column.r15 ∷ column.ra ∷ []) c
 
 -- every column that is not one of a state's holds the same
 abbrev pub KeepsOthers : Columns → Columns → Type 0

@@ -194,12 +194,12 @@ module _ (f : Function) (small : f.end < 2 ^ 64) (listed actions : Input) where
       same : (x y : Action) → some_action x ≡ some_action y → acts x ≡ acts y
       same x y e = let is : x ≡ y = cc in ap acts is
 
-      read_same : (pad : ℕ) (r : Result (ℕ × Input) Fault) → (r >>= λ m. some_action (numbered_action pad m.0)) ≡ Ok s.action → tables.◌>>=◌ (tables.read r) (λ m. acts (numbered_action pad m.0)) ≡ Ok s.action
+      read_same : (pad : ℕ) (r : Result (ℕ × Input) Fault) → (r >>= λ m. some_action (numbered_action pad m.0)) ≡ Ok s.action → (tables.read r >>= λ m. acts (numbered_action pad m.0)) ≡ Ok s.action
       read_same pad (Ok m) e = same (numbered_action pad m.0) s.action e
       read_same pad (Err x) e = absurd cc
 
       by_index : (b : Bool) (pad : ℕ) → cond b (some_action (Cleanup pad)) (sleb (skip (n.index.0 - 1) actions) >>= λ m. some_action (numbered_action pad m.0)) ≡ Ok s.action →
-          cond b (acts (Cleanup pad)) (tables.◌>>=◌ (tables.read (sleb (skip (n.index.0 - 1) actions))) (λ m. acts (numbered_action pad m.0))) ≡ Ok s.action
+          cond b (acts (Cleanup pad)) (tables.read (sleb (skip (n.index.0 - 1) actions)) >>= λ m. acts (numbered_action pad m.0)) ≡ Ok s.action
       by_index true pad e = same (Cleanup pad) s.action e
       by_index false pad e = read_same pad (sleb (skip (n.index.0 - 1) actions)) e
 

@@ -13,7 +13,7 @@ use Rattle.unwind_definitions.specs.Function.{Function, IsFunction, Action, NoAc
 use Rattle.unwind_definitions.specs.LanguageTable.{LeadsToLanguage}
 use Rattle.unwind_definitions.specs.Module.{Process, AreApart, IsUncovered}
 use Rattle.unwind_definitions.specs.Chain.{Call, IsEnd, IsChain, states_of}
-use Rattle.unwind_definitions.specs.Delivery.{Frame, frames_of, action_of_frame, is_deciding, decides, cleanup_of, cleanup_pad, states_in, inner_frames, deciding_frame, Delivery, decided_by, not_installed, landing_at, Installed, EndOfStack, FatalPhase1, delivery_of}
+use Rattle.unwind_definitions.specs.Delivery.{Frame, frames_of, action_of_frame, is_deciding, decides, cleanup_of, cleanup_pad, states_in, inner_frames, deciding_frame, Delivery, decided_by, delivery_without_handler, landing_at, Installed, EndOfStack, FatalPhase1, delivery_of}
 use Rattle.unwind_definitions.specs.Valid.{IsDescribedChain}
 use Rattle.unwind_laws.specs.Columns.{columns_of}
 use Rattle.unwind_laws.specs.Walked.{Steps, IsWalk}
@@ -142,7 +142,7 @@ seen_alike s (c ∷ cs) (d ∷ ds) a =
 abbrev delivered : ℕ → List State → List (ℕ × ℕ) → State × Action → Delivery
 delivered e states trail (s, Catch pad) = record { visited = states ++ s ∷ []; trail = trail; landing = Some (landing_at e s pad); outcome = Installed }
 delivered e states trail (s, Filter pad) = record { visited = states ++ s ∷ []; trail = trail; landing = Some (landing_at e s pad); outcome = Installed }
-delivered e states trail (s, _) = not_installed (states ++ s ∷ []) FatalPhase1
+delivered e states trail (s, _) = delivery_without_handler (states ++ s ∷ []) FatalPhase1
 
 decided_is : (e : ℕ) (inside : List Frame) (s : State) (a : Action) → decided_by e inside s a ≡ delivered e (states_in inside) (filter_map cleanup_of inside) (s, a)
 decided_is e inside s NoAction = refl
@@ -152,12 +152,12 @@ decided_is e inside s (Filter pad) = refl
 decided_is e inside s Terminate = refl
 
 abbrev delivery_by : ℕ → List State → List (ℕ × ℕ) → List State → Option (State × Action) → Delivery
-delivery_by e states trail all o = option_map_or (delivered e states trail) o (not_installed all EndOfStack)
+delivery_by e states trail all o = option_map_or (delivered e states trail) o (delivery_without_handler all EndOfStack)
 
 delivery_is : (e : ℕ) (s : State) (cs : List Call) → delivery_of e s cs ≡ delivery_by e (states_in (inner_frames s cs)) (filter_map cleanup_of (inner_frames s cs)) (states_of s cs) (option_map view (deciding_frame s cs))
 delivery_is e s cs = go (deciding_frame s cs)
   where
-    go : (o : Option Frame) → option_map_or (λ (f : Frame). decided_by e (inner_frames s cs) f.state (action_of_frame f)) o (not_installed (states_of s cs) EndOfStack) ≡
+    go : (o : Option Frame) → option_map_or (λ (f : Frame). decided_by e (inner_frames s cs) f.state (action_of_frame f)) o (delivery_without_handler (states_of s cs) EndOfStack) ≡
         delivery_by e (states_in (inner_frames s cs)) (filter_map cleanup_of (inner_frames s cs)) (states_of s cs) (option_map view o)
     go None = refl
     go (Some f) = decided_is e (inner_frames s cs) f.state (action_of_frame f)

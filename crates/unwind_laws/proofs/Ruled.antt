@@ -7,7 +7,7 @@ use Rattle.std.proofs.lemmas.Bool.Decides.{nat_tests}
 use Rattle.memory_image.specs.Image.{Span}
 use Rattle.unwind_definitions.specs.Instructions.{Rule}
 use Rattle.unwind_definitions.specs.Row.{RowInstructions}
-use Rattle.unwind_definitions.specs.Caller.{Columns, Machine, StepFault, Evaluates, rule_value, value_for_column, unruled, column_value, value_in, fault_in, first_fault_below, unless_fault, column_limit, caller_with}
+use Rattle.unwind_definitions.specs.Caller.{Columns, Machine, StepFault, Evaluates, rule_value, value_for_column, value_without_rule, column_value, value_in, fault_in, first_fault_below, unless_fault, column_limit, caller_with}
 use Rattle.unwind_laws.specs.Undoes.{rule_in, ColumnsAscend, AreRules, with_column, then_columns, ruled}
 use Rattle.unwind_laws.proofs.Faultless.{HasValue, no_fault_below, first_fault_at}
 
@@ -32,7 +32,7 @@ nothing_below (r ∷ rules) low c up lt =
 module _ (machine : Machine) (evaluates : Evaluates) (image : List Span) (old : Columns) (cfa : ℕ) where
   -- what a rule gives a column, and what a column has without one
   abbrev value_by : Option Rule → ℕ → Result (Option ℕ) StepFault
-  value_by rule c = option_map_or (λ r. value_for_column (old c) (rule_value evaluates image old cfa c r)) rule (Ok (unruled machine old cfa c))
+  value_by rule c = option_map_or (λ r. value_for_column (old c) (rule_value evaluates image old cfa c r)) rule (Ok (value_without_rule machine old cfa c))
 
   -- the columns that are to come: those of the rules by them, the others as they are
   abbrev by_rules : List (ℕ × Rule) → Columns → ℕ → Option ℕ
@@ -72,7 +72,7 @@ module _ (machine : Machine) (evaluates : Evaluates) (image : List Span) (old : 
       go (Ok v) is ih = ih v ∙ ap (unless_fault (rules_fault rules)) (λ i c. set_first rules r new v (nothing_below rules (r.0 + 1) r.0 up.2 (omega arith)) is c i)
 
   has_unruled : (c : ℕ) → HasValue (value_by None c)
-  has_unruled c = (unruled machine old cfa c, refl)
+  has_unruled c = (value_without_rule machine old cfa c, refl)
 
   -- a column's value after low is by the rules, and those below it have one
   pub record IsBy (value : ℕ → Result (Option ℕ) StepFault) (low : ℕ) (rules : List (ℕ × Rule)) : Type 0 where
@@ -86,7 +86,7 @@ module _ (machine : Machine) (evaluates : Evaluates) (image : List Span) (old : 
       early c lt (inl before) = is.below c before
       early c lt (inr le) =
           let none : rule_in (r ∷ rules) c ≡ None = nothing_below (r ∷ rules) r.0 c (omega arith, up.1, up.2) lt in
-          (unruled machine old cfa c, is.behind c le ∙ ap (λ o. value_by o c) none)
+          (value_without_rule machine old cfa c, is.behind c le ∙ ap (λ o. value_by o c) none)
 
       or_same : (c : ℕ) → (c < r.0) ⊎ (c ≡ r.0) → HasValue (value c)
       or_same c (inl lt) = early c lt (order c low)
@@ -107,7 +107,7 @@ module _ (machine : Machine) (evaluates : Evaluates) (image : List Span) (old : 
     where
       has : (c : ℕ) → (c < low) ⊎ (low ≤ c) → HasValue (value c)
       has c (inl lt) = is.below c lt
-      has c (inr le) = (unruled machine old cfa c, is.behind c le)
+      has c (inr le) = (value_without_rule machine old cfa c, is.behind c le)
   first_is value low (r ∷ rules) up is = go (value_for_column (old r.0) (rule_value evaluates image old cfa r.0 r.1)) refl (first_is value (r.0 + 1) rules up.2)
     where
       self : (r.0 == r.0) ≡ true
@@ -120,7 +120,7 @@ module _ (machine : Machine) (evaluates : Evaluates) (image : List Span) (old : 
       early c lt (inl before) = is.below c before
       early c lt (inr le) =
           let none : rule_in (r ∷ rules) c ≡ None = nothing_below (r ∷ rules) r.0 c (omega arith, up.1, up.2) lt in
-          (unruled machine old cfa c, is.behind c le ∙ ap (λ o. value_by o c) none)
+          (value_without_rule machine old cfa c, is.behind c le ∙ ap (λ o. value_by o c) none)
 
       go : (p : Result (Option ℕ) StepFault) → value_for_column (old r.0) (rule_value evaluates image old cfa r.0 r.1) ≡ p → (IsBy value (r.0 + 1) rules → first_fault_below column_limit value ≡ rules_fault rules) →
           first_fault_below column_limit value ≡ option_or (fault_in p) (rules_fault rules)
@@ -130,14 +130,14 @@ module _ (machine : Machine) (evaluates : Evaluates) (image : List Span) (old : 
   by_each : (run : RowInstructions) (rules : List (ℕ × Rule)) → AreRules run rules → (c : ℕ) → column_value machine evaluates image old cfa run c ≡ value_by (rule_in rules c) c
   by_each run rules are c = ap (λ o. value_by o c) (sym (are.each c))
 
-  value_in_by : (o : Option Rule) (c : ℕ) → value_in (value_by o c) ≡ option_map_or (λ r. value_in (value_for_column (old c) (rule_value evaluates image old cfa c r))) o (unruled machine old cfa c)
+  value_in_by : (o : Option Rule) (c : ℕ) → value_in (value_by o c) ≡ option_map_or (λ r. value_in (value_for_column (old c) (rule_value evaluates image old cfa c r))) o (value_without_rule machine old cfa c)
   value_in_by None c = refl
   value_in_by (Some r) c = refl
 
   -- The caller by a row is what its rules give one after another, by ascending column, from the columns without rules.
-  pub caller_is_ruled : (run : RowInstructions) (rules : List (ℕ × Rule)) → AreRules run rules → caller_with machine evaluates image old run (Ok cfa) ≡ ruled evaluates image old cfa rules (unruled machine old cfa)
+  pub caller_is_ruled : (run : RowInstructions) (rules : List (ℕ × Rule)) → AreRules run rules → caller_with machine evaluates image old run (Ok cfa) ≡ ruled evaluates image old cfa rules (value_without_rule machine old cfa)
   caller_is_ruled run rules are =
       let is : IsBy (column_value machine evaluates image old cfa run) 0 rules = record { below = λ c lt. absurd (omega arith); behind = λ c le. by_each run rules are c } in
       ap (λ o. unless_fault o (λ c. value_in (column_value machine evaluates image old cfa run c))) (first_is (column_value machine evaluates image old cfa run) 0 rules are.ascend is)
       ∙ ap (unless_fault (rules_fault rules)) (λ i c. (ap value_in (by_each run rules are c) ∙ value_in_by (rule_in rules c) c) i)
-      ∙ sym (ruled_is rules 0 (unruled machine old cfa) are.ascend)
+      ∙ sym (ruled_is rules 0 (value_without_rule machine old cfa) are.ascend)

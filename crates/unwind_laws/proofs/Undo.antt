@@ -9,7 +9,7 @@ use Rattle.std.proofs.lemmas.List.Sums.{sum_by_push, sum_by-cons}
 use Rattle.memory_image.specs.Image.{Span, word_at}
 use Rattle.unwind_definitions.specs.Instructions.{Offset}
 use Rattle.unwind_definitions.specs.Row.{RowInstructions, CfaRule, ColumnAndOffset, rule_of, cfa_rule}
-use Rattle.unwind_definitions.specs.Caller.{◌+w◌, Columns, Evaluates, StepFault, x86_64, cfa_value, column_value, caller_of, unless_fault, value_in, unruled, column_limit}
+use Rattle.unwind_definitions.specs.Caller.{◌+w◌, Columns, Evaluates, StepFault, x86_64, cfa_value, column_value, caller_of, unless_fault, value_in, value_without_rule, column_limit}
 use Rattle.unwind_definitions.specs.State.{CalleeSaved, RBX, RBP, R12, R13, R14, R15, State, value_of, column_of, is_same, IsState, Shows, is_followed}
 use Rattle.unwind_definitions.specs.Prologue.{Followed, RDI, RSI, XMM, Step, Push, Allocate, SetFrame, Store, room_of, saves_from, frame_depth_from, distance_in, distance, depth, frame_depth, SystemV, EachMayFollow}
 use Rattle.unwind_definitions.specs.Entered.{Leaves, stack_after, frame_after, IsEntered}
@@ -115,7 +115,7 @@ plus a d top is lt = omega arith
 
 -- ---- a row that fits undoes the steps
 
-unruled_saved : (columns : Columns) (cfa : ℕ) (r : CalleeSaved) → unruled x86_64 columns cfa (column_of r) ≡ columns (column_of r)
+unruled_saved : (columns : Columns) (cfa : ℕ) (r : CalleeSaved) → value_without_rule x86_64 columns cfa (column_of r) ≡ columns (column_of r)
 unruled_saved columns cfa RBX = refl
 unruled_saved columns cfa RBP = refl
 unruled_saved columns cfa R12 = refl
@@ -135,7 +135,7 @@ some v = Some v
 -- a column that no state has may have no rule, and is not the stack pointer's
 pub record IsOther (columns : Columns) (cfa c : ℕ) : Type 0 where
   pub no_rule : may_have_rule c ≡ false
-  pub same : unruled x86_64 columns cfa c ≡ columns c
+  pub same : value_without_rule x86_64 columns cfa c ≡ columns c
 
 other : (columns : Columns) (cfa c : ℕ) → is_followed c ≡ false → IsOther columns cfa c
 other columns cfa c e = go (3 == c) (6 == c) (7 == c) (12 == c) (13 == c) (14 == c) (15 == c) (16 == c) refl refl refl refl refl refl refl refl e
@@ -187,13 +187,13 @@ module _ (evaluates : Evaluates) (image : List Span) (run : RowInstructions) (t 
   abbrev value : ℕ → Result (Option ℕ) StepFault
   value c = column_value x86_64 evaluates image columns t.sp run c
 
-  value_other : (c : ℕ) → may_have_rule c ≡ false → value c ≡ Ok (unruled x86_64 columns t.sp c)
+  value_other : (c : ℕ) → may_have_rule c ≡ false → value c ≡ Ok (value_without_rule x86_64 columns t.sp c)
   value_other c none = rw (gives.others c none) refl
 
   has_value : (c : ℕ) → Which c → HasValue (value c)
   has_value c ReturnColumn = (Some t.ra, gives.ra)
   has_value c (SavedColumn r) = (Some (value_of r t), gives.saved r)
-  has_value c (Other none) = (unruled x86_64 columns t.sp c, value_other c none)
+  has_value c (Other none) = (value_without_rule x86_64 columns t.sp c, value_other c none)
 
   abbrev caller : Columns
   caller c = value_in (value c)

@@ -8,7 +8,7 @@ ghost use Rattle.unwind_definitions.specs.Instructions.{Coding, Rule, Instructio
 ghost use Rattle.unwind_definitions.specs.Entries.{Fde};
 ghost use Rattle.unwind_definitions.specs.Row.{RowInstructions};
 ghost use Rattle.unwind_definitions.specs.Caller.{Columns, Evaluates, Machine, caller_with};
-ghost use Rattle.unwind_definitions.specs.Caller.{unruled};
+ghost use Rattle.unwind_definitions.specs.Caller.{value_without_rule};
 ghost use Rattle.unwind_definitions.specs.State.{CalleeSaved, RBP, State, value_of, IsState, Shows};
 ghost use Rattle.unwind_definitions.specs.Prologue.{SystemV, Step, PrologueStep, frame_depth};
 ghost use Rattle.unwind_definitions.specs.Prologue.{EachMayFollow};
@@ -73,7 +73,7 @@ pub fn caller_is_by_rules()
     ensures { (machine : Machine) (evaluates : Evaluates) (image : List Span) (columns : Columns)
         (cfa : ℕ) (run : RowInstructions) (rules : List (ℕ × Rule)) → AreRules run rules →
         caller_with machine evaluates image columns run (Ok cfa) ≡ ruled evaluates image columns cfa
-        rules (unruled machine columns cfa) }
+        rules (value_without_rule machine columns cfa) }
 {}
 
 /// Running the common program and then a description's, with one remembered state, gives the rules,

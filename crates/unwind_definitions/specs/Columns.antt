@@ -14,8 +14,21 @@ rbx = 3
 abbrev pub rbp : ℕ
 rbp = 6
 
+-- the stack pointer
 abbrev pub rsp : ℕ
 rsp = 7
+
+abbrev pub r12 : ℕ
+r12 = 12
+
+abbrev pub r13 : ℕ
+r13 = 13
+
+abbrev pub r14 : ℕ
+r14 = 14
+
+abbrev pub r15 : ℕ
+r15 = 15
 
 -- the return address
 abbrev pub ra : ℕ
