@@ -1,14 +1,16 @@
 -- A description's rows are added to a table, one location after another.
 use Rattle.std.proofs.Common.{◌≡◌, ℕ, ◌+◌, ◌<◌, ◌≤◌, Bool, cond, true, false, List, [], ◌∷◌, ◌++◌, length, map, Option, Some, None, Result, Ok, Err, refl, sym, ap, ◌∙◌, subst, inl, inr, arith, append_assoc, length-append}
 use Rattle.std.specs.Prelude.{is_some}
+use Rattle.std.specs.List.{AllByRecursion}
 use Rattle.std.proofs.lemmas.Bool.{lt-ltb, le-ltb}
 use Rattle.std.proofs.lemmas.List.{append-nil, map-append, length-map}
 use Rattle.std.specs.declared.alloc.AllocError.{AllocError}
 use Rattle.unwind_definitions.specs.declared.error.Error.{Error as Fault}
 use Rattle.unwind_definitions.specs.Instructions.{Program}
-use Rattle.unwind_definitions.specs.Row.{RowInstructions, location, from_common, row}
+use Rattle.unwind_definitions.specs.Row.{RowInstructions, location, from_common, row, up_to}
 use Rattle.frame_rows.specs.RowValue.{RowValue}
 use Rattle.frame_rows.specs.Rows.{GivesRow, IsLast}
+use Rattle.frame_rows.specs.Movable.{IsMovable, IsRelative}
 use Rattle.frame_rows.specs.Running.{push, outcome}
 use Rattle.frame_rows.specs.KeptRows.{Kept, KeptRows, Adds, AreRows, AreTooMany, IsAdded, Ascends, answer_rule_count, kept_rule_count, location_of, locations_after, reached_locations, rule_count_at, rule_count_of, then_location}
 use Rattle.frame_rows.specs.Stretches.{EndsStretch, IsLastStretch, IsStretch, IsFaultyStretch}
@@ -16,6 +18,7 @@ use Rattle.frame_rows.specs.TableRows.{IsPushed, Pushes, Keeps}
 use Rattle.frame_rows.specs.declared.machine.Machine.{Machine}
 use Rattle.frame_rows.specs.declared.row_table.RowLimits.{RowLimits}
 use Rattle.frame_rows.proofs.Columns.{count_ruled}
+use Rattle.frame_rows.proofs.Moved.{whole_part}
 use Rattle.frame_rows.proofs.StretchSteps.{location_pushed}
 use Rattle.frame_rows.proofs.Together.{common_fine, common_bad, common_stops, own_run, own_stops, row_made}
 
@@ -54,6 +57,15 @@ module _ (start end : ℕ) (common own : Program) (old : KeptRows) where
     pub rows : AreRows due_at here done
     pub kept : table.rows ≡ old.rows ++ done
     pub counted : table.rule_count ≡ old.rule_count + rule_count_at due_at (map location_of done)
+
+  -- A program was run to its end, and a table has what is kept of it: for locations behind its range, too.
+  pub record IsKeptWhole (here : ℕ) (new : KeptRows) : Type 0 where
+    pub kept : List Kept
+    pub locations : map location_of kept ≡ reached_locations start end common own
+    pub rows : (bound : ℕ) → here < bound → AreRows due_at bound kept
+    pub stand : new.rows ≡ old.rows ++ kept
+    pub counted : new.rule_count ≡ old.rule_count + kept_rule_count start end common own
+    pub last : IsMovable own → location start own.instructions ≡ here
 
   pub begin : (run : RowInstructions) → start < end → outcome 0 None (from_common []) common ≡ Ok run → IsAdding start (from_common common.instructions) own old
   begin run some ran = record {
@@ -200,6 +212,30 @@ module _ (start end : ℕ) (common own : Program) (old : KeptRows) where
 
       pub kept_on : next < end → IsAdding next (push st.now st.by) rest new
       kept_on inside = goes_on here now q table a limits k.0 as_many next new m rest st inside gives_up_to k.2.pushes
+
+    -- the program was run to its end: what is kept stays for locations behind the range
+    pub kept_whole : (st : IsLastStretch start now q m) → Keeps limits here (Ok None) m table (Ok true) new → IsKeptWhole here new
+    kept_whole st k =
+        let h = a.stands in
+        let gives = due_last run ran here now q table a m k.0 st (k.1 start st.now st.represents) in
+        let many = here_at k.0 end a.below gives k.2.ascends in
+        let all = locations_one here now q table a limits k.0 many ∙ ap (λ ls. map location_of a.done ++ here ∷ ls) (sym (st.no_more end)) ∙ a.listed in
+        record {
+          kept = a.done ++ record { location = here; answer = k.0 } ∷ [];
+          locations = all;
+          rows = λ bound past. rows_push due_at a.done here bound k.0 a.rows (λ pc le lt. given run ran here now q table a pc st.now k.0 le (st.stays pc (omega arith)) (k.1 start st.now st.represents));
+          stand = kept_one here now q table a limits k.0 many new k.2.pushes;
+          counted = counted_one here now q table a limits k.0 many new k.2.pushes ∙ ap (λ ls. old.rule_count + rule_count_at due_at ls) all;
+          last = λ movable. last_location st movable.each;
+        }
+      where
+        last_location : (st : IsLastStretch start now q m) → AllByRecursion IsRelative own.instructions → location start own.instructions ≡ here
+        last_location st relative =
+            let h = a.stands in
+            let pc : ℕ = here + location start own.instructions in
+            let ran_all = a.stays pc (omega arith) ∙ st.stays pc (omega arith) in
+            let is : up_to start pc own.instructions ≡ st.now.own = ap (λ (r : RowInstructions). r.own) (own_run start pc common own st.now ran_all) in
+            ap (location start) (sym (whole_part start pc own.instructions relative (omega arith)) ∙ is) ∙ st.stands ∙ sym a.stands
 
   -- ---- a description whose common program can't be run
 

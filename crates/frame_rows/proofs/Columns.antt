@@ -10,7 +10,7 @@ use Rattle.std.proofs.lemmas.List.Folds.{list_any-append}
 use Rattle.std.proofs.lemmas.Map.Made.{length-from_same_keys, is_member-filter}
 use Rattle.std.proofs.lemmas.Bool.{eqb-true, eqb-false, ltb-true, ltb-false, lt-leb, le-leb}
 use Rattle.unwind_definitions.specs.Instructions.{Rule, Instruction, Nop, Remember, Restore, Advance, SetLocation, Write, Reset, Cfa, CfaColumn, CfaOffset, CfaExpression, Arguments}
-use Rattle.unwind_definitions.specs.Row.{RowInstructions, last_said, cut_of, Cut, says_of, initial_rule, rule_of, column_named, distinct, ruled_columns, has_too_many_rules}
+use Rattle.unwind_definitions.specs.Row.{RowInstructions, last_said, cut_of, Cut, says_of, initial_rule, rule_of, column_named, distinct, columns_with_rules, has_too_many_rules}
 use Rattle.frame_rows.specs.Rules.{rule_in, AscendsFrom, is_room}
 
 -- ---- a column that no instruction names has no rule
@@ -147,7 +147,7 @@ member_columns (e ∷ es) q = rw (nat_eq_equiv.symm q e.0) (go (nat_eq e.0 q) (m
 
 -- ---- the count
 
-member_ruled : (run : RowInstructions) (q : ℕ) → is_member nat_eq (ruled_columns run) q ≡ is_some (rule_of run q)
+member_ruled : (run : RowInstructions) (q : ℕ) → is_member nat_eq (columns_with_rules run) q ≡ is_some (rule_of run q)
 member_ruled run q =
     is_member-filter nat_eq_equiv (λ c. is_some (rule_of run c)) q (λ x e. ap (λ k. is_some (rule_of run k)) (eqb-true q x e)) (distinct (filter_map column_named (run.common ++ run.own)))
     ∙ ap (λ b. b && is_some (rule_of run q)) (same_members (filter_map column_named (run.common ++ run.own)) q)
@@ -158,10 +158,10 @@ member_ruled run q =
     go false e = rw (e, unnamed run q e) refl
 
 -- As many columns have a rule as there are entries that say the rules.
-pub count_ruled : (run : RowInstructions) (es : List (ℕ × Rule)) → AscendsFrom 0 es → ((c : ℕ) → rule_in es c ≡ rule_of run c) → length es ≡ length (ruled_columns run)
+pub count_ruled : (run : RowInstructions) (es : List (ℕ × Rule)) → AscendsFrom 0 es → ((c : ℕ) → rule_in es c ≡ rule_of run c) → length es ≡ length (columns_with_rules run)
 count_ruled run es asc says =
     sym (length_columns es)
-    ∙ length-from_same_keys nat_eq_equiv (columns es) (ruled_columns run) (distinct_columns 0 es asc)
+    ∙ length-from_same_keys nat_eq_equiv (columns es) (columns_with_rules run) (distinct_columns 0 es asc)
     (distinct_filter (λ c. is_some (rule_of run c)) (distinct (filter_map column_named (run.common ++ run.own))) (is_distinct (filter_map column_named (run.common ++ run.own))))
     (λ q. member_columns es q ∙ ap is_some (says q) ∙ sym (member_ruled run q))
 
@@ -179,5 +179,5 @@ full false n m e = rw e (opposite m)
 -- A rule for a column is one too many exactly where there is no room.
 pub crowded_is : (run : RowInstructions) (es : List (ℕ × Rule)) (c : ℕ) (rule : Rule) → AscendsFrom 0 es → ((c : ℕ) → rule_in es c ≡ rule_of run c) → has_too_many_rules run c (Some rule) ≡ not (is_room c es)
 crowded_is run es c rule asc says =
-    ap (λ o. not (is_some o) && nat_le 32 (length (ruled_columns run))) (sym (says c))
-    ∙ sym (full (is_some (rule_in es c)) (length es) (length (ruled_columns run)) (count_ruled run es asc says))
+    ap (λ o. not (is_some o) && nat_le 32 (length (columns_with_rules run))) (sym (says c))
+    ∙ sym (full (is_some (rule_in es c)) (length es) (length (columns_with_rules run)) (count_ruled run es asc says))

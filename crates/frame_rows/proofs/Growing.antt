@@ -1,11 +1,12 @@
 -- A table of rows grows: what stood in it still stands, and says the same.
-use Rattle.std.proofs.Common.{◌≡◌, ℕ, ◌+◌, ◌<◌, ◌≤◌, List, [], ◌∷◌, ◌++◌, length, map, get_or, Result, Err, refl, ap, ◌∙◌, arith, length-append}
+use Rattle.std.proofs.Common.{◌≡◌, ℕ, ◌+◌, ◌<◌, ◌≤◌, List, [], ◌∷◌, ◌++◌, length, map, get_or, Result, Err, refl, sym, ap, ◌∙◌, arith, length-append}
 use Rattle.std.specs.List.{AllByRecursion}
-use Rattle.std.proofs.lemmas.List.{length-map, map-append, get_or_append_left}
+use Rattle.std.proofs.lemmas.List.{append-nil, length-map, map-append, get_or_append_left}
 use Rattle.unwind_definitions.specs.declared.error.Error.{Error as Fault}
 use Rattle.unwind_definitions.specs.declared.error.Error.TheVariants.{NoCfaRegister}
 use Rattle.frame_rows.specs.RowValue.{RowValue}
 use Rattle.frame_rows.specs.KeptRows.{Kept}
+use Rattle.frame_rows.specs.KnownRows.{IsLonger}
 use Rattle.frame_rows.specs.Bodies.{Grows, Says}
 use Rattle.frame_rows.specs.TableRows.{HasBody, IsPushed, kept_in}
 use Rattle.frame_rows.specs.declared.row_table.TableRow.{TableRow}
@@ -25,6 +26,10 @@ module _ (old new : List (Result RowValue Fault)) (g : Grows old new) where
       ap (λ (a : Result RowValue Fault). let r : Kept = record { location = k.location; answer = a } in r ∷ map (kept_in new) ks) there
       ∙ ap (λ l. kept_in old k ∷ l) (all_same ks all.1)
 
+  -- what stands in the table still does
+  pub still_there : (ks : List TableRow) → AllByRecursion (HasBody old) ks → IsLonger (map (kept_in old) ks) (map (kept_in new) ks)
+  still_there ks all = record { more = []; grown = all_same ks all ∙ sym (append-nil (map (kept_in old) ks)) }
+
   module _ (location place : ℕ) (answer : Result RowValue Fault) (says : Says new place answer) where
     abbrev pub added : TableRow
     added = record { location = location; body = place }
@@ -38,6 +43,9 @@ module _ (old new : List (Result RowValue Fault)) (g : Grows old new) where
         map-append (kept_in new) ks (added ∷ [])
         ∙ ap (λ l. l ++ kept_in new added ∷ []) (all_same ks all)
         ∙ ap (λ a. let r : Kept = record { location = location; answer = a } in map (kept_in old) ks ++ r ∷ []) (says.there (Err NoCfaRegister))
+
+    pub one_longer : (ks : List TableRow) → AllByRecursion (HasBody old) ks → IsLonger (map (kept_in old) ks) (map (kept_in new) (ks ++ added ∷ []))
+    one_longer ks all = record { more = record { location = location; answer = answer } ∷ []; grown = grown ks all }
 
     pub pushed : (limits : RowLimits) (rules count : ℕ) (ks : List TableRow) → AllByRecursion (HasBody old) ks → length ks < limits.rows → rules + count ≤ limits.rules →
         IsPushed limits location answer count (record { rows = map (kept_in old) ks; rule_count = rules }) (record { rows = map (kept_in new) (ks ++ added ∷ []); rule_count = rules + count })

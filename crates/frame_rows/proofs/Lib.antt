@@ -10,3 +10,8 @@ mod Adding
 mod BodiesGrow
 mod Growing
 mod LookedUp
+mod ByBytes
+mod Moved
+mod Serving
+mod Repeated
+mod Moving

@@ -11,7 +11,7 @@ use Rattle.unwind_definitions.specs.Row.{RowInstructions, fault_of, first_fault,
 use Rattle.frame_rows.specs.Running.{push, stops, part, outcome}
 use Rattle.frame_rows.proofs.Pushed.{lead, location-push}
 
-up_to_is : (at pc : ℕ) (i : Instruction) (is : List Instruction) → up_to at pc (i ∷ is) ≡ cond (stops at (Some pc) i) [] (i ∷ up_to (lead at i) pc is)
+pub up_to_is : (at pc : ℕ) (i : Instruction) (is : List Instruction) → up_to at pc (i ∷ is) ≡ cond (stops at (Some pc) i) [] (i ∷ up_to (lead at i) pc is)
 up_to_is at pc (Advance n) is = refl
 up_to_is at pc (SetLocation a) is = refl
 up_to_is at pc Nop is = refl

@@ -185,6 +185,7 @@ module _ (start : ℕ) (run : RowInstructions) (p : Program) (now : RowInstructi
   ends new reads represents = record {
     now = now;
     represents = represents;
+    stands = u.here;
     stays = λ pc le. u.stays pc le ∙ ap (outcome start (Some pc) now) reads ∙ nothing start (Some pc) now;
     no_more = λ end. u.same end ∙ ap (λ (q : Program). locations_after start end now q.instructions) reads;
   }

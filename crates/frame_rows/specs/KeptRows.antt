@@ -2,7 +2,7 @@
 use Rattle.std.specs.Prelude.{◌≡◌, ℕ, ◌+◌, ◌<◌, ◌≤◌, ◌⊎◌, Bool, true, false, List, [], ◌∷◌, ◌++◌, length, map, Result, Ok, Err, is_some, nat_lt, if◌then◌else◌}
 use Rattle.unwind_definitions.specs.declared.error.Error.{Error as Fault}
 use Rattle.unwind_definitions.specs.Instructions.{Instruction, Program}
-use Rattle.unwind_definitions.specs.Row.{RowInstructions, location, fault_of, common_fault, from_common, ruled_columns, row}
+use Rattle.unwind_definitions.specs.Row.{RowInstructions, location, fault_of, common_fault, from_common, columns_with_rules, row}
 use Rattle.frame_rows.specs.RowValue.{RowValue}
 use Rattle.frame_rows.specs.Rows.{GivesRow}
 use Rattle.frame_rows.specs.Rules.{AscendsFrom}
@@ -39,7 +39,7 @@ reached_locations start end common own = start ∷ (if is_some (common_fault com
 
 -- how many columns have a rule
 abbrev pub rule_count_of : Result RowInstructions Fault → ℕ
-rule_count_of (Ok run) = length (ruled_columns run)
+rule_count_of (Ok run) = length (columns_with_rules run)
 rule_count_of (Err e) = 0
 
 -- the same over several locations

@@ -2,6 +2,7 @@ pub mod Rules
 pub mod Running
 pub mod InstructionViews
 pub mod RowValue
+pub mod RoomRow
 pub mod Rows
 pub mod Left
 pub mod KeptRows
@@ -10,3 +11,6 @@ pub mod Bodies
 pub mod TableRows
 pub mod BegunPrograms
 pub mod Begun
+pub mod Movable
+pub mod KnownRows
+pub mod Again

@@ -1,11 +1,12 @@
 -- A stretch of addresses that share a row: from a location up to where the next instruction leads. No public clause cites this.
-use Rattle.std.specs.Prelude.{◌≡◌, ℕ, ◌+◌, ◌^◌, ◌<◌, ◌≤◌, ◌⊎◌, [], ◌∷◌, Option, Some, None, Result, Ok, Err}
+use Rattle.std.specs.Prelude.{◌≡◌, Bool, false, ℕ, ◌+◌, ◌^◌, ◌<◌, ◌≤◌, ◌⊎◌, [], ◌∷◌, Option, Some, None, Result, Ok, Err}
 use Rattle.unwind_definitions.specs.declared.error.Error.{Error as Fault}
 use Rattle.unwind_definitions.specs.Instructions.{Instruction, Advance, SetLocation, Coding, Program, program_from}
 use Rattle.unwind_definitions.specs.Row.{RowInstructions, location}
 use Rattle.encoded_pointers.specs.CursorViews.{at}
 use Rattle.frame_rows.specs.InstructionViews.{meaning}
 use Rattle.frame_rows.specs.Running.{Represents, outcome, push}
+use Rattle.frame_rows.specs.Movable.{IsRelative, IsMovable}
 use Rattle.frame_rows.specs.KeptRows.{locations_after, then_location}
 use Rattle.frame_rows.specs.declared.instruction.CallFrameInstruction.{CallFrameInstruction}
 use Rattle.frame_rows.specs.declared.machine.Machine.{Machine}
@@ -20,6 +21,18 @@ abbrev pub IsNext : Program → Result (Option CallFrameInstruction) Fault → P
 IsNext before (Ok None) rest = before ≡ record { instructions = []; fault = None }
 IsNext before (Ok (Some i)) rest = before ≡ record { instructions = meaning i ∷ rest.instructions; fault = rest.fault }
 IsNext before (Err e) rest = before ≡ record { instructions = []; fault = Some e }
+
+-- unless one of the instructions so far sets the location, the one that is read doesn't
+abbrev pub IsReadMoving : Bool → Result (Option CallFrameInstruction) Fault → Bool → Type 0
+IsReadMoving old (Ok None) new = new ≡ old
+IsReadMoving old (Ok (Some i)) new = new ≡ false → (old ≡ false) × IsRelative (meaning i)
+IsReadMoving old (Err e) new = Unit {0}
+
+-- unless an instruction sets the location, a program can be moved where what is left of it can
+abbrev pub MovesOn : Result (Option ℕ) Fault → Bool → Program → Bool → Program → Type 0
+MovesOn (Ok None) old before new rest = new ≡ false → (old ≡ false) × IsMovable before
+MovesOn (Ok (Some next)) old before new rest = new ≡ false → (old ≡ false) × (IsMovable rest → IsMovable before)
+MovesOn (Err e) old before new rest = Unit {0}
 
 -- an instruction leads no further than a location, or is a fault there
 abbrev pub IsStill : ℕ → Instruction → Type 0
@@ -36,6 +49,7 @@ LeadsOn here i (Some next) = (location here (i ∷ []) ≡ next) × (here < next
 pub record IsLastStretch (start : ℕ) (run : RowInstructions) (p : Program) (new : Machine) : Type 0 where
   pub now : RowInstructions
   pub represents : Represents start new now
+  pub stands : location start now.own ≡ location start run.own
   pub stays : (pc : ℕ) → location start run.own ≤ pc → outcome start (Some pc) run p ≡ Ok now
   pub no_more : (end : ℕ) → locations_after start end run p.instructions ≡ []
 

@@ -2,15 +2,19 @@
 
 ghost use Rattle.std.specs.Prelude.{◌≡◌};
 ghost use Rattle.frame_rows.specs.BegunPrograms.{before_last, last};
+ghost use Rattle.frame_rows.specs.KnownRows.{AreBlank, Notes};
 
+use crate::known_programs::{KnownProgram, KnownPrograms};
 use crate::machine::{Machine, RowState};
 use unwind_definitions::Error;
 
-/// What the program of a common information entry ended with: a row, or a fault.
+/// What the program of a common information entry ended with: a row, or a fault. And which programs
+/// of descriptions that name it are known.
 #[derive(Drop)]
 pub(crate) struct BegunProgram<'a> {
     pub(crate) state: RowState<'a>,
     pub(crate) fault: Option<Error>,
+    pub(crate) known: KnownPrograms<'a>,
 }
 
 impl<'a> BegunProgram<'a> {
@@ -19,15 +23,19 @@ impl<'a> BegunProgram<'a> {
         BegunProgram {
             state: RowState::new(),
             fault: None,
+            known: KnownPrograms::new(),
         }
     }
 
     // Puts what a machine ended with in place of it.
     fn put(&mut self, machine: &Machine<'a>, fault: Option<Error>)
-        ensures { self.new ≡ record { state = machine.now.state; fault = fault } }
+        ensures state { self.new.state ≡ machine.now.state }
+        ensures fault { self.new.fault ≡ fault }
+        ensures blank { AreBlank self.new.known.slots }
     {
         machine.put_state(&mut self.state);
         self.fault = fault;
+        self.known.clear();
     }
 }
 
@@ -72,13 +80,29 @@ impl<'a> BegunPrograms<'a> {
 
     /// Puts what a machine ended with in place of the last one.
     pub(crate) fn put(&mut self, machine: &Machine<'a>, fault: Option<Error>)
-        ensures last { last self.new ≡ record { state = machine.now.state; fault = fault } }
+        ensures state { (last self.new).state ≡ machine.now.state }
+        ensures fault { (last self.new).fault ≡ fault }
+        ensures blank { AreBlank (last self.new).known.slots }
         ensures before { before_last self.new ≡ before_last self.old }
     {
         if self.is_turned {
             self.second.put(machine, fault);
         } else {
             self.first.put(machine, fault);
+        }
+    }
+
+    /// Notes a program of a description that names the last one.
+    pub(crate) fn note(&mut self, known: KnownProgram<'a>)
+        ensures state { (last self.new).state ≡ (last self.old).state }
+        ensures fault { (last self.new).fault ≡ (last self.old).fault }
+        ensures notes { Notes (last self.old).known.slots known.entry (last self.new).known.slots }
+        ensures before { before_last self.new ≡ before_last self.old }
+    {
+        if self.is_turned {
+            self.second.known.note(known);
+        } else {
+            self.first.known.note(known);
         }
     }
 }

@@ -12,29 +12,60 @@ use crate::machine::Machine;
 use crate::program::run_programs;
 use crate::row::Row;
 use crate::row_ref::RowRef;
-use crate::rule::CfaRule;
 use crate::rules::RegisterRules;
 use encoded_pointers::Cursor;
 use std::marker::Model;
-use unwind_arch::Register;
 use unwind_definitions::Error;
 
-/// Room in which one row after another is made.
-///
-/// A row and what its programs need take some 4 KB, which are cleared when the room is made and not
-/// again for each row. Contracts see the row that was made last.
+/// A row, and the machine that makes it.
 #[derive(Drop)]
-pub struct RowRoom<'a> {
+struct Making<'a> {
     machine: Machine<'a>,
     row: Row<'a>,
 }
 
+impl<'a> Making<'a> {
+    fn new() -> Making<'a> {
+        Making {
+            machine: Machine::new(),
+            row: Row::new(RowRef::unmade().cfa(), RegisterRules::new(), 0),
+        }
+    }
+
+    fn make(
+        &mut self,
+        common: Cursor<'a>,
+        own: Cursor<'a>,
+        coding: Coding,
+        start: u64,
+        pc: u64,
+    ) -> Result<(), Error>
+        ensures { let coding = coding_in coding.entry in
+            GivesRow (made result self.new.row) (row start pc
+            (program coding (at common.entry)) (program coding (at own.entry))) }
+    {
+        run_programs(&mut self.machine, common, own, coding, start, pc)?;
+        self.machine.put_row(&mut self.row)
+    }
+}
+
+/// Room in which one row after another is made.
+///
+/// A row and what its programs need take some 4 KB, which are cleared when the first row is made and
+/// not again for each row. Contracts see the row that was made last.
+#[derive(Drop)]
+pub struct RowRoom<'a> {
+    // none before the first row
+    making: Option<Making<'a>>,
+}
+
 impl<'a> Model for RowRoom<'a> {
     ghost use Rattle.frame_rows.specs.RowValue.{RowValue};
+    ghost use Rattle.frame_rows.specs.RoomRow.{row_in};
 
     ghost Value = { RowValue };
 
-    ghost view = { λ r. r.row };
+    ghost view = { λ r. row_in r.making };
 }
 
 impl<'a> RowRoom<'a> {
@@ -42,21 +73,17 @@ impl<'a> RowRoom<'a> {
     pub fn new() -> RowRoom<'a>
         ensures { result ≡ record { cfa = ColumnAndOffset 0 0; rules = []; saved_args_size = 0 } }
     {
-        let cfa = CfaRule::RegisterAndOffset {
-            register: Register(0),
-            offset: 0,
-        };
-        RowRoom {
-            machine: Machine::new(),
-            row: Row::new(cfa, RegisterRules::new(), 0),
-        }
+        RowRoom { making: None }
     }
 
     /// The row that was made last. After a fault it is unspecified.
     pub fn row(&self) -> RowRef<'_, 'a>
         ensures { result ≡ self.now }
     {
-        self.row.as_ref()
+        let Some(making) = &self.making else {
+            return RowRef::unmade();
+        };
+        making.row.as_ref()
     }
 
     /// Makes the row at an address of a description whose program begins at `start`, as
@@ -73,7 +100,12 @@ impl<'a> RowRoom<'a> {
             GivesRow (made result self.new) (row start pc
             (program coding (at common.entry)) (program coding (at own.entry))) }
     {
-        run_programs(&mut self.machine, common, own, coding, start, pc)?;
-        self.machine.put_row(&mut self.row)
+        if let Some(making) = &mut self.making {
+            return making.make(common, own, coding, start, pc);
+        }
+        let mut making = Making::new();
+        let made = making.make(common, own, coding, start, pc);
+        self.making = Some(making);
+        made
     }
 }

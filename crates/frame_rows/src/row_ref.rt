@@ -1,6 +1,7 @@
 //! Rows whose rules stand elsewhere. DWARF 5 section 6.4.1.
 
 ghost use Rattle.std.specs.Prelude.{◌≡◌, ◌≤◌, length, map};
+ghost use Rattle.frame_rows.specs.RoomRow.{no_row};
 ghost use Rattle.frame_rows.specs.Rules.{entry_of, cfa_meaning, AscendsFrom};
 
 use crate::row::{Registers, Row};
@@ -57,6 +58,20 @@ impl<'r, 'a> RowRef<'r, 'a> {
             cfa,
             rules,
             saved_args_size,
+        }
+    }
+
+    /// That of a room in which none was made: it has no rules, and its CFA is register 0.
+    pub(crate) fn unmade() -> RowRef<'r, 'a>
+        ensures { result ≡ no_row }
+    {
+        RowRef {
+            cfa: CfaRule::RegisterAndOffset {
+                register: Register(0),
+                offset: 0,
+            },
+            rules: &[],
+            saved_args_size: 0,
         }
     }
 

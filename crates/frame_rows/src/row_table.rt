@@ -10,7 +10,10 @@ ghost use Rattle.frame_rows.specs.Rules.{entry_of, AscendsFrom};
 ghost use Rattle.frame_rows.specs.Rows.{GivesRow};
 ghost use Rattle.frame_rows.specs.Bodies.{kept_answer};
 ghost use Rattle.frame_rows.specs.TableRows.{HoldsAt, IsLastAt, Pushes};
+ghost use Rattle.frame_rows.specs.KnownRows.{IsLonger};
+ghost use Rattle.frame_rows.specs.Again.{KeepsAgain, Repeats};
 
+use crate::known_programs::KnownProgram;
 use crate::row_bodies::{KnownBodies, RowBodies};
 use crate::row_ref::RowRef;
 use crate::rule::{CfaRule, RegisterRule};
@@ -123,6 +126,7 @@ impl<'a> RowTable<'a> {
         ensures pushes { Pushes limits location answer.entry (answer_rule_count answer.entry)
             self.old result self.new }
         ensures ascends { Ascends answer.entry }
+        ensures grows { IsLonger self.old.rows self.new.rows }
     {
         match answer {
             Ok(row) => self.push_entry(
@@ -137,6 +141,33 @@ impl<'a> RowTable<'a> {
         }
     }
 
+    /// Keeps the rows of a program again, for a description that starts at a location. `false` where
+    /// they would be too many.
+    pub(crate) fn repeat(
+        &mut self,
+        known: &KnownProgram<'a>,
+        start: u64,
+        limits: RowLimits,
+    ) -> Result<bool, AllocError>
+        requires ordered { known.now.first_row ≤ known.now.end_row }
+        requires within { known.now.end_row ≤ length self.old.rows }
+        ensures again { KeepsAgain limits known.now start self.old result self.new }
+        ensures grows { IsLonger self.old.rows self.new.rows }
+    {
+        let count = known.end_row - known.first_row;
+        if self.rows.len() > limits.rows as usize
+            || count > limits.rows as usize - self.rows.len()
+            || self.rule_count > limits.rules
+            || known.rule_count > (limits.rules - self.rule_count) as usize
+        {
+            return Ok(false);
+        }
+        let shift = start.wrapping_sub(known.start);
+        repeat_rows(&mut self.rows, known.first_row, known.end_row, shift)?;
+        self.rule_count += known.rule_count as u32;
+        Ok(true)
+    }
+
     // Keeps a row by its parts, or a fault.
     fn push_entry(
         &mut self,
@@ -149,9 +180,10 @@ impl<'a> RowTable<'a> {
     ) -> Result<bool, AllocError>
         requires ascending { AscendsFrom 0 (map entry_of rules.now) }
         requires few { length rules.now ≤ 32 }
-        ensures { Pushes limits location
+        ensures pushes { Pushes limits location
             (kept_answer cfa.entry (map entry_of rules.now) saved_args_size) (length rules.now)
             self.old result self.new }
+        ensures grows { IsLonger self.old.rows self.new.rows }
     {
         let rule_count = self.rule_count as usize + rules.len();
         if self.rows.len() >= limits.rows as usize || rule_count > limits.rules as usize {
@@ -162,6 +194,25 @@ impl<'a> RowTable<'a> {
         self.rule_count = rule_count as u32;
         Ok(true)
     }
+}
+
+// Puts rows behind the others that stand among them, each so much further on.
+fn repeat_rows(
+    rows: &mut Vec<TableRow>,
+    first: usize,
+    end: usize,
+    shift: u64,
+) -> Result<(), AllocError>
+    requires ordered { first ≤ end }
+    requires within { end ≤ length rows.old.items }
+    ensures { Repeats shift first end rows.old.items result rows.new.items }
+{
+    for i in first..end {
+        let TableRow { location, body } = rows[i];
+        let location = location.wrapping_add(shift);
+        rows.push(TableRow { location, body })?;
+    }
+    Ok(())
 }
 
 // The index of the last of some rows that is at or before an address, where the first one is.

@@ -7,11 +7,14 @@ ghost use Rattle.encoded_pointers.specs.CursorViews.{at};
 ghost use Rattle.frame_rows.specs.InstructionViews.{coding_in};
 ghost use Rattle.frame_rows.specs.KeptRows.{Adds};
 ghost use Rattle.frame_rows.specs.Begun.{HasBegun, HasBegunBefore};
+ghost use Rattle.frame_rows.specs.BegunPrograms.{before_last, last};
+ghost use Rattle.frame_rows.specs.KnownRows.{AreKnown, IsLonger, NotesUnless};
 ghost use Rattle.frame_rows.specs.Running.{Represents, outcome};
 ghost use Rattle.frame_rows.specs.TableRows.{Keeps};
 
 use crate::begun::BegunPrograms;
 use crate::coding::Coding;
+use crate::known_programs::KnownProgram;
 use crate::machine::Machine;
 use crate::program::run_common;
 use crate::row_bodies::KnownBodies;
@@ -95,10 +98,16 @@ impl<'a> RowTableBuilder<'a> {
         let common = self.begun.last();
         match common.fault {
             Some(e) => self.table.push(&mut self.known, start, Err(e), self.limits),
-            None => {
-                self.machine.begin_after(&common.state, start);
-                self.add_rows(own, coding, start, end)
-            }
+            None => match common
+                .known
+                .find(own, coding, end - start, self.table.len())
+            {
+                Some(known) => self.table.repeat(&known, start, self.limits),
+                None => {
+                    self.machine.begin_after(&common.state, start);
+                    self.add_rows(own, coding, start, end)
+                }
+            },
         }
     }
 
@@ -157,8 +166,17 @@ impl<'a> RowTableBuilder<'a> {
             Adds self.old.limits start end common (program (coding_in coding.entry) (at own.entry))
             self.old.table result self.new.table }
         ensures limits { self.new.limits ≡ self.old.limits }
-        ensures begun { self.new.begun ≡ self.old.begun }
+        ensures state { (last self.new.begun).state ≡ (last self.old.begun).state }
+        ensures fault { (last self.new.begun).fault ≡ (last self.old.begun).fault }
+        ensures known { (common : Program) (run : RowInstructions) →
+            outcome 0 None (from_common []) common ≡ Ok run →
+            Represents start self.old.machine (from_common common.instructions) →
+            AreKnown common self.old.table.rows (last self.old.begun).known →
+            AreKnown common self.new.table.rows (last self.new.begun).known }
+        ensures before { before_last self.new.begun ≡ before_last self.old.begun }
+        ensures grows { IsLonger self.old.table.rows self.new.table.rows }
     {
+        let (first_row, first_rule) = (self.table.len(), self.table.rule_count());
         let mut instructions = Instructions::new(own);
         let mut location = start;
         loop {
@@ -174,9 +192,37 @@ impl<'a> RowTableBuilder<'a> {
                     self.machine.go_on(next);
                     location = next;
                 }
-                Ok(None) => return Ok(true),
+                Ok(None) => {
+                    let known = KnownProgram {
+                        bytes: own.bytes(),
+                        code_factor: coding.code_factor,
+                        data_factor: coding.data_factor,
+                        start,
+                        reach: location.saturating_sub(start),
+                        first_row,
+                        end_row: self.table.len(),
+                        rule_count: self.table.rule_count().saturating_sub(first_rule),
+                    };
+                    self.note(known, instructions.sets_location());
+                    return Ok(true);
+                }
                 Err(_) => return Ok(true),
             }
+        }
+    }
+
+    // Notes a program that was run to its end, unless it sets the location.
+    fn note(&mut self, known: KnownProgram<'a>, sets_location: bool)
+        ensures state { (last self.new.begun).state ≡ (last self.old.begun).state }
+        ensures fault { (last self.new.begun).fault ≡ (last self.old.begun).fault }
+        ensures notes { NotesUnless sets_location (last self.old.begun).known.slots known.entry
+            (last self.new.begun).known.slots }
+        ensures before { before_last self.new.begun ≡ before_last self.old.begun }
+        ensures table { self.new.table ≡ self.old.table }
+        ensures limits { self.new.limits ≡ self.old.limits }
+    {
+        if !sets_location {
+            self.begun.note(known);
         }
     }
 
@@ -187,6 +233,7 @@ impl<'a> RowTableBuilder<'a> {
         ensures machine { self.new.machine ≡ self.old.machine }
         ensures limits { self.new.limits ≡ self.old.limits }
         ensures begun { self.new.begun ≡ self.old.begun }
+        ensures grows { IsLonger self.old.table.rows self.new.table.rows }
     {
         match next {
             Ok(_) => {

@@ -1,8 +1,10 @@
-use Rattle.std.proofs.Common.{◌≡◌, [], None, Ok}
+use Rattle.std.proofs.Common.{◌≡◌, false, [], None, Ok}
 use Rattle.unwind_definitions.specs.Instructions.{program, Program}
 use Rattle.unwind_definitions.specs.Row.{RowInstructions, from_common}
 use Rattle.encoded_pointers.specs.CursorViews.{at}
 use Rattle.frame_rows.specs.InstructionViews.{coding_in}
+use Rattle.frame_rows.specs.KnownRows.{IsLonger}
+use Rattle.frame_rows.specs.Movable.{IsMovable}
 use Rattle.frame_rows.specs.Running.{Represents, outcome}
 use Rattle.frame_rows.specs.Stretches.{left_of}
 use Rattle.frame_rows.proofs.Adding.{IsAdding}
@@ -15,6 +17,8 @@ invariant-loop-next l = (l.self.limits ≡ l.fn.self.limits) × ((common : Progr
     (now : RowInstructions) × Represents l.start l.self.machine now ×
     IsAdding l.start l.end common (program (coding_in l.coding) (at l.own)) l.fn.self.table l.location now (left_of (coding_in l.coding) l.instructions) l.self.table)
     × (l.self.begun ≡ l.fn.self.begun)
+    × IsLonger l.fn.self.table.rows l.self.table.rows
+    × (l.instructions.sets_location ≡ false → IsMovable (left_of (coding_in l.coding) l.instructions) → IsMovable (program (coding_in l.coding) (at l.own)))
 
 abbrev pub decreases-loop-next : goal.decreases-loop-next
 decreases-loop-next l = l.instructions.left

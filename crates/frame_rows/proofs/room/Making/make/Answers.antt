@@ -1,6 +1,6 @@
 use Rattle.std.proofs.lemmas.Result.{err_from_is_err_and}
 use Rattle.frame_rows.specs.Rows.{made}
-use Rattle.frame_rows.proofs.room.RowRoom.make.Goals as goal
+use Rattle.frame_rows.proofs.room.Making.make.Goals as goal
 
 pub returns-in_err-run_programs : goal.returns-in_err-run_programs
 returns-in_err-run_programs c =

@@ -1,0 +1,10 @@
+-- A program whose instructions are read one by one sets no location where none of them does.
+use Rattle.std.proofs.Common.{◌≡◌, [], ◌∷◌, None, refl, sym, subst}
+use Rattle.unwind_definitions.specs.Instructions.{Instruction, Program}
+use Rattle.frame_rows.specs.Movable.{IsRelative, IsMovable}
+
+pub movable_one : (p r : Program) (i : Instruction) → p ≡ record { instructions = i ∷ r.instructions; fault = r.fault } → IsRelative i → IsMovable r → IsMovable p
+movable_one p r i reads relative m = subst IsMovable (sym reads) (record { whole = m.whole; each = (relative, m.each) })
+
+pub movable_none : (p : Program) → p ≡ record { instructions = []; fault = None } → IsMovable p
+movable_none p reads = subst IsMovable (sym reads) (record { whole = refl; each = tt })
