@@ -87,66 +87,62 @@ module _ {X : Type 0} (fde : X → Fde) where
   starts_rise (x ∷ xs) low (suc i) zero d apart le lt = absurd (omega arith)
   starts_rise (x ∷ xs) low (suc i) (suc j) d apart le lt = starts_rise xs (end_of (fde x)) i j d apart.2 (omega arith) (omega arith)
 
+  -- a range ends at or before the start of the next
+  pub ends_before : (xs : List X) (low i : ℕ) (d : X) → AscendApart fde low xs → suc i < length xs → end_of (fde (get_or xs i d)) ≤ (fde (get_or xs (suc i) d)).start
+  ends_before [] low i d apart lt = absurd (omega arith)
+  ends_before (x ∷ []) low i d apart lt = absurd (omega arith)
+  ends_before (x ∷ y ∷ ys) low zero d apart lt = let rest : AscendApart fde (end_of (fde x)) (y ∷ ys) = apart.2 in rest.0
+  ends_before (x ∷ y ∷ ys) low (suc i) d apart lt = ends_before (y ∷ ys) (end_of (fde x)) i d apart.2 (omega arith)
+
 -- ---- the search
 
 module _ (fs : List Described) (pc : ℕ) where
-  -- the range just below an index, if there is one, starts at or before the address
-  abbrev pub StartsBelow : ℕ → Type 0
-  StartsBelow zero = Unit {0}
-  StartsBelow (suc i) = (d : Described) → (get_or fs i d).fde.start ≤ pc
+  -- the range just below an index, if there is one, ends at or before the address
+  abbrev pub EndsBelow : ℕ → Type 0
+  EndsBelow zero = Unit {0}
+  EndsBelow (suc i) = (d : Described) → end_of (get_or fs i d).fde ≤ pc
 
   pub record IsBetween (low high : ℕ) : Type 0 where
     pub ordered : low ≤ high
     pub within : high ≤ length fs
-    pub below : StartsBelow low
+    pub below : EndsBelow low
     pub after : (d : Described) → high < length fs → pc < (get_or fs high d).fde.start
 
   -- the functions in a bounds
-  pub narrow : (w : Bounds) → Narrows fs pc w → IsBetween w.low w.high
-  narrow w n = let some = n.some in record { ordered = omega arith; within = n.within; below = below w.low n.before; after = n.after }
+  pub narrow : (w : Bounds) → AscendApart described_fde 0 fs → Narrows fs pc w → IsBetween w.low w.high
+  narrow w apart n = let some = n.some in let within = n.within in record { ordered = omega arith; within = within; below = below w.low (omega arith) n.reached; after = n.after }
     where
-      below : (low : ℕ) → ((i : ℕ) (d : Described) → i < low → (get_or fs i d).fde.start ≤ pc) → StartsBelow low
-      below zero before = tt
-      below (suc i) before = λ d. before i d (omega arith)
+      below : (low : ℕ) → low < length fs → ((d : Described) → 0 < low → (get_or fs low d).fde.start ≤ pc) → EndsBelow low
+      below zero lt reached = tt
+      below (suc i) lt reached = λ d. let a = reached d (omega arith) in let b = ends_before described_fde fs 0 i d apart lt in omega arith
 
-  pub raised : (low high middle start : ℕ) → IsBetween low high → middle < high → ((d : Described) → start ≡ (get_or fs middle d).fde.start) → start ≤ pc → IsBetween (middle + 1) high
-  raised low high middle start s lt at le =
+  pub raised : (low high middle end : ℕ) → IsBetween low high → middle < high → ((d : Described) → end ≡ end_of (get_or fs middle d).fde) → end ≤ pc → IsBetween (middle + 1) high
+  raised low high middle end s lt at le =
       let more : middle + 1 ≡ suc middle = omega arith in
-      let there : StartsBelow (suc middle) = λ d. let a = at d in omega arith in
-      record { ordered = omega arith; within = s.within; below = subst (λ n. StartsBelow n) (sym more) there; after = s.after }
+      let there : EndsBelow (suc middle) = λ d. let a = at d in omega arith in
+      record { ordered = omega arith; within = s.within; below = subst (λ n. EndsBelow n) (sym more) there; after = s.after }
 
   pub lowered : (low high middle start : ℕ) → IsBetween low high → low ≤ middle → middle < high → ((d : Described) → start ≡ (get_or fs middle d).fde.start) → pc < start → IsBetween low middle
   lowered low high middle start s ge lt at above =
       let w = s.within in record { ordered = ge; within = omega arith; below = s.below; after = λ d below. let a = at d in omega arith }
 
-  pub ended_inside : (low high end : ℕ) → IsBetween low high → 0 < low → ((d : Described) → end ≡ end_of (get_or fs (low - 1) d).fde) → pc < end → FindsIndex fs pc (Some (low - 1))
-  ended_inside zero high end s some at inside = absurd (omega arith)
-  ended_inside (suc i) high end s some at inside =
-      let o = s.ordered in let w = s.within in
-      let one : suc i - 1 ≡ i = omega arith in
-      let there = subst (λ n. (d : Described) → end ≡ end_of (get_or fs n d).fde) one at in
-      subst (λ n. FindsIndex fs pc (Some n)) (sym one) (omega arith, λ d. let from = s.below d in let to = there d in covers_is (get_or fs i d).fde pc from (omega arith))
-
-  pub ended_first : (high : ℕ) → AscendApart described_fde 0 fs → IsBetween 0 high → high ≤ 0 → FindsIndex fs pc None
+  ended_first : (high : ℕ) → AscendApart described_fde 0 fs → IsBetween 0 high → high ≤ 0 → FindsIndex fs pc None
   ended_first high apart s le =
       let at : high ≡ 0 = omega arith in
       all_after described_fde fs 0 pc apart (subst (λ n. (d : Described) → n < length fs → pc < (get_or fs n d).fde.start) at s.after)
 
-  pub ended_outside : (low high end : ℕ) → AscendApart described_fde 0 fs → IsBetween low high → high ≤ low → 0 < low → ((d : Described) → end ≡ end_of (get_or fs (low - 1) d).fde) → end ≤ pc → FindsIndex fs pc None
-  ended_outside zero high end apart s le some at outside = absurd (omega arith)
-  ended_outside (suc i) high end apart s le some at outside = some_item fs refl
+  pub ended : (low high : ℕ) → AscendApart described_fde 0 fs → IsBetween low high → high ≤ low → FindsIndex fs pc None
+  ended zero high apart s le = ended_first high apart s le
+  ended (suc i) high apart s le = some_item fs refl
     where
       next : high ≡ i + 1
       next = let o = s.ordered in omega arith
 
-      one : suc i - 1 ≡ i
-      one = omega arith
-
       some_item : (gs : List Described) → gs ≡ fs → AllByRecursion (λ d. covers_pc d.fde pc ≡ false) fs
       some_item [] is = let n = ap length is in let o = s.ordered in let w = s.within in absurd (omega arith)
       some_item (g ∷ gs) is =
-          let to = subst (λ n. (d : Described) → end ≡ end_of (get_or fs n d).fde) one at g in let o = s.ordered in let w = s.within in
-          none_contain described_fde fs 0 pc i g apart (omega arith) (omega arith) (λ d lt. subst (λ n. n < length fs → pc < (get_or fs n d).fde.start) next (s.after d) lt)
+          let o = s.ordered in let w = s.within in
+          none_contain described_fde fs 0 pc i g apart (omega arith) (s.below g) (λ d lt. subst (λ n. n < length fs → pc < (get_or fs n d).fde.start) next (s.after d) lt)
 
 -- ---- the steps
 

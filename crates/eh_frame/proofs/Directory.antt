@@ -33,7 +33,7 @@ at_address starts first digits pc directory w d le lt is =
     let of : AreBoundsOf starts (first + b * 2 ^ digits) (first + (b + 1) * 2 ^ digits) w = subst (λ (v : Bounds). AreBoundsOf starts (first + b * 2 ^ digits) (first + (b + 1) * 2 ^ digits) v) (sym is) (d.each b w lt) in
     record {
       within = of.within;
-      before = λ i below. let a = of.before i below in omega arith;
+      reached = λ some. let a = of.reached some in omega arith;
       after = λ above. let a = of.after above in omega arith;
     }
 
@@ -72,7 +72,7 @@ next_from first from to digits ws w at next =
 
 -- the bounds of a stretch: from the last of those before it on, to the first after it
 pub bounds_of : (starts : List ℕ) (from to before : ℕ) (w : Bounds) → AreBefore starts before from → w.low ≡ before - 1 → w.high ≤ length starts → (w.high < length starts → to ≤ get_or starts w.high 0) → AreBoundsOf starts from to w
-bounds_of starts from to before w all low within after = record { within = within; before = λ i lt. all i (omega arith); after = after }
+bounds_of starts from to before w all low within after = record { within = within; reached = λ some. let a = all w.low (omega arith) in omega arith; after = after }
 
 pub still_before : (starts : List ℕ) (count from to : ℕ) → AreBefore starts count from → from ≤ to → AreBefore starts count to
 still_before starts count from to all le i lt = let a = all i lt in omega arith
@@ -103,6 +103,6 @@ module _ (cies : List CodeCie) (rows : List Kept) where
       record {
         some = some;
         within = omega arith;
-        before = λ i d lt. let a = at.before i lt in let e = ap (λ (l : List ℕ). get_or l i 0) are in let f = start_at fs i d (omega arith) in omega arith;
+        reached = λ d before. let a = at.reached before in let e = ap (λ (l : List ℕ). get_or l w.low 0) are in let f = start_at fs w.low d (omega arith) in omega arith;
         after = λ d lt. let a = at.after (omega arith) in let e = ap (λ (l : List ℕ). get_or l w.high 0) are in let f = start_at fs w.high d (omega arith) in omega arith;
       }

@@ -6,16 +6,17 @@ use Rattle.eh_frame.specs.declared.starts.Bounds.{Bounds}
 abbrev pub AreBefore : List ℕ → ℕ → ℕ → Type 0
 AreBefore starts count a = (i : ℕ) → i < count → slice_index starts i < a
 
--- for each address from one to before another a search looks only at those between bounds
+-- for each address from one to before another a search looks only at those between bounds, of which the first
+-- is at or before it, unless none stands before them
 pub record AreBoundsOf (starts : List ℕ) (from to : ℕ) (w : Bounds) : Type 0 where
   pub within : w.high ≤ length starts
-  pub before : AreBefore starts w.low from
+  pub reached : 0 < w.low → slice_index starts w.low ≤ from
   pub after : w.high < length starts → to ≤ slice_index starts w.high
 
 -- the same for one address
 pub record AreBoundsAt (starts : List ℕ) (pc : ℕ) (w : Bounds) : Type 0 where
   pub within : w.high ≤ length starts
-  pub before : (i : ℕ) → i < w.low → slice_index starts i ≤ pc
+  pub reached : 0 < w.low → slice_index starts w.low ≤ pc
   pub after : w.high < length starts → pc < slice_index starts w.high
 
 -- a directory has stretches, one after another, each as long as a power of two

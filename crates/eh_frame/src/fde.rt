@@ -33,6 +33,7 @@ pub struct Fde<'a> {
 impl<'a> Fde<'a> {
     ghost use Rattle.std.specs.Prelude.{◌&&◌};
     ghost use Rattle.unwind_definitions.specs.Augmentation.{has_letter, language_letter};
+    ghost use Rattle.unwind_definitions.specs.Augmentation.{personality_letter};
     ghost use Rattle.unwind_definitions.specs.Entries.{fde_body};
     ghost use Rattle.unwind_definitions.specs.Row.{covers_pc, row_at};
     ghost use Rattle.eh_frame.specs.EntryViews.{cie_of, fde_of};
@@ -84,6 +85,7 @@ impl<'a> Fde<'a> {
     }
 
     // A description of a list, with its common information entry.
+    #[inline(always)]
     pub(crate) fn with_cie(cie: Cie<'a>, listed: &ListedFde<'a>) -> Fde<'a>
         requires { IsTold (cie_of cie) listed.now }
         ensures { fde_of result ≡ fde_with (cie_of cie.entry) listed.now }
@@ -117,10 +119,13 @@ impl<'a> Fde<'a> {
         self.lsda
     }
 
-    /// The personality of the common information entry.
+    /// The personality of the common information entry. `None` exactly where the augmentation has
+    /// no `P`.
     pub fn personality(&self) -> Option<Pointer>
-        ensures { option_map pointer_of result ≡ option_map
+        ensures pointer { option_map pointer_of result ≡ option_map
             (λ p. p.1) (fde_of self.now).cie.letters.personality }
+        ensures letter { is_some result ≡ has_letter personality_letter
+            (fde_of self.now).cie.augmentation }
     {
         self.cie.personality()
     }

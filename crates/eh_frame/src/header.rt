@@ -1,20 +1,30 @@
 //! The header of a frame table, and its table of descriptions.
 
-ghost use Rattle.std.specs.Prelude.{◌≡◌, ◌+◌, ◌<◌, ◌≤◌};
+ghost use Rattle.std.specs.Prelude.{◌≡◌, ◌+◌, ◌<◌, ◌≤◌, Some};
 ghost use Rattle.std.specs.Option.{option_map};
-ghost use Rattle.unwind_definitions.specs.Pointers.{format_of};
+ghost use Rattle.unwind_definitions.specs.Pointers.{Bases as SpecBases, format_of};
 ghost use Rattle.unwind_definitions.specs.Header.{header, pair_at, pair_count, pair_from, table_in};
 ghost use Rattle.unwind_definitions.specs.Header.{width_of};
 ghost use Rattle.encoded_pointers.specs.Readers.{Answers, GivesOr};
 ghost use Rattle.encoded_pointers.specs.CursorViews.{at};
 ghost use Rattle.encoded_pointers.specs.PointerViews.{bases_of, pointer_of};
 
+use encoded_pointers::constants::{
+    DW_EH_PE_ABSPTR, DW_EH_PE_DATAREL, DW_EH_PE_SDATA2, DW_EH_PE_SDATA4, DW_EH_PE_SDATA8,
+    DW_EH_PE_UDATA2, DW_EH_PE_UDATA4, DW_EH_PE_UDATA8,
+};
 use encoded_pointers::{
     Bases, Cursor, DwEhPe, Pointer, parse_direct_pointer, parse_encoded_pointer,
     parse_pointer_encoding, read_value,
 };
 use memory_image::{Ledger, Steps};
 use unwind_definitions::Error;
+
+// The one version of a header.
+const VERSION: u8 = 1;
+
+// How linkers spell the addresses of a header's table: four signed bytes, relative to the header.
+const HEADER_RELATIVE: DwEhPe = DwEhPe(DW_EH_PE_DATAREL | DW_EH_PE_SDATA4);
 
 /// The header of a frame table: the bytes of `.eh_frame_hdr`. It says where the frame table is, and
 /// may have a table by which a description is searched.
@@ -59,7 +69,7 @@ impl<'a> EhFrameHdr<'a> {
             ..*bases
         };
         let mut input = Cursor::new(bytes, address);
-        if input.read_u8()? != 1 {
+        if input.read_u8()? != VERSION {
             return Err(Error::UnknownVersion);
         }
         let pointer_encoding = parse_pointer_encoding(&mut input)?;
@@ -162,6 +172,27 @@ impl<'a> HdrTable<'a> {
 fn read_pair(encoding: DwEhPe, bases: &Bases, input: Cursor) -> Result<(u64, u64), Error>
     ensures { Answers (λ p. p) result (pair_from encoding.0 (bases_of bases.now) (at input.entry)) }
 {
+    match bases.data_base {
+        Some(base) if encoding == HEADER_RELATIVE => read_relative_pair(base, input),
+        _ => read_any_pair(encoding, bases, input),
+    }
+}
+
+// The same by the encoding that linkers choose, relative to the header at `base`.
+fn read_relative_pair(base: u64, input: Cursor) -> Result<(u64, u64), Error>
+    ensures { (bases : SpecBases) → bases.data_base ≡ Some base →
+        Answers (λ p. p) result (pair_from 0x3b bases (at input.entry)) }
+{
+    let mut rest = input;
+    let start = i64::from(rest.read_i32()?).cast_unsigned();
+    let description = i64::from(rest.read_i32()?).cast_unsigned();
+    Ok((base.wrapping_add(start), base.wrapping_add(description)))
+}
+
+// The same by any encoding.
+fn read_any_pair(encoding: DwEhPe, bases: &Bases, input: Cursor) -> Result<(u64, u64), Error>
+    ensures { Answers (λ p. p) result (pair_from encoding.0 (bases_of bases.now) (at input.entry)) }
+{
     let mut rest = input;
     let start = parse_direct_pointer(encoding, bases, &mut rest)?;
     let description = parse_direct_pointer(encoding, bases, &mut rest)?;
@@ -188,9 +219,9 @@ fn width_of(encoding: DwEhPe) -> Option<u64>
     ensures { result ≡ width_of (format_of encoding.0) }
 {
     match encoding.format().0 {
-        0x02 | 0x0a => Some(2),
-        0x03 | 0x0b => Some(4),
-        0x00 | 0x04 | 0x0c => Some(8),
+        DW_EH_PE_UDATA2 | DW_EH_PE_SDATA2 => Some(2),
+        DW_EH_PE_UDATA4 | DW_EH_PE_SDATA4 => Some(4),
+        DW_EH_PE_ABSPTR | DW_EH_PE_UDATA8 | DW_EH_PE_SDATA8 => Some(8),
         _ => None,
     }
 }

@@ -10,10 +10,11 @@
 //! A [`Prepared`] table is an index by address with the rows of all descriptions, in which a look-up
 //! is a search.
 //!
-//! Entries are read in all forms: lengths of four and of eight bytes, common information entries of
-//! the versions 1, 3 and 4, no augmentation or a `z` and the letters `L`, `P`, `R` and `S` in any
-//! order, and pointers of any encoding. Programs may have
-//! every instruction of DWARF 5, and `DW_CFA_GNU_args_size`.
+//! Entries are read in these forms: lengths of four and of eight bytes; common information entries
+//! of the versions 1, 3 and 4, the last with addresses of eight bytes and no segments; no
+//! augmentation, or a `z` and the letters `L`, `P`, `R` and `S` in any order; and pointers of any
+//! encoding that isn't aligned, where the start of a function isn't indirect. Which instructions
+//! their programs may have is told by the crate `frame_rows`.
 //!
 //! Source: LSB, section on `.eh_frame`; DWARF 5 section 6.4.
 //!

@@ -35,7 +35,7 @@ impl<'a> Entries<'a> {
     ghost use Rattle.std.specs.Prelude.{◌≡◌, false};
     ghost use Rattle.std.specs.Option.{option_map};
     ghost use Rattle.encoded_pointers.specs.Readers.{Answers};
-    ghost use Rattle.eh_frame.specs.EntryViews.{found_of, entry_of};
+    ghost use Rattle.eh_frame.specs.EntryViews.{entry_of};
     ghost use Rattle.eh_frame.specs.Listing.{listing_of, upcoming, entry_in, behind};
 
     /// The entries of a table from its first byte on.

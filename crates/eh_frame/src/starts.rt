@@ -7,8 +7,8 @@ ghost use Rattle.eh_frame.specs.Directory.{AreBefore, AreBoundsAt, IsDirectory};
 use std::alloc::{AllocError, Global};
 use std::marker::Model;
 
-/// Among which starts a search looks: those at the head, `low` of them, are at or before the address,
-/// and those from the place `high` on are after it.
+/// Among which starts a search looks: from the place `low` on, whose start is at or before the address
+/// unless `low` is 0, to before the place `high`, from which on they are after it.
 #[derive(Clone, Copy)]
 pub(crate) struct Bounds {
     pub(crate) low: usize,
