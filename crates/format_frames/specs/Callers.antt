@@ -6,6 +6,7 @@ use Rattle.unwind_definitions.specs.Entries.{Fde}
 use Rattle.unwind_definitions.specs.Row.{RowInstructions}
 use Rattle.unwind_definitions.specs.Expressions.{evaluation}
 use Rattle.unwind_definitions.specs.Caller.{◌+w◌, Columns, StepFault, Table, x86_64, word_or_fault, caller_of}
+use Rattle.unwind_definitions.specs.Columns as column
 use Rattle.unwind_definitions.specs.State.{CalleeSaved, column_of}
 use Rattle.unwind_definitions.specs.DescribedRows.{negative}
 use Rattle.unwind_arch.specs.ContextViews.{columns_of}
@@ -63,4 +64,4 @@ abbrev pub frame_left : List Span → ℕ → Columns → Result Columns StepFau
 frame_left image rbp columns =
     then_on (word_or_fault image rbp) (λ saved.
     then_on (word_or_fault image (rbp +w 8)) (λ ret.
-    Ok (with_column (with_column (with_column columns 6 saved) 7 (rbp +w 16)) 16 ret)))
+    Ok (with_column (with_column (with_column columns column.rbp saved) column.rsp (rbp +w 16)) column.ra ret)))

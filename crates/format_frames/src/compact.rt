@@ -3,6 +3,7 @@
 ghost use Rattle.std.specs.Prelude.{◌≡◌, ◌<◌, ◌/◌, false, map, slice_index, take};
 ghost use Rattle.std.specs.List.{filter_map};
 ghost use Rattle.unwind_definitions.specs.Caller.{◌+w◌, word_or_fault};
+ghost use Rattle.unwind_definitions.specs.Columns.{ra, rbp, rsp};
 ghost use Rattle.unwind_definitions.specs.DescribedRows.{negative};
 ghost use Rattle.unwind_definitions.specs.HeaderSearch.{fde_at};
 ghost use Rattle.unwind_definitions.specs.LanguageTable.{input_at};
@@ -25,12 +26,12 @@ use crate::memory::bytes_at;
 use eh_frame::{Bases, EhFrame, Fde, RowRoom};
 use macho_unwind_info::opcodes::{OpcodeX86_64, RegisterNameX86_64};
 use memory_image::MemoryImage;
-use unwind_arch::x86_64::{Arch, Context, RBP, RBX, RSP};
+use unwind_arch::x86_64::{Arch, Context, R12, R13, R14, R15, RBP, RBX, RSP};
 use unwinding_frames::{StepError, Window, step_by_row};
 
 // Where the registers that an opcode can name stand among a context's. A look-up here is faster than
 // a branch to a store for each of them.
-static COLUMNS: [usize; 6] = [RBX, 12, 13, 14, 15, RBP];
+static COLUMNS: [usize; 6] = [RBX, R12, R13, R14, R15, RBP];
 
 // a register's place among those that an opcode can name
 fn place(register: RegisterNameX86_64) -> usize
@@ -67,7 +68,7 @@ fn write(context: &mut Context, column: usize, value: u64)
 
 // gives the return address another value
 fn write_return(context: &mut Context, value: u64)
-    ensures { columns_of context.new ≡ with_column (columns_of context.old) 16 value }
+    ensures { columns_of context.new ≡ with_column (columns_of context.old) ra value }
 {
     context.ra = value;
 }
@@ -183,6 +184,7 @@ fn place_below(place: u64, listed: Option<RegisterNameX86_64>) -> u64
 
 // Reads registers from words downwards, the first at an address. After a fault the registers are
 // unspecified.
+#[inline(always)]
 fn read_down(
     stack: &Window<'_, '_>,
     address: u64,
@@ -243,7 +245,7 @@ fn by_frame(
 ) -> Result<(), StepError>
     ensures { columns_given columns_of (written_in result caller.new)
         ≡ by_frame stack.now offset (fields_up fields.now)
-        (columns_of caller.old) (slice_index caller.old.registers 6) }
+        (columns_of caller.old) (slice_index caller.old.registers rbp) }
 {
     let rbp = caller.registers[RBP];
     read_fields(stack, rbp, offset, fields, caller)?;
@@ -354,7 +356,7 @@ fn by_size(
 ) -> Result<(), StepError>
     ensures { columns_given columns_of (written_in result caller.new)
         ≡ by_cfa stack.now (registers_back registers.now) (columns_of caller.old)
-        (slice_index caller.old.registers 7 +w size) }
+        (slice_index caller.old.registers rsp +w size) }
 {
     let cfa = caller.registers[RSP].wrapping_add(size);
     by_cfa(stack, registers, caller, cfa)

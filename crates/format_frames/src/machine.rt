@@ -5,7 +5,9 @@ ghost use Rattle.pe_unwind_info.specs.Machine.{changed};
 ghost use Rattle.pe_unwind_info.specs.Registers.{register_number, xmm_number};
 
 use pe_unwind_info::x86_64::{Register, UnwindState, XmmRegister};
-use unwind_arch::x86_64::{Context, RAX, RBP, RBX, RCX, RDI, RDX, RSI, RSP};
+use unwind_arch::x86_64::{
+    Context, R8, R9, R10, R11, R12, R13, R14, R15, RAX, RBP, RBX, RCX, RDI, RDX, RSI, RSP,
+};
 use unwinding_frames::Window;
 
 /// A caller's registers, as a step leaves them.
@@ -32,14 +34,14 @@ fn column(register: Register) -> usize
         Register::RBP => RBP,
         Register::RSI => RSI,
         Register::RDI => RDI,
-        Register::R8 => 8,
-        Register::R9 => 9,
-        Register::R10 => 10,
-        Register::R11 => 11,
-        Register::R12 => 12,
-        Register::R13 => 13,
-        Register::R14 => 14,
-        Register::R15 => 15,
+        Register::R8 => R8,
+        Register::R9 => R9,
+        Register::R10 => R10,
+        Register::R11 => R11,
+        Register::R12 => R12,
+        Register::R13 => R13,
+        Register::R14 => R14,
+        Register::R15 => R15,
     }
 }
 

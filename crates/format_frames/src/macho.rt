@@ -2,10 +2,11 @@
 ghost use Rattle.std.specs.Prelude.{◌≡◌, ◌+◌, ◌-◌, ◌<◌, ◌≤◌, ◌^◌};
 ghost use Rattle.unwind_arch.specs.ContextViews.{columns_of};
 ghost use Rattle.format_definitions.specs.CompactStep.{macho_step};
+ghost use Rattle.macho_unwind_info.specs.Listing.{section_of};
 ghost use Rattle.format_frames.specs.Handlers.{has_language_table};
 ghost use Rattle.format_frames.specs.Modules.{macho_module};
-ghost use Rattle.format_frames.specs.Refusals.{function_at, caller_given, caller_due, macho_given};
-ghost use Rattle.format_frames.specs.Refusals.{macho_due};
+ghost use Rattle.format_frames.specs.Refusals.{looked_up, function_at, caller_given, caller_due};
+ghost use Rattle.format_frames.specs.Refusals.{macho_given, macho_due};
 
 use crate::compact::compact_step;
 use crate::error::FrameError;
@@ -31,6 +32,14 @@ pub struct MachoModule {
     pub frames: Option<u64>,
 }
 
+// the function at an address so far from the module's base, of the bytes from where its section of
+// compact unwinding begins to the end of its region
+fn function_in(section: &[u8], rva: u32) -> Result<Option<Function>, macho_unwind_info::Error>
+    ensures { result ≡ looked_up rva (section_of section.now) }
+{
+    UnwindInfo::parse(section)?.lookup(rva)
+}
+
 /// The function that a Mach-O module has at an address so far from its base, by its section of
 /// compact unwinding. `None` where it has none there.
 ///
@@ -44,7 +53,7 @@ pub fn macho_function(
 ) -> Result<Option<Function>, macho_unwind_info::Error>
     ensures { result ≡ function_at image.now (macho_module module.now) rva }
 {
-    UnwindInfo::parse(bytes_at(image, module.unwind_info))?.lookup(rva)
+    function_in(bytes_at(image, module.unwind_info), rva)
 }
 
 /// Whether the opcode of a function says that it has a language table, which a personality reads.
@@ -106,7 +115,8 @@ pub fn macho_step<'a>(
         (address - module.now.base) (columns_of context.now)) }
     ensures same { stack.new ≡ stack.old }
 {
-    match macho_function(stack.image(), module, (address - module.base) as u32)? {
+    let section = stack.tables(module.unwind_info);
+    match function_in(section, (address - module.base) as u32)? {
         Some(function) => {
             let stepped = macho_caller(stack, module, &function, address, context, rows)?;
             Ok(Some(stepped))

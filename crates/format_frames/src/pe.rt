@@ -1,9 +1,9 @@
 // The step in a PE module. Microsoft x64 exception handling, unwind procedure.
 ghost use Rattle.std.specs.Prelude.{◌≡◌, ◌+◌, ◌-◌, ◌<◌, ◌≤◌, ◌^◌};
-ghost use Rattle.std.specs.Option.{option_map};
+ghost use Rattle.std.specs.Option.{option_map, ForSome};
 ghost use Rattle.memory_image.specs.Image.{word_at};
 ghost use Rattle.unwind_arch.specs.ContextViews.{columns_of};
-ghost use Rattle.format_definitions.specs.PeImage.{memory_of, table_of};
+ghost use Rattle.format_definitions.specs.PeImage.{memory_of, first_bytes, table_of};
 ghost use Rattle.format_definitions.specs.PeRegisters.{registers_in};
 ghost use Rattle.format_definitions.specs.PeStep.{columns_at, pe_step};
 ghost use Rattle.pe_unwind_info.specs.FrameOf.{framed};
@@ -16,7 +16,9 @@ use crate::error::FrameError;
 use crate::machine::Machine;
 use crate::memory::bytes_at;
 use memory_image::MemoryImage;
-use pe_unwind_info::x86_64::{FrameFault, FunctionTableEntries};
+use pe_unwind_info::x86_64::{
+    FrameFault, FunctionTableEntries, RuntimeFunction, try_unwind_function,
+};
 use unwind_arch::x86_64::{Context, RSP};
 use unwinding_frames::Window;
 
@@ -55,11 +57,26 @@ pub(crate) fn refusal(module: &PeModule, rva: u32, fault: FrameFault) -> FrameEr
     }
 }
 
-// the bytes of the function table, where one region has them all
-fn table<'a>(image: &MemoryImage<'a>, module: &PeModule) -> Option<&'a [u8]>
-    ensures { option_map (λ bytes. bytes.now) result ≡ table_of image.now (pe_module module.now) }
+// the bytes of the function table, of those from where it begins to the end of its region
+fn table<'a>(module: &PeModule, from: &'a [u8]) -> Option<&'a [u8]>
+    ensures { option_map (λ bytes. bytes.now) result
+        ≡ first_bytes module.now.table_size from.now }
 {
-    bytes_at(image, module.address(module.table_rva)).get(..module.table_size as usize)
+    from.get(..module.table_size as usize)
+}
+
+// the function table, of the bytes from where it begins to the end of its region
+fn functions_in<'a>(
+    module: &PeModule,
+    from: &'a [u8],
+) -> Result<FunctionTableEntries<'a>, FrameError>
+    ensures { functions_given result ≡ functions_due (pe_module module.now)
+        (first_bytes module.now.table_size from.now) }
+{
+    match table(module, from) {
+        Some(bytes) => Ok(FunctionTableEntries::parse(bytes)),
+        None => Err(FrameError::PeInfo(module.address(module.table_rva))),
+    }
 }
 
 /// The function table of a PE module.
@@ -74,23 +91,37 @@ pub fn pe_functions<'a>(
     ensures { functions_given result ≡ functions_due (pe_module module.now)
         (table_of image.now (pe_module module.now)) }
 {
-    match table(image, module) {
-        Some(bytes) => Ok(FunctionTableEntries::parse(bytes)),
-        None => Err(FrameError::PeInfo(module.address(module.table_rva))),
+    functions_in(module, bytes_at(image, module.address(module.table_rva)))
+}
+
+// Looks up in the window what the frame that stands so far from the module's base is left by: the code
+// there, and the first unwind record of its function.
+fn seek_parts(
+    stack: &mut Window<'_, '_>,
+    module: &PeModule,
+    function: Option<RuntimeFunction>,
+    rva: u32,
+)
+    ensures { stack.new ≡ stack.old }
+{
+    stack.seek_code(module.address(rva));
+    if let Some(function) = function {
+        stack.seek_records(module.address(function.unwind_info_address));
     }
 }
 
-// the caller by a function table, of the frame that stands so far from the module's base
+// the caller by the record that a look-up has answered, of the frame that stands so far from the
+// module's base
 fn caller_by(
     stack: &Window<'_, '_>,
     base: u64,
-    functions: &FunctionTableEntries<'_>,
+    function: Option<RuntimeFunction>,
     rva: u32,
     context: &Context,
 ) -> Result<Context, FrameFault>
+    requires { ForSome function (λ function. function.begin_address ≤ rva) }
     ensures { frame_given result ≡ columns_at (columns_of context.now)
-        (framed (memory_of stack.now base) (word_at stack.now) rva
-        (lookup_of (functions_of (table_bytes functions.now)) rva)
+        (framed (memory_of stack.now base) (word_at stack.now) rva function
         (registers_in (columns_of context.now))) }
 {
     let mut machine = Machine {
@@ -98,11 +129,10 @@ fn caller_by(
         xmm_registers: None,
         stack,
     };
-    let image = stack.image();
     let memory_at_rva = |rva: u32| -> Option<&[u8]>
-        ensures { option_map (λ bytes. bytes.now) result ≡ memory_of image.entry.now base rva }
-    { image.from(base.wrapping_add(u64::from(rva))) };
-    let ra = functions.try_unwind_frame(&mut machine, memory_at_rva, rva)?;
+        ensures { option_map (λ bytes. bytes.now) result ≡ memory_of stack.entry.now base rva }
+    { stack.from(base.wrapping_add(u64::from(rva))) };
+    let ra = try_unwind_function(function, &mut machine, memory_at_rva, rva)?;
     Ok(Context {
         registers: machine.context.registers,
         ra,
@@ -136,7 +166,9 @@ pub fn pe_caller(
 {
     // What a frame saves stands at its stack pointer or above.
     stack.seek(context.registers[RSP]);
-    match caller_by(stack, module.base, functions, rva, context) {
+    let function = functions.lookup(rva);
+    seek_parts(stack, module, function, rva);
+    match caller_by(stack, module.base, function, rva, context) {
         Ok(caller) => Ok(caller),
         Err(fault) => Err(refusal(module, rva, fault)),
     }
@@ -166,7 +198,7 @@ pub fn pe_step(
         (columns_of context.now)) }
     ensures same { stack.new ≡ stack.old }
 {
-    let functions = pe_functions(stack.image(), module)?;
+    let functions = functions_in(module, stack.tables(module.address(module.table_rva)))?;
     let rva = (address - module.base) as u32;
     pe_caller(stack, module, &functions, rva, context)
 }

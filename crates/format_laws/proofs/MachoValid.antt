@@ -21,7 +21,7 @@ use Rattle.macho_unwind_info.specs.declared.page.Page.{Page}
 use Rattle.macho_unwind_info.specs.Described.{AscendWithin, IsDescribedPage, HasDescribedPages}
 use Rattle.macho_unwind_info.specs.Listing.{section_of, page_of, whole_page, entries_of}
 use Rattle.macho_unwind_info.specs.Lookup.{first_address, lookup_of}
-use Rattle.macho_unwind_info.specs.Parts.{◌>>=◌}
+use Rattle.memory_image.specs.Results.{◌>>=◌}
 use Rattle.macho_unwind_info.specs.Sample.{described_bytes, damaged_bytes}
 use Rattle.macho_unwind_info.specs.X86_64.{opcode_of, fields_of}
 use Rattle.format_definitions.specs.CompactStep.{fields_up, frame_bases, compact_step, macho_step}

@@ -3,7 +3,7 @@ use Rattle.std.proofs.Common.{◌≡◌, ℕ, zero, suc, ◌+◌, ◌-◌, ◌<�
 use Rattle.std.specs.Prelude.{slice_get, option_map, MatchResult}
 use Rattle.std.proofs.lemmas.List.{length-map}
 use Rattle.std.proofs.lemmas.Option.{slice_get-map, slice_get_within}
-use Rattle.macho_unwind_info.specs.Parts.{◌>>=◌}
+use Rattle.memory_image.specs.Results.{◌>>=◌}
 use Rattle.macho_unwind_info.specs.Listing.{Section, page_of, whole_page, entries_of, regular_entry, compressed_entry, address_after, function_of, functions_of, page_places, places_of, listing, answer_of}
 use Rattle.macho_unwind_info.specs.Lookup.{first_address, start_address, start_distance, page_addresses, keys_of, base_of, range_start, range_end, IsBoundary, Finds, answer_at, IsPageLookup, IsAnswerFrom, IsAnswerAt, IsLookup}
 use Rattle.macho_unwind_info.specs.Described.{IsEntryWithin, AscendWithin, BeginAt, IsDescribedPage, AreDescribed, HasDescribedPages, Covers, IsInRange, IsOutside, FindsListed, FindsEachListed}

@@ -4,7 +4,7 @@ use Rattle.std.specs.Prelude.{slice_get}
 use Rattle.memory_image.specs.Halving.{boundary_of}
 use Rattle.memory_image.specs.HalvingLaws as halving
 use Rattle.memory_image.specs.HalvingLaws.{boundary_of-finds}
-use Rattle.macho_unwind_info.specs.Parts.{◌>>=◌}
+use Rattle.memory_image.specs.Results.{◌>>=◌}
 use Rattle.macho_unwind_info.specs.Listing.{Section, page_of}
 use Rattle.macho_unwind_info.specs.Lookup.{Finds, page_addresses, keys_of, base_of, first_address, IsAnswerFrom, IsAnswerAt, IsLookup, page_lookup_of, answer_from, answer_by, lookup_of}
 use Rattle.macho_unwind_info.specs.declared.error.Error.{Error}

@@ -2,7 +2,7 @@
 use Rattle.std.proofs.Common.{◌≡◌, ℕ, zero, suc, ◌+◌, ◌-◌, ◌≤◌, List, [], ◌∷◌, ◌++◌, length, map, Option, Some, None, Result, Ok, get_or, refl, arith, ap, sym, subst, ◌∙◌}
 use Rattle.std.specs.Prelude.{slice_get, Contains}
 use Rattle.std.proofs.lemmas.Option.{slice_get-get_or, slice_get_within, get_or_from_slice_get}
-use Rattle.macho_unwind_info.specs.Parts.{◌>>=◌}
+use Rattle.memory_image.specs.Results.{◌>>=◌}
 use Rattle.macho_unwind_info.specs.Listing.{Section, page_of, whole_page, entries_of, end_of, function_of, functions_of, page_places, places_of, listing}
 use Rattle.macho_unwind_info.specs.Lookup.{first_address, range_start, range_end}
 use Rattle.macho_unwind_info.specs.Described.{IsEntryWithin, AscendWithin, BeginAt, IsDescribedPage, AreDescribed, HasDescribedPages, Covers, IsNext, LieEndToEnd}

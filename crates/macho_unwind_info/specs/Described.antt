@@ -1,6 +1,6 @@
 -- Sections whose pages describe functions: what a linker writes.
 use Rattle.std.specs.Prelude.{◌≡◌, ℕ, ◌+◌, ◌<◌, ◌≤◌, ◌⊎◌, List, [], ◌∷◌, Option, Some, Result, Ok, Contains}
-use Rattle.macho_unwind_info.specs.Parts.{◌>>=◌}
+use Rattle.memory_image.specs.Results.{◌>>=◌}
 use Rattle.macho_unwind_info.specs.Listing.{Section, page_of, whole_page, entries_of, listing}
 use Rattle.macho_unwind_info.specs.Lookup.{first_address, range_start, range_end}
 use Rattle.macho_unwind_info.specs.declared.error.Error.{Error}

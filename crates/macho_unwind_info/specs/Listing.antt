@@ -2,7 +2,8 @@
 use Rattle.std.specs.Prelude.{ℕ, ◌+◌, ◌-◌, ◌^◌, List, [], ◌∷◌, ◌++◌, map, length, Option, Some, None, Result, Ok, Err, slice_get, nat_lt, ◌==◌, if◌then◌else◌}
 use Rattle.std.specs.Option.{ok_or}
 use Rattle.macho_unwind_info.specs.Unaligned.{u32_number}
-use Rattle.macho_unwind_info.specs.Parts.{◌>>=◌, header_of, global_opcodes_of, pages_of, kind_of, regular_page_of, regular_functions_of, compressed_page_of, compressed_functions_of, local_opcodes_of}
+use Rattle.memory_image.specs.Results.{◌>>=◌}
+use Rattle.macho_unwind_info.specs.Parts.{header_of, global_opcodes_of, pages_of, kind_of, regular_page_of, regular_functions_of, compressed_page_of, compressed_functions_of, local_opcodes_of}
 use Rattle.macho_unwind_info.specs.Compressed.{opcode_index, relative_address}
 use Rattle.macho_unwind_info.specs.declared.error.Error.{Error}
 use Rattle.macho_unwind_info.specs.declared.error.Error.TheVariants as error

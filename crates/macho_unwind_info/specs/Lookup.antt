@@ -2,7 +2,7 @@
 use Rattle.std.specs.Prelude.{◌≡◌, ℕ, ◌+◌, ◌-◌, ◌<◌, ◌≤◌, List, map, length, Option, Some, None, Result, Ok, Err, MatchResult, slice_get, slice_index}
 use Rattle.memory_image.specs.Halving.{boundary_of}
 use Rattle.macho_unwind_info.specs.Unaligned.{u32_number}
-use Rattle.macho_unwind_info.specs.Parts.{◌>>=◌}
+use Rattle.memory_image.specs.Results.{◌>>=◌}
 use Rattle.macho_unwind_info.specs.Compressed.{relative_address}
 use Rattle.macho_unwind_info.specs.Listing.{Section, page_of, entries_of, functions_of, answer_of}
 use Rattle.macho_unwind_info.specs.declared.error.Error.{Error}

@@ -1,6 +1,7 @@
 -- The parts of a section of compact unwinding: where each lies, and the error of its not fitting in the section's bytes.
-use Rattle.std.specs.Prelude.{ℕ, ◌+◌, List, Result, Ok, Err}
+use Rattle.std.specs.Prelude.{ℕ, ◌+◌, List, Result, Ok}
 use Rattle.std.specs.Option.{ok_or}
+use Rattle.memory_image.specs.Results.{◌>>=◌}
 use Rattle.macho_unwind_info.specs.Unaligned.{u32_in, u32_number, u16_number}
 use Rattle.macho_unwind_info.specs.Format.{record_at, records_at, header_in, page_entry_in, regular_page_in, compressed_page_in, opcode_in, function_entry_in}
 use Rattle.macho_unwind_info.specs.declared.error.ReadError.{ReadError}
@@ -12,12 +13,6 @@ use Rattle.macho_unwind_info.specs.declared.raw.format.RegularPage.{RegularPage}
 use Rattle.macho_unwind_info.specs.declared.raw.format.CompressedPage.{CompressedPage}
 use Rattle.macho_unwind_info.specs.declared.raw.format.Opcode.{Opcode}
 use Rattle.macho_unwind_info.specs.declared.raw.format.RegularFunctionEntry.{RegularFunctionEntry}
-
--- what is done with a part that was read
-infixl 10 ◌>>=◌
-abbrev pub ◌>>=◌ : {A B E : Type 0} → Result A E → (A → Result B E) → Result B E
-(Ok x) >>= f = f x
-(Err e) >>= f = Err e
 
 -- ---- from the start of the section
 abbrev pub header_of : List ℕ → Result CompactUnwindInfoHeader ReadError

@@ -1,11 +1,12 @@
 -- Sequences of instructions: how they are read one by one, and what the grammar says of them.
 use Rattle.std.proofs.Common.{◌≡◌, ℕ, zero, suc, ◌+◌, ◌-◌, ◌<◌, ◌≤◌, Bool, true, false, List, [], ◌∷◌, ◌++◌, length, Option, Some, None, Ok, Err, refl, sym, ap, subst, ◌∙◌, arith, append_assoc, append-nil, length-append, ◌&&◌}
-use Rattle.std.specs.Prelude.{◌==◌}
+use Rattle.std.specs.Prelude.{◌==◌, is_ok}
 use Rattle.pe_unwind_info.specs.declared.x86_64.registers.Register.{Register}
 use Rattle.pe_unwind_info.specs.declared.x86_64.epilog.FunctionEpilogInstruction.{FunctionEpilogInstruction}
 use Rattle.pe_unwind_info.specs.declared.x86_64.epilog.InstructionParseError.{InstructionParseError}
 use Rattle.pe_unwind_info.specs.declared.x86_64.epilog.InstructionParseError.TheVariants.{NotEnoughData, InvalidInstruction, TooManyInstructions}
 use Rattle.pe_unwind_info.specs.Epilog.{Parsed, Sequence, and_first, then_full, then_more, parsed, sequence_from, sequence_of}
+use Rattle.pe_unwind_info.specs.Frame.{epilog_or_none}
 use Rattle.pe_unwind_info.specs.EpilogGrammar.{BeginsWith, BeginsWithTerminator, IsCut, IsRun, IsSequence}
 use Rattle.pe_unwind_info.proofs.EpilogReads.{IsReadRightly, is_read_rightly}
 use Rattle.pe_unwind_info.proofs.EpilogSpelled.{differ, begins_read, terminator_read, cut_read}
@@ -175,3 +176,11 @@ sequence_is frame bytes =
       too_many = (λ e. subst P e right, λ p. run_exceeds frame 12 true bytes p.0 p.1 p.3 p.2);
       cut = (λ e. subst P e right, λ p. run_is_cut frame 12 true bytes p.0 p.1 p.3 p.4 p.2);
     }
+
+-- code that begins with no epilog has no instructions of one
+pub none_begins : (frame : Option Register) (code : List ℕ) → is_ok (sequence_of frame code) ≡ false → epilog_or_none (sequence_of frame code) ≡ None
+none_begins frame code e = go (sequence_of frame code) e
+  where
+    go : (s : Sequence) → is_ok s ≡ false → epilog_or_none s ≡ None
+    go (Ok instructions) e = absurd cc
+    go (Err x) e = refl

@@ -7,11 +7,7 @@ use Rattle.pe_unwind_info.specs.declared.x86_64.epilog.InstructionParseError.{In
 use Rattle.pe_unwind_info.specs.declared.x86_64.epilog.InstructionParseError.TheVariants.{NotEnoughData, InvalidInstruction, TooManyInstructions}
 use Rattle.pe_unwind_info.specs.Numbers.{first_u32}
 use Rattle.pe_unwind_info.specs.Registers.{register_number, register_of}
-
--- an `Ok` with another value
-abbrev pub map_ok : {A B E : Type 0} → (A → B) → Result A E → Result B E
-map_ok f (Ok a) = Ok (f a)
-map_ok f (Err e) = Err e
+pub use Rattle.memory_image.specs.Results.{result_map}
 
 -- an instruction with the bytes behind it, or why there is none
 abbrev pub Read : Type 0
@@ -27,7 +23,7 @@ word_in None = Err NotEnoughData
 word_in (Some p) = Ok p
 
 abbrev pub with_word : (ℕ → FunctionEpilogInstruction) → List ℕ → Read
-with_word instruction bytes = map_ok (λ (p : ℕ × List ℕ). (instruction p.0, p.1)) (word_in (first_u32 bytes))
+with_word instruction bytes = result_map (λ (p : ℕ × List ℕ). (instruction p.0, p.1)) (word_in (first_u32 bytes))
 
 -- a `lea` of the stack pointer from a base register: its ModRM byte, and what stands behind it
 abbrev pub lea_from : ℕ → List ℕ → Read

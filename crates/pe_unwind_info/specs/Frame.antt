@@ -48,6 +48,11 @@ abbrev pub epilog_or_none : Sequence → Option (List FunctionEpilogInstruction)
 epilog_or_none (Ok instructions) = Some instructions
 epilog_or_none (Err e) = None
 
+-- the same of code, where there is some
+abbrev pub epilog_of : Option Register → Option (List ℕ) → Option (List FunctionEpilogInstruction)
+epilog_of frame None = None
+epilog_of frame (Some code) = epilog_or_none (sequence_of frame code)
+
 abbrev pub epilog_in : Option Register → ℕ → ℕ → Option (List ℕ) → Result (Option (List FunctionEpilogInstruction)) FrameFault
 epilog_in frame end address None = Err EpilogBytes
 epilog_in frame end address (Some bytes) =

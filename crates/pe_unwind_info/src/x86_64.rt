@@ -18,6 +18,7 @@ mod unwind_info;
 
 pub use epilog::{FUNCTION_EPILOG_LIMIT, FunctionEpilogInstruction, InstructionParseError};
 pub use fault::FrameFault;
+pub use frame::try_unwind_function;
 pub use function_table::{
     FunctionTableEntries, RuntimeFunction, U32, lookup_finds_the_holder, lookup_is_determined,
     lookup_of_is_a_lookup,

@@ -48,6 +48,6 @@ pub use unwinding_frames::{
     _Unwind_GetIPInfo, _Unwind_GetLanguageSpecificData, _Unwind_GetRegionStart,
     _Unwind_GetTextRelBase, _Unwind_SetGR, _Unwind_SetIP, DummyPersonality, EhAction, Frame, Kept,
     Personality, RustPersonality, StepError, UnwindAction, UnwindContext, UnwindException,
-    UnwindReasonCode, address_asked, eh_action_of, find_eh_action, lines_are_one, lsda_of,
-    personality_of, step_by_row,
+    UnwindReasonCode, address_asked, eh_action_of, find_eh_action, frame_mark, lines_are_one,
+    lsda_of, personality_of, step_by_row,
 };

@@ -8,7 +8,7 @@ use Rattle.memory_image.specs.Image.{Span}
 use Rattle.unwind_definitions.specs.declared.error.Error.TheVariants.{UnsupportedRegister}
 use Rattle.unwind_definitions.specs.Instructions.{Rule}
 use Rattle.unwind_definitions.specs.Row.{RowInstructions, CfaRule, rule_of, cfa_rule}
-use Rattle.unwind_definitions.specs.Caller.{Columns, Machine, Evaluates, StepFault, Table, rule_value, value_for_column, unruled, column_value, first_fault_below, fault_in, value_in, column_limit, cfa_value, caller_with, caller_of}
+use Rattle.unwind_definitions.specs.Caller.{Columns, Machine, Evaluates, StepFault, Table, rule_value, value_for_column, value_without_rule, column_value, first_fault_below, fault_in, value_in, column_limit, cfa_value, caller_with, caller_of}
 use Rattle.frame_rows.specs.Rules.{rule_in, AscendsFrom}
 use Rattle.unwinding_frames.specs.Calling.{and_then, applied, written_to}
 
@@ -146,10 +146,10 @@ module _ (machine : Machine) (evaluates : Evaluates) (image : List Span) (old : 
   applied-is_caller low (p ∷ ps) now stands =
       after_value low p ps now stands (λ next later. applied-is_caller (suc p.0) ps next later) (rule_value evaluates image old cfa p.0 p.1) refl
 
-begun-same : (machine : Machine) (old : Columns) (cfa k : ℕ) → is_some (old machine.stack_pointer) ≡ true → is_some (old machine.return_address) ≡ true → is_some (unruled machine old cfa k) ≡ is_some (old k)
-begun-same machine old cfa k sp ra = elim (eqb_tells k machine.stack_pointer) as (λ t. is_some (unruled machine old cfa k) ≡ is_some (old k)) [
+begun-same : (machine : Machine) (old : Columns) (cfa k : ℕ) → is_some (old machine.stack_pointer) ≡ true → is_some (old machine.return_address) ≡ true → is_some (value_without_rule machine old cfa k) ≡ is_some (old k)
+begun-same machine old cfa k sp ra = elim (eqb_tells k machine.stack_pointer) as (λ t. is_some (value_without_rule machine old cfa k) ≡ is_some (old k)) [
   | inl e ↦ let at : k ≡ machine.stack_pointer = e.1 in rw (e.0, at, sp) refl
-  | inr other ↦ elim (eqb_tells k machine.return_address) as (λ t. is_some (unruled machine old cfa k) ≡ is_some (old k)) [
+  | inr other ↦ elim (eqb_tells k machine.return_address) as (λ t. is_some (value_without_rule machine old cfa k) ≡ is_some (old k)) [
     | inl e ↦ let at : k ≡ machine.return_address = e.1 in rw (other.0, e.0, at, ra) refl
     | inr apart ↦ rw (other.0, apart.0) refl
   ]
@@ -157,7 +157,7 @@ begun-same machine old cfa k sp ra = elim (eqb_tells k machine.stack_pointer) as
 
 -- a row's rules stand before the first is applied
 pub begun-stands : (machine : Machine) (evaluates : Evaluates) (image : List Span) (old : Columns) (cfa : ℕ) (run : RowInstructions) (rules : List (ℕ × Rule)) → is_some (old machine.stack_pointer) ≡ true → is_some (old machine.return_address) ≡ true →
-    AscendsFrom 0 rules → ((k : ℕ) → rule_in rules k ≡ rule_of run k) → Stands machine evaluates image old cfa run 0 rules (unruled machine old cfa)
+    AscendsFrom 0 rules → ((k : ℕ) → rule_in rules k ≡ rule_of run k) → Stands machine evaluates image old cfa run 0 rules (value_without_rule machine old cfa)
 begun-stands machine evaluates image old cfa run rules sp ra up each = record {
   same = λ k. begun-same machine old cfa k sp ra;
   done = λ k none. let free : rule_of run k ≡ None = sym (each k) ∙ none in rw free refl;
@@ -168,7 +168,7 @@ begun-stands machine evaluates image old cfa run rules sp ra up each = record {
 -- A row's rules, applied to the columns with its CFA, give the caller by the row.
 pub row_caller : (machine : Machine) (evaluates : Evaluates) (image : List Span) (old : Columns) (cfa : ℕ) (run : RowInstructions) (rule : CfaRule) (rules : List (ℕ × Rule)) → is_some (old machine.stack_pointer) ≡ true → is_some (old machine.return_address) ≡ true →
     cfa_rule run ≡ Some rule → cfa_value evaluates old rule ≡ Ok cfa → AscendsFrom 0 rules → ((k : ℕ) → rule_in rules k ≡ rule_of run k) →
-    applied evaluates image old cfa rules (unruled machine old cfa) ≡ caller_of machine evaluates image old run
+    applied evaluates image old cfa rules (value_without_rule machine old cfa) ≡ caller_of machine evaluates image old run
 row_caller machine evaluates image old cfa run rule rules sp ra ruled gives up each =
     let stands = begun-stands machine evaluates image old cfa run rules sp ra up each in
-    applied-is_caller machine evaluates image old cfa run 0 rules (unruled machine old cfa) stands ∙ rw (ruled, gives) refl
+    applied-is_caller machine evaluates image old cfa run 0 rules (value_without_rule machine old cfa) stands ∙ rw (ruled, gives) refl

@@ -3,6 +3,7 @@ use Rattle.std.proofs.Common.{inl, inr, ◌≡◌, ◌≢◌, ℕ, zero, suc, �
 use Rattle.std.specs.Prelude.{nat_lt, IfOk}
 use Rattle.std.proofs.lemmas.Bool.{ltb-true, ltb-false, eqb-true, eqb-false}
 use Rattle.memory_image.specs.Image.{Span}
+use Rattle.unwind_definitions.specs.Faults.{◌>>=◌}
 use Rattle.unwind_definitions.specs.declared.error.Error.TheVariants.{AddressOverflow}
 use Rattle.unwind_definitions.specs.Input.{Input}
 use Rattle.unwind_definitions.specs.Pointers.{Bases}
@@ -10,7 +11,7 @@ use Rattle.unwind_definitions.specs.Entries.{Fde}
 use Rattle.unwind_definitions.specs.Function.{Action, NoAction, Terminate}
 use Rattle.unwind_definitions.specs.LanguageTable.{input_at}
 use Rattle.unwind_definitions.specs.Caller.{StepFault, Table}
-use Rattle.unwind_definitions.specs.LanguageSearch.{Head, CallSite, head, call_site, site_action, sum_below, decision, decided_or, search_from, search, language_address, asked_by, language_action, Says, SitesAsk, LanguageAsks, ◌>>=◌}
+use Rattle.unwind_definitions.specs.LanguageSearch.{Head, CallSite, head, call_site, site_action, sum_below, decision, decided_or, search_from, search, language_address, asked_by, language_action, Says, SitesAsk, LanguageAsks}
 use Rattle.unwinding_frames.specs.declared.frame.StepError.{StepError}
 use Rattle.unwinding_frames.specs.declared.language_table.EhAction.{EhAction}
 use Rattle.unwinding_frames.specs.LanguageViews.{action_of, given}

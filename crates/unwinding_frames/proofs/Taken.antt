@@ -7,7 +7,7 @@ use Rattle.std.proofs.lemmas.List.{length-drop}
 use Rattle.memory_image.specs.Image.{Span}
 use Rattle.unwind_definitions.specs.declared.error.Error.{Error as Fault}
 use Rattle.unwind_definitions.specs.declared.error.Error.TheVariants.{UnexpectedEof, UnknownPointerEncoding, CannotParseOmitPointerEncoding, BadUnsignedLeb128, BadSignedLeb128}
-use Rattle.unwind_definitions.specs.Faults as faults
+use Rattle.unwind_definitions.specs.Faults.{◌>>=◌, unless}
 use Rattle.unwind_definitions.specs.Input.{Input, Reads, address_of, skip, number, signed, uleb_from, uleb, sleb_from, sleb}
 use Rattle.unwind_definitions.specs.Pointers.{Bases, Pointer, Direct, Indirect, is_known, is_indirect, format_of, application_of, base_of, signed_number, value, pointer}
 use Rattle.unwind_definitions.specs.Caller.{StepFault}
@@ -19,13 +19,9 @@ IsBelow (Ok r) n = length r.1.bytes < n
 IsBelow (Err e) n = Unit {0}
 
 -- one reading after another
-then_below : {A B : Type 0} (r : Result (A × Input) Fault) (f : A × Input → Result (B × Input) Fault) (m n : ℕ) → IsBelow r m → ((x : A × Input) → length x.1.bytes < m → IsBelow (f x) n) → IsBelow (faults.◌>>=◌ r f) n
+then_below : {A B E : Type 0} (r : Result (A × Input) E) (f : A × Input → Result (B × Input) E) (m n : ℕ) → IsBelow r m → ((x : A × Input) → length x.1.bytes < m → IsBelow (f x) n) → IsBelow (◌>>=◌ r f) n
 then_below (Ok x) f m n below each = each x below
 then_below (Err e) f m n below each = tt
-
-step_below : {A B : Type 0} (r : Result (A × Input) StepFault) (f : A × Input → Result (B × Input) StepFault) (m n : ℕ) → IsBelow r m → ((x : A × Input) → length x.1.bytes < m → IsBelow (f x) n) → IsBelow (tables.◌>>=◌ r f) n
-step_below (Ok x) f m n below each = each x below
-step_below (Err e) f m n below each = tt
 
 read_below : {A : Type 0} (r : Result (A × Input) Fault) (n : ℕ) → IsBelow r n → IsBelow (tables.read r) n
 read_below (Ok x) n below = below
@@ -69,8 +65,8 @@ uleb_from_below (suc zero) c =
     then_below (number w8 c) (λ b. cond (nat_le b.0 1) (Ok b) (Err BadUnsignedLeb128)) (length c.bytes) (length c.bytes) (byte_below c)
     (λ b lt. if_below (nat_le b.0 1) (Ok b) (Err BadUnsignedLeb128) (length c.bytes) lt tt)
 uleb_from_below (suc (suc most)) c =
-    then_below (number w8 c) (λ b. cond (nat_lt b.0 128) (Ok b) (faults.◌>>=◌ (uleb_from (suc most) b.1) (λ high. Ok (b.0 - 128 + 128 * high.0, high.1)))) (length c.bytes) (length c.bytes) (byte_below c)
-    (λ b lt. if_below (nat_lt b.0 128) (Ok b) (faults.◌>>=◌ (uleb_from (suc most) b.1) (λ high. Ok (b.0 - 128 + 128 * high.0, high.1))) (length c.bytes) lt
+    then_below (number w8 c) (λ b. cond (nat_lt b.0 128) (Ok b) (◌>>=◌ (uleb_from (suc most) b.1) (λ high. Ok (b.0 - 128 + 128 * high.0, high.1)))) (length c.bytes) (length c.bytes) (byte_below c)
+    (λ b lt. if_below (nat_lt b.0 128) (Ok b) (◌>>=◌ (uleb_from (suc most) b.1) (λ high. Ok (b.0 - 128 + 128 * high.0, high.1))) (length c.bytes) lt
     (then_below (uleb_from (suc most) b.1) (λ high. Ok (b.0 - 128 + 128 * high.0, high.1)) (length b.1.bytes) (length c.bytes) (uleb_from_below (suc most) b.1) (λ high less. omega arith)))
 
 pub uleb_below : (c : Input) → IsBelow (uleb c) (length c.bytes)
@@ -82,8 +78,8 @@ sleb_from_below (suc zero) c =
     then_below (number w8 c) (λ b. cond (b.0 == 0) (Ok b) (cond (b.0 == 127) (Ok (2 ^ 64 - 1, b.1)) (Err BadSignedLeb128))) (length c.bytes) (length c.bytes) (byte_below c)
     (λ b lt. if_below (b.0 == 0) (Ok b) (cond (b.0 == 127) (Ok (2 ^ 64 - 1, b.1)) (Err BadSignedLeb128)) (length c.bytes) lt (if_below (b.0 == 127) (Ok (2 ^ 64 - 1, b.1)) (Err BadSignedLeb128) (length c.bytes) lt tt))
 sleb_from_below (suc (suc most)) c =
-    then_below (number w8 c) (λ b. cond (nat_lt b.0 128) (Ok (signed 7 b.0, b.1)) (faults.◌>>=◌ (sleb_from (suc most) b.1) (λ high. Ok ((b.0 - 128 + 128 * high.0) % 2 ^ 64, high.1)))) (length c.bytes) (length c.bytes) (byte_below c)
-    (λ b lt. if_below (nat_lt b.0 128) (Ok (signed 7 b.0, b.1)) (faults.◌>>=◌ (sleb_from (suc most) b.1) (λ high. Ok ((b.0 - 128 + 128 * high.0) % 2 ^ 64, high.1))) (length c.bytes) lt
+    then_below (number w8 c) (λ b. cond (nat_lt b.0 128) (Ok (signed 7 b.0, b.1)) (◌>>=◌ (sleb_from (suc most) b.1) (λ high. Ok ((b.0 - 128 + 128 * high.0) % 2 ^ 64, high.1)))) (length c.bytes) (length c.bytes) (byte_below c)
+    (λ b lt. if_below (nat_lt b.0 128) (Ok (signed 7 b.0, b.1)) (◌>>=◌ (sleb_from (suc most) b.1) (λ high. Ok ((b.0 - 128 + 128 * high.0) % 2 ^ 64, high.1))) (length c.bytes) lt
     (then_below (sleb_from (suc most) b.1) (λ high. Ok ((b.0 - 128 + 128 * high.0) % 2 ^ 64, high.1)) (length b.1.bytes) (length c.bytes) (sleb_from_below (suc most) b.1) (λ high less. omega arith)))
 
 sleb_below : (c : Input) → IsBelow (sleb c) (length c.bytes)
@@ -110,23 +106,23 @@ abbrev pointed : ℕ → ℕ → ℕ × Input → Result (Pointer × Input) Faul
 pointed e base n = Ok ((cond (is_indirect e) (Indirect ((base + n.0) % 2 ^ 64)) (Direct ((base + n.0) % 2 ^ 64))), n.1)
 
 abbrev based : ℕ → Input → Result ℕ Fault → Result (Pointer × Input) Fault
-based e c r = faults.◌>>=◌ r (λ base. faults.◌>>=◌ (value (format_of e) c) (pointed e base))
+based e c r = ◌>>=◌ r (λ base. ◌>>=◌ (value (format_of e) c) (pointed e base))
 
 pointer_below : (e : ℕ) (bases : Bases) (c : Input) → IsBelow (pointer e bases c) (suc (length c.bytes))
 pointer_below e bases c = go (e == 255) (is_known e) (base_of bases (address_of c) (application_of e))
   where
-    go : (b d : Bool) (r : Result ℕ Fault) → IsBelow (cond b (Err CannotParseOmitPointerEncoding) (faults.◌>>=◌ (faults.unless d UnknownPointerEncoding) (λ known. based e c r))) (suc (length c.bytes))
+    go : (b d : Bool) (r : Result ℕ Fault) → IsBelow (cond b (Err CannotParseOmitPointerEncoding) (◌>>=◌ (unless d UnknownPointerEncoding) (λ known. based e c r))) (suc (length c.bytes))
     go true d r = tt
     go false false r = tt
     go false true (Err f) = tt
     go false true (Ok base) = then_below (value (format_of e) c) (pointed e base) (suc (length c.bytes)) (suc (length c.bytes)) (value_below (format_of e) c) (λ n lt. lt)
 
 abbrev aimed : Result ℕ StepFault → Input → Result (ℕ × Input) StepFault
-aimed r d = tables.◌>>=◌ r (λ a. Ok (a, d))
+aimed r d = ◌>>=◌ r (λ a. Ok (a, d))
 
 address_below : (image : List Span) (e : ℕ) (bases : Bases) (c : Input) → IsBelow (tables.address image e bases c) (suc (length c.bytes))
 address_below image e bases c =
-    step_below (tables.read (pointer e bases c)) (λ p. aimed (tables.target image p.0) p.1) (suc (length c.bytes)) (suc (length c.bytes)) (read_below (pointer e bases c) (suc (length c.bytes)) (pointer_below e bases c))
+    then_below (tables.read (pointer e bases c)) (λ p. aimed (tables.target image p.0) p.1) (suc (length c.bytes)) (suc (length c.bytes)) (read_below (pointer e bases c) (suc (length c.bytes)) (pointer_below e bases c))
     (λ p lt. go (tables.target image p.0) p.1 lt)
   where
     go : (r : Result ℕ StepFault) (d : Input) → length d.bytes < suc (length c.bytes) → IsBelow (aimed r d) (suc (length c.bytes))
@@ -136,10 +132,10 @@ address_below image e bases c =
 -- ---- call sites
 site_below : (image : List Span) (bases : Bases) (e : ℕ) (c : Input) → IsBelow (tables.call_site image bases e c) (length c.bytes)
 site_below image bases e c =
-    step_below (tables.address image e bases c) _ (suc (length c.bytes)) (length c.bytes) (address_below image e bases c) (λ from a.
-    step_below (tables.address image e bases from.1) _ (suc (length from.1.bytes)) (length c.bytes) (address_below image e bases from.1) (λ size b.
-    step_below (tables.address image e bases size.1) _ (suc (length size.1.bytes)) (length c.bytes) (address_below image e bases size.1) (λ pad d.
-    step_below (tables.read (uleb pad.1)) _ (length pad.1.bytes) (length c.bytes) (read_below (uleb pad.1) (length pad.1.bytes) (uleb_below pad.1)) (λ index f. omega arith))))
+    then_below (tables.address image e bases c) _ (suc (length c.bytes)) (length c.bytes) (address_below image e bases c) (λ from a.
+    then_below (tables.address image e bases from.1) _ (suc (length from.1.bytes)) (length c.bytes) (address_below image e bases from.1) (λ size b.
+    then_below (tables.address image e bases size.1) _ (suc (length size.1.bytes)) (length c.bytes) (address_below image e bases size.1) (λ pad d.
+    then_below (tables.read (uleb pad.1)) _ (length pad.1.bytes) (length c.bytes) (read_below (uleb pad.1) (length pad.1.bytes) (uleb_below pad.1)) (λ index f. omega arith))))
 
 -- a call site takes a byte at least
 pub site_takes : (image : List Span) (bases : Bases) (e : ℕ) (c d : Input) (s : tables.CallSite) → tables.call_site image bases e c ≡ Ok (s, d) → length d.bytes < length c.bytes

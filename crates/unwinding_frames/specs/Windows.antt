@@ -1,5 +1,5 @@
 -- A place of an image that was looked up.
-use Rattle.std.specs.Prelude.{◌≡◌, ℕ, ◌-◌, ◌≤◌, List, length}
+use Rattle.std.specs.Prelude.{◌≡◌, ℕ, ◌+◌, ◌-◌, ◌<◌, ◌≤◌, List, length, drop}
 use Rattle.memory_image.specs.Image.{Span, IsLaidOut, table_at}
 
 -- The bytes from an address to the end of its region, and at how many places from there on a whole word stands.
@@ -7,3 +7,7 @@ pub record IsWindow (image : List Span) (start : ℕ) (bytes : List ℕ) (places
   pub laid_out : IsLaidOut 0 image
   pub held : bytes ≡ table_at image start
   pub whole : places ≤ length bytes - 7
+
+-- Bytes from an address on: each of them, with those behind it, is what stands there to the end of the region.
+abbrev pub IsPlace : List Span → ℕ → List ℕ → Type 0
+IsPlace image start bytes = (k : ℕ) → k < length bytes → table_at image (start + k) ≡ drop k bytes

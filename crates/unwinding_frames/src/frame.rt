@@ -10,7 +10,7 @@ ghost use Rattle.unwind_definitions.specs.Row.{RowInstructions, covers_pc, row_a
 ghost use Rattle.unwind_definitions.specs.LanguageSearch.{address_of_call, language_address};
 ghost use Rattle.unwind_definitions.specs.LanguageSearch.{personality_address, target};
 ghost use Rattle.unwind_definitions.specs.Caller.{Columns, caller_of, rule_value, cfa_value};
-ghost use Rattle.unwind_definitions.specs.Caller.{word_or_fault, column_or_fault, unruled};
+ghost use Rattle.unwind_definitions.specs.Caller.{word_or_fault, column_or_fault, value_without_rule};
 ghost use Rattle.frame_rows.specs.Rules.{rule_meaning, cfa_meaning, entry_of};
 ghost use Rattle.frame_rows.specs.Left.{left};
 ghost use Rattle.frame_rows.specs.Rows.{IsRowOf};
@@ -20,6 +20,7 @@ ghost use Rattle.fde_finders.specs.FoundViews.{answered};
 ghost use Rattle.unwinding_frames.specs.Framed.{GivesFrame, GivesRowOf};
 ghost use Rattle.unwind_definitions.specs.Expressions.{evaluation};
 ghost use Rattle.unwinding_frames.specs.Calling.{machine_of, value_given, columns_given};
+ghost use Rattle.unwinding_frames.specs.Passes.{less_signal};
 ghost use Rattle.unwinding_frames.specs.Calling.{written_in, applied, rule_applied};
 
 use crate::window::Window;
@@ -287,6 +288,7 @@ impl<'a, M: Machine> fmt::Debug for Frame<'a, M> {
 /// # Errors
 ///
 /// `Unmapped` with the address of the cell that holds the address, where it isn't wholly mapped.
+#[inline(always)]
 pub fn personality_of(
     found: &FDESearchResult<'_>,
     image: &MemoryImage<'_>,
@@ -304,6 +306,7 @@ pub fn personality_of(
 /// # Errors
 ///
 /// `Unmapped` with the address of the cell that holds the address, where it isn't wholly mapped.
+#[inline(always)]
 pub fn lsda_of(found: &FDESearchResult<'_>, image: &MemoryImage<'_>) -> Result<u64, StepError>
     ensures { value_given result ≡ language_address image.now (answered found.now).fde }
 {
@@ -320,6 +323,18 @@ pub fn address_asked(ra: u64, signal: bool) -> u64
     ensures { result ≡ address_of_call ra signal }
 {
     if signal { ra } else { ra.wrapping_sub(1) }
+}
+
+/// The mark by which a later pass knows a frame: its stack pointer, and where `signal` is true, for
+/// then it stands after a signal's frame, that less one, as words that wrap.
+pub fn frame_mark(stack_pointer: u64, signal: bool) -> u64
+    ensures { result ≡ less_signal signal stack_pointer }
+{
+    if signal {
+        stack_pointer.wrapping_sub(1)
+    } else {
+        stack_pointer
+    }
 }
 
 /// The return address.
@@ -433,7 +448,7 @@ fn cfa<M: Machine>(
 /// Makes a frame's registers its caller's before any rule is applied: the stack pointer is the
 /// canonical frame address, and the return address 0.
 fn begin<M: Machine>(context: &mut M::Context, cfa: u64)
-    ensures { M.Context.columns context.new ≡ unruled (machine_of M.SP.0 M.RA.0)
+    ensures { M.Context.columns context.new ≡ value_without_rule (machine_of M.SP.0 M.RA.0)
         (M.Context.columns context.old) cfa }
 {
     context.set(M::RA, 0);

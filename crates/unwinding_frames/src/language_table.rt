@@ -21,6 +21,7 @@ ghost use Rattle.unwinding_frames.specs.LanguageViews.{passes_types, GivesOr};
 
 use crate::frame::{Frame, StepError, address_asked, lsda_of, return_address, target};
 use eh_frame::{Bases, Error};
+use encoded_pointers::constants::DW_EH_PE_ULEB128;
 use encoded_pointers::{Cursor, DwEhPe, parse_encoded_pointer, parse_pointer_encoding};
 use fde_finders::FDESearchResult;
 use memory_image::MemoryImage;
@@ -65,6 +66,9 @@ struct LanguageTable<'a> {
     actions: Cursor<'a>,
 }
 
+// a number by itself
+const ULEB128: DwEhPe = DwEhPe(DW_EH_PE_ULEB128);
+
 const OVERFLOW: StepError = StepError::Table(Error::AddressOverflow);
 
 /// What the function of a frame asks of it, by its language table: `None` where it has no table.
@@ -105,6 +109,7 @@ pub fn find_eh_action<M: Machine>(
 /// # Errors
 ///
 /// Those of [`find_eh_action`].
+#[inline(always)]
 pub fn eh_action_of(
     found: &FDESearchResult<'_>,
     image: &MemoryImage<'_>,
@@ -254,7 +259,26 @@ fn sum(address: u64, distance: u64) -> Result<u64, StepError>
 }
 
 /// An address by an encoding. After a fault the cursor is unspecified.
+#[inline(always)]
 fn read_address(
+    image: &MemoryImage<'_>,
+    bases: &Bases,
+    encoding: DwEhPe,
+    input: &mut Cursor<'_>,
+) -> Result<u64, StepError>
+    ensures { GivesOr (λ x. x) result (address image.now encoding.0 (bases_of bases.now)
+        (at input.old)) (at input.new) }
+{
+    // so compilers spell the numbers of call sites
+    if encoding == ULEB128 {
+        return Ok(input.read_uleb128()?);
+    }
+    read_pointed_address(image, bases, encoding, input)
+}
+
+/// The same, whatever the encoding.
+#[inline(never)]
+fn read_pointed_address(
     image: &MemoryImage<'_>,
     bases: &Bases,
     encoding: DwEhPe,

@@ -12,6 +12,7 @@ mod frame;
 mod language_table;
 mod personality;
 mod personality_dummy;
+mod place;
 mod window;
 
 pub use abi::context::{
@@ -23,7 +24,7 @@ pub use abi::exception::{_Unwind_DeleteException, Kept, UnwindException};
 pub use abi::laws::lines_are_one;
 pub use abi::{UnwindAction, UnwindReasonCode};
 pub use frame::{
-    Frame, StepError, address_asked, lsda_of, personality_of, step_by_row, write_caller,
+    Frame, StepError, address_asked, frame_mark, lsda_of, personality_of, step_by_row, write_caller,
 };
 pub use language_table::{EhAction, eh_action_of, find_eh_action};
 pub use personality::{Personality, RustPersonality};

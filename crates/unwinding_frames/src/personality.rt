@@ -71,7 +71,12 @@ pub struct RustPersonality;
 
 impl<M: Machine> Personality<M> for RustPersonality {
     ghost answers = { λ p asked image frame columns signal.
-        rust_answers (record { return_address = M.RA.0; exception = M.UNWIND_DATA_REG.0.0; selector = M.UNWIND_DATA_REG.1.0 }) asked image frame columns signal };
+        rust_answers (record {
+          return_address = M.RA.0;
+          exception = M.UNWIND_DATA_REG.0.0;
+          selector = M.UNWIND_DATA_REG.1.0;
+        })
+        asked image frame columns signal };
 
     fn call(
         &self,

@@ -1,14 +1,16 @@
 //! Words that stand near each other.
 
-ghost use Rattle.std.specs.Prelude.{◌≡◌, ◌+◌, ◌≤◌, Some, IfSome, length};
+ghost use Rattle.std.specs.Prelude.{◌≡◌, ◌+◌, ◌≤◌, ◌<◌, [], Some, IfSome, MatchOption, length};
 ghost use Rattle.memory_image.specs.Image.{IsLaidOut, table_at, word_at};
 ghost use Rattle.memory_image.specs.Words.{u64_at};
 
+use crate::place::{Place, bytes_from};
 use memory_image::MemoryImage;
 use std::marker::Model;
 
 /// A place of an image, which was looked up: a word that stands there or after it, in the same
-/// region, is read without a search.
+/// region, is read without a search. Beside it, where who goes from frame to frame has last read
+/// tables, records and code of a module, in regions of their own.
 ///
 /// Contracts see the image.
 #[derive(Drop)]
@@ -19,18 +21,24 @@ pub struct Window<'i, 'a> {
     bytes: &'a [u8],
     // how many places have a whole word
     places: usize,
+    tables: Place<'a>,
+    records: Place<'a>,
+    code: Place<'a>,
 }
 
 impl<'i, 'a> Model for Window<'i, 'a> {
     ghost use Rattle.std.specs.Prelude.{List};
     ghost use Rattle.memory_image.specs.Image.{Span};
-    ghost use Rattle.unwinding_frames.specs.Windows.{IsWindow};
+    ghost use Rattle.unwinding_frames.specs.Windows.{IsWindow, IsPlace};
 
     ghost Value = { List Span };
 
     ghost view = { λ w. w.image.now };
 
-    ghost invariant = { λ w. IsWindow w.image.now w.start w.bytes.now w.places };
+    ghost invariant = { λ w. IsWindow w.image.now w.start w.bytes.now w.places
+        × IsPlace w.image.now w.tables.start w.tables.bytes.now
+        × IsPlace w.image.now w.records.start w.records.bytes.now
+        × IsPlace w.image.now w.code.start w.code.bytes.now };
 }
 
 impl<'i, 'a> Window<'i, 'a> {
@@ -44,6 +52,9 @@ impl<'i, 'a> Window<'i, 'a> {
             start: address,
             bytes,
             places: bytes.len().saturating_sub(7),
+            tables: Place::empty(),
+            records: Place::empty(),
+            code: Place::empty(),
         }
     }
 
@@ -59,8 +70,69 @@ impl<'i, 'a> Window<'i, 'a> {
         ensures { self.new ≡ self.old }
     {
         if address.wrapping_sub(self.start) as usize >= self.places {
-            *self = Window::new(self.image, address);
+            let bytes = bytes_from(self.image, address);
+            self.start = address;
+            self.bytes = bytes;
+            self.places = bytes.len().saturating_sub(7);
         }
+    }
+
+    /// The bytes of tables, from an address to the end of its region, none where it isn't mapped. The
+    /// next ones of the region are found without a search.
+    pub fn tables(&mut self, address: u64) -> &'a [u8]
+        ensures held { result.now ≡ table_at self.old address }
+        ensures same { self.new ≡ self.old }
+    {
+        match self.tables.from(address) {
+            Some(bytes) => bytes,
+            None => self.far_tables(address),
+        }
+    }
+
+    // the same where they have to be searched for
+    #[cold]
+    #[inline(never)]
+    fn far_tables(&mut self, address: u64) -> &'a [u8]
+        ensures held { result.now ≡ table_at self.old address }
+        ensures same { self.new ≡ self.old }
+    {
+        let place = Place::of(self.image, address);
+        self.tables = place;
+        place.bytes
+    }
+
+    /// Looks the records at an address up, unless they are in the region of those that were looked up
+    /// last.
+    pub fn seek_records(&mut self, address: u64)
+        ensures { self.new ≡ self.old }
+    {
+        if self.records.from(address).is_none() {
+            self.records = Place::of(self.image, address);
+        }
+    }
+
+    /// Looks the code at an address up, unless it is in the region of what was looked up last.
+    pub fn seek_code(&mut self, address: u64)
+        ensures { self.new ≡ self.old }
+    {
+        if self.code.from(address).is_none() {
+            self.code = Place::of(self.image, address);
+        }
+    }
+
+    /// The bytes from an address to the end of its region. None where it isn't mapped. Records and
+    /// code that were looked up are found without a search.
+    pub fn from(&self, address: u64) -> Option<&'a [u8]>
+        ensures { MatchOption result (table_at self.now address ≡ [])
+            (λ bytes. (bytes.now ≡ table_at self.now address) × (0 < length bytes.now)) }
+    {
+        if let Some(bytes) = self.records.from(address) {
+            return Some(bytes);
+        }
+        if let Some(bytes) = self.code.from(address) {
+            return Some(bytes);
+        }
+        far_from(self.image, address)
     }
 
     /// The little-endian number of the eight bytes from the address on, which all lie where the image
@@ -77,15 +149,14 @@ impl<'i, 'a> Window<'i, 'a> {
     }
 }
 
-// The bytes from an address to the end of its region, none where the address isn't mapped.
-fn bytes_from<'a>(image: &MemoryImage<'a>, address: u64) -> &'a [u8]
-    ensures laid_out { IsLaidOut 0 image.now }
-    ensures held { result.now ≡ table_at image.now address }
+// The bytes from an address to the end of its region, by a search.
+#[cold]
+#[inline(never)]
+fn far_from<'a>(image: &MemoryImage<'a>, address: u64) -> Option<&'a [u8]>
+    ensures { MatchOption result (table_at image.now address ≡ [])
+        (λ bytes. (bytes.now ≡ table_at image.now address) × (0 < length bytes.now)) }
 {
-    match image.from(address) {
-        Some(bytes) => bytes,
-        None => &[],
-    }
+    image.from(address)
 }
 
 // The little-endian number of eight bytes.

@@ -1,7 +1,7 @@
 // The instructions of epilogs.
-ghost use Rattle.std.specs.Prelude.{◌≡◌, ◌≤◌, false, [], length};
+ghost use Rattle.std.specs.Prelude.{◌≡◌, ◌≤◌, false, [], length, is_ok};
 ghost use Rattle.std.specs.Option.{option_map};
-ghost use Rattle.pe_unwind_info.specs.Epilog.{map_ok, word_in, with_word, lea_from, lea_of};
+ghost use Rattle.pe_unwind_info.specs.Epilog.{result_map, word_in, with_word, lea_from, lea_of};
 ghost use Rattle.pe_unwind_info.specs.Epilog.{adjustment_of, pop_of, is_jump, two_bytes_of};
 ghost use Rattle.pe_unwind_info.specs.Epilog.{pop_or_terminator_of, behind_rex, rex_split, parsed};
 ghost use Rattle.pe_unwind_info.specs.Epilog.{and_first, sequence_from, sequence_of};
@@ -61,14 +61,14 @@ pub enum InstructionParseError {
 
 // a number of four bytes, and the bytes behind it
 fn split_word(bytes: &[u8]) -> Result<(u32, &[u8]), InstructionParseError>
-    ensures { map_ok (λ p. (p.0, p.1.now)) result ≡ word_in (first_u32 bytes.now) }
+    ensures { result_map (λ p. (p.0, p.1.now)) result ≡ word_in (first_u32 bytes.now) }
 {
     split_u32(bytes).ok_or(InstructionParseError::NotEnoughData)
 }
 
 // an `add` of a number of four bytes, which these bytes begin with
 fn parse_add_word(bytes: &[u8]) -> Result<(FunctionEpilogInstruction, &[u8]), InstructionParseError>
-    ensures { map_ok (λ p. (p.0, p.1.now)) result ≡ with_word AddSP bytes.now }
+    ensures { result_map (λ p. (p.0, p.1.now)) result ≡ with_word AddSP bytes.now }
 {
     let (number, rest) = split_word(bytes)?;
     Ok((FunctionEpilogInstruction::AddSP(number), rest))
@@ -80,7 +80,7 @@ fn parse_lea(
     code: &[u8],
 ) -> Result<(FunctionEpilogInstruction, &[u8]), InstructionParseError>
     requires { 2 ≤ length code.now }
-    ensures { map_ok (λ p. (p.0, p.1.now)) result ≡ lea_from base code.now }
+    ensures { result_map (λ p. (p.0, p.1.now)) result ≡ lea_from base code.now }
 {
     let modrm = code[0];
     if modrm & 0x3f != 0x20 | (base & 0x7) {
@@ -106,7 +106,7 @@ fn parse_frame_lea(
     code: &[u8],
 ) -> Option<Result<(FunctionEpilogInstruction, &[u8]), InstructionParseError>>
     requires { 2 ≤ length code.now }
-    ensures { option_map (map_ok (λ p. (p.0, p.1.now))) result ≡ lea_of frame rex code.now }
+    ensures { option_map (result_map (λ p. (p.0, p.1.now))) result ≡ lea_of frame rex code.now }
 {
     let base = frame? as u8;
     if rex % 2 == base / 8 {
@@ -123,7 +123,7 @@ fn parse_adjustment(
     rex: u8,
     code: &[u8],
 ) -> Option<Result<(FunctionEpilogInstruction, &[u8]), InstructionParseError>>
-    ensures { option_map (map_ok (λ p. (p.0, p.1.now))) result ≡ adjustment_of frame rex code.now }
+    ensures { option_map (result_map (λ p. (p.0, p.1.now))) result ≡ adjustment_of frame rex code.now }
 {
     let [opcode, modrm, next, rest @ ..] = code else {
         return None;
@@ -163,7 +163,7 @@ fn parse_two_bytes(
     opcode: u8,
     code: &[u8],
 ) -> Result<Option<(FunctionEpilogInstruction, &[u8])>, InstructionParseError>
-    ensures { map_ok (option_map (λ p. (p.0, p.1.now))) result ≡ two_bytes_of rex opcode code.now }
+    ensures { result_map (option_map (λ p. (p.0, p.1.now))) result ≡ two_bytes_of rex opcode code.now }
 {
     let [next, rest @ ..] = code else {
         return Err(InstructionParseError::InvalidInstruction);
@@ -182,7 +182,7 @@ fn parse_pop_or_terminator(
     rex: u8,
     code: &[u8],
 ) -> Result<Option<(FunctionEpilogInstruction, &[u8])>, InstructionParseError>
-    ensures { map_ok (option_map (λ p. (p.0, p.1.now))) result ≡ pop_or_terminator_of rex code.now }
+    ensures { result_map (option_map (λ p. (p.0, p.1.now))) result ≡ pop_or_terminator_of rex code.now }
 {
     let [opcode, rest @ ..] = code else {
         return Err(InstructionParseError::InvalidInstruction);
@@ -214,7 +214,7 @@ fn parse_behind_rex(
     rex: u8,
     code: &[u8],
 ) -> Result<Option<(FunctionEpilogInstruction, &[u8])>, InstructionParseError>
-    ensures { map_ok (option_map (λ p. (p.0, p.1.now))) result
+    ensures { result_map (option_map (λ p. (p.0, p.1.now))) result
         ≡ behind_rex frame allow_add_sp rex code.now }
 {
     if allow_add_sp && rex / 8 == 1 {
@@ -226,13 +226,14 @@ fn parse_behind_rex(
 }
 
 // an instruction, perhaps behind a REX byte
+#[inline(always)]
 #[tactic(auto, unfolding(crate::specs::Epilog::parsed))]
 fn parse_instruction(
     frame: Option<Register>,
     allow_add_sp: bool,
     code: &[u8],
 ) -> Result<Option<(FunctionEpilogInstruction, &[u8])>, InstructionParseError>
-    ensures { map_ok (option_map (λ p. (p.0, p.1.now))) result
+    ensures { result_map (option_map (λ p. (p.0, p.1.now))) result
         ≡ parsed frame allow_add_sp code.now }
 {
     match split_rex(code) {
@@ -258,7 +259,7 @@ fn parse_later(
     first: FunctionEpilogInstruction,
     code: &[u8],
 ) -> Result<ArrayVec<FunctionEpilogInstruction, FUNCTION_EPILOG_LIMIT>, InstructionParseError>
-    ensures { map_ok (λ v. v.items) result
+    ensures { result_map (λ v. v.items) result
         ≡ and_first first (sequence_from frame 11 false code.now) }
 {
     let mut instructions = no_instructions();
@@ -281,11 +282,34 @@ fn parse_instructions(
     frame: Option<Register>,
     code: &[u8],
 ) -> Result<ArrayVec<FunctionEpilogInstruction, FUNCTION_EPILOG_LIMIT>, InstructionParseError>
-    ensures { map_ok (λ v. v.items) result ≡ sequence_of frame code.now }
+    ensures { result_map (λ v. v.items) result ≡ sequence_of frame code.now }
 {
     match parse_instruction(frame, true, code)? {
         Some((first, behind)) => parse_later(frame, first, behind),
         None => Ok(no_instructions()),
+    }
+}
+
+// whether bytes begin with the instructions of an epilog and a terminator
+#[inline(never)]
+fn is_sequence(frame: Option<Register>, code: &[u8]) -> bool
+    ensures { result ≡ is_ok (sequence_of frame code.now) }
+{
+    match parse_instructions(frame, code) {
+        Ok(_) => true,
+        Err(_) => false,
+    }
+}
+
+/// Whether bytes begin with an epilog. Most code that is tested doesn't, and its first instruction
+/// tells that, so no list is made for it.
+#[tactic(auto, using(crate::proofs::EpilogSequences::first_err))]
+pub(crate) fn begins_with_epilog(frame: Option<Register>, code: &[u8]) -> bool
+    ensures { result ≡ is_ok (sequence_of frame code.now) }
+{
+    match parse_instruction(frame, true, code) {
+        Ok(_) => is_sequence(frame, code),
+        Err(_) => false,
     }
 }
 
@@ -298,10 +322,10 @@ impl FunctionEpilogInstruction {
         fpreg: Option<Register>,
         allow_add_sp: bool,
     ) -> Result<Option<(FunctionEpilogInstruction, &[u8])>, InstructionParseError>
-        ensures value { map_ok (option_map (λ p. (p.0, p.1.now))) result
+        ensures value { result_map (option_map (λ p. (p.0, p.1.now))) result
             ≡ parsed fpreg allow_add_sp ip.now }
         ensures grammar { IsParsed fpreg allow_add_sp ip.now
-            (map_ok (option_map (λ p. (p.0, p.1.now))) result) }
+            (result_map (option_map (λ p. (p.0, p.1.now))) result) }
     {
         parse_instruction(fpreg, allow_add_sp, ip)
     }
@@ -312,8 +336,8 @@ impl FunctionEpilogInstruction {
         ip: &[u8],
         frame_register: Option<Register>,
     ) -> Result<ArrayVec<FunctionEpilogInstruction, FUNCTION_EPILOG_LIMIT>, InstructionParseError>
-        ensures value { map_ok (λ v. v.items) result ≡ sequence_of frame_register ip.now }
-        ensures grammar { IsSequence frame_register ip.now (map_ok (λ v. v.items) result) }
+        ensures value { result_map (λ v. v.items) result ≡ sequence_of frame_register ip.now }
+        ensures grammar { IsSequence frame_register ip.now (result_map (λ v. v.items) result) }
     {
         parse_instructions(frame_register, ip)
     }

@@ -1,8 +1,8 @@
 // Frames, by the unwind records of their functions.
-ghost use Rattle.std.specs.Prelude.{◌≡◌, ◌≤◌, ℕ, List, Option, Ok};
+ghost use Rattle.std.specs.Prelude.{◌≡◌, ◌≤◌, ℕ, List, Option, Ok, IfOk, IsTrue, is_ok};
 ghost use Rattle.std.specs.Option.{option_map, ForSome};
-ghost use Rattle.pe_unwind_info.specs.Epilog.{map_ok};
-ghost use Rattle.pe_unwind_info.specs.Frame.{Gives, info_in, chained_of, epilog_in};
+ghost use Rattle.pe_unwind_info.specs.Epilog.{result_map, sequence_of};
+ghost use Rattle.pe_unwind_info.specs.Frame.{Gives, info_in, chained_of, epilog_in, epilog_of};
 ghost use Rattle.pe_unwind_info.specs.Frame.{operations_alone, from_place, link_by, link_of};
 ghost use Rattle.pe_unwind_info.specs.Frame.{link_end, IsLinked, IsTested, Leaves, ByRun, InRecord};
 ghost use Rattle.pe_unwind_info.specs.Frame.{IsFunctionFrame, IsFrame, IsUnwound, ShowsEnd};
@@ -19,9 +19,10 @@ ghost use Rattle.pe_unwind_info.specs.Machine.{registers_of, FrameEnd, frame_end
 ghost use Rattle.pe_unwind_info.specs.Machine.{then_ends};
 ghost use Rattle.pe_unwind_info.specs.Operations.{operations_left};
 ghost use Rattle.pe_unwind_info.specs.Steps.{epilog_run, flow_end, run};
+ghost use Rattle.pe_unwind_info.specs.declared.x86_64.epilog.FunctionEpilogInstruction.{FunctionEpilogInstruction};
 ghost use Rattle.pe_unwind_info.specs.declared.x86_64.function_table.RuntimeFunction.{RuntimeFunction};
 
-use crate::x86_64::epilog::{FUNCTION_EPILOG_LIMIT, FunctionEpilogInstruction};
+use crate::x86_64::epilog::{FunctionEpilogInstruction, begins_with_epilog};
 use crate::x86_64::epilog_list::take_epilogs;
 use crate::x86_64::fault::FrameFault;
 use crate::x86_64::function_table::{FunctionTableEntries, RuntimeFunction};
@@ -31,7 +32,6 @@ use crate::x86_64::sections::Sections;
 use crate::x86_64::state::{UnwindState, pop_return_address};
 use crate::x86_64::steps::{apply_all, apply_from, apply_instructions};
 use crate::x86_64::unwind_info::{UnwindInfo, UnwindInfoTrailer};
-use arrayvec::ArrayVec;
 use std::ops::ControlFlow;
 
 // how many records may be chained to the first one
@@ -39,7 +39,7 @@ const CHAIN_LIMIT: u32 = 32;
 
 // the unwind record at an address, from the memory there
 fn info_in(rva: u32, memory: Option<&[u8]>) -> Result<UnwindInfo<'_>, FrameFault>
-    ensures { map_ok info_of result ≡ info_in rva (option_map (λ bytes. bytes.now) memory.entry) }
+    ensures { result_map info_of result ≡ info_in rva (option_map (λ bytes. bytes.now) memory.entry) }
 {
     let bytes = memory.ok_or(FrameFault::Memory(rva))?;
     UnwindInfo::parse(bytes).ok_or(FrameFault::Info(rva))
@@ -53,7 +53,7 @@ fn info_at<'m, M: Fn(u32) -> Option<&'m [u8]>>(
     requires { M.IsAlwaysCallable memory_at_rva.now }
     ensures { (memory : Option (List ℕ))
         × Gives (M.post memory_at_rva.now) (option_map (λ bytes. bytes.now)) rva memory
-        × (map_ok info_of result ≡ info_in rva memory) }
+        × (result_map info_of result ≡ info_in rva memory) }
 {
     info_in(rva, memory_at_rva(rva))
 }
@@ -68,16 +68,19 @@ fn chained(info: &UnwindInfo<'_>) -> Option<RuntimeFunction>
     }
 }
 
-// the instructions of the epilog that the code from an address to the function's end begins with,
-// from the memory at the address
-fn epilog_in(
+// the code from an address to the function's end, where it begins with an epilog, from the memory at
+// the address
+#[tactic(auto, using(crate::proofs::EpilogSequences::none_begins))]
+fn epilog_in<'m>(
     frame: Option<Register>,
     end: u32,
     address: u32,
-    memory: Option<&[u8]>,
-) -> Result<Option<ArrayVec<FunctionEpilogInstruction, FUNCTION_EPILOG_LIMIT>>, FrameFault>
-    ensures { map_ok (option_map (λ v. v.items)) result
+    memory: Option<&'m [u8]>,
+) -> Result<Option<&'m [u8]>, FrameFault>
+    ensures epilog { result_map (λ code. epilog_of frame (option_map (λ bytes. bytes.now) code)) result
         ≡ epilog_in frame end address (option_map (λ bytes. bytes.now) memory.entry) }
+    ensures begins { IfOk result (λ code. ForSome code (λ bytes.
+        IsTrue (is_ok (sequence_of frame bytes.now)))) }
 {
     let Some(bytes) = memory else {
         return Err(FrameFault::EpilogBytes);
@@ -86,9 +89,10 @@ fn epilog_in(
         return Err(FrameFault::EpilogBytes);
     }
     let code = &bytes[..(end - address) as usize];
-    match FunctionEpilogInstruction::parse_sequence(code, frame) {
-        Ok(instructions) => Ok(Some(instructions)),
-        Err(_) => Ok(None),
+    if begins_with_epilog(frame, code) {
+        Ok(Some(code))
+    } else {
+        Ok(None)
     }
 }
 
@@ -99,11 +103,13 @@ fn epilog_at<'m, M: Fn(u32) -> Option<&'m [u8]>>(
     frame: Option<Register>,
     end: u32,
     address: u32,
-) -> Result<Option<ArrayVec<FunctionEpilogInstruction, FUNCTION_EPILOG_LIMIT>>, FrameFault>
+) -> Result<Option<&'m [u8]>, FrameFault>
     requires { M.IsAlwaysCallable memory_at_rva.now }
-    ensures { IsTested due (Gives (M.post memory_at_rva.now) (option_map (λ bytes. bytes.now)))
-        frame
-        end address (map_ok (option_map (λ v. v.items)) result) }
+    ensures tested { IsTested due
+        (Gives (M.post memory_at_rva.now) (option_map (λ bytes. bytes.now))) frame end address
+        (result_map (λ code. epilog_of frame (option_map (λ bytes. bytes.now) code)) result) }
+    ensures begins { IfOk result (λ code. ForSome code (λ bytes.
+        IsTrue (is_ok (sequence_of frame bytes.now)))) }
 {
     if due {
         epilog_in(frame, end, address, memory_at_rva(address))
@@ -237,27 +243,54 @@ fn leave_by_operations<'m, S: UnwindState, M: Fn(u32) -> Option<&'m [u8]>>(
     }
 }
 
-// leaves by the epilog that the code begins with, or else by the operations of what the prologue
-// has done up to the address
+// leaves by the epilog that code begins with; the list of its instructions is made here alone, as a
+// function pays for the room of its locals each time
+#[inline(never)]
+fn leave_by_code<S: UnwindState>(
+    frame: Option<Register>,
+    state: &mut S,
+    code: &[u8],
+) -> Result<u64, FrameFault>
+    requires { IsTrue (is_ok (sequence_of frame code.now)) }
+    ensures registers { (instructions : List FunctionEpilogInstruction)
+        × (sequence_of frame code.now ≡ Ok instructions)
+        × (frame_end result (registers_of (S.registers state.new) (S.xmm_registers state.new))
+        ≡ then_ends
+        (epilog_run frame (S.stack state.old) instructions
+        (registers_of (S.registers state.old) (S.xmm_registers state.old)))
+        (pop_return (S.stack state.old))) }
+    ensures stack { S.stack state.new ≡ S.stack state.old }
+{
+    match FunctionEpilogInstruction::parse_sequence(code, frame) {
+        Ok(instructions) => leave_by_epilog(frame, state, &instructions),
+        Err(_) => unreachable!(),
+    }
+}
+
+// leaves by the epilog that code begins with, where there is such code, or else by the operations of
+// what the prologue has done up to the address
 fn leave<'m, S: UnwindState, M: Fn(u32) -> Option<&'m [u8]>>(
     info: &UnwindInfo<'_>,
     state: &mut S,
     memory_at_rva: &M,
-    epilog: Option<ArrayVec<FunctionEpilogInstruction, FUNCTION_EPILOG_LIMIT>>,
+    epilog: Option<&[u8]>,
     operations: UnwindOperations<'_>,
     offset: u32,
 ) -> Result<u64, FrameFault>
-    requires { M.IsAlwaysCallable memory_at_rva.now }
+    requires callable { M.IsAlwaysCallable memory_at_rva.now }
+    requires begins { ForSome epilog (λ code.
+        IsTrue (is_ok (sequence_of (frame_register_of (info_of info.now).header) code.now))) }
     ensures registers { Leaves (Gives (M.post memory_at_rva.now) (option_map (λ bytes. bytes.now)))
         (S.stack state.old) (info_of info.now)
         (from_place offset (operations_left operations.entry))
-        (option_map (λ v. v.items) epilog)
+        (epilog_of (frame_register_of (info_of info.now).header)
+        (option_map (λ bytes. bytes.now) epilog.entry))
         (registers_of (S.registers state.old) (S.xmm_registers state.old))
         (frame_end result (registers_of (S.registers state.new) (S.xmm_registers state.new))) }
     ensures stack { S.stack state.new ≡ S.stack state.old }
 {
     match epilog {
-        Some(instructions) => leave_by_epilog(info.frame_register(), state, &instructions),
+        Some(code) => leave_by_code(info.frame_register(), state, code),
         None => leave_by_operations(info, state, memory_at_rva, operations, offset),
     }
 }
@@ -326,6 +359,38 @@ fn unwind<'m, S: UnwindState, M: Fn(u32) -> Option<&'m [u8]>>(
         Some(function) => unwind_function(state, memory_at_rva, &function, address),
         None => pop_return_address(state),
     }
+}
+
+/// Unwinds a frame at an address by the record that a look-up there has answered, as
+/// [`FunctionTableEntries::try_unwind_frame`] does, for who needs the record before.
+///
+/// After a fault the state holds what was written before it.
+pub fn try_unwind_function<'m, S: UnwindState, M: Fn(u32) -> Option<&'m [u8]>>(
+    function: Option<RuntimeFunction>,
+    state: &mut S,
+    memory_at_rva: M,
+    address: u32,
+) -> Result<u64, FrameFault>
+    requires callable { M.IsAlwaysCallable memory_at_rva }
+    requires begun { ForSome function (λ function. function.begin_address ≤ address) }
+
+    // Whatever `memory_at_rva` gives at each call.
+    ensures frame { IsFrame (Gives (M.post memory_at_rva) (option_map (λ bytes. bytes.now)))
+        (S.stack state.old) address function
+        (registers_of (S.registers state.old) (S.xmm_registers state.old))
+        (frame_end result (registers_of (S.registers state.new) (S.xmm_registers state.new))) }
+
+    // Where it gives one memory at each address, the answer and the writes are determined.
+    ensures by_memory { (memory : Image)
+        → ((rva : ℕ) (given : Option (List ℕ))
+        → Gives (M.post memory_at_rva) (option_map (λ bytes. bytes.now)) rva given
+        → given ≡ memory rva)
+        → frame_end result (registers_of (S.registers state.new) (S.xmm_registers state.new))
+        ≡ framed memory (S.stack state.old) address function
+        (registers_of (S.registers state.old) (S.xmm_registers state.old)) }
+    ensures stack { S.stack state.new ≡ S.stack state.old }
+{
+    unwind(state, &memory_at_rva, function, address)
 }
 
 impl<'a> FunctionTableEntries<'a> {

@@ -178,6 +178,7 @@ fn split_scaled(slots: &[u8], unit: u32) -> Option<(u32, &[u8])>
 }
 
 // the operation of a slot, or none where it is spare, with the slots behind it
+#[inline(always)]
 fn decode(
     code: UnwindOperationCode,
     slot: UnwindCode,
@@ -249,6 +250,7 @@ fn decode(
 }
 
 // what slots begin with: the first byte, and the operation as `decode` gives it
+#[inline(always)]
 fn decode_first(version: u8, slots: &[u8]) -> Option<(u8, Option<UnwindOperation>, &[u8])>
     ensures { option_map (λ p. (p.0, p.1, p.2.now)) result ≡ first_of version slots.now }
 {

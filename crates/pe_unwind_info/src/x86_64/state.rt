@@ -50,6 +50,7 @@ pub trait UnwindState {
 }
 
 /// The word of the stack at an address.
+#[inline(always)]
 pub(crate) fn stack_word<S: UnwindState>(state: &mut S, address: u64) -> Result<u64, FrameFault>
     ensures value { result ≡ word_or_fault (S.stack state.old) address }
     ensures registers { S.registers state.new ≡ S.registers state.old }
@@ -71,6 +72,7 @@ pub(crate) fn add_to_stack_pointer<S: UnwindState>(state: &mut S, bytes: u32)
 }
 
 /// Pops a register: it is written, and then the stack pointer, by what this was before.
+#[inline(always)]
 pub(crate) fn pop<S: UnwindState>(state: &mut S, register: Register) -> Result<(), FrameFault>
     ensures registers { done result
         (registers_of (S.registers state.new) (S.xmm_registers state.new))

@@ -2,7 +2,7 @@
 //!
 //! Itanium C++ ABI, exception handling, sections 1.3 and 1.6.
 
-ghost use Rattle.std.specs.Prelude.{◌≡◌, ◌%◌, ◌+◌, ◌^◌, pos, ℕ, List, Option, Result};
+ghost use Rattle.std.specs.Prelude.{◌≡◌, pos, ℕ, List, Option, Result};
 ghost use Rattle.std.specs.Option.{option_map};
 ghost use Rattle.unwind_definitions.specs.Row.{RowInstructions, argument_size};
 ghost use Rattle.unwind_definitions.specs.Caller.{Columns, StepFault};
@@ -25,7 +25,7 @@ use fde_finders::FDEFinder;
 use memory_image::{Ledger, MemoryImage, Steps};
 use unwind_arch::Machine;
 use unwinding_frames::{
-    Frame, Personality, StepError, UnwindAction, UnwindContext, UnwindReasonCode,
+    Frame, Personality, StepError, UnwindAction, UnwindContext, UnwindReasonCode, frame_mark,
 };
 
 /// What a pass over the stack is for.
@@ -84,12 +84,7 @@ pub(crate) enum LineEnd<C> {
 pub(crate) fn mark<M: Machine>(context: &M::Context, signal: bool) -> u64
     ensures { result ≡ less_signal signal (in_column M.SP.0 (M.Context.columns context.now)) }
 {
-    let stack_pointer = context.get(M::SP).unwrap_or(0);
-    if signal {
-        stack_pointer.wrapping_sub(1)
-    } else {
-        stack_pointer
-    }
+    frame_mark(context.get(M::SP).unwrap_or(0), signal)
 }
 
 /// The context past the arguments that the frame's callee removes.

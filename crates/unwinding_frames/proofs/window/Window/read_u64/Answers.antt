@@ -8,5 +8,5 @@ pub returns-then-offset-self : goal.returns-then-offset-self
 returns-then-offset-self c =
     let i = c.self.inside in
     let there : word_at i.image.now c.args.address ≡ Some (u64_at i.bytes.now ((c.args.address + (2 ^ 64 - i.start)) % 2 ^ 64)) =
-    word_there i.image.now i.start i.bytes.now i.places c.self.invariant c.args.address _ (omega arith) refl c.if-offset-self.true in
+    word_there i.image.now i.start i.bytes.now i.places c.self.invariant.0 c.args.address _ (omega arith) refl c.if-offset-self.true in
     rw (← c.self.view_is) (there ∙ ap Some (sym c.u64_at.ensures))
