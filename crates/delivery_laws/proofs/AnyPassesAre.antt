@@ -10,7 +10,7 @@ use Rattle.unwind_definitions.specs.Function.{Action, NoAction, Cleanup, Catch, 
 use Rattle.unwind_definitions.specs.LanguageSearch.{personality_address, address_of_call, language_action}
 use Rattle.frame_rows.specs.RowValue.{RowValue}
 use Rattle.unwind_arch.specs.declared.x86_64.Context.{Context}
-use Rattle.unwind_arch.specs.Columns.{rsp}
+use Rattle.unwind_definitions.specs.Columns.{rsp}
 use Rattle.unwind_arch.specs.ContextViews.{columns_of, context_of}
 use Rattle.unwinding_frames.specs.declared.abi.UnwindAction.{UnwindAction}
 use Rattle.unwinding_frames.specs.declared.abi.UnwindReasonCode.{UnwindReasonCode}

@@ -8,7 +8,7 @@ use Rattle.unwind_definitions.specs.Row.{RowInstructions}
 use Rattle.unwind_definitions.specs.Caller.{Columns, StepFault}
 use Rattle.frame_rows.specs.RowValue.{RowValue}
 use Rattle.unwind_arch.specs.declared.x86_64.Context.{Context}
-use Rattle.unwind_arch.specs.Columns.{rsp}
+use Rattle.unwind_definitions.specs.Columns.{rsp}
 use Rattle.unwind_arch.specs.ContextViews.{columns_of, context_of}
 use Rattle.unwinding_frames.specs.declared.abi.UnwindReasonCode.{UnwindReasonCode}
 use Rattle.unwinding_frames.specs.declared.abi.TheConstants.UnwindReasonCode.{CONTINUE_UNWIND, HANDLER_FOUND}

@@ -20,7 +20,7 @@ use Rattle.stack_snapshot.specs.declared.errors.Field.{Field}
 use Rattle.stack_snapshot.specs.Content.{Content, space_of, takes_modules}
 use Rattle.stack_snapshot.specs.Described.{DescribesChain}
 use Rattle.stack_snapshot.specs.declared.parts.SnapshotParts.{SnapshotParts}
-use Rattle.stack_snapshot.specs.Parts.{content_in, assembled}
+use Rattle.stack_snapshot.specs.Parts.{content_in, content_if_taken}
 use Rattle.generated_cases.specs.Case.{case_of, content_with, context_in, context_at, module_over}
 use Rattle.generated_cases.proofs.Taken.{AreTaken, laid_out_taken}
 use Rattle.generated_cases.proofs.AscendingResumes.{ascending_resumes}
@@ -66,13 +66,13 @@ module _ (c : Chain) (count seed : ℕ) (some : 0 < count) (few : count ≤ 1000
   takes_module = rw (lt-leb ((module_over count).end) ((module_over count).start) (omega arith)) refl
 
   -- a snapshot takes the parts
-  pub case_assembled : assembled (content_with c count) ≡ Ok (content_with c count)
+  pub case_assembled : content_if_taken (content_with c count) ≡ Ok (content_with c count)
   case_assembled = rw (taken.taken, takes_module, le-leb 1 (count + 1) (omega arith), le-leb (count + 1) 1048576 (omega arith)) refl
 
   -- what is made of them is that snapshot
-  pub parts_made : (p : SnapshotParts) (s : Content) → content_in p ≡ content_with c count → assembled (content_in p) ≡ Ok s → s ≡ content_with c count
+  pub parts_made : (p : SnapshotParts) (s : Content) → content_in p ≡ content_with c count → content_if_taken (content_in p) ≡ Ok s → s ≡ content_with c count
   parts_made p s are is =
-      let both : ok s ≡ Ok (content_with c count) = sym is ∙ ap assembled are ∙ case_assembled in
+      let both : ok s ≡ Ok (content_with c count) = sym is ∙ ap content_if_taken are ∙ case_assembled in
       ok_same s (content_with c count) both
 
   resumes_made : resume_table c.resumes.items ≡ resumes_of os

@@ -7,6 +7,3 @@ mod counted;
 
 pub use case::make_case;
 pub use counted::deliver_case;
-
-#[cfg(test)]
-mod tests;

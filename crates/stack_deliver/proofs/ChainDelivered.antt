@@ -78,7 +78,7 @@ module _ (space : SpaceValue) (c : Context) (exception : ℕ) (resumes : List (�
   }
     where
       due : Option described.Frame → described.Delivery
-      due o = option_map_or (λ (f : described.Frame). described.decided_by exception (described.inner_frames s calls) f.state (described.action_of_frame f)) o (described.not_installed (states_of s calls) described.EndOfStack)
+      due o = option_map_or (λ (f : described.Frame). described.decided_by exception (described.inner_frames s calls) f.state (described.action_of_frame f)) o (described.delivery_without_handler (states_of s calls) described.EndOfStack)
 
   module _ (contexts : List Context) (stop : Stop) (f : described.Frame) (decided : described.deciding_frame s calls ≡ Some f) (stops : StopIs stop f) (states : EachShows contexts (seen s calls (Some f))) where
     visited : map state_of contexts ≡ described.states_in (described.inner_frames s calls) ++ f.state ∷ []
@@ -92,13 +92,13 @@ module _ (space : SpaceValue) (c : Context) (exception : ℕ) (resumes : List (�
         ∙ ap (λ (n : ℕ). n + 1) (length-map (described.inner_frames s calls) (λ (g : described.Frame). g.state))
 
     due_is : (x : Action) → described.action_of_frame f ≡ x → described.delivery_of exception s calls ≡ described.decided_by exception (described.inner_frames s calls) f.state x
-    due_is x acts = ap (λ (o : Option described.Frame). option_map_or (λ (g : described.Frame). described.decided_by exception (described.inner_frames s calls) g.state (described.action_of_frame g)) o (described.not_installed (states_of s calls) described.EndOfStack)) decided
+    due_is x acts = ap (λ (o : Option described.Frame). option_map_or (λ (g : described.Frame). described.decided_by exception (described.inner_frames s calls) g.state (described.action_of_frame g)) o (described.delivery_without_handler (states_of s calls) described.EndOfStack)) decided
         ∙ ap (described.decided_by exception (described.inner_frames s calls) f.state) acts
 
     pad_is : (x : Action) → described.action_of_frame f ≡ x → pad_of stop.action ≡ pad_of x
     pad_is x acts = ap pad_of (stops.action ∙ acts)
 
-    terminates : (x : Action) → described.action_of_frame f ≡ x → pad_of x ≡ None → described.decided_by exception (described.inner_frames s calls) f.state x ≡ described.not_installed (described.states_in (described.inner_frames s calls) ++ f.state ∷ []) described.FatalPhase1 →
+    terminates : (x : Action) → described.action_of_frame f ≡ x → pad_of x ≡ None → described.decided_by exception (described.inner_frames s calls) f.state x ≡ described.delivery_without_handler (described.states_in (described.inner_frames s calls) ++ f.state ∷ []) described.FatalPhase1 →
         DeliversChain exception s calls (delivery_to contexts (Some stop) passes) (met contexts (Some stop))
     terminates x acts none due = record {
       delivered = no_delivery contexts FatalPhase1;
@@ -114,7 +114,7 @@ module _ (space : SpaceValue) (c : Context) (exception : ℕ) (resumes : List (�
         sp = let e : columns_of stop.context 7 ≡ Some f.state.sp = stops.shows.sp in cc
 
     accepted : (x : Action) (pad : ℕ) → described.action_of_frame f ≡ x → IsTrue (described.accepts x) → pad_of x ≡ Some pad →
-        described.decided_by exception (described.inner_frames s calls) f.state x ≡ described.installed exception (described.inner_frames s calls) f.state pad →
+        described.decided_by exception (described.inner_frames s calls) f.state x ≡ described.delivery_at_handler exception (described.inner_frames s calls) f.state pad →
         lands_in space apart laid functions exception (kept_at stop.context stop.interrupted) resumes limit f.state x ≡ Some (described.landing_at exception f.state pad) →
         DeliversChain exception s calls (delivery_to contexts (Some stop) passes) (met contexts (Some stop))
     accepted x pad acts accepts named due lands =

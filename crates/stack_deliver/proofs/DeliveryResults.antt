@@ -6,7 +6,7 @@ use Rattle.stack_deliver.specs.declared.answers.Outcome.{Outcome}
 use Rattle.stack_steps.specs.declared.answers.DeliverError.{DeliverError}
 use Rattle.stack_deliver.specs.StackDelivery.{DeliveryValue}
 use Rattle.stack_walks.specs.Walking.{RoomValue}
-use Rattle.stack_deliver.specs.Delivering.{IsDelivered, delivered_in}
+use Rattle.stack_deliver.specs.Delivering.{IsDelivered, delivery_in}
 
 -- ---- deliveries
 
@@ -18,15 +18,15 @@ pub fault_delivered : (r : Result Ending DeliverError) (room : RoomValue) (due :
 fault_delivered (Ok ending) room due e is fails = absurd cc
 fault_delivered (Err x) room due e is fails = let same : x ≡ e = cc in ap Err same
 
-pub ending_delivered : (r : Result Ending DeliverError) (room : RoomValue) (due : Result DeliveryValue DeliverError) (d : DeliveryValue) (P : DeliveryValue → Type 0) → IsDelivered r room due → due ≡ Ok d → P d → IsOkAnd r (λ ending. P (delivered_in room ending))
-ending_delivered (Ok ending) room due d P is goes p = let same : d ≡ delivered_in room ending = cc in rw same at p
+pub ending_delivered : (r : Result Ending DeliverError) (room : RoomValue) (due : Result DeliveryValue DeliverError) (d : DeliveryValue) (P : DeliveryValue → Type 0) → IsDelivered r room due → due ≡ Ok d → P d → IsOkAnd r (λ ending. P (delivery_in room ending))
+ending_delivered (Ok ending) room due d P is goes p = let same : d ≡ delivery_in room ending = cc in rw same at p
 ending_delivered (Err x) room due d P is goes p = absurd cc
 
 -- what is in the room is what was delivered
 pub few_delivered : (r : Result Ending DeliverError) (room : RoomValue) (due : Result DeliveryValue DeliverError) (d : DeliveryValue) (n : ℕ) → IsDelivered r room due → due ≡ Ok d → n ≤ 2 * length d.visited + length d.trail → n ≤ 2 * length room.visited + length room.trail
-few_delivered (Ok ending) room due d n is goes few = let same : d ≡ delivered_in room ending = cc in rw same at few
+few_delivered (Ok ending) room due d n is goes few = let same : d ≡ delivery_in room ending = cc in rw same at few
 few_delivered (Err x) room due d n is goes few = absurd cc
 
 pub delivered_ending : (r : Result Ending DeliverError) (room : RoomValue) (due : Result DeliveryValue DeliverError) (o : Outcome) → IsDelivered r room due → IsOkAnd r (λ ending. ending.outcome ≡ o) → (d : DeliveryValue) × (due ≡ Ok d) × (d.outcome ≡ o)
-delivered_ending (Ok ending) room due o is ends = (delivered_in room ending, is, ends)
+delivered_ending (Ok ending) room due o is ends = (delivery_in room ending, is, ends)
 delivered_ending (Err x) room due o is ends = absurd ends

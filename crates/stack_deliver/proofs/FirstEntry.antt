@@ -47,7 +47,7 @@ placed (e ∷ es) pad ret q none = go (e.0 == pad) refl (placed es pad ret q)
         order true l front rest = rw l front
         order false l front rest = rw (l, rest) (behind e (return_of es q) (said_of pad ret q) q)
 
-with_one : (table : List (ℕ × ℕ)) (pad ret q : ℕ) → return_of (with_resume table pad ret) q ≡ first_of (return_of table q) (said_of pad ret q)
+pub with_one : (table : List (ℕ × ℕ)) (pad ret q : ℕ) → return_of (with_resume table pad ret) q ≡ first_of (return_of table q) (said_of pad ret q)
 with_one table pad ret q = go (return_of table pad) refl
   where
     kept : (b : Bool) (r : ℕ) → (pad == q) ≡ b → return_of table pad ≡ Some r → return_of table q ≡ first_of (return_of table q) (said_of pad ret q)
@@ -62,7 +62,7 @@ with_one table pad ret q = go (return_of table pad) refl
     go None is = rw is (placed table pad ret q is)
     go (Some r) is = rw is (kept (pad == q) r refl is)
 
-with_all : (es table : List (ℕ × ℕ)) (q : ℕ) → return_of (with_resumes table es) q ≡ first_of (return_of table q) (return_of es q)
+pub with_all : (es table : List (ℕ × ℕ)) (q : ℕ) → return_of (with_resumes table es) q ≡ first_of (return_of table q) (return_of es q)
 with_all [] table q = first_of_none (return_of table q)
 with_all (e ∷ es) table q =
     let one : return_of (with_resume table e.0 e.1) q ≡ first_of (return_of table q) (said_of e.0 e.1 q) = with_one table e.0 e.1 q in

@@ -1,3 +1,4 @@
+pub mod Ascending
 pub mod CauseAnswers
 pub mod ChainDelivered
 pub mod Chains

@@ -29,7 +29,7 @@ use Rattle.stack_steps.specs.declared.space.ModuleTables.TheVariants.{Elf}
 use Rattle.stack_steps.specs.Modules.{Added, SpaceValue}
 use Rattle.stack_steps.specs.Preparing.{HeaderLists, IsAddedTo, IsIndexIn, IsIndexOf, Lists, fdes_in, index_of, len_of}
 use Rattle.stack_deliver.specs.Searches.{HasOneHeader}
-use Rattle.stack_steps.specs.Ticking.{CountsWithin, pairs_in as module_pairs}
+use Rattle.stack_steps.specs.Ticking.{CountsWithin, module_pairs}
 
 some_table : (x y : FrameTable) → Some x ≡ Some y → x ≡ y
 some_table x y e = cc

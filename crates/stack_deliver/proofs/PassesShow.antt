@@ -35,7 +35,7 @@ use Rattle.stack_steps.proofs.FormatMet.{format_met}
 use Rattle.stack_walks.proofs.LineShows.{call_in}
 use Rattle.stack_walks.proofs.TurnLines.{stop_at}
 use Rattle.stack_walks.specs.ContextsMet.{contexts_met}
-use Rattle.stack_deliver.specs.Searches.{met_after, met_resumed, met_in_passes}
+use Rattle.stack_deliver.specs.Searches.{met_after, met_after_resume, met_in_passes}
 use Rattle.stack_walks.proofs.TurnCounts.{line_met}
 use Rattle.stack_deliver.proofs.Turns.{action_in, pass_stops_at, pass_goes_on, met_goes_on, pass_ends_at, returning, elf_call_back, asks_some, call_resumed, entered_shows, entered_sp, entered_rax, entered_rdx}
 
@@ -171,7 +171,7 @@ module _ (space : SpaceValue) (apart : AreApart 0 space.modules) (laid : IsLaidO
     -- how many contexts are met by a pass that meets so many, and by those that follow it
     abbrev pub met_from : ℕ → ℕ → Result Line DeliverError → ℕ
     met_from zero met r = met
-    met_from (suc n) met r = met + met_after (end_of exception kept r) (λ pad entered. met_resumed (resume_at pad entered (return_of resumes pad)) (met_in_passes space exception kept resumes limit n))
+    met_from (suc n) met r = met + met_after (end_of exception kept r) (λ pad entered. met_after_resume (resume_at pad entered (return_of resumes pad)) (met_in_passes space exception kept resumes limit n))
 
     -- by passes the first of which may have another limit
     abbrev pub met_by : ℕ → ℕ → Context → ℕ

@@ -10,7 +10,7 @@ use Rattle.stack_walks.specs.Turns.{Line, Stop, pad_of, kept_at, pass_of}
 use Rattle.stack_deliver.specs.Passes.{PassEnd, Finishes, Elsewhere, cleanup_of, resume_at}
 use Rattle.stack_steps.specs.Ticking.{RisesWithin}
 use Rattle.stack_walks.specs.ContextsMet.{contexts_met}
-use Rattle.stack_deliver.specs.Searches.{met_after, met_resumed, met_in_passes, met_toward, met_behind, met_after_search, met_in_delivery}
+use Rattle.stack_deliver.specs.Searches.{met_after, met_after_resume, met_in_passes, met_toward, met_behind, met_after_search, met_in_delivery}
 use Rattle.stack_steps.proofs.Counted.{rises_up_to, rises_then}
 use Rattle.stack_walks.proofs.TurnCounts.{few_met}
 
@@ -50,11 +50,11 @@ module _ (space : SpaceValue) (exception kept : ℕ) (resumes : List (ℕ × ℕ
       let later = after (cleanup_of space exception kept limit c) (few_passes n) in
       omega arith
     where
-      resumed : (r : Result Context DeliverError) → ((d : Context) → met n d ≤ (n + 1) * limit) → met_resumed r (met n) ≤ (n + 1) * limit
+      resumed : (r : Result Context DeliverError) → ((d : Context) → met n d ≤ (n + 1) * limit) → met_after_resume r (met n) ≤ (n + 1) * limit
       resumed (Ok d) few = few d
       resumed (Err e) few = omega arith
 
-      after : (r : Result PassEnd DeliverError) → ((d : Context) → met n d ≤ (n + 1) * limit) → met_after r (λ pad entered. met_resumed (resume_at pad entered (return_of resumes pad)) (met n)) ≤ (n + 1) * limit
+      after : (r : Result PassEnd DeliverError) → ((d : Context) → met n d ≤ (n + 1) * limit) → met_after r (λ pad entered. met_after_resume (resume_at pad entered (return_of resumes pad)) (met n)) ≤ (n + 1) * limit
       after (Ok (Finishes ending)) few = omega arith
       after (Ok (Elsewhere pad entered)) few = resumed (resume_at pad entered (return_of resumes pad)) few
       after (Err e) few = omega arith

@@ -17,12 +17,12 @@ use Rattle.unwind_definitions.specs.Delivery as described
 use Rattle.stack_walks.specs.Walking.{RoomValue}
 
 -- a delivery: what it left in a room, and how it ended
-abbrev pub delivered_in : RoomValue → Ending → DeliveryValue
-delivered_in room ending = record { visited = room.visited; trail = room.trail; outcome = ending.outcome; landing = ending.landing }
+abbrev pub delivery_in : RoomValue → Ending → DeliveryValue
+delivery_in room ending = record { visited = room.visited; trail = room.trail; outcome = ending.outcome; landing = ending.landing }
 
 -- a delivery's answer and the room after it are the delivery that is due, or its fault
 abbrev pub IsDelivered : Result Ending DeliverError → RoomValue → Result DeliveryValue DeliverError → Type 0
-IsDelivered (Ok ending) room due = due ≡ Ok (delivered_in room ending)
+IsDelivered (Ok ending) room due = due ≡ Ok (delivery_in room ending)
 IsDelivered (Err e) room due = due ≡ Err e
 
 -- The same of a delivery: every module is an ELF module and describes its part of the functions, and where a handler takes the exception, the

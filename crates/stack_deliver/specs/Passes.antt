@@ -3,7 +3,7 @@
 use Rattle.std.specs.Prelude.{ℕ, zero, suc, ◌+◌, ◌-◌, ◌%◌, ◌^◌, ◌==◌, Bool, true, false, List, [], ◌∷◌, Option, Some, None, Result, Ok, Err, slice_index, slice_set, if◌then◌else◌}
 use Rattle.unwind_definitions.specs.Function.{Cleanup}
 use Rattle.unwind_arch.specs.declared.x86_64.Context.{Context}
-use Rattle.unwind_arch.specs.Columns.{rsp}
+use Rattle.unwind_definitions.specs.Columns.{rsp}
 use Rattle.stack_walks.specs.declared.room.Trail.{Trail}
 use Rattle.stack_deliver.specs.declared.answers.Ending.{Ending}
 use Rattle.stack_deliver.specs.declared.answers.Outcome.TheVariants.{Installed, FatalPhase2}

@@ -1,5 +1,6 @@
 -- The return addresses of landing pads, by ascending pad.
-use Rattle.std.specs.Prelude.{ℕ, ◌==◌, List, [], ◌∷◌, Option, Some, None, is_some, nat_lt, if◌then◌else◌}
+use Rattle.std.specs.Prelude.{ℕ, ◌==◌, ◌<◌, List, [], ◌∷◌, length, slice_index_or, Option, Some, None, is_some, nat_lt, if◌then◌else◌}
+use Rattle.std.specs.List.{AllByRecursion}
 
 -- the return address that stands first with a pad
 abbrev pub return_of : List (ℕ × ℕ) → ℕ → Option ℕ
@@ -23,3 +24,15 @@ with_resumes table (e ∷ es) = with_resumes (with_resume table e.0 e.1) es
 -- the table of entries that are added to an empty one
 abbrev pub resume_table : List (ℕ × ℕ) → List (ℕ × ℕ)
 resume_table entries = with_resumes [] entries
+
+-- the pad of the entry at a place
+abbrev pub pad_at : List (ℕ × ℕ) → ℕ → ℕ
+pad_at entries place = let e = slice_index_or entries place (0, 0) in e.0
+
+-- pads ascend, so that none comes twice
+abbrev pub Ascend : List (ℕ × ℕ) → Type 0
+Ascend entries = (i j : ℕ) → i < j → j < length entries → pad_at entries i < pad_at entries j
+
+-- all pads are lower than this one
+abbrev pub LieBelow : ℕ → List (ℕ × ℕ) → Type 0
+LieBelow pad entries = AllByRecursion (λ (e : ℕ × ℕ). e.0 < pad) entries

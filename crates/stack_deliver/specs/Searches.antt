@@ -24,9 +24,9 @@ met_after (Ok (Elsewhere pad entered)) later = later pad entered
 met_after (Err e) later = 0
 
 -- from where the next pass starts
-abbrev pub met_resumed : Result Context DeliverError → (Context → ℕ) → ℕ
-met_resumed (Ok c) later = later c
-met_resumed (Err e) later = 0
+abbrev pub met_after_resume : Result Context DeliverError → (Context → ℕ) → ℕ
+met_after_resume (Ok c) later = later c
+met_after_resume (Err e) later = 0
 
 module _ (space : SpaceValue) (exception kept : ℕ) (resumes : List (ℕ × ℕ)) (limit : ℕ) where
   -- By the passes from a context on toward the kept frame, where the trail has places for so many cleanups. A context that
@@ -36,7 +36,7 @@ module _ (space : SpaceValue) (exception kept : ℕ) (resumes : List (ℕ × ℕ
   met_in_passes (suc places) c =
       contexts_met (Some phase.Cleanup) space limit c false
       + met_after (cleanup_of space exception kept limit c)
-      (λ pad entered. met_resumed (resume_at pad entered (return_of resumes pad)) (met_in_passes places))
+      (λ pad entered. met_after_resume (resume_at pad entered (return_of resumes pad)) (met_in_passes places))
 
 -- ---- a delivery
 

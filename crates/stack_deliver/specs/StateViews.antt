@@ -3,7 +3,7 @@ use Rattle.std.specs.Prelude.{ℕ, map, slice_index, option_map}
 use Rattle.unwind_definitions.specs.State.{State}
 use Rattle.unwind_definitions.specs.Delivery as described
 use Rattle.unwind_arch.specs.declared.x86_64.Context.{Context}
-use Rattle.unwind_arch.specs.Columns as column
+use Rattle.unwind_definitions.specs.Columns as column
 use Rattle.stack_walks.specs.declared.room.Trail.{Trail}
 use Rattle.stack_deliver.specs.declared.answers.Outcome.{Outcome}
 use Rattle.stack_deliver.specs.declared.answers.Outcome.TheVariants.{Installed, EndOfStack, FatalPhase1, FatalPhase2}
@@ -16,10 +16,10 @@ state_of c = record {
   sp = slice_index c.registers column.rsp;
   rbx = slice_index c.registers column.rbx;
   rbp = slice_index c.registers column.rbp;
-  r12 = slice_index c.registers 12;
-  r13 = slice_index c.registers 13;
-  r14 = slice_index c.registers 14;
-  r15 = slice_index c.registers 15;
+  r12 = slice_index c.registers column.r12;
+  r13 = slice_index c.registers column.r13;
+  r14 = slice_index c.registers column.r14;
+  r15 = slice_index c.registers column.r15;
 }
 
 -- where a handler is entered: the state, RAX and RDX

@@ -1,7 +1,7 @@
 // What a delivery did.
 ghost use Rattle.std.specs.Prelude.{◌≡◌, length, slice_get};
 
-use stack_walks::Trail;
+use stack_walks::{Room, Trail};
 use std::marker::Model;
 use unwind_arch::x86_64::Context;
 
@@ -30,23 +30,17 @@ pub struct Ending {
 /// What a delivery did.
 #[derive(Drop)]
 pub struct Delivery {
-    pub(crate) visited: Vec<Context>,
-    pub(crate) trail: Vec<Trail>,
-    pub(crate) outcome: Outcome,
-    pub(crate) landing: Option<Context>,
+    pub(crate) room: Room,
+    pub(crate) ending: Ending,
 }
 
 impl Model for Delivery {
     ghost use Rattle.stack_deliver.specs.StackDelivery.{DeliveryValue};
+    ghost use Rattle.stack_deliver.specs.Delivering.{delivery_in};
 
     ghost Value = { DeliveryValue };
 
-    ghost view = { λ d. record {
-      visited = d.visited.items;
-      trail = d.trail.items;
-      outcome = d.outcome;
-      landing = d.landing;
-    } };
+    ghost view = { λ d. delivery_in d.room d.ending };
 }
 
 impl Delivery {
@@ -54,41 +48,41 @@ impl Delivery {
     pub fn visited_len(&self) -> usize
         ensures { result ≡ length self.now.visited }
     {
-        self.visited.len()
+        self.room.visited_len()
     }
 
     /// The state that the search visited at this place, from the start outwards.
     pub fn visited(&self, i: usize) -> Option<Context>
         ensures { result ≡ slice_get self.now.visited i }
     {
-        self.visited.get(i).copied()
+        self.room.visited(i)
     }
 
     /// How many cleanups ran.
     pub fn trail_len(&self) -> usize
         ensures { result ≡ length self.now.trail }
     {
-        self.trail.len()
+        self.room.trail_len()
     }
 
     /// The cleanup at this place, from the innermost outwards.
     pub fn trail(&self, i: usize) -> Option<Trail>
         ensures { result ≡ slice_get self.now.trail i }
     {
-        self.trail.get(i).copied()
+        self.room.trail(i)
     }
 
     /// How it ended.
     pub fn outcome(&self) -> Outcome
         ensures { result ≡ self.now.outcome }
     {
-        self.outcome
+        self.ending.outcome
     }
 
     /// The registers at the handler, where it was installed.
     pub fn landing(&self) -> Option<Context>
         ensures { result ≡ self.now.landing }
     {
-        self.landing
+        self.ending.landing
     }
 }

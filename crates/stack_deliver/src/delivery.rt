@@ -11,7 +11,7 @@ ghost use Rattle.stack_walks.specs.Lines.{GivesUnlessNoMemory};
 ghost use Rattle.stack_deliver.specs.StackDelivery.{stack_delivery};
 ghost use Rattle.stack_steps.specs.Ticking.{RisesWithin};
 ghost use Rattle.stack_deliver.specs.Delivering.{StartsValidChain, StartsValidFormatChain};
-ghost use Rattle.stack_deliver.specs.Delivering.{ShowsDelivery, IsDelivered, delivered_in};
+ghost use Rattle.stack_deliver.specs.Delivering.{ShowsDelivery, IsDelivered, delivery_in};
 
 use crate::answers::{Delivery, Ending, Outcome};
 use crate::passes::passes;
@@ -161,11 +161,11 @@ pub fn deliver_into<L: Ledger>(
     // What is delivered to a valid chain is what the definition says of the chain.
     ensures chain { (functions : List Function) (s : State) (calls : List Call) →
         StartsValidChain space.now start.now resumes.now limit functions s calls →
-        IsOkAnd result (λ ending. ShowsDelivery (delivered_in room.new ending) exception s calls) }
+        IsOkAnd result (λ ending. ShowsDelivery (delivery_in room.new ending) exception s calls) }
     // So it is where the chain goes through modules of whatever format.
     ensures chain_in { (functions : List Function) (s : State) (calls : List Call) →
         StartsValidFormatChain space.now start.now resumes.now limit functions s calls →
-        IsOkAnd result (λ ending. ShowsDelivery (delivered_in room.new ending) exception s calls) }
+        IsOkAnd result (λ ending. ShowsDelivery (delivery_in room.new ending) exception s calls) }
     // Each state that the search or a pass meets is searched for at most once.
     ensures searches { RisesWithin space.now
         (met_in_delivery space.now start.now exception resumes.now limit)
@@ -255,11 +255,5 @@ pub fn deliver(
         &mut room,
         &mut Steps::new(NoLedger),
     )?;
-    let (visited, trail) = room.into_parts();
-    Ok(Delivery {
-        visited,
-        trail,
-        outcome: ending.outcome,
-        landing: ending.landing,
-    })
+    Ok(Delivery { room, ending })
 }

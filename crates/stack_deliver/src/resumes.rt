@@ -1,6 +1,7 @@
 // Where a delivery goes on after a cleanup.
-ghost use Rattle.std.specs.Prelude.{◌≡◌, ℕ, List, [], OnOk, OnErr};
-ghost use Rattle.stack_deliver.specs.Resumes.{return_of, with_resume, resume_table};
+ghost use Rattle.std.specs.Prelude.{◌≡◌, ℕ, List, [], true, OnOk, OnErr};
+ghost use Rattle.stack_deliver.specs.Resumes.{Ascend, LieBelow, return_of};
+ghost use Rattle.stack_deliver.specs.Resumes.{resume_table, with_resume};
 
 use std::alloc::{AllocError, Global};
 use std::collections::BTreeMap;
@@ -9,9 +10,13 @@ use std::marker::Model;
 /// The return addresses from which a delivery goes on after the cleanups at landing pads.
 ///
 /// Contracts see the pads that have a return address, in ascending order, each with its own.
+// Tables mostly list their pads by ascending address, and a list takes these for less than a map.
 #[derive(Drop)]
 pub struct Resumes {
-    returns: BTreeMap<u64, u64>,
+    // the pads that came by ascending address, up to the first that didn't
+    ascending: Vec<(u64, u64)>,
+    // the others
+    scattered: BTreeMap<u64, u64>,
 }
 
 impl Model for Resumes {
@@ -19,7 +24,11 @@ impl Model for Resumes {
 
     ghost Value = { List (ℕ × ℕ) };
 
-    ghost view = { λ r. r.returns.entries };
+    ghost use Rattle.stack_deliver.specs.Resumes.{Ascend, with_resumes};
+
+    ghost view = { λ r. with_resumes r.ascending.items r.scattered.entries };
+
+    ghost invariant = { λ r. Ascend r.ascending.items };
 }
 
 impl Resumes {
@@ -28,7 +37,8 @@ impl Resumes {
         ensures { result ≡ [] }
     {
         Resumes {
-            returns: BTreeMap::new(alloc),
+            ascending: Vec::new(alloc),
+            scattered: BTreeMap::new(alloc),
         }
     }
 
@@ -41,8 +51,10 @@ impl Resumes {
         ensures added { OnOk result (self.new ≡ with_resume self.old pad ret) }
         ensures unchanged { OnErr result (self.new ≡ self.old) }
     {
-        if !self.returns.contains_key(&pad) {
-            self.returns.insert(pad, ret)?;
+        if self.scattered.is_empty() && comes_last(&self.ascending, pad) {
+            self.ascending.push((pad, ret))?;
+        } else if self.find(pad).is_none() {
+            self.scattered.insert(pad, ret)?;
         }
         Ok(())
     }
@@ -51,7 +63,32 @@ impl Resumes {
     pub fn find(&self, pad: u64) -> Option<u64>
         ensures { result ≡ return_of self.now pad }
     {
-        self.returns.get(&pad).copied()
+        match find_ascending(&self.ascending, pad) {
+            Some(ret) => Some(ret),
+            None => self.scattered.get(&pad).copied(),
+        }
+    }
+}
+
+// Whether a pad comes after all that ascend.
+fn comes_last(entries: &[(u64, u64)], pad: u64) -> bool
+    requires { Ascend entries.now }
+    ensures { result ≡ true → LieBelow pad entries.now }
+{
+    match entries.last() {
+        None => true,
+        Some(last) => last.0 < pad,
+    }
+}
+
+// The return address of a pad among pads that ascend, by halving.
+fn find_ascending(entries: &[(u64, u64)], pad: u64) -> Option<u64>
+    requires { Ascend entries.now }
+    ensures { result ≡ return_of entries.now pad }
+{
+    match entries.binary_search_by_key(&pad, |entry| entry.0) {
+        Ok(index) => Some(entries[index].1),
+        Err(_) => None,
     }
 }
 

@@ -19,7 +19,8 @@ use Rattle.stack_snapshot.specs.declared.errors.Field.{Field}
 use Rattle.stack_snapshot.specs.declared.errors.Field.TheVariants as fields
 use Rattle.stack_snapshot.specs.Content.{Content, takes_regions, takes_modules, image_of, modules_after, space_of}
 use Rattle.stack_snapshot.specs.Fields.{word_at, word_or_zero_at}
-use Rattle.stack_snapshot.specs.Snapshot.{◌>>=◌, needs, if_taken, region_list, if_spaced, module_list, whole_numbers, regions_of, modules_of, registers_in, register_names, context_with, start_in, start_of, resumes_of, limit_of, interrupted_of, snapshot_of}
+use Rattle.memory_image.specs.Results.{◌>>=◌}
+use Rattle.stack_snapshot.specs.Snapshot.{needs, if_taken, region_list, if_space_takes, module_list, whole_numbers, regions_of, modules_of, registers_in, register_names, context_with, start_in, start_of, resumes_of, limit_of, interrupted_of, snapshot_of}
 use Rattle.stack_snapshot.specs.Answers.{value_of, content_with, content_by, content_of}
 
 -- ---- a snapshot's modules are apart
@@ -88,7 +89,7 @@ needed : {A : Type 0} (field : Field) (o : Option A) (x : A) → needs field o �
 needed field None x e = absurd cc
 needed field (Some y) x e = cc
 
-spaced : (o : Option (List Module)) (ms : List Module) → option_and_then if_spaced o ≡ Some ms → takes_modules [] ms ≡ true
+spaced : (o : Option (List Module)) (ms : List Module) → option_and_then if_space_takes o ≡ Some ms → takes_modules [] ms ≡ true
 spaced None ms e = absurd cc
 spaced (Some ns) ms e = go (takes_modules [] ns) refl e
   where

@@ -5,7 +5,8 @@ use Rattle.stack_snapshot.specs.declared.errors.Field.TheVariants as fields
 use Rattle.stack_snapshot.specs.declared.parts.SnapshotParts.{SnapshotParts}
 use Rattle.stack_snapshot.specs.Content.{Content}
 use Rattle.stack_snapshot.specs.Owned.{spans_of}
-use Rattle.stack_snapshot.specs.Snapshot.{◌>>=◌, needs, if_taken, if_spaced, if_in_range}
+use Rattle.memory_image.specs.Results.{◌>>=◌}
+use Rattle.stack_snapshot.specs.Snapshot.{needs, if_taken, if_space_takes, if_in_range}
 
 abbrev pub content_in : SnapshotParts → Content
 content_in p = record {
@@ -20,9 +21,9 @@ content_in p = record {
 }
 
 -- what these parts make, where each of them is taken
-abbrev pub assembled : Content → Result Content Field
-assembled s = do
+abbrev pub content_if_taken : Content → Result Content Field
+content_if_taken s = do
   regions ← needs fields.Regions (if_taken s.regions)
-  modules ← needs fields.Modules (if_spaced s.modules)
+  modules ← needs fields.Modules (if_space_takes s.modules)
   limit ← needs fields.Limit (if_in_range s.limit)
   Ok (record s { regions = regions; modules = modules; limit = limit })

@@ -4,6 +4,7 @@ use Rattle.serde_json.specs.Data.{Data, Items, no_items, item}
 use Rattle.serde_json.specs.Find.{get, as_array, as_object, as_str}
 use Rattle.serde_json.specs.Written.{has_float}
 use Rattle.memory_image.specs.Image.{Span}
+use Rattle.memory_image.specs.Results.{◌>>=◌}
 use Rattle.unwind_arch.specs.declared.x86_64.Context.{Context}
 use Rattle.stack_steps.specs.declared.space.Module.{Module}
 use Rattle.stack_steps.specs.declared.space.ModuleTables.{ModuleTables}
@@ -17,12 +18,6 @@ use Rattle.stack_snapshot.specs.declared.errors.Field.TheVariants as fields
 use Rattle.std.specs.Str.{bytes_eq}
 use Rattle.stack_snapshot.specs.Fields.{as_word, word_at, word_or_zero_at, bytes_at, number_at, flag_or_false}
 use Rattle.stack_snapshot.specs.Content.{Content, takes_regions, takes_modules}
-
--- the second reading, where the first one gave a value
-infixl 10 ◌>>=◌
-abbrev pub ◌>>=◌ : {A B : Type 0} → Result A Field → (A → Result B Field) → Result B Field
-Ok x >>= f = f x
-Err e >>= f = Err e
 
 -- a value, or the fault of a field
 abbrev pub needs : {A : Type 0} → Field → Option A → Result A Field
@@ -114,15 +109,15 @@ abbrev pub module_with : ℕ → ℕ → ModuleTables → Module
 module_with start end tables = record { start = start; end = end; tables = tables }
 
 -- a base, a size and tables
-abbrev pub sized_of : (Data → Option ModuleTables) → Data → Option Module
-sized_of tables_of d = option_and_then (λ base. option_and_then (λ end. option_map (module_with base end) (tables_of d)) (end_from base d)) (word_at (codes "base") d)
+abbrev pub module_with_size : (Data → Option ModuleTables) → Data → Option Module
+module_with_size tables_of d = option_and_then (λ base. option_and_then (λ end. option_map (module_with base end) (tables_of d)) (end_from base d)) (word_at (codes "base") d)
 
 -- a module of the kind that is named
 abbrev pub module_of_kind : Data → List ℕ → Option Module
 module_of_kind d kind =
     if bytes_eq kind (codes "elf") then elf_of d
-    else (if bytes_eq kind (codes "macho") then sized_of macho_tables_of d
-    else (if bytes_eq kind (codes "pe") then sized_of pe_tables_of d else None))
+    else (if bytes_eq kind (codes "macho") then module_with_size macho_tables_of d
+    else (if bytes_eq kind (codes "pe") then module_with_size pe_tables_of d else None))
 
 -- the module that an object says
 abbrev pub module_of : Data → Option Module
@@ -133,12 +128,12 @@ abbrev pub module_list : Items → Option (List Module)
 module_list = each_of module_of
 
 -- the modules where a space takes them
-abbrev pub if_spaced : List Module → Option (List Module)
-if_spaced ms = if takes_modules [] ms then Some ms else None
+abbrev pub if_space_takes : List Module → Option (List Module)
+if_space_takes ms = if takes_modules [] ms then Some ms else None
 
 -- modules that a space takes, one after another
 unfoldable pub modules_of : Data → Option (List Module)
-modules_of d = option_and_then if_spaced (option_and_then module_list (option_and_then as_array (get (codes "modules") d)))
+modules_of d = option_and_then if_space_takes (option_and_then module_list (option_and_then as_array (get (codes "modules") d)))
 
 -- ---- the start
 

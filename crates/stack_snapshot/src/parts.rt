@@ -1,7 +1,7 @@
 // Snapshots that are made of their parts and not read.
 ghost use Rattle.std.specs.Prelude.{◌≡◌};
 ghost use Rattle.stack_snapshot.specs.Answers.{Gives};
-ghost use Rattle.stack_snapshot.specs.Parts.{content_in, assembled};
+ghost use Rattle.stack_snapshot.specs.Parts.{content_in, content_if_taken};
 ghost use Rattle.stack_snapshot.specs.Snapshot.{if_in_range};
 
 use crate::errors::{Field, SnapshotError};
@@ -39,7 +39,7 @@ impl SnapshotParts {
     /// space refuses a module, and with `Limit` where the limit is none. `NoMemory` may come in the
     /// place of each answer.
     pub fn into_snapshot(self, alloc: Global) -> Result<Snapshot, SnapshotError>
-        ensures { Gives (λ snapshot. snapshot) result (assembled (content_in self)) }
+        ensures { Gives (λ snapshot. snapshot) result (content_if_taken (content_in self)) }
     {
         let SnapshotParts {
             regions,

@@ -10,7 +10,7 @@ ghost use Rattle.stack_snapshot.specs.Snapshot.{register_names, start_of, resume
 ghost use Rattle.stack_snapshot.specs.Snapshot.{resume_list, resumes_of, limit_of, interrupted_of};
 ghost use Rattle.stack_snapshot.specs.Snapshot.{whole_numbers, snapshot_of, word_if_given, if_half};
 ghost use Rattle.stack_snapshot.specs.Snapshot.{half_at, end_from, macho_tables_of, pe_tables_of};
-ghost use Rattle.stack_snapshot.specs.Snapshot.{sized_of};
+ghost use Rattle.stack_snapshot.specs.Snapshot.{module_with_size};
 ghost use Rattle.stack_deliver.specs.Resumes.{resume_table};
 ghost use Rattle.stack_snapshot.specs.Fields.{bytes_at};
 ghost use Rattle.stack_snapshot.specs.Answers.{Gives, ReadsValue, content_of, value_of};
@@ -176,7 +176,7 @@ fn pe_tables_of(value: &Value) -> Option<ModuleTables>
 
 /// A Mach-O module, by its base, its size and its tables.
 fn macho_of(value: &Value) -> Option<Module>
-    ensures { result ≡ sized_of macho_tables_of (view value.now) }
+    ensures { result ≡ module_with_size macho_tables_of (view value.now) }
 {
     let start = word_at(value, "base")?;
     let end = end_from(start, value)?;
@@ -186,7 +186,7 @@ fn macho_of(value: &Value) -> Option<Module>
 
 /// A PE module, in the same way.
 fn pe_of(value: &Value) -> Option<Module>
-    ensures { result ≡ sized_of pe_tables_of (view value.now) }
+    ensures { result ≡ module_with_size pe_tables_of (view value.now) }
 {
     let start = word_at(value, "base")?;
     let end = end_from(start, value)?;

@@ -5,7 +5,7 @@ ghost use Rattle.stack_snapshot.specs.Answers.{Gives};
 ghost use Rattle.stack_snapshot.specs.Content.{image_of, modules_after, space_of, takes_regions};
 ghost use Rattle.stack_snapshot.specs.Content.{takes_modules};
 ghost use Rattle.stack_snapshot.specs.Owned.{spans_of};
-ghost use Rattle.stack_snapshot.specs.Snapshot.{needs, if_taken, if_spaced};
+ghost use Rattle.stack_snapshot.specs.Snapshot.{needs, if_taken, if_space_takes};
 
 use crate::errors::{Field, SnapshotError};
 use memory_image::{ImageError, MemoryImage};
@@ -192,7 +192,7 @@ pub(crate) fn taken_modules(
     modules: Vec<Module>,
 ) -> Result<Vec<Module>, SnapshotError>
     ensures reads { Gives (λ taken. taken.items) result
-        (needs Field.Modules (if_spaced modules.items)) }
+        (needs Field.Modules (if_space_takes modules.items)) }
     ensures taken { IfOk result (λ taken. takes_modules [] taken.items ≡ true) }
 {
     match space_of_modules(alloc, MemoryImage::new(alloc), &modules)? {

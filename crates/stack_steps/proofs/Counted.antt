@@ -15,10 +15,10 @@ use Rattle.eh_frame.specs.Index.{AreFewSteps, Index}
 use Rattle.fde_finders.specs.declared.custom.FrameInfoKind.{FrameInfoKind}
 use Rattle.stack_steps.specs.Modules.{Added, SpaceValue, contains, module_at}
 use Rattle.stack_steps.specs.Preparing.{index_at, index_of, len_of, prepared_len}
-use Rattle.stack_steps.specs.Ticking.{IsUnsearched, pairs_in, pairs_in_module, searched_in, searched_at, CountsWithin, IsScannedAt, RisesBySearch, RisesWithin, TicksAt, TicksBy}
+use Rattle.stack_steps.specs.Ticking.{IsUnsearched, module_pairs, pairs_in_module, searched_in, searched_at, CountsWithin, IsScannedAt, RisesBySearch, RisesWithin, TicksAt, TicksBy}
 
 -- a module that is found has no more pairs than each of the modules may
-pairs_found : (image : List Span) (digits a : ℕ) (ms : List Module) → AllByRecursion (λ (m : Module). pairs_in image m.tables < 2 ^ digits) ms → pairs_in_module image (module_at ms a) < 2 ^ digits
+pairs_found : (image : List Span) (digits a : ℕ) (ms : List Module) → AllByRecursion (λ (m : Module). module_pairs image m.tables < 2 ^ digits) ms → pairs_in_module image (module_at ms a) < 2 ^ digits
 pairs_found image digits a [] each = pow_pos digits
 pairs_found image digits a (m ∷ ms) each = go (contains m a) refl (pairs_found image digits a ms each.1)
   where
@@ -87,7 +87,7 @@ module _ (space : SpaceValue) (c : Context) (interrupted : Bool) (old new : ℕ)
   pub index_is_searched : c.ra ≢ 0 → 0 < prepared_len space asked → AreFewSteps (prepared_len space asked) old new
   index_is_searched some long = few_at some (index_at space.added asked) refl long
 
-  none_in : (tables : ModuleTables) → IsUnsearched tables → pairs_in space.image tables ≡ 0
+  none_in : (tables : ModuleTables) → IsUnsearched tables → module_pairs space.image tables ≡ 0
   none_in (Elf tables) scanned = ap (λ (k : FrameInfoKind). pairs_by_kind tables.text_base k space.image) scanned.1
   none_in (Macho tables) other = refl
   none_in (Pe tables) other = refl
@@ -96,7 +96,7 @@ module _ (space : SpaceValue) (c : Context) (interrupted : Bool) (old new : ℕ)
   pub scan_is_free : IsScannedAt space c interrupted → new ≡ old
   scan_is_free at =
       let by : TicksBy space.image at.holder None old new = subst (λ (p : Option Index). TicksBy space.image at.holder p old new) at.unprepared (ticks.somewhere at.returns at.holder at.holds) in
-      let none : pairs_in space.image at.holder.tables ≡ 0 = none_in at.holder.tables at.unsearched in
+      let none : module_pairs space.image at.holder.tables ≡ 0 = none_in at.holder.tables at.unsearched in
       let few : by.0 ≤ 0 = by.2 0 (omega (arith, none)) in
       let is : new ≡ old + by.0 = by.1 in
       omega arith

@@ -136,7 +136,7 @@ module _ (image : List Span) (columns : calls.Columns) (run : RowInstructions) (
   unmapped_column : (cfa k : ℕ) → value cfa k ≡ Err (calls.Unmapped b) → Ruled cfa (rule_of run k)
   unmapped_column cfa k e = go (rule_of run k) e
     where
-      go : (o : Option rules.Rule) → option_map_or (λ rule. calls.value_for_column (columns k) (calls.rule_value (evaluation image) image columns cfa k rule)) o (Ok (calls.unruled calls.x86_64 columns cfa k)) ≡ Err (calls.Unmapped b) → Ruled cfa o
+      go : (o : Option rules.Rule) → option_map_or (λ rule. calls.value_for_column (columns k) (calls.rule_value (evaluation image) image columns cfa k rule)) o (Ok (calls.value_without_rule calls.x86_64 columns cfa k)) ≡ Err (calls.Unmapped b) → Ruled cfa o
       go None e = absurd cc
       go (Some rule) e = (rule, refl, unmapped_rule image columns cfa k b rule (unmapped_placed (columns k) (calls.rule_value (evaluation image) image columns cfa k rule) b e))
 

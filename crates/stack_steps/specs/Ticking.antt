@@ -15,14 +15,14 @@ use Rattle.stack_steps.specs.Modules.{Added, SpaceValue, module_at}
 use Rattle.stack_steps.specs.Preparing.{index_at, index_of, len_of}
 
 -- how many pairs of a header's table are searched in a module: none where it names a frame table, and none in one of another format
-abbrev pub pairs_in : List Span → ModuleTables → ℕ
-pairs_in image (Elf tables) = pairs_by tables image
-pairs_in image (Macho tables) = 0
-pairs_in image (Pe tables) = 0
+abbrev pub module_pairs : List Span → ModuleTables → ℕ
+module_pairs image (Elf tables) = pairs_by tables image
+module_pairs image (Macho tables) = 0
+module_pairs image (Pe tables) = 0
 
 abbrev pub pairs_in_module : List Span → Option Module → ℕ
 pairs_in_module image None = 0
-pairs_in_module image (Some m) = pairs_in image m.tables
+pairs_in_module image (Some m) = module_pairs image m.tables
 
 -- how long the list is that is searched: the index of a prepared module, or else the table of a header
 abbrev pub searched_in : List Span → Option Index → Option Module → ℕ
@@ -41,7 +41,7 @@ RisesBySearch many old new = (taken : ℕ) × (new ≡ old + taken) × AreWithin
 
 -- in a module: by its index, where it has one, and else by the table of its header
 abbrev pub TicksBy : List Span → Module → Option Index → ℕ → ℕ → Type 0
-TicksBy image m None old new = RisesBySearch (pairs_in image m.tables) old new
+TicksBy image m None old new = RisesBySearch (module_pairs image m.tables) old new
 TicksBy image m (Some index) old new = AreFewSteps (length index.functions) old new
 
 abbrev pub TicksIn : List Span → Added → ℕ → ℕ → Type 0
@@ -70,7 +70,7 @@ pub record IsScannedAt (space : SpaceValue) (c : Context) (interrupted : Bool) :
 -- The number of pairs of each module's header, and that of the descriptions of each index, can be written with so many binary
 -- digits: with none where each module names a frame table, and none is prepared.
 abbrev pub CountsWithin : SpaceValue → ℕ → Type 0
-CountsWithin space digits = AllByRecursion (λ (m : Module). pairs_in space.image m.tables < 2 ^ digits) space.modules × AllByRecursion (λ (m : Added). len_of (index_of m) < 2 ^ digits) space.added
+CountsWithin space digits = AllByRecursion (λ (m : Module). module_pairs space.image m.tables < 2 ^ digits) space.modules × AllByRecursion (λ (m : Added). len_of (index_of m) < 2 ^ digits) space.added
 
 -- A count of steps rises by no more than so many searches take, whichever modules of a space they are in.
 abbrev pub RisesWithin : SpaceValue → ℕ → ℕ → ℕ → Type 0

@@ -88,6 +88,7 @@ impl<'a> PreparedTable<'a> {
 
 impl<'a> PreparedTable<'a> {
     /// What a search of the table answers, where its index finds a frame.
+    #[inline(always)]
     pub(crate) fn search_result(&self, frame: &PreparedFrame<'_, 'a>) -> FDESearchResult<'a>
         ensures { answered result ≡ prepared_fde self.now frame.now.fde }
     {

@@ -309,8 +309,8 @@ impl<'a> Space<'a> {
     /// - and the index keeps no more than what the others have left of 1,048,576 rows and 4,194,304
     ///   rules of registers in the whole space.
     ///
-    /// Each frame table is read once, and each of its programs is run once. Modules that name the
-    /// same tables one after another share one index, of which each keeps as much.
+    /// Each frame table is read once, and no program is run more than once for a description. Modules
+    /// that name the same tables one after another share one index, of which each keeps as much.
     ///
     /// # Errors
     ///
@@ -350,7 +350,7 @@ impl<'a> Space<'a> {
     }
 
     /// The module that contains the address, with its table, where it is prepared.
-    pub(crate) fn held_at(&self, address: u64) -> Option<&Held<'a>>
+    fn held_at(&self, address: u64) -> Option<&Held<'a>>
         ensures module { option_map (λ held. holder_of held.now) result ≡
             module_at self.now.modules address }
         ensures index { MatchOption result (index_at self.now.added address ≡ None)

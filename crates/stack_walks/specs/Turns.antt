@@ -1,11 +1,12 @@
 -- What is met at a context on the way outwards over a stack: by a walk, which has no phase, and by the passes of a delivery.
 -- Itanium C++ ABI, exception handling, level I, section 1.3.
-use Rattle.std.specs.Prelude.{ℕ, zero, suc, ◌+◌, ◌-◌, ◌%◌, ◌^◌, ◌==◌, Bool, true, false, List, [], ◌∷◌, Option, Some, None, Result, Ok, Err, slice_index, slice_set, if◌then◌else◌}
+use Rattle.std.specs.Prelude.{ℕ, zero, suc, ◌+◌, ◌%◌, ◌^◌, Bool, true, false, List, [], ◌∷◌, Option, Some, None, Result, Ok, Err, slice_index, slice_set, if◌then◌else◌}
 use Rattle.memory_image.specs.Image.{Span}
 use Rattle.unwind_definitions.specs.Function.{Action, NoAction, Cleanup, Catch, Filter}
 use Rattle.unwind_definitions.specs.Delivery.{decides}
 use Rattle.unwind_arch.specs.declared.x86_64.Context.{Context}
-use Rattle.unwind_arch.specs.Columns.{rax, rdx, rsp}
+use Rattle.unwind_definitions.specs.Columns.{rax, rdx, rsp}
+use Rattle.unwinding_frames.specs.Passes.{less_signal}
 use Rattle.stack_steps.specs.declared.answers.Stepped.{Stepped}
 use Rattle.stack_steps.specs.declared.answers.DeliverError.{DeliverError}
 use Rattle.stack_steps.specs.declared.answers.DeliverError.TheVariants.{FrameLimit}
@@ -93,7 +94,7 @@ pass_of p = line_for (Some p)
 
 -- the mark by which a pass knows the frame that the search decided for: its stack pointer, less 1 after a signal's frame
 abbrev pub kept_at : Context → Bool → ℕ
-kept_at c interrupted = if interrupted then (slice_index c.registers rsp + (2 ^ 64 - 1)) % 2 ^ 64 else slice_index c.registers rsp
+kept_at c interrupted = less_signal interrupted (slice_index c.registers rsp)
 
 abbrev pub pad_of : Action → Option ℕ
 pad_of (Cleanup pad) = Some pad

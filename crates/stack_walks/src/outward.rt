@@ -22,7 +22,7 @@ use fde_finders::FDESearchResult;
 use memory_image::{Ledger, MemoryImage, Steps};
 use stack_steps::{DeliverError, FoundFrame, Space, Stepped, asked, frame_at, leave};
 use unwind_arch::x86_64::{Context, RAX, RDX, RSP};
-use unwinding_frames::{EhAction, Window};
+use unwinding_frames::{EhAction, Window, frame_mark};
 
 /// What a pass over the stack is for.
 #[derive(Clone, Copy)]
@@ -70,12 +70,7 @@ impl Stop {
     pub fn kept(&self) -> u64
         ensures { result ≡ kept_at self.now.state.context self.now.state.signal }
     {
-        let stack_pointer = self.state.context.registers[RSP];
-        if self.state.signal {
-            stack_pointer.wrapping_sub(1)
-        } else {
-            stack_pointer
-        }
+        frame_mark(self.state.context.registers[RSP], self.state.signal)
     }
 
     /// The registers with which a landing pad is entered.

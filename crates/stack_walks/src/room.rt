@@ -129,11 +129,4 @@ impl Room {
         self.visited.clear();
         self.trail.clear();
     }
-
-    /// The states and the cleanups alone.
-    pub fn into_parts(self) -> (Vec<Context>, Vec<Trail>)
-        ensures { (result.0.items ≡ self.visited) × (result.1.items ≡ self.trail) }
-    {
-        (self.visited, self.trail)
-    }
 }

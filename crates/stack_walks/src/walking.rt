@@ -125,7 +125,7 @@ pub fn walk_into<L: Ledger>(
 /// Contracts see them from the start outwards.
 #[derive(Drop)]
 pub struct Visited {
-    states: Vec<Context>,
+    room: Room,
 }
 
 impl Model for Visited {
@@ -134,7 +134,7 @@ impl Model for Visited {
 
     ghost Value = { List Context };
 
-    ghost view = { λ v. v.states.items };
+    ghost view = { λ v. v.room.visited };
 }
 
 impl Visited {
@@ -142,14 +142,14 @@ impl Visited {
     pub fn len(&self) -> usize
         ensures { result ≡ length self.now }
     {
-        self.states.len()
+        self.room.visited_len()
     }
 
     /// The state at this place, from the start outwards.
     pub fn get(&self, i: usize) -> Option<Context>
         ensures { result ≡ slice_get self.now i }
     {
-        self.states.get(i).copied()
+        self.room.visited(i)
     }
 }
 
@@ -212,6 +212,5 @@ pub fn walk(
         &mut room,
         &mut Steps::new(NoLedger),
     )?;
-    let (states, _) = room.into_parts();
-    Ok(Visited { states })
+    Ok(Visited { room })
 }

@@ -5,7 +5,7 @@ use Rattle.generated_chains.specs.Outlines.{outlines}
 use Rattle.generated_chains.specs.Code.{functions_of}
 use Rattle.generated_chains.specs.Calls.{state_of, calls_of}
 use Rattle.stack_steps.specs.Modules.{SpaceValue}
-use Rattle.stack_deliver.specs.Delivering.{delivered_in}
+use Rattle.stack_deliver.specs.Delivering.{delivery_in}
 use Rattle.stack_snapshot.specs.Content.{Content, space_of}
 use Rattle.generated_cases.specs.Case.{case_of}
 use Rattle.generated_cases.proofs.Pairs.{case_has_header}
@@ -24,7 +24,7 @@ returns c =
     (ap (λ (x : SpaceValue). x.modules) changed ∙ ap (λ (x : SpaceValue). x.modules) c.in_ok-space.ensures)
     c.start-start.ensures c.resumes.ensures c.limit-2.ensures c.in_ok-snapshot.ensures.described in
     let caught = subst (λ (e : ℕ). IsCaught (delivery_of e state calls) c.args.count) (sym c.exception.ensures) c.in_ok-snapshot.ensures.caught in
-    let counts = caught_counts (delivered_in c.deliver_into.new.room c.in-Ok.ending) (delivery_of c.exception.result state calls) c.args.count (c.in-Ok.ensures.chain (functions_of os) state calls starts) caught in
+    let counts = caught_counts (delivery_in c.deliver_into.new.room c.in-Ok.ending) (delivery_of c.exception.result state calls) c.args.count (c.in-Ok.ensures.chain (functions_of os) state calls starts) caught in
     record {
       functions = refl;
       frames = c.visited_len.ensures ∙ counts.frames;

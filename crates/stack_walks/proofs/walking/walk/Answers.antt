@@ -9,7 +9,7 @@ returns-in_err-walk_into-clause-stopped c functions s call calls starts marked =
 pub returns-clause-stopped : goal.returns-clause-stopped
 returns-clause-stopped c functions s call calls starts marked =
     let walked = c.in_ok-walk_into.ensures.stopped functions s call calls starts marked in
-    inr (rw c.into_parts-states.ensures.0 walked.1)
+    inr walked.1
 
 pub returns-in_err-walk_into-clause-stopped_in : goal.returns-in_err-walk_into-clause-stopped_in
 returns-in_err-walk_into-clause-stopped_in c functions s call calls starts marked =
@@ -19,4 +19,4 @@ returns-in_err-walk_into-clause-stopped_in c functions s call calls starts marke
 pub returns-clause-stopped_in : goal.returns-clause-stopped_in
 returns-clause-stopped_in c functions s call calls starts marked =
     let walked = c.in_ok-walk_into.ensures.stopped_in functions s call calls starts marked in
-    inr (rw c.into_parts-states.ensures.0 walked.1)
+    inr walked.1
