@@ -2,7 +2,7 @@
 use Rattle.std.specs.Prelude.{◌≡◌, ℕ, ◌+◌, ◌-◌, ◌%◌, ◌^◌, ◌⊎◌, ◌==◌, ◌&&◌, ◌||◌, Bool, false, List, Option, Some, None, slice_index, slice_set, is_none, option_and_then, IsTrue, if◌then◌else◌}
 use Rattle.memory_image.specs.Image.{Span, word_at}
 use Rattle.unwind_arch.specs.declared.x86_64.Context.{Context}
-use Rattle.unwind_arch.specs.Columns as column
+use Rattle.unwind_definitions.specs.Columns as column
 use Rattle.stack_walks.specs.declared.front.Front.{Front}
 use Rattle.stack_steps.specs.Modules.{SpaceValue, module_at}
 use Rattle.stack_walks.specs.Fronts.{ComesTo, front_of}

@@ -9,12 +9,12 @@ ghost use Rattle.backtrace.specs.Lines.{states_of, undescribed_text, unread_text
 ghost use Rattle.backtrace.specs.Lines.{why_text};
 
 use crate::tracing::Trace;
-use stack_deliver::{Context, DeliverError, Error, Front};
+use stack_deliver::{Context, DeliverError, Error, Front, Stepped};
 use stack_report::{Report, error_name, labelled_line_of, line_of};
 use stack_snapshot::{Field, Origin, Origins};
 use std::alloc::{AllocError, Global};
 use std::marker::Model;
-use unwind_arch::x86_64::{RBP, RBX, RSP};
+use unwind_arch::x86_64::{R12, R13, R14, R15, RBP, RBX, RSP};
 
 /// What the lines say beside the states.
 #[derive(Drop)]
@@ -34,8 +34,12 @@ impl<'a> Model for Form<'a> {
 
     ghost Value = { FormValue };
 
-    ghost view = { λ f. record
-        { registers = f.registers; interrupted = f.interrupted; called = f.called; origins = f.origins.now } };
+    ghost view = { λ f. record {
+      registers = f.registers;
+      interrupted = f.interrupted;
+      called = f.called;
+      origins = f.origins.now;
+    } };
 }
 
 /// Puts an address's file, and its place in it.
@@ -87,10 +91,10 @@ fn put_kept(report: &mut Report, state: &Context) -> Result<(), AllocError>
     report.put_field(" sp=", state.registers[RSP])?;
     report.put_field(" rbx=", state.registers[RBX])?;
     report.put_field(" rbp=", state.registers[RBP])?;
-    report.put_field(" r12=", state.registers[12])?;
-    report.put_field(" r13=", state.registers[13])?;
-    report.put_field(" r14=", state.registers[14])?;
-    report.put_field(" r15=", state.registers[15])
+    report.put_field(" r12=", state.registers[R12])?;
+    report.put_field(" r13=", state.registers[R13])?;
+    report.put_field(" r14=", state.registers[R14])?;
+    report.put_field(" r15=", state.registers[R15])
 }
 
 /// Puts that the frame was read from the stack, where it was.
@@ -120,11 +124,9 @@ fn put_registers(report: &mut Report, form: &Form<'_>, state: &Context) -> Resul
 fn inside_of(form: &Form<'_>, index: usize, state: &Context) -> u64
     ensures { result ≡ inside_of form.now index state.now }
 {
-    if form.interrupted && index == 0 {
-        state.ra
-    } else {
-        state.ra.wrapping_sub(1)
-    }
+    let signal = form.interrupted && index == 0;
+    let context = *state;
+    Stepped { context, signal }.address()
 }
 
 /// Puts where a frame stands.

@@ -1,5 +1,5 @@
 -- One digit more.
-use Rattle.std.proofs.Common.{◌≡◌, ℕ, zero, suc, ◌+◌, ◌-◌, ◌*◌, ◌/◌, ◌%◌, ◌^◌, ◌<◌, ◌≤◌, ◌==◌, List, [], ◌∷◌, false, refl, ◌∙◌, ap, sym, ◌++◌, append_assoc, arith, length, drop, length-set}
+use Rattle.std.proofs.Common.{◌≡◌, ℕ, zero, suc, ◌+◌, ◌*◌, ◌/◌, ◌%◌, ◌^◌, ◌<◌, ◌==◌, List, [], ◌∷◌, false, refl, ◌∙◌, sym, ◌++◌, append_assoc, arith, length, drop}
 use Rattle.std.proofs.Math.ListN.{set}
 use Rattle.std.proofs.lemmas.List.{drop-set}
 use Rattle.std.proofs.Math.Nat.{pow-suc}
@@ -21,20 +21,9 @@ next_digit (suc most) less base rest written e r =
     let some : (rest == 0) ≡ false = not_zero rest r in
     rw (one, some) refl
 
-pub some_left_16 : (most rest : ℕ) → rest < 16 ^ most → 0 < rest → 0 < most
-some_left_16 zero rest h r = absurd (omega arith)
-some_left_16 (suc s) rest h r = omega arith
-
 pub some_left_10 : (most rest : ℕ) → rest < 10 ^ most → 0 < rest → 0 < most
 some_left_10 zero rest h r = absurd (omega arith)
 some_left_10 (suc s) rest h r = omega arith
-
-pub less_left_16 : (most less rest : ℕ) → less + 1 ≡ most → rest < 16 ^ most → rest / 16 < 16 ^ less
-less_left_16 zero less rest e h = absurd (omega arith)
-less_left_16 (suc s) less rest e h =
-    let one : less ≡ s = omega arith in
-    let p : 16 ^ suc s ≡ 16 * 16 ^ s = grind (arith, pow-suc) in
-    rw one (omega (arith, p))
 
 pub less_left_10 : (most less rest : ℕ) → less + 1 ≡ most → rest < 10 ^ most → rest / 10 < 10 ^ less
 less_left_10 zero less rest e h = absurd (omega arith)
@@ -42,20 +31,6 @@ less_left_10 (suc s) less rest e h =
     let one : less ≡ s = omega arith in
     let p : 10 ^ suc s ≡ 10 * 10 ^ s = grind (arith, pow-suc) in
     rw one (omega (arith, p))
-
--- where nothing is left, all digits are written
-pub all_written : (most base rest : ℕ) (written whole : List ℕ) → rest ≤ 0 → digits_before most base rest written ≡ whole → written ≡ whole
-all_written most base zero written whole h e = e
-all_written most base (suc rest) written whole h e = absurd (omega arith)
-
--- the prefix before the digits
-pub prefixed : (buffer : List ℕ) (start : ℕ) (whole : List ℕ) → 2 ≤ start → start < length buffer → drop start buffer ≡ whole → drop (start - 2) (set (set buffer (start - 1) 120) (start - 2) 48) ≡ 48 ∷ 120 ∷ whole
-prefixed buffer start whole low high e =
-    let first : drop (start - 2) (set (set buffer (start - 1) 120) (start - 2) 48) ≡ 48 ∷ drop (start - 2 + 1) (set buffer (start - 1) 120) = drop-set (set buffer (start - 1) 120) (start - 2) 48 (rw length-set (omega arith)) in
-    let place : start - 2 + 1 ≡ start - 1 = omega arith in
-    let second : drop (start - 1) (set buffer (start - 1) 120) ≡ 120 ∷ drop (start - 1 + 1) buffer = drop-set buffer (start - 1) 120 (omega arith) in
-    let back : start - 1 + 1 ≡ start = omega arith in
-    first ∙ ap (λ xs. 48 ∷ xs) (ap (λ i. drop i (set buffer (start - 1) 120)) place ∙ (second ∙ ap (λ xs. 120 ∷ xs) (ap (λ i. drop i buffer) back ∙ e)))
 
 -- ---- as many digits as there are places
 

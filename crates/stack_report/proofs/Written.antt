@@ -18,7 +18,3 @@ frames_more states i s text more is e = rw (e, drop_get states i s is) (append_a
 pub cleanups_more : (trail : List Trail) (i : ℕ) (t : Trail) (text more : List ℕ) → slice_get trail i ≡ Some t → more ≡ text ++ cleanup_line t
     → more ++ cleanup_lines (drop (i + 1) trail) ≡ text ++ cleanup_lines (drop i trail)
 cleanups_more trail i t text more is e = rw (e, drop_get trail i t is) (append_assoc text (cleanup_line t) (cleanup_lines (drop (i + 1) trail)))
-
--- two fields and the end of the line
-pub two_fields : (t₀ t₁ t₂ t₃ a b c d n : List ℕ) → t₁ ≡ t₀ ++ a ++ b → t₂ ≡ t₁ ++ c ++ d → t₃ ≡ t₂ ++ n → t₃ ≡ t₀ ++ (a ++ b ++ c ++ d ++ n)
-two_fields t₀ t₁ t₂ t₃ a b c d n e₁ e₂ e₃ = e₃ ∙ rw (e₂, e₁) (simp append_assoc)

@@ -6,6 +6,7 @@ ghost use Rattle.stack_report.specs.Refusals.{refusal_text};
 ghost use Rattle.stack_report.specs.Report.{line};
 
 use crate::digits::{put_decimal, put_hexadecimal, put_word};
+use crate::line::Line;
 use crate::refusal::put_refusal;
 use stack_deliver::DeliverError;
 use std::alloc::{AllocError, Global};
@@ -63,6 +64,13 @@ impl Report {
     {
         self.put(label)?;
         put_decimal(&mut self.bytes, count as u64)
+    }
+
+    /// Puts a line last.
+    pub(crate) fn put_line(&mut self, line: &Line) -> Result<(), AllocError>
+        ensures { OnOk result (self.new ≡ self.old ++ line.now) }
+    {
+        self.bytes.extend_from_slice(line.bytes())
     }
 
     /// Puts bytes last.

@@ -4,9 +4,11 @@ ghost use Rattle.stack_report.specs.Report.{frame_lines, cleanup_line, cleanup_l
 ghost use Rattle.stack_report.specs.Report.{outcome_name, outcome_line, report_of};
 
 use crate::buffer::Report;
+use crate::line::Line;
 use crate::states::{put_fields, put_frame};
 use stack_deliver::{Context, Delivery, Outcome, Trail};
 use std::alloc::{AllocError, Global};
+use unwind_arch::x86_64::{RAX, RDX};
 
 fn name_of(outcome: Outcome) -> &'static str
     ensures { result.now ≡ outcome_name outcome }
@@ -23,20 +25,24 @@ fn name_of(outcome: Outcome) -> &'static str
 fn put_cleanup(report: &mut Report, trail: Trail) -> Result<(), AllocError>
     ensures { OnOk result (report.new ≡ report.old ++ cleanup_line trail) }
 {
-    report.put_field("cleanup pad=", trail.pad)?;
-    report.put_field(" sp=", trail.sp)?;
-    report.end_line()
+    let mut line = Line::new();
+    line.put_field("cleanup pad=", trail.pad);
+    line.put_field(" sp=", trail.sp);
+    line.put("\n");
+    report.put_line(&line)
 }
 
 #[tactic(auto, unfolding(crate::specs::Report::landing_line, crate::specs::Report::handler_line, crate::specs::Report::fields_text))]
 fn put_landing(report: &mut Report, state: &Context) -> Result<(), AllocError>
     ensures { OnOk result (report.new ≡ report.old ++ landing_line state.now) }
 {
-    report.put("landing")?;
-    put_fields(report, state)?;
-    report.put_field(" rax=", state.registers[0])?;
-    report.put_field(" rdx=", state.registers[1])?;
-    report.end_line()
+    let mut line = Line::new();
+    line.put("landing");
+    put_fields(&mut line, state);
+    line.put_field(" rax=", state.registers[RAX]);
+    line.put_field(" rdx=", state.registers[RDX]);
+    line.put("\n");
+    report.put_line(&line)
 }
 
 /// Puts the line that says how a delivery ended last.

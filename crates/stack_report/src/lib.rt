@@ -29,6 +29,7 @@
 mod buffer;
 mod delivery;
 mod digits;
+mod line;
 mod refusal;
 mod states;
 mod summary;

@@ -1,24 +1,28 @@
 // The states of a stack as text.
-ghost use Rattle.std.specs.Prelude.{◌≡◌, ◌++◌, OnOk};
+ghost use Rattle.std.specs.Prelude.{◌≡◌, ◌+◌, ◌≤◌, ◌++◌, length, OnOk};
 ghost use Rattle.stack_report.specs.Report.{fields_text, frame_line};
 
 use crate::buffer::Report;
+use crate::line::Line;
 use stack_deliver::Context;
 use std::alloc::AllocError;
+use unwind_arch::x86_64::{R12, R13, R14, R15, RBP, RBX, RSP};
 
 /// Puts the registers that calls keep.
 #[tactic(auto, unfolding(crate::specs::Report::fields_text, crate::specs::Report::state_fields))]
-pub(crate) fn put_fields(report: &mut Report, state: &Context) -> Result<(), AllocError>
-    ensures { OnOk result (report.new ≡ report.old ++ fields_text state.now) }
+pub(crate) fn put_fields(line: &mut Line, state: &Context)
+    requires { length line.old + 182 ≤ 256 }
+    ensures text { line.new ≡ line.old ++ fields_text state.now }
+    ensures most { length line.new ≤ length line.old + 182 }
 {
-    report.put_field(" ra=", state.ra)?;
-    report.put_field(" sp=", state.registers[7])?;
-    report.put_field(" rbx=", state.registers[3])?;
-    report.put_field(" rbp=", state.registers[6])?;
-    report.put_field(" r12=", state.registers[12])?;
-    report.put_field(" r13=", state.registers[13])?;
-    report.put_field(" r14=", state.registers[14])?;
-    report.put_field(" r15=", state.registers[15])
+    line.put_field(" ra=", state.ra);
+    line.put_field(" sp=", state.registers[RSP]);
+    line.put_field(" rbx=", state.registers[RBX]);
+    line.put_field(" rbp=", state.registers[RBP]);
+    line.put_field(" r12=", state.registers[R12]);
+    line.put_field(" r13=", state.registers[R13]);
+    line.put_field(" r14=", state.registers[R14]);
+    line.put_field(" r15=", state.registers[R15]);
 }
 
 /// Puts the line of a visited state.
@@ -30,7 +34,9 @@ pub(crate) fn put_frame(
 ) -> Result<(), AllocError>
     ensures { OnOk result (report.new ≡ report.old ++ frame_line index state.now) }
 {
-    report.put_count("frame ", index)?;
-    put_fields(report, state)?;
-    report.end_line()
+    let mut line = Line::new();
+    line.put_count("frame ", index);
+    put_fields(&mut line, state);
+    line.put("\n");
+    report.put_line(&line)
 }

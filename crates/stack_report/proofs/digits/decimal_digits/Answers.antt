@@ -1,7 +1,7 @@
 use Rattle.std.proofs.Common.{◌≡◌, ◌<◌, ◌+◌, ◌-◌, arith, ◌∙◌, refl, length-set, length}
 use Rattle.std.proofs.lemmas.List.{drop-set}
 use Rattle.stack_report.proofs.Steps.{first_digit, next_digit, less_left_10, some_left_10}
-use Rattle.stack_report.proofs.digits.put_decimal.Goals as goal
+use Rattle.stack_report.proofs.digits.decimal_digits.Goals as goal
 
 pub digits-init : goal.digits-init
 digits-init c = record {

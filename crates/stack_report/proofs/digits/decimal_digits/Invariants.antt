@@ -1,7 +1,7 @@
 use Rattle.std.proofs.Common.{◌≡◌, ◌+◌, ◌<◌, ◌≤◌, ◌^◌, false, length, drop}
 use Rattle.std.specs.Fmt.{digits}
 use Rattle.stack_report.specs.Digits.{digits_before}
-use Rattle.stack_report.proofs.digits.put_decimal.Given as goal
+use Rattle.stack_report.proofs.digits.decimal_digits.Given as goal
 
 abbrev pub invariant-digits : goal.invariant-digits
 invariant-digits l = record {
