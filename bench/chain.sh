@@ -54,7 +54,7 @@ measure() {
     esac
     printf '%s, by the %s\n' "$word" "$([ -n "$header" ] && echo 'header table' || echo 'frame table')"
     printf '%8s %14s %8s %7s %8s %14s %8s %8s %9s %9s %12s %12s\n' frames proved a-frame alone growth \
-        gimli a-frame alone peak-kB gimli-kB json prepare
+        gimli a-frame alone peak-kB gimli-kB reading prepare
     before='' proved_before='' peer_before='' alone_before=''
     shift 2
     for count in "$@"; do
@@ -72,12 +72,12 @@ measure() {
         else
             proved_frame=- peer_frame=- growth=-
         fi
-        json=$(inclusive serde_json::)
+        read=$(inclusive reading::read_snapshot)
         prepare=$(inclusive Space::prepare prepared::tables_for Prepared::build)
         printf '%8d %14d %8s %7d %8s %14d %8s %8d %9d %9d %12d %12d (%s)\n' "$count" "$proved_whole" \
             "$proved_frame" "$((proved_alone / count))" "$growth" "$peer_whole" "$peer_frame" \
             "$((gimli_alone / count))" "$(peak "$proved" "$word" <"$work/input")" \
-            "$(peak "$peer" "$word" <"$work/input")" "$json" "$prepare" "$(ratio "$prepare" "$json")"
+            "$(peak "$peer" "$word" <"$work/input")" "$read" "$prepare" "$(ratio "$prepare" "$read")"
         before=$count proved_before=$proved_whole peer_before=$peer_whole alone_before=$proved_alone
     done
 }
