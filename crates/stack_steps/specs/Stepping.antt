@@ -163,6 +163,10 @@ abbrev pub caller_at : List Span → Context → Option FrameAt → Result (Opti
 caller_at image c None = Ok None
 caller_at image c (Some f) = result_map Some (caller_by image c f)
 
+-- the caller of the frame that is found at a context, if one is
+abbrev pub stepped_from : List Span → Context → Result (Option FrameAt) DeliverError → Result (Option Stepped) DeliverError
+stepped_from image c frame = frame >>= caller_at image c
+
 -- The caller of the frame that a context shows, None at the end of the stack.
 unfoldable pub step_of : SpaceValue → Context → Bool → Result (Option Stepped) DeliverError
 step_of space c interrupted = frame_of space c interrupted >>= caller_at space.image c

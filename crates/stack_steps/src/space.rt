@@ -350,7 +350,7 @@ impl<'a> Space<'a> {
     }
 
     /// The module that contains the address, with its table, where it is prepared.
-    fn held_at(&self, address: u64) -> Option<&Held<'a>>
+    pub(crate) fn held_at(&self, address: u64) -> Option<&Held<'a>>
         ensures module { option_map (λ held. holder_of held.now) result ≡
             module_at self.now.modules address }
         ensures index { MatchOption result (index_at self.now.added address ≡ None)

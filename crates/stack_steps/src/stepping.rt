@@ -26,6 +26,7 @@ ghost use Rattle.stack_steps.specs.Ticking.{IsScannedAt, RisesBySearch, TicksAt,
 ghost use Rattle.stack_steps.specs.Ticking.{searched_at, module_pairs};
 ghost use Rattle.stack_steps.specs.Results.{result_map};
 ghost use Rattle.stack_steps.specs.Stepping.{FrameAt, frame_by, frame_in, frame_of, caller_by};
+ghost use Rattle.stack_steps.specs.Stepping.{stepped_from};
 ghost use Rattle.stack_steps.specs.Stepping.{step_of, GivesCaller, EndsAt, FaultsAt};
 ghost use Rattle.stack_steps.specs.Stepping.{ReadIsUnmapped, DescribedFrame, described_caller};
 ghost use Rattle.stack_steps.specs.Stepping.{IsUnreadSection, IsWithoutForm, IsUnreadInfo};
@@ -281,8 +282,92 @@ pub fn leave<'a>(
     }
 }
 
-/// The frame at a context is found, and then left.
-#[tactic(auto, unfolding(crate::specs::Stepping::step_of))]
+/// The step from a frame of a prepared module. The index lends its row, so there is no room for one.
+fn step_by_index<'a, L: Ledger>(
+    image: &MemoryImage<'a>,
+    table: &PreparedTable<'a>,
+    address: u64,
+    context: &Context,
+    steps: &mut Steps<L>,
+) -> Result<Option<Stepped>, DeliverError>
+    ensures exact { (tables : Tables) → IsLaidOut 0 image.now →
+        IsTableOf image.now tables table.now →
+        result ≡ stepped_from image.now context.now
+        (frame_by address (found_by tables image.now address)) }
+    ensures ticks { AreFewSteps (length table.now.index.functions) steps.old.number
+        steps.new.number }
+{
+    let Some(frame) = table.index.frame(address, steps) else {
+        return Ok(None);
+    };
+    let row = match frame.row() {
+        Ok(row) => row,
+        Err(fault) => return Err(DeliverError::Table(fault)),
+    };
+    let signal = frame.is_signal_trampoline();
+    let mut stack = Window::new(image, context.registers[RSP]);
+    let mut state = Stepped {
+        context: *context,
+        signal,
+    };
+    leave_described(&mut stack, &mut state, row, signal)?;
+    Ok(Some(state))
+}
+
+/// The step from a frame of a module that isn't prepared.
+#[inline(never)]
+fn step_by_tables<'a, L: Ledger>(
+    image: &MemoryImage<'a>,
+    holder: &Module,
+    address: u64,
+    context: &Context,
+    steps: &mut Steps<L>,
+) -> Result<Option<Stepped>, DeliverError>
+    requires placed { IsPlaced holder.now }
+    requires from { holder.now.start ≤ address }
+    requires within { address < holder.now.end }
+    ensures exact { result ≡ stepped_from image.now context.now
+        (frame_in image.now address (Some holder.now)) }
+    ensures ticks { RisesBySearch (module_pairs image.now holder.now.tables) steps.old.number
+        steps.new.number }
+{
+    let mut stack = Window::new(image, context.registers[RSP]);
+    let mut rows = RowRoom::new();
+    let mut state = Stepped {
+        context: *context,
+        signal: false,
+    };
+    let mut place = None;
+    let Some(frame) = unprepared_frame(image, address, holder, &mut place, &mut rows, steps)? else {
+        return Ok(None);
+    };
+    leave(&mut stack, &mut state, &frame, &mut rows)?;
+    Ok(Some(state))
+}
+
+/// The step from a frame of a module.
+fn step_in<'a, L: Ledger>(
+    image: &MemoryImage<'a>,
+    holder: &Held<'a>,
+    address: u64,
+    context: &Context,
+    steps: &mut Steps<L>,
+) -> Result<Option<Stepped>, DeliverError>
+    requires held { IsHeld image.now holder.now }
+    requires laid_out { IsLaidOut 0 image.now }
+    requires from { holder.now.holder.start ≤ address }
+    requires within { address < holder.now.holder.end }
+    ensures exact { result ≡ stepped_from image.now context.now
+        (frame_in image.now address (Some holder.now.holder)) }
+    ensures ticks { TicksIn image.now (added_of holder.now) steps.old.number steps.new.number }
+{
+    match &holder.table {
+        Some(shared) => step_by_index(image, shared.table(), address, context, steps),
+        None => step_by_tables(image, &holder.holder, address, context, steps),
+    }
+}
+
+#[tactic(auto, unfolding(crate::specs::Stepping::step_of, crate::specs::Stepping::frame_of))]
 fn stepped<L: Ledger>(
     space: &Space<'_>,
     context: &Context,
@@ -295,20 +380,11 @@ fn stepped<L: Ledger>(
     ensures word { context.now.ra < 2 ^ 64 }
     ensures ticks { TicksAt space.now context.now interrupted steps.old.number steps.new.number }
 {
-    let mut state = Stepped {
-        context: *context,
-        signal: interrupted,
-    };
-    let mut place = None;
-    let mut rows = RowRoom::new();
-    let mut stack = Window::new(space.image(), context.registers[RSP]);
-    match &frame_at(space, &state, &mut 0, &mut place, &mut rows, steps) {
-        Ok(Some(frame)) => {
-            leave(&mut stack, &mut state, frame, &mut rows)?;
-            Ok(Some(state))
-        }
-        Ok(None) => Ok(None),
-        Err(error) => Err(*error),
+    let image = space.image();
+    let address = address_asked(context.ra, interrupted);
+    match space.held_at(address) {
+        Some(holder) if context.ra != 0 => step_in(image, holder, address, context, steps),
+        _ => Ok(None),
     }
 }
 
