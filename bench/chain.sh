@@ -17,7 +17,8 @@
 #             one, so that the start of the process isn't in it
 #   alone     the walk or the delivery without reading, preparing and reporting, a frame
 #   peak      the largest resident set
-#   parts     of the proved program: reading the snapshot's JSON, and preparing, as a part of that
+#   parts     of the proved program: reading the snapshot, the JSON reader's part of that, and
+#             preparing, against each of the two
 
 # shellcheck source-path=SCRIPTDIR source=common.sh
 . "$(dirname "$0")/common.sh"
@@ -53,8 +54,8 @@ measure() {
         deliver) alone=(delivery::deliver_into delivery::emptied delivery::delivered passes::passes outward::outwards) ;;
     esac
     printf '%s, by the %s\n' "$word" "$([ -n "$header" ] && echo 'header table' || echo 'frame table')"
-    printf '%8s %14s %8s %7s %8s %14s %8s %8s %9s %9s %12s %12s\n' frames proved a-frame alone growth \
-        gimli a-frame alone peak-kB gimli-kB reading prepare
+    printf '%8s %14s %8s %7s %8s %14s %8s %8s %9s %9s %12s %12s %12s\n' frames proved a-frame alone growth \
+        gimli a-frame alone peak-kB gimli-kB reading json prepare
     before='' proved_before='' peer_before='' alone_before=''
     shift 2
     for count in "$@"; do
@@ -73,11 +74,13 @@ measure() {
             proved_frame=- peer_frame=- growth=-
         fi
         read=$(inclusive reading::read_snapshot)
+        json=$(inclusive serde_json::)
         prepare=$(inclusive Space::prepare prepared::tables_for Prepared::build)
-        printf '%8d %14d %8s %7d %8s %14d %8s %8d %9d %9d %12d %12d (%s)\n' "$count" "$proved_whole" \
+        printf '%8d %14d %8s %7d %8s %14d %8s %8d %9d %9d %12d %12d %12d (%s, %s)\n' "$count" "$proved_whole" \
             "$proved_frame" "$((proved_alone / count))" "$growth" "$peer_whole" "$peer_frame" \
             "$((gimli_alone / count))" "$(peak "$proved" "$word" <"$work/input")" \
-            "$(peak "$peer" "$word" <"$work/input")" "$read" "$prepare" "$(ratio "$prepare" "$read")"
+            "$(peak "$peer" "$word" <"$work/input")" "$read" "$json" "$prepare" \
+            "$(ratio "$prepare" "$read")" "$(ratio "$prepare" "$json")"
         before=$count proved_before=$proved_whole peer_before=$peer_whole alone_before=$proved_alone
     done
 }
