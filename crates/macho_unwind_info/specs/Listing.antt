@@ -1,6 +1,7 @@
 -- The functions that a section of compact unwinding lists, in order, with the errors in their places.
 use Rattle.std.specs.Prelude.{ℕ, ◌+◌, ◌-◌, ◌^◌, List, [], ◌∷◌, ◌++◌, map, length, Option, Some, None, Result, Ok, Err, slice_get, nat_lt, ◌==◌, if◌then◌else◌}
 use Rattle.std.specs.Option.{ok_or}
+use Rattle.std.specs.Result.{result_map_both}
 use Rattle.macho_unwind_info.specs.Unaligned.{u32_number}
 use Rattle.memory_image.specs.Results.{◌>>=◌}
 use Rattle.macho_unwind_info.specs.Parts.{header_of, global_opcodes_of, pages_of, kind_of, regular_page_of, regular_functions_of, compressed_page_of, compressed_functions_of, local_opcodes_of}
@@ -26,8 +27,7 @@ pub record Section : Type 0 where
 
 -- a part that was read, or that doesn't fit
 abbrev pub part : {A : Type 0} → Result A ReadError → Result A Error
-part (Ok x) = Ok x
-part (Err e) = Err (error.ReadError e)
+part = result_map_both (λ x. x) error.ReadError
 
 -- header, global opcodes and pages, in this order
 abbrev pub section_of : List ℕ → Result Section Error

@@ -34,7 +34,11 @@ impl<'a> Model for UnwindInfo<'a> {
 
     ghost Value = { Section };
 
-    ghost view = { λ i. record { bytes = i.bytes.now; global_opcodes = i.global_opcodes; pages = i.pages } };
+    ghost view = { λ i. record {
+      bytes = i.bytes.now;
+      global_opcodes = i.global_opcodes;
+      pages = i.pages;
+    } };
 }
 
 impl<'a> UnwindInfo<'a> {
@@ -119,9 +123,7 @@ impl<'a> UnwindInfo<'a> {
         let Some(i) = boundary(&self.pages, pc) else {
             return Ok(None);
         };
-        let Some(page) = self.pages.get(i) else {
-            return Ok(None);
-        };
+        let page = self.pages.at(i);
         let Some(next) = self.pages.get(i + 1) else {
             return Ok(None);
         };

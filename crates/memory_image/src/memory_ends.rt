@@ -28,7 +28,13 @@ impl<'a> Model for MemorySource<'a> {
 
     ghost Value = { Feed };
 
-    ghost view = { λ s. record { left = s.bytes.now; piece = s.piece; failing = s.failing.now; calls = s.calls; faults = s.faults } };
+    ghost view = { λ s. record {
+      left = s.bytes.now;
+      piece = s.piece;
+      failing = s.failing.now;
+      calls = s.calls;
+      faults = s.faults;
+    } };
 
     ghost invariant = { λ s. 1 ≤ s.piece };
 }
@@ -108,7 +114,13 @@ impl<'a> Model for MemorySink<'a> {
 
     ghost Value = { Store };
 
-    ghost view = { λ s. record { held = s.bytes.items; room = s.room; failing = s.failing.now; calls = s.calls; faults = s.faults } };
+    ghost view = { λ s. record {
+      held = s.bytes.items;
+      room = s.room;
+      failing = s.failing.now;
+      calls = s.calls;
+      faults = s.faults;
+    } };
 
     ghost invariant = { λ s. (vec_len s.bytes ≤ s.room) × (s.room ≤ vec_capacity s.bytes) };
 }

@@ -97,8 +97,7 @@ abbrev pub Sequence : Type 0
 Sequence = Result (List FunctionEpilogInstruction) InstructionParseError
 
 abbrev pub and_first : FunctionEpilogInstruction → Sequence → Sequence
-and_first instruction (Ok later) = Ok (instruction ∷ later)
-and_first instruction (Err e) = Err e
+and_first instruction = result_map (λ later. instruction ∷ later)
 
 abbrev pub then_full : Parsed → Sequence
 then_full (Ok (Some p)) = Err TooManyInstructions

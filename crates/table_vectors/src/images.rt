@@ -4,7 +4,7 @@ ghost use Rattle.std.specs.Prelude.{◌+◌, ◌≤◌, ◌^◌, length};
 
 use crate::asserting::expect_equal;
 use memory_image::{
-    Counted, Failed, ImageError, Ledger, MemoryImage, MemorySink, MemorySource, NoLedger,
+    Counted, Failed, ImageError, Keyed, Ledger, MemoryImage, MemorySink, MemorySource, NoLedger,
     PlainSink, PlainSource, Record, Records, Sink, Source, StdinSource, StdoutSink, Steps,
 };
 use std::test::Fail;
@@ -42,6 +42,14 @@ impl Record for Entry {
         let same : length xs ≡ length ys = m ∙ sym n in
         let sizes : drop 4 xs ≡ drop 4 ys = same_from_u16_at xs ys 4 same (subst (λ l. 6 ≤ l) (sym m) (lit≤ tt)) b c (ap (λ (v : Value). v.size) e) (same_end 6 xs ys m n) in
         same_from_u32_at xs ys 0 same (subst (λ l. 4 ≤ l) (sym m) (lit≤ tt)) b c (ap (λ (v : Value). v.address) e) sizes };
+}
+
+impl Keyed for Entry {
+    ghost key = { λ entry. entry.address };
+
+    fn read_key(bytes: &[u8]) -> u32 {
+        Entry::read(bytes).address
+    }
 }
 
 #[test]
@@ -94,6 +102,39 @@ fn errors_are_told(rt: HostRuntime) -> Result<(), Fail> {
 
 fn first<T: Record>(records: &Records<'_, T>) -> Option<T> {
     records.get(0)
+}
+
+fn last_up_to<T: Keyed>(records: &Records<'_, T>, key: u32) -> Option<T> {
+    records.get(records.boundary(key)?)
+}
+
+#[test]
+fn sorted_records_are_searched(rt: HostRuntime) -> Result<(), Fail> {
+    let bytes = [
+        0x10, 0x20, 0x40, 0, 3, 0, 0x11, 0x20, 0x40, 0, 4, 1, 0x11, 0x20, 0x40, 0, 5, 0, 0, 0, 0,
+        0xff, 6, 0,
+    ];
+    let records = Records::<Entry>::over(&bytes, 0, 4).ok_or("fits")?;
+    for (key, place) in [
+        (0x40_200f, None),
+        (0x40_2010, Some(0)),
+        (0x40_2011, Some(2)),
+        (0xfeff_ffff, Some(2)),
+        (0xff00_0000, Some(3)),
+        (u32::MAX, Some(3)),
+    ] {
+        expect_equal(&rt, records.boundary(key), place);
+    }
+    let third = Entry {
+        address: 0x40_2011,
+        size: 5,
+    };
+    expect_equal(&rt, last_up_to(&records, 0x40_2012), Some(third));
+    expect_equal(&rt, records.after(4).boundary(0), None);
+    if records.len() > 2 {
+        expect_equal(&rt, records.at(2), third);
+    }
+    Ok(())
 }
 
 #[test]

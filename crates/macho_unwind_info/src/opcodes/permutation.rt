@@ -78,12 +78,10 @@ static ORDERS: [[u8; 4]; 24] = [
 
 /// The register at a place of a row.
 fn register_at(row: &[u8; 6], place: u8) -> u8
+    requires { place < 6 }
     ensures { result ≡ slice_index row.now place }
 {
-    match row.get(usize::from(place)) {
-        Some(register) => *register,
-        None => 0,
-    }
+    row[usize::from(place)]
 }
 
 /// The list of all six registers that a number spells.

@@ -34,20 +34,26 @@ pub enum RegisterNameX86_64 {
     Rbp,
 }
 
+/// The registers by their numbers. An opcode's parts that list registers are decoded often, and a row
+/// of this table is read faster than one of six numbers is told from the others.
+static REGISTERS: [Option<RegisterNameX86_64>; 7] = [
+    None,
+    Some(RegisterNameX86_64::Rbx),
+    Some(RegisterNameX86_64::R12),
+    Some(RegisterNameX86_64::R13),
+    Some(RegisterNameX86_64::R14),
+    Some(RegisterNameX86_64::R15),
+    Some(RegisterNameX86_64::Rbp),
+];
+
 impl RegisterNameX86_64 {
     /// The register of a number from 1 to 6, and None for any other number.
     pub fn parse(n: u8) -> Option<Self>
         ensures { result ≡ register_of n }
     {
-        // counted from 0 they are the registers' places, so that no table is made of them
-        match n.wrapping_sub(1) {
-            0 => Some(RegisterNameX86_64::Rbx),
-            1 => Some(RegisterNameX86_64::R12),
-            2 => Some(RegisterNameX86_64::R13),
-            3 => Some(RegisterNameX86_64::R14),
-            4 => Some(RegisterNameX86_64::R15),
-            5 => Some(RegisterNameX86_64::Rbp),
-            _ => None,
+        match REGISTERS.get(usize::from(n)) {
+            Some(register) => *register,
+            None => None,
         }
     }
 

@@ -45,7 +45,10 @@ impl Record for U32 {
     ghost value_of = { u32_in };
 
     fn read(bytes: &[u8]) -> U32 {
-        U32([bytes[0], bytes[1], bytes[2], bytes[3]])
+        // Copied at once, so that a part of the number is read by one read, too.
+        let mut word = [0; 4];
+        word.copy_from_slice(&bytes[..4]);
+        U32(word)
     }
 
     ghost has_size = { lit≤ tt };

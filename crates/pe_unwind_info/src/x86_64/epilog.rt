@@ -123,7 +123,8 @@ fn parse_adjustment(
     rex: u8,
     code: &[u8],
 ) -> Option<Result<(FunctionEpilogInstruction, &[u8]), InstructionParseError>>
-    ensures { option_map (result_map (λ p. (p.0, p.1.now))) result ≡ adjustment_of frame rex code.now }
+    ensures { option_map (result_map (λ p. (p.0, p.1.now))) result
+        ≡ adjustment_of frame rex code.now }
 {
     let [opcode, modrm, next, rest @ ..] = code else {
         return None;
@@ -158,12 +159,14 @@ fn is_jump(opcode: u8, next: u8) -> bool
 }
 
 // a pop or a jump whose opcode stands before these bytes
+#[inline(always)]
 fn parse_two_bytes(
     rex: u8,
     opcode: u8,
     code: &[u8],
 ) -> Result<Option<(FunctionEpilogInstruction, &[u8])>, InstructionParseError>
-    ensures { result_map (option_map (λ p. (p.0, p.1.now))) result ≡ two_bytes_of rex opcode code.now }
+    ensures { result_map (option_map (λ p. (p.0, p.1.now))) result
+        ≡ two_bytes_of rex opcode code.now }
 {
     let [next, rest @ ..] = code else {
         return Err(InstructionParseError::InvalidInstruction);
@@ -178,11 +181,13 @@ fn parse_two_bytes(
 }
 
 // a pop or a terminator
+#[inline(always)]
 fn parse_pop_or_terminator(
     rex: u8,
     code: &[u8],
 ) -> Result<Option<(FunctionEpilogInstruction, &[u8])>, InstructionParseError>
-    ensures { result_map (option_map (λ p. (p.0, p.1.now))) result ≡ pop_or_terminator_of rex code.now }
+    ensures { result_map (option_map (λ p. (p.0, p.1.now))) result
+        ≡ pop_or_terminator_of rex code.now }
 {
     let [opcode, rest @ ..] = code else {
         return Err(InstructionParseError::InvalidInstruction);
@@ -208,6 +213,7 @@ fn split_rex(code: &[u8]) -> Option<(u8, &[u8])>
 }
 
 // an instruction behind a REX byte
+#[inline(always)]
 fn parse_behind_rex(
     frame: Option<Register>,
     allow_add_sp: bool,

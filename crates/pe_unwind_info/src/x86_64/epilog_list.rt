@@ -16,9 +16,6 @@ fn next_epilog(operations: &mut UnwindOperations<'_>) -> Option<EpilogInformatio
         (place, UnwindOperation.EpilogInformation epilog) ∷ operations_left
         operations.new)) }
 {
-    if !operations.may_tell_of_epilogs() {
-        return None;
-    }
     let mut rest = *operations;
     match rest.next() {
         Some((_, UnwindOperation::EpilogInformation(epilog))) => {
@@ -79,11 +76,10 @@ fn take_later_epilogs(
     listed
 }
 
-/// Takes the epilog operations that come first, and answers whether the code at the address has
-/// to be tested for an epilog: where there are none, and where one of the epilogs that they list
-/// holds the address.
+// takes the epilog operations that come first, and answers whether the code at the address has to be
+// tested for an epilog
 #[tactic(auto, using(crate::proofs::EpilogListLemmas::leading_none, crate::proofs::EpilogListLemmas::behind_none, crate::proofs::EpilogListLemmas::leading_some, crate::proofs::EpilogListLemmas::behind_some))]
-pub(crate) fn take_epilogs(operations: &mut UnwindOperations<'_>, end: u32, address: u32) -> bool
+fn take_epilogs(operations: &mut UnwindOperations<'_>, end: u32, address: u32) -> bool
     ensures due { result ≡ is_due end address (leading_epilogs (operations_left operations.old)) }
     ensures rest { operations_left operations.new
         ≡ behind_epilogs (operations_left operations.old) }
@@ -94,4 +90,40 @@ pub(crate) fn take_epilogs(operations: &mut UnwindOperations<'_>, end: u32, addr
     let size = first.as_header().epilog_size();
     let later = take_later_epilogs(operations, end, size, address);
     lists_last(end, address, &first) || later
+}
+
+// the same, from operations to those that are left
+#[inline(never)]
+fn behind_told<'a>(
+    operations: UnwindOperations<'a>,
+    end: u32,
+    address: u32,
+) -> (bool, UnwindOperations<'a>)
+    ensures due { result.0
+        ≡ is_due end address (leading_epilogs (operations_left operations.entry)) }
+    ensures rest { operations_left result.1 ≡ behind_epilogs (operations_left operations.entry) }
+{
+    let mut behind = operations;
+    let due = take_epilogs(&mut behind, end, address);
+    (due, behind)
+}
+
+/// Whether the code at the address has to be tested for an epilog: where no epilog operations come
+/// first, and where one of the epilogs that they list holds the address. Beside it, the operations
+/// behind them.
+#[tactic(auto, using(crate::proofs::EpilogListLemmas::leading_none, crate::proofs::EpilogListLemmas::behind_none))]
+pub(crate) fn behind_epilogs<'a>(
+    operations: UnwindOperations<'a>,
+    end: u32,
+    address: u32,
+) -> (bool, UnwindOperations<'a>)
+    ensures due { result.0
+        ≡ is_due end address (leading_epilogs (operations_left operations.entry)) }
+    ensures rest { operations_left result.1 ≡ behind_epilogs (operations_left operations.entry) }
+{
+    if operations.may_tell_of_epilogs() {
+        behind_told(operations, end, address)
+    } else {
+        (true, operations)
+    }
 }

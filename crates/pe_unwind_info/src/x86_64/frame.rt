@@ -23,7 +23,7 @@ ghost use Rattle.pe_unwind_info.specs.declared.x86_64.epilog.FunctionEpilogInstr
 ghost use Rattle.pe_unwind_info.specs.declared.x86_64.function_table.RuntimeFunction.{RuntimeFunction};
 
 use crate::x86_64::epilog::{FunctionEpilogInstruction, begins_with_epilog};
-use crate::x86_64::epilog_list::take_epilogs;
+use crate::x86_64::epilog_list::behind_epilogs;
 use crate::x86_64::fault::FrameFault;
 use crate::x86_64::function_table::{FunctionTableEntries, RuntimeFunction};
 use crate::x86_64::operations::UnwindOperations;
@@ -39,7 +39,8 @@ const CHAIN_LIMIT: u32 = 32;
 
 // the unwind record at an address, from the memory there
 fn info_in(rva: u32, memory: Option<&[u8]>) -> Result<UnwindInfo<'_>, FrameFault>
-    ensures { result_map info_of result ≡ info_in rva (option_map (λ bytes. bytes.now) memory.entry) }
+    ensures { result_map info_of result
+        ≡ info_in rva (option_map (λ bytes. bytes.now) memory.entry) }
 {
     let bytes = memory.ok_or(FrameFault::Memory(rva))?;
     UnwindInfo::parse(bytes).ok_or(FrameFault::Info(rva))
@@ -77,7 +78,8 @@ fn epilog_in<'m>(
     address: u32,
     memory: Option<&'m [u8]>,
 ) -> Result<Option<&'m [u8]>, FrameFault>
-    ensures epilog { result_map (λ code. epilog_of frame (option_map (λ bytes. bytes.now) code)) result
+    ensures epilog { result_map (λ code. epilog_of frame
+        (option_map (λ bytes. bytes.now) code)) result
         ≡ epilog_in frame end address (option_map (λ bytes. bytes.now) memory.entry) }
     ensures begins { IfOk result (λ code. ForSome code (λ bytes.
         IsTrue (is_ok (sequence_of frame bytes.now)))) }
@@ -312,9 +314,8 @@ fn unwind_record<'m, S: UnwindState, M: Fn(u32) -> Option<&'m [u8]>>(
         (frame_end result (registers_of (S.registers state.new) (S.xmm_registers state.new))) }
     ensures stack { S.stack state.new ≡ S.stack state.old }
 {
-    let mut operations = info.unwind_operations();
     let end = function.end_address;
-    let due = take_epilogs(&mut operations, end, address);
+    let (due, operations) = behind_epilogs(info.unwind_operations(), end, address);
     let epilog = epilog_at(memory_at_rva, due, info.frame_register(), end, address)?;
     let offset = address - function.begin_address;
     leave(info, state, memory_at_rva, epilog, operations, offset)

@@ -7,8 +7,8 @@ ghost use Rattle.pe_unwind_info.specs.Search.{IsAscending};
 ghost use Rattle.pe_unwind_info.specs.declared.x86_64.function_table.RuntimeFunction.{RuntimeFunction};
 
 use crate::x86_64::little_endian::u32_at;
-use crate::x86_64::search::{Located, boundary};
-use memory_image::{Record, Records};
+use crate::x86_64::search::boundary;
+use memory_image::{Keyed, Record, Records};
 
 /// An address relative to the base of an image.
 pub type U32 = u32;
@@ -49,11 +49,11 @@ impl Record for RuntimeFunction {
     ghost keeps_all = { runtime_function_keeps_all };
 }
 
-impl Located for RuntimeFunction {
-    ghost start = { λ f. f.begin_address };
+impl Keyed for RuntimeFunction {
+    ghost key = { λ f. f.begin_address };
 
-    fn start(&self) -> u32 {
-        self.begin_address
+    fn read_key(bytes: &[u8]) -> u32 {
+        u32_at(bytes, 0)
     }
 }
 

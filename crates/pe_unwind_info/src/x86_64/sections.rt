@@ -6,8 +6,8 @@ ghost use Rattle.pe_unwind_info.specs.Sections.{IsMemoryAt, virtual_size, virtua
 ghost use Rattle.pe_unwind_info.specs.Sections.{raw_pointer, memory_by};
 
 use crate::x86_64::little_endian::{u16_at, u32_at};
-use crate::x86_64::search::{Located, boundary};
-use memory_image::{Record, Records};
+use crate::x86_64::search::boundary;
+use memory_image::{Keyed, Record, Records};
 
 // where the offset of the signature stands, the bytes of the signature and those of the COFF
 // header, and where in that header the count and the optional header's size stand
@@ -68,11 +68,11 @@ impl Record for Section {
     ghost keeps_all = { section_keeps_all };
 }
 
-impl Located for Section {
-    ghost start = { virtual_address };
+impl Keyed for Section {
+    ghost key = { virtual_address };
 
-    fn start(&self) -> u32 {
-        self.virtual_address()
+    fn read_key(bytes: &[u8]) -> u32 {
+        u32_at(bytes, 12)
     }
 }
 
