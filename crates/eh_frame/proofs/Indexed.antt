@@ -1,6 +1,5 @@
 -- What stands at an index, and that a scan answers the same.
 use Rattle.std.proofs.Common.{◌≡◌, ◌⊎◌, ℕ, zero, suc, ◌+◌, ◌%◌, ◌^◌, ◌<◌, ◌≤◌, Bool, true, false, List, [], ◌∷◌, length, map, get_or, Option, Some, None, Result, Ok, Err, refl, sym, ap, ◌∙◌, subst, inl, inr, arith}
-use Rattle.std.specs.Prelude.{slice_range}
 use Rattle.std.specs.Option.{option_map_or}
 use Rattle.std.specs.List.{AllByRecursion, Contains, filter}
 use Rattle.std.proofs.lemmas.Bool.{lt-ltb}
@@ -12,7 +11,7 @@ use Rattle.unwind_definitions.specs.Pointers.{Bases}
 use Rattle.unwind_definitions.specs.Entries.{Cie, Fde}
 use Rattle.unwind_definitions.specs.Row.{row, row_at, covers_pc}
 use Rattle.unwind_definitions.specs.Scan.{fdes_of, first_covering, scan}
-use Rattle.frame_rows.specs.KeptRows.{Kept, AreRows}
+use Rattle.frame_rows.specs.KeptRows.{Kept, AreRows, rows_from}
 use Rattle.eh_frame.specs.Index.{AscendApart, Described, HasRows, Index, IsFoundAt, IsPreparedFrom, IsRowedBy, common_program, described_fde, described_in, end_of, own_program, start_of}
 use Rattle.eh_frame.specs.Listed.{has_bytes, nonempty}
 use Rattle.encoded_pointers.specs.Readers.{Answers}
@@ -194,10 +193,10 @@ row_at_is bases fde pc covers = rw covers refl
 
 -- the rows of a found function
 pub rows_there : (bases : Bases) (cies : List CodeCie) (rows : List Kept) (fs : List PreparedFunction) (f : PreparedFunction) (i : ℕ) → AllByRecursion (IsRowedBy bases) (map (described_in cies rows) fs) → i < length fs → f ≡ get_or fs i f →
-    AreRows (λ pc. row (fde_in cies f.fde).start pc (common_program bases (fde_in cies f.fde)) (own_program bases (fde_in cies f.fde))) (end_of (fde_in cies f.fde)) (slice_range rows f.first_row f.end_row)
+    AreRows (λ pc. row (fde_in cies f.fde).start pc (common_program bases (fde_in cies f.fde)) (own_program bases (fde_in cies f.fde))) (end_of (fde_in cies f.fde)) (rows_from f.fde.initial_address rows f.rows)
 rows_there bases cies rows [] f i all lt is = absurd (omega arith)
 rows_there bases cies rows (g ∷ fs) f zero all lt is =
-    subst (λ (f : PreparedFunction). AreRows (λ pc. row (fde_in cies f.fde).start pc (common_program bases (fde_in cies f.fde)) (own_program bases (fde_in cies f.fde))) (end_of (fde_in cies f.fde)) (slice_range rows f.first_row f.end_row)) (sym is) all.0.rows
+    subst (λ (f : PreparedFunction). AreRows (λ pc. row (fde_in cies f.fde).start pc (common_program bases (fde_in cies f.fde)) (own_program bases (fde_in cies f.fde))) (end_of (fde_in cies f.fde)) (rows_from f.fde.initial_address rows f.rows)) (sym is) all.0.rows
 rows_there bases cies rows (g ∷ fs) f (suc i) all lt is = rows_there bases cies rows fs f i all.1 (omega arith) is
 
 -- an index with a function has a row

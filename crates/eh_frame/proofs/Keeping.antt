@@ -8,8 +8,9 @@ use Rattle.std.proofs.lemmas.Grind.{take-set_at}
 use Rattle.std.proofs.Math.Seq.{drop-append_seam, take-length}
 use Rattle.unwind_definitions.specs.Pointers.{Bases}
 use Rattle.unwind_definitions.specs.Entries.{Fde}
-use Rattle.frame_rows.specs.KeptRows.{AreKeptOf, AreTooMany, IsAdded, Kept, KeptRows, kept_rule_count, location_of, reached_locations}
+use Rattle.frame_rows.specs.KeptRows.{AreTooMany, IsAdded, Kept, KeptRows, kept_rule_count, location_of, placed, reached_locations}
 use Rattle.frame_rows.specs.declared.row_table.RowLimits.{RowLimits}
+use Rattle.frame_rows.specs.declared.row_table.RowRange.{RowRange}
 use Rattle.eh_frame.specs.Index.{AreKept, AscendApart, Described, HasRows, IsIndex, IsRowedBy, KeepsRows, common_program, described_fde, described_in, end_of, own_program, start_of, rows_due, rules_due}
 use Rattle.eh_frame.specs.FdeLists.{IsListedIn, fde_in}
 use Rattle.eh_frame.specs.declared.cie.Cie.{Cie as CodeCie}
@@ -31,22 +32,20 @@ part_stays xs ys a b le within =
     let n = length-drop a xs in
     ap (take (b - a)) (drop-append-le a xs ys (omega arith)) ∙ take-append-le (b - a) (drop a xs) ys (omega arith)
 
-part_added : {X : Type 0} (xs ys : List X) → slice_range (xs ++ ys) (length xs) (length (xs ++ ys)) ≡ ys
-part_added xs ys =
-    let n = length-append xs ys in
-    let m : length (xs ++ ys) - length xs ≡ length ys = omega arith in
-    ap (take (length (xs ++ ys) - length xs)) (drop-append_seam xs ys) ∙ ap (λ n. take n ys) m ∙ take-length ys
-
--- the first of what is added
-added_first : (xs ys : List Kept) (d : Kept) (k : ℕ) (ls : List ℕ) → map location_of ys ≡ k ∷ ls → (get_or (xs ++ ys) (length xs) d).location ≡ k
-added_first [] [] d k ls is = absurd cc
-added_first [] (y ∷ ys) d k ls is = cc
-added_first (x ∷ xs) ys d k ls is = added_first xs ys d k ls is
-
 before_stays : (xs ys : List Kept) (i : ℕ) (d : Kept) → i < length xs → get_or (xs ++ ys) i d ≡ get_or xs i d
 before_stays [] ys i d lt = absurd (omega arith)
 before_stays (x ∷ xs) ys zero d lt = refl
 before_stays (x ∷ xs) ys (suc i) d lt = before_stays xs ys i d (omega arith)
+
+-- the first of a description's rows holds from its start on
+first_at : (start : ℕ) (rows : List Kept) (i size : ℕ) (d : Kept) (ls : List ℕ) → map location_of (map (placed start) (take size (drop i rows))) ≡ start ∷ ls → (get_or rows i d).location ≡ 0
+first_at start [] zero zero d ls is = absurd cc
+first_at start [] zero (suc size) d ls is = absurd cc
+first_at start [] (suc i) zero d ls is = absurd cc
+first_at start [] (suc i) (suc size) d ls is = absurd cc
+first_at start (k ∷ ks) zero zero d ls is = absurd cc
+first_at start (k ∷ ks) zero (suc size) d ls is = let there : start + k.location ≡ start = cc in omega arith
+first_at start (k ∷ ks) (suc i) size d ls is = first_at start ks i size d ls is
 
 pub same_apart : {X Y : Type 0} (f : X → Fde) (g : Y → Fde) (low : ℕ) (xs : List X) (ys : List Y) → map g ys ≡ map f xs → AscendApart f low xs → AscendApart g low ys
 same_apart f g low [] [] is apart = tt
@@ -93,16 +92,16 @@ module _ (bases : Bases) (fdes : List Fde) (limits : RowLimits) (cies : List Cod
     pub each : map described_fde (map (described_in cies rows.rows) functions) ≡ take i fdes
     pub rowed : AllByRecursion (HasRows cies rows.rows) functions
     pub kept : AllByRecursion (IsRowedBy bases) (map (described_in cies rows.rows) functions)
-    pub row_count : length rows.rows ≡ sum_by (rows_due bases) (take i fdes)
+    pub row_count : rows.row_count ≡ sum_by (rows_due bases) (take i fdes)
     pub rule_count : rows.rule_count ≡ sum_by (rules_due bases) (take i fdes)
-    pub rows_fit : length rows.rows ≤ limits.rows
+    pub rows_fit : rows.row_count ≤ limits.rows
     pub rules_fit : rows.rule_count ≤ limits.rules
 
-  pub begun : IsKeeping 0 (record { rows = []; rule_count = 0 }) [] []
+  pub begun : IsKeeping 0 (record { rows = []; row_count = 0; rule_count = 0 }) [] []
   begun = record { starts_are = refl; each = refl; rowed = tt; kept = tt; row_count = refl; rule_count = refl; rows_fit = omega arith; rules_fit = omega arith }
 
-  abbrev pub Added : Fde → KeptRows → KeptRows → Type 0
-  Added fde old new = IsAdded limits fde.start (end_of fde) (common_program bases fde) (own_program bases fde) old new
+  abbrev pub Added : Fde → KeptRows → RowRange → KeptRows → Type 0
+  Added fde old range new = IsAdded limits fde.start (end_of fde) (common_program bases fde) (own_program bases fde) old range new
 
   module _ (i : ℕ) (rows : KeptRows) (starts : List ℕ) (functions : List PreparedFunction) (k : IsKeeping i rows starts functions) (code : ListedFde) (lt : i < length fdes) (is : fde_in cies code ≡ get_or fdes i (fde_in cies code)) (listed : IsListedIn cies code) where
     abbrev fde : Fde
@@ -111,72 +110,69 @@ module _ (bases : Bases) (fdes : List Fde) (limits : RowLimits) (cies : List Cod
     one_more : take (i + 1) fdes ≡ take i fdes ++ fde ∷ []
     one_more = take_more fdes i fde lt ∙ ap (λ (x : Fde). take i fdes ++ x ∷ []) (sym is)
 
-    module _ (new : KeptRows) (adds : Added fde rows new) where
+    module _ (range : RowRange) (new : KeptRows) (adds : Added fde rows range new) where
       abbrev function : PreparedFunction
-      function = record { fde = code; first_row = length rows.rows; end_row = length new.rows }
+      function = record { fde = code; rows = range }
+
+      abbrev more : List Kept
+      more = adds.longer.more
+
+      grown : new.rows ≡ rows.rows ++ more
+      grown = adds.longer.grown
 
       -- what was there before
       same_before : (fs : List PreparedFunction) → AllByRecursion (HasRows cies rows.rows) fs → map (described_in cies new.rows) fs ≡ map (described_in cies rows.rows) fs
       same_before [] all = refl
       same_before (f ∷ fs) all =
-          let a = adds in let o = all.0.some in
+          let o = all.0.some in
           ap (λ (l : List Described). described_in cies new.rows f ∷ l) (same_before fs all.1)
-          ∙ ap (λ (ks : List Kept). let d : Described = record { fde = fde_in cies f.fde; kept = ks } in d ∷ map (described_in cies rows.rows) fs)
-          (ap (λ (l : List Kept). slice_range l f.first_row f.end_row) a.rows ∙ part_stays rows.rows a.kept f.first_row f.end_row (omega arith) all.0.within)
+          ∙ ap (λ (ks : List Kept). let d : Described = record { fde = fde_in cies f.fde; kept = map (placed f.fde.initial_address) ks } in d ∷ map (described_in cies rows.rows) fs)
+          (ap (λ (l : List Kept). slice_range l f.rows.first f.rows.end) grown ∙ part_stays rows.rows more f.rows.first f.rows.end (omega arith) all.0.within)
 
       rowed_before : (f : PreparedFunction) → HasRows cies rows.rows f → HasRows cies new.rows f
       rowed_before f has =
-          let a = adds in let n = ap length a.rows in let m = length-append rows.rows a.kept in
+          let n = ap length grown in let m = length-append rows.rows more in
           let w = has.within in let s = has.some in
           record {
             listed = has.listed;
             some = has.some;
             within = omega arith;
-            begun = λ d. subst (λ (q : Kept). q.location ≤ f.fde.initial_address) (sym (ap (λ (l : List Kept). get_or l f.first_row d) a.rows ∙ before_stays rows.rows a.kept f.first_row d (omega arith))) (has.begun d);
+            begun = λ d. subst (λ (q : Kept). q.location ≡ 0) (sym (ap (λ (l : List Kept). get_or l f.rows.first d) grown ∙ before_stays rows.rows more f.rows.first d (omega arith))) (has.begun d);
           }
 
       -- what is added
-      kept_one : slice_range new.rows (length rows.rows) (length new.rows) ≡ (adds).kept
-      kept_one = let a = adds in ap (λ (l : List Kept). slice_range l (length rows.rows) (length l)) a.rows ∙ part_added rows.rows a.kept
-
-      count_one : length (adds).kept ≡ rows_due bases fde
+      count_one : new.row_count ≡ rows.row_count + rows_due bases fde
       unfolding rows_due
-      count_one = let a = adds in sym (length-map a.kept location_of) ∙ ap length a.of.locations
+      count_one = adds.row_count
 
       rules_one : new.rule_count ≡ rows.rule_count + rules_due bases fde
       unfolding rules_due
-      rules_one = (adds).rule_count
+      rules_one = adds.rule_count
 
       rowed_one : HasRows cies new.rows function
-      rowed_one =
-          let a = adds in let n = ap length a.rows in let m = length-append rows.rows a.kept in
-          let o = ap length a.of.locations in let l = length-map a.kept location_of in
-          record {
-            listed = listed;
-            some = omega arith;
-            within = omega arith;
-            begun = λ d. let at : (get_or new.rows (length rows.rows) d).location ≡ fde.start =
-                ap (λ (l : List Kept). (get_or l (length rows.rows) d).location) a.rows ∙ added_first rows.rows a.kept d fde.start _ a.of.locations in omega arith;
-          }
+      rowed_one = record {
+        listed = listed;
+        some = adds.some;
+        within = adds.within;
+        begun = λ d. first_at fde.start new.rows range.first (range.end - range.first) d _ adds.of.locations;
+      }
 
       pub further : IsKeeping (i + 1) new (starts ++ start_of function ∷ []) (functions ++ function ∷ [])
       further =
           let same = same_before functions k.rowed in
-          let a = adds in
           record {
             starts_are = ap (λ (l : List ℕ). l ++ start_of function ∷ []) k.starts_are ∙ sym (map-append start_of functions (function ∷ []));
             each = ap (map described_fde) (map-append (described_in cies new.rows) functions (function ∷ [])) ∙ map-append described_fde (map (described_in cies new.rows) functions) (described_in cies new.rows function ∷ [])
                 ∙ ap (λ (l : List Described). map described_fde l ++ fde ∷ []) same ∙ ap (λ (l : List Fde). l ++ fde ∷ []) k.each ∙ sym one_more;
             rowed = all_push (HasRows cies new.rows) functions function (all_also (HasRows cies rows.rows) (HasRows cies new.rows) functions k.rowed (rowed_before)) (rowed_one);
             kept = subst (AllByRecursion (IsRowedBy bases)) (sym (map-append (described_in cies new.rows) functions (function ∷ [])))
-                (all_push (IsRowedBy bases) (map (described_in cies new.rows) functions) (described_in cies new.rows function) (subst (AllByRecursion (IsRowedBy bases)) (sym same) (k.kept))
-                (subst (λ (ks : List Kept). AreKeptOf fde.start (end_of fde) (common_program bases fde) (own_program bases fde) ks) (sym (kept_one)) (adds).of));
-            row_count = let b = adds in let n = ap length b.rows in let m = length-append rows.rows b.kept in let c = k.row_count in let o = count_one in
+                (all_push (IsRowedBy bases) (map (described_in cies new.rows) functions) (described_in cies new.rows function) (subst (AllByRecursion (IsRowedBy bases)) (sym same) (k.kept)) adds.of);
+            row_count = let c = k.row_count in let o = count_one in
                 let s = ap (sum_by (rows_due bases)) one_more in let t = sum_by_push (rows_due bases) (take i fdes) fde in omega arith;
             rule_count = let c = k.rule_count in let o = rules_one in
                 let s = ap (sum_by (rules_due bases)) one_more in let t = sum_by_push (rules_due bases) (take i fdes) fde in omega arith;
-            rows_fit = a.rows_fit;
-            rules_fit = a.rules_fit;
+            rows_fit = adds.rows_fit;
+            rules_fit = adds.rules_fit;
           }
 
     pub would_be_too_many : AreTooMany limits rows (length (reached_locations fde.start (end_of fde) (common_program bases fde) (own_program bases fde))) (kept_rule_count fde.start (end_of fde) (common_program bases fde) (own_program bases fde)) →
@@ -208,7 +204,7 @@ module _ (bases : Bases) (fdes : List Fde) (limits : RowLimits) (cies : List Cod
           rules_fit = omega arith;
         }
 
-    pub are_kept : AreKept fdes limits.rows limits.rules bases (record { functions = map (described_in cies rows.rows) functions; row_count = length rows.rows; rule_count = rows.rule_count })
+    pub are_kept : AreKept fdes limits.rows limits.rules bases (record { functions = map (described_in cies rows.rows) functions; row_count = rows.row_count; rule_count = rows.rule_count })
     are_kept = record {
       each = k.each ∙ whole;
       rowed = k.kept;

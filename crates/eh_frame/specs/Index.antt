@@ -1,5 +1,5 @@
 -- A prepared index of a frame table: the descriptions whose ranges aren't empty, by ascending start, each with the rows that are kept of it.
-use Rattle.std.specs.Prelude.{◌≡◌, ◌⊎◌, ℕ, ◌+◌, ◌^◌, ◌<◌, ◌≤◌, true, false, List, [], ◌∷◌, length, map, slice_index_or, slice_range, Option, Some, None, Result, Ok, Err}
+use Rattle.std.specs.Prelude.{◌≡◌, ◌⊎◌, ℕ, ◌+◌, ◌^◌, ◌<◌, ◌≤◌, true, false, List, [], ◌∷◌, length, map, slice_index_or, Option, Some, None, Result, Ok, Err}
 use Rattle.std.specs.List.{AllByRecursion, sum_by}
 use Rattle.std.specs.List.Sorted.{IsPermutation}
 use Rattle.unwind_definitions.specs.declared.error.Error.{Error as Fault}
@@ -10,7 +10,7 @@ use Rattle.unwind_definitions.specs.Pointers.{Bases}
 use Rattle.unwind_definitions.specs.Entries.{Fde, Entry, AreEntries, coding_of}
 use Rattle.unwind_definitions.specs.Row.{covers_pc}
 use Rattle.frame_rows.specs.RowValue.{RowValue}
-use Rattle.frame_rows.specs.KeptRows.{Kept, KeptRows, AreKeptOf, kept_rule_count, location_of, reached_locations}
+use Rattle.frame_rows.specs.KeptRows.{Kept, KeptRows, AreKeptOf, kept_rule_count, location_of, reached_locations, rows_from}
 use Rattle.eh_frame.specs.Listed.{HasUnreadable, SharesAddress, nonempty}
 use Rattle.eh_frame.specs.EntryViews.{fde_of}
 use Rattle.eh_frame.specs.FdeLists.{IsListedIn, fde_in}
@@ -150,24 +150,24 @@ shown_answer None = Err NoUnwindInfoForAddress
 -- ---- how an index stands in the code
 
 abbrev pub described_in : List CodeCie → List Kept → PreparedFunction → Described
-described_in cies rows f = record { fde = fde_in cies f.fde; kept = slice_range rows f.first_row f.end_row }
+described_in cies rows f = record { fde = fde_in cies f.fde; kept = rows_from f.fde.initial_address rows f.rows }
 
 abbrev pub start_of : PreparedFunction → ℕ
 start_of f = f.fde.initial_address
 
--- a function has rows, from its start on
+-- a function has rows among those of all, from its start on
 pub record HasRows (cies : List CodeCie) (rows : List Kept) (f : PreparedFunction) : Type 0 where
   pub listed : IsListedIn cies f.fde
-  pub some : f.first_row < f.end_row
-  pub within : f.end_row ≤ length rows
-  pub begun : (d : Kept) → location_of (slice_index_or rows f.first_row d) ≤ f.fde.initial_address
+  pub some : f.rows.first < f.rows.end
+  pub within : f.rows.end ≤ length rows
+  pub begun : (d : Kept) → location_of (slice_index_or rows f.rows.first d) ≡ 0
 
 pub record IsIndex (cies : List CodeCie) (starts : List ℕ) (functions : List PreparedFunction) (rows : KeptRows) : Type 0 where
   pub starts_are : starts ≡ map start_of functions
   pub some : 0 < length functions
   pub apart : AscendApart described_fde 0 (map (described_in cies rows.rows) functions)
   pub rowed : AllByRecursion (HasRows cies rows.rows) functions
-  pub rows_fit : length rows.rows < 2 ^ 32
+  pub rows_fit : rows.row_count < 2 ^ 32
   pub rules_fit : rows.rule_count < 2 ^ 32
 
 -- so many steps are taken, one at least, and no more than there are binary digits in a count

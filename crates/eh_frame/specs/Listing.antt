@@ -1,5 +1,7 @@
 -- What is left of a frame table's entries, which are read one by one.
 use Rattle.std.specs.Prelude.{ℕ, Bool, true, Option, Some, None, Result, Ok, Err, if◌then◌else◌}
+use Rattle.std.specs.Option.{option_map}
+use Rattle.memory_image.specs.Results.{result_map}
 use Rattle.unwind_definitions.specs.declared.error.Error.{Error as Fault}
 use Rattle.unwind_definitions.specs.Input.{Input}
 use Rattle.unwind_definitions.specs.Pointers.{Bases}
@@ -23,9 +25,7 @@ abbrev pub upcoming : Listing → Result (Option Found) Fault
 upcoming l = if l.is_over then Ok None else entry_at l.bases l.table l.offset
 
 abbrev pub entry_in : Result (Option Found) Fault → Result (Option Entry) Fault
-entry_in (Ok (Some found)) = Ok (Some found.entry)
-entry_in (Ok None) = Ok None
-entry_in (Err e) = Err e
+entry_in = result_map (option_map (λ found. found.entry))
 
 -- what is left after that
 abbrev pub behind : Listing → Result (Option Found) Fault → Listing

@@ -191,6 +191,7 @@ impl<'a> EhFrame<'a> {
 
     // The index of the common information entry at an offset, which is read and listed where it
     // isn't yet. `None` where it can't be read.
+    #[inline(always)]
     fn list_named(
         &self,
         offset: u64,
@@ -203,7 +204,27 @@ impl<'a> EhFrame<'a> {
             offset list.old.cies.items index list.new.cies.items) }
         ensures fdes { list.new.fdes ≡ list.old.fdes }
     {
-        if let Some(index) = list.index_of(offset) {
+        match list.recent(offset) {
+            Some(index) => Ok(Some(index)),
+            None => self.list_other(offset, bases, list),
+        }
+    }
+
+    // The same where it isn't one of the last two.
+    #[inline(never)]
+    fn list_other(
+        &self,
+        offset: u64,
+        bases: &Bases,
+        list: &mut FdeList<'a>,
+    ) -> Result<Option<usize>, AllocError>
+        requires { AllByRecursion (StandsIn (bases_of bases.now) (table_of self.now))
+            (map cie_of list.old.cies.items) }
+        ensures cie { IfOk result (λ index. ListsCie (bases_of bases.now) (table_of self.now)
+            offset list.old.cies.items index list.new.cies.items) }
+        ensures fdes { list.new.fdes ≡ list.old.fdes }
+    {
+        if let Some(index) = list.search(offset) {
             return Ok(Some(index));
         }
         match self.cie_at(offset, bases) {
@@ -365,6 +386,7 @@ fn described<'a>(found: Option<Found<'a>>) -> Result<Fde<'a>, Error>
 
 // Lists the common information entry at `offset`. `body` is what stands after its first four bytes.
 // `false` where it can't be read.
+#[inline(never)]
 fn list_cie<'a>(
     offset: u64,
     body: Cursor<'a>,

@@ -1,6 +1,6 @@
 //! Descriptions, with a list of the common information entries that they name.
 
-ghost use Rattle.std.specs.Prelude.{◌≡◌, ◌++◌, ◌∷◌, ◌<◌, [], IfOk, IfSome, OnOk, length};
+ghost use Rattle.std.specs.Prelude.{◌≡◌, ◌++◌, ◌∷◌, ◌<◌, [], IfOk, IfSome, OnOk, length, true};
 ghost use Rattle.unwind_definitions.specs.Entries.{fde_body};
 ghost use Rattle.encoded_pointers.specs.CursorViews.{at};
 ghost use Rattle.encoded_pointers.specs.PointerViews.{bases_of};
@@ -18,6 +18,9 @@ use std::alloc::{AllocError, Global};
 pub(crate) struct FdeList<'a> {
     pub(crate) cies: Vec<Cie<'a>>,
     pub(crate) fdes: Vec<PreparedFunction<'a>>,
+    /// The indexes of the last two common information entries that were found.
+    pub(crate) last: usize,
+    pub(crate) before: usize,
 }
 
 impl<'a> FdeList<'a> {
@@ -29,15 +32,68 @@ impl<'a> FdeList<'a> {
         FdeList {
             cies: Vec::new(alloc),
             fdes: Vec::new(alloc),
+            last: 0,
+            before: 0,
         }
     }
 
-    /// The index of the common information entry at an offset, where one is found. They ascend in
-    /// most tables, in which it is found if it is listed.
-    pub(crate) fn index_of(&self, offset: u64) -> Option<usize>
-        ensures { IfSome result (λ i. (i < length self.now.cies.items) ×
-            ((cie_in self.now.cies.items i).offset ≡ offset)) }
+    /// The index of the common information entry at an offset, where it is one of the last two that
+    /// were found.
+    #[inline(always)]
+    pub(crate) fn recent(&mut self, offset: u64) -> Option<usize>
+        ensures index { IfSome result (λ i. (i < length self.old.cies.items) ×
+            ((cie_in self.old.cies.items i).offset ≡ offset)) }
+        ensures cies { self.new.cies ≡ self.old.cies }
+        ensures fdes { self.new.fdes ≡ self.old.fdes }
     {
+        if self.stands_at(self.last, offset) {
+            return Some(self.last);
+        }
+        let index = self.before;
+        if !self.stands_at(index, offset) {
+            return None;
+        }
+        self.turn_to(index);
+        Some(index)
+    }
+
+    /// The same where one is found. They ascend in most tables, in which it is found if it is listed.
+    pub(crate) fn search(&mut self, offset: u64) -> Option<usize>
+        ensures index { IfSome result (λ i. (i < length self.old.cies.items) ×
+            ((cie_in self.old.cies.items i).offset ≡ offset)) }
+        ensures cies { self.new.cies ≡ self.old.cies }
+        ensures fdes { self.new.fdes ≡ self.old.fdes }
+    {
+        let index = self.cies_up_to(offset).checked_sub(1)?;
+        if !self.stands_at(index, offset) {
+            return None;
+        }
+        self.turn_to(index);
+        Some(index)
+    }
+
+    // Makes a common information entry the last that was found.
+    fn turn_to(&mut self, index: usize)
+        ensures cies { self.new.cies ≡ self.old.cies }
+        ensures fdes { self.new.fdes ≡ self.old.fdes }
+    {
+        self.before = self.last;
+        self.last = index;
+    }
+
+    // Whether a common information entry of the list is the one at an offset.
+    fn stands_at(&self, index: usize, offset: u64) -> bool
+        ensures { result ≡ true → (index < length self.now.cies.items) ×
+            ((cie_in self.now.cies.items index).offset ≡ offset) }
+    {
+        match self.cies.get(index) {
+            Some(cie) => cie.offset() == offset,
+            None => false,
+        }
+    }
+
+    // How many common information entries stand at or before an offset, where they ascend.
+    fn cies_up_to(&self, offset: u64) -> usize {
         let mut low = 0;
         let mut high = self.cies.len();
         while low < high {
@@ -48,11 +104,7 @@ impl<'a> FdeList<'a> {
                 high = middle;
             }
         }
-        if low > 0 && self.cies[low - 1].offset() == offset {
-            Some(low - 1)
-        } else {
-            None
-        }
+        low
     }
 
     /// Adds a common information entry, and answers its index.

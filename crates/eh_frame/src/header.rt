@@ -5,6 +5,7 @@ ghost use Rattle.std.specs.Option.{option_map};
 ghost use Rattle.unwind_definitions.specs.Pointers.{Bases as SpecBases, format_of};
 ghost use Rattle.unwind_definitions.specs.Header.{header, pair_at, pair_count, pair_from, table_in};
 ghost use Rattle.unwind_definitions.specs.Header.{width_of};
+ghost use Rattle.unwind_definitions.specs.PointerEncodings.{datarel_sdata4};
 ghost use Rattle.encoded_pointers.specs.Readers.{Answers, GivesOr};
 ghost use Rattle.encoded_pointers.specs.CursorViews.{at};
 ghost use Rattle.encoded_pointers.specs.PointerViews.{bases_of, pointer_of};
@@ -181,7 +182,7 @@ fn read_pair(encoding: DwEhPe, bases: &Bases, input: Cursor) -> Result<(u64, u64
 // The same by the encoding that linkers choose, relative to the header at `base`.
 fn read_relative_pair(base: u64, input: Cursor) -> Result<(u64, u64), Error>
     ensures { (bases : SpecBases) → bases.data_base ≡ Some base →
-        Answers (λ p. p) result (pair_from 0x3b bases (at input.entry)) }
+        Answers (λ p. p) result (pair_from datarel_sdata4 bases (at input.entry)) }
 {
     let mut rest = input;
     let start = i64::from(rest.read_i32()?).cast_unsigned();

@@ -29,7 +29,8 @@ impl<'a> Prepared<'a> {
         }
         let mut steps = Steps::new(NoLedger);
         for index in 0..self.len() {
-            let (start, offset) = self.place(index);
+            let (start, _) = self.range(index, &mut steps);
+            let offset = self.offset(index);
             if !is_pair(
                 table.entry(index, &mut steps),
                 start,

@@ -1,8 +1,11 @@
 //! A description whose common information entry stands in a list.
 
-ghost use Rattle.std.specs.Prelude.{◌≡◌, ◌+◌, ◌<◌, ◌^◌, IfOk, is_some};
+ghost use Rattle.std.specs.Prelude.{◌≡◌, ◌+◌, ◌<◌, ◌^◌, IfOk, Some, is_some};
 ghost use Rattle.std.specs.Option.{option_map};
 ghost use Rattle.unwind_definitions.specs.Entries.{fde_data, is_pointing, language_pointer};
+ghost use Rattle.unwind_definitions.specs.PointerEncodings.{pcrel_sdata4};
+ghost use Rattle.unwind_definitions.specs.Pointers.{Bases as SpecBases, Direct};
+ghost use Rattle.unwind_definitions.specs.Pointers.{direct, format_of, pointer, value};
 ghost use Rattle.encoded_pointers.specs.Readers.{Answers, GivesOr};
 ghost use Rattle.encoded_pointers.specs.CursorViews.{at};
 ghost use Rattle.encoded_pointers.specs.PointerViews.{bases_of, pointer_of};
@@ -14,7 +17,7 @@ use crate::cie::Cie;
 use encoded_pointers::{
     Bases, Cursor, DwEhPe, Pointer, parse_direct_pointer, parse_encoded_pointer, read_value,
 };
-use frame_rows::RowTableBuilder;
+use frame_rows::{RowRange, RowTableBuilder};
 use std::alloc::AllocError;
 use unwind_definitions::Error;
 
@@ -58,8 +61,8 @@ impl<'a> ListedFde<'a> {
     {
         let encoding = cie.start_encoding();
         let mut input = body;
-        let initial_address = parse_direct_pointer(encoding, bases, &mut input)?;
-        let len = read_value(encoding, &mut input)?;
+        let initial_address = read_start(encoding, bases, &mut input)?;
+        let len = read_len(encoding, &mut input)?;
         if len > u64::MAX - initial_address {
             return Err(Error::AddressOverflow);
         }
@@ -81,15 +84,17 @@ impl<'a> ListedFde<'a> {
         self.initial_address + self.len
     }
 
-    /// Adds the function's rows to those of others. `false` where they would be too many. `cie` is
-    /// the common information entry, and `run` says whether its program was run before.
+    /// Adds the function's rows to those of others, and answers which they are: `None` where they
+    /// would be too many. `cie` is the common information entry, and `run` says whether its program
+    /// was run before.
+    #[inline(always)]
     pub(crate) fn add_rows(
         &self,
         cie: &Cie<'a>,
         run: CommonRun,
         bases: &Bases,
         rows: &mut RowTableBuilder<'a>,
-    ) -> Result<bool, AllocError>
+    ) -> Result<Option<RowRange>, AllocError>
         requires some { 0 < self.now.len }
         requires begun { WasBegun run rows.old
             (common_program (bases_of bases.now) (fde_with (cie_of cie.now) self.now)) }
@@ -116,8 +121,52 @@ impl<'a> ListedFde<'a> {
     }
 }
 
+// Where a function starts. After a fault the cursor is unspecified.
+#[inline(always)]
+fn read_start(encoding: DwEhPe, bases: &Bases, input: &mut Cursor) -> Result<u64, Error>
+    ensures { GivesOr (λ x. x) result (direct encoding.0 (bases_of bases.now) (at input.old))
+        (at input.new) }
+{
+    if encoding == DwEhPe::RELATIVE_SDATA4 {
+        return read_relative(input);
+    }
+    // a copy is read, so that a cursor by which none is needed can stay in registers
+    let mut rest = *input;
+    let start = parse_direct_pointer(encoding, bases, &mut rest)?;
+    *input = rest;
+    Ok(start)
+}
+
+// How many bytes a function has. After a fault the cursor is unspecified.
+#[inline(always)]
+fn read_len(encoding: DwEhPe, input: &mut Cursor) -> Result<u64, Error>
+    ensures { GivesOr (λ x. x) result (value (format_of encoding.0) (at input.old)) (at input.new) }
+{
+    if encoding == DwEhPe::RELATIVE_SDATA4 {
+        return Ok(i64::from(input.read_i32()?).cast_unsigned());
+    }
+    let mut rest = *input;
+    let len = read_value(encoding, &mut rest)?;
+    *input = rest;
+    Ok(len)
+}
+
+// An address by the encoding that compilers choose: four signed bytes, relative to their place.
+#[inline(always)]
+fn read_relative(input: &mut Cursor) -> Result<u64, Error>
+    ensures direct { (bases : SpecBases) →
+        GivesOr (λ x. x) result (direct pcrel_sdata4 bases (at input.old)) (at input.new) }
+    ensures pointer { (bases : SpecBases) →
+        GivesOr Direct result (pointer pcrel_sdata4 bases (at input.old)) (at input.new) }
+{
+    let place = input.address();
+    let distance = i64::from(input.read_i32()?).cast_unsigned();
+    Ok(place.wrapping_add(distance))
+}
+
 // The bytes of an augmentation, where there is one: their number, and so many, with the pointer
 // to the language table of the function at `start`. After a fault the cursor is unspecified.
+#[inline(always)]
 fn read_augmentation_data(
     cie: &Cie,
     bases: &Bases,
@@ -139,6 +188,7 @@ fn read_augmentation_data(
 
 // The pointer to the language table of the function at `start`, `None` where the augmentation has
 // no `L` or its encoding says that there is none.
+#[inline(always)]
 fn read_language_pointer(
     encoding: Option<DwEhPe>,
     bases: &Bases,
@@ -152,13 +202,50 @@ fn read_language_pointer(
 {
     match encoding {
         Some(encoding) if !encoding.is_absent() => {
-            let bases = Bases {
-                func: Some(start),
-                ..*bases
-            };
             let mut input = block;
-            Ok(Some(parse_encoded_pointer(encoding, &bases, &mut input)?))
+            Ok(Some(read_pointer(encoding, bases, start, &mut input)?))
         }
         _ => Ok(None),
     }
+}
+
+// A pointer, which may be relative to the function at `start`. After a fault the cursor is
+// unspecified.
+#[inline(always)]
+fn read_pointer(
+    encoding: DwEhPe,
+    bases: &Bases,
+    start: u64,
+    input: &mut Cursor,
+) -> Result<Pointer, Error>
+    ensures { GivesOr pointer_of result
+        (pointer encoding.0 (record (bases_of bases.now) { func = Some start }) (at input.old))
+        (at input.new) }
+{
+    if encoding == DwEhPe::RELATIVE_SDATA4 {
+        return Ok(Pointer::Direct(read_relative(input)?));
+    }
+    let mut rest = *input;
+    let pointer = read_any_pointer(encoding, bases, start, &mut rest)?;
+    *input = rest;
+    Ok(pointer)
+}
+
+// The same by the general reader.
+#[inline(never)]
+fn read_any_pointer(
+    encoding: DwEhPe,
+    bases: &Bases,
+    start: u64,
+    input: &mut Cursor,
+) -> Result<Pointer, Error>
+    ensures { GivesOr pointer_of result
+        (pointer encoding.0 (record (bases_of bases.now) { func = Some start }) (at input.old))
+        (at input.new) }
+{
+    let bases = Bases {
+        func: Some(start),
+        ..*bases
+    };
+    parse_encoded_pointer(encoding, &bases, input)
 }

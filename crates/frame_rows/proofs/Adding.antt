@@ -1,10 +1,9 @@
 -- A description's rows are added to a table, one location after another.
-use Rattle.std.proofs.Common.{◌≡◌, ℕ, ◌+◌, ◌<◌, ◌≤◌, Bool, cond, true, false, List, [], ◌∷◌, ◌++◌, length, map, Option, Some, None, Result, Ok, Err, refl, sym, ap, ◌∙◌, subst, inl, inr, arith, append_assoc, length-append}
-use Rattle.std.specs.Prelude.{is_some}
+use Rattle.std.proofs.Common.{◌≡◌, ℕ, ◌+◌, ◌-◌, ◌<◌, ◌≤◌, cond, true, false, List, [], ◌∷◌, ◌++◌, length, map, Option, Some, None, Result, Ok, Err, refl, sym, ap, ◌∙◌, subst, inl, inr, arith, append_assoc, length-append}
+use Rattle.std.specs.Prelude.{is_some, slice_range}
 use Rattle.std.specs.List.{AllByRecursion}
 use Rattle.std.proofs.lemmas.Bool.{lt-ltb, le-ltb}
 use Rattle.std.proofs.lemmas.List.{append-nil, map-append, length-map}
-use Rattle.std.specs.declared.alloc.AllocError.{AllocError}
 use Rattle.unwind_definitions.specs.declared.error.Error.{Error as Fault}
 use Rattle.unwind_definitions.specs.Instructions.{Program}
 use Rattle.unwind_definitions.specs.Row.{RowInstructions, location, from_common, row, up_to}
@@ -12,13 +11,15 @@ use Rattle.frame_rows.specs.RowValue.{RowValue}
 use Rattle.frame_rows.specs.Rows.{GivesRow, IsLast}
 use Rattle.frame_rows.specs.Movable.{IsMovable, IsRelative}
 use Rattle.frame_rows.specs.Running.{push, outcome}
-use Rattle.frame_rows.specs.KeptRows.{Kept, KeptRows, Adds, AreRows, AreTooMany, IsAdded, Ascends, answer_rule_count, kept_rule_count, location_of, locations_after, reached_locations, rule_count_at, rule_count_of, then_location}
+use Rattle.frame_rows.specs.KeptRows.{Kept, KeptRows, AreKeptOf, AreRows, AreTooMany, IsAdded, Ascends, answer_rule_count, kept_rule_count, location_of, locations_after, placed, reached_locations, rule_count_at, rule_count_of, then_location}
 use Rattle.frame_rows.specs.Stretches.{EndsStretch, IsLastStretch, IsStretch, IsFaultyStretch}
-use Rattle.frame_rows.specs.TableRows.{IsPushed, Pushes, Keeps}
+use Rattle.frame_rows.specs.TableRows.{IsPushed, Keeps}
 use Rattle.frame_rows.specs.declared.machine.Machine.{Machine}
 use Rattle.frame_rows.specs.declared.row_table.RowLimits.{RowLimits}
+use Rattle.frame_rows.specs.declared.row_table.RowRange.{RowRange}
 use Rattle.frame_rows.proofs.Columns.{count_ruled}
 use Rattle.frame_rows.proofs.Moved.{whole_part}
+use Rattle.frame_rows.proofs.Parts.{part_added}
 use Rattle.frame_rows.proofs.StretchSteps.{location_pushed}
 use Rattle.frame_rows.proofs.Together.{common_fine, common_bad, common_stops, own_run, own_stops, row_made}
 
@@ -47,35 +48,80 @@ module _ (start end : ℕ) (common own : Program) (old : KeptRows) where
   abbrev pub due_at : ℕ → Result RowInstructions Fault
   due_at pc = row start pc common own
 
+  -- what is kept at distances, from the start
+  abbrev pub done : List Kept → List Kept
+  done by = map (placed start) by
+
   -- so many locations are done, and from one on so many instructions are left
   pub record IsAdding (here : ℕ) (now : RowInstructions) (q : Program) (table : KeptRows) : Type 0 where
-    pub done : List Kept
+    pub by : List Kept
     pub stands : here ≡ location start now.own
+    pub ahead : start ≤ here
     pub below : here < end
-    pub listed : map location_of done ++ here ∷ locations_after start end now q.instructions ≡ reached_locations start end common own
+    pub listed : map location_of (done by) ++ here ∷ locations_after start end now q.instructions ≡ reached_locations start end common own
     pub stays : (pc : ℕ) → here ≤ pc → outcome start (Some pc) (from_common common.instructions) own ≡ outcome start (Some pc) now q
-    pub rows : AreRows due_at here done
-    pub kept : table.rows ≡ old.rows ++ done
-    pub counted : table.rule_count ≡ old.rule_count + rule_count_at due_at (map location_of done)
+    pub rows : AreRows due_at here (done by)
+    pub kept : table.rows ≡ old.rows ++ by
+    pub row_count : table.row_count ≡ old.row_count + length by
+    pub counted : table.rule_count ≡ old.rule_count + rule_count_at due_at (map location_of (done by))
 
   -- A program was run to its end, and a table has what is kept of it: for locations behind its range, too.
   pub record IsKeptWhole (here : ℕ) (new : KeptRows) : Type 0 where
-    pub kept : List Kept
-    pub locations : map location_of kept ≡ reached_locations start end common own
-    pub rows : (bound : ℕ) → here < bound → AreRows due_at bound kept
-    pub stand : new.rows ≡ old.rows ++ kept
+    pub by : List Kept
+    pub locations : map location_of (done by) ≡ reached_locations start end common own
+    pub rows : (bound : ℕ) → here < bound → AreRows due_at bound (done by)
+    pub stand : new.rows ≡ old.rows ++ by
     pub counted : new.rule_count ≡ old.rule_count + kept_rule_count start end common own
     pub last : IsMovable own → location start own.instructions ≡ here
 
+  -- what is kept of the description stands behind the rest, within limits
+  pub record IsAppended (limits : RowLimits) (new : KeptRows) : Type 0 where
+    pub by : List Kept
+    pub of : AreKeptOf start end common own (done by)
+    pub rows : new.rows ≡ old.rows ++ by
+    pub row_count : new.row_count ≡ old.row_count + length by
+    pub rule_count : new.rule_count ≡ old.rule_count + kept_rule_count start end common own
+    pub rows_fit : new.row_count ≤ limits.rows
+    pub rules_fit : new.rule_count ≤ limits.rules
+
+  as_many_kept : (by : List Kept) → map location_of (done by) ≡ reached_locations start end common own → length by ≡ length (reached_locations start end common own)
+  as_many_kept by all =
+      let n = ap length all in
+      let m = length-map (done by) location_of in
+      let k = length-map by (placed start) in
+      omega arith
+
+  -- it is added: from the first index behind the rest on
+  pub ranged : (limits : RowLimits) (range : RowRange) (new : KeptRows) → range.first ≡ length old.rows → range.end ≡ length new.rows → IsAppended limits new → IsAdded limits start end common own old range new
+  ranged limits range new first last a =
+      let part : slice_range new.rows range.first range.end ≡ a.by =
+      ap (λ i. slice_range new.rows i range.end) first ∙ ap (λ j. slice_range new.rows (length old.rows) j) last
+      ∙ ap (λ (l : List Kept). slice_range l (length old.rows) (length l)) a.rows ∙ part_added old.rows a.by in
+      let many = as_many_kept a.by a.of.locations in
+      let n = ap length a.rows in
+      let m = length-append old.rows a.by in
+      record {
+        of = subst (λ (ks : List Kept). AreKeptOf start end common own (done ks)) (sym part) a.of;
+        some = omega arith;
+        within = omega arith;
+        longer = record { more = a.by; grown = a.rows };
+        row_count = a.row_count ∙ ap (λ n. old.row_count + n) many;
+        rule_count = a.rule_count;
+        rows_fit = a.rows_fit;
+        rules_fit = a.rules_fit;
+      }
+
   pub begin : (run : RowInstructions) → start < end → outcome 0 None (from_common []) common ≡ Ok run → IsAdding start (from_common common.instructions) own old
   begin run some ran = record {
-    done = [];
+    by = [];
     stands = refl;
+    ahead = omega arith;
     below = some;
     listed = ap (λ o. start ∷ cond (is_some o) [] (locations_after start end (from_common common.instructions) own.instructions)) (sym (common_fine common run ran));
     stays = λ pc le. refl;
     rows = tt;
     kept = sym (append-nil old.rows);
+    row_count = omega arith;
     counted = omega arith;
   }
 
@@ -100,32 +146,48 @@ module _ (start end : ℕ) (common own : Program) (old : KeptRows) where
 
   module _ (here : ℕ) (now : RowInstructions) (q : Program) (table : KeptRows) (a : IsAdding here now q table) (limits : RowLimits) (answer : Result RowValue Fault) (many : answer_rule_count answer ≡ rule_count_of (due_at here)) where
     abbrev one : List Kept
-    one = record { location = here; answer = answer } ∷ []
+    one = keeps (here - start) answer ∷ []
 
-    locations_one : map location_of (a.done ++ one) ≡ map location_of a.done ++ here ∷ []
-    locations_one = map-append location_of a.done one
+    placed_one : done (a.by ++ one) ≡ done a.by ++ keeps here answer ∷ []
+    placed_one =
+        let there : start + (here - start) ≡ here = let h = a.ahead in omega arith in
+        map-append (placed start) a.by one ∙ ap (λ n. done a.by ++ keeps n answer ∷ []) there
 
-    counted_one : (new : KeptRows) → IsPushed limits here answer (answer_rule_count answer) table new → new.rule_count ≡ old.rule_count + rule_count_at due_at (map location_of (a.done ++ one))
+    locations_one : map location_of (done (a.by ++ one)) ≡ map location_of (done a.by) ++ here ∷ []
+    locations_one = ap (map location_of) placed_one ∙ map-append location_of (done a.by) (keeps here answer ∷ [])
+
+    rows_one : (bound : ℕ) → ((pc : ℕ) → here ≤ pc → pc < bound → GivesRow answer (due_at pc)) → AreRows due_at bound (done (a.by ++ one))
+    rows_one bound gives = subst (AreRows due_at bound) (sym placed_one) (rows_push due_at (done a.by) here bound answer a.rows gives)
+
+    counted_one : (new : KeptRows) → IsPushed limits (here - start) answer (answer_rule_count answer) table new → new.rule_count ≡ old.rule_count + rule_count_at due_at (map location_of (done (a.by ++ one)))
     counted_one new p =
         let before = a.counted in
         let now = p.rule_count in
-        let more = count_append due_at (map location_of a.done) (here ∷ []) in
+        let more = count_append due_at (map location_of (done a.by)) (here ∷ []) in
         let same = ap (rule_count_at due_at) locations_one in
         let one = count_one due_at here in
         omega arith
 
-    kept_one : (new : KeptRows) → IsPushed limits here answer (answer_rule_count answer) table new → new.rows ≡ old.rows ++ (a.done ++ one)
-    kept_one new p = p.rows ∙ ap (λ l. l ++ one) a.kept ∙ append_assoc old.rows a.done one
+    kept_one : (new : KeptRows) → IsPushed limits (here - start) answer (answer_rule_count answer) table new → new.rows ≡ old.rows ++ (a.by ++ one)
+    kept_one new p = p.rows ∙ ap (λ l. l ++ one) a.kept ∙ append_assoc old.rows a.by one
+
+    row_count_one : (new : KeptRows) → IsPushed limits (here - start) answer (answer_rule_count answer) table new → new.row_count ≡ old.row_count + length (a.by ++ one)
+    row_count_one new p =
+        let before = a.row_count in
+        let now = p.row_count in
+        let n = length-append a.by one in
+        omega arith
 
     -- it is the last
-    pub added : (new : KeptRows) → ((pc : ℕ) → here ≤ pc → pc < end → GivesRow answer (due_at pc)) → locations_after start end now q.instructions ≡ [] → IsPushed limits here answer (answer_rule_count answer) table new → IsAdded limits start end common own old new
+    pub added : (new : KeptRows) → ((pc : ℕ) → here ≤ pc → pc < end → GivesRow answer (due_at pc)) → locations_after start end now q.instructions ≡ [] → IsPushed limits (here - start) answer (answer_rule_count answer) table new → IsAppended limits new
     added new gives none p =
-        let all : map location_of (a.done ++ one) ≡ reached_locations start end common own =
-        locations_one ∙ ap (λ ls. map location_of a.done ++ here ∷ ls) (sym none) ∙ a.listed in
+        let all : map location_of (done (a.by ++ one)) ≡ reached_locations start end common own =
+        locations_one ∙ ap (λ ls. map location_of (done a.by) ++ here ∷ ls) (sym none) ∙ a.listed in
         record {
-          kept = a.done ++ one;
-          of = record { locations = all; rows = rows_push due_at a.done here end answer a.rows gives };
+          by = a.by ++ one;
+          of = record { locations = all; rows = rows_one end gives };
           rows = kept_one new p;
+          row_count = row_count_one new p;
           rule_count = counted_one new p ∙ ap (λ ls. old.rule_count + rule_count_at due_at ls) all;
           rows_fit = p.rows_fit;
           rules_fit = p.rules_fit;
@@ -135,24 +197,27 @@ module _ (start end : ℕ) (common own : Program) (old : KeptRows) where
     none_left next here' ls ahead past = rw (lt-ltb here' next ahead, le-ltb next end past) refl
 
     -- an instruction leads out of the range
-    pub added_past : (next : ℕ) (new : KeptRows) (m : Machine) (rest : Program) → IsStretch start now q next m rest → end ≤ next → ((pc : ℕ) → here ≤ pc → pc < end → GivesRow answer (due_at pc)) → IsPushed limits here answer (answer_rule_count answer) table new → IsAdded limits start end common own old new
+    pub added_past : (next : ℕ) (new : KeptRows) (m : Machine) (rest : Program) → IsStretch start now q next m rest → end ≤ next → ((pc : ℕ) → here ≤ pc → pc < end → GivesRow answer (due_at pc)) → IsPushed limits (here - start) answer (answer_rule_count answer) table new → IsAppended limits new
     added_past next new m rest st past gives p = added new gives (st.more end ∙ none_left next (location start now.own) _ st.ahead past) p
 
     -- an instruction leads on
-    pub goes_on : (next : ℕ) (new : KeptRows) (m : Machine) (rest : Program) (st : IsStretch start now q next m rest) → next < end → ((pc : ℕ) → here ≤ pc → pc < next → GivesRow answer (due_at pc)) → IsPushed limits here answer (answer_rule_count answer) table new → IsAdding next (push st.now st.by) rest new
+    pub goes_on : (next : ℕ) (new : KeptRows) (m : Machine) (rest : Program) (st : IsStretch start now q next m rest) → next < end → ((pc : ℕ) → here ≤ pc → pc < next → GivesRow answer (due_at pc)) → IsPushed limits (here - start) answer (answer_rule_count answer) table new → IsAdding next (push st.now st.by) rest new
     goes_on next new m rest st inside gives p =
         let h = a.stands in
         let ahead = st.ahead in
+        let first = a.ahead in
         record {
-          done = a.done ++ one;
+          by = a.by ++ one;
           stands = sym st.leads ∙ sym (location_pushed start st.now st.by);
+          ahead = omega arith;
           below = inside;
           listed = ap (λ ls. ls ++ next ∷ locations_after start end (push st.now st.by) rest.instructions) locations_one
-              ∙ append_assoc (map location_of a.done) (here ∷ []) (next ∷ locations_after start end (push st.now st.by) rest.instructions)
-              ∙ ap (λ ls. map location_of a.done ++ here ∷ ls) (sym (st.more end ∙ one_left)) ∙ a.listed;
+              ∙ append_assoc (map location_of (done a.by)) (here ∷ []) (next ∷ locations_after start end (push st.now st.by) rest.instructions)
+              ∙ ap (λ ls. map location_of (done a.by) ++ here ∷ ls) (sym (st.more end ∙ one_left)) ∙ a.listed;
           stays = λ pc le. a.stays pc (omega arith) ∙ st.goes_on pc le;
-          rows = rows_push due_at a.done here next answer a.rows gives;
+          rows = rows_one next gives;
           kept = kept_one new p;
+          row_count = row_count_one new p;
           counted = counted_one new p;
         }
       where
@@ -163,12 +228,12 @@ module _ (start end : ℕ) (common own : Program) (old : KeptRows) where
     pub too_many : AreTooMany limits table 1 (answer_rule_count answer) → AreTooMany limits old (length (reached_locations start end common own)) (kept_rule_count start end common own)
     too_many more =
         let all = ap length a.listed in
-        let n = length-append (map location_of a.done) (here ∷ locations_after start end now q.instructions) in
-        let m = length-map a.done location_of in
-        let k = ap length a.kept in
-        let l = length-append old.rows a.done in
+        let n = length-append (map location_of (done a.by)) (here ∷ locations_after start end now q.instructions) in
+        let m = length-map (done a.by) location_of in
+        let l = length-map a.by (placed start) in
+        let k = a.row_count in
         let rules = ap (rule_count_at due_at) a.listed in
-        let r = count_append due_at (map location_of a.done) (here ∷ locations_after start end now q.instructions) in
+        let r = count_append due_at (map location_of (done a.by)) (here ∷ locations_after start end now q.instructions) in
         let c = a.counted in
         elim more [ inl rows ↦ inl (omega arith) | inr more_rules ↦ inr (omega arith) ]
 
@@ -178,7 +243,7 @@ module _ (start end : ℕ) (common own : Program) (old : KeptRows) where
     here_at : (answer : Result RowValue Fault) (bound : ℕ) → here < bound → ((pc : ℕ) → here ≤ pc → pc < bound → GivesRow answer (due_at pc)) → Ascends answer → answer_rule_count answer ≡ rule_count_of (due_at here)
     here_at answer bound below gives asc = as_many_rules answer (due_at here) (gives here (omega arith) below) asc
 
-    pub kept_too_many : (next : Result (Option ℕ) Fault) → EndsStretch start now q next m rest → Keeps limits here next m table (Ok false) new → AreTooMany limits old (length (reached_locations start end common own)) (kept_rule_count start end common own)
+    pub kept_too_many : (next : Result (Option ℕ) Fault) → EndsStretch start now q next m rest → Keeps limits (here - start) next m table (Ok false) new → AreTooMany limits old (length (reached_locations start end common own)) (kept_rule_count start end common own)
     kept_too_many (Ok None) st k =
         let gives = due_last run ran here now q table a m k.0 st (k.1 start st.now st.represents) in
         too_many here now q table a limits k.0 (here_at k.0 end a.below gives k.2.ascends) k.2.pushes
@@ -190,40 +255,40 @@ module _ (start end : ℕ) (common own : Program) (old : KeptRows) where
         let gives = due_fault run ran here now q table a e st in
         too_many here now q table a limits (Err e) (here_at (Err e) end a.below gives tt) k.pushes
 
-    pub kept_at_end : EndsStretch start now q (Ok None) m rest → Keeps limits here (Ok None) m table (Ok true) new → IsAdded limits start end common own old new
+    pub kept_at_end : EndsStretch start now q (Ok None) m rest → Keeps limits (here - start) (Ok None) m table (Ok true) new → IsAppended limits new
     kept_at_end st k =
         let gives = due_last run ran here now q table a m k.0 st (k.1 start st.now st.represents) in
         added here now q table a limits k.0 (here_at k.0 end a.below gives k.2.ascends) new gives (st.no_more end) k.2.pushes
 
-    pub kept_fault : (e : Fault) → EndsStretch start now q (Err e) m rest → Keeps limits here (Err e) m table (Ok true) new → IsAdded limits start end common own old new
+    pub kept_fault : (e : Fault) → EndsStretch start now q (Err e) m rest → Keeps limits (here - start) (Err e) m table (Ok true) new → IsAppended limits new
     kept_fault e st k =
         let gives = due_fault run ran here now q table a e st in
         added here now q table a limits (Err e) (here_at (Err e) end a.below gives tt) new gives (st.no_more end) k.pushes
 
-    module _ (next : ℕ) (st : IsStretch start now q next m rest) (k : Keeps limits here (Ok (Some next)) m table (Ok true) new) where
+    module _ (next : ℕ) (st : IsStretch start now q next m rest) (k : Keeps limits (here - start) (Ok (Some next)) m table (Ok true) new) where
       abbrev gives_up_to : (pc : ℕ) → here ≤ pc → pc < next → GivesRow k.0 (due_at pc)
       gives_up_to = due_up_to run ran here now q table a next m rest k.0 st (k.1 start st.now st.represents)
 
       as_many : answer_rule_count k.0 ≡ rule_count_of (due_at here)
       as_many = let h = a.stands in let ahead = st.ahead in here_at k.0 next (omega arith) gives_up_to k.2.ascends
 
-      pub kept_past : end ≤ next → IsAdded limits start end common own old new
+      pub kept_past : end ≤ next → IsAppended limits new
       kept_past past = added_past here now q table a limits k.0 as_many next new m rest st past (λ pc le lt. gives_up_to pc le (omega arith)) k.2.pushes
 
       pub kept_on : next < end → IsAdding next (push st.now st.by) rest new
       kept_on inside = goes_on here now q table a limits k.0 as_many next new m rest st inside gives_up_to k.2.pushes
 
     -- the program was run to its end: what is kept stays for locations behind the range
-    pub kept_whole : (st : IsLastStretch start now q m) → Keeps limits here (Ok None) m table (Ok true) new → IsKeptWhole here new
+    pub kept_whole : (st : IsLastStretch start now q m) → Keeps limits (here - start) (Ok None) m table (Ok true) new → IsKeptWhole here new
     kept_whole st k =
         let h = a.stands in
         let gives = due_last run ran here now q table a m k.0 st (k.1 start st.now st.represents) in
         let many = here_at k.0 end a.below gives k.2.ascends in
-        let all = locations_one here now q table a limits k.0 many ∙ ap (λ ls. map location_of a.done ++ here ∷ ls) (sym (st.no_more end)) ∙ a.listed in
+        let all = locations_one here now q table a limits k.0 many ∙ ap (λ ls. map location_of (done a.by) ++ here ∷ ls) (sym (st.no_more end)) ∙ a.listed in
         record {
-          kept = a.done ++ record { location = here; answer = k.0 } ∷ [];
+          by = a.by ++ keeps (here - start) k.0 ∷ [];
           locations = all;
-          rows = λ bound past. rows_push due_at a.done here bound k.0 a.rows (λ pc le lt. given run ran here now q table a pc st.now k.0 le (st.stays pc (omega arith)) (k.1 start st.now st.represents));
+          rows = λ bound past. rows_one here now q table a limits k.0 many bound (λ pc le lt. given run ran here now q table a pc st.now k.0 le (st.stays pc (omega arith)) (k.1 start st.now st.represents));
           stand = kept_one here now q table a limits k.0 many new k.2.pushes;
           counted = counted_one here now q table a limits k.0 many new k.2.pushes ∙ ap (λ ls. old.rule_count + rule_count_at due_at ls) all;
           last = λ movable. last_location st movable.each;
@@ -246,13 +311,15 @@ module _ (start end : ℕ) (common own : Program) (old : KeptRows) where
     none_due : kept_rule_count start end common own ≡ 0
     none_due = ap (rule_count_at due_at) only_start ∙ ap (λ d. rule_count_of d + 0) (common_stops start start common own e bad)
 
-    pub added_fault : (new : KeptRows) → IsPushed limits start (Err e) 0 old new → IsAdded limits start end common own old new
+    pub added_fault : (new : KeptRows) → IsPushed limits 0 (Err e) 0 old new → IsAppended limits new
     added_fault new p =
-        let n = none_due in let c = p.rule_count in
+        let n = none_due in let c = p.rule_count in let r = p.row_count in
+        let there : start + 0 ≡ start = omega arith in
         record {
-          kept = record { location = start; answer = Err e } ∷ [];
-          of = record { locations = sym only_start; rows = (λ pc le lt. common_stops start pc common own e bad, tt) };
+          by = keeps 0 (Err e) ∷ [];
+          of = record { locations = ap (λ n. n ∷ []) there ∙ sym only_start; rows = (λ pc le lt. common_stops start pc common own e bad, tt) };
           rows = p.rows;
+          row_count = omega arith;
           rule_count = omega arith;
           rows_fit = p.rows_fit;
           rules_fit = p.rules_fit;
@@ -262,8 +329,3 @@ module _ (start end : ℕ) (common own : Program) (old : KeptRows) where
     too_many_fault more =
         let n = none_due in let l = ap length only_start in
         elim more [ inl rows ↦ inl (omega arith) | inr rules ↦ inr (omega arith) ]
-
-    pub adds_fault : (r : Result Bool AllocError) (new : KeptRows) → Pushes limits start (Err e) 0 old r new → Adds limits start end common own old r new
-    adds_fault (Ok true) new p = added_fault new p
-    adds_fault (Ok false) new p = too_many_fault p
-    adds_fault (Err f) new p = tt

@@ -6,6 +6,8 @@ mod CannotFollow
 mod Reading
 mod Together
 mod StretchSteps
+mod Ends
+mod Parts
 mod Adding
 mod BodiesGrow
 mod Growing
@@ -13,5 +15,4 @@ mod LookedUp
 mod ByBytes
 mod Moved
 mod Serving
-mod Repeated
 mod Moving

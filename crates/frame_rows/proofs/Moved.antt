@@ -9,9 +9,8 @@ use Rattle.unwind_definitions.specs.declared.error.Error.TheVariants.{AddressOve
 use Rattle.unwind_definitions.specs.Instructions.{Instruction, Nop, Remember, Restore, Advance, SetLocation, Write, Reset, Cfa, CfaColumn, CfaOffset, CfaExpression, Arguments, Program}
 use Rattle.unwind_definitions.specs.Row.{RowInstructions, fault_of, fault_where, first_fault, location, up_to, or_else, common_fault, from_common, cfa_rule, row, row_of}
 use Rattle.frame_rows.specs.Movable.{IsRelative, IsMovable}
-use Rattle.frame_rows.specs.KeptRows.{Kept, AreRows, first_location, location_of, locations_after, then_location, reached_locations, rule_count_at, rule_count_of}
+use Rattle.frame_rows.specs.KeptRows.{Kept, AreRows, first_location, location_of, locations_after, placed, then_location, reached_locations, rule_count_at, rule_count_of}
 use Rattle.frame_rows.specs.Rows.{GivesRow}
-use Rattle.frame_rows.specs.KnownRows.{placed}
 use Rattle.frame_rows.specs.Running.{push, stops}
 use Rattle.frame_rows.proofs.Pushed.{lead, location_one, location-push}
 use Rattle.frame_rows.proofs.Reading.{up_to_is}
@@ -285,29 +284,19 @@ count_moved due due' s t (d ∷ ds) same =
 
 -- ---- what is kept
 
--- what is kept of a start stands at distances from it
-pub record AtDistances (s : ℕ) (kept : List Kept) (ds : List ℕ) : Type 0 where
-  pub by : List Kept
-  pub at : map location_of by ≡ ds
-  pub all : kept ≡ map (placed s) by
-
-pub at_distances : (s : ℕ) (kept : List Kept) (ds : List ℕ) → map location_of kept ≡ map (from s) ds → AtDistances s kept ds
-at_distances s [] [] same = record { by = []; at = refl; all = refl }
-at_distances s [] (d ∷ ds) same = absurd cc
-at_distances s (k ∷ ks) [] same = absurd cc
-at_distances s (k ∷ ks) (d ∷ ds) same =
-    let first : k.location ≡ s + d = cc in
-    let later : map location_of ks ≡ map (from s) ds = cc in
-    let rest = at_distances s ks ds later in
-    record {
-      by = record { location = d; answer = k.answer } ∷ rest.by;
-      at = ap (λ l. d ∷ l) rest.at;
-      all = ap (λ l. k ∷ l) rest.all ∙ ap (λ n. let r : Kept = record { location = n; answer = k.answer } in r ∷ map (placed s) rest.by) first;
-    }
-
 pub placed_locations : (s : ℕ) (by : List Kept) → map location_of (map (placed s) by) ≡ map (from s) (map location_of by)
 placed_locations s [] = refl
 placed_locations s (k ∷ ks) = ap (λ l. (s + k.location) ∷ l) (placed_locations s ks)
+
+pub from_injective : (s : ℕ) (ds es : List ℕ) → map (from s) ds ≡ map (from s) es → ds ≡ es
+from_injective s [] [] same = refl
+from_injective s [] (e ∷ es) same = absurd cc
+from_injective s (d ∷ ds) [] same = absurd cc
+from_injective s (d ∷ ds) (e ∷ es) same =
+    let sums : s + d ≡ s + e = cc in
+    let first : d ≡ e = omega arith in
+    let later : map (from s) ds ≡ map (from s) es = cc in
+    ap (λ n. n ∷ ds) first ∙ ap (λ l. e ∷ l) (from_injective s ds es later)
 
 first_placed : (s d : ℕ) (by : List Kept) → first_location (s + d) (map (placed s) by) ≡ s + first_location d by
 first_placed s d [] = refl

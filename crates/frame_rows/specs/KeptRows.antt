@@ -1,5 +1,5 @@
 -- The rows that are kept of a description: one for each location that its program reaches. DWARF 5 section 6.4.1.
-use Rattle.std.specs.Prelude.{◌≡◌, ℕ, ◌+◌, ◌<◌, ◌≤◌, ◌⊎◌, Bool, true, false, List, [], ◌∷◌, ◌++◌, length, map, Result, Ok, Err, is_some, nat_lt, if◌then◌else◌}
+use Rattle.std.specs.Prelude.{◌≡◌, ℕ, ◌+◌, ◌<◌, ◌≤◌, ◌⊎◌, List, [], ◌∷◌, ◌++◌, length, map, slice_range, Option, Some, None, Result, Ok, Err, is_some, nat_lt, if◌then◌else◌}
 use Rattle.unwind_definitions.specs.declared.error.Error.{Error as Fault}
 use Rattle.unwind_definitions.specs.Instructions.{Instruction, Program}
 use Rattle.unwind_definitions.specs.Row.{RowInstructions, location, fault_of, common_fault, from_common, columns_with_rules, row}
@@ -8,16 +8,26 @@ use Rattle.frame_rows.specs.Rows.{GivesRow}
 use Rattle.frame_rows.specs.Rules.{AscendsFrom}
 use Rattle.std.specs.declared.alloc.AllocError.{AllocError}
 use Rattle.frame_rows.specs.declared.row_table.RowLimits.{RowLimits}
+use Rattle.frame_rows.specs.declared.row_table.RowRange.{RowRange}
 
 -- what holds from a location on: a row, or a fault
 pub record Kept : Type 0 where
   pub location : ℕ
   pub answer : Result RowValue Fault
 
--- what is kept of several descriptions, and how many rules of registers it has
+-- What is kept of several descriptions, at distances from their starts, where some may share rows. How many rows they have together, and how many rules of registers these have.
 pub record KeptRows : Type 0 where
   pub rows : List Kept
+  pub row_count : ℕ
   pub rule_count : ℕ
+
+-- what is kept at a distance, from a start
+abbrev pub placed : ℕ → Kept → Kept
+placed start k = record { location = start + k.location; answer = k.answer }
+
+-- the rows of a description that starts somewhere, among those of all
+abbrev pub rows_from : ℕ → List Kept → RowRange → List Kept
+rows_from start rows range = map (placed start) (slice_range rows range.first range.end)
 
 -- ---- locations
 
@@ -80,21 +90,28 @@ abbrev pub Ascends : Result RowValue Fault → Type 0
 Ascends (Ok row) = AscendsFrom 0 row.rules
 Ascends (Err e) = Unit {0}
 
--- a description's rows are added, within limits
-pub record IsAdded (limits : RowLimits) (start end : ℕ) (common own : Program) (old new : KeptRows) : Type 0 where
-  pub kept : List Kept
-  pub of : AreKeptOf start end common own kept
-  pub rows : new.rows ≡ old.rows ++ kept
+-- what stands in a table stays, and more may follow
+pub record IsLonger (old new : List Kept) : Type 0 where
+  pub more : List Kept
+  pub grown : new ≡ old ++ more
+
+-- A description's rows stand in a table, to which they may be added, and are counted, within limits.
+pub record IsAdded (limits : RowLimits) (start end : ℕ) (common own : Program) (old : KeptRows) (range : RowRange) (new : KeptRows) : Type 0 where
+  pub of : AreKeptOf start end common own (rows_from start new.rows range)
+  pub some : range.first < range.end
+  pub within : range.end ≤ length new.rows
+  pub longer : IsLonger old.rows new.rows
+  pub row_count : new.row_count ≡ old.row_count + length (reached_locations start end common own)
   pub rule_count : new.rule_count ≡ old.rule_count + kept_rule_count start end common own
-  pub rows_fit : length new.rows ≤ limits.rows
+  pub rows_fit : new.row_count ≤ limits.rows
   pub rules_fit : new.rule_count ≤ limits.rules
 
 -- so many rows or rules more would be too many
 abbrev pub AreTooMany : RowLimits → KeptRows → ℕ → ℕ → Type 0
-AreTooMany limits old rows rules = (limits.rows < length old.rows + rows) ⊎ (limits.rules < old.rule_count + rules)
+AreTooMany limits old rows rules = (limits.rows < old.row_count + rows) ⊎ (limits.rules < old.rule_count + rules)
 
 -- a description's rows are added, or would be too many
-abbrev pub Adds : RowLimits → ℕ → ℕ → Program → Program → KeptRows → Result Bool AllocError → KeptRows → Type 0
-Adds limits start end common own old (Ok true) new = IsAdded limits start end common own old new
-Adds limits start end common own old (Ok false) new = AreTooMany limits old (length (reached_locations start end common own)) (kept_rule_count start end common own)
+abbrev pub Adds : RowLimits → ℕ → ℕ → Program → Program → KeptRows → Result (Option RowRange) AllocError → KeptRows → Type 0
+Adds limits start end common own old (Ok (Some range)) new = IsAdded limits start end common own old range new
+Adds limits start end common own old (Ok None) new = AreTooMany limits old (length (reached_locations start end common own)) (kept_rule_count start end common own)
 Adds limits start end common own old (Err e) new = Unit {0}

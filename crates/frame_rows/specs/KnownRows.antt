@@ -3,13 +3,9 @@ use Rattle.std.specs.Prelude.{◌≡◌, ℕ, ◌+◌, ◌^◌, ◌<◌, ◌≤�
 use Rattle.std.specs.List.{AllByRecursion}
 use Rattle.unwind_definitions.specs.Input.{Input}
 use Rattle.unwind_definitions.specs.Instructions.{Coding, Program, program}
-use Rattle.frame_rows.specs.KeptRows.{Kept, AreKeptOf, kept_rule_count}
+use Rattle.frame_rows.specs.KeptRows.{Kept, AreKeptOf, kept_rule_count, placed}
 use Rattle.frame_rows.specs.declared.known_programs.KnownProgram.{KnownProgram}
 use Rattle.frame_rows.specs.declared.known_programs.KnownPrograms.{KnownPrograms}
-
--- what is kept at a distance, from a start
-abbrev pub placed : ℕ → Kept → Kept
-placed start k = record { location = start + k.location; answer = k.answer }
 
 -- These are kept, from any start, of a description whose program has these bytes, read by these factors, and whose range holds the program's last location.
 pub record Serves (common : Program) (code units : ℕ) (bytes : List ℕ) (reach count : ℕ) (by : List Kept) : Type 0 where
@@ -18,11 +14,9 @@ pub record Serves (common : Program) (code units : ℕ) (bytes : List ℕ) (reac
 
 -- rows of a table are those that a program made, and serve others
 pub record IsKnown (common : Program) (rows : List Kept) (known : KnownProgram) : Type 0 where
-  pub by : List Kept
-  pub ordered : known.first_row ≤ known.end_row
-  pub within : known.end_row ≤ length rows
-  pub stand : slice_range rows known.first_row known.end_row ≡ map (placed known.start) by
-  pub serves : Serves common known.code_factor known.data_factor known.bytes.now known.reach known.rule_count by
+  pub ordered : known.rows.first ≤ known.rows.end
+  pub within : known.rows.end ≤ length rows
+  pub serves : Serves common known.code_factor known.data_factor known.bytes.now known.reach known.rule_count (slice_range rows known.rows.first known.rows.end)
 
 abbrev pub IsKnownSlot : Program → List Kept → Option KnownProgram → Type 0
 IsKnownSlot common rows slot = IfSome slot (IsKnown common rows)
@@ -47,8 +41,8 @@ abbrev pub NotesUnless : Bool → List (Option KnownProgram) → KnownProgram �
 NotesUnless true old known new = new ≡ old
 NotesUnless false old known new = Notes old known new
 
--- a program that is known has these bytes, is read by the same factors, its last location lies within so many bytes, and its rows are among so many
-pub record Finds (slots : List (Option KnownProgram)) (bytes : List ℕ) (coding : Coding) (size rows : ℕ) (known : KnownProgram) : Type 0 where
+-- a program that is known has these bytes, is read by the same factors, and its last location lies within so many bytes
+pub record Finds (slots : List (Option KnownProgram)) (bytes : List ℕ) (coding : Coding) (size : ℕ) (known : KnownProgram) : Type 0 where
   pub index : ℕ
   pub within : index < length slots
   pub there : slice_index_or slots index None ≡ Some known
@@ -56,10 +50,3 @@ pub record Finds (slots : List (Option KnownProgram)) (bytes : List ℕ) (coding
   pub code : known.code_factor ≡ coding.code_factor
   pub units : known.data_factor ≡ coding.data_factor
   pub inside : known.reach < size
-  pub ordered : known.first_row ≤ known.end_row
-  pub among : known.end_row ≤ rows
-
--- what stands in a table stays, and more may follow
-pub record IsLonger (old new : List Kept) : Type 0 where
-  pub more : List Kept
-  pub grown : new ≡ old ++ more

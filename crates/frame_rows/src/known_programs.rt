@@ -1,15 +1,20 @@
 //! Programs of descriptions that were run, and which rows they made. DWARF 5 section 6.4.3.
 
-ghost use Rattle.std.specs.Prelude.{◌≡◌, ◌<◌, IfSome, true};
+ghost use Rattle.std.specs.Prelude.{◌≡◌, ◌+◌, ◌<◌, ◌≤◌, IfSome, length, slice_range, true};
+ghost use Rattle.std.specs.Int.{to_le_bytes, w64};
 ghost use Rattle.encoded_pointers.specs.CursorViews.{at};
 ghost use Rattle.frame_rows.specs.InstructionViews.{coding_in};
 ghost use Rattle.frame_rows.specs.KnownRows.{AreBlank, Finds, Notes};
 
 use crate::coding::Coding;
+use crate::row_table::RowRange;
 use encoded_pointers::Cursor;
 
 // How many programs of a common information entry's descriptions are known at a time.
 const KNOWN: usize = 16;
+
+// 2^64 by the golden ratio: each bit of a word has its part in the high bits of its product with this.
+const SPREAD: u64 = 0x9e37_79b9_7f4a_7c15;
 
 /// A program that was run to its end, and which rows of a table it made.
 #[derive(Clone, Copy)]
@@ -17,14 +22,11 @@ pub(crate) struct KnownProgram<'a> {
     pub(crate) bytes: &'a [u8],
     pub(crate) code_factor: u64,
     pub(crate) data_factor: u64,
-    /// The location at which it began.
-    pub(crate) start: u64,
-    /// How far behind it the last location stands that it led to.
+    /// How far behind the function's start the last location stands that it led to.
     pub(crate) reach: u64,
-    pub(crate) first_row: usize,
-    pub(crate) end_row: usize,
+    pub(crate) rows: RowRange,
     /// How many rules of registers its rows have.
-    pub(crate) rule_count: usize,
+    pub(crate) rule_count: u32,
 }
 
 /// Programs of the descriptions that name one common information entry, by a number that is made
@@ -61,29 +63,27 @@ impl<'a> KnownPrograms<'a> {
         self.slots[number] = Some(known);
     }
 
-    /// The program of a description whose function has so many bytes, where it is known and leads
-    /// to no location behind them. Its rows are among the first `rows` of the table.
+    /// The program of a description whose function has so many bytes, lent, where it is known and
+    /// leads to no location behind them.
+    #[inline(always)]
     pub(crate) fn find(
         &self,
         own: Cursor<'a>,
         coding: Coding,
         size: u64,
-        rows: usize,
-    ) -> Option<KnownProgram<'a>>
+    ) -> Option<&KnownProgram<'a>>
         ensures { IfSome result (λ known. Finds self.now.slots (at own.entry).bytes
-            (coding_in coding.entry) size rows known) }
+            (coding_in coding.entry) size known.now) }
     {
-        let known = self.slots[number_of(own.bytes())]?;
-        let is_there = known.first_row <= known.end_row && known.end_row <= rows;
-        if is_there && is_for(&known, own, coding, size) {
-            Some(known)
-        } else {
-            None
+        match &self.slots[number_of(own.bytes())] {
+            Some(known) if is_for(known, own, coding, size) => Some(known),
+            _ => None,
         }
     }
 }
 
 // Whether a program's rows are those of a description with these bytes.
+#[inline(always)]
 fn is_for(known: &KnownProgram<'_>, own: Cursor<'_>, coding: Coding, size: u64) -> bool
     ensures bytes { result ≡ true → known.now.bytes.now ≡ (at own.entry).bytes }
     ensures code { result ≡ true → known.now.code_factor ≡ coding.entry.code_factor }
@@ -97,19 +97,62 @@ fn is_for(known: &KnownProgram<'_>, own: Cursor<'_>, coding: Coding, size: u64) 
 }
 
 // Whether two programs have the same bytes.
+#[inline(always)]
 fn are_same(a: &[u8], b: &[u8]) -> bool
     ensures { result ≡ true → a.now ≡ b.now }
 {
-    a == b
+    let count = a.len();
+    if count != b.len() {
+        return false;
+    }
+    if count < 8 || count > 16 {
+        return a == b;
+    }
+    // of so few bytes the first eight and the last eight are all
+    word_at(a, 0) == word_at(b, 0) && word_at(a, count - 8) == word_at(b, count - 8)
 }
 
-// A number below `KNOWN` by which programs are told apart, mostly.
+// A number below `KNOWN` by which programs are told apart, mostly: by their ends.
+#[inline(always)]
 fn number_of(bytes: &[u8]) -> usize
     ensures { result < 16 }
 {
-    let mut sum = 0u64;
-    for byte in bytes {
-        sum = sum.wrapping_mul(31) ^ (*byte as u64);
+    let (first, last) = ends_of(bytes);
+    let sum = (first ^ last.rotate_left(32)).wrapping_mul(SPREAD);
+    (sum >> 60) as usize
+}
+
+// The first bytes of a program and its last: eight, or four where there are fewer.
+#[inline(always)]
+fn ends_of(bytes: &[u8]) -> (u64, u64) {
+    let count = bytes.len();
+    if count >= 8 {
+        (word_at(bytes, 0), word_at(bytes, count - 8))
+    } else if count >= 4 {
+        (half_at(bytes, 0), half_at(bytes, count - 4))
+    } else {
+        let few = bytes
+            .iter()
+            .fold(0u64, |sum, byte| (sum << 8) | u64::from(*byte));
+        (few, 0)
     }
-    ((sum ^ (sum >> 8)) % 16) as usize
+}
+
+// The eight bytes at an index, as a word.
+fn word_at(bytes: &[u8], index: usize) -> u64
+    requires { index + 8 ≤ length bytes.now }
+    ensures { to_le_bytes w64 result ≡ slice_range bytes.now index (index + 8) }
+{
+    let part = &bytes[index..index + 8];
+    u64::from_le_bytes([
+        part[0], part[1], part[2], part[3], part[4], part[5], part[6], part[7],
+    ])
+}
+
+// The four bytes at an index.
+fn half_at(bytes: &[u8], index: usize) -> u64
+    requires { index + 4 ≤ length bytes.now }
+{
+    let part = &bytes[index..index + 4];
+    u64::from(u32::from_le_bytes([part[0], part[1], part[2], part[3]]))
 }

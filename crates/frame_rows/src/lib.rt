@@ -35,7 +35,7 @@ pub use register::read_register;
 pub use room::RowRoom;
 pub use row::{Registers, Row};
 pub use row_ref::RowRef;
-pub use row_table::{RowLimits, RowTable};
+pub use row_table::{RowLimits, RowRange, RowTable};
 pub use row_table_builder::RowTableBuilder;
 pub use rule::{CfaRule, RegisterRule};
 pub use unwind_arch::{Register, RegisterMap};

@@ -1,15 +1,15 @@
 //! Making the rows of several descriptions. DWARF 5 sections 6.4.1 and 6.4.3.
 
-ghost use Rattle.std.specs.Prelude.{◌≡◌, ◌<◌, ℕ, [], None, Ok, length};
+ghost use Rattle.std.specs.Prelude.{◌≡◌, ◌<◌, ℕ, [], Err, None, Ok};
 ghost use Rattle.unwind_definitions.specs.Instructions.{program, Program};
 ghost use Rattle.unwind_definitions.specs.Row.{RowInstructions, from_common};
 ghost use Rattle.encoded_pointers.specs.CursorViews.{at};
 ghost use Rattle.frame_rows.specs.InstructionViews.{coding_in};
-ghost use Rattle.frame_rows.specs.KeptRows.{Adds};
+ghost use Rattle.frame_rows.specs.KeptRows.{Adds, IsLonger};
 ghost use Rattle.frame_rows.specs.Begun.{HasBegun, HasBegunBefore};
 ghost use Rattle.frame_rows.specs.BegunPrograms.{before_last, last};
-ghost use Rattle.frame_rows.specs.KnownRows.{AreKnown, IsLonger, NotesUnless};
-ghost use Rattle.frame_rows.specs.Running.{Represents, outcome};
+ghost use Rattle.frame_rows.specs.KnownRows.{AreKnown, NotesUnless};
+ghost use Rattle.frame_rows.specs.Running.{IsEndOf, Represents, outcome};
 ghost use Rattle.frame_rows.specs.TableRows.{Keeps};
 
 use crate::begun::BegunPrograms;
@@ -18,7 +18,7 @@ use crate::known_programs::KnownProgram;
 use crate::machine::Machine;
 use crate::program::run_common;
 use crate::row_bodies::KnownBodies;
-use crate::row_table::{RowLimits, RowTable};
+use crate::row_table::{RowLimits, RowRange, RowTable};
 use crate::stretch::{Instructions, run_stretch};
 use encoded_pointers::Cursor;
 use std::alloc::{AllocError, Global};
@@ -26,7 +26,7 @@ use unwind_definitions::Error;
 
 /// Makes a [`RowTable`], one description after another, within limits.
 ///
-/// Each program is run once, over all the locations that it reaches.
+/// Each program is run at most once, over all the locations that it reaches.
 #[derive(Drop)]
 pub struct RowTableBuilder<'a> {
     table: RowTable<'a>,
@@ -39,7 +39,7 @@ pub struct RowTableBuilder<'a> {
 impl<'a> RowTableBuilder<'a> {
     /// A builder of a table without rows.
     pub fn new(alloc: Global, limits: RowLimits) -> RowTableBuilder<'a>
-        ensures table { result.table ≡ record { rows = []; rule_count = 0 } }
+        ensures table { result.table ≡ record { rows = []; row_count = 0; rule_count = 0 } }
         ensures limits { result.limits ≡ limits }
     {
         RowTableBuilder {
@@ -52,10 +52,11 @@ impl<'a> RowTableBuilder<'a> {
     }
 
     /// Adds the rows of a description that ranges from `start` to `end`: one row or fault for each
-    /// location that its program reaches there, its start included. `false` where they would be
-    /// too many; then the table is unspecified.
+    /// location that its program reaches there, its start included. It answers which these are,
+    /// `None` where they would be too many; then the table is unspecified.
     ///
-    /// A fault is kept from the location at which it is met.
+    /// A fault is kept from the location at which it is met. Descriptions whose programs have the
+    /// same bytes share their rows, which are counted for each.
     pub fn add(
         &mut self,
         common: Cursor<'a>,
@@ -63,7 +64,7 @@ impl<'a> RowTableBuilder<'a> {
         coding: Coding,
         start: u64,
         end: u64,
-    ) -> Result<bool, AllocError>
+    ) -> Result<Option<RowRange>, AllocError>
         requires { start < end }
         ensures rows { let coding = coding_in coding.entry in
             Adds self.old.limits start end (program coding (at common.entry))
@@ -79,13 +80,14 @@ impl<'a> RowTableBuilder<'a> {
 
     /// Adds the rows of a description, as [`RowTableBuilder::add`] does, whose common information
     /// entry is that of the one that was added before. Its program isn't run again.
+    #[inline(always)]
     pub fn add_next(
         &mut self,
         own: Cursor<'a>,
         coding: Coding,
         start: u64,
         end: u64,
-    ) -> Result<bool, AllocError>
+    ) -> Result<Option<RowRange>, AllocError>
         requires { start < end }
         ensures rows { (common : Program) → HasBegun self.old common →
             Adds self.old.limits start end common
@@ -97,16 +99,10 @@ impl<'a> RowTableBuilder<'a> {
     {
         let common = self.begun.last();
         match common.fault {
-            Some(e) => self.table.push(&mut self.known, start, Err(e), self.limits),
-            None => match common
-                .known
-                .find(own, coding, end - start, self.table.len())
-            {
-                Some(known) => self.table.repeat(&known, start, self.limits),
-                None => {
-                    self.machine.begin_after(&common.state, start);
-                    self.add_rows(own, coding, start, end)
-                }
+            Some(e) => self.add_fault(e),
+            None => match common.known.find(own, coding, end - start) {
+                Some(known) => Ok(self.table.count_again(known, self.limits)),
+                None => self.add_unknown(own, coding, start, end),
             },
         }
     }
@@ -137,18 +133,59 @@ impl<'a> RowTableBuilder<'a> {
         self.begun.put(&self.machine, fault);
     }
 
-    /// How many rows and faults there are so far.
-    pub fn len(&self) -> usize
-        ensures { result ≡ length self.now.table.rows }
-    {
-        self.table.len()
-    }
-
     /// The table.
     pub fn finish(self) -> RowTable<'a>
         ensures { result ≡ self.entry.table }
     {
         self.table
+    }
+
+    // Adds the one fault of a description whose common information entry's program can't be run.
+    fn add_fault(&mut self, e: Error) -> Result<Option<RowRange>, AllocError>
+        ensures rows { (start end : ℕ) (common own : Program) →
+            outcome 0 None (from_common []) common ≡ Err e →
+            Adds self.old.limits start end common own self.old.table result self.new.table }
+        ensures grows { IsLonger self.old.table.rows self.new.table.rows }
+        ensures begun { self.new.begun ≡ self.old.begun }
+        ensures limits { self.new.limits ≡ self.old.limits }
+    {
+        let first = self.table.end();
+        if !self.table.push(&mut self.known, 0, Err(e), self.limits)? {
+            return Ok(None);
+        }
+        Ok(Some(RowRange {
+            first,
+            end: self.table.end(),
+        }))
+    }
+
+    // Adds the rows of a description whose own program isn't known, after what the common
+    // information entry's ended with.
+    #[inline(never)]
+    fn add_unknown(
+        &mut self,
+        own: Cursor<'a>,
+        coding: Coding,
+        start: u64,
+        end: u64,
+    ) -> Result<Option<RowRange>, AllocError>
+        requires { start < end }
+        ensures rows { (common : Program) →
+            IsEndOf (last self.old.begun).state None common →
+            Adds self.old.limits start end common (program (coding_in coding.entry) (at own.entry))
+            self.old.table result self.new.table }
+        ensures limits { self.new.limits ≡ self.old.limits }
+        ensures state { (last self.new.begun).state ≡ (last self.old.begun).state }
+        ensures fault { (last self.new.begun).fault ≡ (last self.old.begun).fault }
+        ensures known { (common : Program) →
+            IsEndOf (last self.old.begun).state None common →
+            AreKnown common self.old.table.rows (last self.old.begun).known →
+            AreKnown common self.new.table.rows (last self.new.begun).known }
+        ensures before { before_last self.new.begun ≡ before_last self.old.begun }
+        ensures grows { IsLonger self.old.table.rows self.new.table.rows }
+    {
+        self.machine.begin_after(&self.begun.last().state, start);
+        self.add_rows(own, coding, start, end)
     }
 
     // Adds the rows of a description whose own program is to run.
@@ -158,7 +195,7 @@ impl<'a> RowTableBuilder<'a> {
         coding: Coding,
         start: u64,
         end: u64,
-    ) -> Result<bool, AllocError>
+    ) -> Result<Option<RowRange>, AllocError>
         requires { start < end }
         ensures rows { (common : Program) (run : RowInstructions) →
             outcome 0 None (from_common []) common ≡ Ok run →
@@ -176,18 +213,23 @@ impl<'a> RowTableBuilder<'a> {
         ensures before { before_last self.new.begun ≡ before_last self.old.begun }
         ensures grows { IsLonger self.old.table.rows self.new.table.rows }
     {
-        let (first_row, first_rule) = (self.table.len(), self.table.rule_count());
+        let (first, first_rule) = (self.table.end(), self.table.rule_count());
         let mut instructions = Instructions::new(own);
         let mut location = start;
         loop {
             let next = run_stretch(&mut self.machine, &mut instructions, coding);
-            if !self.keep(location, next)? {
-                return Ok(false);
+            let distance = location.saturating_sub(start);
+            if !self.keep(distance, next)? {
+                return Ok(None);
             }
+            let rows = RowRange {
+                first,
+                end: self.table.end(),
+            };
             match next {
                 Ok(Some(next)) => {
                     if next >= end {
-                        return Ok(true);
+                        return Ok(Some(rows));
                     }
                     self.machine.go_on(next);
                     location = next;
@@ -197,16 +239,14 @@ impl<'a> RowTableBuilder<'a> {
                         bytes: own.bytes(),
                         code_factor: coding.code_factor,
                         data_factor: coding.data_factor,
-                        start,
-                        reach: location.saturating_sub(start),
-                        first_row,
-                        end_row: self.table.len(),
+                        reach: distance,
+                        rows,
                         rule_count: self.table.rule_count().saturating_sub(first_rule),
                     };
                     self.note(known, instructions.sets_location());
-                    return Ok(true);
+                    return Ok(Some(rows));
                 }
-                Err(_) => return Ok(true),
+                Err(_) => return Ok(Some(rows)),
             }
         }
     }
@@ -226,9 +266,9 @@ impl<'a> RowTableBuilder<'a> {
         }
     }
 
-    // Keeps what a stretch from a location on ends with: its row, or its fault.
-    fn keep(&mut self, location: u64, next: Result<Option<u64>, Error>) -> Result<bool, AllocError>
-        ensures rows { Keeps self.old.limits location next self.old.machine self.old.table
+    // Keeps what a stretch ends with that begins so far behind the start: its row, or its fault.
+    fn keep(&mut self, distance: u64, next: Result<Option<u64>, Error>) -> Result<bool, AllocError>
+        ensures rows { Keeps self.old.limits distance next self.old.machine self.old.table
             result self.new.table }
         ensures machine { self.new.machine ≡ self.old.machine }
         ensures limits { self.new.limits ≡ self.old.limits }
@@ -238,11 +278,11 @@ impl<'a> RowTableBuilder<'a> {
         match next {
             Ok(_) => {
                 let row = self.machine.row();
-                self.table.push(&mut self.known, location, row, self.limits)
+                self.table.push(&mut self.known, distance, row, self.limits)
             }
             Err(e) => self
                 .table
-                .push(&mut self.known, location, Err(e), self.limits),
+                .push(&mut self.known, distance, Err(e), self.limits),
         }
     }
 }

@@ -23,7 +23,7 @@ returns-else-fde-gt0-clause-adds c =
     let cies = c.args.self.now.cies.items in
     let code = c.index.result.now in
     let fde = c.in-Ok.fde in
-    let f : PreparedFunction = record { fde = fde; first_row = 0; end_row = 0 } in
+    let f : PreparedFunction = record { fde = fde; rows = record { first = 0; end = 0 } } in
     let old = c.args.self.now.fdes.items in
     let there = cie_there cies c.args.cie code c.requires c.index.ensures in
     description_added (bases_of c.args.bases.now) cies c.args.cie c.args.offset (at c.args.body) code fde f old old there c.requires c.in-Ok.ensures.reads c.in-Ok.ensures.told c.in-Ok.ensures.cie refl

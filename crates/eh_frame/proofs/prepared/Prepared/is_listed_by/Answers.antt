@@ -13,7 +13,7 @@ returns-then-not-is_pair-clause-unlisted c e lists =
     let functions = c.args.self.now.functions in
     let base : ℕ = c.args.frames.now.address in
     let i = c.loop-index.index in
-    let p : ℕ × ℕ = (c.place-start.result.0, c.place-start.result.1) in
+    let p : ℕ × ℕ = (c.range-start.result.0, c.offset-offset.result) in
     let count = c.len-index-end.ensures in
     let within : i < length functions = omega arith in
     let d : Fde = (an_item functions i within).fde in
@@ -21,18 +21,18 @@ returns-then-not-is_pair-clause-unlisted c e lists =
     let read = answer_same c.entry.result (pair_at (pairs_of c.args.table.now) i) c.entry.ensures.reads in
     let due = lists.each i d (omega arith) in
     c.is_pair.ensures.other c.if-not-is_pair.true
-    (sym read ∙ due ∙ sym (ap (λ (q : ℕ × ℕ). Ok q) (pair_there functions i base p d within c.place-start.ensures)) ∙ ap (λ (a : ℕ). Ok (pair_at_place a p)) (sym c.address.ensures))
+    (sym read ∙ due ∙ sym (ap (λ (q : ℕ × ℕ). Ok q) (pair_there functions i base p d within (λ d. ((c.range-start.ensures.range d).0, c.offset-offset.ensures d)))) ∙ ap (λ (a : ℕ). Ok (pair_at_place a p)) (sym c.address.ensures))
 
 pub loop-index-preserved : goal.loop-index-preserved
 loop-index-preserved c k d lt =
     let functions = c.args.self.now.functions in
     let base : ℕ = c.args.frames.now.address in
     let i = c.loop-index.index in
-    let p : ℕ × ℕ = (c.place-start.result.0, c.place-start.result.1) in
+    let p : ℕ × ℕ = (c.range-start.result.0, c.offset-offset.result) in
     let count = c.len-index-end.ensures in
     let within : i < length functions = omega arith in
     let read = answer_same c.entry.result (pair_at (pairs_of c.args.table.now) i) c.entry.ensures.reads in
     let P : ℕ → Type 0 = λ j. pair_at (pairs_of c.args.table.now) j ≡ Ok (pair_of base (get_or (map described_fde functions) j d)) in
     let here : P i =
-    read ∙ c.is_pair.ensures.same c.if-not-is_pair.false ∙ ap (λ (a : ℕ). Ok (pair_at_place a p)) c.address.ensures ∙ ap (λ (q : ℕ × ℕ). Ok q) (pair_there functions i base p d within c.place-start.ensures) in
+    read ∙ c.is_pair.ensures.same c.if-not-is_pair.false ∙ ap (λ (a : ℕ). Ok (pair_at_place a p)) c.address.ensures ∙ ap (λ (q : ℕ × ℕ). Ok q) (pair_there functions i base p d within (λ d. ((c.range-start.ensures.range d).0, c.offset-offset.ensures d))) in
     below_more P i (λ j lt. c.loop-index.invariant j d lt) here k lt

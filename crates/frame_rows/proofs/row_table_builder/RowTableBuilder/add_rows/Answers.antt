@@ -1,23 +1,30 @@
-use Rattle.std.proofs.Common.{arith, ◌≡◌, Bool, Ok, Some, None, true, false, refl, sym, subst, ◌∙◌}
+use Rattle.std.proofs.Common.{arith, ◌≡◌, ℕ, Bool, Option, Result, Ok, Some, None, refl, sym, subst, ◌∙◌}
+use Rattle.unwind_definitions.specs.declared.error.Error.{Error as Fault}
 use Rattle.unwind_definitions.specs.Instructions.{program, Program, Coding}
 use Rattle.unwind_definitions.specs.Row.{from_common}
 use Rattle.encoded_pointers.specs.CursorViews.{at}
 use Rattle.frame_rows.specs.InstructionViews.{coding_in}
 use Rattle.frame_rows.specs.Running.{Represents, push}
 use Rattle.frame_rows.specs.BegunPrograms.{last}
-use Rattle.frame_rows.specs.KeptRows.{Adds, KeptRows}
+use Rattle.frame_rows.specs.KeptRows.{Adds, IsAdded, KeptRows}
 use Rattle.frame_rows.specs.KnownRows.{AreKnown}
 use Rattle.frame_rows.specs.Movable.{IsMovable}
 use Rattle.frame_rows.specs.Stretches.{left_of}
 use Rattle.frame_rows.specs.TableRows.{Keeps}
 use Rattle.frame_rows.specs.declared.machine.Machine.{Machine}
 use Rattle.frame_rows.specs.declared.row_table.RowLimits.{RowLimits}
-use Rattle.frame_rows.proofs.Adding.{IsAdding, begin, kept_too_many, kept_at_end, kept_fault, kept_past, kept_on, kept_whole}
-use Rattle.frame_rows.proofs.Serving.{as_long, is_known, longer_still, noted_unless, still_known}
+use Rattle.frame_rows.specs.declared.row_table.RowRange.{RowRange}
+use Rattle.frame_rows.proofs.Adding.{IsAdding, begin, kept_too_many, kept_at_end, kept_fault, kept_past, kept_on, kept_whole, ranged}
+use Rattle.frame_rows.proofs.Serving.{is_known, noted_unless, still_known}
+use Rattle.frame_rows.proofs.Parts.{as_long, longer_still}
 use Rattle.frame_rows.proofs.row_table_builder.RowTableBuilder.add_rows.Goals as goal
 
-pub loop-next-init : goal.loop-next-init
-loop-next-init c = (
+-- what was kept at a distance, or not
+kept_so : (limits : RowLimits) (d e : ℕ) (next : Result (Option ℕ) Fault) (m : Machine) (old new : KeptRows) (b was : Bool) → d ≡ e → b ≡ was → Keeps limits d next m old (Ok b) new → Keeps limits e next m old (Ok was) new
+kept_so limits d e next m old new b was same is k = subst (λ (x : ℕ). Keeps limits x next m old (Ok was) new) same (subst (λ (x : Bool). Keeps limits d next m old (Ok x) new) is k)
+
+pub loop-rows-init : goal.loop-rows-init
+loop-rows-init c = (
   refl,
   λ common run ran rep.
       let coding : Coding = coding_in c.args.coding in
@@ -36,120 +43,126 @@ pub returns-then-not-branch-clause-rows : goal.returns-then-not-branch-clause-ro
 returns-then-not-branch-clause-rows c common run ran rep =
     let coding : Coding = coding_in c.args.coding in
     let own : Program = program coding (at c.args.own) in
-    let now = c.loop-next.invariant.1 common run ran rep in
+    let now = c.loop-rows.invariant.1 common run ran rep in
     let st = c.run_stretch-next.ensures.ends c.args.start now.0 now.1 in
     let m = c.run_stretch-next.new.machine in
-    let kept = subst (λ (b : Bool). Keeps c.loop-next.self.limits c.loop-next.location c.run_stretch-next.result m c.loop-next.self.table (Ok b) c.keep.new.self.table) c.if-not-branch.true c.in_ok-keep.ensures.rows in
-    subst (λ (l : RowLimits). Adds l c.args.start c.args.end common own c.args.self.now.table (Ok false) c.keep.new.self.table) c.loop-next.invariant.0
-    (kept_too_many c.args.start c.args.end common own c.args.self.now.table run ran c.loop-next.location now.0 (left_of coding c.loop-next.instructions) c.loop-next.self.table now.2 c.loop-next.self.limits m (left_of coding c.run_stretch-next.new.instructions) c.keep.new.self.table
+    let kept = kept_so c.loop-rows.self.limits _ _ c.run_stretch-next.result m c.loop-rows.self.table c.keep.new.self.table _ _ c.saturating_sub-distance.ensures c.if-not-branch.true c.in_ok-keep.ensures.rows in
+    subst (λ (l : RowLimits). Adds l c.args.start c.args.end common own c.args.self.now.table (Ok None) c.keep.new.self.table) c.loop-rows.invariant.0
+    (kept_too_many c.args.start c.args.end common own c.args.self.now.table run ran c.loop-rows.location now.0 (left_of coding c.loop-rows.instructions) c.loop-rows.self.table now.2 c.loop-rows.self.limits m (left_of coding c.run_stretch-next.new.instructions) c.keep.new.self.table
     c.run_stretch-next.result st kept)
 
-pub loop-next-preserved : goal.loop-next-preserved
-loop-next-preserved c = (
-  c.in_ok-keep.ensures.limits ∙ c.loop-next.invariant.0,
+pub loop-rows-preserved : goal.loop-rows-preserved
+loop-rows-preserved c = (
+  c.in_ok-keep.ensures.limits ∙ c.loop-rows.invariant.0,
   λ common run ran rep.
       let coding : Coding = coding_in c.args.coding in
       let own : Program = program coding (at c.args.own) in
-      let now = c.loop-next.invariant.1 common run ran rep in
+      let now = c.loop-rows.invariant.1 common run ran rep in
       let m = c.run_stretch-next.new.machine in
       let some : c.in-Ok-Some.field-0 ≡ Some c.in-Ok-Some.next = rw c.in-Ok-Some.is at c.in-Ok-Some.field-0-is in
       let st = rw (c.in-Ok-Some.is, some) at (c.run_stretch-next.ensures.ends c.args.start now.0 now.1) in
-      let kept = rw c.in-Ok-Some.is at (subst (λ (b : Bool). Keeps c.loop-next.self.limits c.loop-next.location c.run_stretch-next.result m c.loop-next.self.table (Ok b) c.keep.new.self.table) c.if-not-branch.false c.in_ok-keep.ensures.rows) in
+      let kept = rw c.in-Ok-Some.is at (kept_so c.loop-rows.self.limits _ _ c.run_stretch-next.result m c.loop-rows.self.table c.keep.new.self.table _ _ c.saturating_sub-distance.ensures c.if-not-branch.false c.in_ok-keep.ensures.rows) in
       let there = subst (λ (m : Machine). Represents c.args.start m st.now) (sym c.in_ok-keep.ensures.machine) st.represents in (
         push st.now st.by,
         c.go_on.ensures c.args.start st.now st.by there st.leads (let stands = st.stands in let ahead = st.ahead in omega arith),
-        kept_on c.args.start c.args.end common own c.args.self.now.table run ran c.loop-next.location now.0 (left_of coding c.loop-next.instructions) c.loop-next.self.table now.2 c.loop-next.self.limits m (left_of coding c.run_stretch-next.new.instructions)
+        kept_on c.args.start c.args.end common own c.args.self.now.table run ran c.loop-rows.location now.0 (left_of coding c.loop-rows.instructions) c.loop-rows.self.table now.2 c.loop-rows.self.limits m (left_of coding c.run_stretch-next.new.instructions)
             c.keep.new.self.table c.in-Ok-Some.next st kept c.if-next-end.false,
       ),
-  c.in_ok-keep.ensures.begun ∙ c.loop-next.invariant.2,
-  longer_still c.args.self.now.table.rows c.loop-next.self.table.rows c.keep.new.self.table.rows c.loop-next.invariant.3 c.in_ok-keep.ensures.grows,
+  c.in_ok-keep.ensures.begun ∙ c.loop-rows.invariant.2,
+  longer_still c.args.self.now.table.rows c.loop-rows.self.table.rows c.keep.new.self.table.rows c.loop-rows.invariant.3 c.in_ok-keep.ensures.grows,
   λ flag m.
       let some : c.in-Ok-Some.field-0 ≡ Some c.in-Ok-Some.next = rw c.in-Ok-Some.is at c.in-Ok-Some.field-0-is in
       let moves = (rw (c.in-Ok-Some.is, some) at c.run_stretch-next.ensures.moves) flag in
-      c.loop-next.invariant.4 moves.0 (moves.1 m),
+      c.loop-rows.invariant.4 moves.0 (moves.1 m),
 )
 
 pub returns-then-next-end-clause-rows : goal.returns-then-next-end-clause-rows
 returns-then-next-end-clause-rows c common run ran rep =
     let coding : Coding = coding_in c.args.coding in
     let own : Program = program coding (at c.args.own) in
-    let now = c.loop-next.invariant.1 common run ran rep in
+    let now = c.loop-rows.invariant.1 common run ran rep in
     let m = c.run_stretch-next.new.machine in
     let some : c.in-Ok-Some.field-0 ≡ Some c.in-Ok-Some.next = rw c.in-Ok-Some.is at c.in-Ok-Some.field-0-is in
     let st = rw (c.in-Ok-Some.is, some) at (c.run_stretch-next.ensures.ends c.args.start now.0 now.1) in
-    let kept = rw c.in-Ok-Some.is at (subst (λ (b : Bool). Keeps c.loop-next.self.limits c.loop-next.location c.run_stretch-next.result m c.loop-next.self.table (Ok b) c.keep.new.self.table) c.if-not-branch.false c.in_ok-keep.ensures.rows) in
-    subst (λ (l : RowLimits). Adds l c.args.start c.args.end common own c.args.self.now.table (Ok true) c.keep.new.self.table) c.loop-next.invariant.0
-    (kept_past c.args.start c.args.end common own c.args.self.now.table run ran c.loop-next.location now.0 (left_of coding c.loop-next.instructions) c.loop-next.self.table now.2 c.loop-next.self.limits m (left_of coding c.run_stretch-next.new.instructions) c.keep.new.self.table
-    c.in-Ok-Some.next st kept c.if-next-end.true)
+    let kept = rw c.in-Ok-Some.is at (kept_so c.loop-rows.self.limits _ _ c.run_stretch-next.result m c.loop-rows.self.table c.keep.new.self.table _ _ c.saturating_sub-distance.ensures c.if-not-branch.false c.in_ok-keep.ensures.rows) in
+    let range : RowRange = record { first = c.end-first.result; end = c.end.result } in
+    subst (λ (l : RowLimits). IsAdded l c.args.start c.args.end common own c.args.self.now.table range c.keep.new.self.table) c.loop-rows.invariant.0
+    (ranged c.args.start c.args.end common own c.args.self.now.table c.loop-rows.self.limits range c.keep.new.self.table c.end-first.ensures c.end.ensures
+    (kept_past c.args.start c.args.end common own c.args.self.now.table run ran c.loop-rows.location now.0 (left_of coding c.loop-rows.instructions) c.loop-rows.self.table now.2 c.loop-rows.self.limits m (left_of coding c.run_stretch-next.new.instructions) c.keep.new.self.table
+    c.in-Ok-Some.next st kept c.if-next-end.true))
 
 pub returns-in-Ok-None-clause-rows : goal.returns-in-Ok-None-clause-rows
 returns-in-Ok-None-clause-rows c common run ran rep =
     let coding : Coding = coding_in c.args.coding in
     let own : Program = program coding (at c.args.own) in
-    let now = c.loop-next.invariant.1 common run ran rep in
+    let now = c.loop-rows.invariant.1 common run ran rep in
     let m = c.run_stretch-next.new.machine in
     let none : c.in-Ok-None.field-0 ≡ None = rw c.in-Ok-None.is at c.in-Ok-None.field-0-is in
     let st = rw (c.in-Ok-None.is, none) at (c.run_stretch-next.ensures.ends c.args.start now.0 now.1) in
-    let kept = rw c.in-Ok-None.is at (subst (λ (b : Bool). Keeps c.loop-next.self.limits c.loop-next.location c.run_stretch-next.result m c.loop-next.self.table (Ok b) c.keep.new.self.table) c.if-not-branch.false c.in_ok-keep.ensures.rows) in
-    subst (λ (t : KeptRows). Adds c.args.self.now.limits c.args.start c.args.end common own c.args.self.now.table (Ok true) t) (sym c.note.ensures.table)
-    (subst (λ (l : RowLimits). Adds l c.args.start c.args.end common own c.args.self.now.table (Ok true) c.keep.new.self.table) c.loop-next.invariant.0
-    (kept_at_end c.args.start c.args.end common own c.args.self.now.table run ran c.loop-next.location now.0 (left_of coding c.loop-next.instructions) c.loop-next.self.table now.2 c.loop-next.self.limits m (left_of coding c.run_stretch-next.new.instructions) c.keep.new.self.table
-    st kept))
+    let kept = rw c.in-Ok-None.is at (kept_so c.loop-rows.self.limits _ _ c.run_stretch-next.result m c.loop-rows.self.table c.keep.new.self.table _ _ c.saturating_sub-distance.ensures c.if-not-branch.false c.in_ok-keep.ensures.rows) in
+    let range : RowRange = record { first = c.end-first.result; end = c.end.result } in
+    subst (λ (t : KeptRows). IsAdded c.args.self.now.limits c.args.start c.args.end common own c.args.self.now.table range t) (sym c.note.ensures.table)
+    (subst (λ (l : RowLimits). IsAdded l c.args.start c.args.end common own c.args.self.now.table range c.keep.new.self.table) c.loop-rows.invariant.0
+    (ranged c.args.start c.args.end common own c.args.self.now.table c.loop-rows.self.limits range c.keep.new.self.table c.end-first.ensures c.end.ensures
+    (kept_at_end c.args.start c.args.end common own c.args.self.now.table run ran c.loop-rows.location now.0 (left_of coding c.loop-rows.instructions) c.loop-rows.self.table now.2 c.loop-rows.self.limits m (left_of coding c.run_stretch-next.new.instructions) c.keep.new.self.table
+    st kept)))
 
 pub returns-in-Err-clause-rows : goal.returns-in-Err-clause-rows
 returns-in-Err-clause-rows c common run ran rep =
     let coding : Coding = coding_in c.args.coding in
     let own : Program = program coding (at c.args.own) in
-    let now = c.loop-next.invariant.1 common run ran rep in
+    let now = c.loop-rows.invariant.1 common run ran rep in
     let m = c.run_stretch-next.new.machine in
     let st = rw c.in-Err.is at (c.run_stretch-next.ensures.ends c.args.start now.0 now.1) in
-    let kept = rw c.in-Err.is at (subst (λ (b : Bool). Keeps c.loop-next.self.limits c.loop-next.location c.run_stretch-next.result m c.loop-next.self.table (Ok b) c.keep.new.self.table) c.if-not-branch.false c.in_ok-keep.ensures.rows) in
-    subst (λ (l : RowLimits). Adds l c.args.start c.args.end common own c.args.self.now.table (Ok true) c.keep.new.self.table) c.loop-next.invariant.0
-    (kept_fault c.args.start c.args.end common own c.args.self.now.table run ran c.loop-next.location now.0 (left_of coding c.loop-next.instructions) c.loop-next.self.table now.2 c.loop-next.self.limits m (left_of coding c.run_stretch-next.new.instructions) c.keep.new.self.table
-    c.in-Err.field-0 st kept)
+    let kept = rw c.in-Err.is at (kept_so c.loop-rows.self.limits _ _ c.run_stretch-next.result m c.loop-rows.self.table c.keep.new.self.table _ _ c.saturating_sub-distance.ensures c.if-not-branch.false c.in_ok-keep.ensures.rows) in
+    let range : RowRange = record { first = c.end-first.result; end = c.end.result } in
+    subst (λ (l : RowLimits). IsAdded l c.args.start c.args.end common own c.args.self.now.table range c.keep.new.self.table) c.loop-rows.invariant.0
+    (ranged c.args.start c.args.end common own c.args.self.now.table c.loop-rows.self.limits range c.keep.new.self.table c.end-first.ensures c.end.ensures
+    (kept_fault c.args.start c.args.end common own c.args.self.now.table run ran c.loop-rows.location now.0 (left_of coding c.loop-rows.instructions) c.loop-rows.self.table now.2 c.loop-rows.self.limits m (left_of coding c.run_stretch-next.new.instructions) c.keep.new.self.table
+    c.in-Err.field-0 st kept))
 
 pub returns-then-not-branch-clause-known : goal.returns-then-not-branch-clause-known
 returns-then-not-branch-clause-known c common run ran rep known =
-    let begun = c.in_ok-keep.ensures.begun ∙ c.loop-next.invariant.2 in
-    let longer = longer_still c.args.self.now.table.rows c.loop-next.self.table.rows c.keep.new.self.table.rows c.loop-next.invariant.3 c.in_ok-keep.ensures.grows in
+    let begun = c.in_ok-keep.ensures.begun ∙ c.loop-rows.invariant.2 in
+    let longer = longer_still c.args.self.now.table.rows c.loop-rows.self.table.rows c.keep.new.self.table.rows c.loop-rows.invariant.3 c.in_ok-keep.ensures.grows in
     still_known common c.args.self.now c.keep.new.self longer begun known
 
 pub returns-then-next-end-clause-known : goal.returns-then-next-end-clause-known
 returns-then-next-end-clause-known c common run ran rep known =
-    let begun = c.in_ok-keep.ensures.begun ∙ c.loop-next.invariant.2 in
-    let longer = longer_still c.args.self.now.table.rows c.loop-next.self.table.rows c.keep.new.self.table.rows c.loop-next.invariant.3 c.in_ok-keep.ensures.grows in
+    let begun = c.in_ok-keep.ensures.begun ∙ c.loop-rows.invariant.2 in
+    let longer = longer_still c.args.self.now.table.rows c.loop-rows.self.table.rows c.keep.new.self.table.rows c.loop-rows.invariant.3 c.in_ok-keep.ensures.grows in
     still_known common c.args.self.now c.keep.new.self longer begun known
 
 pub returns-in-Err-clause-known : goal.returns-in-Err-clause-known
 returns-in-Err-clause-known c common run ran rep known =
-    let begun = c.in_ok-keep.ensures.begun ∙ c.loop-next.invariant.2 in
-    let longer = longer_still c.args.self.now.table.rows c.loop-next.self.table.rows c.keep.new.self.table.rows c.loop-next.invariant.3 c.in_ok-keep.ensures.grows in
+    let begun = c.in_ok-keep.ensures.begun ∙ c.loop-rows.invariant.2 in
+    let longer = longer_still c.args.self.now.table.rows c.loop-rows.self.table.rows c.keep.new.self.table.rows c.loop-rows.invariant.3 c.in_ok-keep.ensures.grows in
     still_known common c.args.self.now c.keep.new.self longer begun known
 
 pub returns-in-Ok-None-clause-known : goal.returns-in-Ok-None-clause-known
 returns-in-Ok-None-clause-known c common run ran rep known =
     let coding : Coding = coding_in c.args.coding in
     let own : Program = program coding (at c.args.own) in
-    let now = c.loop-next.invariant.1 common run ran rep in
+    let now = c.loop-rows.invariant.1 common run ran rep in
     let m = c.run_stretch-next.new.machine in
     let none : c.in-Ok-None.field-0 ≡ None = rw c.in-Ok-None.is at c.in-Ok-None.field-0-is in
     let st = rw (c.in-Ok-None.is, none) at (c.run_stretch-next.ensures.ends c.args.start now.0 now.1) in
-    let kept = rw c.in-Ok-None.is at (subst (λ (b : Bool). Keeps c.loop-next.self.limits c.loop-next.location c.run_stretch-next.result m c.loop-next.self.table (Ok b) c.keep.new.self.table) c.if-not-branch.false c.in_ok-keep.ensures.rows) in
-    let begun = c.in_ok-keep.ensures.begun ∙ c.loop-next.invariant.2 in
-    let longer = longer_still c.args.self.now.table.rows c.loop-next.self.table.rows c.keep.new.self.table.rows c.loop-next.invariant.3 c.in_ok-keep.ensures.grows in
+    let kept = rw c.in-Ok-None.is at (kept_so c.loop-rows.self.limits _ _ c.run_stretch-next.result m c.loop-rows.self.table c.keep.new.self.table _ _ c.saturating_sub-distance.ensures c.if-not-branch.false c.in_ok-keep.ensures.rows) in
+    let begun = c.in_ok-keep.ensures.begun ∙ c.loop-rows.invariant.2 in
+    let longer = longer_still c.args.self.now.table.rows c.loop-rows.self.table.rows c.keep.new.self.table.rows c.loop-rows.invariant.3 c.in_ok-keep.ensures.grows in
     let before = still_known common c.args.self.now c.keep.new.self longer begun known in
-    let whole = kept_whole c.args.start c.args.end common own c.args.self.now.table run ran c.loop-next.location now.0 (left_of coding c.loop-next.instructions) c.loop-next.self.table now.2 c.loop-next.self.limits m (left_of coding c.run_stretch-next.new.instructions)
+    let whole = kept_whole c.args.start c.args.end common own c.args.self.now.table run ran c.loop-rows.location now.0 (left_of coding c.loop-rows.instructions) c.loop-rows.self.table now.2 c.loop-rows.self.limits m (left_of coding c.run_stretch-next.new.instructions)
     c.keep.new.self.table st kept in
     let moves = rw (c.in-Ok-None.is, none) at c.run_stretch-next.ensures.moves in
     subst (λ (t : KeptRows). AreKnown common t.rows (last c.note.new.self.begun).known) (sym c.note.ensures.table)
     (noted_unless common c.keep.new.self.table.rows (last c.keep.new.self.begun).known.slots (last c.note.new.self.begun).known.slots _ c.sets_location.result c.note.ensures.notes before
     (λ free.
     let ends = moves (sym c.sets_location.ensures ∙ free) in
-    let movable = c.loop-next.invariant.4 ends.0 ends.1 in
-    is_known c.args.start c.args.end common coding (at c.args.own) c.args.self.now.table c.keep.new.self.table c.loop-next.location whole movable now.2.below (omega arith) _ c.bytes.ensures refl refl refl (omega arith) c.len-first_row.ensures c.len.ensures (omega arith)))
+    let movable = c.loop-rows.invariant.4 ends.0 ends.1 in
+    is_known c.args.start c.args.end common coding (at c.args.own) c.args.self.now.table c.keep.new.self.table c.loop-rows.location whole movable now.2.below (omega arith) _ c.bytes.ensures refl refl c.saturating_sub-distance.ensures c.end-first.ensures c.end.ensures (omega arith)))
 
 pub returns-in_err-keep-clause-known : goal.returns-in_err-keep-clause-known
 returns-in_err-keep-clause-known c common run ran rep known =
-    let begun = c.in_err-keep.ensures.begun ∙ c.loop-next.invariant.2 in
-    let longer = longer_still c.args.self.now.table.rows c.loop-next.self.table.rows c.keep.new.self.table.rows c.loop-next.invariant.3 c.in_err-keep.ensures.grows in
+    let begun = c.in_err-keep.ensures.begun ∙ c.loop-rows.invariant.2 in
+    let longer = longer_still c.args.self.now.table.rows c.loop-rows.self.table.rows c.keep.new.self.table.rows c.loop-rows.invariant.3 c.in_err-keep.ensures.grows in
     still_known common c.args.self.now c.keep.new.self longer begun known
