@@ -1,6 +1,7 @@
 -- The step in a Mach-O module by its parts: what a look-up answers, and what an opcode gives.
 use Rattle.std.proofs.Common.{◌≡◌, ℕ, ◌+◌, ◌%◌, ◌^◌, false, List, Option, Some, None, Result, Ok, Err, refl, sym, ap, ◌∙◌, arith}
 use Rattle.memory_image.specs.Image.{Span, table_at}
+use Rattle.memory_image.specs.Results.{◌>>=◌}
 use Rattle.unwind_definitions.specs.Caller.{◌+w◌, Columns, StepFault, column_or_fault}
 use Rattle.unwinding_frames.specs.declared.frame.StepError.{StepError}
 use Rattle.macho_unwind_info.specs.declared.error.Error.{Error}
@@ -10,7 +11,7 @@ use Rattle.macho_unwind_info.specs.declared.opcodes.x86_64.OpcodeX86_64.TheVaria
 use Rattle.macho_unwind_info.specs.Listing.{Section, section_of}
 use Rattle.macho_unwind_info.specs.Lookup.{lookup_of}
 use Rattle.macho_unwind_info.specs.X86_64.{opcode_of}
-use Rattle.format_definitions.specs.CompactStep.{registers_back, then_on, half_or_fault, by_cfa, Stepped, stepped_with, MachoModule, answered_by, stepped_by, found_in, compact_step, macho_step}
+use Rattle.format_definitions.specs.CompactStep.{registers_back, half_or_fault, by_cfa, Stepped, stepped_with, MachoModule, answered_by, stepped_by, found_in, compact_step, macho_step}
 use Rattle.format_frames.specs.declared.error.FrameError.{FrameError}
 use Rattle.format_frames.specs.declared.error.FrameError.TheVariants.{MachO}
 use Rattle.format_frames.specs.declared.machine.Stepped.{Stepped as CodeStepped}
@@ -26,7 +27,7 @@ start_wraps image frames start a columns (FrameBased offset fields) = refl
 start_wraps image frames start a columns (FramelessImmediate size registers) = refl
 start_wraps image frames start a columns (FramelessIndirect at adjust registers) =
     let same : ((start % 2 ^ 64) +w at) ≡ (start +w at) = omega arith in
-    ap (λ (place : ℕ). Some (stepped_with false (then_on (half_or_fault image place) (λ size. then_on (column_or_fault (columns 7)) (λ sp. by_cfa image (registers_back registers) columns (sp +w (adjust + size))))))) same
+    ap (λ (place : ℕ). Some (stepped_with false (half_or_fault image place >>= (λ size. column_or_fault (columns 7) >>= (λ sp. by_cfa image (registers_back registers) columns (sp +w (adjust + size))))))) same
 start_wraps image frames start a columns (Dwarf offset) = refl
 start_wraps image frames start a columns InvalidFrameless = refl
 start_wraps image frames start a columns (UnrecognizedKind k) = refl

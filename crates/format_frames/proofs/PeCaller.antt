@@ -1,6 +1,5 @@
 -- The caller that the registers of an unwound frame give.
-use Rattle.std.proofs.Common.{◌≡◌, ℕ, zero, suc, List, replicate, Option, Result, Ok, Err, refl, ap, ◌∙◌}
-use Rattle.std.specs.Prelude.{slice_index}
+use Rattle.std.proofs.Common.{◌≡◌, ℕ, Option, Result, Ok, Err, ap, ◌∙◌}
 use Rattle.unwind_definitions.specs.Caller.{Columns}
 use Rattle.unwind_arch.specs.declared.x86_64.Context.{Context}
 use Rattle.unwind_arch.specs.ContextViews.{columns_of}
@@ -11,18 +10,6 @@ use Rattle.pe_unwind_info.specs.Machine.{Returned, Faulted, Registers, registers
 use Rattle.format_definitions.specs.PeRegisters.{registers_in}
 use Rattle.format_definitions.specs.PeStep.{PeFault, InFrame, columns_at}
 use Rattle.format_frames.proofs.PeRegisters.{unwound}
-
-abbrev pub zeros : ℕ → List ℕ
-zeros n = replicate n 0
-
-zero_at : (n k : ℕ) → ◌≡◌ {A = ℕ} (slice_index (zeros n) k) 0
-zero_at zero k = refl
-zero_at (suc n) zero = refl
-zero_at (suc n) (suc k) = zero_at n k
-
--- no XMM register holds anything
-pub no_xmm : ◌≡◌ {A = ℕ → ℕ} (λ k. slice_index (zeros 16) k) (λ k. 0)
-no_xmm = λ i k. zero_at 16 k i
 
 module _ (memory : Image) (stack : Stack) (rva : ℕ) (function : Option RuntimeFunction) (old : Context) (xmm : ℕ → ℕ) (none : ◌≡◌ {A = ℕ → ℕ} xmm (λ k. 0)) where
   from_none : framed memory stack rva function (registers_of (registers_in (columns_of old)).general xmm) ≡ framed memory stack rva function (registers_in (columns_of old))

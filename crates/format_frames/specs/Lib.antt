@@ -3,3 +3,4 @@ pub mod Refusals
 pub mod Modules
 pub mod Handlers
 pub mod HandlerViews
+pub mod Xmm

@@ -1,7 +1,9 @@
 -- Why a frame has no caller, as the code names it.
 use Rattle.std.specs.Prelude.{ℕ, ◌+◌, ◌%◌, ◌^◌, Bool, List, Option, Some, None, Result, Ok, Err}
+use Rattle.std.specs.Option.{option_map}
 use Rattle.std.specs.Result.{result_map_both}
 use Rattle.memory_image.specs.Image.{Span, table_at}
+use Rattle.memory_image.specs.Results.{◌>>=◌, result_map}
 use Rattle.unwind_definitions.specs.Caller.{Columns, StepFault}
 use Rattle.unwind_definitions.specs.Caller as calls
 use Rattle.unwind_arch.specs.declared.x86_64.Context.{Context}
@@ -36,17 +38,13 @@ macho_refusal (InStep e) = refusal_of e
 
 -- what a step in a Mach-O module gives, and what it is due to give
 abbrev pub macho_given : Result (Option CodeStepped) FrameError → Result (Option Stepped) FrameError
-macho_given (Ok None) = Ok None
-macho_given (Ok (Some s)) = Ok (Some (stepped_of s))
-macho_given (Err e) = Err e
+macho_given = result_map (option_map stepped_of)
 
 abbrev pub macho_due : Result (Option Stepped) MachoFault → Result (Option Stepped) FrameError
-macho_due (Ok caller) = Ok caller
-macho_due (Err e) = Err (macho_refusal e)
+macho_due = result_map_both (λ caller. caller) macho_refusal
 
 abbrev pub looked_up : ℕ → Result Section Error → Result (Option Listed) Error
-looked_up rva (Ok info) = lookup_of info rva
-looked_up rva (Err e) = Err e
+looked_up rva section = section >>= (λ info. lookup_of info rva)
 
 -- the function that a module's section has at an address relative to its base
 abbrev pub function_at : List Span → MachoModule → ℕ → Result (Option Listed) Error
@@ -58,8 +56,7 @@ caller_due image m a columns listed = macho_due (answered_by (compact_step image
 
 -- the same of a caller that there is
 abbrev pub caller_given : Result CodeStepped FrameError → Result (Option Stepped) FrameError
-caller_given (Ok s) = Ok (Some (stepped_of s))
-caller_given (Err e) = Err e
+caller_given = result_map (λ s. Some (stepped_of s))
 
 -- ---- PE
 
@@ -81,8 +78,7 @@ pe_refusal m rva (InFrame fault) = frame_refusal m rva fault
 
 -- the bytes of a function table, and those of the one that a module is due to have
 abbrev pub functions_given : Result FunctionTableEntries FrameError → Result (List ℕ) FrameError
-functions_given (Ok functions) = Ok (table_bytes functions)
-functions_given (Err e) = Err e
+functions_given = result_map table_bytes
 
 abbrev pub functions_due : PeModule → Option (List ℕ) → Result (List ℕ) FrameError
 functions_due m None = Err (PeInfo (address_in m m.table_rva))
@@ -94,14 +90,11 @@ handler_due m rva named = result_map_both (λ names. names) (frame_refusal m rva
 
 -- a caller's columns, or the fault of a frame
 abbrev pub frame_given : Result Context FrameFault → Result Columns PeFault
-frame_given (Ok c) = Ok (columns_of c)
-frame_given (Err fault) = Err (InFrame fault)
+frame_given = result_map_both columns_of InFrame
 
 -- what a step in a PE module gives, and what it is due to give
 abbrev pub pe_given : Result Context FrameError → Result Columns FrameError
-pe_given (Ok c) = Ok (columns_of c)
-pe_given (Err e) = Err e
+pe_given = result_map columns_of
 
 abbrev pub pe_due : PeModule → ℕ → Result Columns PeFault → Result Columns FrameError
-pe_due m rva (Ok columns) = Ok columns
-pe_due m rva (Err fault) = Err (pe_refusal m rva fault)
+pe_due m rva = result_map_both (λ columns. columns) (pe_refusal m rva)

@@ -17,9 +17,10 @@ ghost use Rattle.format_definitions.specs.CompactStep.{saved_as, saved_in, field
 ghost use Rattle.format_definitions.specs.CompactStep.{registers_back, with_column, half_or_fault};
 ghost use Rattle.format_definitions.specs.CompactStep.{read_up, read_down, by_frame, by_cfa};
 ghost use Rattle.format_definitions.specs.CompactStep.{by_description, frame_bases, compact_step};
-ghost use Rattle.format_frames.specs.Callers.{frame_left, field_read, place_below, size_in_code};
+ghost use Rattle.format_frames.specs.Callers.{frame_left, field_read, size_in_code};
 ghost use Rattle.format_frames.specs.Callers.{faulting, caller_by_row, description_given};
-ghost use Rattle.format_frames.specs.Callers.{stepped_given, opcode_given};
+ghost use Rattle.format_frames.specs.Callers.{stepped_given, opcode_given, listed_read};
+ghost use Rattle.format_frames.specs.Callers.{listed_given};
 
 use crate::machine::Stepped;
 use crate::memory::bytes_at;
@@ -172,13 +173,25 @@ fn read_up(
     Ok(())
 }
 
-// where the next register stands, below one that is listed
-fn place_below(place: u64, listed: Option<RegisterNameX86_64>) -> u64
-    ensures { result ≡ place_below place (saved_in listed) }
+// Reads a register that is listed, if one is, from the word at an address. Answers where the next one
+// stands. After a fault the registers are unspecified.
+#[inline(always)]
+fn read_listed(
+    stack: &Window<'_, '_>,
+    address: u64,
+    listed: Option<RegisterNameX86_64>,
+    caller: &mut Context,
+) -> Result<u64, StepError>
+    ensures { listed_given result caller.new
+        ≡ listed_read stack.now address (saved_in listed) (columns_of caller.old) }
 {
     match listed {
-        Some(_) => place.wrapping_sub(8),
-        None => place,
+        Some(register) => {
+            let value = word_at(stack, address)?;
+            write(caller, column(register), value);
+            Ok(address.wrapping_sub(8))
+        }
+        None => Ok(address),
     }
 }
 
@@ -196,8 +209,7 @@ fn read_down(
 {
     let mut place = address;
     for listed in registers {
-        read_field(stack, place, *listed, caller)?;
-        place = place_below(place, *listed);
+        place = read_listed(stack, place, *listed, caller)?;
     }
     Ok(())
 }

@@ -15,6 +15,7 @@ mod machine;
 mod macho;
 mod memory;
 mod pe;
+mod xmm;
 
 pub use compact::compact_step;
 pub use error::FrameError;

@@ -1,9 +1,11 @@
 // What a step gives, and the machine that is unwound in a PE module.
-ghost use Rattle.std.specs.Prelude.{◌≡◌, ◌<◌, slice_index};
+ghost use Rattle.std.specs.Prelude.{◌≡◌, ◌<◌};
+ghost use Rattle.memory_image.specs.Image.{word_at};
 ghost use Rattle.format_definitions.specs.PeRegisters.{column_at};
-ghost use Rattle.pe_unwind_info.specs.Machine.{changed};
-ghost use Rattle.pe_unwind_info.specs.Registers.{register_number, xmm_number};
+ghost use Rattle.pe_unwind_info.specs.Registers.{register_number};
 
+use crate::xmm::XmmWrites;
+use memory_image::MemoryImage;
 use pe_unwind_info::x86_64::{Register, UnwindState, XmmRegister};
 use unwind_arch::x86_64::{
     Context, R8, R9, R10, R11, R12, R13, R14, R15, RAX, RBP, RBX, RCX, RDI, RDX, RSI, RSP,
@@ -45,35 +47,34 @@ fn column(register: Register) -> usize
     }
 }
 
-// gives an XMM register another value
-fn write_xmm(registers: &mut [u128; 16], register: XmmRegister, value: u128)
-    ensures { (λ number. slice_index registers.new number)
-        ≡ changed (λ number. slice_index registers.old number) (xmm_number register) value }
+// the word of the stack at an address that isn't in a window
+#[cold]
+#[inline(never)]
+fn far_word(image: &MemoryImage<'_>, address: u64) -> Option<u64>
+    ensures { result ≡ word_at image.now address }
 {
-    registers[register as usize] = value;
+    image.read_u64(address)
 }
 
-// The registers that are unwound, and a window over the memory that the stack is part of. XMM
-// registers hold 0 until one is written, and are let go with it.
+// The registers that are unwound, and a window over the memory that the stack is part of. Of XMM
+// registers, whose values a caller doesn't get, nothing is kept but what proofs see.
 #[derive(Drop)]
 pub(crate) struct Machine<'w, 'i, 'a> {
     pub(crate) context: Context,
-    pub(crate) xmm_registers: Option<[u128; 16]>,
+    pub(crate) xmm_writes: XmmWrites,
     pub(crate) stack: &'w Window<'i, 'a>,
 }
 
 impl UnwindState for Machine<'_, '_, '_> {
-    ghost use Rattle.std.specs.Prelude.{slice_index, replicate};
-    ghost use Rattle.std.specs.Option.{unwrap_or};
     ghost use Rattle.memory_image.specs.Image.{word_at};
     ghost use Rattle.unwind_arch.specs.ContextViews.{columns_of};
     ghost use Rattle.format_definitions.specs.PeRegisters.{registers_in};
+    ghost use Rattle.format_frames.specs.Xmm.{xmm_after};
 
     ghost registers = { λ machine register. (registers_in (columns_of machine.context)).general
         register };
 
-    ghost xmm_registers = { λ machine register.
-        slice_index (unwrap_or machine.xmm_registers (replicate 16 0)) register };
+    ghost xmm_registers = { λ machine. xmm_after machine.xmm_writes.writes };
 
     ghost stack = { λ machine address. word_at machine.stack.now address };
 
@@ -81,10 +82,11 @@ impl UnwindState for Machine<'_, '_, '_> {
         self.context.registers[column(register)]
     }
 
+    #[inline(always)]
     fn read_stack(&mut self, addr: u64) -> Option<u64> {
         match self.stack.read_u64(addr) {
             Some(word) => Some(word),
-            None => self.stack.image().read_u64(addr),
+            None => far_word(self.stack.image(), addr),
         }
     }
 
@@ -94,8 +96,6 @@ impl UnwindState for Machine<'_, '_, '_> {
     }
 
     fn write_xmm_register(&mut self, register: XmmRegister, value: u128) {
-        let mut registers = self.xmm_registers.unwrap_or([0; 16]);
-        write_xmm(&mut registers, register, value);
-        self.xmm_registers = Some(registers);
+        self.xmm_writes.note(register as u8, value);
     }
 }

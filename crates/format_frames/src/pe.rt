@@ -15,6 +15,7 @@ ghost use Rattle.format_frames.specs.Refusals.{functions_given, functions_due, p
 use crate::error::FrameError;
 use crate::machine::Machine;
 use crate::memory::bytes_at;
+use crate::xmm::XmmWrites;
 use memory_image::MemoryImage;
 use pe_unwind_info::x86_64::{
     FrameFault, FunctionTableEntries, RuntimeFunction, try_unwind_function,
@@ -126,7 +127,7 @@ fn caller_by(
 {
     let mut machine = Machine {
         context: *context,
-        xmm_registers: None,
+        xmm_writes: XmmWrites::new(),
         stack,
     };
     let memory_at_rva = |rva: u32| -> Option<&[u8]>
