@@ -2,6 +2,7 @@
 use Rattle.std.proofs.Common.{◌≡◌, ℕ, zero, suc, ◌+◌, ◌*◌, ◌-◌, ◌/◌, ◌≤◌, Bool, true, false, cond, ltb, length, take, List, [], ◌∷◌, Option, Some, None, Result, Ok, Err, refl, ap, subst, arith}
 use Rattle.std.specs.Option.{option_and_then, option_map, option_map_or}
 use Rattle.memory_image.specs.Image.{Span, byte_at, number_at, half_at, word_at, table_at}
+use Rattle.memory_image.specs.Results.{◌>>=◌}
 use Rattle.unwind_definitions.specs.declared.error.Error.{Error as Fault}
 use Rattle.unwind_definitions.specs.Entries.{Fde}
 use Rattle.unwind_definitions.specs.Row.{RowInstructions, row_at}
@@ -39,7 +40,7 @@ use Rattle.pe_unwind_info.specs.Epilog.{sequence_of}
 use Rattle.pe_unwind_info.specs.Frame.{epilog_or_none, info_in, info_or, chained_of, operations_alone, from_place, follow, link_of, at_limit, epilog_in}
 use Rattle.pe_unwind_info.specs.FrameOf.{Image, then_follows, linked, left_by, tested, by_test, in_record, framed}
 use Rattle.pe_unwind_info.specs.FunctionTable.{functions_of, lookup_of as record_at}
-use Rattle.format_definitions.specs.CompactStep.{then_on, half_or_fault, read_up, read_down, by_frame, by_cfa, frame_bases, with_column, fields_up, registers_back, MachoModule, MachoFault, InSection, NoForm, InStep, answered_by, stepped_with, by_row, by_description, compact_step, stepped_by, found_in, macho_step}
+use Rattle.format_definitions.specs.CompactStep.{half_or_fault, read_up, read_down, by_frame, by_cfa, frame_bases, with_column, fields_up, registers_back, MachoModule, MachoFault, InSection, NoForm, InStep, answered_by, stepped_with, by_row, by_description, compact_step, stepped_by, found_in, macho_step}
 use Rattle.format_definitions.specs.CompactStep as compact
 use Rattle.format_definitions.specs.PeImage.{PeModule, memory_of, table_of}
 use Rattle.format_definitions.specs.PeRegisters.{registers_in}
@@ -74,10 +75,10 @@ OnFault image (Ok x) = Unit {0}
 OnFault image (Err (calls.Table e)) = Unit {0}
 OnFault image (Err (calls.Unmapped a)) = word_at image a ≡ None
 
-then_on_fault : {A B : Type 0} (image : List Span) (r : Result A calls.StepFault) (next : A → Result B calls.StepFault) → OnFault image r → ((x : A) → OnFault image (next x)) → OnFault image (then_on r next)
-then_on_fault image (Ok x) next on each = each x
-then_on_fault image (Err (calls.Table e)) next on each = tt
-then_on_fault image (Err (calls.Unmapped a)) next on each = on
+bind_fault : {A B : Type 0} (image : List Span) (r : Result A calls.StepFault) (next : A → Result B calls.StepFault) → OnFault image r → ((x : A) → OnFault image (next x)) → OnFault image (r >>= next)
+bind_fault image (Ok x) next on each = each x
+bind_fault image (Err (calls.Table e)) next on each = tt
+bind_fault image (Err (calls.Unmapped a)) next on each = on
 
 word_fault : (image : List Span) (a : ℕ) → OnFault image (calls.word_or_fault image a)
 word_fault image a = go (word_at image a) refl
@@ -101,12 +102,12 @@ up_fault : (image : List Span) (a : ℕ) (fields : List (Option CalleeSaved)) (c
 up_fault image a [] columns = tt
 up_fault image a (None ∷ fields) columns = up_fault image (a +w 8) fields columns
 up_fault image a (Some r ∷ fields) columns =
-    then_on_fault image (calls.word_or_fault image a) (λ v. read_up image (a +w 8) fields (with_column columns (column_of r) v)) (word_fault image a) (λ v. up_fault image (a +w 8) fields (with_column columns (column_of r) v))
+    bind_fault image (calls.word_or_fault image a) (λ v. read_up image (a +w 8) fields (with_column columns (column_of r) v)) (word_fault image a) (λ v. up_fault image (a +w 8) fields (with_column columns (column_of r) v))
 
 down_fault : (image : List Span) (a : ℕ) (rs : List CalleeSaved) (columns : calls.Columns) → OnFault image (read_down image a rs columns)
 down_fault image a [] columns = tt
 down_fault image a (r ∷ rs) columns =
-    then_on_fault image (calls.word_or_fault image a) (λ v. read_down image (a +w negative 8) rs (with_column columns (column_of r) v)) (word_fault image a) (λ v. down_fault image (a +w negative 8) rs (with_column columns (column_of r) v))
+    bind_fault image (calls.word_or_fault image a) (λ v. read_down image (a +w negative 8) rs (with_column columns (column_of r) v)) (word_fault image a) (λ v. down_fault image (a +w negative 8) rs (with_column columns (column_of r) v))
 
 ok_columns : calls.Columns → Result calls.Columns calls.StepFault
 ok_columns columns = Ok columns
@@ -115,15 +116,15 @@ frame_fault : (image : List Span) (offset : ℕ) (fields : List (Option CalleeSa
 frame_fault image offset fields columns rbp =
     let found : List (Option CalleeSaved) = take (offset / 8) fields in
     let at_end : calls.Columns → ℕ → ℕ → Result calls.Columns calls.StepFault = λ read saved ret. Ok (with_column (with_column (with_column read 6 saved) 7 (rbp +w 16)) 16 ret) in
-    let at_return : calls.Columns → ℕ → Result calls.Columns calls.StepFault = λ read saved. then_on (calls.word_or_fault image (rbp +w 8)) (at_end read saved) in
-    let at_saved : calls.Columns → Result calls.Columns calls.StepFault = λ read. then_on (calls.word_or_fault image rbp) (at_return read) in
-    then_on_fault image (read_up image (rbp +w negative offset) found columns) at_saved (up_fault image (rbp +w negative offset) found columns) (λ read.
-    then_on_fault image (calls.word_or_fault image rbp) (at_return read) (word_fault image rbp) (λ saved.
-    then_on_fault image (calls.word_or_fault image (rbp +w 8)) (at_end read saved) (word_fault image (rbp +w 8)) (λ ret. tt)))
+    let at_return : calls.Columns → ℕ → Result calls.Columns calls.StepFault = λ read saved. calls.word_or_fault image (rbp +w 8) >>= at_end read saved in
+    let at_saved : calls.Columns → Result calls.Columns calls.StepFault = λ read. calls.word_or_fault image rbp >>= at_return read in
+    bind_fault image (read_up image (rbp +w negative offset) found columns) at_saved (up_fault image (rbp +w negative offset) found columns) (λ read.
+    bind_fault image (calls.word_or_fault image rbp) (at_return read) (word_fault image rbp) (λ saved.
+    bind_fault image (calls.word_or_fault image (rbp +w 8)) (at_end read saved) (word_fault image (rbp +w 8)) (λ ret. tt)))
 
 cfa_fault : (image : List Span) (rs : List CalleeSaved) (columns : calls.Columns) (cfa : ℕ) → OnFault image (by_cfa image rs columns cfa)
 cfa_fault image rs columns cfa =
-    then_on_fault image (calls.word_or_fault image (cfa +w negative 8)) _ (word_fault image (cfa +w negative 8)) (λ ret. down_fault image (cfa +w negative 16) rs _)
+    bind_fault image (calls.word_or_fault image (cfa +w negative 8)) _ (word_fault image (cfa +w negative 8)) (λ ret. down_fault image (cfa +w negative 16) rs _)
 
 with_fault : (image : List Span) (signal : Bool) (r : Result calls.Columns calls.StepFault) → OnFault image r → OnFault image (stepped_with signal r)
 with_fault image signal (Ok columns) on = tt
@@ -154,15 +155,15 @@ opcode_fault : (image : List Span) (frames : Option ℕ) (start a : ℕ) (column
 opcode_fault image frames start a columns Null = tt
 opcode_fault image frames start a columns (FrameBased offset fields) =
     let next : ℕ → Result calls.Columns calls.StepFault = by_frame image offset (fields_up fields) columns in
-    with_fault image false (then_on (calls.column_or_fault (columns 6)) next) (then_on_fault image (calls.column_or_fault (columns 6)) next (column_fault image (columns 6)) (λ rbp. frame_fault image offset (fields_up fields) columns rbp))
+    with_fault image false (calls.column_or_fault (columns 6) >>= next) (bind_fault image (calls.column_or_fault (columns 6)) next (column_fault image (columns 6)) (λ rbp. frame_fault image offset (fields_up fields) columns rbp))
 opcode_fault image frames start a columns (FramelessImmediate size registers) =
     let next : ℕ → Result calls.Columns calls.StepFault = λ sp. by_cfa image (registers_back registers) columns (sp +w size) in
-    with_fault image false (then_on (calls.column_or_fault (columns 7)) next) (then_on_fault image (calls.column_or_fault (columns 7)) next (column_fault image (columns 7)) (λ sp. cfa_fault image (registers_back registers) columns (sp +w size)))
+    with_fault image false (calls.column_or_fault (columns 7) >>= next) (bind_fault image (calls.column_or_fault (columns 7)) next (column_fault image (columns 7)) (λ sp. cfa_fault image (registers_back registers) columns (sp +w size)))
 opcode_fault image frames start a columns (FramelessIndirect at adjust registers) =
     let next : ℕ → ℕ → Result calls.Columns calls.StepFault = λ size sp. by_cfa image (registers_back registers) columns (sp +w (adjust + size)) in
-    let sized : ℕ → Result calls.Columns calls.StepFault = λ size. then_on (calls.column_or_fault (columns 7)) (next size) in
-    with_fault image false (then_on (half_or_fault image (start +w at)) sized) (then_on_fault image (half_or_fault image (start +w at)) sized (half_fault image (start +w at)) (λ size.
-    then_on_fault image (calls.column_or_fault (columns 7)) (next size) (column_fault image (columns 7)) (λ sp. cfa_fault image (registers_back registers) columns (sp +w (adjust + size)))))
+    let sized : ℕ → Result calls.Columns calls.StepFault = λ size. calls.column_or_fault (columns 7) >>= next size in
+    with_fault image false (half_or_fault image (start +w at) >>= sized) (bind_fault image (half_or_fault image (start +w at)) sized (half_fault image (start +w at)) (λ size.
+    bind_fault image (calls.column_or_fault (columns 7)) (next size) (column_fault image (columns 7)) (λ sp. cfa_fault image (registers_back registers) columns (sp +w (adjust + size)))))
 opcode_fault image None start a columns (Dwarf offset) = tt
 opcode_fault image (Some table) start a columns (Dwarf offset) = description_fault image table a columns (fde_at (frame_bases table) (input_at image table) offset)
 opcode_fault image frames start a columns InvalidFrameless = tt

@@ -4,6 +4,7 @@ use Rattle.std.specs.Prelude.{◌⊎◌}
 use Rattle.std.specs.Option.{option_or, option_map_or}
 use Rattle.std.proofs.lemmas.Bool.{cases_lt}
 use Rattle.memory_image.specs.Image.{Span, word_at}
+use Rattle.memory_image.specs.Results.{◌>>=◌}
 use Rattle.unwind_definitions.specs.declared.error.Error.TheVariants.{NoCfaRegister}
 use Rattle.unwind_definitions.specs.Instructions as rules
 use Rattle.unwind_definitions.specs.Row.{RowInstructions, CfaRule, ColumnAndOffset, ByExpression, cfa_rule, rule_of}
@@ -59,7 +60,7 @@ unmapped_rule image columns cfa k b (rules.ValOffset n) e = absurd cc
 unmapped_rule image columns cfa k b (rules.InRegister q) e = absurd (held_mapped (columns q) b e)
 unmapped_rule image columns cfa k b (rules.Expression bytes) e = go (evaluation image bytes (cfa ∷ []) columns) refl e
   where
-    go : (r : Result ℕ calls.StepFault) → evaluation image bytes (cfa ∷ []) columns ≡ r → calls.then_word image r ≡ Err (calls.Unmapped b) → RuleReadsUnmapped image columns cfa (rules.Expression bytes) b
+    go : (r : Result ℕ calls.StepFault) → evaluation image bytes (cfa ∷ []) columns ≡ r → (r >>= calls.word_or_fault image) ≡ Err (calls.Unmapped b) → RuleReadsUnmapped image columns cfa (rules.Expression bytes) b
     go (Ok a) is e =
         let word = unmapped_word image a b e in
         inr (gives_address image columns bytes (cfa ∷ []) b (is ∙ ap Ok (sym word.0)), word.1)

@@ -10,7 +10,7 @@ use Rattle.fde_finders.specs.Finding.{FoundFde}
 use Rattle.stack_steps.specs.declared.answers.Stepped.{Stepped}
 use Rattle.stack_steps.specs.declared.answers.DeliverError.{DeliverError}
 use Rattle.stack_steps.specs.Modules.{SpaceValue}
-use Rattle.stack_steps.specs.Results.{◌>>=◌, result_map}
+use Rattle.memory_image.specs.Results.{◌>>=◌, result_map}
 use Rattle.stack_steps.specs.Stepping.{FrameAt, DescribedFrame, frame_with, frame_by, frame_of, described_caller, caller_by, caller_at, step_of}
 use Rattle.stack_steps.proofs.ContextLemmas.{IsWhole, context_of-columns}
 

@@ -23,7 +23,7 @@ use Rattle.format_frames.specs.Modules.{macho_module, pe_module}
 abbrev pub prepared_fde : PreparedTable → Fde → FoundFde
 prepared_fde table fde = record { fde = fde; bases = bases_of table.bases; table = table_of table.frames }
 
--- its row: the one in a room, or the one that the index lends
+-- its row, which the index lends
 abbrev pub IsKeptRow : Result RowValue Fault → RowInstructions → Type 0
 IsKeptRow (Ok row) run = IsRowOf row run
 IsKeptRow (Err e) run = ⊥
@@ -40,14 +40,14 @@ abbrev pub recorded_frame_of : RecordedFrame → FrameAt
 recorded_frame_of f = Recorded (pe_module f.container) f.rva (lookup_of (functions_of (table_bytes f.functions)) f.rva)
 
 -- what was found, and its row, as a frame of the definitions
-abbrev pub IsFrameOf : FoundFrame → RowValue → FrameAt → Type 0
-IsFrameOf (code.Searched found) row due = IsDescribedBy (answered found.now) (IsRowOf row) due
-IsFrameOf (code.Prepared table frame) row due = IsDescribedBy (prepared_fde table.now frame.fde) (IsKeptRow frame.row) due
-IsFrameOf (code.Compact frame) row due = due ≡ compact_frame_of frame
-IsFrameOf (code.Recorded frame) row due = due ≡ recorded_frame_of frame
+abbrev pub IsFrameOf : FoundFrame → FrameAt → Type 0
+IsFrameOf (code.Searched frame) due = IsDescribedBy (answered frame.found.now) (IsRowOf frame.row) due
+IsFrameOf (code.Prepared table frame) due = IsDescribedBy (prepared_fde table.now frame.fde) (IsKeptRow frame.row) due
+IsFrameOf (code.Compact frame) due = due ≡ compact_frame_of frame
+IsFrameOf (code.Recorded frame) due = due ≡ recorded_frame_of frame
 
--- what is found at a state, and the row that it leaves in its room
-abbrev pub GivesFrameAt : Result (Option FoundFrame) DeliverError → RowValue → Result (Option FrameAt) DeliverError → Type 0
-GivesFrameAt (Ok None) row due = due ≡ Ok None
-GivesFrameAt (Ok (Some found)) row due = (f : FrameAt) × (due ≡ Ok (Some f)) × IsFrameOf found row f
-GivesFrameAt (Err e) row due = due ≡ Err e
+-- what is found at a state
+abbrev pub GivesFrameAt : Result (Option FoundFrame) DeliverError → Result (Option FrameAt) DeliverError → Type 0
+GivesFrameAt (Ok None) due = due ≡ Ok None
+GivesFrameAt (Ok (Some found)) due = (f : FrameAt) × (due ≡ Ok (Some f)) × IsFrameOf found f
+GivesFrameAt (Err e) due = due ≡ Err e

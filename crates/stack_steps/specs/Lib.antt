@@ -4,7 +4,6 @@ pub mod Held
 pub mod Modules
 pub mod Preparing
 pub mod PreparedSample
-pub mod Results
 pub mod SpaceViews
 pub mod Stepping
 pub mod StopSample

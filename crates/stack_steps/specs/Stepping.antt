@@ -42,7 +42,7 @@ use Rattle.format_definitions.specs.PeRegisters.{registers_in}
 use Rattle.format_definitions.specs.PeStep.{PeFault, NoTable, InFrame, columns_at, pe_step}
 use Rattle.format_frames.specs.Refusals.{function_at}
 use Rattle.stack_steps.specs.Modules.{SpaceValue, module_at}
-use Rattle.stack_steps.specs.Results.{◌>>=◌, result_map}
+use Rattle.memory_image.specs.Results.{◌>>=◌, result_map}
 
 abbrev pub refusal_of : StepFault → DeliverError
 refusal_of (calls.Table e) = Table e

@@ -1,11 +1,10 @@
 // What the language of a frame asks. Itanium C++ ABI, exception handling, level II.
 ghost use Rattle.std.specs.Prelude.{◌≡◌};
 ghost use Rattle.fde_finders.specs.FoundViews.{answered};
-ghost use Rattle.frame_rows.specs.RowValue.{RowValue};
 ghost use Rattle.unwinding_frames.specs.LanguageViews.{action_of};
 ghost use Rattle.stack_steps.specs.Asking.{action_asked, described_action};
 ghost use Rattle.stack_steps.specs.FrameViews.{IsFrameOf, prepared_fde};
-ghost use Rattle.stack_steps.specs.Results.{result_map};
+ghost use Rattle.memory_image.specs.Results.{result_map};
 ghost use Rattle.stack_steps.specs.Stepping.{FrameAt};
 
 use crate::answers::{DeliverError, Stepped};
@@ -76,12 +75,12 @@ pub fn asked(
     state: &Stepped,
     frame: &FoundFrame<'_, '_>,
 ) -> Result<EhAction, DeliverError>
-    ensures { (row : RowValue) (f : FrameAt) → IsFrameOf frame.now row f →
+    ensures { (f : FrameAt) → IsFrameOf frame.now f →
         result_map action_of result ≡ action_asked image.now state.now.context
         state.now.signal f }
 {
     match frame {
-        FoundFrame::Searched(found) => described_asked(image, state, found),
+        FoundFrame::Searched(frame) => described_asked(image, state, frame.found),
         FoundFrame::Prepared(table, frame) => prepared_asked(image, state, table, frame),
         FoundFrame::Compact(frame) => frame.asked(),
         FoundFrame::Recorded(frame) => frame.asked(image),

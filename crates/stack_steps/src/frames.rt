@@ -1,12 +1,11 @@
 // Frames of Mach-O and PE modules: what is found for an address, and the caller by it.
-ghost use Rattle.std.specs.Prelude.{◌≡◌, ◌-◌, ◌<◌, ◌≤◌, ◌^◌, Bool, List};
+ghost use Rattle.std.specs.Prelude.{◌≡◌, ◌-◌, ◌<◌, ◌≤◌, ◌^◌, Bool, List, OnErr};
 ghost use Rattle.memory_image.specs.Image.{Span};
 ghost use Rattle.unwind_arch.specs.declared.x86_64.Context.{Context as Registers};
-ghost use Rattle.frame_rows.specs.RowValue.{RowValue};
 ghost use Rattle.unwinding_frames.specs.LanguageViews.{action_of};
 ghost use Rattle.stack_steps.specs.Asking.{action_asked};
 ghost use Rattle.stack_steps.specs.FrameViews.{GivesFrameAt, compact_frame_of, recorded_frame_of};
-ghost use Rattle.stack_steps.specs.Results.{result_map};
+ghost use Rattle.memory_image.specs.Results.{result_map};
 ghost use Rattle.stack_steps.specs.Stepping.{caller_by, frame_by_tables};
 ghost use Rattle.stack_steps.specs.declared.space.ModuleTables.TheVariants.{Macho, Pe};
 
@@ -21,19 +20,21 @@ use format_frames::{
 use macho_unwind_info::Function;
 use memory_image::MemoryImage;
 use pe_unwind_info::x86_64::FunctionTableEntries;
-use unwind_arch::x86_64::{Context, RSP};
+use unwind_arch::x86_64::RSP;
 use unwinding_frames::{EhAction, Window};
 
 /// A frame of a Mach-O module: the function that its section of compact unwinding has there.
-#[derive(Debug, Drop)]
-pub struct CompactFrame {
+#[derive(Drop)]
+pub struct CompactFrame<'f, 'a> {
     container: MachoModule,
     function: Function,
     // of the frame
     address: u64,
+    // where a row is made that the function's opcode may ask for
+    rows: &'f mut RowRoom<'a>,
 }
 
-impl CompactFrame {
+impl<'f, 'a> CompactFrame<'f, 'a> {
     /// What the function asks. A function with a language table is refused.
     pub(crate) fn asked(&self) -> Result<EhAction, DeliverError>
         ensures { (image : List Span) (c : Registers) (interrupted : Bool) →
@@ -47,26 +48,28 @@ impl CompactFrame {
         }
     }
 
-    /// Its caller, by the opcode of the function. A row that it asks for is made in `rows`, and
-    /// `stack` is a window over the image.
+    /// Puts its caller, by the opcode of the function, in the place of its state. After a fault the
+    /// state is as before. `stack` is a window over the image.
     #[inline(never)]
-    pub(crate) fn caller<'a>(
-        &self,
+    pub(crate) fn leave(
+        &mut self,
         stack: &mut Window<'_, 'a>,
-        context: &Context,
-        rows: &mut RowRoom<'a>,
-    ) -> Result<Stepped, DeliverError>
-        ensures caller { result ≡ caller_by stack.old context.now (compact_frame_of self.now) }
+        state: &mut Stepped,
+    ) -> Result<(), DeliverError>
+        ensures caller { result_map (λ done. state.new) result ≡
+            caller_by stack.old state.old.context (compact_frame_of self.old) }
+        ensures stays { OnErr result (state.new ≡ state.old) }
         ensures same { stack.new ≡ stack.old }
     {
         let (container, address) = (&self.container, self.address);
+        let context = &state.context;
+        let rows = &mut *self.rows;
         let caller = macho_caller(stack, container, &self.function, address, context, rows)?;
         // A look at them tells the proof that there are sixteen registers.
         let _ = caller.context.registers[RSP];
-        Ok(Stepped {
-            context: caller.context,
-            signal: caller.signal,
-        })
+        state.context = caller.context;
+        state.signal = caller.signal;
+        Ok(())
     }
 }
 
@@ -94,38 +97,42 @@ impl<'a> RecordedFrame<'a> {
         }
     }
 
-    /// Its caller, by the unwind records of the function. `stack` is a window over the image.
+    /// Puts its caller, by the unwind records of the function, in the place of its state. After a fault
+    /// the state is as before. `stack` is a window over the image.
     #[inline(never)]
-    pub(crate) fn caller(
+    pub(crate) fn leave(
         &self,
         stack: &mut Window<'_, '_>,
-        context: &Context,
-    ) -> Result<Stepped, DeliverError>
-        ensures caller { result ≡ caller_by stack.old context.now (recorded_frame_of self.now) }
+        state: &mut Stepped,
+    ) -> Result<(), DeliverError>
+        ensures caller { result_map (λ done. state.new) result ≡
+            caller_by stack.old state.old.context (recorded_frame_of self.now) }
+        ensures stays { OnErr result (state.new ≡ state.old) }
         ensures same { stack.new ≡ stack.old }
     {
+        let context = &state.context;
         let caller = pe_caller(stack, &self.container, &self.functions, self.rva, context)?;
         // A look at them tells the proof that there are sixteen registers.
         let _ = caller.registers[RSP];
-        Ok(Stepped {
-            context: caller,
-            signal: false,
-        })
+        state.context = caller;
+        state.signal = false;
+        Ok(())
     }
 }
 
-/// The frame at an address of a Mach-O module.
+/// The frame at an address of a Mach-O module. A row that its opcode may ask for is made in `rows`.
 #[inline(never)]
 pub(crate) fn compact_frame<'f, 'a>(
     image: &MemoryImage<'a>,
     address: u64,
     holder: &Module,
     tables: MachoTables,
+    rows: &'f mut RowRoom<'a>,
 ) -> Result<Option<FoundFrame<'f, 'a>>, DeliverError>
     requires from { holder.now.start ≤ address }
     requires within { address < holder.now.end }
     requires placed { holder.now.end - holder.now.start < 2 ^ 32 }
-    ensures { (row : RowValue) → GivesFrameAt result row
+    ensures { GivesFrameAt result
         (frame_by_tables image.now address holder.now (Macho tables)) }
 {
     let container = MachoModule {
@@ -139,6 +146,7 @@ pub(crate) fn compact_frame<'f, 'a>(
             container,
             function,
             address,
+            rows,
         }))),
         Ok(None) => Ok(None),
         Err(error) => Err(DeliverError::MachO(error)),
@@ -156,7 +164,7 @@ pub(crate) fn recorded_frame<'f, 'a>(
     requires from { holder.now.start ≤ address }
     requires within { address < holder.now.end }
     requires placed { holder.now.end - holder.now.start < 2 ^ 32 }
-    ensures { (row : RowValue) → GivesFrameAt result row
+    ensures { GivesFrameAt result
         (frame_by_tables image.now address holder.now (Pe tables)) }
 {
     let container = PeModule {

@@ -18,7 +18,7 @@ pub use frames::{CompactFrame, RecordedFrame};
 pub use laws::a_module_is_prepared;
 pub use prepared::PreparedTable;
 pub use space::{MachoTables, Module, ModuleTables, PeTables, Space, SpaceError};
-pub use stepping::{FoundFrame, frame_at, leave, step};
+pub use stepping::{FoundFrame, SearchedFrame, Stepper, step};
 pub use stops::{
     calls_and_stops_in_formats_are_described, stops_after_each_step_are_described,
     walks_from_stops_are_described,

@@ -140,8 +140,7 @@ impl<'a> Space<'a> {
     pub fn new(alloc: Global, image: MemoryImage<'a>) -> Space<'a>
         ensures { result ≡ record { image = image.entry; modules = []; added = [] } }
     {
-        // A look into it tells the proof that the image is laid out.
-        let _ = image.from(0);
+        image.laid_out();
         Space {
             image,
             modules: BTreeMap::new(alloc),

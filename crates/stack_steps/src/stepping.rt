@@ -1,6 +1,6 @@
 // From a frame to its caller, by the tables of the module that holds it.
-ghost use Rattle.std.specs.Prelude.{◌≡◌, ◌≢◌, ◌↔◌, ◌<◌, ◌≤◌, ◌^◌, ℕ, List, length, Some, None, Ok};
-ghost use Rattle.std.specs.Prelude.{Err, IsTrue, IsFalse, OnErr};
+ghost use Rattle.std.specs.Prelude.{◌≡◌, ◌≢◌, ◌↔◌, ◌<◌, ◌≤◌, ◌^◌, ℕ, List, length, Option, Some, None, Ok};
+ghost use Rattle.std.specs.Prelude.{Err, IfSome, IsNone, IsTrue, IsFalse, MatchOption, OnErr, Result};
 ghost use Rattle.memory_image.specs.Image.{Span, word_at, IsLaidOut};
 ghost use Rattle.unwind_definitions.specs.declared.error.Error.{Error as Fault};
 ghost use Rattle.unwind_definitions.specs.State.{State, Shows};
@@ -11,7 +11,6 @@ ghost use Rattle.unwind_arch.specs.ContextViews.{columns_of};
 ghost use Rattle.eh_frame.specs.Index.{AreFewSteps};
 ghost use Rattle.fde_finders.specs.declared.custom.FrameInfo.{FrameInfo as Tables};
 ghost use Rattle.fde_finders.specs.Named.{found_by, pairs_by};
-ghost use Rattle.frame_rows.specs.RowValue.{RowValue};
 ghost use Rattle.frame_rows.specs.Rows.{IsRowOf};
 ghost use Rattle.macho_unwind_info.specs.declared.error.Error.{Error as MachoFault};
 ghost use Rattle.format_definitions.specs.FormatCalls.{IsFormatCall};
@@ -24,7 +23,7 @@ ghost use Rattle.stack_steps.specs.SpaceViews.{process_of, formats_of};
 ghost use Rattle.stack_steps.specs.FrameViews.{IsFrameOf, GivesFrameAt};
 ghost use Rattle.stack_steps.specs.Ticking.{IsScannedAt, RisesBySearch, TicksAt, TicksIn};
 ghost use Rattle.stack_steps.specs.Ticking.{searched_at, module_pairs};
-ghost use Rattle.stack_steps.specs.Results.{result_map};
+ghost use Rattle.memory_image.specs.Results.{result_map};
 ghost use Rattle.stack_steps.specs.Stepping.{FrameAt, frame_by, frame_in, frame_of, caller_by};
 ghost use Rattle.stack_steps.specs.Stepping.{stepped_from};
 ghost use Rattle.stack_steps.specs.Stepping.{step_of, GivesCaller, EndsAt, FaultsAt};
@@ -41,6 +40,7 @@ use crate::space::{Held, Module, ModuleTables, Space};
 use eh_frame::{PreparedFrame, RowRef, RowRoom};
 use fde_finders::{FDESearchResult, FrameInfo, find_named};
 use memory_image::{Ledger, MemoryImage, Steps};
+use std::marker::Model;
 use unwind_arch::x86_64::{Arch, Context, RSP};
 use unwinding_frames::{Window, address_asked, write_caller};
 
@@ -56,25 +56,32 @@ impl Stepped {
 /// A frame of the stack: what was found for the address asked of it.
 #[derive(Drop)]
 pub enum FoundFrame<'f, 'a> {
-    /// In an ELF module by a search of its tables, lent from the place for it, as it is large. Its row
-    /// was made in the room for rows.
-    Searched(&'f FDESearchResult<'a>),
+    /// In an ELF module, by a search of its tables.
+    Searched(SearchedFrame<'f, 'a>),
     /// By the index of a prepared module, which lends its row.
     Prepared(&'f PreparedTable<'a>, PreparedFrame<'f, 'a>),
     /// In a Mach-O module.
-    Compact(CompactFrame),
+    Compact(CompactFrame<'f, 'a>),
     /// In a PE module.
     Recorded(RecordedFrame<'a>),
 }
 
+/// A frame of an ELF module that a search of its tables found.
+#[derive(Drop)]
+pub struct SearchedFrame<'f, 'a> {
+    /// What was found, lent from the place for it, as it is large.
+    pub found: &'f FDESearchResult<'a>,
+    /// Its row, lent from the room in which it was made.
+    pub row: RowRef<'f, 'a>,
+}
+
 impl<'f, 'a> FoundFrame<'f, 'a> {
-    /// How many bytes of the stack hold arguments that the callee removes. `rows` is the room for
-    /// rows in which it was found.
-    pub fn arguments(&self, rows: &RowRoom<'_>) -> u64
-        ensures { (f : FrameAt) → IsFrameOf self.now rows.now f → result ≡ arguments_of f }
+    /// How many bytes of the stack hold arguments that the callee removes.
+    pub fn arguments(&self) -> u64
+        ensures { (f : FrameAt) → IsFrameOf self.now f → result ≡ arguments_of f }
     {
         match self {
-            FoundFrame::Searched(_) => rows.row().saved_args_size(),
+            FoundFrame::Searched(frame) => frame.row.saved_args_size(),
             FoundFrame::Prepared(_, frame) => match frame.row() {
                 Ok(row) => row.saved_args_size(),
                 Err(_) => 0,
@@ -98,24 +105,27 @@ fn lent<'f, 'a>(
     }
 }
 
-/// The frame at an address of an ELF module, by its frame tables. The row is made in `rows`.
+/// The frame at an address of an ELF module, by its frame tables. It lends what was found from
+/// `place`, and its row from `rows`.
 fn searched_frame<'f, 'a, L: Ledger>(
     image: &MemoryImage<'a>,
     address: u64,
     tables: FrameInfo,
     place: &'f mut Option<FDESearchResult<'a>>,
-    rows: &mut RowRoom<'a>,
+    rows: &'f mut RowRoom<'a>,
     steps: &mut Steps<L>,
 ) -> Result<Option<FoundFrame<'f, 'a>>, DeliverError>
-    ensures frame { GivesFrameAt result rows.new
-        (frame_by address (found_by tables image.now address)) }
+    ensures frame { GivesFrameAt result (frame_by address (found_by tables image.now address)) }
     ensures ticks { RisesBySearch (pairs_by tables image.now) steps.old.number steps.new.number }
 {
     let Some(found) = find_named(image, address, tables, steps) else {
         return Ok(None);
     };
     match found.make_row(address, rows) {
-        Ok(()) => Ok(Some(FoundFrame::Searched(lent(place, found)))),
+        Ok(()) => Ok(Some(FoundFrame::Searched(SearchedFrame {
+            found: lent(place, found),
+            row: rows.row(),
+        }))),
         Err(fault) => Err(DeliverError::Table(fault)),
     }
 }
@@ -126,9 +136,9 @@ fn prepared_frame<'f, 'a, L: Ledger>(
     address: u64,
     steps: &mut Steps<L>,
 ) -> Result<Option<FoundFrame<'f, 'a>>, DeliverError>
-    ensures frame { (image : List Span) (tables : Tables) (row : RowValue) → IsLaidOut 0 image →
+    ensures frame { (image : List Span) (tables : Tables) → IsLaidOut 0 image →
         IsTableOf image tables table.now →
-        GivesFrameAt result row (frame_by address (found_by tables image address)) }
+        GivesFrameAt result (frame_by address (found_by tables image address)) }
     ensures ticks { AreFewSteps (length table.now.index.functions) steps.old.number
         steps.new.number }
 {
@@ -148,72 +158,20 @@ fn unprepared_frame<'f, 'a, L: Ledger>(
     address: u64,
     holder: &Module,
     place: &'f mut Option<FDESearchResult<'a>>,
-    rows: &mut RowRoom<'a>,
+    rows: &'f mut RowRoom<'a>,
     steps: &mut Steps<L>,
 ) -> Result<Option<FoundFrame<'f, 'a>>, DeliverError>
     requires placed { IsPlaced holder.now }
     requires from { holder.now.start ≤ address }
     requires within { address < holder.now.end }
-    ensures frame { GivesFrameAt result rows.new (frame_in image.now address (Some holder.now)) }
+    ensures frame { GivesFrameAt result (frame_in image.now address (Some holder.now)) }
     ensures ticks { RisesBySearch (module_pairs image.now holder.now.tables) steps.old.number
         steps.new.number }
 {
     match holder.tables {
-        ModuleTables::Elf(tables) => { searched_frame(image, address, tables, place, rows, steps) }
-        ModuleTables::Macho(tables) => compact_frame(image, address, holder, tables),
+        ModuleTables::Elf(tables) => searched_frame(image, address, tables, place, rows, steps),
+        ModuleTables::Macho(tables) => compact_frame(image, address, holder, tables, rows),
         ModuleTables::Pe(tables) => recorded_frame(image, address, holder, tables),
-    }
-}
-
-/// The frame at an address of a module.
-fn frame_in<'f, 'a, L: Ledger>(
-    image: &MemoryImage<'a>,
-    address: u64,
-    holder: &'f Held<'a>,
-    place: &'f mut Option<FDESearchResult<'a>>,
-    rows: &mut RowRoom<'a>,
-    steps: &mut Steps<L>,
-) -> Result<Option<FoundFrame<'f, 'a>>, DeliverError>
-    requires held { IsHeld image.now holder.now }
-    requires laid_out { IsLaidOut 0 image.now }
-    requires from { holder.now.holder.start ≤ address }
-    requires within { address < holder.now.holder.end }
-    ensures frame { GivesFrameAt result rows.new
-        (frame_in image.now address (Some holder.now.holder)) }
-    ensures ticks { TicksIn image.now (added_of holder.now) steps.old.number steps.new.number }
-{
-    match &holder.table {
-        Some(shared) => prepared_frame(shared.table(), address, steps),
-        None => unprepared_frame(image, address, &holder.holder, place, rows, steps),
-    }
-}
-
-/// The frame at a state: what was found for the address asked, `None` at the end of the stack. What
-/// isn't lent by an index is put into `place`, and its row made in `rows`.
-///
-/// `near` is where the module may stand in the order of adding. It changes no answer: who goes from
-/// frame to frame keeps it, so that the module of the frame before is tried first.
-#[tactic(auto, unfolding(crate::specs::Stepping::frame_of))]
-pub fn frame_at<'f, 'a, L: Ledger>(
-    space: &'f Space<'a>,
-    state: &Stepped,
-    near: &mut usize,
-    place: &'f mut Option<FDESearchResult<'a>>,
-    rows: &mut RowRoom<'a>,
-    steps: &mut Steps<L>,
-) -> Result<Option<FoundFrame<'f, 'a>>, DeliverError>
-    ensures frame { GivesFrameAt result rows.new
-        (frame_of space.now state.now.context state.now.signal) }
-    ensures ticks { TicksAt space.now state.now.context state.now.signal steps.old.number
-        steps.new.number }
-{
-    let image = space.image();
-    let address = state.address();
-    match space.held_near(address, near) {
-        Some(holder) if state.context.ra != 0 => {
-            frame_in(image, address, holder, place, rows, steps)
-        }
-        _ => Ok(None),
     }
 }
 
@@ -249,125 +207,162 @@ fn leave_described(
     }
 }
 
-/// Puts the caller of the frame at a state in the state's place. After a fault the state is as
-/// before. `stack` is a window over the image, and `rows` the room for rows in which the frame was
-/// found.
-pub fn leave<'a>(
-    stack: &mut Window<'_, 'a>,
-    state: &mut Stepped,
-    frame: &FoundFrame<'_, 'a>,
-    rows: &mut RowRoom<'a>,
-) -> Result<(), DeliverError>
-    ensures caller { (f : FrameAt) → IsFrameOf frame.now rows.old f →
-        result_map (λ done. state.new) result ≡ caller_by stack.old state.old.context f }
-    ensures stays { OnErr result (state.new ≡ state.old) }
-    ensures same { stack.new ≡ stack.old }
-{
-    match frame {
-        FoundFrame::Searched(found) => {
-            leave_described(stack, state, &rows.row(), found.fde.is_signal_trampoline())
+/// What goes from frame to frame over a space: beside the space a window over its image, and where
+/// the module of the frame before stands in the order of adding, which is tried first. Neither
+/// changes an answer.
+///
+/// Contracts see the space.
+#[derive(Drop)]
+pub struct Stepper<'s, 'a> {
+    space: &'s Space<'a>,
+    stack: Window<'s, 'a>,
+    near: usize,
+}
+
+impl<'s, 'a> Model for Stepper<'s, 'a> {
+    ghost use Rattle.std.specs.Prelude.{◌≡◌};
+    ghost use Rattle.stack_steps.specs.Modules.{SpaceValue};
+
+    ghost Value = { SpaceValue };
+
+    ghost view = { λ s. s.space.now };
+
+    ghost invariant = { λ s. s.stack ≡ s.space.now.image };
+}
+
+impl<'s, 'a> Stepper<'s, 'a> {
+    /// Over a space, with a window at a stack pointer.
+    pub fn new(space: &'s Space<'a>, stack_pointer: u64) -> Stepper<'s, 'a>
+        ensures { result ≡ space.now }
+    {
+        Stepper {
+            space,
+            stack: Window::new(space.image(), stack_pointer),
+            near: 0,
         }
-        FoundFrame::Prepared(_, prepared) => match prepared.row() {
-            Ok(row) => leave_described(stack, state, row, prepared.is_signal_trampoline()),
-            Err(fault) => Err(DeliverError::Table(fault)),
-        },
-        FoundFrame::Compact(compact) => {
-            *state = compact.caller(stack, &state.context, rows)?;
-            Ok(())
+    }
+
+    /// The image of the space.
+    pub fn image(&self) -> &'s MemoryImage<'a>
+        ensures image { result.now ≡ self.now.image }
+        ensures laid_out { IsLaidOut 0 self.now.image }
+    {
+        self.space.image()
+    }
+
+    /// The module whose tables are asked for the frame at a state, `None` at the end of the stack.
+    #[tactic(auto, unfolding(crate::specs::Stepping::frame_of))]
+    fn holder_at(&mut self, context: &Context, interrupted: bool) -> Option<&'s Held<'a>>
+        ensures ends { IsNone result → frame_of self.old context.now interrupted ≡ Ok None }
+        ensures frame { IfSome result (λ held.
+            frame_of self.old context.now interrupted ≡ frame_in self.old.image
+            (address_of_call context.now.ra interrupted) (Some held.now.holder)) }
+        ensures held { IfSome result (λ held. IsHeld self.old.image held.now) }
+        ensures within { IfSome result (λ held.
+            let address = address_of_call context.now.ra interrupted in
+            (held.now.holder.start ≤ address) × (address < held.now.holder.end)) }
+        ensures ticks { (old new : ℕ) →
+            MatchOption result (new ≡ old)
+            (λ held. TicksIn self.old.image (added_of held.now) old new) →
+            TicksAt self.old context.now interrupted old new }
+        ensures same { self.new ≡ self.old }
+    {
+        if context.ra == 0 {
+            return None;
         }
-        FoundFrame::Recorded(recorded) => {
-            *state = recorded.caller(stack, &state.context)?;
-            Ok(())
+        let address = address_asked(context.ra, interrupted);
+        self.space.held_near(address, &mut self.near)
+    }
+
+    /// The frame at a state: what was found for the address asked, `None` at the end of the stack.
+    /// What isn't lent by an index is put into `place`, and its row made in `rows`.
+    #[inline(always)]
+    pub fn frame_at<'f, L: Ledger>(
+        &mut self,
+        state: &Stepped,
+        place: &'f mut Option<FDESearchResult<'a>>,
+        rows: &'f mut RowRoom<'a>,
+        steps: &mut Steps<L>,
+    ) -> Result<Option<FoundFrame<'f, 'a>>, DeliverError>
+    where
+        's: 'f,
+        ensures frame { GivesFrameAt result
+            (frame_of self.old state.now.context state.now.signal) }
+        ensures ticks { TicksAt self.old state.now.context state.now.signal steps.old.number
+            steps.new.number }
+        ensures same { self.new ≡ self.old }
+    {
+        let image = self.image();
+        let Some(held) = self.holder_at(&state.context, state.signal) else {
+            return Ok(None);
+        };
+        let address = state.address();
+        match &held.table {
+            Some(shared) => prepared_frame(shared.table(), address, steps),
+            None => unprepared_frame(image, address, &held.holder, place, rows, steps),
+        }
+    }
+
+    /// Puts the caller of the frame at a state in the state's place. After a fault the state is as
+    /// before.
+    #[inline(always)]
+    pub fn leave(
+        &mut self,
+        state: &mut Stepped,
+        frame: &mut FoundFrame<'_, 'a>,
+    ) -> Result<(), DeliverError>
+        ensures caller { (f : FrameAt) → IsFrameOf frame.old f →
+            result_map (λ done. state.new) result ≡ caller_by self.old.image state.old.context f }
+        ensures stays { OnErr result (state.new ≡ state.old) }
+        ensures same { self.new ≡ self.old }
+    {
+        let stack = &mut self.stack;
+        match frame {
+            FoundFrame::Searched(searched) => {
+                let signal = searched.found.fde.is_signal_trampoline();
+                leave_described(stack, state, &searched.row, signal)
+            }
+            FoundFrame::Prepared(_, prepared) => match prepared.row() {
+                Ok(row) => leave_described(stack, state, row, prepared.is_signal_trampoline()),
+                Err(fault) => Err(DeliverError::Table(fault)),
+            },
+            FoundFrame::Compact(compact) => compact.leave(stack, state),
+            FoundFrame::Recorded(recorded) => recorded.leave(stack, state),
         }
     }
 }
 
-/// The step from a frame of a prepared module. The index lends its row, so there is no room for one.
-fn step_by_index<'a, L: Ledger>(
-    image: &MemoryImage<'a>,
-    table: &PreparedTable<'a>,
-    address: u64,
-    context: &Context,
-    steps: &mut Steps<L>,
-) -> Result<Option<Stepped>, DeliverError>
-    ensures exact { (tables : Tables) → IsLaidOut 0 image.now →
-        IsTableOf image.now tables table.now →
-        result ≡ stepped_from image.now context.now
-        (frame_by address (found_by tables image.now address)) }
-    ensures ticks { AreFewSteps (length table.now.index.functions) steps.old.number
-        steps.new.number }
-{
-    let Some(frame) = table.index.frame(address, steps) else {
-        return Ok(None);
-    };
-    let row = match frame.row() {
-        Ok(row) => row,
-        Err(fault) => return Err(DeliverError::Table(fault)),
-    };
-    let signal = frame.is_signal_trampoline();
-    let mut stack = Window::new(image, context.registers[RSP]);
-    let mut state = Stepped {
-        context: *context,
-        signal,
-    };
-    leave_described(&mut stack, &mut state, row, signal)?;
-    Ok(Some(state))
-}
-
-/// The step from a frame of a module that isn't prepared.
+/// The step from a frame of a module that isn't prepared. A room for its row is made here, as a
+/// function clears the places of its locals whenever it is called.
 #[inline(never)]
-fn step_by_tables<'a, L: Ledger>(
-    image: &MemoryImage<'a>,
-    holder: &Module,
-    address: u64,
+#[tactic(auto, unfolding(crate::specs::Stepping::step_of))]
+fn step_in_room<L: Ledger>(
+    stepper: &mut Stepper<'_, '_>,
     context: &Context,
+    interrupted: bool,
     steps: &mut Steps<L>,
 ) -> Result<Option<Stepped>, DeliverError>
-    requires placed { IsPlaced holder.now }
-    requires from { holder.now.start ≤ address }
-    requires within { address < holder.now.end }
-    ensures exact { result ≡ stepped_from image.now context.now
-        (frame_in image.now address (Some holder.now)) }
-    ensures ticks { RisesBySearch (module_pairs image.now holder.now.tables) steps.old.number
+    ensures exact { result ≡ step_of stepper.old context.now interrupted }
+    ensures ticks { TicksAt stepper.old context.now interrupted steps.old.number
         steps.new.number }
 {
-    let mut stack = Window::new(image, context.registers[RSP]);
-    let mut rows = RowRoom::new();
     let mut state = Stepped {
         context: *context,
-        signal: false,
+        signal: interrupted,
     };
     let mut place = None;
-    let Some(frame) = unprepared_frame(image, address, holder, &mut place, &mut rows, steps)? else {
-        return Ok(None);
+    let mut rows = RowRoom::new();
+    let mut found = stepper.frame_at(&state, &mut place, &mut rows, steps);
+    let frame = match &mut found {
+        Ok(Some(frame)) => frame,
+        Ok(None) => return Ok(None),
+        Err(error) => return Err(*error),
     };
-    leave(&mut stack, &mut state, &frame, &mut rows)?;
+    stepper.leave(&mut state, frame)?;
     Ok(Some(state))
 }
 
-/// The step from a frame of a module.
-fn step_in<'a, L: Ledger>(
-    image: &MemoryImage<'a>,
-    holder: &Held<'a>,
-    address: u64,
-    context: &Context,
-    steps: &mut Steps<L>,
-) -> Result<Option<Stepped>, DeliverError>
-    requires held { IsHeld image.now holder.now }
-    requires laid_out { IsLaidOut 0 image.now }
-    requires from { holder.now.holder.start ≤ address }
-    requires within { address < holder.now.holder.end }
-    ensures exact { result ≡ stepped_from image.now context.now
-        (frame_in image.now address (Some holder.now.holder)) }
-    ensures ticks { TicksIn image.now (added_of holder.now) steps.old.number steps.new.number }
-{
-    match &holder.table {
-        Some(shared) => step_by_index(image, shared.table(), address, context, steps),
-        None => step_by_tables(image, &holder.holder, address, context, steps),
-    }
-}
-
-#[tactic(auto, unfolding(crate::specs::Stepping::step_of, crate::specs::Stepping::frame_of))]
+#[tactic(auto, unfolding(crate::specs::Stepping::step_of))]
 fn stepped<L: Ledger>(
     space: &Space<'_>,
     context: &Context,
@@ -380,12 +375,27 @@ fn stepped<L: Ledger>(
     ensures word { context.now.ra < 2 ^ 64 }
     ensures ticks { TicksAt space.now context.now interrupted steps.old.number steps.new.number }
 {
-    let image = space.image();
-    let address = address_asked(context.ra, interrupted);
-    match space.held_at(address) {
-        Some(holder) if context.ra != 0 => step_in(image, holder, address, context, steps),
-        _ => Ok(None),
-    }
+    // No two of its modules share an address, as a space's type says.
+    let _ = space.image();
+    let mut stepper = Stepper::new(space, context.registers[RSP]);
+    let Some(held) = stepper.holder_at(context, interrupted) else {
+        return Ok(None);
+    };
+    let Some(shared) = &held.table else {
+        return step_in_room(&mut stepper, context, interrupted, steps);
+    };
+    let mut state = Stepped {
+        context: *context,
+        signal: interrupted,
+    };
+    let mut found = prepared_frame(shared.table(), state.address(), steps);
+    let frame = match &mut found {
+        Ok(Some(frame)) => frame,
+        Ok(None) => return Ok(None),
+        Err(error) => return Err(*error),
+    };
+    stepper.leave(&mut state, frame)?;
+    Ok(Some(state))
 }
 
 /// The caller of the frame whose registers `context` holds, `None` at the end of the stack.

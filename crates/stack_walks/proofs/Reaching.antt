@@ -6,7 +6,7 @@ use Rattle.stack_steps.specs.declared.answers.Stepped.{Stepped}
 use Rattle.stack_steps.specs.declared.answers.DeliverError.{DeliverError}
 use Rattle.stack_walks.specs.declared.outward.Phase.{Phase}
 use Rattle.stack_steps.specs.Modules.{SpaceValue}
-use Rattle.stack_steps.specs.Results.{◌>>=◌, result_map}
+use Rattle.memory_image.specs.Results.{◌>>=◌, result_map}
 use Rattle.stack_steps.specs.Stepping.{FrameAt, frame_of, caller_by, caller_at, step_of}
 use Rattle.stack_walks.specs.Walking.{RoomValue}
 use Rattle.stack_walks.specs.Turns.{Ends, Stops, Goes, turn_in, turn_for}

@@ -9,7 +9,7 @@ use Rattle.stack_walks.specs.declared.outward.Phase.{Phase}
 use Rattle.stack_walks.specs.declared.outward.Stop.{Stop as CodeStop}
 use Rattle.stack_walks.specs.declared.outward.Turn.TheVariants as code
 use Rattle.stack_steps.specs.Modules.{SpaceValue}
-use Rattle.stack_steps.specs.Results.{◌>>=◌, result_map}
+use Rattle.memory_image.specs.Results.{◌>>=◌, result_map}
 use Rattle.stack_steps.specs.Stepping.{FrameAt, frame_of, caller_by, caller_at, step_of}
 use Rattle.stack_walks.specs.Lines.{with_first, line_after, line_of}
 use Rattle.stack_walks.specs.Walking.{RoomValue, IsWalked}

@@ -1,5 +1,6 @@
 -- What a walk gives: the states from the start outwards.
 use Rattle.std.specs.Prelude.{◌≡◌, ◌⊎◌, ℕ, zero, suc, Bool, false, List, [], ◌∷◌, Option, Some, None, Result, Ok, Err}
+use Rattle.memory_image.specs.Results.{result_map}
 use Rattle.unwind_arch.specs.declared.x86_64.Context.{Context}
 use Rattle.stack_steps.specs.declared.answers.Stepped.{Stepped}
 use Rattle.stack_steps.specs.declared.answers.DeliverError.{DeliverError}
@@ -12,8 +13,7 @@ abbrev pub GivesUnlessNoMemory : {A : Type 0} → Result A DeliverError → Resu
 GivesUnlessNoMemory result answer = (result ≡ Err NoMemory) ⊎ (result ≡ answer)
 
 abbrev pub with_first : Context → Result (List Context) DeliverError → Result (List Context) DeliverError
-with_first c (Ok cs) = Ok (c ∷ cs)
-with_first c (Err e) = Err e
+with_first c = result_map (λ cs. c ∷ cs)
 
 -- what follows a context: nothing at the end of the stack, or its caller
 abbrev pub line_after : Context → Result (Option Stepped) DeliverError → (Context → Bool → Result (List Context) DeliverError) → Result (List Context) DeliverError

@@ -1,6 +1,7 @@
 -- What the code that goes outwards answers, in the words of the definitions.
 use Rattle.std.specs.Prelude.{◌≡◌, ◌++◌, ◌∷◌, [], Bool, true, false, List, Option, Some, None, Result, Ok, Err}
 use Rattle.std.specs.Option.{option_map}
+use Rattle.memory_image.specs.Results.{result_map}
 use Rattle.unwind_arch.specs.declared.x86_64.Context.{Context}
 use Rattle.unwinding_frames.specs.LanguageViews.{action_of}
 use Rattle.stack_steps.specs.declared.answers.DeliverError.{DeliverError}
@@ -59,5 +60,4 @@ IsOutward visited (Err e) room due = due ≡ Err e
 
 -- contexts that were met before a pass's
 abbrev pub with_contexts : List Context → Result Line DeliverError → Result Line DeliverError
-with_contexts front (Ok line) = Ok (record line { contexts = front ++ line.contexts })
-with_contexts front (Err e) = Err e
+with_contexts front = result_map (λ (line : Line). record line { contexts = front ++ line.contexts })

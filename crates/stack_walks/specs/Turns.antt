@@ -13,7 +13,7 @@ use Rattle.stack_steps.specs.declared.answers.DeliverError.TheVariants.{FrameLim
 use Rattle.stack_walks.specs.declared.outward.Phase.{Phase}
 use Rattle.stack_walks.specs.declared.outward.Phase.TheVariants as phase
 use Rattle.stack_steps.specs.Modules.{SpaceValue}
-use Rattle.stack_steps.specs.Results.{◌>>=◌, result_map}
+use Rattle.memory_image.specs.Results.{◌>>=◌, result_map}
 use Rattle.stack_steps.specs.Asking.{action_asked, arguments_of}
 use Rattle.stack_steps.specs.Stepping.{FrameAt, frame_of, caller_by}
 
@@ -75,8 +75,7 @@ pub record Line : Type 0 where
   pub stop : Option Stop
 
 abbrev pub with_context : Context → Result Line DeliverError → Result Line DeliverError
-with_context c (Ok line) = Ok (record line { contexts = c ∷ line.contexts })
-with_context c (Err e) = Err e
+with_context c = result_map (λ (line : Line). record line { contexts = c ∷ line.contexts })
 
 abbrev pub line_turn : Context → Bool → Result Turn DeliverError → (Context → Bool → Result Line DeliverError) → Result Line DeliverError
 line_turn c interrupted (Ok Ends) outer = Ok (record { contexts = c ∷ []; stop = None })

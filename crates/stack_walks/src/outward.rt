@@ -8,11 +8,10 @@ ghost use Rattle.stack_walks.specs.Turns.{stops, stop_of, past_arguments, turn_f
 ghost use Rattle.stack_walks.specs.Turns.{kept_at, pad_of, enters};
 ghost use Rattle.stack_walks.specs.Fronts.{reached_by, turned_from, IsReached};
 ghost use Rattle.stack_steps.specs.FrameViews.{IsFrameOf};
-ghost use Rattle.frame_rows.specs.RowValue.{RowValue};
 ghost use Rattle.stack_steps.specs.Stepping.{FrameAt};
 ghost use Rattle.stack_walks.specs.TurnViews.{turn_shown, visits};
 ghost use Rattle.stack_walks.specs.TurnViews.{visited_with, StaysAt, IsOutward};
-ghost use Rattle.stack_steps.specs.Results.{result_map};
+ghost use Rattle.memory_image.specs.Results.{result_map};
 ghost use Rattle.stack_walks.specs.ContextsMet.{contexts_met};
 ghost use Rattle.stack_steps.specs.Ticking.{RisesWithin, TicksAt};
 
@@ -20,9 +19,9 @@ use crate::room::Room;
 use eh_frame::RowRoom;
 use fde_finders::FDESearchResult;
 use memory_image::{Ledger, MemoryImage, Steps};
-use stack_steps::{DeliverError, FoundFrame, Space, Stepped, asked, frame_at, leave};
+use stack_steps::{DeliverError, FoundFrame, Space, Stepped, Stepper, asked};
 use unwind_arch::x86_64::{Context, RAX, RDX, RSP};
-use unwinding_frames::{EhAction, Window, frame_mark};
+use unwinding_frames::{EhAction, frame_mark};
 
 /// What a pass over the stack is for.
 #[derive(Clone, Copy)]
@@ -107,7 +106,7 @@ fn stop_action(
     state: &Stepped,
     frame: &FoundFrame<'_, '_>,
 ) -> Result<Option<EhAction>, DeliverError>
-    ensures { (row : RowValue) (f : FrameAt) → IsFrameOf frame.now row f →
+    ensures { (f : FrameAt) → IsFrameOf frame.now f →
         result_map (option_map action_of) result ≡ stop_of phase image.now state.now.context
         state.now.signal f }
 {
@@ -123,35 +122,32 @@ fn stop_action(
 }
 
 /// What a walk or a pass meets at a state. Where that is the caller, it stands in the state's
-/// place. `near` is where the module before stands among those of the space, and `place` for what a
-/// search finds.
+/// place. `place` is for what a search finds.
 #[tactic(auto, unfolding(crate::specs::Turns::turn_for))]
 fn meet<'a, L: Ledger>(
     phase: Option<Phase>,
-    space: &Space<'a>,
-    stack: &mut Window<'_, 'a>,
+    stepper: &mut Stepper<'_, 'a>,
     state: &mut Stepped,
-    near: &mut usize,
     place: &mut Option<FDESearchResult<'a>>,
     rows: &mut RowRoom<'a>,
     steps: &mut Steps<L>,
 ) -> Result<Turn, DeliverError>
-    requires { stack.old ≡ space.now.image }
-    ensures same { stack.new ≡ stack.old }
-    ensures met { result_map (turn_shown state.new) result ≡ turn_for phase space.now
+    ensures same { stepper.new ≡ stepper.old }
+    ensures met { result_map (turn_shown state.new) result ≡ turn_for phase stepper.old
         state.old.context state.old.signal }
     ensures stays { IfOk result (λ turn. StaysAt turn state.old state.new) }
     ensures unmoved { OnErr result (state.new ≡ state.old) }
-    ensures ticks { TicksAt space.now state.old.context state.old.signal steps.old.number
+    ensures ticks { TicksAt stepper.old state.old.context state.old.signal steps.old.number
         steps.new.number }
 {
     // It is lent from where it was found, as frames of some kinds are large.
-    match &frame_at(space, state, near, place, rows, steps) {
+    let mut found = stepper.frame_at(state, place, rows, steps);
+    match &mut found {
         Ok(Some(frame)) => {
-            if let Some(action) = stop_action(phase, space.image(), state, frame)? {
-                return Ok(Turn::Stop(action, frame.arguments(rows)));
+            if let Some(action) = stop_action(phase, stepper.image(), state, frame)? {
+                return Ok(Turn::Stop(action, frame.arguments()));
             }
-            leave(stack, state, frame, rows)?;
+            stepper.leave(state, frame)?;
             Ok(Turn::Caller)
         }
         Ok(None) => Ok(Turn::End),
@@ -196,14 +192,11 @@ pub fn outwards<'a, L: Ledger>(
         (contexts_met phase space.now limit state.old.context state.old.signal)
         steps.old.number steps.new.number }
 {
-    let mut stack = Window::new(space.image(), state.context.registers[RSP]);
-    let mut near = 0;
+    let mut stepper = Stepper::new(space, state.context.registers[RSP]);
     let mut place = None;
     for _ in 0..limit {
         visit(phase, state, room);
-        match meet(
-            phase, space, &mut stack, state, &mut near, &mut place, rows, steps,
-        )? {
+        match meet(phase, &mut stepper, state, &mut place, rows, steps)? {
             Turn::End => return Ok(None),
             Turn::Stop(action, arguments) => {
                 return Ok(Some(Stop {

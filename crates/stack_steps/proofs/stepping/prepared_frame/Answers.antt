@@ -13,12 +13,12 @@ use Rattle.stack_steps.proofs.IndexFinds.{none_shown, seen_by, shown_row, shown_
 use Rattle.stack_steps.proofs.stepping.prepared_frame.Goals as goal
 
 pub returns-in_default-clause-frame : goal.returns-in_default-clause-frame
-returns-in_default-clause-frame g c image tables row laid is =
+returns-in_default-clause-frame g c image tables laid is =
     let scanned = c.frame.ensures.scan (bases_of c.args.table.now.bases) (table_of c.args.table.now.frames) is.prepared in
     none_shown image tables c.args.table.now c.args.address laid is (scanned ∙ ap shown_answer c.in_default.is)
 
 pub returns-in-Err-clause-frame : goal.returns-in-Err-clause-frame
-returns-in-Err-clause-frame g c image tables row laid is =
+returns-in-Err-clause-frame g c image tables laid is =
     let t = c.args.table.now in
     let frame = c.in-Some.frame in
     let scanned = c.in-Some.ensures.scan (bases_of t.bases) (table_of t.frames) is.prepared in
@@ -29,7 +29,7 @@ returns-in-Err-clause-frame g c image tables row laid is =
     shown_fault image tables t c.args.address frame.fde fault laid is scanned due
 
 pub returns-in-Ok-clause-frame : goal.returns-in-Ok-clause-frame
-returns-in-Ok-clause-frame g c image tables row laid is =
+returns-in-Ok-clause-frame g c image tables laid is =
     let t = c.args.table.now in
     let frame = c.in-Some.frame in
     let scanned = c.in-Some.ensures.scan (bases_of t.bases) (table_of t.frames) is.prepared in

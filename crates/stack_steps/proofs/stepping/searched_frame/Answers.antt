@@ -1,4 +1,6 @@
-use Rattle.std.proofs.Common.{ap}
+use Rattle.std.proofs.Common.{ap, subst, sym}
+use Rattle.frame_rows.specs.RowValue.{RowValue}
+use Rattle.frame_rows.specs.Rows.{IsRowOf}
 use Rattle.fde_finders.specs.FoundViews.{answered}
 use Rattle.fde_finders.specs.Named.{found_by}
 use Rattle.stack_steps.specs.Stepping.{Described}
@@ -10,5 +12,5 @@ returns-in-Ok-clause-frame g c =
     let made = rw c.in-Ok.is at c.make_row.ensures.row in (
       Described (record { found = answered c.in-Some.found; run = made.0 }),
       frame_found c.args.address (found_by c.args.tables c.args.image.now c.args.address) (answered c.in-Some.found) made.0 (rw c.in-Some.is at c.find_named.ensures.found) made.1,
-      (ap answered c.lent.ensures, made.2),
+      (ap answered c.lent.ensures, subst (λ (row : RowValue). IsRowOf row made.0) (sym c.row.ensures) made.2),
     )

@@ -18,7 +18,7 @@ loop-init g c =
       stays = λ unvisited. refl;
       trail = refl;
       places = refl;
-      window = c.new-stack.ensures ∙ c.image.ensures.image;
+      over = c.new-stepper.ensures;
       ticks = rises_none c.args.space.now c.args.steps.now.number;
     }
 
@@ -30,14 +30,14 @@ returns-in_err-meet-clause-exact g c =
     let p = err_from_is_err_and c.from_residual.result c.from_residual.ensures.1 in
     let turns : c.args.limit - c.loop.counter ≡ suc (c.args.limit - (c.loop.counter + 1)) = omega arith in
     let line = c.loop.invariant.line in
-    rw (p.1, p.2) (line_faults c.args.phase c.args.space.now _ _ c.loop.state line.0 _ turns line.1 c.in_err-meet.field-0.0 (sym c.in_err-meet.ensures.met))
+    rw (p.1, p.2) (line_faults c.args.phase c.args.space.now _ _ c.loop.state line.0 _ turns line.1 c.in_err-meet.field-0.0 (sym (rw c.loop.invariant.over at c.in_err-meet.ensures.met)))
 
 pub returns-in-End-clause-exact : goal.returns-in-End-clause-exact
 returns-in-End-clause-exact g c =
     let turns : c.args.limit - c.loop.counter ≡ suc (c.args.limit - (c.loop.counter + 1)) = omega arith in
     let line = c.loop.invariant.line in (
       line.0 ++ c.loop.state.context ∷ [],
-      line_ends c.args.phase c.args.space.now _ _ c.loop.state line.0 _ turns line.1 (sym (rw c.in-End.is at c.in_ok-meet.ensures.met)),
+      line_ends c.args.phase c.args.space.now _ _ c.loop.state line.0 _ turns line.1 (sym (rw (c.loop.invariant.over, c.in-End.is) at c.in_ok-meet.ensures.met)),
       rw c.visit.ensures (more_visited (visits c.args.phase) c.loop.room c.loop.state.context line.0 line.2),
     )
 
@@ -46,7 +46,7 @@ returns-in-Stop-clause-exact g c =
     let turns : c.args.limit - c.loop.counter ≡ suc (c.args.limit - (c.loop.counter + 1)) = omega arith in
     let line = c.loop.invariant.line in (
       line.0 ++ c.loop.state.context ∷ [],
-      line_stops c.args.phase c.args.space.now _ _ c.loop.state line.0 _ turns line.1 c.meet.new.state c.in-Stop.action c.in-Stop.arguments (rw c.in-Stop.is at c.in_ok-meet.ensures.stays) (sym (rw c.in-Stop.is at c.in_ok-meet.ensures.met)),
+      line_stops c.args.phase c.args.space.now _ _ c.loop.state line.0 _ turns line.1 c.meet.new.state c.in-Stop.action c.in-Stop.arguments (rw c.in-Stop.is at c.in_ok-meet.ensures.stays) (sym (rw (c.loop.invariant.over, c.in-Stop.is) at c.in_ok-meet.ensures.met)),
       rw c.visit.ensures (more_visited (visits c.args.phase) c.loop.room c.loop.state.context line.0 line.2),
     )
 
@@ -58,48 +58,48 @@ loop-preserved g c =
     record {
       line = (
         line.0 ++ c.loop.state.context ∷ [],
-        line_goes c.args.phase c.args.space.now _ _ c.loop.state line.0 _ turns line.1 c.meet.new.state (sym (rw c.in-Caller.is at c.in_ok-meet.ensures.met)),
+        line_goes c.args.phase c.args.space.now _ _ c.loop.state line.0 _ turns line.1 c.meet.new.state (sym (rw (c.loop.invariant.over, c.in-Caller.is) at c.in_ok-meet.ensures.met)),
         rw c.visit.ensures (more_visited (visits c.args.phase) c.loop.room c.loop.state.context line.0 line.2),
-        reached_next (turned_from c.args.phase c.args.space.now) _ _ c.loop.state line.0 _ turns line.3 c.meet.new.state (turned_goes c.args.phase c.args.space.now c.loop.state c.meet.new.state (sym (rw c.in-Caller.is at c.in_ok-meet.ensures.met))),
+        reached_next (turned_from c.args.phase c.args.space.now) _ _ c.loop.state line.0 _ turns line.3 c.meet.new.state (turned_goes c.args.phase c.args.space.now c.loop.state c.meet.new.state (sym (rw (c.loop.invariant.over, c.in-Caller.is) at c.in_ok-meet.ensures.met))),
         length-append line.0 (c.loop.state.context ∷ []) ∙ ap (λ (n : ℕ). n + 1) line.4,
       );
       visited = rw c.visit.ensures (visited_count (visits c.args.phase) c.loop.room c.loop.state.context c.loop.counter c.loop.invariant.visited);
       stays = λ is. rw c.visit.ensures (unvisited (visits c.args.phase) c.loop.room c.loop.state.context is ∙ c.loop.invariant.stays is);
       trail = rw c.visit.ensures (keeps.0 ∙ c.loop.invariant.trail);
       places = rw c.visit.ensures (keeps.1 ∙ c.loop.invariant.places);
-      window = c.in_ok-meet.ensures.same ∙ c.loop.invariant.window;
-      ticks = rises_by_one c.args.space.now c.loop.state.context c.loop.state.signal c.loop.counter _ _ _ c.loop.invariant.ticks c.in_ok-meet.ensures.ticks;
+      over = c.in_ok-meet.ensures.same ∙ c.loop.invariant.over;
+      ticks = rises_by_one c.args.space.now c.loop.state.context c.loop.state.signal c.loop.counter _ _ _ c.loop.invariant.ticks (rw c.loop.invariant.over at c.in_ok-meet.ensures.ticks);
     }
 
 pub returns-in_err-meet-clause-ticks : goal.returns-in_err-meet-clause-ticks
 returns-in_err-meet-clause-ticks g c =
     let turns : c.args.limit - c.loop.counter ≡ suc (c.args.limit - (c.loop.counter + 1)) = omega arith in
     let line = c.loop.invariant.line in
-    let here = turned_faults c.args.phase c.args.space.now c.loop.state c.in_err-meet.field-0.0 (sym c.in_err-meet.ensures.met) in
+    let here = turned_faults c.args.phase c.args.space.now c.loop.state c.in_err-meet.field-0.0 (sym (rw c.loop.invariant.over at c.in_err-meet.ensures.met)) in
     rises_to c.args.space.now _ _ _ _ (sym (met_here _ line.0 c.loop.state c.loop.counter line.4 (reached_here (turned_from c.args.phase c.args.space.now) _ _ c.loop.state line.0 _ turns line.3 here)))
-    (rises_by_one c.args.space.now c.loop.state.context c.loop.state.signal c.loop.counter _ _ _ c.loop.invariant.ticks c.in_err-meet.ensures.ticks)
+    (rises_by_one c.args.space.now c.loop.state.context c.loop.state.signal c.loop.counter _ _ _ c.loop.invariant.ticks (rw c.loop.invariant.over at c.in_err-meet.ensures.ticks))
 
 pub returns-in-End-clause-ticks : goal.returns-in-End-clause-ticks
 returns-in-End-clause-ticks g c =
     let turns : c.args.limit - c.loop.counter ≡ suc (c.args.limit - (c.loop.counter + 1)) = omega arith in
     let line = c.loop.invariant.line in
-    let here = turned_ends c.args.phase c.args.space.now c.loop.state (sym (rw c.in-End.is at c.in_ok-meet.ensures.met)) in
+    let here = turned_ends c.args.phase c.args.space.now c.loop.state (sym (rw (c.loop.invariant.over, c.in-End.is) at c.in_ok-meet.ensures.met)) in
     rises_to c.args.space.now _ _ _ _ (sym (met_here _ line.0 c.loop.state c.loop.counter line.4 (reached_here (turned_from c.args.phase c.args.space.now) _ _ c.loop.state line.0 _ turns line.3 here)))
-    (rises_by_one c.args.space.now c.loop.state.context c.loop.state.signal c.loop.counter _ _ _ c.loop.invariant.ticks c.in_ok-meet.ensures.ticks)
+    (rises_by_one c.args.space.now c.loop.state.context c.loop.state.signal c.loop.counter _ _ _ c.loop.invariant.ticks (rw c.loop.invariant.over at c.in_ok-meet.ensures.ticks))
 
 pub returns-in-Stop-clause-ticks : goal.returns-in-Stop-clause-ticks
 returns-in-Stop-clause-ticks g c =
     let turns : c.args.limit - c.loop.counter ≡ suc (c.args.limit - (c.loop.counter + 1)) = omega arith in
     let line = c.loop.invariant.line in
-    let here = turned_stops c.args.phase c.args.space.now c.loop.state _ _ (sym (rw c.in-Stop.is at c.in_ok-meet.ensures.met)) in
+    let here = turned_stops c.args.phase c.args.space.now c.loop.state _ _ (sym (rw (c.loop.invariant.over, c.in-Stop.is) at c.in_ok-meet.ensures.met)) in
     rises_to c.args.space.now _ _ _ _ (sym (met_here _ line.0 c.loop.state c.loop.counter line.4 (reached_here (turned_from c.args.phase c.args.space.now) _ _ c.loop.state line.0 _ turns line.3 here)))
-    (rises_by_one c.args.space.now c.loop.state.context c.loop.state.signal c.loop.counter _ _ _ c.loop.invariant.ticks c.in_ok-meet.ensures.ticks)
+    (rises_by_one c.args.space.now c.loop.state.context c.loop.state.signal c.loop.counter _ _ _ c.loop.invariant.ticks (rw c.loop.invariant.over at c.in_ok-meet.ensures.ticks))
 
 pub returns-in_err-meet-clause-reached : goal.returns-in_err-meet-clause-reached
 returns-in_err-meet-clause-reached g c =
     let turns : c.args.limit - c.loop.counter ≡ suc (c.args.limit - (c.loop.counter + 1)) = omega arith in
     let line = c.loop.invariant.line in
-    let here = turned_faults c.args.phase c.args.space.now c.loop.state c.in_err-meet.field-0.0 (sym c.in_err-meet.ensures.met) in
+    let here = turned_faults c.args.phase c.args.space.now c.loop.state c.in_err-meet.field-0.0 (sym (rw c.loop.invariant.over at c.in_err-meet.ensures.met)) in
     stands (visits c.args.phase) _ _ c.loop.state _ _
     (rw c.visit.ensures (more_visited (visits c.args.phase) c.loop.room c.loop.state.context line.0 line.2))
     c.in_err-meet.ensures.unmoved
@@ -109,7 +109,7 @@ pub returns-in-End-clause-reached : goal.returns-in-End-clause-reached
 returns-in-End-clause-reached g c =
     let turns : c.args.limit - c.loop.counter ≡ suc (c.args.limit - (c.loop.counter + 1)) = omega arith in
     let line = c.loop.invariant.line in
-    let here = turned_ends c.args.phase c.args.space.now c.loop.state (sym (rw c.in-End.is at c.in_ok-meet.ensures.met)) in
+    let here = turned_ends c.args.phase c.args.space.now c.loop.state (sym (rw (c.loop.invariant.over, c.in-End.is) at c.in_ok-meet.ensures.met)) in
     stands (visits c.args.phase) _ _ c.loop.state _ _
     (rw c.visit.ensures (more_visited (visits c.args.phase) c.loop.room c.loop.state.context line.0 line.2))
     (rw c.in-End.is at c.in_ok-meet.ensures.stays)
@@ -119,7 +119,7 @@ pub returns-in-Stop-clause-reached : goal.returns-in-Stop-clause-reached
 returns-in-Stop-clause-reached g c =
     let turns : c.args.limit - c.loop.counter ≡ suc (c.args.limit - (c.loop.counter + 1)) = omega arith in
     let line = c.loop.invariant.line in
-    let here = turned_stops c.args.phase c.args.space.now c.loop.state _ _ (sym (rw c.in-Stop.is at c.in_ok-meet.ensures.met)) in
+    let here = turned_stops c.args.phase c.args.space.now c.loop.state _ _ (sym (rw (c.loop.invariant.over, c.in-Stop.is) at c.in_ok-meet.ensures.met)) in
     stands (visits c.args.phase) _ _ c.loop.state _ _
     (rw c.visit.ensures (more_visited (visits c.args.phase) c.loop.room c.loop.state.context line.0 line.2))
     (rw c.in-Stop.is at c.in_ok-meet.ensures.stays)

@@ -16,6 +16,6 @@ invariant-loop g l = record {
   stays : visits l.phase ≡ false → l.room ≡ l.fn.room;
   trail : l.room.trail ≡ l.fn.room.trail;
   places : l.room.limit ≡ l.fn.room.limit;
-  window : l.stack ≡ l.space.image;
+  over : l.stepper ≡ l.space;
   ticks : RisesWithin l.space l.counter l.fn.steps.number l.steps.number;
 }

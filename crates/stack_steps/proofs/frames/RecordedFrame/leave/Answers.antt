@@ -3,10 +3,10 @@ use Rattle.pe_unwind_info.specs.FunctionTable.{functions_of, lookup_of, table_by
 use Rattle.format_frames.specs.Modules.{pe_module}
 use Rattle.stack_steps.specs.Stepping.{recorded_columns}
 use Rattle.stack_steps.proofs.FormatCallers.{records_give}
-use Rattle.stack_steps.proofs.frames.RecordedFrame.caller.Goals as goal
+use Rattle.stack_steps.proofs.frames.RecordedFrame.leave.Goals as goal
 
 pub returns-clause-caller : goal.returns-clause-caller
 returns-clause-caller c =
     let m = pe_module c.args.self.now.container in
     let rva = c.args.self.now.rva in
-    records_give m rva (recorded_columns c.args.stack.now c.args.context.now m rva (lookup_of (functions_of (table_bytes c.args.self.now.functions)) rva)) c.in_ok-caller.caller (omega arith) c.in_ok-caller.ensures.caller
+    records_give m rva (recorded_columns c.args.stack.now c.args.state.now.context m rva (lookup_of (functions_of (table_bytes c.args.self.now.functions)) rva)) c.in_ok-caller.caller (omega arith) c.in_ok-caller.ensures.caller
