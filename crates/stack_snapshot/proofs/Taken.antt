@@ -38,7 +38,7 @@ free_module taken m free = by_size (fits m.tables (m.end - m.start)) free
     by_size true e = go (leb m.end m.start) refl (lowest_shared taken m.start m.end) refl e
     by_size false e = absurd cc
 
-apart_after : (taken ms : List Module) → AreApart 0 taken → takes_modules taken ms ≡ true → AreApart 0 (modules_after taken ms)
+pub apart_after : (taken ms : List Module) → AreApart 0 taken → takes_modules taken ms ≡ true → AreApart 0 (modules_after taken ms)
 apart_after taken [] apart takes = apart
 apart_after taken (m ∷ ms) apart takes =
     let both = lists.both_true (is_none (given_refusal taken m)) (takes_modules (with_module m taken) ms) takes in
@@ -63,7 +63,7 @@ free_region image s free = go (eqb (length s.bytes) 0) refl (ltb (2 ^ 64) (s.sta
     go false some false fits (Some n) is e = absurd cc
     go false some false fits None is e = record { some = grind (arith, nat_tests); fits = grind (arith, nat_tests); apart = is }
 
-laid_after : (image ss : List Span) → IsLaidOut 0 image → takes_regions image ss ≡ true → IsLaidOut 0 (image_of image ss)
+pub laid_after : (image ss : List Span) → IsLaidOut 0 image → takes_regions image ss ≡ true → IsLaidOut 0 (image_of image ss)
 laid_after image [] laid takes = laid
 laid_after image (s ∷ ss) laid takes =
     let both = lists.both_true (is_none (refusal image s.start s.bytes)) (takes_regions (with_span s image) ss) takes in

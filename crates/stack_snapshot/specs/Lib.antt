@@ -4,6 +4,7 @@ pub mod Content
 pub mod Snapshot
 pub mod Answers
 pub mod Owned
+pub mod Ranges
 pub mod Names
 pub mod Origins
 pub mod Parts

@@ -47,9 +47,13 @@ region_list = each_of region_of
 abbrev pub if_taken : List Span → Option (List Span)
 if_taken rs = if takes_regions [] rs then Some rs else None
 
+-- the regions that are listed
+abbrev pub listed_regions : Data → Option (List Span)
+listed_regions d = option_and_then region_list (option_and_then as_array (get (codes "regions") d))
+
 -- regions that an image takes, one after another
 unfoldable pub regions_of : Data → Option (List Span)
-regions_of d = option_and_then if_taken (option_and_then region_list (option_and_then as_array (get (codes "regions") d)))
+regions_of d = option_and_then if_taken (listed_regions d)
 
 -- ---- modules
 
@@ -131,9 +135,13 @@ module_list = each_of module_of
 abbrev pub if_space_takes : List Module → Option (List Module)
 if_space_takes ms = if takes_modules [] ms then Some ms else None
 
+-- the modules that are listed
+abbrev pub listed_modules : Data → Option (List Module)
+listed_modules d = option_and_then module_list (option_and_then as_array (get (codes "modules") d))
+
 -- modules that a space takes, one after another
 unfoldable pub modules_of : Data → Option (List Module)
-modules_of d = option_and_then if_space_takes (option_and_then module_list (option_and_then as_array (get (codes "modules") d)))
+modules_of d = option_and_then if_space_takes (listed_modules d)
 
 -- ---- the start
 

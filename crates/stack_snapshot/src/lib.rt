@@ -30,6 +30,7 @@ mod errors;
 mod fields;
 mod origins;
 mod parts;
+mod ranges;
 mod reading;
 mod snapshot;
 

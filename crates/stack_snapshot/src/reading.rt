@@ -1,11 +1,11 @@
 // From JSON to a snapshot.
-ghost use Rattle.std.specs.Prelude.{◌≡◌, ◌≢◌, ◌<◌, [], true, length, IfOk, Err, ◌⊎◌, is_some};
-ghost use Rattle.std.specs.Prelude.{option_map};
-ghost use Rattle.serde_json.specs.Find.{get};
+ghost use Rattle.std.specs.Prelude.{◌≡◌, ◌≢◌, ◌<◌, length, IfOk, Err, ◌⊎◌, is_some, codes};
+ghost use Rattle.std.specs.Prelude.{option_and_then, option_map};
+ghost use Rattle.serde_json.specs.Find.{as_array, get};
 ghost use Rattle.serde_json.specs.View.{view, items_view};
-ghost use Rattle.stack_snapshot.specs.Snapshot.{needs, region_of, region_list, regions_of};
+ghost use Rattle.stack_snapshot.specs.Snapshot.{needs, region_of, region_list};
 ghost use Rattle.stack_snapshot.specs.Snapshot.{frame_kind_of, frame_info_of, elf_of, module_of};
-ghost use Rattle.stack_snapshot.specs.Snapshot.{module_list, modules_of, registers_in};
+ghost use Rattle.stack_snapshot.specs.Snapshot.{module_list, registers_in};
 ghost use Rattle.stack_snapshot.specs.Snapshot.{register_names, start_of, resume_in, resume_of};
 ghost use Rattle.stack_snapshot.specs.Snapshot.{resume_list, resumes_of, limit_of, interrupted_of};
 ghost use Rattle.stack_snapshot.specs.Snapshot.{whole_numbers, snapshot_of, word_if_given, if_half};
@@ -15,8 +15,7 @@ ghost use Rattle.stack_deliver.specs.Resumes.{resume_table};
 ghost use Rattle.stack_snapshot.specs.Fields.{bytes_at};
 ghost use Rattle.stack_snapshot.specs.Answers.{Gives, ReadsValue, content_of, value_of};
 ghost use Rattle.stack_snapshot.specs.Origins.{origins_by, snapshot_in};
-ghost use Rattle.stack_snapshot.specs.Content.{takes_regions, takes_modules};
-ghost use Rattle.stack_snapshot.specs.Owned.{span_of, spans_of};
+ghost use Rattle.stack_snapshot.specs.Owned.{list_view, span_of, spans_of};
 
 use crate::errors::{Field, SnapshotError};
 use crate::fields::{as_word, has_float, number_at, word_at, word_or_zero_at};
@@ -54,31 +53,27 @@ fn region_of(alloc: Global, value: &Value) -> Result<Region, SnapshotError>
     Ok(Region { address, bytes })
 }
 
-/// Each item a region.
-fn region_list(alloc: Global, items: &[Value]) -> Result<Vec<Region>, SnapshotError>
+/// Each item a region. An item is let go once it is read.
+fn region_list(alloc: Global, items: Vec<Value>) -> Result<Vec<Region>, SnapshotError>
     ensures { Gives (λ regions. spans_of regions.items) result
-        (needs Field.Regions (region_list (items_view items.now))) }
+        (needs Field.Regions (region_list (items_view items.items))) }
 {
-    let mut regions = Vec::new(alloc);
+    let mut regions = Vec::with_capacity(alloc, items.len())?;
     for item in items {
-        regions.push(region_of(alloc, item)?)?;
+        regions.push(region_of(alloc, &item)?)?;
     }
     Ok(regions)
 }
 
-/// The regions, which an image takes in their order.
-#[tactic(auto, unfolding(crate::specs::Snapshot::regions_of))]
-fn regions_of(alloc: Global, value: &Value) -> Result<Vec<Region>, SnapshotError>
-    ensures reads { Gives (λ regions. spans_of regions.items) result
-        (needs Field.Regions (regions_of (view value.now))) }
-    ensures taken { IfOk result (λ regions. takes_regions [] (spans_of regions.items) ≡ true) }
+/// The regions that a list says, where there is one.
+fn listed_regions(alloc: Global, items: Option<Vec<Value>>) -> Result<Vec<Region>, SnapshotError>
+    ensures { Gives (λ regions. spans_of regions.items) result
+        (needs Field.Regions (option_and_then region_list (list_view items))) }
 {
-    let items = value
-        .get("regions")
-        .and_then(Value::as_array)
-        .ok_or(SnapshotError::Bad(Field::Regions))?;
-    let regions = region_list(alloc, items)?;
-    taken_regions(alloc, regions)
+    match items {
+        Some(items) => region_list(alloc, items),
+        None => Err(SnapshotError::Bad(Field::Regions)),
+    }
 }
 
 /// The word at a key, where it is given.
@@ -206,31 +201,27 @@ fn module_of(value: &Value) -> Option<Module>
     }
 }
 
-/// Each item a module.
-fn module_list(alloc: Global, items: &[Value]) -> Result<Vec<Module>, SnapshotError>
+/// Each item a module. An item is let go once it is read.
+fn module_list(alloc: Global, items: Vec<Value>) -> Result<Vec<Module>, SnapshotError>
     ensures { Gives (λ modules. modules.items) result
-        (needs Field.Modules (module_list (items_view items.now))) }
+        (needs Field.Modules (module_list (items_view items.items))) }
 {
-    let mut modules = Vec::new(alloc);
+    let mut modules = Vec::with_capacity(alloc, items.len())?;
     for item in items {
-        modules.push(module_of(item).ok_or(SnapshotError::Bad(Field::Modules))?)?;
+        modules.push(module_of(&item).ok_or(SnapshotError::Bad(Field::Modules))?)?;
     }
     Ok(modules)
 }
 
-/// The modules, which a space takes in their order.
-#[tactic(auto, unfolding(crate::specs::Snapshot::modules_of))]
-fn modules_of(alloc: Global, value: &Value) -> Result<Vec<Module>, SnapshotError>
-    ensures reads { Gives (λ modules. modules.items) result
-        (needs Field.Modules (modules_of (view value.now))) }
-    ensures taken { IfOk result (λ modules. takes_modules [] modules.items ≡ true) }
+/// The modules that a list says, where there is one.
+fn listed_modules(alloc: Global, items: Option<Vec<Value>>) -> Result<Vec<Module>, SnapshotError>
+    ensures { Gives (λ modules. modules.items) result
+        (needs Field.Modules (option_and_then module_list (list_view items))) }
 {
-    let items = value
-        .get("modules")
-        .and_then(Value::as_array)
-        .ok_or(SnapshotError::Bad(Field::Modules))?;
-    let modules = module_list(alloc, items)?;
-    taken_modules(alloc, modules)
+    match items {
+        Some(items) => module_list(alloc, items),
+        None => Err(SnapshotError::Bad(Field::Modules)),
+    }
 }
 
 /// The general registers by their columns, 0 where a word is missing.
@@ -351,33 +342,71 @@ fn is_whole(value: &Value) -> bool
     !has_float(value) && value.is_object()
 }
 
-/// The snapshot that a value says, or its first faulty field.
-#[tactic(auto, unfolding(crate::specs::Snapshot::snapshot_of))]
-fn snapshot_of(alloc: Global, value: &Value) -> Result<Snapshot, SnapshotError>
-    ensures { Gives (λ snapshot. snapshot) result (snapshot_of (view value.now)) }
+/// The items of the two long lists, where they are there.
+#[derive(Drop)]
+struct Lists {
+    regions: Option<Vec<Value>>,
+    modules: Option<Vec<Value>>,
+}
+
+/// The items of an array.
+fn items_of(value: Option<Value>) -> Option<Vec<Value>>
+    ensures { list_view result ≡ option_and_then as_array (option_map view value) }
 {
-    if !is_whole(value) {
+    match value {
+        Some(Value::Array(items)) => Some(items),
+        _ => None,
+    }
+}
+
+/// Takes the long lists out of a value, and lets the rest of it go.
+fn lists_of(value: Value) -> Lists
+    ensures regions { list_view result.regions ≡
+        option_and_then as_array (get (codes "regions") (view value)) }
+    ensures modules { list_view result.modules ≡
+        option_and_then as_array (get (codes "modules") (view value)) }
+{
+    match value {
+        Value::Object(mut members) => Lists {
+            regions: items_of(members.remove("regions")),
+            modules: items_of(members.remove("modules")),
+        },
+        _ => Lists {
+            regions: None,
+            modules: None,
+        },
+    }
+}
+
+/// The snapshot that a value says, or its first faulty field.
+///
+/// The value takes several times the memory of what it says. So each field is read, also behind a
+/// faulty one, and the value let go, before it is tested whether the long lists are taken.
+#[tactic(auto, unfolding(crate::specs::Snapshot::snapshot_of, crate::specs::Snapshot::regions_of, crate::specs::Snapshot::modules_of))]
+fn snapshot_of(alloc: Global, value: Value) -> Result<Snapshot, SnapshotError>
+    ensures { Gives (λ snapshot. snapshot) result (snapshot_of (view value)) }
+{
+    if !is_whole(&value) {
         return Err(SnapshotError::Bad(Field::Object));
     }
-    let regions = regions_of(alloc, value)?;
-    let modules = modules_of(alloc, value)?;
-    let start = start_of(value).ok_or(SnapshotError::Bad(Field::Start))?;
-    let exception = word_or_zero_at(value, "exception").ok_or(SnapshotError::Bad(
-        Field::Exception,
-    ))?;
-    let class = word_or_zero_at(value, "class").ok_or(SnapshotError::Bad(Field::Class))?;
-    let resumes = resumes_of(alloc, value)?;
-    let limit = limit_of(value).ok_or(SnapshotError::Bad(Field::Limit))?;
-    let interrupted = interrupted_of(value).ok_or(SnapshotError::Bad(Field::Interrupted))?;
+    let start = start_of(&value);
+    let exception = word_or_zero_at(&value, "exception");
+    let class = word_or_zero_at(&value, "class");
+    let resumes = resumes_of(alloc, &value);
+    let limit = limit_of(&value);
+    let interrupted = interrupted_of(&value);
+    let lists = lists_of(value);
+    let regions = listed_regions(alloc, lists.regions)?;
+    let modules = listed_modules(alloc, lists.modules);
     Ok(Snapshot {
-        regions,
-        modules,
-        start,
-        exception,
-        class,
-        resumes,
-        limit,
-        interrupted,
+        regions: taken_regions(alloc, regions)?,
+        modules: taken_modules(alloc, modules?)?,
+        start: start.ok_or(SnapshotError::Bad(Field::Start))?,
+        exception: exception.ok_or(SnapshotError::Bad(Field::Exception))?,
+        class: class.ok_or(SnapshotError::Bad(Field::Class))?,
+        resumes: resumes?,
+        limit: limit.ok_or(SnapshotError::Bad(Field::Limit))?,
+        interrupted: interrupted.ok_or(SnapshotError::Bad(Field::Interrupted))?,
     })
 }
 
@@ -408,7 +437,7 @@ pub fn read_snapshot(alloc: Global, bytes: &[u8]) -> Result<Snapshot, SnapshotEr
     ensures memory { result ≡ Err SnapshotError.NoMemory → 0 < length bytes.now }
 {
     let value = value_in(alloc, bytes)?;
-    snapshot_of(alloc, &value)
+    snapshot_of(alloc, value)
 }
 
 /// Reads a snapshot, and from which files its modules come.
@@ -425,7 +454,7 @@ pub fn read_named_snapshot(
     ensures origins { IfOk result (λ both. both.1 ≡ origins_by (value_of bytes.now)) }
 {
     let value = value_in(alloc, bytes)?;
-    let snapshot = snapshot_of(alloc, &value)?;
-    let origins = origins_of(alloc, &value)?;
-    Ok((snapshot, origins))
+    let origins = origins_of(alloc, &value);
+    let snapshot = snapshot_of(alloc, value)?;
+    Ok((snapshot, origins?))
 }

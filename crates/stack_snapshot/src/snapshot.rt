@@ -1,15 +1,17 @@
 // A snapshot: memory by regions, the modules in it, and a delivery to make.
-ghost use Rattle.std.specs.Prelude.{◌≡◌, IfOk, MatchOption, map, true, false, []};
-ghost use Rattle.stack_steps.specs.Modules.{unprepared};
+ghost use Rattle.std.specs.Prelude.{◌≡◌, IfOk, MatchOption, map, option_map, true, false, []};
+ghost use Rattle.stack_steps.specs.Modules.{fits, unprepared};
 ghost use Rattle.stack_snapshot.specs.Answers.{Gives};
 ghost use Rattle.stack_snapshot.specs.Content.{image_of, modules_after, space_of, takes_regions};
 ghost use Rattle.stack_snapshot.specs.Content.{takes_modules};
-ghost use Rattle.stack_snapshot.specs.Owned.{spans_of};
+ghost use Rattle.stack_snapshot.specs.Owned.{span_of, spans_of};
+ghost use Rattle.stack_snapshot.specs.Ranges.{each_in, module_range, region_range};
 ghost use Rattle.stack_snapshot.specs.Snapshot.{needs, if_taken, if_space_takes};
 
 use crate::errors::{Field, SnapshotError};
+use crate::ranges::{AddressRange, are_disjoint};
 use memory_image::{ImageError, MemoryImage};
-use stack_deliver::{Context, Module, Resumes, Space, SpaceError};
+use stack_deliver::{Context, Module, ModuleTables, Resumes, Space, SpaceError};
 use std::alloc::{AllocError, Global};
 use std::marker::Model;
 
@@ -170,6 +172,91 @@ fn space_of_modules<'a>(
     Ok(Some(space))
 }
 
+/// The addresses of a region, where an image may take it.
+fn region_range(region: &Region) -> Option<AddressRange>
+    ensures { result ≡ region_range (span_of region.now) }
+{
+    let first = region.address;
+    let rest = region.bytes.len().checked_sub(1)?;
+    let last = first.checked_add(rest as u64)?;
+    Some(AddressRange { first, last })
+}
+
+/// The addresses of each region.
+fn region_ranges(alloc: Global, regions: &[Region]) -> Result<Option<Vec<AddressRange>>, AllocError>
+    ensures { IfOk result (λ ranges. option_map (λ ranges. ranges.items) ranges ≡
+        each_in region_range (spans_of regions.now)) }
+{
+    let mut ranges = Vec::with_capacity(alloc, regions.len())?;
+    for region in regions {
+        match region_range(region) {
+            Some(range) => ranges.push(range)?,
+            None => return Ok(None),
+        }
+    }
+    Ok(Some(ranges))
+}
+
+/// Whether an image takes the regions in their order. None is made for that.
+fn takes_regions(alloc: Global, regions: &[Region]) -> Result<bool, AllocError>
+    ensures { IfOk result (λ takes. takes ≡ takes_regions [] (spans_of regions.now)) }
+{
+    match region_ranges(alloc, regions)? {
+        Some(ranges) => are_disjoint(ranges),
+        None => Ok(false),
+    }
+}
+
+/// Whether a module of a format may have so many bytes.
+fn fits(tables: ModuleTables, size: u64) -> bool
+    ensures { result ≡ fits tables size }
+{
+    match tables {
+        ModuleTables::Elf(_) => true,
+        ModuleTables::Macho(_) | ModuleTables::Pe(_) => size < 0x1_0000_0000,
+    }
+}
+
+/// The addresses of a module, where a space may take it.
+fn module_range(module: Module) -> Option<AddressRange>
+    ensures { result ≡ module_range «module» }
+{
+    let Module { start, end, tables } = module;
+    if start < end && fits(tables, end - start) {
+        Some(AddressRange {
+            first: start,
+            last: end - 1,
+        })
+    } else {
+        None
+    }
+}
+
+/// The addresses of each module.
+fn module_ranges(alloc: Global, modules: &[Module]) -> Result<Option<Vec<AddressRange>>, AllocError>
+    ensures { IfOk result (λ ranges. option_map (λ ranges. ranges.items) ranges ≡
+        each_in module_range modules.now) }
+{
+    let mut ranges = Vec::with_capacity(alloc, modules.len())?;
+    for module in modules {
+        match module_range(*module) {
+            Some(range) => ranges.push(range)?,
+            None => return Ok(None),
+        }
+    }
+    Ok(Some(ranges))
+}
+
+/// Whether a space takes the modules in their order. None is made for that.
+fn takes_modules(alloc: Global, modules: &[Module]) -> Result<bool, AllocError>
+    ensures { IfOk result (λ takes. takes ≡ takes_modules [] modules.now) }
+{
+    match module_ranges(alloc, modules)? {
+        Some(ranges) => are_disjoint(ranges),
+        None => Ok(false),
+    }
+}
+
 /// The regions, where an image takes them in their order.
 pub(crate) fn taken_regions(
     alloc: Global,
@@ -179,11 +266,11 @@ pub(crate) fn taken_regions(
         (needs Field.Regions (if_taken (spans_of regions.items))) }
     ensures taken { IfOk result (λ taken. takes_regions [] (spans_of taken.items) ≡ true) }
 {
-    match image_of_regions(alloc, &regions)? {
-        Some(_) => {}
-        None => return Err(SnapshotError::Bad(Field::Regions)),
+    if takes_regions(alloc, &regions)? {
+        Ok(regions)
+    } else {
+        Err(SnapshotError::Bad(Field::Regions))
     }
-    Ok(regions)
 }
 
 /// The modules, where a space takes them in their order.
@@ -195,9 +282,9 @@ pub(crate) fn taken_modules(
         (needs Field.Modules (if_space_takes modules.items)) }
     ensures taken { IfOk result (λ taken. takes_modules [] taken.items ≡ true) }
 {
-    match space_of_modules(alloc, MemoryImage::new(alloc), &modules)? {
-        Some(_) => {}
-        None => return Err(SnapshotError::Bad(Field::Modules)),
+    if takes_modules(alloc, &modules)? {
+        Ok(modules)
+    } else {
+        Err(SnapshotError::Bad(Field::Modules))
     }
-    Ok(modules)
 }
