@@ -36,7 +36,7 @@ use Rattle.stack_deliver.specs.Passes.{PassEnd, Finishes, Elsewhere, end_at, end
 use Rattle.stack_deliver.specs.StackDelivery.{DeliveryValue, delivery_after, delivery_at, delivery_to, delivery_by, stack_delivery}
 use Rattle.stack_deliver.specs.Resumes.{return_of}
 use Rattle.delivery_laws.specs.Personality.{InCleanup, IsAsked, AnswersCleanup, answer_for}
-use Rattle.stack_steps.specs.Results.{◌>>=◌, result_map}
+use Rattle.memory_image.specs.Results.{◌>>=◌, result_map}
 use Rattle.stack_steps.specs.Stepping.{FrameAt, DescribedFrame, Described, Compact, Recorded, frame_of, caller_by, next_with, opcode_caller, pe_refusal, recorded_columns, refusal_of}
 use Rattle.macho_unwind_info.specs.X86_64.{opcode_of}
 use Rattle.pe_unwind_info.specs.declared.x86_64.fault.FrameFault.{FrameFault}

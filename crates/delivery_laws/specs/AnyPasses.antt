@@ -31,7 +31,7 @@ use Rattle.stack_deliver.specs.Passes.{PassEnd, Finishes, Elsewhere, CleanupsRun
 use Rattle.stack_walks.specs.Turns as stopped
 use Rattle.delivery_laws.specs.Personality.{landing_columns}
 use Rattle.stack_deliver.specs.Resumes.{return_of}
-use Rattle.stack_steps.specs.Results.{result_map}
+use Rattle.memory_image.specs.Results.{result_map}
 use Rattle.stack_steps.specs.Stepping.{FrameAt, DescribedFrame, Described, Compact, Recorded, frame_of, caller_by, refusal_of}
 use Rattle.stack_steps.specs.Asking.{arguments_of, recorded_action, unless_handled}
 use Rattle.format_definitions.specs.PeImage.{memory_of}

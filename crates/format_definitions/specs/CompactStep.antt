@@ -4,6 +4,8 @@ use Rattle.std.specs.Prelude.{ℕ, ◌+◌, ◌/◌, Bool, false, List, [], ◌�
 use Rattle.std.specs.List.{filter_map}
 use Rattle.std.specs.Option.{option_map, option_map_or}
 use Rattle.memory_image.specs.Image.{Span, table_at, half_at}
+use Rattle.memory_image.specs.Results.{◌>>=◌, result_map}
+use Rattle.unwind_definitions.specs.Columns as column
 use Rattle.unwind_definitions.specs.declared.error.Error.{Error as Fault}
 use Rattle.unwind_definitions.specs.Pointers.{Bases}
 use Rattle.unwind_definitions.specs.Entries.{Fde}
@@ -52,10 +54,6 @@ registers_back registers = filter_map saved_in (reverse registers)
 abbrev pub with_column : Columns → ℕ → ℕ → Columns
 with_column columns c v = λ k. if k == c then Some v else columns k
 
-abbrev pub then_on : {A B : Type 0} → Result A StepFault → (A → Result B StepFault) → Result B StepFault
-then_on (Ok x) next = next x
-then_on (Err e) next = Err e
-
 -- the little-endian number of the four bytes at an address, which have to be mapped
 abbrev pub half_or_fault : List Span → ℕ → Result ℕ StepFault
 half_or_fault image a = option_map_or Ok (half_at image a) (Err (Unmapped a))
@@ -64,12 +62,12 @@ half_or_fault image a = option_map_or Ok (half_at image a) (Err (Unmapped a))
 abbrev pub read_up : List Span → ℕ → List (Option CalleeSaved) → Columns → Result Columns StepFault
 read_up image a [] columns = Ok columns
 read_up image a (None ∷ fields) columns = read_up image (a +w 8) fields columns
-read_up image a (Some r ∷ fields) columns = then_on (word_or_fault image a) (λ v. read_up image (a +w 8) fields (with_column columns (column_of r) v))
+read_up image a (Some r ∷ fields) columns = word_or_fault image a >>= (λ v. read_up image (a +w 8) fields (with_column columns (column_of r) v))
 
 -- registers from words downwards
 abbrev pub read_down : List Span → ℕ → List CalleeSaved → Columns → Result Columns StepFault
 read_down image a [] columns = Ok columns
-read_down image a (r ∷ rs) columns = then_on (word_or_fault image a) (λ v. read_down image (a +w negative 8) rs (with_column columns (column_of r) v))
+read_down image a (r ∷ rs) columns = word_or_fault image a >>= (λ v. read_down image (a +w negative 8) rs (with_column columns (column_of r) v))
 
 -- ---- the modes
 
@@ -77,16 +75,16 @@ read_down image a (r ∷ rs) columns = then_on (word_or_fault image a) (λ v. re
 -- stands above it.
 abbrev pub by_frame : List Span → ℕ → List (Option CalleeSaved) → Columns → ℕ → Result Columns StepFault
 by_frame image offset fields columns rbp =
-    then_on (read_up image (rbp +w negative offset) (take (offset / 8) fields) columns) (λ read.
-    then_on (word_or_fault image rbp) (λ saved.
-    then_on (word_or_fault image (rbp +w 8)) (λ ret.
-    Ok (with_column (with_column (with_column read 6 saved) 7 (rbp +w 16)) 16 ret))))
+    read_up image (rbp +w negative offset) (take (offset / 8) fields) columns >>= (λ read.
+    word_or_fault image rbp >>= (λ saved.
+    word_or_fault image (rbp +w 8) >>= (λ ret.
+    Ok (with_column (with_column (with_column read column.rbp saved) column.rsp (rbp +w 16)) column.ra ret))))
 
 -- below the CFA the return address, and then the registers from the last back
 abbrev pub by_cfa : List Span → List CalleeSaved → Columns → ℕ → Result Columns StepFault
 by_cfa image rs columns cfa =
-    then_on (word_or_fault image (cfa +w negative 8)) (λ ret.
-    read_down image (cfa +w negative 16) rs (with_column (with_column columns 7 cfa) 16 ret))
+    word_or_fault image (cfa +w negative 8) >>= (λ ret.
+    read_down image (cfa +w negative 16) rs (with_column (with_column columns column.rsp cfa) column.ra ret))
 
 -- the frame data that was handed in: a table at an address, whose pointers are relative to their place or to the table
 abbrev pub frame_bases : ℕ → Bases
@@ -106,8 +104,7 @@ pub record Stepped : Type 0 where
   pub signal : Bool
 
 abbrev pub stepped_with : Bool → Result Columns StepFault → Result Stepped StepFault
-stepped_with signal (Ok columns) = Ok (record { columns = columns; signal = signal })
-stepped_with signal (Err e) = Err e
+stepped_with signal = result_map (λ columns. record { columns = columns; signal = signal })
 
 module _ (image : List Span) where
   -- by the row at an address of a description in the frame data
@@ -123,10 +120,10 @@ module _ (image : List Span) where
   -- it is null, invalid or of an unknown kind, or asks for frame data that there is not. Of a description that stands at an
   -- offset of the frame data the personality isn't asked.
   abbrev pub compact_step : Option ℕ → ℕ → ℕ → Columns → OpcodeX86_64 → Option (Result Stepped StepFault)
-  compact_step frames start a columns (FrameBased offset fields) = Some (stepped_with false (then_on (column_or_fault (columns 6)) (by_frame image offset (fields_up fields) columns)))
-  compact_step frames start a columns (FramelessImmediate size registers) = Some (stepped_with false (then_on (column_or_fault (columns 7)) (λ sp. by_cfa image (registers_back registers) columns (sp +w size))))
+  compact_step frames start a columns (FrameBased offset fields) = Some (stepped_with false (column_or_fault (columns column.rbp) >>= by_frame image offset (fields_up fields) columns))
+  compact_step frames start a columns (FramelessImmediate size registers) = Some (stepped_with false (column_or_fault (columns column.rsp) >>= (λ sp. by_cfa image (registers_back registers) columns (sp +w size))))
   compact_step frames start a columns (FramelessIndirect at adjust registers) =
-      Some (stepped_with false (then_on (half_or_fault image (start +w at)) (λ size. then_on (column_or_fault (columns 7)) (λ sp. by_cfa image (registers_back registers) columns (sp +w (adjust + size))))))
+      Some (stepped_with false (half_or_fault image (start +w at) >>= (λ size. column_or_fault (columns column.rsp) >>= (λ sp. by_cfa image (registers_back registers) columns (sp +w (adjust + size))))))
   compact_step frames start a columns (Dwarf offset) = option_map (λ table. by_description table a columns (fde_at (frame_bases table) (input_at image table) offset)) frames
   compact_step frames start a columns Null = None
   compact_step frames start a columns InvalidFrameless = None

@@ -2,6 +2,7 @@
 -- DWARF 5 section 6.4.1; LSB, sections on .eh_frame and .eh_frame_hdr.
 use Rattle.std.specs.Prelude.{ℕ, List, Option, Some, None, Result, Ok, Err}
 use Rattle.memory_image.specs.Image.{Span}
+use Rattle.memory_image.specs.Results.{result_map}
 use Rattle.unwind_definitions.specs.declared.error.Error.{Error as Fault}
 use Rattle.unwind_definitions.specs.Pointers.{Bases}
 use Rattle.unwind_definitions.specs.Entries.{Fde}
@@ -13,8 +14,7 @@ use Rattle.unwind_definitions.specs.Module.{Module, frame_address, bases_of}
 use Rattle.format_definitions.specs.CompactStep.{Stepped, by_row}
 
 abbrev pub some_caller : Result Stepped StepFault → Result (Option Stepped) StepFault
-some_caller (Ok caller) = Ok (Some caller)
-some_caller (Err e) = Err e
+some_caller = result_map Some
 
 module _ (image : List Span) (m : Module) (a : ℕ) (columns : Columns) where
   -- none where no description contains the address, or one before can't be read

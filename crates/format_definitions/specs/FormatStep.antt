@@ -1,7 +1,10 @@
 -- From a frame to its caller in a process with modules of three formats, and the line of callers from a start outwards.
 use Rattle.std.specs.Prelude.{ℕ, zero, suc, ◌-◌, Bool, false, List, [], ◌∷◌, Option, Some, None, Result, Ok, Err, ◌==◌, if◌then◌else◌, unwrap_or}
 use Rattle.std.specs.List.{find}
+use Rattle.std.specs.Result.{result_map_both}
 use Rattle.memory_image.specs.Image.{Span}
+use Rattle.memory_image.specs.Results.{result_map}
+use Rattle.unwind_definitions.specs.Columns as column
 use Rattle.unwind_definitions.specs.Caller.{Columns, StepFault}
 use Rattle.unwind_definitions.specs.LanguageSearch.{address_of_call}
 use Rattle.format_definitions.specs.CompactStep.{Stepped, MachoFault, macho_step}
@@ -16,17 +19,14 @@ pub data FormatFault : Type 0 where
   InPe : PeFault → FormatFault
 
 abbrev pub from_elf : Result (Option Stepped) StepFault → Result (Option Stepped) FormatFault
-from_elf (Ok caller) = Ok caller
-from_elf (Err e) = Err (InElf e)
+from_elf = result_map_both (λ caller. caller) InElf
 
 abbrev pub from_macho : Result (Option Stepped) MachoFault → Result (Option Stepped) FormatFault
-from_macho (Ok caller) = Ok caller
-from_macho (Err e) = Err (InMacho e)
+from_macho = result_map_both (λ caller. caller) InMacho
 
 -- each frame in a PE module has a caller, which stands after a call
 abbrev pub from_pe : Result Columns PeFault → Result (Option Stepped) FormatFault
-from_pe (Ok columns) = Ok (Some (record { columns = columns; signal = false }))
-from_pe (Err e) = Err (InPe e)
+from_pe = result_map_both (λ columns. Some (record { columns = columns; signal = false })) InPe
 
 -- the first module that holds an address
 abbrev pub holder_of : List FormatModule → ℕ → Option FormatModule
@@ -38,8 +38,7 @@ pub data LineFault : Type 0 where
   InStep : FormatFault → LineFault
 
 abbrev pub with_first : Columns → Result (List Columns) LineFault → Result (List Columns) LineFault
-with_first columns (Ok outer) = Ok (columns ∷ outer)
-with_first columns (Err e) = Err e
+with_first columns = result_map (λ outer. columns ∷ outer)
 
 abbrev pub line_after : Columns → Result (Option Stepped) FormatFault → (Bool → Columns → Result (List Columns) LineFault) → Result (List Columns) LineFault
 line_after columns (Err e) outer = Err (InStep e)
@@ -66,7 +65,7 @@ module _ (image : List Span) where
     -- The caller of the frame that columns show, by the module that holds its address and that module's format; none at the
     -- end of the stack. The mark says whether the frame was interrupted where it stands.
     unfoldable pub format_step : Bool → Columns → Result (Option Stepped) FormatFault
-    format_step interrupted columns = step_at interrupted (unwrap_or (columns 16) 0) columns
+    format_step interrupted columns = step_at interrupted (unwrap_or (columns column.ra) 0) columns
 
     -- The columns of the frames from one outwards, each those of the caller of the one before, where there is room for so many.
     abbrev pub format_line : ℕ → Bool → Columns → Result (List Columns) LineFault

@@ -2,6 +2,7 @@
 -- DWARF register numbers; Microsoft x64 exception handling, operation info.
 use Rattle.std.specs.Prelude.{◌≡◌, ℕ, Bool, [], ◌∷◌, Some, IsFalse, nat_lt, ◌==◌, if◌then◌else◌, unwrap_or}
 use Rattle.std.specs.Option.{option_map}
+use Rattle.unwind_definitions.specs.Columns as column
 use Rattle.unwind_definitions.specs.Membership.{is_among}
 use Rattle.unwind_definitions.specs.Caller.{Columns}
 use Rattle.unwind_definitions.specs.State.{CalleeSaved, RBX, RBP, R12, R13, R14, R15, State, value_of, is_followed}
@@ -39,13 +40,15 @@ KeepsScratch old new = (n : ℕ) → IsFalse (is_kept n) → new.general n ≡ o
 -- RCX and RDX, and RSP, RBP, RSI and RDI, are numbered otherwise
 abbrev pub column_at : ℕ → ℕ
 column_at n =
-    if n == 1 then 2 else (if n == 2 then 1
-    else (if n == 4 then 7 else (if n == 5 then 6 else (if n == 6 then 4 else (if n == 7 then 5 else n)))))
+    if n == 1 then column.rcx else (if n == 2 then column.rdx
+    else (if n == 4 then column.rsp else (if n == 5 then column.rbp
+    else (if n == 6 then column.rsi else (if n == 7 then column.rdi else n)))))
 
 abbrev pub number_at : ℕ → ℕ
 number_at c =
-    if c == 1 then 2 else (if c == 2 then 1
-    else (if c == 7 then 4 else (if c == 6 then 5 else (if c == 4 then 6 else (if c == 5 then 7 else c)))))
+    if c == column.rdx then 2 else (if c == column.rcx then 1
+    else (if c == column.rsp then 4 else (if c == column.rbp then 5
+    else (if c == column.rsi then 6 else (if c == column.rdi then 7 else c)))))
 
 -- the registers that columns hold; XMM registers have no column
 abbrev pub registers_in : Columns → Registers
@@ -53,8 +56,8 @@ registers_in columns = registers_of (λ n. unwrap_or (columns (column_at n)) 0) 
 
 -- the columns of a caller, from its return address and its registers; the others stay as they are
 abbrev pub columns_with : Columns → ℕ → Registers → Columns
-columns_with old ret regs c = if c == 16 then Some ret else (if nat_lt c 16 then option_map (λ (v : ℕ). regs.general (number_at c)) (old c) else old c)
+columns_with old ret regs c = if c == column.ra then Some ret else (if nat_lt c column.ra then option_map (λ (v : ℕ). regs.general (number_at c)) (old c) else old c)
 
 -- every column that is not one of a state's, and not that of RSI or RDI, holds the same
 abbrev pub KeepsScratchColumns : Columns → Columns → Type 0
-KeepsScratchColumns old new = (c : ℕ) → IsFalse (is_followed c) → IsFalse (is_among (4 ∷ 5 ∷ []) c) → new c ≡ old c
+KeepsScratchColumns old new = (c : ℕ) → IsFalse (is_followed c) → IsFalse (is_among (column.rsi ∷ column.rdi ∷ []) c) → new c ≡ old c

@@ -4,13 +4,14 @@ use Rattle.std.specs.Prelude.{slice_get, MatchOption, IsFalse}
 use Rattle.std.specs.List.{list_any}
 use Rattle.std.proofs.lemmas.Bool.{eqb-true}
 use Rattle.memory_image.specs.Image.{Span, word_at}
+use Rattle.memory_image.specs.Results.{◌>>=◌}
 use Rattle.unwind_definitions.specs.Caller.{◌+w◌, Columns, StepFault, word_or_fault, column_or_fault}
 use Rattle.unwind_definitions.specs.State.{CalleeSaved, RBX, RBP, R12, R13, R14, R15, State, IsState, value_of, column_of, is_same, Shows, is_followed, KeepsOthers}
 use Rattle.unwind_definitions.specs.Prologue.{SystemV, Step, distance, EachMayFollow}
 use Rattle.unwind_definitions.specs.Entered.{stack_after, frame_after, IsEntered}
 use Rattle.unwind_definitions.specs.DescribedRows.{negative}
 use Rattle.unwind_laws.proofs.Undo.{StoresLie, lie_of, IsSlot, slot_of, sp_below, FrameFits, frame_below}
-use Rattle.format_definitions.specs.CompactStep.{with_column, then_on, read_up, read_down, by_frame, by_cfa}
+use Rattle.format_definitions.specs.CompactStep.{with_column, read_up, read_down, by_frame, by_cfa}
 use Rattle.format_definitions.specs.MachoModules.{IsField, IsFrameBased, AreSaved, IsFrameless}
 use Rattle.format_laws.proofs.PeMachine.{same_register}
 
@@ -114,7 +115,7 @@ module _ (image : List Span) (t : State) where
       let ih = go_up fields (a +w 8) next holds.1 in
       record {
         after = ih.after;
-        is = ap (λ o. then_on o (λ v. read_up image (a +w 8) fields (with_column columns (column_of q) v))) (word_is image a (value_of q t) holds.0) ∙ ih.is;
+        is = ap (λ o. o >>= (λ v. read_up image (a +w 8) fields (with_column columns (column_of q) v))) (word_is image a (value_of q t) holds.0) ∙ ih.is;
         values = λ r v e. ih.values r (cond (is_same r q) (value_of r t) v) (with_saved t columns r q v e) ∙ ap some (merge (is_same r q) (named r fields) (value_of r t) v);
         others = λ c h. ih.others c h ∙ with_other columns c (column_of q) (value_of q t) (h q);
       }
@@ -137,7 +138,7 @@ module _ (image : List Span) (t : State) where
       let ih = go_down rs (a +w negative 8) next holds.1 in
       record {
         after = ih.after;
-        is = ap (λ o. then_on o (λ v. read_down image (a +w negative 8) rs (with_column columns (column_of q) v))) (word_is image a (value_of q t) holds.0) ∙ ih.is;
+        is = ap (λ o. o >>= (λ v. read_down image (a +w negative 8) rs (with_column columns (column_of q) v))) (word_is image a (value_of q t) holds.0) ∙ ih.is;
         values = λ r v e. ih.values r (cond (is_same r q) (value_of r t) v) (with_saved t columns r q v e) ∙ ap some (merge (is_same r q) (list_any (is_same r) rs) (value_of r t) v);
         others = λ c h. ih.others c h ∙ with_other columns c (column_of q) (value_of q t) (h q);
       }
@@ -198,7 +199,7 @@ module _ (image : List Span) (steps : List Step) (s t : State) (columns : Column
             let is = fits.is_depth in omega (arith, sum, is, sp)
         go (Some v) e f stack = absurd (subst (λ o. FrameFits t.sp None o) e f)
 
-    pub frameless_undone : Called (then_on (column_or_fault (columns 7)) (λ sp. by_cfa image rs columns (sp +w size))) columns t
+    pub frameless_undone : Called (column_or_fault (columns 7) >>= (λ sp. by_cfa image rs columns (sp +w size))) columns t
     frameless_undone =
         let room : 8 ≤ t.sp = entered.room in let high : t.sp < 2 ^ 64 = words.sp in let sum = sp_is in
         let cfa : s.sp +w size ≡ t.sp = omega arith in
@@ -208,8 +209,8 @@ module _ (image : List Span) (steps : List Step) (s t : State) (columns : Column
         let down = go_down image t rs (t.sp +w negative 16) from (hold_down rs 16 fits.saved) in
         record {
           caller = down.after;
-          is = ap (λ o. then_on (column_or_fault o) (λ sp. by_cfa image rs columns (sp +w size))) shows.sp ∙ ap (by_cfa image rs columns) cfa
-              ∙ ap (λ o. then_on o (λ ret. read_down image (t.sp +w negative 16) rs (with_column (with_column columns 7 t.sp) 16 ret))) (word_is image (t.sp +w negative 8) t.ra word) ∙ down.is;
+          is = ap (λ o. column_or_fault o >>= (λ sp. by_cfa image rs columns (sp +w size))) shows.sp ∙ ap (by_cfa image rs columns) cfa
+              ∙ ap (λ o. o >>= (λ ret. read_down image (t.sp +w negative 16) rs (with_column (with_column columns 7 t.sp) 16 ret))) (word_is image (t.sp +w negative 8) t.ra word) ∙ down.is;
           shows = record {
             ra = down.others 16 sixteen;
             sp = down.others 7 seven;
@@ -278,7 +279,7 @@ module _ (image : List Span) (steps : List Step) (s t : State) (columns : Column
         or_true true h = refl
         or_true false h = h
 
-    pub frame_based_undone : offset ≤ 2 ^ 64 → Called (then_on (column_or_fault (columns 6)) (by_frame image offset fields columns)) columns t
+    pub frame_based_undone : offset ≤ 2 ^ 64 → Called (column_or_fault (columns 6) >>= by_frame image offset fields columns) columns t
     frame_based_undone small =
         let room : 8 ≤ t.sp = entered.room in let high : t.sp < 2 ^ 64 = words.sp in let base = rbp_is in
         let rbp_slot = slot RBP 16 rbp_saved in
@@ -293,10 +294,10 @@ module _ (image : List Span) (steps : List Step) (s t : State) (columns : Column
         let word_ra : word_at image (s.rbp +w 8) ≡ Some t.ra = ap (word_at image) ret ∙ entered.returns refl in
         record {
           caller = with_column (with_column (with_column up.after 6 t.rbp) 7 (s.rbp +w 16)) 16 t.ra;
-          is = ap (λ o. then_on (column_or_fault o) (by_frame image offset fields columns)) (shows.saved RBP)
-              ∙ ap (λ o. then_on o (λ read. then_on (word_or_fault image s.rbp) (λ saved. then_on (word_or_fault image (s.rbp +w 8)) (λ ret. Ok (with_column (with_column (with_column read 6 saved) 7 (s.rbp +w 16)) 16 ret))))) up.is
-              ∙ ap (λ o. then_on o (λ saved. then_on (word_or_fault image (s.rbp +w 8)) (λ ret. Ok (with_column (with_column (with_column up.after 6 saved) 7 (s.rbp +w 16)) 16 ret)))) (word_is image s.rbp t.rbp word_rbp)
-              ∙ ap (λ o. then_on o (λ ret. Ok (with_column (with_column (with_column up.after 6 t.rbp) 7 (s.rbp +w 16)) 16 ret))) (word_is image (s.rbp +w 8) t.ra word_ra);
+          is = ap (λ o. column_or_fault o >>= by_frame image offset fields columns) (shows.saved RBP)
+              ∙ ap (λ o. o >>= (λ read. word_or_fault image s.rbp >>= (λ saved. word_or_fault image (s.rbp +w 8) >>= (λ ret. Ok (with_column (with_column (with_column read 6 saved) 7 (s.rbp +w 16)) 16 ret))))) up.is
+              ∙ ap (λ o. o >>= (λ saved. word_or_fault image (s.rbp +w 8) >>= (λ ret. Ok (with_column (with_column (with_column up.after 6 saved) 7 (s.rbp +w 16)) 16 ret)))) (word_is image s.rbp t.rbp word_rbp)
+              ∙ ap (λ o. o >>= (λ ret. Ok (with_column (with_column (with_column up.after 6 t.rbp) 7 (s.rbp +w 16)) 16 ret))) (word_is image (s.rbp +w 8) t.ra word_ra);
           shows = record { ra = refl; sp = ap some top; saved = saved up.after up.values };
           others = λ c free.
               with_other (with_column (with_column up.after 6 t.rbp) 7 (s.rbp +w 16)) c 16 t.ra (unlike c 16 free refl) ∙ with_other (with_column up.after 6 t.rbp) c 7 (s.rbp +w 16) (unlike c 7 free refl)

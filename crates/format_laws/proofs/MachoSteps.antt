@@ -33,7 +33,7 @@ use Rattle.macho_unwind_info.specs.Permutation.{permutation}
 use Rattle.macho_unwind_info.specs.X86_64.{register_of, fields_of, with_registers, opcode_of_kind, opcode_of}
 use Rattle.macho_unwind_info.proofs.Covering.{each}
 use Rattle.macho_unwind_info.proofs.LookupLemmas.{lookup_of-is}
-use Rattle.format_definitions.specs.CompactStep.{fields_up, registers_back, then_on, half_or_fault, by_cfa, frame_bases, MachoModule, stepped_with, by_row, by_description, compact_step, answered_by, stepped_by, found_in as answered_in, macho_step}
+use Rattle.format_definitions.specs.CompactStep.{fields_up, registers_back, half_or_fault, by_cfa, frame_bases, MachoModule, stepped_with, by_row, by_description, compact_step, answered_by, stepped_by, found_in as answered_in, macho_step}
 use Rattle.format_definitions.specs.MachoModules.{IsIndirect, IsDwarf, IsOpcodeOf, HasListed, DescribesMacho}
 use Rattle.format_laws.specs.CompactUndone.{OpcodeUndoes, MachoUndone}
 use Rattle.format_laws.proofs.CompactUndo.{Called, frameless_undone, frame_based_undone}
@@ -136,7 +136,7 @@ module _ (image : List Span) (f : Function) (is : IsFunction SystemV f) (s t : S
   by_opcode frames (FramelessIndirect at adjust registers) small d =
       let i : IsIndirect image f at adjust (registers_back registers) = d.1 in
       let size_is : half_or_fault image (f.start +w at) ≡ Ok i.size = rw i.mapped refl in
-      subst (λ (r : Result ℕ StepFault). OpcodeUndoes (Some (stepped_with false (then_on r (λ size. then_on (column_or_fault (columns 7)) (λ sp. by_cfa image (registers_back registers) columns (sp +w (adjust + size))))))) columns t) (sym size_is)
+      subst (λ (r : Result ℕ StepFault). OpcodeUndoes (Some (stepped_with false (r >>= (λ size. column_or_fault (columns 7) >>= (λ sp. by_cfa image (registers_back registers) columns (sp +w (adjust + size))))))) columns t) (sym size_is)
       (called _ columns t (frameless_undone image (steps_of f.prologue) s t columns is.prologue.each (subst (λ b. IsEntered image b (steps_of f.prologue) t s) d.0 entered) words shows (adjust + i.size) (registers_back registers) i.frameless))
   by_opcode None (Dwarf offset) small d = absurd d
   by_opcode (Some table) (Dwarf offset) small d = by_frame_data table offset d

@@ -1,5 +1,6 @@
 -- What the code's calls answer, in the words of the definitions.
 use Rattle.std.specs.Prelude.{◌≡◌, ℕ, List, [], ◌∷◌, Option, Some, None, Result, Ok, Err}
+use Rattle.std.specs.Result.{result_map_both}
 use Rattle.unwind_definitions.specs.declared.error.Error.{Error as Fault}
 use Rattle.unwind_definitions.specs.Caller.{StepFault, Table, Unmapped}
 use Rattle.unwind_definitions.specs.Expressions.{Configuration}
@@ -12,8 +13,7 @@ fault_of (code.Unmapped a) = Unmapped a
 
 -- a value or a fault, as the code answers it
 abbrev pub value_given : {A : Type 0} → Result A EvalError → Result A StepFault
-value_given (Ok v) = Ok v
-value_given (Err e) = Err (fault_of e)
+value_given = result_map_both (λ v. v) fault_of
 
 -- the stack that an expression begins with
 abbrev pub stack_of : Option ℕ → List ℕ

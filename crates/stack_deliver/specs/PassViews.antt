@@ -1,6 +1,7 @@
 -- What the code of a pass answers, in the words of the definitions.
 use Rattle.std.specs.Prelude.{◌≡◌, ◌++◌, ◌∷◌, [], Bool, true, false, List, Option, Some, None, Result, Ok, Err}
 use Rattle.std.specs.Option.{option_map}
+use Rattle.memory_image.specs.Results.{result_map}
 use Rattle.stack_steps.specs.declared.answers.DeliverError.{DeliverError}
 use Rattle.stack_deliver.specs.declared.answers.Ending.{Ending}
 use Rattle.stack_walks.specs.declared.room.Trail.{Trail}
@@ -15,8 +16,7 @@ end_shown (pass.Elsewhere pad c) = Elsewhere pad c
 
 -- cleanups that ran before these
 abbrev pub with_cleanups : List Trail → Result CleanupsRun DeliverError → Result CleanupsRun DeliverError
-with_cleanups front (Ok passed) = Ok (record passed { trail = front ++ passed.trail })
-with_cleanups front (Err e) = Err e
+with_cleanups front = result_map (λ (passed : CleanupsRun). record passed { trail = front ++ passed.trail })
 
 -- the answer of passes, and the room after it
 abbrev pub GivesCleanupsRun : Result Ending DeliverError → RoomValue → Result CleanupsRun DeliverError → Type 0

@@ -1,6 +1,7 @@
 -- The passes of a delivery over a stack: the search for a frame whose language takes the exception, and then the cleanups on the
 -- way to it. Itanium C++ ABI, exception handling, level I, section 1.3.
 use Rattle.std.specs.Prelude.{ℕ, zero, suc, ◌+◌, ◌-◌, ◌%◌, ◌^◌, ◌==◌, Bool, true, false, List, [], ◌∷◌, Option, Some, None, Result, Ok, Err, slice_index, slice_set, if◌then◌else◌}
+use Rattle.memory_image.specs.Results.{◌>>=◌, result_map}
 use Rattle.unwind_definitions.specs.Function.{Cleanup}
 use Rattle.unwind_arch.specs.declared.x86_64.Context.{Context}
 use Rattle.unwind_definitions.specs.Columns.{rsp}
@@ -39,8 +40,7 @@ end_by exception kept None = Finishes fatal
 end_by exception kept (Some stop) = end_at exception kept stop (pad_of stop.action)
 
 abbrev pub end_of : ℕ → ℕ → Result Line DeliverError → Result PassEnd DeliverError
-end_of exception kept (Ok line) = Ok (end_by exception kept line.stop)
-end_of exception kept (Err e) = Err e
+end_of exception kept = result_map (λ (line : Line). end_by exception kept line.stop)
 
 -- A cleanup pass from a context toward the kept frame, of at most so many contexts.
 abbrev pub cleanup_of : SpaceValue → ℕ → ℕ → ℕ → Context → Result PassEnd DeliverError
@@ -61,12 +61,10 @@ pub record CleanupsRun : Type 0 where
   pub ending : Ending
 
 abbrev pub with_cleanup : Trail → Result CleanupsRun DeliverError → Result CleanupsRun DeliverError
-with_cleanup t (Ok passed) = Ok (record passed { trail = t ∷ passed.trail })
-with_cleanup t (Err e) = Err e
+with_cleanup t = result_map (λ (passed : CleanupsRun). record passed { trail = t ∷ passed.trail })
 
 abbrev pub resumed : Trail → Result Context DeliverError → (Context → Result CleanupsRun DeliverError) → Result CleanupsRun DeliverError
-resumed t (Ok c) later = with_cleanup t (later c)
-resumed t (Err e) later = Err e
+resumed t context later = context >>= (λ c. with_cleanup t (later c))
 
 abbrev pub followed : Result PassEnd DeliverError → (ℕ → Context → Result CleanupsRun DeliverError) → Result CleanupsRun DeliverError
 followed (Ok (Finishes ending)) later = Ok (record { trail = []; ending = ending })

@@ -1,5 +1,6 @@
 -- What a walk and a delivery give: the states from the start outwards, the cleanups, and how it ended.
 use Rattle.std.specs.Prelude.{◌≡◌, ◌⊎◌, ℕ, zero, suc, Bool, false, List, [], ◌∷◌, Option, Some, None, Result, Ok, Err}
+use Rattle.memory_image.specs.Results.{result_map}
 use Rattle.unwind_arch.specs.declared.x86_64.Context.{Context}
 use Rattle.stack_walks.specs.declared.room.Trail.{Trail}
 use Rattle.stack_deliver.specs.declared.answers.Outcome.{Outcome}
@@ -18,8 +19,8 @@ pub record DeliveryValue : Type 0 where
   pub landing : Option Context
 
 abbrev pub delivery_after : List Context → Result CleanupsRun DeliverError → Result DeliveryValue DeliverError
-delivery_after visited (Ok passed) = Ok (record { visited = visited; trail = passed.trail; outcome = passed.ending.outcome; landing = passed.ending.landing })
-delivery_after visited (Err e) = Err e
+delivery_after visited =
+    result_map (λ (passed : CleanupsRun). record { visited = visited; trail = passed.trail; outcome = passed.ending.outcome; landing = passed.ending.landing })
 
 abbrev pub no_delivery : List Context → Outcome → DeliveryValue
 no_delivery visited outcome = record { visited = visited; trail = []; outcome = outcome; landing = None }

@@ -8,7 +8,7 @@ ghost use Rattle.stack_deliver.specs.Passes.{cleanup_at, resume_at, passes_of};
 ghost use Rattle.stack_walks.specs.TurnViews.{stop_shown};
 ghost use Rattle.stack_deliver.specs.PassViews.{end_shown};
 ghost use Rattle.stack_deliver.specs.PassViews.{GivesCleanupsRun};
-ghost use Rattle.stack_steps.specs.Results.{result_map};
+ghost use Rattle.memory_image.specs.Results.{result_map};
 ghost use Rattle.stack_deliver.specs.Resumes.{return_of};
 ghost use Rattle.stack_walks.specs.ContextsMet.{contexts_met};
 ghost use Rattle.stack_deliver.specs.Searches.{met_in_passes};

@@ -2,6 +2,7 @@
 use Rattle.std.specs.Prelude.{ℕ, zero, suc, ◌+◌, ◌%◌, ◌^◌, List, [], ◌∷◌, Option, Some, None, Result, Ok, Err, ◌==◌, if◌then◌else◌}
 use Rattle.std.specs.Option.{option_map_or, option_or}
 use Rattle.memory_image.specs.Image.{Span, word_at}
+use Rattle.memory_image.specs.Results.{◌>>=◌, result_map}
 use Rattle.unwind_definitions.specs.Columns as column
 use Rattle.unwind_definitions.specs.Faults.{Fault, UnsupportedRegister, NoCfaRegister}
 use Rattle.unwind_definitions.specs.Instructions.{Rule, Undefined, SameValue, Offset, ValOffset, InRegister, Expression, ValExpression}
@@ -42,10 +43,6 @@ column_or_fault (Some v) = Ok v
 abbrev pub Evaluates : Type 0
 Evaluates = List ℕ → List ℕ → Columns → Result ℕ StepFault
 
-abbrev pub then_word : List Span → Result ℕ StepFault → Result ℕ StepFault
-then_word image (Ok a) = word_or_fault image a
-then_word image (Err e) = Err e
-
 -- the value that a rule gives a column, from the CFA and the callee's columns
 abbrev pub rule_value : Evaluates → List Span → Columns → ℕ → ℕ → Rule → Result ℕ StepFault
 rule_value evaluates image columns cfa c Undefined = Ok 0
@@ -53,7 +50,7 @@ rule_value evaluates image columns cfa c SameValue = column_or_fault (columns c)
 rule_value evaluates image columns cfa c (Offset n) = word_or_fault image (cfa +w n)
 rule_value evaluates image columns cfa c (ValOffset n) = Ok (cfa +w n)
 rule_value evaluates image columns cfa c (InRegister q) = column_or_fault (columns q)
-rule_value evaluates image columns cfa c (Expression bytes) = then_word image (evaluates bytes (cfa ∷ []) columns)
+rule_value evaluates image columns cfa c (Expression bytes) = evaluates bytes (cfa ∷ []) columns >>= word_or_fault image
 rule_value evaluates image columns cfa c (ValExpression bytes) = evaluates bytes (cfa ∷ []) columns
 
 -- a value for a column, which the machine has to have; that shows once the value is found
@@ -63,8 +60,7 @@ value_for_column None (Ok v) = Err (Table UnsupportedRegister)
 value_for_column (Some old) (Ok v) = Ok (Some v)
 
 abbrev pub offset_from : ℕ → Result ℕ StepFault → Result ℕ StepFault
-offset_from n (Ok v) = Ok (v +w n)
-offset_from n (Err e) = Err e
+offset_from n = result_map (λ v. v +w n)
 
 abbrev pub cfa_value : Evaluates → Columns → CfaRule → Result ℕ StepFault
 cfa_value evaluates columns (ColumnAndOffset c n) = offset_from n (column_or_fault (columns c))
@@ -100,9 +96,8 @@ abbrev pub column_limit : ℕ
 column_limit = 2 ^ 16
 
 abbrev pub caller_with : Machine → Evaluates → List Span → Columns → RowInstructions → Result ℕ StepFault → Result Columns StepFault
-caller_with machine evaluates image columns run (Err e) = Err e
-caller_with machine evaluates image columns run (Ok cfa) =
-    unless_fault (first_fault_below column_limit (column_value machine evaluates image columns cfa run)) (λ c. value_in (column_value machine evaluates image columns cfa run c))
+caller_with machine evaluates image columns run cfa = cfa >>= (λ cfa.
+    unless_fault (first_fault_below column_limit (column_value machine evaluates image columns cfa run)) (λ c. value_in (column_value machine evaluates image columns cfa run c)))
 
 -- The caller's columns, or the first fault: that of the CFA, or else of the lowest column.
 abbrev pub caller_of : Machine → Evaluates → List Span → Columns → RowInstructions → Result Columns StepFault

@@ -8,8 +8,17 @@ rax = 0
 abbrev pub rdx : ℕ
 rdx = 1
 
+abbrev pub rcx : ℕ
+rcx = 2
+
 abbrev pub rbx : ℕ
 rbx = 3
+
+abbrev pub rsi : ℕ
+rsi = 4
+
+abbrev pub rdi : ℕ
+rdi = 5
 
 abbrev pub rbp : ℕ
 rbp = 6

@@ -1,7 +1,9 @@
 -- The value of an expression: a run of operations on a stack of words. DWARF 5 section 2.5.
 use Rattle.std.specs.Prelude.{◌≡◌, ◌≢◌, ℕ, zero, suc, ◌+◌, ◌-◌, ◌^◌, ◌≤◌, Bool, List, [], ◌∷◌, length, drop, slice_get, Option, Some, None, Result, Ok, Err, nat_lt, nat_le, ◌==◌, if◌then◌else◌}
 use Rattle.std.specs.Option.{option_map_or}
+use Rattle.std.specs.Result.{result_map_both}
 use Rattle.memory_image.specs.Image.{Span, number_at}
+use Rattle.memory_image.specs.Results.{◌>>=◌}
 use Rattle.unwind_definitions.specs.Faults.{Fault, StackFull, PopWithEmptyStack, DivisionByZero, BadBranch, TooManyOperations, ◌>>=◌}
 use Rattle.unwind_definitions.specs.Input.{Input}
 use Rattle.unwind_definitions.specs.Caller.{Columns, Evaluates, StepFault, Table, Unmapped, column_or_fault, fault_in, ◌+w◌}
@@ -59,8 +61,7 @@ rest_at expression n = record { base = 0; offset = n; bytes = drop n expression 
 
 -- the stack after an operation that goes on to the next one
 abbrev pub goes_on : ℕ → Result (List ℕ) Fault → Result Configuration StepFault
-goes_on next (Ok stack) = Ok (record { position = next; stack = stack })
-goes_on next (Err e) = Err (Table e)
+goes_on next = result_map_both (λ stack. record { position = next; stack = stack }) Table
 
 abbrev pub within : List ℕ → ℕ → List ℕ → Result Configuration StepFault
 within expression target stack = if nat_le target (length expression) then Ok (record { position = target; stack = stack }) else Err (Table BadBranch)
@@ -85,8 +86,7 @@ after_load image next n [] = Err (Table PopWithEmptyStack)
 after_load image next n (a ∷ stack) = load_or_fault next a stack (number_at image a n)
 
 abbrev pub after_column_push : ℕ → ℕ → List ℕ → Result ℕ StepFault → Result Configuration StepFault
-after_column_push next n stack (Err e) = Err e
-after_column_push next n stack (Ok v) = goes_on next (push (v +w n) stack)
+after_column_push next n stack value = value >>= (λ v. goes_on next (push (v +w n) stack))
 
 -- What an operation does to a stack. The next operation stands at `next`.
 unfoldable pub done : List Span → Columns → List ℕ → ℕ → List ℕ → Operation → Result Configuration StepFault
@@ -177,8 +177,7 @@ top_or_fault None = Err (Table PopWithEmptyStack)
 top_or_fault (Some a) = Ok a
 
 abbrev pub after_step : (Configuration → Result ℕ StepFault) → Result Configuration StepFault → Result ℕ StepFault
-after_step further (Ok d) = further d
-after_step further (Err e) = Err e
+after_step further next = next >>= further
 
 -- the answer of a configuration, where so many operations are allowed
 unfoldable pub answer_from : List Span → Columns → List ℕ → ℕ → Configuration → Result ℕ StepFault

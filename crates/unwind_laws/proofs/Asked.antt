@@ -18,6 +18,7 @@ use Rattle.unwind_definitions.specs.LanguageTable.{LeadsToLanguage}
 use Rattle.unwind_definitions.specs.LanguageSearch as tables
 use Rattle.unwind_definitions.specs.Caller.{StepFault}
 use Rattle.unwind_definitions.specs.FrameTable.{IsEmittedPersonality, IsEmittedAugmentation, DescribesFunction}
+use Rattle.unwind_definitions.specs.PointerEncodings.{pcrel_sdata4}
 use Rattle.unwind_laws.specs.Found.{CieRead, FdeRead, AsksAs}
 use Rattle.unwind_laws.proofs.Signal.{bound, ok_same}
 use Rattle.unwind_laws.proofs.Letters.{personality_said, language_said}
@@ -180,7 +181,7 @@ abbrev some_pointer : Pointer → Input → Result (Pointer × Input) Fault
 some_pointer p c = Ok (p, c)
 
 -- an encoding that isn't indirect gives an address
-is_direct : (bases : Bases) (c d : Input) (p : Pointer) → pointer 0x1b bases c ≡ Ok (p, d) → (a : ℕ) × (p ≡ Direct a)
+is_direct : (bases : Bases) (c d : Input) (p : Pointer) → pointer pcrel_sdata4 bases c ≡ Ok (p, d) → (a : ℕ) × (p ≡ Direct a)
 is_direct bases c d p e =
     let n = bound (value 11 c) _ (p, d) e in
     let same = ok_same _ (p, d) n.2 in

@@ -23,6 +23,7 @@ use Rattle.unwind_definitions.specs.Module.{Module, bases_of, no_bases, header_b
 use Rattle.unwind_definitions.specs.Header.{FrameHeader, PairTable, bases_in, header, pair_from, pair_at, pair_count, table_by, table_in}
 use Rattle.unwind_definitions.specs.HeaderSearch.{StartsBehind, Finds, IsTableAnswer, boundary_in, containing, found_by, fde_at_address, table_answer}
 use Rattle.unwind_definitions.specs.HeaderSearchLaws.{boundary_in-finds}
+use Rattle.unwind_definitions.specs.PointerEncodings.{datarel_sdata4, DW_EH_PE_udata4, pcrel_sdata4}
 use Rattle.unwind_laws.specs.Found.{nothing_found}
 use Rattle.unwind_laws.specs.ByHeader.{boundary, AnswersBy}
 use Rattle.unwind_laws.specs.Listing.{listing}
@@ -39,10 +40,10 @@ abbrev pointed : Pointer → Input → Result (Pointer × Input) Fault
 pointed p d = Ok (p, d)
 
 -- a pointer that isn't indirect, and is relative to its own place, is read the same whatever the bases are
-pointer_read : (bases : Bases) (c d : Input) (a : ℕ) → direct 0x1b no_bases c ≡ Ok (a, d) → pointer 0x1b bases c ≡ Ok (Direct a, d)
+pointer_read : (bases : Bases) (c d : Input) (a : ℕ) → direct pcrel_sdata4 no_bases c ≡ Ok (a, d) → pointer pcrel_sdata4 bases c ≡ Ok (Direct a, d)
 pointer_read bases c d a e = go (number w32 c) refl
   where
-    go : (r : Result (ℕ × Input) Fault) → number w32 c ≡ r → pointer 0x1b bases c ≡ Ok (Direct a, d)
+    go : (r : Result (ℕ × Input) Fault) → number w32 c ≡ r → pointer pcrel_sdata4 bases c ≡ Ok (Direct a, d)
     go (Err f) is = let h = rw is at e in absurd cc
     go (Ok n) is =
         let h = rw is at e in
@@ -50,9 +51,9 @@ pointer_read bases c d a e = go (number w32 c) refl
         rw is (ap (λ (p : ℕ × Input). pointed (Direct p.0) p.1) same)
 
 abbrev behind_head : Bases → ℕ → Pointer × Input → Result FrameHeader Fault
-behind_head bases base frame = pair_count 0x03 0x3b frame.1 >>= λ count. Ok (record { frame = frame.0; count = count.0; encoding = 0x3b; bases = bases_in base bases; pairs = count.1 })
+behind_head bases base frame = pair_count DW_EH_PE_udata4 datarel_sdata4 frame.1 >>= λ count. Ok (record { frame = frame.0; count = count.0; encoding = datarel_sdata4; bases = bases_in base bases; pairs = count.1 })
 
-head_read : (bases : Bases) (base : ℕ) (rest : List ℕ) → header bases (input base 0 (0x01 ∷ 0x1b ∷ 0x03 ∷ 0x3b ∷ rest)) ≡ (pointer 0x1b (bases_in base bases) (input base 4 rest) >>= behind_head bases base)
+head_read : (bases : Bases) (base : ℕ) (rest : List ℕ) → header bases (input base 0 (0x01 ∷ 0x1b ∷ 0x03 ∷ 0x3b ∷ rest)) ≡ (pointer pcrel_sdata4 (bases_in base bases) (input base 4 rest) >>= behind_head bases base)
 head_read bases base rest =
     rw (one_byte base 0 0x01 (0x1b ∷ 0x03 ∷ 0x3b ∷ rest), one_byte base 1 0x1b (0x03 ∷ 0x3b ∷ rest), one_byte base 2 0x03 (0x3b ∷ rest), one_byte base 3 0x3b rest) refl
 
@@ -62,10 +63,10 @@ module _ (image : List Span) (h frame : ℕ) (fdes : List Fde) (bases : Bases) (
 
   pub header_read : header bases (input_at image h) ≡ Ok (listing h bases frame fdes table.listed)
   header_read =
-      let pointer_is : pointer 0x1b (bases_in h bases) (input h 4 (drop 4 (table_at image h))) ≡ Ok (Direct frame, table.counted) = pointer_read (bases_in h bases) (skip 4 (input_at image h)) table.counted frame table.pointer in
-      let counts : pair_count 0x03 0x3b table.counted ≡ Ok (length fdes, table.listed) = table.count in
+      let pointer_is : pointer pcrel_sdata4 (bases_in h bases) (input h 4 (drop 4 (table_at image h))) ≡ Ok (Direct frame, table.counted) = pointer_read (bases_in h bases) (skip 4 (input_at image h)) table.counted frame table.pointer in
+      let counts : pair_count DW_EH_PE_udata4 datarel_sdata4 table.counted ≡ Ok (length fdes, table.listed) = table.count in
       ap (λ (l : List ℕ). header bases (input h 0 l)) bytes_are ∙ head_read bases h (drop 4 (table_at image h)) ∙ ap (λ (r : Result (Pointer × Input) Fault). r >>= behind_head bases h) pointer_is
-      ∙ ap (λ (r : Result (ℕ × Input) Fault). r >>= λ count. Ok (record { frame = Direct frame; count = count.0; encoding = 0x3b; bases = bases_in h bases; pairs = count.1 })) counts
+      ∙ ap (λ (r : Result (ℕ × Input) Fault). r >>= λ count. Ok (record { frame = Direct frame; count = count.0; encoding = datarel_sdata4; bases = bases_in h bases; pairs = count.1 })) counts
 
 -- ---- the pairs
 skip_none : (c : Input) → skip 0 c ≡ c
@@ -76,34 +77,34 @@ skip_more m n k c sum =
     let offset : c.offset + n + m ≡ c.offset + k = omega arith in
     ap (λ o. input c.base o (drop m (drop n c.bytes))) offset ∙ ap (λ (l : List ℕ). input c.base (c.offset + k) l) (drop-drop m n c.bytes ∙ ap (λ j. drop j c.bytes) (sym sum))
 
-four_passed : (h a : ℕ) (c d : Input) → direct 0x3b (header_bases h) c ≡ Ok (a, d) → d ≡ skip 4 c
+four_passed : (h a : ℕ) (c d : Input) → direct datarel_sdata4 (header_bases h) c ≡ Ok (a, d) → d ≡ skip 4 c
 four_passed h a c d e = go (nat_lt (length c.bytes) 4) refl
   where
     go : (b : Bool) → nat_lt (length c.bytes) 4 ≡ b → d ≡ skip 4 c
     go true is = let h = rw is at e in absurd cc
     go false is = let h = rw is at e in sym (ap (λ (p : ℕ × Input). p.1) (ok_same _ (a, d) h))
 
-pair_read : (h : ℕ) (bases : Bases) (c middle next : Input) (p : ℕ × ℕ) → direct 0x3b (header_bases h) c ≡ Ok (p.0, middle) → direct 0x3b (header_bases h) middle ≡ Ok (p.1, next) →
-    pair_from 0x3b (bases_in h bases) c ≡ Ok p
+pair_read : (h : ℕ) (bases : Bases) (c middle next : Input) (p : ℕ × ℕ) → direct datarel_sdata4 (header_bases h) c ≡ Ok (p.0, middle) → direct datarel_sdata4 (header_bases h) middle ≡ Ok (p.1, next) →
+    pair_from datarel_sdata4 (bases_in h bases) c ≡ Ok p
 pair_read h bases c middle next p first second =
-    let one : direct 0x3b (bases_in h bases) c ≡ Ok (p.0, middle) = first in
-    let two : direct 0x3b (bases_in h bases) middle ≡ Ok (p.1, next) = second in
+    let one : direct datarel_sdata4 (bases_in h bases) c ≡ Ok (p.0, middle) = first in
+    let two : direct datarel_sdata4 (bases_in h bases) middle ≡ Ok (p.1, next) = second in
     rw (one, two) refl
 
 some_same : (p q : ℕ × ℕ) → ◌≡◌ {A = Option (ℕ × ℕ)} (Some p) (Some q) → p ≡ q
 some_same p q e = cc
 
-pub nth_pair : (h : ℕ) (bases : Bases) (c : Input) (ps : List (ℕ × ℕ)) → ArePairs h c ps → (i : ℕ) (p : ℕ × ℕ) → slice_get ps i ≡ Some p → pair_from 0x3b (bases_in h bases) (skip (i * 8) c) ≡ Ok p
+pub nth_pair : (h : ℕ) (bases : Bases) (c : Input) (ps : List (ℕ × ℕ)) → ArePairs h c ps → (i : ℕ) (p : ℕ × ℕ) → slice_get ps i ≡ Some p → pair_from datarel_sdata4 (bases_in h bases) (skip (i * 8) c) ≡ Ok p
 nth_pair h bases c [] are i p e = absurd cc
 nth_pair h bases c (q ∷ ps) are zero p e =
     let same : q ≡ p = some_same q p e in
-    ap (pair_from 0x3b (bases_in h bases)) (skip_none c) ∙ pair_read h bases c are.0 are.1 q are.2 are.3 ∙ ap (λ (x : ℕ × ℕ). Ok x) same
+    ap (pair_from datarel_sdata4 (bases_in h bases)) (skip_none c) ∙ pair_read h bases c are.0 are.1 q are.2 are.3 ∙ ap (λ (x : ℕ × ℕ). Ok x) same
 nth_pair h bases c (q ∷ ps) are (suc i) p e =
     let middle : are.0 ≡ skip 4 c = four_passed h q.0 c are.0 are.2 in
     let next : are.1 ≡ skip 4 are.0 = four_passed h q.1 are.0 are.1 are.3 in
     let behind : are.1 ≡ skip 8 c = next ∙ ap (skip 4) middle ∙ skip_more 4 4 8 c refl in
     let more : suc i * 8 ≡ 8 + i * 8 = omega arith in
-    ap (pair_from 0x3b (bases_in h bases)) (sym (ap (skip (i * 8)) behind ∙ skip_more (i * 8) 8 (suc i * 8) c more)) ∙ nth_pair h bases are.1 ps are.4 i p e
+    ap (pair_from datarel_sdata4 (bases_in h bases)) (sym (ap (skip (i * 8)) behind ∙ skip_more (i * 8) 8 (suc i * 8) c more)) ∙ nth_pair h bases are.1 ps are.4 i p e
 
 -- ---- the boundary
 none_starts : (ps : List (ℕ × ℕ)) (a : ℕ) → StartsAscend ps → ((q : ℕ × ℕ) → slice_get ps 0 ≡ Some q → a < q.0) → boundary ps a ≡ None

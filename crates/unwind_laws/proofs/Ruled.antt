@@ -5,10 +5,11 @@ use Rattle.std.specs.Option.{option_map_or, option_or}
 use Rattle.std.proofs.lemmas.Bool.{eqb-true, ltb-true, ltb-false}
 use Rattle.std.proofs.lemmas.Bool.Decides.{nat_tests}
 use Rattle.memory_image.specs.Image.{Span}
+use Rattle.memory_image.specs.Results.{◌>>=◌}
 use Rattle.unwind_definitions.specs.Instructions.{Rule}
 use Rattle.unwind_definitions.specs.Row.{RowInstructions}
 use Rattle.unwind_definitions.specs.Caller.{Columns, Machine, StepFault, Evaluates, rule_value, value_for_column, value_without_rule, column_value, value_in, fault_in, first_fault_below, unless_fault, column_limit, caller_with}
-use Rattle.unwind_laws.specs.Undoes.{rule_in, ColumnsAscend, AreRules, with_column, then_columns, ruled}
+use Rattle.unwind_laws.specs.Undoes.{rule_in, ColumnsAscend, AreRules, with_column, ruled}
 use Rattle.unwind_laws.proofs.Faultless.{HasValue, no_fault_below, first_fault_at}
 
 order : (a b : ℕ) → (a < b) ⊎ (b ≤ a)
@@ -67,7 +68,7 @@ module _ (machine : Machine) (evaluates : Evaluates) (image : List Span) (old : 
     where
       go : (p : Result (Option ℕ) StepFault) → value_for_column (old r.0) (rule_value evaluates image old cfa r.0 r.1) ≡ p →
           ((v : Option ℕ) → ruled evaluates image old cfa rules (with_column new r.0 v) ≡ unless_fault (rules_fault rules) (λ c. by_rules rules (with_column new r.0 v) c)) →
-          then_columns p (λ v. ruled evaluates image old cfa rules (with_column new r.0 v)) ≡ unless_fault (option_or (fault_in p) (rules_fault rules)) (λ c. by_rules (r ∷ rules) new c)
+          (p >>= (λ v. ruled evaluates image old cfa rules (with_column new r.0 v))) ≡ unless_fault (option_or (fault_in p) (rules_fault rules)) (λ c. by_rules (r ∷ rules) new c)
       go (Err e) is ih = refl
       go (Ok v) is ih = ih v ∙ ap (unless_fault (rules_fault rules)) (λ i c. set_first rules r new v (nothing_below rules (r.0 + 1) r.0 up.2 (omega arith)) is c i)
 

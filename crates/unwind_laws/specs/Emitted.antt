@@ -4,6 +4,7 @@ use Rattle.std.specs.Prelude.{ℕ, ◌+◌, ◌-◌, ◌%◌, ◌^◌, false, Li
 use Rattle.std.specs.Int.{w32, from_le_bytes}
 use Rattle.unwind_definitions.specs.Input.{Input, signed}
 use Rattle.unwind_definitions.specs.Entries.{Cie, Fde}
+use Rattle.unwind_definitions.specs.PointerEncodings.{pcrel_sdata4}
 
 -- four bytes
 pub record Four : Type 0 where
@@ -40,7 +41,7 @@ cie base = record {
   data_factor = 2 ^ 64 - 8;
   return_column = 16;
   augmentation = 0x7a ∷ 0x52 ∷ [];
-  letters = record { language = None; personality = None; address = Some 0x1b; signal = false };
+  letters = record { language = None; personality = None; address = Some pcrel_sdata4; signal = false };
   program = record { base = base; offset = 17; bytes = 0x0c ∷ 7 ∷ 8 ∷ 0x90 ∷ 1 ∷ 0 ∷ 0 ∷ [] };
 }
 

@@ -13,6 +13,7 @@ use Rattle.unwind_definitions.specs.Function.{Function}
 use Rattle.unwind_definitions.specs.Module.{Module, Process, Frames, bases_of}
 use Rattle.unwind_definitions.specs.Chain.{Call}
 use Rattle.unwind_definitions.specs.Delivery.{Delivery, EndOfStack}
+use Rattle.unwind_definitions.specs.PointerEncodings.{pcrel_sdata4}
 
 abbrev pub frames : List ℕ
 frames = 0x14 ∷ 0x00 ∷ 0x00 ∷ 0x00 ∷ 0x00 ∷ 0x00 ∷ 0x00 ∷ 0x00 ∷ 0x01 ∷ 0x7a ∷ 0x52 ∷ 0x00 ∷ 0x01 ∷ 0x78 ∷ 0x10 ∷ 0x01 ∷ 0x1b ∷ 0x0c ∷ 0x07 ∷ 0x08 ∷ 0x90 ∷ 0x01 ∷ 0x00 ∷ 0x00 ∷
@@ -47,7 +48,7 @@ cie = record {
   data_factor = 2 ^ 64 - 8;
   return_column = 16;
   augmentation = 0x7a ∷ 0x52 ∷ [];
-  letters = record { language = None; personality = None; address = Some 0x1b; signal = false };
+  letters = record { language = None; personality = None; address = Some pcrel_sdata4; signal = false };
   program = record { base = 0x500000; offset = 17; bytes = 0x0c ∷ 7 ∷ 8 ∷ 0x90 ∷ 1 ∷ 0 ∷ 0 ∷ [] };
 }
 

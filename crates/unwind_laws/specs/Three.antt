@@ -10,6 +10,7 @@ use Rattle.unwind_definitions.specs.Function.{Function, NoAction, Cleanup, Catch
 use Rattle.unwind_definitions.specs.Module.{Module, Process, Frames, Header}
 use Rattle.unwind_definitions.specs.Chain.{Call}
 use Rattle.unwind_definitions.specs.Delivery.{Delivery, Installed, EndOfStack, FatalPhase1}
+use Rattle.unwind_definitions.specs.PointerEncodings.{pcrel_sdata4, indirect_pcrel_sdata4}
 
 abbrev pub frames : List ℕ
 frames = 0x14 ∷ 0x00 ∷ 0x00 ∷ 0x00 ∷ 0x00 ∷ 0x00 ∷ 0x00 ∷ 0x00 ∷ 0x01 ∷ 0x7a ∷ 0x52 ∷ 0x00 ∷ 0x01 ∷ 0x78 ∷ 0x10 ∷ 0x01 ∷ 0x1b ∷ 0x0c ∷ 0x07 ∷ 0x08 ∷ 0x90 ∷ 0x01 ∷ 0x00 ∷ 0x00 ∷
@@ -52,7 +53,7 @@ cie_plain = record {
   data_factor = 2 ^ 64 - 8;
   return_column = 16;
   augmentation = 0x7a ∷ 0x52 ∷ [];
-  letters = record { language = None; personality = None; address = Some 0x1b; signal = false };
+  letters = record { language = None; personality = None; address = Some pcrel_sdata4; signal = false };
   program = record { base = 0x500000; offset = 17; bytes = 0x0c ∷ 7 ∷ 8 ∷ 0x90 ∷ 1 ∷ 0 ∷ 0 ∷ [] };
 }
 
@@ -64,7 +65,7 @@ cie_language = record {
   data_factor = 2 ^ 64 - 8;
   return_column = 16;
   augmentation = 0x7a ∷ 0x50 ∷ 0x4c ∷ 0x52 ∷ [];
-  letters = record { language = Some 0x1b; personality = Some (0x9b, Indirect 0x503000); address = Some 0x1b; signal = false };
+  letters = record { language = Some pcrel_sdata4; personality = Some (indirect_pcrel_sdata4, Indirect 0x503000); address = Some pcrel_sdata4; signal = false };
   program = record { base = 0x500000; offset = 77; bytes = 0x0c ∷ 7 ∷ 8 ∷ 0x90 ∷ 1 ∷ 0 ∷ 0 ∷ [] };
 }
 

@@ -1,6 +1,7 @@
 -- What it is for a row to undo a call, and the caller's columns from a list of rules.
 use Rattle.std.specs.Prelude.{◌≡◌, ℕ, ◌+◌, ◌<◌, ◌≤◌, List, [], ◌∷◌, Option, Some, None, Result, Ok, Err, ◌==◌, if◌then◌else◌}
 use Rattle.memory_image.specs.Image.{Span}
+use Rattle.memory_image.specs.Results.{◌>>=◌}
 use Rattle.unwind_definitions.specs.Instructions.{Rule}
 use Rattle.unwind_definitions.specs.Row.{RowInstructions, rule_of}
 use Rattle.unwind_definitions.specs.Caller.{Columns, x86_64, StepFault, Evaluates, rule_value, value_for_column, caller_of, column_limit}
@@ -34,11 +35,7 @@ pub record AreRules (run : RowInstructions) (rules : List (ℕ × Rule)) : Type 
 abbrev pub with_column : Columns → ℕ → Option ℕ → Columns
 with_column columns c v = λ k. if c == k then v else columns k
 
-abbrev pub then_columns : Result (Option ℕ) StepFault → (Option ℕ → Result Columns StepFault) → Result Columns StepFault
-then_columns (Ok v) next = next v
-then_columns (Err e) next = Err e
-
 -- one rule after another, up to the first fault: each gives its column a value from the old columns
 abbrev pub ruled : Evaluates → List Span → Columns → ℕ → List (ℕ × Rule) → Columns → Result Columns StepFault
 ruled evaluates image old cfa [] new = Ok new
-ruled evaluates image old cfa (r ∷ rules) new = then_columns (value_for_column (old r.0) (rule_value evaluates image old cfa r.0 r.1)) (λ v. ruled evaluates image old cfa rules (with_column new r.0 v))
+ruled evaluates image old cfa (r ∷ rules) new = value_for_column (old r.0) (rule_value evaluates image old cfa r.0 r.1) >>= (λ v. ruled evaluates image old cfa rules (with_column new r.0 v))

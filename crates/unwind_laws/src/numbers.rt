@@ -4,6 +4,7 @@ ghost use Rattle.std.specs.Prelude.{◌≡◌, ℕ, ◌+◌, List, ◌++◌, len
 ghost use Rattle.unwind_definitions.specs.Input.{Input, uleb, sleb, address_of};
 ghost use Rattle.unwind_definitions.specs.Pointers.{Bases, direct};
 ghost use Rattle.unwind_definitions.specs.Numbers.{SpellsRelative};
+ghost use Rattle.unwind_definitions.specs.PointerEncodings.{pcrel_sdata4};
 ghost use Rattle.unwind_laws.specs.Spelled.{AreBytes, Follows, BeginsUnsigned, BeginsSigned};
 
 /// An unsigned number is read where the bytes begin with its spelling, and nowhere else.
@@ -23,5 +24,5 @@ pub fn signed_number_is_spelled()
 /// A pointer of four signed bytes, relative to its place, is read as what they spell.
 pub fn relative_pointer_is_spelled()
     ensures { (bases : Bases) (c d : Input) (bytes : List ℕ) (to : ℕ) → Follows c bytes d →
-        SpellsRelative bytes (address_of c) to → direct 0x1b bases c ≡ Ok (to, d) }
+        SpellsRelative bytes (address_of c) to → direct pcrel_sdata4 bases c ≡ Ok (to, d) }
 {}

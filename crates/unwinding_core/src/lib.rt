@@ -3,7 +3,7 @@
 //! The calls are those of the Itanium C++ ABI, in the module [`abi`]: to raise an exception, to unwind
 //! by force, to resume, and to visit the frames of a stack, over any finder, any personality and any
 //! machine of `unwind_arch`. Finders stand in `fde_finders`, and frames, language tables and
-//! personalities in `unwinding_frames`; all their public names are here too.
+//! personalities in `unwinding_frames`; those of their public names that users need are here too.
 //!
 //! The caller of a frame in an image of memory, whose registers are in `context`:
 //!

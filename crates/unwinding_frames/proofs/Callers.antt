@@ -5,12 +5,13 @@ use Rattle.std.specs.Option.{option_or}
 use Rattle.std.proofs.lemmas.Bool.{cases_lt}
 use Rattle.std.proofs.lemmas.Bool.Decides.{nat_tests, eqb_tells}
 use Rattle.memory_image.specs.Image.{Span}
+use Rattle.memory_image.specs.Results.{◌>>=◌}
 use Rattle.unwind_definitions.specs.declared.error.Error.TheVariants.{UnsupportedRegister}
 use Rattle.unwind_definitions.specs.Instructions.{Rule}
 use Rattle.unwind_definitions.specs.Row.{RowInstructions, CfaRule, rule_of, cfa_rule}
 use Rattle.unwind_definitions.specs.Caller.{Columns, Machine, Evaluates, StepFault, Table, rule_value, value_for_column, value_without_rule, column_value, first_fault_below, fault_in, value_in, column_limit, cfa_value, caller_with, caller_of}
 use Rattle.frame_rows.specs.Rules.{rule_in, AscendsFrom}
-use Rattle.unwinding_frames.specs.Calling.{and_then, applied, written_to}
+use Rattle.unwinding_frames.specs.Calling.{applied, written_to}
 
 -- a column has a value
 abbrev pub HasValue : Result (Option ℕ) StepFault → Type 0
@@ -127,7 +128,7 @@ module _ (machine : Machine) (evaluates : Evaluates) (image : List Span) (old : 
   -- what follows the first rule left, once its value is written or not
   after_write : (low : ℕ) (p : ℕ × Rule) (ps : List (ℕ × Rule)) (now : Columns) (v : ℕ) → Stands low (p ∷ ps) now → rule_value evaluates image old cfa p.0 p.1 ≡ Ok v →
       ((next : Columns) → Stands (suc p.0) ps next → applied evaluates image old cfa ps next ≡ due) → (o : Option ℕ) → now p.0 ≡ o →
-      and_then (written_to o now p.0 v) (applied evaluates image old cfa ps) ≡ due
+      (written_to o now p.0 v >>= applied evaluates image old cfa ps) ≡ due
   after_write low p ps now v stands gives later None missing =
       let absent : old p.0 ≡ None = no_column (old p.0) (sym (stands.same p.0) ∙ ap is_some missing) in
       failed low p ps now (Table UnsupportedRegister) stands (first_value low p ps now stands ∙ rw (gives, absent) refl)
@@ -136,7 +137,7 @@ module _ (machine : Machine) (evaluates : Evaluates) (image : List Span) (old : 
   -- what follows the value of the first rule left
   after_value : (low : ℕ) (p : ℕ × Rule) (ps : List (ℕ × Rule)) (now : Columns) → Stands low (p ∷ ps) now →
       ((next : Columns) → Stands (suc p.0) ps next → applied evaluates image old cfa ps next ≡ due) → (given : Result ℕ StepFault) → rule_value evaluates image old cfa p.0 p.1 ≡ given →
-      and_then (and_then given (λ v. written_to (now p.0) now p.0 v)) (applied evaluates image old cfa ps) ≡ due
+      ((given >>= (λ v. written_to (now p.0) now p.0 v)) >>= applied evaluates image old cfa ps) ≡ due
   after_value low p ps now stands later (Err e) gives = failed low p ps now e stands (first_value low p ps now stands ∙ rw gives refl)
   after_value low p ps now stands later (Ok v) gives = after_write low p ps now v stands gives later (now p.0) refl
 

@@ -1,16 +1,17 @@
 -- A fault stays what it is.
 use Rattle.std.proofs.Common.{◌≡◌, Result, Ok, Err, sym, ap, ◌∙◌}
 use Rattle.std.specs.Result.{IsErrAnd}
+use Rattle.memory_image.specs.Results.{◌>>=◌}
 use Rattle.unwind_definitions.specs.declared.error.Error.{Error as Fault}
 use Rattle.unwind_definitions.specs.Caller.{StepFault, Table}
 use Rattle.unwinding_frames.specs.declared.frame.StepError.{StepError}
 use Rattle.unwinding_frames.specs.declared.frame.StepError.TheVariants as code
-use Rattle.unwinding_frames.specs.Calling.{and_then, fault_of}
+use Rattle.unwinding_frames.specs.Calling.{fault_of}
 use Rattle.unwinding_frames.specs.LanguageViews.{given}
 
-pub and_then_fault : {A B : Type 0} → (r : Result A StepFault) (f : A → Result B StepFault) (e : StepFault) → r ≡ Err e → and_then r f ≡ Err e
-and_then_fault (Ok v) f e fails = absurd cc
-and_then_fault (Err x) f e fails = cc
+pub err_stays : {A B : Type 0} → (r : Result A StepFault) (f : A → Result B StepFault) (e : StepFault) → r ≡ Err e → (r >>= f) ≡ Err e
+err_stays (Ok v) f e fails = absurd cc
+err_stays (Err x) f e fails = cc
 
 abbrev faulted : {B : Type 0} → StepFault → Result B StepFault
 faulted e = Err e

@@ -1,6 +1,8 @@
 -- A caller's registers, column by column, as the code finds them: the rules of a row applied one after another.
 use Rattle.std.specs.Prelude.{ℕ, ◌==◌, List, [], ◌∷◌, Option, Some, None, Result, Ok, Err, if◌then◌else◌}
+use Rattle.std.specs.Result.{result_map_both}
 use Rattle.memory_image.specs.Image.{Span}
+use Rattle.memory_image.specs.Results.{◌>>=◌}
 use Rattle.unwind_definitions.specs.declared.error.Error.TheVariants.{UnsupportedRegister}
 use Rattle.unwind_definitions.specs.Instructions.{Rule}
 use Rattle.unwind_definitions.specs.Caller.{Columns, Machine, Evaluates, StepFault, Table, Unmapped, rule_value}
@@ -23,13 +25,11 @@ fault_of (code.Unmapped a) = Unmapped a
 
 -- a value or a fault, as the code answers it
 abbrev pub value_given : {A : Type 0} → Result A StepError → Result A StepFault
-value_given (Ok v) = Ok v
-value_given (Err e) = Err (fault_of e)
+value_given = result_map_both (λ v. v) fault_of
 
 -- a context's columns or a fault
 abbrev pub columns_given : {C : Type 0} → (C → Columns) → Result C StepError → Result Columns StepFault
-columns_given columns (Ok c) = Ok (columns c)
-columns_given columns (Err e) = Err (fault_of e)
+columns_given columns = result_map_both columns fault_of
 
 -- the context that a call leaves in its place, or its fault
 abbrev pub written_in : {C : Type 0} → Result (Unit {0}) StepError → C → Result C StepError
@@ -44,14 +44,10 @@ written_to (Some old) columns k v = Ok (λ j. if j == k then Some v else columns
 abbrev pub written : Columns → ℕ → ℕ → Result Columns StepFault
 written columns k v = written_to (columns k) columns k v
 
-abbrev pub and_then : {A B : Type 0} → Result A StepFault → (A → Result B StepFault) → Result B StepFault
-and_then (Ok x) f = f x
-and_then (Err e) f = Err e
-
 -- a rule gives its column a value from the old columns
 abbrev pub rule_applied : Evaluates → List Span → Columns → ℕ → ℕ × Rule → Columns → Result Columns StepFault
-rule_applied evaluates image old cfa p now = and_then (rule_value evaluates image old cfa p.0 p.1) (λ v. written now p.0 v)
+rule_applied evaluates image old cfa p now = rule_value evaluates image old cfa p.0 p.1 >>= (λ v. written now p.0 v)
 
 abbrev pub applied : Evaluates → List Span → Columns → ℕ → List (ℕ × Rule) → Columns → Result Columns StepFault
 applied evaluates image old cfa [] now = Ok now
-applied evaluates image old cfa (p ∷ ps) now = and_then (rule_applied evaluates image old cfa p now) (applied evaluates image old cfa ps)
+applied evaluates image old cfa (p ∷ ps) now = rule_applied evaluates image old cfa p now >>= applied evaluates image old cfa ps

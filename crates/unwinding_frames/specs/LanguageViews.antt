@@ -1,5 +1,6 @@
 -- What the code reads of language tables, in the words of the definitions.
 use Rattle.std.specs.Prelude.{◌≡◌, Result, Ok, Err}
+use Rattle.std.specs.Result.{result_map_both}
 use Rattle.unwind_definitions.specs.Faults.{◌>>=◌}
 use Rattle.unwind_definitions.specs.Input.{Input, Reads}
 use Rattle.unwind_definitions.specs.Function as functions
@@ -29,8 +30,7 @@ head_of t = record { pad_base = t.pad_base; site_encoding = t.site_encoding.0; s
 
 -- An answer, seen by a view, or a fault, as the code gives it.
 abbrev pub given : {A B : Type 0} → (A → B) → Result A StepError → Result B StepFault
-given view (Ok x) = Ok (view x)
-given view (Err e) = Err (fault_of e)
+given view = result_map_both view fault_of
 
 -- From one place a reader gives a value, seen by a view, and the next place; or a fault. The place after a fault is unspecified.
 abbrev pub GivesOr : {A B : Type 0} → (A → B) → Result A StepError → Result (B × Input) StepFault → Input → Type 0

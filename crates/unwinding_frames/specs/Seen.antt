@@ -2,6 +2,7 @@
 use Rattle.std.specs.Prelude.{◌≡◌, ℕ, ◌+◌, ◌%◌, ◌^◌, ◌==◌, pos, Bool, List, Option, Some, None, Result, Ok, Err, MatchBool}
 use Rattle.std.specs.Option.{unwrap_or}
 use Rattle.memory_image.specs.Image.{Span}
+use Rattle.memory_image.specs.Results.{result_map}
 use Rattle.unwind_definitions.specs.declared.error.Error.{Error as Fault}
 use Rattle.unwind_definitions.specs.Row.{RowInstructions, row_at, argument_size}
 use Rattle.unwind_definitions.specs.Caller.{Columns, Machine, StepFault, Table, caller_of}
@@ -47,8 +48,7 @@ abbrev pub past_in_column : ℕ → ℕ → Columns → Columns
 past_in_column k n c = with_value c k ((in_column k c + n) % 2 ^ 64)
 
 abbrev pub marked : Bool → Result Columns StepFault → Result (Marked Columns) StepFault
-marked signal (Ok c) = Ok (record { context = c; signal = signal })
-marked signal (Err e) = Err e
+marked signal = result_map (λ c. record { context = c; signal = signal })
 
 -- how a frame of a machine is undone, over its columns
 abbrev pub undoing : Machine → List Span → Undoing Columns FrameSeen StepFault
