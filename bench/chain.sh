@@ -73,7 +73,7 @@ measure() {
         else
             proved_frame=- peer_frame=- growth=-
         fi
-        read=$(inclusive reading::read_snapshot)
+        read=$(inclusive reading:: serde_json::)
         json=$(inclusive serde_json::)
         prepare=$(inclusive Space::prepare prepared::tables_for Prepared::build)
         printf '%8d %14d %8s %7d %8s %14d %8s %8d %9d %9d %12d %12d %12d (%s, %s)\n' "$count" "$proved_whole" \
