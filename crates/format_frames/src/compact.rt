@@ -310,7 +310,7 @@ fn by_row<'a>(
         (row_at (bases_of bases.now) (fde_of description.now) address) }
 {
     description.make_row(table, bases, address, rows)?;
-    let mut caller = *context;
+    let mut caller = context.copied();
     step_by_row::<Arch>(image, &mut caller, &rows.row())?;
     Ok(caller)
 }
@@ -374,20 +374,6 @@ fn by_size(
     by_cfa(stack, registers, caller, cfa)
 }
 
-// The same registers. The general ones are copied by themselves: so many bytes are copied in place,
-// and all of a context would be by a call.
-#[inline(always)]
-fn copy_of(context: &Context) -> Context
-    ensures { result ≡ context.now }
-{
-    Context {
-        registers: context.registers,
-        ra: context.ra,
-        mcxsr: context.mcxsr,
-        fcw: context.fcw,
-    }
-}
-
 // a caller that stands after a call
 fn after_call(context: Context) -> Stepped
     ensures { result ≡ record { context = context; signal = false } }
@@ -428,26 +414,18 @@ pub fn compact_step<'a>(
 {
     // What a frame saves stands at its stack pointer or above.
     stack.seek(context.registers[RSP]);
-    let mut caller = copy_of(context);
+    let mut caller = context.copied();
     match opcode {
         OpcodeX86_64::FrameBased {
             stack_offset_in_bytes,
             saved_regs,
-        } => {
-            by_frame(stack, *stack_offset_in_bytes, saved_regs, &mut caller)?;
-            Ok(Some(after_call(caller)))
-        }
+        } => by_frame(stack, *stack_offset_in_bytes, saved_regs, &mut caller)?,
         OpcodeX86_64::FramelessImmediate {
             stack_size_in_bytes,
             saved_regs,
         } => {
-            by_size(
-                stack,
-                saved_regs,
-                &mut caller,
-                u64::from(*stack_size_in_bytes),
-            )?;
-            Ok(Some(after_call(caller)))
+            let size = u64::from(*stack_size_in_bytes);
+            by_size(stack, saved_regs, &mut caller, size)?;
         }
         OpcodeX86_64::FramelessIndirect {
             immediate_offset_from_function_start,
@@ -457,23 +435,17 @@ pub fn compact_step<'a>(
             let offset = *immediate_offset_from_function_start;
             let size = indirect_size(stack.image(), start, offset, *stack_adjust_in_bytes)?;
             by_size(stack, saved_regs, &mut caller, size)?;
-            Ok(Some(after_call(caller)))
         }
-        OpcodeX86_64::Dwarf { eh_frame_fde } => match frames {
-            Some(frames) => {
-                let stepped = by_frame_data(
-                    stack.image(),
-                    frames,
-                    *eh_frame_fde,
-                    address,
-                    context,
-                    rows,
-                )?;
-                Ok(Some(stepped))
-            }
-            None => Ok(None),
-        },
+        OpcodeX86_64::Dwarf { eh_frame_fde } => {
+            let Some(frames) = frames else {
+                return Ok(None);
+            };
+            let offset = *eh_frame_fde;
+            let stepped = by_frame_data(stack.image(), frames, offset, address, context, rows)?;
+            return Ok(Some(stepped));
+        }
         OpcodeX86_64::Null | OpcodeX86_64::InvalidFrameless | OpcodeX86_64::UnrecognizedKind(_) =>
-            Ok(None),
+            return Ok(None),
     }
+    Ok(Some(after_call(caller)))
 }

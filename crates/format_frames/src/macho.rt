@@ -11,11 +11,9 @@ ghost use Rattle.format_frames.specs.Refusals.{macho_given, macho_due};
 use crate::compact::compact_step;
 use crate::error::FrameError;
 use crate::machine::Stepped;
-use crate::memory::bytes_at;
 use eh_frame::RowRoom;
 use macho_unwind_info::opcodes::{OpcodeBitfield, OpcodeX86_64};
 use macho_unwind_info::{Function, UnwindInfo};
-use memory_image::MemoryImage;
 use unwind_arch::x86_64::Context;
 use unwinding_frames::Window;
 
@@ -41,19 +39,21 @@ fn function_in(section: &[u8], rva: u32) -> Result<Option<Function>, macho_unwin
 }
 
 /// The function that a Mach-O module has at an address so far from its base, by its section of
-/// compact unwinding. `None` where it has none there.
+/// compact unwinding. `None` where it has none there. `stack` is a window over the image, which keeps
+/// where the section lies.
 ///
 /// # Errors
 ///
 /// Where the section, or what the look-up comes to, can't be read.
 pub fn macho_function(
-    image: &MemoryImage<'_>,
+    stack: &mut Window<'_, '_>,
     module: &MachoModule,
     rva: u32,
 ) -> Result<Option<Function>, macho_unwind_info::Error>
-    ensures { result ≡ function_at image.now (macho_module module.now) rva }
+    ensures function { result ≡ function_at stack.old (macho_module module.now) rva }
+    ensures same { stack.new ≡ stack.old }
 {
-    function_in(bytes_at(image, module.unwind_info), rva)
+    function_in(stack.tables(module.unwind_info), rva)
 }
 
 /// Whether the opcode of a function says that it has a language table, which a personality reads.
@@ -115,8 +115,7 @@ pub fn macho_step<'a>(
         (address - module.now.base) (columns_of context.now)) }
     ensures same { stack.new ≡ stack.old }
 {
-    let section = stack.tables(module.unwind_info);
-    match function_in(section, (address - module.base) as u32)? {
+    match macho_function(stack, module, (address - module.base) as u32)? {
         Some(function) => {
             let stepped = macho_caller(stack, module, &function, address, context, rows)?;
             Ok(Some(stepped))

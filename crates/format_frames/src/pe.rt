@@ -14,9 +14,7 @@ ghost use Rattle.format_frames.specs.Refusals.{functions_given, functions_due, p
 
 use crate::error::FrameError;
 use crate::machine::Machine;
-use crate::memory::bytes_at;
 use crate::xmm::XmmWrites;
-use memory_image::MemoryImage;
 use pe_unwind_info::x86_64::{
     FrameFault, FunctionTableEntries, RuntimeFunction, try_unwind_function,
 };
@@ -80,19 +78,21 @@ fn functions_in<'a>(
     }
 }
 
-/// The function table of a PE module.
+/// The function table of a PE module. `stack` is a window over the image, which keeps where the table
+/// lies.
 ///
 /// # Errors
 ///
 /// `PeInfo` with the address of the table where one region doesn't have all of its bytes.
 pub fn pe_functions<'a>(
-    image: &MemoryImage<'a>,
+    stack: &mut Window<'_, 'a>,
     module: &PeModule,
 ) -> Result<FunctionTableEntries<'a>, FrameError>
-    ensures { functions_given result ≡ functions_due (pe_module module.now)
-        (table_of image.now (pe_module module.now)) }
+    ensures functions { functions_given result ≡ functions_due (pe_module module.now)
+        (table_of stack.old (pe_module module.now)) }
+    ensures same { stack.new ≡ stack.old }
 {
-    functions_in(module, bytes_at(image, module.address(module.table_rva)))
+    functions_in(module, stack.tables(module.address(module.table_rva)))
 }
 
 // Looks up in the window what the frame that stands so far from the module's base is left by: the code
@@ -126,7 +126,7 @@ fn caller_by(
         (registers_in (columns_of context.now))) }
 {
     let mut machine = Machine {
-        context: *context,
+        context: context.copied(),
         xmm_writes: XmmWrites::new(),
         stack,
     };
@@ -199,7 +199,7 @@ pub fn pe_step(
         (columns_of context.now)) }
     ensures same { stack.new ≡ stack.old }
 {
-    let functions = functions_in(module, stack.tables(module.address(module.table_rva)))?;
+    let functions = pe_functions(stack, module)?;
     let rva = (address - module.base) as u32;
     pe_caller(stack, module, &functions, rva, context)
 }

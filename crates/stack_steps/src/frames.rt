@@ -121,9 +121,10 @@ impl<'a> RecordedFrame<'a> {
 }
 
 /// The frame at an address of a Mach-O module. A row that its opcode may ask for is made in `rows`.
+/// `stack` is a window over the image.
 #[inline(never)]
 pub(crate) fn compact_frame<'f, 'a>(
-    image: &MemoryImage<'a>,
+    stack: &mut Window<'_, 'a>,
     address: u64,
     holder: &Module,
     tables: MachoTables,
@@ -132,8 +133,9 @@ pub(crate) fn compact_frame<'f, 'a>(
     requires from { holder.now.start ≤ address }
     requires within { address < holder.now.end }
     requires placed { holder.now.end - holder.now.start < 2 ^ 32 }
-    ensures { GivesFrameAt result
-        (frame_by_tables image.now address holder.now (Macho tables)) }
+    ensures frame { GivesFrameAt result
+        (frame_by_tables stack.old address holder.now (Macho tables)) }
+    ensures same { stack.new ≡ stack.old }
 {
     let container = MachoModule {
         base: holder.start,
@@ -141,7 +143,7 @@ pub(crate) fn compact_frame<'f, 'a>(
         unwind_info: tables.unwind_info,
         frames: tables.frames,
     };
-    match macho_function(image, &container, (address - holder.start) as u32) {
+    match macho_function(stack, &container, (address - holder.start) as u32) {
         Ok(Some(function)) => Ok(Some(FoundFrame::Compact(CompactFrame {
             container,
             function,
@@ -153,10 +155,10 @@ pub(crate) fn compact_frame<'f, 'a>(
     }
 }
 
-/// The frame at an address of a PE module.
+/// The frame at an address of a PE module. `stack` is a window over the image.
 #[inline(never)]
 pub(crate) fn recorded_frame<'f, 'a>(
-    image: &MemoryImage<'a>,
+    stack: &mut Window<'_, 'a>,
     address: u64,
     holder: &Module,
     tables: PeTables,
@@ -164,8 +166,9 @@ pub(crate) fn recorded_frame<'f, 'a>(
     requires from { holder.now.start ≤ address }
     requires within { address < holder.now.end }
     requires placed { holder.now.end - holder.now.start < 2 ^ 32 }
-    ensures { GivesFrameAt result
-        (frame_by_tables image.now address holder.now (Pe tables)) }
+    ensures frame { GivesFrameAt result
+        (frame_by_tables stack.old address holder.now (Pe tables)) }
+    ensures same { stack.new ≡ stack.old }
 {
     let container = PeModule {
         base: holder.start,
@@ -173,7 +176,7 @@ pub(crate) fn recorded_frame<'f, 'a>(
         table_rva: tables.table_rva,
         table_size: tables.table_size,
     };
-    let functions = pe_functions(image, &container)?;
+    let functions = pe_functions(stack, &container)?;
     Ok(Some(FoundFrame::Recorded(RecordedFrame {
         container,
         functions,

@@ -151,10 +151,11 @@ fn prepared_frame<'f, 'a, L: Ledger>(
     }
 }
 
-/// The frame at an address of a module that isn't prepared. Here the kinds of modules part.
+/// The frame at an address of a module that isn't prepared. Here the kinds of modules part. `stack` is a
+/// window over the image.
 #[inline(never)]
 fn unprepared_frame<'f, 'a, L: Ledger>(
-    image: &MemoryImage<'a>,
+    stack: &mut Window<'_, 'a>,
     address: u64,
     holder: &Module,
     place: &'f mut Option<FDESearchResult<'a>>,
@@ -164,46 +165,47 @@ fn unprepared_frame<'f, 'a, L: Ledger>(
     requires placed { IsPlaced holder.now }
     requires from { holder.now.start ≤ address }
     requires within { address < holder.now.end }
-    ensures frame { GivesFrameAt result (frame_in image.now address (Some holder.now)) }
-    ensures ticks { RisesBySearch (module_pairs image.now holder.now.tables) steps.old.number
+    ensures frame { GivesFrameAt result (frame_in stack.old address (Some holder.now)) }
+    ensures ticks { RisesBySearch (module_pairs stack.old holder.now.tables) steps.old.number
         steps.new.number }
+    ensures same { stack.new ≡ stack.old }
 {
     match holder.tables {
-        ModuleTables::Elf(tables) => searched_frame(image, address, tables, place, rows, steps),
-        ModuleTables::Macho(tables) => compact_frame(image, address, holder, tables, rows),
-        ModuleTables::Pe(tables) => recorded_frame(image, address, holder, tables),
+        ModuleTables::Elf(tables) => {
+            searched_frame(stack.image(), address, tables, place, rows, steps)
+        }
+        ModuleTables::Macho(tables) => compact_frame(stack, address, holder, tables, rows),
+        ModuleTables::Pe(tables) => recorded_frame(stack, address, holder, tables),
     }
 }
 
-/// Puts the caller of a frame by a description, whose row is given, in the place of its state.
-/// After a fault the state is as before. `signal` says whether the description is of a signal's
-/// frame, and `stack` is a window over the image.
+/// Makes a copy of a frame's state its caller's, by the row of the frame's description. After a fault
+/// the copy's registers are unspecified. `signal` says whether the description is of a signal's frame,
+/// and `stack` is a window over the image.
 #[inline(always)]
-fn leave_described(
+fn write_described(
     stack: &mut Window<'_, '_>,
-    state: &mut Stepped,
+    callee: &Context,
     row: &RowRef<'_, '_>,
     signal: bool,
+    next: &mut Stepped,
 ) -> Result<(), DeliverError>
+    requires { next.old.context ≡ callee.now }
     ensures caller { (f : DescribedFrame) → IsRowOf row.now f.run →
         signal ≡ f.found.fde.cie.letters.signal →
-        result_map (λ done. state.new) result ≡ described_caller stack.old state.old.context f }
-    ensures stays { OnErr result (state.new ≡ state.old) }
+        result_map (λ done. next.new) result ≡ described_caller stack.old callee.now f }
+    ensures mark { OnErr result (next.new.signal ≡ next.old.signal) }
     ensures same { stack.new ≡ stack.old }
 {
-    let callee = state.context;
     stack.seek(callee.registers[RSP]);
-    match write_caller::<Arch>(stack, &callee, row, &mut state.context) {
+    match write_caller::<Arch>(stack, callee, row, &mut next.context) {
         Ok(()) => {
             // A look at them tells the proof that there are sixteen registers.
-            let _ = state.context.registers[RSP];
-            state.signal = signal;
+            let _ = next.context.registers[RSP];
+            next.signal = signal;
             Ok(())
         }
-        Err(fault) => {
-            state.context = callee;
-            Err(DeliverError::from(fault))
-        }
+        Err(fault) => Err(DeliverError::from(fault)),
     }
 }
 
@@ -292,14 +294,15 @@ impl<'s, 'a> Stepper<'s, 'a> {
             steps.new.number }
         ensures same { self.new ≡ self.old }
     {
-        let image = self.image();
+        // Its regions are laid out, as the image's type says.
+        let _ = self.image();
         let Some(held) = self.holder_at(&state.context, state.signal) else {
             return Ok(None);
         };
         let address = state.address();
         match &held.table {
             Some(shared) => prepared_frame(shared.table(), address, steps),
-            None => unprepared_frame(image, address, &held.holder, place, rows, steps),
+            None => unprepared_frame(&mut self.stack, address, &held.holder, place, rows, steps),
         }
     }
 
@@ -316,18 +319,44 @@ impl<'s, 'a> Stepper<'s, 'a> {
         ensures stays { OnErr result (state.new ≡ state.old) }
         ensures same { self.new ≡ self.old }
     {
+        let callee = state.context.copied();
+        let left = self.write_next(&callee, frame, state);
+        if left.is_err() {
+            state.context = callee;
+        }
+        left
+    }
+
+    /// Makes a copy of the state at a frame its caller's. After a fault the copy's registers are
+    /// unspecified.
+    #[inline(always)]
+    fn write_next(
+        &mut self,
+        callee: &Context,
+        frame: &mut FoundFrame<'_, 'a>,
+        next: &mut Stepped,
+    ) -> Result<(), DeliverError>
+        requires { next.old.context ≡ callee.now }
+        ensures caller { (f : FrameAt) → IsFrameOf frame.old f →
+            result_map (λ done. next.new) result ≡ caller_by self.old.image callee.now f }
+        ensures mark { OnErr result (next.new.signal ≡ next.old.signal) }
+        ensures same { self.new ≡ self.old }
+    {
         let stack = &mut self.stack;
         match frame {
             FoundFrame::Searched(searched) => {
                 let signal = searched.found.fde.is_signal_trampoline();
-                leave_described(stack, state, &searched.row, signal)
+                write_described(stack, callee, &searched.row, signal, next)
             }
             FoundFrame::Prepared(_, prepared) => match prepared.row() {
-                Ok(row) => leave_described(stack, state, row, prepared.is_signal_trampoline()),
+                Ok(row) => {
+                    let signal = prepared.is_signal_trampoline();
+                    write_described(stack, callee, row, signal, next)
+                }
                 Err(fault) => Err(DeliverError::Table(fault)),
             },
-            FoundFrame::Compact(compact) => compact.leave(stack, state),
-            FoundFrame::Recorded(recorded) => recorded.leave(stack, state),
+            FoundFrame::Compact(compact) => compact.leave(stack, next),
+            FoundFrame::Recorded(recorded) => recorded.leave(stack, next),
         }
     }
 }
@@ -346,20 +375,20 @@ fn step_in_room<L: Ledger>(
     ensures ticks { TicksAt stepper.old context.now interrupted steps.old.number
         steps.new.number }
 {
-    let mut state = Stepped {
-        context: *context,
+    let mut next = Stepped {
+        context: context.copied(),
         signal: interrupted,
     };
     let mut place = None;
     let mut rows = RowRoom::new();
-    let mut found = stepper.frame_at(&state, &mut place, &mut rows, steps);
+    let mut found = stepper.frame_at(&next, &mut place, &mut rows, steps);
     let frame = match &mut found {
         Ok(Some(frame)) => frame,
         Ok(None) => return Ok(None),
         Err(error) => return Err(*error),
     };
-    stepper.leave(&mut state, frame)?;
-    Ok(Some(state))
+    stepper.write_next(context, frame, &mut next)?;
+    Ok(Some(next))
 }
 
 #[tactic(auto, unfolding(crate::specs::Stepping::step_of))]
@@ -384,18 +413,18 @@ fn stepped<L: Ledger>(
     let Some(shared) = &held.table else {
         return step_in_room(&mut stepper, context, interrupted, steps);
     };
-    let mut state = Stepped {
-        context: *context,
+    let mut next = Stepped {
+        context: context.copied(),
         signal: interrupted,
     };
-    let mut found = prepared_frame(shared.table(), state.address(), steps);
+    let mut found = prepared_frame(shared.table(), next.address(), steps);
     let frame = match &mut found {
         Ok(Some(frame)) => frame,
         Ok(None) => return Ok(None),
         Err(error) => return Err(*error),
     };
-    stepper.leave(&mut state, frame)?;
-    Ok(Some(state))
+    stepper.write_next(context, frame, &mut next)?;
+    Ok(Some(next))
 }
 
 /// The caller of the frame whose registers `context` holds, `None` at the end of the stack.

@@ -11,7 +11,7 @@ returns-in_err-stepped-in-Some-clause-step c =
     let module_of_it = macho_module c.args.module.now in
     let columns = columns_of c.args.context.now in
     let at : c.args.module.now.base + (c.args.address - c.args.module.now.base) ≡ c.args.address = omega arith in
-    rw (p.1, p.2) ((rw c.tables-section.ensures.same at c.in_err-stepped-in-Some.ensures.caller) ∙ sym (due_some c.args.stack.now module_of_it c.args.address columns c.in-Some.function) ∙ ap (due_by c.args.stack.now module_of_it c.args.address columns) (rw (c.tables-section.ensures.held, c.in-Some.is) at c.in_ok-function.ensures)
+    rw (p.1, p.2) ((rw c.macho_function.ensures.same at c.in_err-stepped-in-Some.ensures.caller) ∙ sym (due_some c.args.stack.now module_of_it c.args.address columns c.in-Some.function) ∙ ap (due_by c.args.stack.now module_of_it c.args.address columns) (rw c.in-Some.is at c.in_ok-function.ensures.function)
     ∙ step_due c.args.stack.now module_of_it (c.args.address - c.args.module.now.base) c.args.address columns at)
 
 pub returns-in_ok-stepped-in-Some-clause-step : goal.returns-in_ok-stepped-in-Some-clause-step
@@ -19,5 +19,5 @@ returns-in_ok-stepped-in-Some-clause-step c =
     let module_of_it = macho_module c.args.module.now in
     let columns = columns_of c.args.context.now in
     let at : c.args.module.now.base + (c.args.address - c.args.module.now.base) ≡ c.args.address = omega arith in
-    (rw c.tables-section.ensures.same at c.in_ok-stepped-in-Some.ensures.caller) ∙ sym (due_some c.args.stack.now module_of_it c.args.address columns c.in-Some.function) ∙ ap (due_by c.args.stack.now module_of_it c.args.address columns) (rw (c.tables-section.ensures.held, c.in-Some.is) at c.in_ok-function.ensures)
+    (rw c.macho_function.ensures.same at c.in_ok-stepped-in-Some.ensures.caller) ∙ sym (due_some c.args.stack.now module_of_it c.args.address columns c.in-Some.function) ∙ ap (due_by c.args.stack.now module_of_it c.args.address columns) (rw c.in-Some.is at c.in_ok-function.ensures.function)
     ∙ step_due c.args.stack.now module_of_it (c.args.address - c.args.module.now.base) c.args.address columns at

@@ -11,10 +11,10 @@ returns-in_err-ra c =
     let p = err_from_is_err_and c.from_residual.result c.from_residual.ensures.1 in
     let memory = memory_of c.args.stack.now c.args.base in
     let found = c.args.function in
-    rw (p.1, p.2) (fault_is memory (word_at c.args.stack.now) c.args.rva found c.args.context.now _ (ap xmm_after c.new.ensures) _ c.in_err-ra.field-0.0 (c.in_err-ra.ensures.by_memory memory (λ rva given g. sym g.3 ∙ g.2)))
+    rw (p.1, p.2) (fault_is memory (word_at c.args.stack.now) c.args.rva found c.args.context.now _ (ap xmm_after c.new.ensures) _ c.in_err-ra.field-0.0 (rw c.copied.ensures at (c.in_err-ra.ensures.by_memory memory (λ rva given g. sym g.3 ∙ g.2))))
 
 pub returns : goal.returns
 returns c =
     let memory = memory_of c.args.stack.now c.args.base in
     let found = c.args.function in
-    caller_is memory (word_at c.args.stack.now) c.args.rva found c.args.context.now _ (ap xmm_after c.new.ensures) c.try_unwind_function.new.state.context _ c.in_ok-ra.ra (c.in_ok-ra.ensures.by_memory memory (λ rva given g. sym g.3 ∙ g.2))
+    caller_is memory (word_at c.args.stack.now) c.args.rva found c.args.context.now _ (ap xmm_after c.new.ensures) c.try_unwind_function.new.state.context _ c.in_ok-ra.ra (rw c.copied.ensures at (c.in_ok-ra.ensures.by_memory memory (λ rva given g. sym g.3 ∙ g.2)))
