@@ -1,15 +1,12 @@
 -- The rows of a program that was run to its end serve other descriptions whose programs have the same bytes.
-use Rattle.std.proofs.Common.{◌≡◌, ℕ, zero, suc, ◌+◌, ◌-◌, ◌^◌, ◌<◌, ◌≤◌, Bool, true, false, cond, List, [], ◌∷◌, ◌++◌, length, map, take, drop, get_or, set, Option, Some, None, Result, Ok, Err, refl, sym, ap, ◌∙◌, subst, inl, inr, arith, append_assoc, length-append, length-drop}
-use Rattle.std.specs.Prelude.{is_some, nat_lt, slice_range}
+use Rattle.std.proofs.Common.{◌≡◌, ℕ, zero, suc, ◌+◌, ◌-◌, ◌^◌, ◌<◌, ◌≤◌, Bool, true, false, List, [], ◌∷◌, length, map, get_or, set, Option, Some, None, Result, Ok, refl, sym, ap, ◌∙◌, subst, inl, inr, arith, length-append}
+use Rattle.std.specs.Prelude.{slice_range}
 use Rattle.std.specs.List.{AllByRecursion}
-use Rattle.std.proofs.lemmas.Bool.{ltb-true}
-use Rattle.std.proofs.lemmas.List.{take-append-le, drop-append-le, append-nil, length-map, length-take-le}
-use Rattle.std.specs.declared.alloc.AllocError.{AllocError}
-use Rattle.std.proofs.Math.Seq.{drop-append_seam, take-length}
+use Rattle.std.proofs.lemmas.List.{length-map}
 use Rattle.unwind_definitions.specs.declared.error.Error.{Error as Fault}
 use Rattle.unwind_definitions.specs.Input.{Input}
-use Rattle.unwind_definitions.specs.Instructions.{Coding, Instruction, Program, program}
-use Rattle.unwind_definitions.specs.Row.{RowInstructions, common_fault, fault_of, from_common, location, row}
+use Rattle.unwind_definitions.specs.Instructions.{Coding, Program, program}
+use Rattle.unwind_definitions.specs.Row.{RowInstructions, location, row}
 use Rattle.frame_rows.specs.KeptRows.{Adds, Kept, KeptRows, AreKeptOf, AreRows, IsLonger, kept_rule_count, location_of, placed, reached_locations, rows_from, rule_count_at}
 use Rattle.frame_rows.specs.Movable.{IsMovable}
 use Rattle.frame_rows.specs.KnownRows.{Serves, IsKnown, IsKnownSlot, AreKnown, AreBlank, Notes, NotesUnless, Finds}

@@ -1,5 +1,5 @@
 -- Rows of a table that one more description has. No public clause cites this.
-use Rattle.std.specs.Prelude.{◌≡◌, ℕ, ◌+◌, ◌-◌, ◌≤◌, Option, Some, None}
+use Rattle.std.specs.Prelude.{◌≡◌, ◌+◌, ◌-◌, ◌≤◌, Option, Some, None}
 use Rattle.frame_rows.specs.KeptRows.{KeptRows, AreTooMany}
 use Rattle.frame_rows.specs.declared.known_programs.KnownProgram.{KnownProgram}
 use Rattle.frame_rows.specs.declared.row_table.RowLimits.{RowLimits}

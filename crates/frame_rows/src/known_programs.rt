@@ -1,7 +1,7 @@
 //! Programs of descriptions that were run, and which rows they made. DWARF 5 section 6.4.3.
 
-ghost use Rattle.std.specs.Prelude.{◌≡◌, ◌+◌, ◌<◌, ◌≤◌, IfSome, length, slice_range, true};
-ghost use Rattle.std.specs.Int.{to_le_bytes, w64};
+ghost use Rattle.std.specs.Prelude.{◌≡◌, ◌+◌, ◌<◌, ◌≤◌, ◌↔◌, IfSome, length, slice_range, true};
+ghost use Rattle.std.specs.Int.{from_le_bytes, to_le_bytes, w64};
 ghost use Rattle.encoded_pointers.specs.CursorViews.{at};
 ghost use Rattle.frame_rows.specs.InstructionViews.{coding_in};
 ghost use Rattle.frame_rows.specs.KnownRows.{AreBlank, Finds, Notes};
@@ -85,10 +85,10 @@ impl<'a> KnownPrograms<'a> {
 // Whether a program's rows are those of a description with these bytes.
 #[inline(always)]
 fn is_for(known: &KnownProgram<'_>, own: Cursor<'_>, coding: Coding, size: u64) -> bool
-    ensures bytes { result ≡ true → known.now.bytes.now ≡ (at own.entry).bytes }
-    ensures code { result ≡ true → known.now.code_factor ≡ coding.entry.code_factor }
-    ensures units { result ≡ true → known.now.data_factor ≡ coding.entry.data_factor }
-    ensures inside { result ≡ true → known.now.reach < size }
+    ensures { (result ≡ true) ↔ ((known.now.reach < size) ×
+        (known.now.code_factor ≡ coding.entry.code_factor) ×
+        (known.now.data_factor ≡ coding.entry.data_factor) ×
+        (known.now.bytes.now ≡ (at own.entry).bytes)) }
 {
     known.reach < size
         && known.code_factor == coding.code_factor
@@ -99,7 +99,7 @@ fn is_for(known: &KnownProgram<'_>, own: Cursor<'_>, coding: Coding, size: u64) 
 // Whether two programs have the same bytes.
 #[inline(always)]
 fn are_same(a: &[u8], b: &[u8]) -> bool
-    ensures { result ≡ true → a.now ≡ b.now }
+    ensures { (result ≡ true) ↔ (a.now ≡ b.now) }
 {
     let count = a.len();
     if count != b.len() {
@@ -141,7 +141,8 @@ fn ends_of(bytes: &[u8]) -> (u64, u64) {
 // The eight bytes at an index, as a word.
 fn word_at(bytes: &[u8], index: usize) -> u64
     requires { index + 8 ≤ length bytes.now }
-    ensures { to_le_bytes w64 result ≡ slice_range bytes.now index (index + 8) }
+    ensures word { result ≡ from_le_bytes w64 (slice_range bytes.now index (index + 8)) }
+    ensures bytes { to_le_bytes w64 result ≡ slice_range bytes.now index (index + 8) }
 {
     let part = &bytes[index..index + 8];
     u64::from_le_bytes([

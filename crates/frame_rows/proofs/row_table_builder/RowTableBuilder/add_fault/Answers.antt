@@ -1,4 +1,4 @@
-use Rattle.std.proofs.Common.{Err, subst, Bool, Ok, Result}
+use Rattle.std.proofs.Common.{Err, subst, Bool, Ok}
 use Rattle.frame_rows.specs.TableRows.{Pushes}
 use Rattle.frame_rows.specs.declared.row_table.RowRange.{RowRange}
 use Rattle.frame_rows.proofs.Adding.{added_fault, ranged, too_many_fault}

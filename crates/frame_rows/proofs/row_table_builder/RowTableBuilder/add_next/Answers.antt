@@ -9,7 +9,7 @@ use Rattle.frame_rows.specs.KnownRows.{AreKnown, Finds}
 use Rattle.frame_rows.specs.Running.{IsEndOf}
 use Rattle.frame_rows.specs.declared.begun.BegunProgram.{BegunProgram}
 use Rattle.frame_rows.specs.declared.begun.BegunPrograms.{BegunPrograms}
-use Rattle.frame_rows.proofs.Serving.{adds_again, found_known, slots_on, still_known, still_known_before}
+use Rattle.frame_rows.proofs.Serving.{adds_again, found_known, slots_on, still_known}
 use Rattle.frame_rows.proofs.row_table_builder.RowTableBuilder.add_next.Goals as goal
 
 abbrev ended : Program → BegunProgram → Type 0
