@@ -1,11 +1,11 @@
 -- Whether the records of a function name a handler, record by record.
-use Rattle.std.proofs.Common.{◌≡◌, ℕ, zero, suc, ◌-◌, ◌<◌, Bool, true, false, List, Option, Some, None, Result, Ok, Err, refl, sym, ap, subst, ◌∙◌, arith}
+use Rattle.std.proofs.Common.{◌≡◌, ℕ, zero, suc, ◌-◌, ◌<◌, Bool, true, false, List, Option, Some, None, Result, Ok, Err, refl, ap, ◌∙◌, arith}
 use Rattle.std.specs.Prelude.{◌||◌}
 use Rattle.std.specs.Result.{result_map_both}
 use Rattle.pe_unwind_info.specs.declared.x86_64.fault.FrameFault.{FrameFault}
 use Rattle.pe_unwind_info.specs.declared.x86_64.fault.FrameFault.TheVariants.{ChainLimit}
 use Rattle.pe_unwind_info.specs.declared.x86_64.function_table.RuntimeFunction.{RuntimeFunction}
-use Rattle.pe_unwind_info.specs.Chain.{with_first, then_chain, chain_of}
+use Rattle.pe_unwind_info.specs.Chain.{with_first, chain_of}
 use Rattle.pe_unwind_info.specs.Frame.{chained_of, info_in}
 use Rattle.pe_unwind_info.specs.FrameOf.{Image}
 use Rattle.pe_unwind_info.specs.Info.{Info}

@@ -1,5 +1,5 @@
 -- What the unwind data of a frame says of its language, which no step reads.
-use Rattle.std.specs.Prelude.{ℕ, ◌%◌, Bool, true, false, ◌||◌, List, [], ◌∷◌, Option, Result, ◌==◌, if◌then◌else◌}
+use Rattle.std.specs.Prelude.{◌%◌, Bool, true, false, ◌||◌, List, [], ◌∷◌, Option, Result, ◌==◌, if◌then◌else◌}
 use Rattle.std.specs.Result.{result_map_both}
 use Rattle.macho_unwind_info.specs.declared.function.Function.{Function as Listed}
 use Rattle.macho_unwind_info.specs.Bits.{bits}

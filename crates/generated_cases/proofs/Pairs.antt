@@ -1,5 +1,5 @@
 -- The header that a generated snapshot's module names has one pair for each function.
-use Rattle.std.proofs.Common.{◌≡◌, ℕ, ◌^◌, ◌<◌, ◌≤◌, [], ◌∷◌, length, None, refl, ap, ◌∙◌, arith}
+use Rattle.std.proofs.Common.{◌≡◌, ℕ, ◌^◌, ◌<◌, ◌≤◌, length, None, refl, ap, ◌∙◌, arith}
 use Rattle.std.proofs.lemmas.List.{length-map}
 use Rattle.fde_finders.specs.Named.{pairs_by}
 use Rattle.stack_steps.specs.Modules.{SpaceValue}

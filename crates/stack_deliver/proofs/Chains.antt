@@ -1,5 +1,5 @@
 -- The states that contexts show.
-use Rattle.std.proofs.Common.{◌≡◌, ℕ, false, List, [], ◌∷◌, Some, Ok, get_or, refl}
+use Rattle.std.proofs.Common.{◌≡◌, List, [], ◌∷◌, Some, get_or, refl}
 use Rattle.std.specs.Prelude.{map}
 use Rattle.unwind_definitions.specs.State.{RBX, RBP, R12, R13, R14, R15, State, Shows}
 use Rattle.unwind_arch.specs.declared.x86_64.Context.{Context}

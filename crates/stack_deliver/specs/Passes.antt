@@ -1,6 +1,6 @@
 -- The passes of a delivery over a stack: the search for a frame whose language takes the exception, and then the cleanups on the
 -- way to it. Itanium C++ ABI, exception handling, level I, section 1.3.
-use Rattle.std.specs.Prelude.{ℕ, zero, suc, ◌+◌, ◌-◌, ◌%◌, ◌^◌, ◌==◌, Bool, true, false, List, [], ◌∷◌, Option, Some, None, Result, Ok, Err, slice_index, slice_set, if◌then◌else◌}
+use Rattle.std.specs.Prelude.{ℕ, zero, suc, ◌+◌, ◌-◌, ◌==◌, false, List, [], ◌∷◌, Option, Some, None, Result, Ok, Err, slice_index, if◌then◌else◌}
 use Rattle.memory_image.specs.Results.{◌>>=◌, result_map}
 use Rattle.unwind_definitions.specs.Function.{Cleanup}
 use Rattle.unwind_arch.specs.declared.x86_64.Context.{Context}

@@ -1,6 +1,6 @@
 -- How many contexts a delivery meets: the search meets those that it visits, and each pass those from its start outwards. At each
 -- of them a description is searched once at most.
-use Rattle.std.specs.Prelude.{◌≡◌, ℕ, zero, suc, ◌+◌, ◌^◌, ◌<◌, Bool, false, List, [], ◌∷◌, Option, Some, None, Result, Ok, Err, length}
+use Rattle.std.specs.Prelude.{◌≡◌, ℕ, zero, suc, ◌+◌, ◌^◌, ◌<◌, false, List, [], ◌∷◌, Option, Some, None, Result, Ok, Err}
 use Rattle.unwind_arch.specs.declared.x86_64.Context.{Context}
 use Rattle.fde_finders.specs.declared.custom.FrameInfoKind.TheVariants.{EhFrameHdr}
 use Rattle.fde_finders.specs.Named.{pairs_by}

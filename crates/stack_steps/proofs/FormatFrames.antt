@@ -23,7 +23,7 @@ use Rattle.pe_unwind_info.specs.FunctionTable as pe_tables
 use Rattle.pe_unwind_info.specs.Header.{flags_of}
 use Rattle.pe_unwind_info.specs.Info.{Info}
 use Rattle.pe_unwind_info.specs.Machine.{FrameEnd, Returned, Faulted}
-use Rattle.format_definitions.specs.CompactStep.{MachoModule, MachoFault, compact_step, answered_by, macho_step}
+use Rattle.format_definitions.specs.CompactStep.{MachoModule, compact_step, answered_by, macho_step}
 use Rattle.format_definitions.specs.CompactStep as compact
 use Rattle.format_definitions.specs.MachoModules.{HasListed, DescribesMacho}
 use Rattle.format_definitions.specs.PeImage.{PeModule, memory_of}
@@ -31,7 +31,7 @@ use Rattle.format_definitions.specs.PeModules.{NamesNoHandler, DescribesLeaf, Ha
 use Rattle.format_definitions.specs.PeRegisters.{registers_in, columns_with}
 use Rattle.format_definitions.specs.PeStep.{PeFault, columns_at, pe_step}
 use Rattle.format_definitions.specs.PeStep as pe_steps
-use Rattle.format_definitions.specs.FormatModules.{FormatModule, in_format, KeepsIn}
+use Rattle.format_definitions.specs.FormatModules.{FormatModule, KeepsIn}
 use Rattle.format_definitions.specs.FormatModules as formats
 use Rattle.format_frames.specs.Handlers.{any_handler, handler_in}
 use Rattle.format_frames.specs.Refusals.{looked_up, function_at}

@@ -4,7 +4,7 @@ use Rattle.std.proofs.lemmas.Bool.Decides.{leb_tells}
 use Rattle.std.proofs.lemmas.List.{length-drop, take_rest}
 use Rattle.memory_image.specs.Image.{Span, IsLaidOut, table_at, word_at}
 use Rattle.memory_image.specs.ImageLaws.{table_at-add, table_past, word_at-table}
-use Rattle.memory_image.specs.Words.{number_of, u64_at}
+use Rattle.memory_image.specs.Words.{u64_at}
 use Rattle.unwinding_frames.specs.Windows.{IsWindow, IsPlace}
 
 u64_at-drop : (bytes : List ℕ) (k : ℕ) → u64_at (drop k bytes) 0 ≡ u64_at bytes k

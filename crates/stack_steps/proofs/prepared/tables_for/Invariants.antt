@@ -1,4 +1,4 @@
-use Rattle.std.proofs.Common.{◌≡◌, take}
+use Rattle.std.proofs.Common.{take}
 use Rattle.stack_steps.specs.Held.{AreMade, IsTried}
 use Rattle.stack_steps.proofs.prepared.tables_for.Given as goal
 

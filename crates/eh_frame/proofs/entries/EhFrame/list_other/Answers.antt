@@ -1,4 +1,3 @@
-use Rattle.std.proofs.Common.{◌∙◌, ap, length}
 use Rattle.encoded_pointers.specs.PointerViews.{bases_of}
 use Rattle.eh_frame.specs.EntryViews.{table_of}
 use Rattle.eh_frame.proofs.ListingFdes.{known_listed, read_listed}
