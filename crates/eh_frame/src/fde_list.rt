@@ -1,6 +1,6 @@
 //! Descriptions, with a list of the common information entries that they name.
 
-ghost use Rattle.std.specs.Prelude.{◌≡◌, ◌++◌, ◌∷◌, ◌<◌, [], IfOk, IfSome, OnOk, length, true};
+ghost use Rattle.std.specs.Prelude.{◌≡◌, ◌↔◌, ◌++◌, ◌∷◌, ◌<◌, [], IfOk, IfSome, OnOk, length, true};
 ghost use Rattle.unwind_definitions.specs.Entries.{fde_body};
 ghost use Rattle.encoded_pointers.specs.CursorViews.{at};
 ghost use Rattle.encoded_pointers.specs.PointerViews.{bases_of};
@@ -12,8 +12,8 @@ use crate::prepared::PreparedFunction;
 use encoded_pointers::{Bases, Cursor};
 use std::alloc::{AllocError, Global};
 
-/// Descriptions, each with place for its rows, and the common information entries that they name,
-/// each once.
+/// Descriptions, each with place for its rows, and the common information entries that they name:
+/// each once where they ascend in the table, as in most, and else again where it isn't found.
 #[derive(Drop)]
 pub(crate) struct FdeList<'a> {
     pub(crate) cies: Vec<Cie<'a>>,
@@ -83,8 +83,8 @@ impl<'a> FdeList<'a> {
 
     // Whether a common information entry of the list is the one at an offset.
     fn stands_at(&self, index: usize, offset: u64) -> bool
-        ensures { result ≡ true → (index < length self.now.cies.items) ×
-            ((cie_in self.now.cies.items index).offset ≡ offset) }
+        ensures { (result ≡ true) ↔ ((index < length self.now.cies.items) ×
+            ((cie_in self.now.cies.items index).offset ≡ offset)) }
     {
         match self.cies.get(index) {
             Some(cie) => cie.offset() == offset,
