@@ -5,6 +5,7 @@ use Rattle.stack_snapshot.specs.declared.errors.Field.TheVariants as fields
 use Rattle.stack_snapshot.specs.declared.parts.SnapshotParts.{SnapshotParts}
 use Rattle.stack_snapshot.specs.Content.{Content}
 use Rattle.stack_snapshot.specs.Owned.{spans_of}
+use Rattle.memory_image.specs.Results.{◌>>=◌}
 use Rattle.stack_snapshot.specs.Snapshot.{needs, if_taken, if_space_takes, if_in_range}
 
 abbrev pub content_in : SnapshotParts → Content

@@ -4,6 +4,7 @@ use Rattle.serde_json.specs.Data.{Data, Items, no_items, item}
 use Rattle.serde_json.specs.Find.{get, as_array, as_object, as_str}
 use Rattle.serde_json.specs.Written.{has_float}
 use Rattle.memory_image.specs.Image.{Span}
+use Rattle.memory_image.specs.Results.{◌>>=◌}
 use Rattle.unwind_arch.specs.declared.x86_64.Context.{Context}
 use Rattle.stack_steps.specs.declared.space.Module.{Module}
 use Rattle.stack_steps.specs.declared.space.ModuleTables.{ModuleTables}
