@@ -7,7 +7,7 @@ use Rattle.command_ends.specs.declared.status.Status.{Status}
 use Rattle.command_ends.specs.declared.status.Status.TheVariants.{Done, TooLong}
 use Rattle.command_ends.specs.Verdicts.{verdict, IsReadyOrFailed}
 use Rattle.stack_steps.specs.Modules.{SpaceValue}
-use Rattle.stack_walks.specs.Fronts.{started}
+use Rattle.stack_walks.specs.Fronts.{start_state}
 use Rattle.stack_walks.proofs.FrontAnswers.{one_front}
 use Rattle.stack_snapshot.specs.declared.errors.SnapshotError.{SnapshotError}
 use Rattle.stack_snapshot.specs.declared.errors.SnapshotError.TheVariants as faults
@@ -27,9 +27,9 @@ same_parts t u a b c = λ i. record { first = a i; states = b i; why = c i }
 
 one_from : (o : Option Context) (space : SpaceValue) (c : Context) (interrupted : Bool) (limit : ℕ) (t u : TraceValue) → IsTraceFrom o space c interrupted limit t → IsTraceFrom o space c interrupted limit u → t ≡ u
 one_from None space c interrupted limit t u is other =
-    same_parts t u (is.0 ∙ sym other.0) (is.1.states ∙ sym other.1.states) (one_front space limit (started c interrupted) t.why u.why is.1.why other.1.why)
+    same_parts t u (is.0 ∙ sym other.0) (is.1.states ∙ sym other.1.states) (one_front space limit (start_state c interrupted) t.why u.why is.1.why other.1.why)
 one_from (Some d) space c interrupted limit t u is other =
-    same_parts t u (is.0 ∙ sym other.0) (is.1.states ∙ sym other.1.states) (one_front space (limit - 1) (started d false) t.why u.why is.1.why other.1.why)
+    same_parts t u (is.0 ∙ sym other.0) (is.1.states ∙ sym other.1.states) (one_front space (limit - 1) (start_state d false) t.why u.why is.1.why other.1.why)
 
 pub one_trace : (s : Content) (t u : TraceValue) → IsTraceOf s t → IsTraceOf s u → t ≡ u
 one_trace s t u is other = one_from (called_from (space_of s) s.start s.interrupted) (space_of s) s.start s.interrupted s.limit t u is other

@@ -12,12 +12,12 @@ abbrev pub returned_to : Context → ℕ → Context
 returned_to c a = record c { registers = slice_set c.registers column.rsp ((slice_index c.registers column.rsp + 8) % 2 ^ 64); ra = a }
 
 -- no frame is at the address 0
-abbrev pub returned_unless_zero : Context → ℕ → Option Context
-returned_unless_zero c a = if a == 0 then None else Some (returned_to c a)
+abbrev pub caller_unless_zero : Context → ℕ → Option Context
+caller_unless_zero c a = if a == 0 then None else Some (returned_to c a)
 
 -- the caller of a context where the word at the stack pointer is the return address
-abbrev pub returned : List Span → Context → Option Context
-returned image c = option_and_then (returned_unless_zero c) (word_at image (slice_index c.registers column.rsp))
+abbrev pub returned_caller : List Span → Context → Option Context
+returned_caller image c = option_and_then (caller_unless_zero c) (word_at image (slice_index c.registers column.rsp))
 
 -- a context was interrupted at the address 0, or in no module
 abbrev pub is_nowhere : SpaceValue → Context → Bool → Bool
@@ -28,7 +28,7 @@ IsNowhere space c interrupted = IsTrue interrupted × ((c.ra ≡ 0) ⊎ (module_
 
 -- the caller of a context that was interrupted there
 abbrev pub called_from : SpaceValue → Context → Bool → Option Context
-called_from space c interrupted = if is_nowhere space c interrupted then returned space.image c else None
+called_from space c interrupted = if is_nowhere space c interrupted then returned_caller space.image c else None
 
 -- the start, where its caller was read from the stack; the states from there on, or from the start; and why there are no more
 pub record TraceValue : Type 0 where

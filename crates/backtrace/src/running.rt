@@ -33,7 +33,7 @@ struct Answer {
 }
 
 /// An answer without text.
-fn silent(alloc: Global, status: Status) -> Answer
+fn silent_answer(alloc: Global, status: Status) -> Answer
     ensures { (result.status ≡ status) × (result.text ≡ []) }
 {
     Answer {
@@ -43,13 +43,13 @@ fn silent(alloc: Global, status: Status) -> Answer
 }
 
 /// The answer with the text, unless memory ran out.
-fn told(alloc: Global, status: Status, text: Result<Report, AllocError>) -> Answer
+fn text_answer(alloc: Global, status: Status, text: Result<Report, AllocError>) -> Answer
     ensures { MatchResult text (λ report. (result.status ≡ status) × (result.text ≡ report))
         (λ _. (result.status ≡ Status.Memory) × (result.text ≡ [])) }
 {
     match text {
         Ok(text) => Answer { status, text },
-        Err(AllocError) => silent(alloc, Status::Memory),
+        Err(AllocError) => silent_answer(alloc, Status::Memory),
     }
 }
 
@@ -83,14 +83,22 @@ fn bytes_answer(alloc: Global, options: Options, bytes: Vec<u8>) -> Answer
     let named = read_named_snapshot(alloc, &bytes);
     drop(bytes);
     match named {
-        Ok((snapshot, origins)) => told(
+        Ok((snapshot, origins)) => text_answer(
             alloc,
             Status::Done,
             backtrace_text(alloc, options, &snapshot, &origins),
         ),
-        Err(SnapshotError::NoMemory) => silent(alloc, Status::Memory),
-        Err(SnapshotError::NotJson) => told(alloc, Status::NotJson, line_of(alloc, "not json")),
-        Err(SnapshotError::Bad(field)) => told(alloc, Status::BadSnapshot, bad_line(alloc, field)),
+        Err(SnapshotError::NoMemory) => silent_answer(alloc, Status::Memory),
+        Err(SnapshotError::NotJson) => text_answer(
+            alloc,
+            Status::NotJson,
+            line_of(alloc, "not json"),
+        ),
+        Err(SnapshotError::Bad(field)) => text_answer(
+            alloc,
+            Status::BadSnapshot,
+            bad_line(alloc, field),
+        ),
     }
 }
 
@@ -111,9 +119,13 @@ fn input_answer<I: Source>(alloc: Global, options: Options, input: &mut I) -> An
 {
     match read_all(alloc, input) {
         Ok(bytes) => bytes_answer(alloc, options, bytes),
-        Err(ReadFailure::Fault) => silent(alloc, Status::ReadFault),
-        Err(ReadFailure::Memory) => silent(alloc, Status::Memory),
-        Err(ReadFailure::TooLong) => told(alloc, Status::TooLong, line_of(alloc, "too long")),
+        Err(ReadFailure::Fault) => silent_answer(alloc, Status::ReadFault),
+        Err(ReadFailure::Memory) => silent_answer(alloc, Status::Memory),
+        Err(ReadFailure::TooLong) => text_answer(
+            alloc,
+            Status::TooLong,
+            line_of(alloc, "too long"),
+        ),
     }
 }
 
@@ -137,7 +149,7 @@ fn decide<I: Source>(alloc: Global, words: &Words, input: &mut I) -> Answer
 {
     match options_of(words) {
         Some(options) => input_answer(alloc, options, input),
-        None => told(alloc, Status::Usage, usage_line(alloc)),
+        None => text_answer(alloc, Status::Usage, usage_line(alloc)),
     }
 }
 

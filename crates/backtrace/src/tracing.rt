@@ -8,7 +8,7 @@ ghost use Rattle.unwind_definitions.specs.Prologue.{PrologueStep};
 ghost use Rattle.unwind_definitions.specs.Stopped.{StandsAfter};
 ghost use Rattle.unwind_arch.specs.ContextViews.{columns_of};
 ghost use Rattle.stack_steps.specs.Stepping.{EndsAt};
-ghost use Rattle.backtrace.specs.Tracing.{IsNowhere, IsTrace, called_from, is_nowhere, returned};
+ghost use Rattle.backtrace.specs.Tracing.{IsNowhere, IsTrace, called_from, is_nowhere, returned_caller};
 
 use memory_image::{MemoryImage, NoLedger, Steps};
 use stack_deliver::{Context, Front, Room, Space, walk_front_into};
@@ -18,8 +18,8 @@ use unwind_arch::x86_64::RSP;
 
 /// The registers of the caller where a call has pushed its return address and nothing else was done
 /// since. `None` where the word at the stack pointer isn't mapped, or is 0.
-fn returned(image: &MemoryImage<'_>, callee: &Context) -> Option<Context>
-    ensures { result ≡ returned image.now callee.now }
+fn returned_caller(image: &MemoryImage<'_>, callee: &Context) -> Option<Context>
+    ensures { result ≡ returned_caller image.now callee.now }
 {
     let stack = callee.registers[RSP];
     let address = image.read_u64(stack)?;
@@ -64,7 +64,7 @@ pub fn called_from(space: &Space<'_>, start: &Context, interrupted: bool) -> Opt
     ensures ends { IsSome result → EndsAt space.now start.now interrupted }
 {
     if is_nowhere(space, start, interrupted) {
-        returned(space.image(), start)
+        returned_caller(space.image(), start)
     } else {
         None
     }

@@ -19,20 +19,20 @@ use Rattle.unwinding_frames.specs.declared.abi.TheConstants.UnwindReasonCode.{HA
 use Rattle.unwind_definitions.specs.Expressions.{evaluation}
 use Rattle.unwinding_frames.specs.FrameValue.{FrameValue}
 use Rattle.unwinding_frames.specs.OneLine as one
-use Rattle.unwinding_frames.specs.Passes.{Marked, unmarked, Answering, LineEnd, RanOut, Decides, Fails, Crowded, is_code, by_personality, cleanup_actions, cleanup_end, mark_of, turn_asked, turn_seen, goes, asked}
+use Rattle.unwinding_frames.specs.Passes.{Marked, without_mark, Answering, LineEnd, RanOut, Decides, Fails, Crowded, is_code, by_personality, cleanup_actions, cleanup_end, mark_of, turn_asked, turn_seen, goes, answer_of_personality}
 use Rattle.unwinding_frames.specs.Passes as any
-use Rattle.unwinding_frames.specs.Personalities.{Asked, Answer, searched}
+use Rattle.unwinding_frames.specs.Personalities.{Asked, Answer, search_answer}
 use Rattle.unwinding_frames.specs.Seen.{Thrown}
 use Rattle.stack_deliver.specs.declared.answers.Outcome.TheVariants.{FatalPhase1}
 use Rattle.stack_steps.specs.declared.answers.DeliverError.{DeliverError}
 use Rattle.stack_steps.specs.declared.answers.DeliverError.TheVariants.{CompactHandler, FrameLimit, PassLimit, PeHandler}
 use Rattle.stack_walks.specs.declared.outward.Phase.{Phase}
 use Rattle.stack_walks.specs.declared.outward.Phase.TheVariants as phase
-use Rattle.delivery_laws.specs.AnyPasses.{marked, no_routine, undoing_in, sees_in, stepping_in, rust_in, answer_left, Search, TakenBy, Untaken, search_end, search_stop, search_line, search_of, pass_end, FollowedBy, ResumedBy, IsSearchBy, IsPassBy, ArePassesBy, IsDeliveredAfter, IsDeliveredBy, IsDeliveryBy}
+use Rattle.delivery_laws.specs.AnyPasses.{marked_of, no_routine, undoing_in, sees_in, stepping_in, rust_in, answer_left, Search, TakenBy, Untaken, search_end, search_stop, search_line, search_of, pass_end, FollowedBy, ResumedBy, IsSearchBy, IsPassBy, ArePassesBy, IsDeliveredAfter, IsDeliveredBy, IsDeliveryBy}
 use Rattle.stack_steps.specs.Modules.{SpaceValue}
 use Rattle.stack_steps.specs.Asking.{action_if_named, action_asked, arguments_of, or_terminate, recorded_action, unless_handled}
 use Rattle.stack_walks.specs.Turns.{Line, Stop, Turn, Ends, Stops, Goes, stops, stop_by, turn_at, turn_in, turn_for, line_turn, line_for, pass_of, past_arguments, pad_of, enters, kept_at, with_context}
-use Rattle.stack_deliver.specs.Passes.{PassEnd, Finishes, Elsewhere, end_at, end_by, end_of, cleanup_of, landed, cleanup_at, resume_at, CleanupsRun, with_cleanup, resumed, followed, passes_of}
+use Rattle.stack_deliver.specs.Passes.{PassEnd, Finishes, Elsewhere, end_at, end_by, end_of, cleanup_of, ending_at, cleanup_at, resume_at, CleanupsRun, with_cleanup, cleanup_and_rest, after_pass, passes_of}
 use Rattle.stack_deliver.specs.StackDelivery.{DeliveryValue, delivery_after, delivery_at, delivery_to, delivery_by, stack_delivery}
 use Rattle.stack_deliver.specs.Resumes.{return_of}
 use Rattle.delivery_laws.specs.Personality.{InCleanup, IsAsked, AnswersCleanup, answer_for}
@@ -104,7 +104,7 @@ module _ (space : SpaceValue) (row : RowInstructions → RowValue) (thrown : Thr
   left_with code c = (code, c)
 
   module _ (x : Marked Context) (f : DescribedFrame) (routine : ℕ) (action : Action) (whole : IsWhole x.context) (is : IsAsked space.image x.context x.signal (value_of f) action) where
-    search_answers : (a : Action) → Answers phase.Search x (Described f) a (stops phase.Search a) (searched a) x.context
+    search_answers : (a : Action) → Answers phase.Search x (Described f) a (stops phase.Search a) (search_answer a) x.context
     search_answers NoAction = (refl, refl)
     search_answers (Cleanup pad) = (refl, refl)
     search_answers (Catch pad) = (refl, (refl, refl))
@@ -113,9 +113,9 @@ module _ (space : SpaceValue) (row : RowInstructions → RowValue) (thrown : Thr
 
     searches : Answered phase.Search actions.SEARCH_PHASE x (Described f) routine action
     searches = record {
-      code = searched action;
+      code = search_answer action;
       left = x.context;
-      is = ap answer_left (answers_search space.image x.context x.signal (value_of f) action (asked_with actions.SEARCH_PHASE routine) is (record { version = refl; search = refl })) ∙ ap (left_with (searched action)) (whole_left x.context whole);
+      is = ap answer_left (answers_search space.image x.context x.signal (value_of f) action (asked_with actions.SEARCH_PHASE routine) is (record { version = refl; search = refl })) ∙ ap (left_with (search_answer action)) (whole_left x.context whole);
       agrees = search_answers action;
     }
 
@@ -158,7 +158,7 @@ module _ (space : SpaceValue) (row : RowInstructions → RowValue) (thrown : Thr
   Turned ph x (Ok (Stops action past)) g =
       (code : UnwindReasonCode) × (left : Context) × (entered : Context) × (g ≡ any.Ends tt (Decides x code left entered)) ×
       Agrees ph (record { context = x.context; interrupted = x.signal; action = action; past = past }) code left entered
-  Turned ph x (Ok (Goes next)) g = (g ≡ any.Goes tt (marked next)) × IsWhole next.context
+  Turned ph x (Ok (Goes next)) g = (g ≡ any.Goes tt (marked_of next)) × IsWhole next.context
   Turned ph x (Err e) g = g ≡ any.Ends tt (Fails e)
 
   module _ (ph : Phase) (acts : Marked Context → UnwindAction) (answered : AreAnswered ph acts) where
@@ -166,18 +166,18 @@ module _ (space : SpaceValue) (row : RowInstructions → RowValue) (thrown : Thr
       called : (f : FrameAt) → Turned ph x (result_map Goes (caller_by space.image x.context f)) (goes tt ((undoing_in space).caller f x.context))
       called (Described f) = go (caller_of x86_64 (evaluation space.image) space.image (columns_of x.context) f.run)
         where
-          go : (r : Result Columns StepFault) → Turned ph x (result_map Goes (result_map_both (next_with f.found.fde.cie.letters.signal) refusal_of r)) (goes tt (result_map marked (result_map_both (next_with f.found.fde.cie.letters.signal) refusal_of r)))
+          go : (r : Result Columns StepFault) → Turned ph x (result_map Goes (result_map_both (next_with f.found.fde.cie.letters.signal) refusal_of r)) (goes tt (result_map marked_of (result_map_both (next_with f.found.fde.cie.letters.signal) refusal_of r)))
           go (Ok columns) = (refl, refl)
           go (Err e) = refl
       called (Compact m a listed) = go (compact_step space.image m.frames (m.base + listed.start_address) a (columns_of x.context) (opcode_of listed.opcode))
         where
-          go : (o : Option (Result compact.Stepped StepFault)) → Turned ph x (result_map Goes (opcode_caller o)) (goes tt (result_map marked (opcode_caller o)))
+          go : (o : Option (Result compact.Stepped StepFault)) → Turned ph x (result_map Goes (opcode_caller o)) (goes tt (result_map marked_of (opcode_caller o)))
           go None = refl
           go (Some (Ok s)) = (refl, refl)
           go (Some (Err e)) = refl
       called (Recorded m rva function) = go (recorded_columns space.image x.context m rva function)
         where
-          go : (r : Result Columns PeFault) → Turned ph x (result_map Goes (result_map_both (next_with false) pe_refusal r)) (goes tt (result_map marked (result_map_both (next_with false) pe_refusal r)))
+          go : (r : Result Columns PeFault) → Turned ph x (result_map Goes (result_map_both (next_with false) pe_refusal r)) (goes tt (result_map marked_of (result_map_both (next_with false) pe_refusal r)))
           go (Ok columns) = (refl, refl)
           go (Err e) = refl
 
@@ -203,7 +203,7 @@ module _ (space : SpaceValue) (row : RowInstructions → RowValue) (thrown : Thr
             let a = answered x f routine action whole (record { routine = routine; named = is; asks = ap (action_if_named space.image x.context x.signal f.found) is }) in
             subst (λ (r : UnwindReasonCode × Context). Framed (Described f) (Ok action) (Ok r)) (sym a.is) (spoken (Described f) action a.code a.left (stops ph action) refl a.agrees)
 
-        described : Framed (Described f) (action_asked space.image x.context x.signal (Described f)) (asked p (acts x) (Described f) x)
+        described : Framed (Described f) (action_asked space.image x.context x.signal (Described f)) (answer_of_personality p (acts x) (Described f) x)
         described = go (personality_address space.image f.found.fde) refl
           where
             go : (r : Result (Option ℕ) StepFault) → personality_address space.image f.found.fde ≡ r →
@@ -220,7 +220,7 @@ module _ (space : SpaceValue) (row : RowInstructions → RowValue) (thrown : Thr
       recorded f (Ok names) = handled f names PeHandler
       recorded f (Err e) = refl
 
-      framed : (f : FrameAt) → Framed f (action_asked space.image x.context x.signal f) (asked p (acts x) f x)
+      framed : (f : FrameAt) → Framed f (action_asked space.image x.context x.signal f) (answer_of_personality p (acts x) f x)
       framed (Described f) = described f
       framed (Compact m a listed) = handled (Compact m a listed) (has_language_table listed) CompactHandler
       framed (Recorded m rva function) = recorded (Recorded m rva function) (handler_in (memory_of space.image m.base) function)
@@ -263,7 +263,7 @@ module _ (space : SpaceValue) (row : RowInstructions → RowValue) (thrown : Thr
             Lined (line_turn x.context x.signal t (line_for (Some ph) space room)) (one.line_after (one.line_of (sees_in space) (undoing_in space) (by_personality p acts) room) x g)
         go (Ok Ends) g is later = rw is (refl, (x, refl))
         go (Ok (Stops wanted past)) g (code, left, entered, is, agrees) later = rw is (refl, (code, left, entered, refl, agrees))
-        go (Ok (Goes next)) g (is, whole) later = rw is (preceded x (line_for (Some ph) space room next.context next.signal) (line_of room (marked next)) (later (marked next) whole))
+        go (Ok (Goes next)) g (is, whole) later = rw is (preceded x (line_for (Some ph) space room next.context next.signal) (line_of room (marked_of next)) (later (marked_of next) whole))
         go (Err e) g is later = rw is (inl refl)
 
   abbrev stack_pointer : Context → ℕ
@@ -278,7 +278,7 @@ module _ (space : SpaceValue) (row : RowInstructions → RowValue) (thrown : Thr
   answers_to_search x f routine action whole is = searches x f routine action whole is
 
   abbrev searched_line : ℕ → Context → any.Line Context DeliverError (Unit {0})
-  searched_line limit start = line_of phase.Search search_acts answers_to_search limit (unmarked start)
+  searched_line limit start = line_of phase.Search search_acts answers_to_search limit (without_mark start)
 
   search_same : (r : Result Line DeliverError) (line : any.Line Context DeliverError (Unit {0})) → Lined phase.Search search_acts answers_to_search r line →
       search_end stack_pointer (map (λ x. x.context) line.contexts) line.end ≡ result_map search_line r
@@ -297,13 +297,13 @@ module _ (space : SpaceValue) (row : RowInstructions → RowValue) (thrown : Thr
   search_same (Err e) line (inr (is, same)) = rw (is, same) refl
 
   search_by_line : (limit : ℕ) (start : Context) → IsWhole start → search_end stack_pointer (map (λ x. x.context) (searched_line limit start).contexts) (searched_line limit start).end ≡ search_of space limit start
-  search_by_line limit start whole = search_same (pass_of phase.Search space limit start false) (searched_line limit start) (lined phase.Search search_acts answers_to_search limit (unmarked start) whole)
+  search_by_line limit start whole = search_same (pass_of phase.Search space limit start false) (searched_line limit start) (lined phase.Search search_acts answers_to_search limit (without_mark start) whole)
 
   pub searches_are : (limit : ℕ) (start : Context) (due : Result Search DeliverError) → IsWhole start → IsSearchBy (stepping_in space) p limit start due ↔ (due ≡ search_of space limit start)
   searches_are limit start due whole = (
     λ s. s.2 ∙ ap (λ (line : any.Line Context DeliverError (Unit {0})). search_end stack_pointer (map (λ x. x.context) line.contexts) line.end)
-        (one.line_is (sees_in space) (undoing_in space) (by_personality p search_acts) limit tt (unmarked start) s.0 s.1) ∙ search_by_line limit start whole,
-    λ e. (searched_line limit start, one.is_line (sees_in space) (undoing_in space) (by_personality p search_acts) limit tt (unmarked start), e ∙ sym (search_by_line limit start whole)),
+        (one.line_is (sees_in space) (undoing_in space) (by_personality p search_acts) limit tt (without_mark start) s.0 s.1) ∙ search_by_line limit start whole,
+    λ e. (searched_line limit start, one.is_line (sees_in space) (undoing_in space) (by_personality p search_acts) limit tt (without_mark start), e ∙ sym (search_by_line limit start whole)),
   )
 
   -- ---- a cleanup pass
@@ -324,7 +324,7 @@ module _ (space : SpaceValue) (row : RowInstructions → RowValue) (thrown : Thr
         go false = record { version = refl; cleanup = refl; unforced = refl }
 
     abbrev cleaned_line : ℕ → Context → any.Line Context DeliverError (Unit {0})
-    cleaned_line limit start = line_of phase.Cleanup cleanup_acts answers_to_cleanup limit (unmarked start)
+    cleaned_line limit start = line_of phase.Cleanup cleanup_acts answers_to_cleanup limit (without_mark start)
 
     abbrev Passes : Result PassEnd DeliverError → any.Outcome Context DeliverError → Type 0
     Passes due outcome = (pass_end outcome ≡ due) × IsWholeEnd due
@@ -337,7 +337,7 @@ module _ (space : SpaceValue) (row : RowInstructions → RowValue) (thrown : Thr
         at_pad stop code left entered None other = rw other (refl, tt)
         at_pad stop code left entered (Some pad) (installs, is, whole) = rw installs (marks (kept_at stop.context stop.interrupted == kept))
           where
-            marks : (b : Bool) → Passes (Ok (if b then Finishes (landed (enters stop.past thrown.word pad)) else Elsewhere pad (enters stop.past thrown.word pad))) (any.Installs entered b)
+            marks : (b : Bool) → Passes (Ok (if b then Finishes (ending_at (enters stop.past thrown.word pad)) else Elsewhere pad (enters stop.past thrown.word pad))) (any.Installs entered b)
             marks true = rw is (refl, tt)
             marks false = rw is (refl, subst IsWhole is whole)
 
@@ -348,17 +348,17 @@ module _ (space : SpaceValue) (row : RowInstructions → RowValue) (thrown : Thr
     pass_same (Err e) line (inr (is, same)) = rw (is, same) (refl, tt)
 
     passes_by_line : (limit : ℕ) (start : Context) → IsWhole start → Passes (cleanup_of space thrown.word kept limit start) (cleanup_end stack_pointer kept (cleaned_line limit start).end)
-    passes_by_line limit start whole = pass_same (pass_of phase.Cleanup space limit start false) (cleaned_line limit start) (lined phase.Cleanup cleanup_acts answers_to_cleanup limit (unmarked start) whole)
+    passes_by_line limit start whole = pass_same (pass_of phase.Cleanup space limit start false) (cleaned_line limit start) (lined phase.Cleanup cleanup_acts answers_to_cleanup limit (without_mark start) whole)
 
     pub pass_is : (limit : ℕ) (start : Context) (due : Result PassEnd DeliverError) → IsWhole start → IsPassBy (stepping_in space) p limit kept start due → due ≡ cleanup_of space thrown.word kept limit start
     pass_is limit start due whole (outcome, (line, is, ends), e) =
-        e ∙ ap pass_end ends ∙ ap (λ (l : any.Line Context DeliverError (Unit {0})). pass_end (cleanup_end stack_pointer kept l.end)) (one.line_is (sees_in space) (undoing_in space) (by_personality p cleanup_acts) limit tt (unmarked start) line is)
+        e ∙ ap pass_end ends ∙ ap (λ (l : any.Line Context DeliverError (Unit {0})). pass_end (cleanup_end stack_pointer kept l.end)) (one.line_is (sees_in space) (undoing_in space) (by_personality p cleanup_acts) limit tt (without_mark start) line is)
         ∙ (passes_by_line limit start whole).0
 
     pub is_pass : (limit : ℕ) (start : Context) → IsWhole start → IsPassBy (stepping_in space) p limit kept start (cleanup_of space thrown.word kept limit start)
     is_pass limit start whole = (
       cleanup_end stack_pointer kept (cleaned_line limit start).end,
-      (cleaned_line limit start, one.is_line (sees_in space) (undoing_in space) (by_personality p cleanup_acts) limit tt (unmarked start), refl),
+      (cleaned_line limit start, one.is_line (sees_in space) (undoing_in space) (by_personality p cleanup_acts) limit tt (without_mark start), refl),
       sym (passes_by_line limit start whole).0,
     )
 
@@ -382,23 +382,23 @@ module _ (space : SpaceValue) (row : RowInstructions → RowValue) (thrown : Thr
       Later places pad entered due = ResumedBy (ArePasses places) (cleanup_at pad entered) (resume_at pad entered (return_of resumes pad)) due
 
       abbrev later : ℕ → ℕ → Context → Result CleanupsRun DeliverError
-      later places pad entered = resumed (cleanup_at pad entered) (resume_at pad entered (return_of resumes pad)) (passes places)
+      later places pad entered = cleanup_and_rest (cleanup_at pad entered) (resume_at pad entered (return_of resumes pad)) (passes places)
 
       pub hold : (places : ℕ) (start : Context) → IsWhole start → ArePasses places start (passes places start)
       hold zero start whole = (end_from start, is_pass limit start whole, go (end_from start))
         where
-          go : (r : Result PassEnd DeliverError) → FollowedBy (λ pad entered due. due ≡ Err PassLimit) r (followed r (λ pad entered. Err PassLimit))
+          go : (r : Result PassEnd DeliverError) → FollowedBy (λ pad entered due. due ≡ Err PassLimit) r (after_pass r (λ pad entered. Err PassLimit))
           go (Ok (Finishes ending)) = refl
           go (Ok (Elsewhere pad entered)) = refl
           go (Err e) = refl
       hold (suc places) start whole = (end_from start, is_pass limit start whole, go (end_from start) (passes_by_line limit start whole).1 (λ d whole. hold places d whole))
         where
           resumes_by : (pad : ℕ) (entered : Context) → IsWhole entered → ((d : Context) → IsWhole d → ArePasses places d (passes places d)) → (o : Option ℕ) →
-              ResumedBy (ArePasses places) (cleanup_at pad entered) (resume_at pad entered o) (resumed (cleanup_at pad entered) (resume_at pad entered o) (passes places))
+              ResumedBy (ArePasses places) (cleanup_at pad entered) (resume_at pad entered o) (cleanup_and_rest (cleanup_at pad entered) (resume_at pad entered o) (passes places))
           resumes_by pad entered whole holds None = refl
           resumes_by pad entered whole holds (Some ret) = (passes places (record entered { ra = ret }), holds (record entered { ra = ret }) whole, refl)
 
-          go : (r : Result PassEnd DeliverError) → IsWholeEnd r → ((d : Context) → IsWhole d → ArePasses places d (passes places d)) → FollowedBy (Later places) r (followed r (later places))
+          go : (r : Result PassEnd DeliverError) → IsWholeEnd r → ((d : Context) → IsWhole d → ArePasses places d (passes places d)) → FollowedBy (Later places) r (after_pass r (later places))
           go (Ok (Finishes ending)) whole holds = refl
           go (Ok (Elsewhere pad entered)) whole holds = resumes_by pad entered whole holds (return_of resumes pad)
           go (Err e) whole holds = refl
@@ -406,7 +406,7 @@ module _ (space : SpaceValue) (row : RowInstructions → RowValue) (thrown : Thr
       pub only : (places : ℕ) (start : Context) (due : Result CleanupsRun DeliverError) → IsWhole start → ArePasses places start due → due ≡ passes places start
       only zero start due whole (end, is, follows) = go (end_from start) (subst (λ (r : Result PassEnd DeliverError). FollowedBy (λ pad entered due. due ≡ Err PassLimit) r due) (pass_is limit start end whole is) follows)
         where
-          go : (r : Result PassEnd DeliverError) → FollowedBy (λ pad entered due. due ≡ Err PassLimit) r due → due ≡ followed r (λ pad entered. Err PassLimit)
+          go : (r : Result PassEnd DeliverError) → FollowedBy (λ pad entered due. due ≡ Err PassLimit) r due → due ≡ after_pass r (λ pad entered. Err PassLimit)
           go (Ok (Finishes ending)) e = e
           go (Ok (Elsewhere pad entered)) e = e
           go (Err e) same = same
@@ -414,11 +414,11 @@ module _ (space : SpaceValue) (row : RowInstructions → RowValue) (thrown : Thr
           go (end_from start) (passes_by_line limit start whole).1 (λ d rest whole. only places d rest whole) (subst (λ (r : Result PassEnd DeliverError). FollowedBy (Later places) r due) (pass_is limit start end whole is) follows)
         where
           resumes_by : (pad : ℕ) (entered : Context) → IsWhole entered → ((d : Context) (rest : Result CleanupsRun DeliverError) → IsWhole d → ArePasses places d rest → rest ≡ passes places d) → (o : Option ℕ) →
-              ResumedBy (ArePasses places) (cleanup_at pad entered) (resume_at pad entered o) due → due ≡ resumed (cleanup_at pad entered) (resume_at pad entered o) (passes places)
+              ResumedBy (ArePasses places) (cleanup_at pad entered) (resume_at pad entered o) due → due ≡ cleanup_and_rest (cleanup_at pad entered) (resume_at pad entered o) (passes places)
           resumes_by pad entered whole outer None e = e
           resumes_by pad entered whole outer (Some ret) (rest, are, e) = e ∙ ap (with_cleanup (cleanup_at pad entered)) (outer (record entered { ra = ret }) rest whole are)
 
-          go : (r : Result PassEnd DeliverError) → IsWholeEnd r → ((d : Context) (rest : Result CleanupsRun DeliverError) → IsWhole d → ArePasses places d rest → rest ≡ passes places d) → FollowedBy (Later places) r due → due ≡ followed r (later places)
+          go : (r : Result PassEnd DeliverError) → IsWholeEnd r → ((d : Context) (rest : Result CleanupsRun DeliverError) → IsWhole d → ArePasses places d rest → rest ≡ passes places d) → FollowedBy (Later places) r due → due ≡ after_pass r (later places)
           go (Ok (Finishes ending)) whole outer e = e
           go (Ok (Elsewhere pad entered)) whole outer e = resumes_by pad entered whole outer (return_of resumes pad) e
           go (Err e) whole outer same = same

@@ -12,7 +12,7 @@ use Rattle.unwinding_frames.specs.Columns.{with_value}
 use Rattle.unwinding_frames.specs.FrameValue.{FrameValue}
 use Rattle.unwinding_frames.specs.declared.abi.UnwindReasonCode.{UnwindReasonCode}
 use Rattle.unwinding_frames.specs.declared.abi.TheConstants.UnwindReasonCode.{CONTINUE_UNWIND, HANDLER_FOUND}
-use Rattle.unwinding_frames.specs.Personalities.{Asked, Answer, landed, searched, answered_by}
+use Rattle.unwinding_frames.specs.Personalities.{Asked, Answer, columns_at_pad, search_answer, answered_by}
 use Rattle.stack_steps.specs.declared.answers.DeliverError.{DeliverError}
 use Rattle.stack_walks.specs.declared.outward.Phase.TheVariants as phase
 use Rattle.stack_steps.specs.Asking.{or_terminate, action_if_named}
@@ -38,7 +38,7 @@ holds_columns c d k v holds = λ i j. each j i
     each : (j : ℕ) → with_value (columns_of c) k v j ≡ columns_of d j
     each j = by_test j (eqb j k) refl
 
-pub landed_columns : (c : Context) (exception pad : ℕ) → IsWhole c → landed landing_columns exception pad (columns_of c) ≡ columns_of (enters c exception pad)
+pub landed_columns : (c : Context) (exception pad : ℕ) → IsWhole c → columns_at_pad landing_columns exception pad (columns_of c) ≡ columns_of (enters c exception pad)
 landed_columns c exception pad whole =
     let c1 : Context = record c { registers = set c.registers 0 exception } in
     let h1 : Holds c c1 0 exception = (with_column-holds c 0 exception whole).1 in
@@ -61,10 +61,10 @@ module _ (image : List Span) (c : Context) (interrupted : Bool) (frame : FrameVa
       inner : ◌≡◌ {A = Result Action DeliverError} (Ok (or_terminate table)) (Ok action) → or_terminate table ≡ action
       inner e = cc
 
-  pub answers_search : InSearch asked → answer_for asked image frame c interrupted ≡ (searched action, columns_of c)
+  pub answers_search : InSearch asked → answer_for asked image frame c interrupted ≡ (search_answer action, columns_of c)
   answers_search in_search = rw in_search.version (by_table table told)
     where
-      by_table : (r : Result Action StepFault) → or_terminate r ≡ action → answered_by landing_columns asked (columns_of c) r ≡ (searched action, columns_of c)
+      by_table : (r : Result Action StepFault) → or_terminate r ≡ action → answered_by landing_columns asked (columns_of c) r ≡ (search_answer action, columns_of c)
       by_table (Ok x) e = rw (in_search.search, e) refl
       by_table (Err fault) e = rw (← e) refl
 
@@ -87,14 +87,14 @@ module _ (image : List Span) (c : Context) (interrupted : Bool) (frame : FrameVa
   other_code : (a b : ℕ) → a ≢ b → {x y : UnwindReasonCode} → x.0 ≡ pos a → y.0 ≡ pos b → x ≢ y
   other_code a b apart left right same = let e : pos a ≡ pos b = sym left ∙ ap (λ (code : UnwindReasonCode). code.0) same ∙ right in apart cc
 
-  search_code : (x : Action) → (stops phase.Search x ≡ true) ↔ (searched x ≢ CONTINUE_UNWIND)
+  search_code : (x : Action) → (stops phase.Search x ≡ true) ↔ (search_answer x ≢ CONTINUE_UNWIND)
   search_code NoAction = (λ e. cc, λ other. absurd (other refl))
   search_code (Cleanup pad) = (λ e. cc, λ other. absurd (other refl))
   search_code (Catch pad) = (λ e. other_code 6 8 (λ h. omega arith) refl refl, λ other. refl)
   search_code (Filter pad) = (λ e. other_code 6 8 (λ h. omega arith) refl refl, λ other. refl)
   search_code Terminate = (λ e. other_code 3 8 (λ h. omega arith) refl refl, λ other. refl)
 
-  takes_code : (x : Action) → ((stops phase.Search x ≡ true) × IsSome (pad_of x)) ↔ (searched x ≡ HANDLER_FOUND)
+  takes_code : (x : Action) → ((stops phase.Search x ≡ true) × IsSome (pad_of x)) ↔ (search_answer x ≡ HANDLER_FOUND)
   takes_code NoAction = (λ e. let bad : false ≡ true = e.0 in absurd cc, λ found. absurd (other_code 8 6 (λ h. omega arith) refl refl found))
   takes_code (Cleanup pad) = (λ e. let bad : false ≡ true = e.0 in absurd cc, λ found. absurd (other_code 8 6 (λ h. omega arith) refl refl found))
   takes_code (Catch pad) = (λ e. refl, λ found. (refl, refl))

@@ -3,7 +3,7 @@ use Rattle.std.proofs.Common.{◌≡◌, ℕ, zero, suc, Bool, false, List, Opti
 use Rattle.unwind_arch.specs.declared.x86_64.Context.{Context}
 use Rattle.stack_steps.specs.declared.answers.DeliverError.{DeliverError}
 use Rattle.stack_steps.specs.declared.answers.DeliverError.TheVariants.{PassLimit}
-use Rattle.stack_steps.specs.declared.answers.Stepped.{Stepped}
+use Rattle.format_frames.specs.declared.machine.Stepped.{Stepped}
 use Rattle.stack_walks.specs.declared.room.Trail.{Trail}
 use Rattle.stack_walks.specs.declared.outward.Phase.{Phase}
 use Rattle.stack_walks.specs.declared.outward.Phase.TheVariants as phase
@@ -11,7 +11,7 @@ use Rattle.stack_walks.specs.Lines.{line_after, line_of, with_first}
 use Rattle.stack_deliver.specs.StackDelivery.{delivery_at, delivery_by, delivery_to, stack_delivery}
 use Rattle.stack_steps.specs.Modules.{Added, SpaceValue}
 use Rattle.stack_walks.specs.Turns.{Ends, Stops, Goes, Line, Stop, Turn, kept_at, line_for, line_turn, pad_of, pass_of, turn_for, with_context}
-use Rattle.stack_deliver.specs.Passes.{Elsewhere, Finishes, CleanupsRun, PassEnd, cleanup_at, cleanup_of, end_of, followed, passes_of, resume_at, resumed, with_cleanup}
+use Rattle.stack_deliver.specs.Passes.{Elsewhere, Finishes, CleanupsRun, PassEnd, cleanup_at, cleanup_of, end_of, after_pass, passes_of, resume_at, cleanup_and_rest, with_cleanup}
 use Rattle.stack_deliver.specs.Resumes.{return_of}
 use Rattle.stack_steps.specs.Stepping.{frame_of, step_of}
 
@@ -51,14 +51,14 @@ module _ (s : SpaceValue) (added : List Added) where
     cleanup_same c = ap (end_of exception kept) (pass_same (Some phase.Cleanup) limit c false)
 
     passes_same : (places : ℕ) (c : Context) → passes_of other exception kept resumes limit places c ≡ passes_of s exception kept resumes limit places c
-    passes_same zero c = ap (λ (r : Result PassEnd DeliverError). followed r (λ pad entered. Err PassLimit)) (cleanup_same c)
-    passes_same (suc places) c = ap (λ (r : Result PassEnd DeliverError). followed r (λ pad entered. resumed (cleanup_at pad entered) (resume_at pad entered (return_of resumes pad)) (passes_of other exception kept resumes limit places))) (cleanup_same c) ∙ go (cleanup_of s exception kept limit c) (passes_same places)
+    passes_same zero c = ap (λ (r : Result PassEnd DeliverError). after_pass r (λ pad entered. Err PassLimit)) (cleanup_same c)
+    passes_same (suc places) c = ap (λ (r : Result PassEnd DeliverError). after_pass r (λ pad entered. cleanup_and_rest (cleanup_at pad entered) (resume_at pad entered (return_of resumes pad)) (passes_of other exception kept resumes limit places))) (cleanup_same c) ∙ go (cleanup_of s exception kept limit c) (passes_same places)
       where
-        again : (t : Trail) (r : Result Context DeliverError) → ((d : Context) → passes_of other exception kept resumes limit places d ≡ passes_of s exception kept resumes limit places d) → resumed t r (passes_of other exception kept resumes limit places) ≡ resumed t r (passes_of s exception kept resumes limit places)
+        again : (t : Trail) (r : Result Context DeliverError) → ((d : Context) → passes_of other exception kept resumes limit places d ≡ passes_of s exception kept resumes limit places d) → cleanup_and_rest t r (passes_of other exception kept resumes limit places) ≡ cleanup_and_rest t r (passes_of s exception kept resumes limit places)
         again t (Ok c) later = ap (with_cleanup t) (later c)
         again t (Err e) later = refl
 
-        go : (r : Result PassEnd DeliverError) → ((d : Context) → passes_of other exception kept resumes limit places d ≡ passes_of s exception kept resumes limit places d) → followed r (λ pad entered. resumed (cleanup_at pad entered) (resume_at pad entered (return_of resumes pad)) (passes_of other exception kept resumes limit places)) ≡ followed r (λ pad entered. resumed (cleanup_at pad entered) (resume_at pad entered (return_of resumes pad)) (passes_of s exception kept resumes limit places))
+        go : (r : Result PassEnd DeliverError) → ((d : Context) → passes_of other exception kept resumes limit places d ≡ passes_of s exception kept resumes limit places d) → after_pass r (λ pad entered. cleanup_and_rest (cleanup_at pad entered) (resume_at pad entered (return_of resumes pad)) (passes_of other exception kept resumes limit places)) ≡ after_pass r (λ pad entered. cleanup_and_rest (cleanup_at pad entered) (resume_at pad entered (return_of resumes pad)) (passes_of s exception kept resumes limit places))
         go (Ok (Finishes ending)) later = refl
         go (Ok (Elsewhere pad entered)) later = again (cleanup_at pad entered) (resume_at pad entered (return_of resumes pad)) later
         go (Err e) later = refl

@@ -17,7 +17,7 @@ use Rattle.unwinding_frames.specs.Passes.{Marked, Undoing, Stepping, Answering, 
 use Rattle.unwinding_frames.specs.Passes as any
 use Rattle.unwinding_frames.specs.Personalities.{Answer, rust_answers}
 use Rattle.unwinding_frames.specs.Seen.{FrameSeen, Thrown, answering}
-use Rattle.stack_steps.specs.declared.answers.Stepped.{Stepped}
+use Rattle.format_frames.specs.declared.machine.Stepped.{Stepped}
 use Rattle.stack_walks.specs.declared.room.Trail.{Trail}
 use Rattle.stack_deliver.specs.declared.answers.Outcome.{Outcome}
 use Rattle.stack_deliver.specs.declared.answers.Outcome.TheVariants.{EndOfStack, FatalPhase1}
@@ -27,7 +27,7 @@ use Rattle.stack_walks.specs.declared.outward.Phase.TheVariants as phase
 use Rattle.stack_deliver.specs.StackDelivery.{DeliveryValue, delivery_after, no_delivery}
 use Rattle.stack_steps.specs.Modules.{SpaceValue}
 use Rattle.stack_walks.specs.Turns.{Stop, past_arguments, pass_of, kept_at, pad_of}
-use Rattle.stack_deliver.specs.Passes.{PassEnd, Finishes, Elsewhere, CleanupsRun, fatal, landed, cleanup_at, resume_at, with_cleanup}
+use Rattle.stack_deliver.specs.Passes.{PassEnd, Finishes, Elsewhere, CleanupsRun, fatal, ending_at, cleanup_at, resume_at, with_cleanup}
 use Rattle.stack_walks.specs.Turns as stopped
 use Rattle.delivery_laws.specs.Personality.{landing_columns}
 use Rattle.stack_deliver.specs.Resumes.{return_of}
@@ -40,13 +40,13 @@ use Rattle.unwinding_frames.specs.declared.abi.UnwindAction.{UnwindAction}
 
 -- ---- the step of a space
 
-abbrev pub marked : Stepped → Marked Context
-marked s = record { context = s.context; signal = s.signal }
+abbrev pub marked_of : Stepped → Marked Context
+marked_of s = record { context = s.context; signal = s.signal }
 
 -- how the frames of a space are undone
 abbrev pub undoing_in : SpaceValue → Undoing Context FrameAt DeliverError
 undoing_in space = record {
-  caller = λ f c. result_map marked (caller_by space.image c f);
+  caller = λ f c. result_map marked_of (caller_by space.image c f);
   stack_pointer = λ c. slice_index c.registers rsp;
   past_arguments = λ f c. past_arguments c (arguments_of f);
 }
@@ -116,7 +116,7 @@ search_end stack_pointer visited Crowded = Err FrameLimit
 -- How a cleanup pass ends: with the landing, with a cleanup that is entered, with the program, or with a fault. The return address
 -- of a context that is installed is the landing pad.
 abbrev pub pass_end : any.Outcome Context DeliverError → Result PassEnd DeliverError
-pass_end (Installs entered true) = Ok (Finishes (landed entered))
+pass_end (Installs entered true) = Ok (Finishes (ending_at entered))
 pass_end (Installs entered false) = Ok (Elsewhere entered.ra entered)
 pass_end (Gives code None) = Ok (Finishes fatal)
 pass_end (Gives code (Some any.FrameLimit)) = Err FrameLimit

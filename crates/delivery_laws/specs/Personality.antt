@@ -1,6 +1,7 @@
 -- What the passes ask of a frame, as the personality of Rust answers it. Itanium C++ ABI, exception handling, section 2.5.
 use Rattle.std.specs.Prelude.{◌≡◌, ◌⊎◌, ℕ, pos, Bool, true, false, List, Some, Ok}
 use Rattle.memory_image.specs.Image.{Span}
+use Rattle.unwind_definitions.specs.Columns as column
 use Rattle.unwind_definitions.specs.Function.{Action, NoAction, Cleanup, Catch, Filter, Terminate}
 use Rattle.unwind_definitions.specs.LanguageSearch.{personality_address}
 use Rattle.unwind_arch.specs.declared.x86_64.Context.{Context}
@@ -17,7 +18,7 @@ use Rattle.stack_walks.specs.Turns.{enters}
 -- The columns of the return address and of the two registers that a landing pad finds its arguments in, RAX and RDX.
 -- System V x86-64 psABI, table of DWARF register numbers.
 abbrev pub landing_columns : Landing
-landing_columns = record { return_address = 16; exception = 0; selector = 1 }
+landing_columns = record { return_address = column.ra; exception = column.rax; selector = column.rdx }
 
 -- a personality is called in the search phase, by version 1 of the interface
 pub record InSearch (asked : Asked) : Type 0 where

@@ -29,7 +29,7 @@ pub fn calls_through_formats_start_walks_and_deliveries()
 {}
 
 /// A walk over the same space may as well start where the Mach-O function was stopped in its body,
-/// or the PE function in its body or behind the push of its prologue. The function does nothing.
+/// or the PE function in its body or after the push of its prologue. The function does nothing.
 pub fn stops_in_formats_start_walks()
     ensures macho_body { StartsFormatStop space_of_three (registers_of mixed.caught_start) 5
         mixed.functions mixed.caught_start mixed.caught_frameless

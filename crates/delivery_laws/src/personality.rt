@@ -9,7 +9,7 @@ ghost use Rattle.unwind_arch.specs.declared.x86_64.Context.{Context};
 ghost use Rattle.unwind_arch.specs.ContextViews.{columns_of};
 ghost use Rattle.unwinding_frames.specs.FrameValue.{FrameValue};
 ghost use Rattle.unwinding_frames.specs.Sample as sample;
-ghost use Rattle.unwinding_frames.specs.Personalities.{Asked, searched};
+ghost use Rattle.unwinding_frames.specs.Personalities.{Asked, search_answer};
 ghost use Rattle.unwinding_frames.specs.Seen.{Thrown};
 ghost use Rattle.stack_steps.specs.declared.answers.DeliverError.{DeliverError};
 ghost use Rattle.delivery_laws.specs.AnyPasses.{stepping_in, rust_in, Search, search_of};
@@ -36,7 +36,7 @@ pub fn passes_ask_the_personality()
     ensures search { (image : List Span) (c : Context) (interrupted : Bool) (frame : FrameValue)
         (action : Action) (asked : Asked) → IsAsked image c interrupted frame action →
         InSearch asked →
-        answer_for asked image frame c interrupted ≡ (searched action, columns_of c) }
+        answer_for asked image frame c interrupted ≡ (search_answer action, columns_of c) }
     ensures cleanup { (image : List Span) (c : Context) (interrupted : Bool) (frame : FrameValue)
         (action : Action) (asked : Asked) → IsAsked image c interrupted frame action →
         InCleanup asked → length c.registers ≡ 16 →

@@ -9,7 +9,7 @@ use Rattle.unwind_definitions.specs.Entries.{Fde, Entry, Found, AreEntries, entr
 use Rattle.unwind_definitions.specs.Scan.{fde_of, fdes_of}
 use Rattle.eh_frame.specs.FdeLists.{IsListOf, IsFunctionIn, function_in}
 use Rattle.eh_frame.specs.Listed.{HasUnreadable, IsWhole, has_bytes, nonempty}
-use Rattle.eh_frame.specs.Shared.{StandsIn, shared}
+use Rattle.eh_frame.specs.Shared.{StandsIn, cie_of_entry}
 use Rattle.eh_frame.specs.declared.cie.Cie.{Cie as CodeCie}
 use Rattle.eh_frame.specs.declared.prepared.PreparedFunction.{PreparedFunction}
 use Rattle.eh_frame.proofs.Ahead.{next_within}
@@ -54,7 +54,7 @@ module _ (bases : Bases) (table : Input) where
       read_further = next_within bases table offset found start s.within at
 
       pub one_read : (new : List CodeCie) (more : List PreparedFunction) →
-          ((fdes : List Fde) → IsListOf bases table cies listed fdes → StandsIn bases table (shared found.entry) → IsListOf bases table new more (fdes ++ nonempty (found.entry ∷ []))) →
+          ((fdes : List Fde) → IsListOf bases table cies listed fdes → StandsIn bases table (cie_of_entry found.entry) → IsListOf bases table new more (fdes ++ nonempty (found.entry ∷ []))) →
           IsReadTo new more found.next
       one_read new more adds = record {
         within = read_further.1;

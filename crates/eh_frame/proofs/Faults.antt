@@ -6,7 +6,7 @@ use Rattle.unwind_definitions.specs.declared.error.Error.{Error as Fault}
 use Rattle.unwind_definitions.specs.declared.error.Error.TheVariants.{UnexpectedEof, AddressOverflow, NotCie, UnsupportedPointerEncoding, CannotParseOmitPointerEncoding, UnknownPointerEncoding, BadSignedLeb128, NoUnwindInfoForAddress}
 use Rattle.unwind_definitions.specs.Faults.{◌>>=◌, unless}
 use Rattle.unwind_definitions.specs.Input.{Input, Reads, address_of, skip, split, number, uleb_from, uleb, sleb_from, sleb, text_before, text}
-use Rattle.unwind_definitions.specs.Pointers.{Bases, Pointer, Direct, Indirect, is_known, is_indirect, format_of, application_of, encoding, signed_number, value, known, base_of, pointer, direct_target, direct}
+use Rattle.unwind_definitions.specs.Pointers.{Bases, Pointer, Direct, Indirect, is_known, is_indirect, format_of, application_of, encoding, signed_number, value, base_if_known, base_of, pointer, direct_target, direct}
 use Rattle.unwind_definitions.specs.Instructions.{column}
 use Rattle.unwind_definitions.specs.Entries.{Letters, Cie, Entry, ACie, AFde, Found, address_encoding, letter, letters_from, no_letters, augmentation_data, sizes, return_column, cie_body, language_pointer, fde_data, fde_body, body, length_behind, cie_in, cie_at, entry_in, found_in, entry_at}
 use Rattle.unwind_definitions.specs.Header.{PairTable, pair_from, pair_at}
@@ -90,7 +90,7 @@ other_value format c =
     (other_choice (format == 11) _ _ c (other_signed w32 32 c)
     (other_number w64 c))))))))
 
-other_known : (o : Option ℕ) → Other (known o)
+other_known : (o : Option ℕ) → Other (base_if_known o)
 other_known None = other_err _ (λ h. cc)
 other_known (Some base) = other_ok _
 

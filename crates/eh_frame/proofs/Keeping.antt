@@ -8,7 +8,7 @@ use Rattle.std.proofs.lemmas.Grind.{take-set_at}
 use Rattle.std.proofs.Math.Seq.{take-length}
 use Rattle.unwind_definitions.specs.Pointers.{Bases}
 use Rattle.unwind_definitions.specs.Entries.{Fde}
-use Rattle.frame_rows.specs.KeptRows.{AreTooMany, IsAdded, Kept, KeptRows, kept_rule_count, location_of, placed, reached_locations}
+use Rattle.frame_rows.specs.KeptRows.{AreTooMany, IsAdded, Kept, KeptRows, kept_rule_count, location_of, kept_at_distance, reached_locations}
 use Rattle.frame_rows.specs.declared.row_table.RowLimits.{RowLimits}
 use Rattle.frame_rows.specs.declared.row_table.RowRange.{RowRange}
 use Rattle.eh_frame.specs.Index.{AreKept, AscendApart, Described, HasRows, IsIndex, IsRowedBy, KeepsRows, common_program, described_fde, described_in, end_of, own_program, start_of, rows_due, rules_due}
@@ -38,7 +38,7 @@ before_stays (x ∷ xs) ys zero d lt = refl
 before_stays (x ∷ xs) ys (suc i) d lt = before_stays xs ys i d (omega arith)
 
 -- the first of a description's rows holds from its start on
-first_at : (start : ℕ) (rows : List Kept) (i size : ℕ) (d : Kept) (ls : List ℕ) → map location_of (map (placed start) (take size (drop i rows))) ≡ start ∷ ls → (get_or rows i d).location ≡ 0
+first_at : (start : ℕ) (rows : List Kept) (i size : ℕ) (d : Kept) (ls : List ℕ) → map location_of (map (kept_at_distance start) (take size (drop i rows))) ≡ start ∷ ls → (get_or rows i d).location ≡ 0
 first_at start [] zero zero d ls is = absurd cc
 first_at start [] zero (suc size) d ls is = absurd cc
 first_at start [] (suc i) zero d ls is = absurd cc
@@ -126,7 +126,7 @@ module _ (bases : Bases) (fdes : List Fde) (limits : RowLimits) (cies : List Cod
       same_before (f ∷ fs) all =
           let o = all.0.some in
           ap (λ (l : List Described). described_in cies new.rows f ∷ l) (same_before fs all.1)
-          ∙ ap (λ (ks : List Kept). let d : Described = record { fde = fde_in cies f.fde; kept = map (placed f.fde.initial_address) ks } in d ∷ map (described_in cies rows.rows) fs)
+          ∙ ap (λ (ks : List Kept). let d : Described = record { fde = fde_in cies f.fde; kept = map (kept_at_distance f.fde.initial_address) ks } in d ∷ map (described_in cies rows.rows) fs)
           (ap (λ (l : List Kept). slice_range l f.rows.first f.rows.end) grown ∙ part_stays rows.rows more f.rows.first f.rows.end (omega arith) all.0.within)
 
       rowed_before : (f : PreparedFunction) → HasRows cies rows.rows f → HasRows cies new.rows f

@@ -10,7 +10,7 @@ use Rattle.unwind_definitions.specs.Faults.{◌>>=◌, unless}
 use Rattle.unwind_definitions.specs.Input.{Input, Reads, address_of, skip}
 use Rattle.unwind_definitions.specs.Pointers.{Bases, Pointer, is_known, format_of, application_of, value, base_of, pointer, direct_target, direct}
 use Rattle.unwind_definitions.specs.Header.{PairTable, pair_from, pair_at}
-use Rattle.encoded_pointers.specs.Readers.{passes}
+use Rattle.encoded_pointers.specs.Readers.{checked_skip}
 
 -- nothing is left at a place
 abbrev none_at : ℕ → ℕ → Input
@@ -71,7 +71,7 @@ same_pair e base a b bases =
     ap (λ (r : Result (Pointer × Input) Fault). (r >>= direct_from) >>= pair_behind e bases) same
 
 -- so many bytes that are there are passed
-pub passed : (k : ℕ) (c d : Input) → k ≤ length c.bytes → passes k c ≡ Ok (tt, d) → d ≡ skip k c
+pub passed : (k : ℕ) (c d : Input) → k ≤ length c.bytes → checked_skip k c ≡ Ok (tt, d) → d ≡ skip k c
 passed k c d le e =
     let h = rw (le-ltb (length c.bytes) k le) at e in
     let same : (tt, skip k c) ≡ (tt, d) = behind_same _ _ h in

@@ -9,7 +9,7 @@ use Rattle.unwind_definitions.specs.Input.{Input, skip, number, uleb, sleb, text
 use Rattle.unwind_definitions.specs.Augmentation.{is_version, is_augmentation}
 use Rattle.unwind_definitions.specs.Pointers.{Bases, direct, value, format_of}
 use Rattle.unwind_definitions.specs.Entries.{Cie, Entry, ACie, AFde, Found, address_encoding, sizes, return_column, augmentation_data, fde_data, body, cie_body, cie_in, cie_at, fde_body, entry_in, found_in, entry_at}
-use Rattle.eh_frame.specs.Shared.{shared, StandsIn}
+use Rattle.eh_frame.specs.Shared.{cie_of_entry, StandsIn}
 
 -- what goes on to a value has one before it
 before : {A B : Type 0} (r : Result A Fault) (f : A → Result B Fault) (y : B) → (r >>= f) ≡ Ok y → (x : A) × (r ≡ Ok x) × (f x ≡ Ok y)
@@ -62,13 +62,13 @@ at_own bases table offset cie is =
     ap (cie_at bases table) same ∙ is
 
 module _ (bases : Bases) (table : Input) (offset : ℕ) where
-  in_stands : (b next : Input) (e : Entry) → body (skip offset table) ≡ Ok (Some b, next) → entry_in bases table offset b ≡ Ok e → StandsIn bases table (shared e)
+  in_stands : (b next : Input) (e : Entry) → body (skip offset table) ≡ Ok (Some b, next) → entry_in bases table offset b ≡ Ok e → StandsIn bases table (cie_of_entry e)
   in_stands b next e read is = let id = before (number w32 b) _ e is in go id.0.0 id.0.1 id.1 (id.0.0 == 0) refl id.2
     where
       whole : (id : ℕ) (c : Input) (cie : Cie) → number w32 b ≡ Ok (id, c) → (id == 0) ≡ true → cie_body bases offset c ≡ Ok cie → cie_at bases table offset ≡ Ok cie
       whole id c cie first zero is = rw (read, first, zero) is
 
-      near : (id : ℕ) (c : Input) (t : Bool) → cond t (Err NotCie) (cie_at bases table (b.offset - id) >>= λ cie. fde_body bases cie offset c >>= λ fde. Ok (AFde fde)) ≡ Ok e → StandsIn bases table (shared e)
+      near : (id : ℕ) (c : Input) (t : Bool) → cond t (Err NotCie) (cie_at bases table (b.offset - id) >>= λ cie. fde_body bases cie offset c >>= λ fde. Ok (AFde fde)) ≡ Ok e → StandsIn bases table (cie_of_entry e)
       near id c true is = absurd cc
       near id c false is =
           let cie = before (cie_at bases table (b.offset - id)) _ e is in
@@ -80,7 +80,7 @@ module _ (bases : Bases) (table : Input) (offset : ℕ) where
       go : (id : ℕ) (c : Input) → number w32 b ≡ Ok (id, c) → (t : Bool) → (id == 0) ≡ t →
           cond t (cie_body bases offset c >>= λ cie. Ok (ACie cie))
           (cond (nat_lt b.offset id) (Err NotCie) (cie_at bases table (b.offset - id) >>= λ cie. fde_body bases cie offset c >>= λ fde. Ok (AFde fde))) ≡ Ok e →
-          StandsIn bases table (shared e)
+          StandsIn bases table (cie_of_entry e)
       go id c first true zero is =
           let cie = before (cie_body bases offset c) _ e is in
           let same : ACie cie.0 ≡ e = cc in
@@ -88,11 +88,11 @@ module _ (bases : Bases) (table : Input) (offset : ℕ) where
       go id c first false other is = near id c (nat_lt b.offset id) is
 
   -- so that it needn't be read again for what follows
-  pub shared_stands : (found : Found) → entry_at bases table offset ≡ Ok (Some found) → StandsIn bases table (shared found.entry)
+  pub shared_stands : (found : Found) → entry_at bases table offset ≡ Ok (Some found) → StandsIn bases table (cie_of_entry found.entry)
   unfolding entry_at
   shared_stands found is = let b = before (body (skip offset table)) _ (Some found) is in go b.0.0 b.0.1 b.1 b.2
     where
-      go : (b : Option Input) (next : Input) → body (skip offset table) ≡ Ok (b, next) → found_in bases table offset b next.offset ≡ Ok (Some found) → StandsIn bases table (shared found.entry)
+      go : (b : Option Input) (next : Input) → body (skip offset table) ≡ Ok (b, next) → found_in bases table offset b next.offset ≡ Ok (Some found) → StandsIn bases table (cie_of_entry found.entry)
       go None next read is = absurd cc
       go (Some b) next read is =
           let e = before (entry_in bases table offset b) _ (Some found) is in

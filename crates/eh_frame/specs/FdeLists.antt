@@ -10,7 +10,7 @@ use Rattle.unwind_definitions.specs.Entries.{Cie, Entry, Fde, cie_at, entry_in, 
 use Rattle.encoded_pointers.specs.CursorViews.{at}
 use Rattle.encoded_pointers.specs.PointerViews.{pointer_of}
 use Rattle.eh_frame.specs.Listed.{HasUnreadable, IsWhole, nonempty}
-use Rattle.eh_frame.specs.Shared.{StandsIn, shared}
+use Rattle.eh_frame.specs.Shared.{StandsIn, cie_of_entry}
 use Rattle.eh_frame.specs.EntryViews.{cie_of}
 use Rattle.eh_frame.specs.declared.cie.Cie.{Cie as CodeCie}
 use Rattle.eh_frame.specs.declared.fde_list.FdeList.{FdeList}
@@ -97,7 +97,7 @@ AddsFde read cies old false new = (fault : Fault) × (read ≡ Err fault)
 -- the entry of a body at an offset is listed, or can't be read
 abbrev pub ListsEntry : Bases → Input → ℕ → Input → FdeList → Bool → FdeList → Type 0
 ListsEntry bases table offset body old true new = (entry : Entry) × (entry_in bases table offset body ≡ Ok entry) ×
-    ((fdes : List Fde) → IsListOf bases table old.cies.items old.fdes.items fdes → StandsIn bases table (shared entry) → IsListOf bases table new.cies.items new.fdes.items (fdes ++ nonempty (entry ∷ [])))
+    ((fdes : List Fde) → IsListOf bases table old.cies.items old.fdes.items fdes → StandsIn bases table (cie_of_entry entry) → IsListOf bases table new.cies.items new.fdes.items (fdes ++ nonempty (entry ∷ [])))
 ListsEntry bases table offset body old false new = (fault : Fault) × (entry_in bases table offset body ≡ Err fault)
 
 -- all entries can be read, and these are the descriptions whose ranges aren't empty

@@ -1,5 +1,6 @@
 -- The frame table of one function of 16 bytes, which pushes RBX, and its index.
 use Rattle.std.specs.Prelude.{◌-◌, ◌^◌, false, List, [], ◌∷◌, Some, None, Ok}
+use Rattle.unwind_definitions.specs.Columns as column
 use Rattle.unwind_definitions.specs.Input.{Input}
 use Rattle.unwind_definitions.specs.Instructions.{Offset}
 use Rattle.unwind_definitions.specs.Entries.{Cie, Fde, Entry, ACie, AFde}
@@ -44,11 +45,11 @@ entries = ACie cie ∷ AFde fde ∷ []
 
 -- at the start the return address stands 8 bytes below the CFA
 abbrev pub row_at_start : RowValue
-row_at_start = record { cfa = ColumnAndOffset 7 8; rules = (16, Offset (2 ^ 64 - 8)) ∷ []; saved_args_size = 0 }
+row_at_start = record { cfa = ColumnAndOffset column.rsp 8; rules = (column.ra, Offset (2 ^ 64 - 8)) ∷ []; saved_args_size = 0 }
 
 -- and after the push RBX stands below it
 abbrev pub row_in_body : RowValue
-row_in_body = record { cfa = ColumnAndOffset 7 16; rules = (3, Offset (2 ^ 64 - 16)) ∷ (16, Offset (2 ^ 64 - 8)) ∷ []; saved_args_size = 0 }
+row_in_body = record { cfa = ColumnAndOffset column.rsp 16; rules = (column.rbx, Offset (2 ^ 64 - 16)) ∷ (column.ra, Offset (2 ^ 64 - 8)) ∷ []; saved_args_size = 0 }
 
 abbrev pub kept : List Kept
 kept = record { location = 0x401000; answer = Ok row_at_start } ∷ record { location = 0x401001; answer = Ok row_in_body } ∷ []

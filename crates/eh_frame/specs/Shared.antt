@@ -7,9 +7,9 @@ use Rattle.unwind_definitions.specs.Pointers.{Bases}
 use Rattle.unwind_definitions.specs.Entries.{Cie, Entry, ACie, AFde, cie_at}
 
 -- the entry itself, or the one that a description names
-abbrev pub shared : Entry → Cie
-shared (ACie cie) = cie
-shared (AFde fde) = fde.cie
+abbrev pub cie_of_entry : Entry → Cie
+cie_of_entry (ACie cie) = cie
+cie_of_entry (AFde fde) = fde.cie
 
 -- a common information entry is what a table has at its offset
 abbrev pub StandsIn : Bases → Input → Cie → Type 0

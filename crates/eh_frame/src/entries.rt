@@ -13,7 +13,7 @@ ghost use Rattle.unwind_definitions.specs.Row.{covers_pc};
 ghost use Rattle.unwind_definitions.specs.Scan.{found_or, scan};
 ghost use Rattle.unwind_definitions.specs.HeaderSearch.{fde_at, fde_at_address, fde_in};
 ghost use Rattle.encoded_pointers.specs.Readers.{GivesOr, Answers};
-ghost use Rattle.eh_frame.specs.Shared.{shared, StandsIn};
+ghost use Rattle.eh_frame.specs.Shared.{cie_of_entry, StandsIn};
 ghost use Rattle.eh_frame.specs.Search.{IsFirst, NoneContains, IsUnreadable};
 ghost use Rattle.encoded_pointers.specs.CursorViews.{at};
 ghost use Rattle.encoded_pointers.specs.PointerViews.{bases_of};
@@ -115,7 +115,7 @@ impl<'a> EhFrame<'a> {
         if offset > self.bytes.len() as u64 {
             return Err(Error::UnexpectedEof);
         }
-        described(self.entry_at(offset, &None, bases)?)
+        described_fde(self.entry_at(offset, &None, bases)?)
     }
 
     // The same at an address, which isn't below the table's.
@@ -244,7 +244,7 @@ impl<'a> EhFrame<'a> {
             if let Some(fde) = found.entry.containing(pc) {
                 return Ok(fde);
             }
-            known = Some(found.entry.shared());
+            known = Some(found.entry.named_cie());
             offset = found.next;
         }
         Err(Error::NoUnwindInfoForAddress)
@@ -347,8 +347,8 @@ impl<'a> EhFrame<'a> {
 
 impl<'a> Entry<'a> {
     /// The entry itself, or the one that a description names.
-    pub(crate) fn shared(&self) -> Cie<'a>
-        ensures { cie_of result ≡ shared (entry_of self.now) }
+    pub(crate) fn named_cie(&self) -> Cie<'a>
+        ensures { cie_of result ≡ cie_of_entry (entry_of self.now) }
     {
         match self {
             Entry::Cie(cie) => *cie,
@@ -370,7 +370,7 @@ impl<'a> Entry<'a> {
 }
 
 // An entry, where it is a description.
-fn described<'a>(found: Option<Found<'a>>) -> Result<Fde<'a>, Error>
+fn described_fde<'a>(found: Option<Found<'a>>) -> Result<Fde<'a>, Error>
     ensures { Answers fde_of result (fde_in (option_map found_of found.entry)) }
 {
     match found {

@@ -37,7 +37,7 @@ impl<'a> Fde<'a> {
     ghost use Rattle.unwind_definitions.specs.Entries.{fde_body};
     ghost use Rattle.unwind_definitions.specs.Row.{covers_pc, row_at};
     ghost use Rattle.eh_frame.specs.EntryViews.{cie_of, fde_of};
-    ghost use Rattle.frame_rows.specs.Rows.{GivesRow, made};
+    ghost use Rattle.frame_rows.specs.Rows.{GivesRow, row_in_place};
     ghost use Rattle.eh_frame.specs.FdeLists.{IsTold, fde_with};
 
     // What stands after the first four bytes of the entry at `offset`, which names `cie`.
@@ -206,7 +206,7 @@ impl<'a> Fde<'a> {
         pc: u64,
         rows: &mut RowRoom<'a>,
     ) -> Result<(), Error>
-        ensures { GivesRow (made result rows.new)
+        ensures { GivesRow (row_in_place result rows.new)
             (row_at (bases_of bases.now) (fde_of self.now) pc) }
     {
         if !self.contains(pc) {

@@ -77,7 +77,7 @@ impl<'a> HdrTable<'a> {
             × AreWithinDigits (pairs_of self.now).count taken }
     {
         let entry = self.boundary(pc, steps)?;
-        named(entry, frame, bases, pc)
+        named_fde(entry, frame, bases, pc)
     }
 
     // The boundary for an address that halving leads to.
@@ -108,7 +108,7 @@ impl<'a> HdrTable<'a> {
 }
 
 // The description that an entry names, where there is one and it contains an address.
-fn named<'a>(
+fn named_fde<'a>(
     entry: Option<(u64, u64)>,
     frame: &EhFrame<'a>,
     bases: &Bases,

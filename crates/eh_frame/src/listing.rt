@@ -77,7 +77,7 @@ impl<'a> Entries<'a> {
         }
         match self.table.entry_at(self.offset, &self.known, &self.bases) {
             Ok(Some(found)) => {
-                self.known = Some(found.entry.shared());
+                self.known = Some(found.entry.named_cie());
                 self.offset = found.next;
                 Ok(Some(found.entry))
             }

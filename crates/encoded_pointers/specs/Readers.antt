@@ -15,8 +15,8 @@ GivesOr view (Ok x) read new = read ≡ Ok (view x, new)
 GivesOr view (Err e) read new = read ≡ Err e
 
 -- so many bytes are there, and are passed
-abbrev pub passes : ℕ → Reads (Unit {0})
-passes n c = if nat_lt (length c.bytes) n then Err UnexpectedEof else Ok (tt, skip n c)
+abbrev pub checked_skip : ℕ → Reads (Unit {0})
+checked_skip n c = if nat_lt (length c.bytes) n then Err UnexpectedEof else Ok (tt, skip n c)
 
 -- An answer is what a definition gives, seen by a view, or its fault.
 abbrev pub Answers : {X Y : Type 0} → (X → Y) → Result X Fault → Result Y Fault → Type 0

@@ -3,7 +3,7 @@
 //! DWARF 5 section 7: numbers are little-endian here, and section 7.6 has LEB128.
 
 ghost use Rattle.std.specs.Prelude.{◌≡◌, ◌==◌, ◌+◌, ◌<◌, ◌^◌, length, position, IfSome};
-ghost use Rattle.unwind_definitions.specs.Input.{signed};
+ghost use Rattle.unwind_definitions.specs.Input.{signed_word};
 
 use unwind_definitions::Error;
 
@@ -27,7 +27,7 @@ impl<'a> Cursor<'a> {
     ghost use Rattle.unwind_definitions.specs.Input.{number, uleb, uleb_from, sleb, sleb_from};
     ghost use Rattle.unwind_definitions.specs.Input.{skip, split, text, address_of};
     ghost use Rattle.unwind_definitions.specs.Pointers.{signed_number};
-    ghost use Rattle.encoded_pointers.specs.Readers.{GivesOr, passes};
+    ghost use Rattle.encoded_pointers.specs.Readers.{GivesOr, checked_skip};
     ghost use Rattle.encoded_pointers.specs.CursorViews.{at};
 
     /// A cursor at the first of `bytes`, whose address is `address`.
@@ -313,7 +313,7 @@ impl<'a> Cursor<'a> {
     ///
     /// `UnexpectedEof` where fewer are left.
     pub fn skip(&mut self, count: u64) -> Result<(), Error>
-        ensures reads { GivesOr (λ x. tt) result (passes count (at self.old)) (at self.new) }
+        ensures reads { GivesOr (λ x. tt) result (checked_skip count (at self.old)) (at self.new) }
         ensures unchanged { OnErr result (at self.new ≡ at self.old) }
     {
         if count > self.bytes.len() as u64 {
@@ -414,7 +414,7 @@ fn first_zero(bytes: &[u8]) -> Option<usize>
 // A signed number of seven bits, as a word.
 fn signed_seven_bits(byte: u8) -> u64
     requires { byte < 128 }
-    ensures { result ≡ signed 7 byte }
+    ensures { result ≡ signed_word 7 byte }
 {
     if byte < 64 {
         byte as u64

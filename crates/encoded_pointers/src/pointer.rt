@@ -2,7 +2,7 @@
 
 ghost use Rattle.std.specs.Prelude.{◌≡◌, OnErr};
 ghost use Rattle.unwind_definitions.specs.Pointers.{application_of, base_of, direct, format_of};
-ghost use Rattle.unwind_definitions.specs.Pointers.{known, pointer, value};
+ghost use Rattle.unwind_definitions.specs.Pointers.{base_if_known, pointer, value};
 ghost use Rattle.encoded_pointers.specs.Readers.{Answers, GivesOr};
 ghost use Rattle.encoded_pointers.specs.PointerViews.{bases_of, pointer_of};
 ghost use Rattle.encoded_pointers.specs.CursorViews.{at};
@@ -80,7 +80,7 @@ fn base_address(encoding: DwEhPe, bases: &Bases, place: u64) -> Result<u64, Erro
 }
 
 fn known_base(base: Option<u64>) -> Result<u64, Error>
-    ensures { Answers (λ x. x) result (known base) }
+    ensures { Answers (λ x. x) result (base_if_known base) }
 {
     base.ok_or(Error::UndefinedBase)
 }

@@ -40,5 +40,5 @@ abbrev pub scanned_by : Bases → List Span → ℕ → ℕ → Option FoundFde
 scanned_by bases image frame pc = scanned_in (at_frame bases frame) (input_at image frame) pc
 
 -- the same, where the text alone is known
-abbrev pub scanned : Option ℕ → List Span → ℕ → ℕ → Option FoundFde
-scanned text image frame pc = found_in (table_bases text frame) (input_at image frame) (scan (table_bases text frame) (input_at image frame) pc)
+abbrev pub found_in_text : Option ℕ → List Span → ℕ → ℕ → Option FoundFde
+found_in_text text image frame pc = found_in (table_bases text frame) (input_at image frame) (scan (table_bases text frame) (input_at image frame) pc)

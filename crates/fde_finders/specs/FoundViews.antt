@@ -4,5 +4,5 @@ use Rattle.eh_frame.specs.EntryViews.{fde_of, table_of}
 use Rattle.fde_finders.specs.declared.find_fde.FDESearchResult.{FDESearchResult}
 use Rattle.fde_finders.specs.Finding.{FoundFde}
 
-abbrev pub answered : FDESearchResult → FoundFde
-answered r = record { fde = fde_of r.fde; bases = bases_of r.bases; table = table_of r.eh_frame }
+abbrev pub found_fde_of : FDESearchResult → FoundFde
+found_fde_of r = record { fde = fde_of r.fde; bases = bases_of r.bases; table = table_of r.eh_frame }

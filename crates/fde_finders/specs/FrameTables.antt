@@ -10,7 +10,7 @@ use Rattle.fde_finders.specs.declared.custom.FrameInfo.{FrameInfo}
 use Rattle.fde_finders.specs.declared.custom.FrameInfoKind.{FrameInfoKind}
 use Rattle.fde_finders.specs.declared.custom.FrameInfoKind.TheVariants.{EhFrame, EhFrameHdr}
 use Rattle.fde_finders.specs.Finding.{at_frame, relative_to, table_bases}
-use Rattle.fde_finders.specs.HeaderFinding.{Led, at_header, led}
+use Rattle.fde_finders.specs.HeaderFinding.{Led, at_header, led_at}
 
 -- a frame table, what its pointers may be relative to, and the table of the header that leads to it, if one does and has one
 pub record FrameTable : Type 0 where
@@ -23,7 +23,7 @@ led_table known image l = record { entries = input_at image l.frame; bases = at_
 
 -- by the header at an address; none where it can't be read, or where its frame table's address isn't mapped
 abbrev pub table_by_header : Bases → List Span → ℕ → Option FrameTable
-table_by_header known image h = option_map (led_table (at_header known h) image) (led known image h)
+table_by_header known image h = option_map (led_table (at_header known h) image) (led_at known image h)
 
 abbrev pub table_by_kind : Option ℕ → FrameInfoKind → List Span → Option FrameTable
 table_by_kind text (EhFrame frame) image = Some (record { entries = input_at image frame; bases = table_bases text frame; pairs = None })

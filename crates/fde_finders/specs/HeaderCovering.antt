@@ -16,8 +16,8 @@ use Rattle.unwind_definitions.specs.HeaderSearch.{boundary_in, containing, fde_a
 use Rattle.fde_finders.specs.declared.custom.FrameInfo.{FrameInfo}
 use Rattle.fde_finders.specs.declared.custom.FrameInfoKind.{FrameInfoKind}
 use Rattle.fde_finders.specs.declared.custom.FrameInfoKind.TheVariants.{EhFrame, EhFrameHdr}
-use Rattle.fde_finders.specs.Finding.{FoundFde, at_frame, relative_to, scanned, table_bases}
-use Rattle.fde_finders.specs.HeaderFinding.{Led, at_header, by_led, by_table, found_by_header, led, or_scanned}
+use Rattle.fde_finders.specs.Finding.{FoundFde, at_frame, relative_to, found_in_text, table_bases}
+use Rattle.fde_finders.specs.HeaderFinding.{Led, at_header, by_led, by_table, found_by_header, led_at, or_scanned}
 use Rattle.fde_finders.specs.Named.{found_by_kind, found_named, FindsBy}
 use Rattle.fde_finders.specs.Placed.{Placed, in_text, FindsPlaced, FindsByPlacedHeader}
 use Rattle.fde_finders.specs.Covering.{scanned_covers}
@@ -57,7 +57,7 @@ led_covers bases image pc found (Some l) e = table_covers (at_frame bases l.fram
 -- what is found by a header contains the address
 pub header_covers : (bases : Bases) (image : List Span) (h pc : ℕ) (found : FoundFde) → found_by_header bases image h pc ≡ Some found → IsTrue (covers_pc found.fde pc)
 unfolding found_by_header
-header_covers bases image h pc found e = led_covers (at_header bases h) image pc found (led bases image h) e
+header_covers bases image h pc found e = led_covers (at_header bases h) image pc found (led_at bases image h) e
 
 -- ---- by a table that is named
 by_kind : (text : Option ℕ) (kind : FrameInfoKind) (image : List Span) (pc : ℕ) (found : FoundFde) → found_by_kind text kind image pc ≡ Some found → IsTrue (covers_pc found.fde pc)
@@ -79,7 +79,7 @@ inside_covers false o pc found covers e = absurd cc
 
 pub placed_contains : (p : Placed) (image : List Span) (pc : ℕ) (found : FoundFde) (ticks : ℕ) → FindsPlaced p image pc (Some found) ticks → IsTrue (covers_pc found.fde pc)
 placed_contains p image pc found ticks finds =
-    inside_covers (in_text p pc) (scanned (Some p.start) image p.table pc) pc found (scanned_covers (table_bases (Some p.start) p.table) (input_at image p.table) pc found) finds.0
+    inside_covers (in_text p pc) (found_in_text (Some p.start) image p.table pc) pc found (scanned_covers (table_bases (Some p.start) p.table) (input_at image p.table) pc found) finds.0
 
 pub placed_header_contains : (p : Placed) (image : List Span) (pc : ℕ) (found : FoundFde) (ticks : ℕ) → FindsByPlacedHeader p image pc (Some found) ticks → IsTrue (covers_pc found.fde pc)
 placed_header_contains p image pc found ticks finds =

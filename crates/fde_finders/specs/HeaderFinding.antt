@@ -36,15 +36,15 @@ led_by image (Err e) = None
 led_by image (Ok header) = led_to header (led_address image header.frame)
 
 -- the header at an address; none where it can't be read, or where its frame table's address isn't mapped
-abbrev pub led : Bases → List Span → ℕ → Option Led
-led bases image h = led_by image (header (at_header bases h) (input_at image h))
+abbrev pub led_at : Bases → List Span → ℕ → Option Led
+led_at bases image h = led_by image (header (at_header bases h) (input_at image h))
 
 -- ---- what is found
 
 -- what a header's table finds, where there is one and it gives no error
-abbrev pub listed : Bases → Input → ℕ → Option PairTable → Option Fde
-listed bases frames pc None = None
-listed bases frames pc (Some t) = result_ok (table_answer bases frames t pc)
+abbrev pub fde_by_table : Bases → Input → ℕ → Option PairTable → Option Fde
+fde_by_table bases frames pc None = None
+fde_by_table bases frames pc (Some t) = result_ok (table_answer bases frames t pc)
 
 -- what was found, and else what a scan finds
 abbrev pub or_scanned : Bases → Input → ℕ → Option Fde → Option FoundFde
@@ -53,7 +53,7 @@ or_scanned bases frames pc None = scanned_in bases frames pc
 
 -- by a header's table, and by the scan where there is none or it gives an error
 abbrev pub by_table : Bases → Input → ℕ → Option PairTable → Option FoundFde
-by_table bases frames pc t = or_scanned bases frames pc (listed bases frames pc t)
+by_table bases frames pc t = or_scanned bases frames pc (fde_by_table bases frames pc t)
 
 abbrev pub by_led : Bases → List Span → ℕ → Option Led → Option FoundFde
 by_led bases image pc None = None
@@ -61,7 +61,7 @@ by_led bases image pc (Some l) = by_table (at_frame bases l.frame) (input_at ima
 
 -- by the header at an address; nothing where it leads to no frame table
 unfoldable pub found_by_header : Bases → List Span → ℕ → ℕ → Option FoundFde
-found_by_header bases image h pc = by_led (at_header bases h) image pc (led bases image h)
+found_by_header bases image h pc = by_led (at_header bases h) image pc (led_at bases image h)
 
 -- ---- among how many
 
@@ -75,4 +75,4 @@ pairs_led (Some l) = pairs_in (table_in l.header)
 
 -- how many pairs the table has that is searched by the header at an address
 unfoldable pub pairs_by_header : Bases → List Span → ℕ → ℕ
-pairs_by_header bases image h = pairs_led (led bases image h)
+pairs_by_header bases image h = pairs_led (led_at bases image h)

@@ -5,12 +5,12 @@ use Rattle.unwind_definitions.specs.HeaderSearch.{AreWithinDigits}
 use Rattle.fde_finders.specs.declared.custom.FrameInfo.{FrameInfo}
 use Rattle.fde_finders.specs.declared.custom.FrameInfoKind.{FrameInfoKind}
 use Rattle.fde_finders.specs.declared.custom.FrameInfoKind.TheVariants.{EhFrame, EhFrameHdr}
-use Rattle.fde_finders.specs.Finding.{FoundFde, relative_to, scanned}
+use Rattle.fde_finders.specs.Finding.{FoundFde, relative_to, found_in_text}
 use Rattle.fde_finders.specs.HeaderFinding.{found_by_header, pairs_by_header}
 
 -- by a frame table, or by a header
 abbrev pub found_by_kind : Option ℕ → FrameInfoKind → List Span → ℕ → Option FoundFde
-found_by_kind text (EhFrame frame) image pc = scanned text image frame pc
+found_by_kind text (EhFrame frame) image pc = found_in_text text image frame pc
 found_by_kind text (EhFrameHdr header) image pc = found_by_header (relative_to text None) image header pc
 
 -- how many pairs of a header's table are searched: none without one

@@ -2,7 +2,7 @@
 use Rattle.std.specs.Prelude.{◌≡◌, ℕ, Bool, ◌&&◌, List, Option, Some, None, nat_le, nat_lt, if◌then◌else◌}
 use Rattle.memory_image.specs.Image.{Span}
 use Rattle.unwind_definitions.specs.HeaderSearch.{AreWithinDigits}
-use Rattle.fde_finders.specs.Finding.{FoundFde, relative_to, scanned}
+use Rattle.fde_finders.specs.Finding.{FoundFde, relative_to, found_in_text}
 use Rattle.fde_finders.specs.HeaderFinding.{found_by_header, pairs_by_header}
 
 -- where a module's text begins and ends, and where its table lies
@@ -16,7 +16,7 @@ in_text p pc = nat_le p.start pc && nat_lt pc p.end
 
 -- by a scan of the frame table
 abbrev pub found_placed : Placed → List Span → ℕ → Option FoundFde
-found_placed p image pc = if in_text p pc then scanned (Some p.start) image p.table pc else None
+found_placed p image pc = if in_text p pc then found_in_text (Some p.start) image p.table pc else None
 
 -- by the header
 abbrev pub found_by_placed_header : Placed → List Span → ℕ → Option FoundFde

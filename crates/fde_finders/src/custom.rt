@@ -3,7 +3,7 @@
 ghost use Rattle.std.specs.Prelude.{◌≡◌, ◌≢◌, ◌+◌, ℕ, Option, Some, None, IsOk, IsErr, OnOk, OnErr};
 ghost use Rattle.std.specs.Option.{option_map};
 ghost use Rattle.fde_finders.specs.declared.custom.FrameInfo.{FrameInfo};
-ghost use Rattle.fde_finders.specs.FoundViews.{answered};
+ghost use Rattle.fde_finders.specs.FoundViews.{found_fde_of};
 ghost use Rattle.unwind_definitions.specs.HeaderSearch.{AreWithinDigits};
 ghost use Rattle.fde_finders.specs.Named.{found_by, pairs_by, FindsBy};
 ghost use Rattle.fde_finders.specs.HeaderCovering.{named_contains};
@@ -117,7 +117,7 @@ pub fn find_named<'a, L: Ledger>(
     info: FrameInfo,
     steps: &mut Steps<L>,
 ) -> Option<FDESearchResult<'a>>
-    ensures found { option_map answered result ≡ found_by info image.now pc }
+    ensures found { option_map found_fde_of result ≡ found_by info image.now pc }
     ensures ticks { (taken : ℕ) × (steps.new.number ≡ steps.old.number + taken)
         × AreWithinDigits (pairs_by info image.now) taken }
 {

@@ -4,9 +4,9 @@ ghost use Rattle.std.specs.Prelude.{◌≡◌, ◌+◌, ℕ, List, Option, Some,
 ghost use Rattle.std.specs.Option.{option_map};
 ghost use Rattle.memory_image.specs.Image.{Span};
 ghost use Rattle.unwind_definitions.specs.Row.{covers_pc, row_at};
-ghost use Rattle.frame_rows.specs.Rows.{GivesRow, made};
+ghost use Rattle.frame_rows.specs.Rows.{GivesRow, row_in_place};
 ghost use Rattle.fde_finders.specs.Finding.{FoundFde};
-ghost use Rattle.fde_finders.specs.FoundViews.{answered};
+ghost use Rattle.fde_finders.specs.FoundViews.{found_fde_of};
 
 use eh_frame::{Bases, EhFrame, Error, Fde, RowRoom};
 use memory_image::{Ledger, MemoryImage, Steps};
@@ -31,8 +31,8 @@ impl<'a> FDESearchResult<'a> {
     ///
     /// The first fault of the row: those of [`Fde::unwind_info_for_address`].
     pub fn make_row(&self, address: u64, rows: &mut RowRoom<'a>) -> Result<(), Error>
-        ensures row { GivesRow (made result rows.new)
-            (row_at (answered self.now).bases (answered self.now).fde address) }
+        ensures row { GivesRow (row_in_place result rows.new)
+            (row_at (found_fde_of self.now).bases (found_fde_of self.now).fde address) }
     {
         self.fde
             .make_row(&self.eh_frame, &self.bases, address, rows)
@@ -71,7 +71,7 @@ pub trait FDEFinder {
         steps: &mut Steps<L>,
     ) -> Option<FDESearchResult<'a>>
         ensures found { (ticks : ℕ) × (steps.new.number ≡ steps.old.number + ticks) ×
-            finds self.now image.now pc (option_map answered result) ticks };
+            finds self.now image.now pc (option_map found_fde_of result) ticks };
 
     /// A description that is found contains the address.
     ghost contains: { (finder : Self) (image : List Span) (pc : ℕ) (found : FoundFde) (ticks : ℕ) →

@@ -2,7 +2,7 @@
 
 ghost use Rattle.std.specs.Prelude.{◌≡◌, ◌+◌, ℕ};
 ghost use Rattle.std.specs.Option.{option_map};
-ghost use Rattle.fde_finders.specs.FoundViews.{answered};
+ghost use Rattle.fde_finders.specs.FoundViews.{found_fde_of};
 ghost use Rattle.fde_finders.specs.InTurn.{FindsIfThere};
 ghost use Rattle.fde_finders.specs.Globally.{FindsInObjects, FindsInTurn};
 ghost use Rattle.fde_finders.specs.GlobalCovering.{in_turn_contains};
@@ -63,7 +63,7 @@ fn find_in_objects<'a, L: Ledger>(
     steps: &mut Steps<L>,
 ) -> Option<FDESearchResult<'a>>
     ensures { (ticks : ℕ) × (steps.new.number ≡ steps.old.number + ticks)
-        × FindsInObjects gnu.now phdr.now fixed.now image.now pc (option_map answered result)
+        × FindsInObjects gnu.now phdr.now fixed.now image.now pc (option_map found_fde_of result)
         ticks }
 {
     if let Some(found) = ask(gnu, image, pc, steps) {
@@ -83,7 +83,7 @@ fn ask<'a, F: FDEFinder, L: Ledger>(
     steps: &mut Steps<L>,
 ) -> Option<FDESearchResult<'a>>
     ensures { (ticks : ℕ) × (steps.new.number ≡ steps.old.number + ticks)
-        × FindsIfThere (λ f. F.finds f image.now pc) finder.now (option_map answered result) ticks }
+        × FindsIfThere (λ f. F.finds f image.now pc) finder.now (option_map found_fde_of result) ticks }
 {
     finder.as_ref()?.find_fde(image, pc, steps)
 }

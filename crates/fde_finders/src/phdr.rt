@@ -6,7 +6,7 @@ ghost use Rattle.std.specs.Option.{option_map};
 ghost use Rattle.memory_image.specs.Words.{u32_at, u64_at};
 ghost use Rattle.memory_image.specs.Image.{Span};
 ghost use Rattle.unwind_definitions.specs.HeaderSearch.{AreWithinDigits};
-ghost use Rattle.fde_finders.specs.FoundViews.{answered};
+ghost use Rattle.fde_finders.specs.FoundViews.{found_fde_of};
 ghost use Rattle.fde_finders.specs.Finding.{FoundFde};
 ghost use Rattle.fde_finders.specs.InTurn.{FindsAmong};
 ghost use Rattle.fde_finders.specs.TurnCovering.{objects_contain};
@@ -224,7 +224,7 @@ fn find_among<'a, L: Ledger>(
     steps: &mut Steps<L>,
 ) -> Option<FDESearchResult<'a>>
     ensures { (ticks : ℕ) × (steps.new.number ≡ steps.old.number + ticks)
-        × FindsAmong (FindsInObject image.now pc) objects.now (option_map answered result) ticks }
+        × FindsAmong (FindsInObject image.now pc) objects.now (option_map found_fde_of result) ticks }
 {
     for object in objects {
         if let Some(found) = find_in_object(object, image, pc, steps) {
@@ -241,7 +241,7 @@ fn find_in_object<'a, L: Ledger>(
     pc: u64,
     steps: &mut Steps<L>,
 ) -> Option<FDESearchResult<'a>>
-    ensures found { option_map answered result ≡ found_in_object image.now pc object.now }
+    ensures found { option_map found_fde_of result ≡ found_in_object image.now pc object.now }
     ensures ticks { (taken : ℕ) × (steps.new.number ≡ steps.old.number + taken)
         × AreWithinDigits (pairs_in_object image.now pc object.now) taken }
 {

@@ -3,7 +3,7 @@
 ghost use Rattle.std.specs.Prelude.{◌≡◌, ◌+◌, ◌∷◌, ◌==◌, ℕ, [], Bool, true, false, OnErr, OnOk, Ok};
 ghost use Rattle.std.specs.Prelude.{Option, if◌then◌else◌};
 ghost use Rattle.std.specs.Option.{option_map};
-ghost use Rattle.fde_finders.specs.FoundViews.{answered};
+ghost use Rattle.fde_finders.specs.FoundViews.{found_fde_of};
 ghost use Rattle.fde_finders.specs.InTurn.{FindsAmong};
 ghost use Rattle.fde_finders.specs.RegistryCovering.{registry_contains};
 ghost use Rattle.encoded_pointers.specs.PointerViews.{bases_of};
@@ -239,7 +239,7 @@ fn find_among<'a>(
     pc: u64,
 ) -> Option<FDESearchResult<'a>>
     ensures { FindsAmong (FindsRegistered image.now pc) objects.now.items
-        (option_map answered result) 0 }
+        (option_map found_fde_of result) 0 }
 {
     let mut i = 0;
     while i < objects.len() {
@@ -257,7 +257,7 @@ fn find_in_object<'a>(
     image: &MemoryImage<'a>,
     pc: u64,
 ) -> Option<FDESearchResult<'a>>
-    ensures { FindsByObject object.multiple object image.now pc (option_map answered result) }
+    ensures { FindsByObject object.multiple object image.now pc (option_map found_fde_of result) }
 {
     let known = relative_to(Some(object.tbase), Some(object.dbase));
     if object.multiple {
@@ -274,7 +274,7 @@ fn find_listed<'a>(
     pc: u64,
     known: &Bases,
 ) -> Option<FDESearchResult<'a>>
-    ensures { FindsListed (bases_of known.now) image.now begin pc (option_map answered result) }
+    ensures { FindsListed (bases_of known.now) image.now begin pc (option_map found_fde_of result) }
 {
     let mut place = begin;
     loop {

@@ -8,11 +8,11 @@ ghost use Rattle.unwind_definitions.specs.LanguageTable.{input_at};
 ghost use Rattle.encoded_pointers.specs.PointerViews.{bases_of, pointer_of};
 ghost use Rattle.eh_frame.specs.EntryViews.{fde_of, table_of};
 ghost use Rattle.eh_frame.specs.HeaderViews.{header_of, pairs_of};
-ghost use Rattle.fde_finders.specs.FoundViews.{answered};
+ghost use Rattle.fde_finders.specs.FoundViews.{found_fde_of};
 ghost use Rattle.fde_finders.specs.Finding.{found_in, relative_to, scanned_by, scanned_in};
 ghost use Rattle.fde_finders.specs.FrameTables.{table_by_header};
 ghost use Rattle.fde_finders.specs.NamedTables.{named_of};
-ghost use Rattle.fde_finders.specs.HeaderFinding.{by_table, found_by_header, led_address, listed};
+ghost use Rattle.fde_finders.specs.HeaderFinding.{by_table, found_by_header, led_address, fde_by_table};
 ghost use Rattle.fde_finders.specs.HeaderFinding.{pairs_by_header, pairs_in};
 
 use crate::find_fde::FDESearchResult;
@@ -42,7 +42,7 @@ pub(crate) fn scan<'a>(
     known: &Bases,
     table: u64,
 ) -> Option<FDESearchResult<'a>>
-    ensures { option_map answered result ≡ scanned_by (bases_of known.now) image.now table pc }
+    ensures { option_map found_fde_of result ≡ scanned_by (bases_of known.now) image.now table pc }
 {
     let bases = Bases {
         frame: Some(table),
@@ -70,7 +70,7 @@ pub(crate) fn search_header<'a, L: Ledger>(
     header: u64,
     steps: &mut Steps<L>,
 ) -> Option<FDESearchResult<'a>>
-    ensures found { option_map answered result ≡ found_by_header (bases_of known.now) image.now
+    ensures found { option_map found_fde_of result ≡ found_by_header (bases_of known.now) image.now
         header pc }
     ensures ticks { (taken : ℕ) × (steps.new.number ≡ steps.old.number + taken)
         × AreWithinDigits (pairs_by_header (bases_of known.now) image.now header) taken }
@@ -113,12 +113,12 @@ fn search_table<'a, L: Ledger>(
     pc: u64,
     steps: &mut Steps<L>,
 ) -> Option<FDESearchResult<'a>>
-    ensures found { option_map answered result ≡ by_table (bases_of bases)
+    ensures found { option_map found_fde_of result ≡ by_table (bases_of bases)
         (table_of eh_frame.entry) pc (option_map pairs_of table.entry) }
     ensures ticks { (taken : ℕ) × (steps.new.number ≡ steps.old.number + taken)
         × AreWithinDigits (pairs_in (option_map pairs_of table.entry)) taken }
 {
-    let fde = match listed(table, &eh_frame, &bases, pc, steps) {
+    let fde = match listed_fde(table, &eh_frame, &bases, pc, steps) {
         Some(fde) => fde,
         None => eh_frame.fde_for_address(&bases, pc).ok()?,
     };
@@ -130,14 +130,14 @@ fn search_table<'a, L: Ledger>(
 }
 
 // The description that a header's table finds, where there is a table and it gives no error.
-fn listed<'a, L: Ledger>(
+fn listed_fde<'a, L: Ledger>(
     table: Option<HdrTable<'a>>,
     eh_frame: &EhFrame<'a>,
     bases: &Bases,
     pc: u64,
     steps: &mut Steps<L>,
 ) -> Option<Fde<'a>>
-    ensures found { option_map fde_of result ≡ listed (bases_of bases.now)
+    ensures found { option_map fde_of result ≡ fde_by_table (bases_of bases.now)
         (table_of eh_frame.now) pc (option_map pairs_of table.entry) }
     ensures ticks { (taken : ℕ) × (steps.new.number ≡ steps.old.number + taken)
         × AreWithinDigits (pairs_in (option_map pairs_of table.entry)) taken }

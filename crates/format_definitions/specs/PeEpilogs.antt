@@ -40,9 +40,9 @@ AreSpelled frame allowed (code ∷ codes) (i ∷ is) = IsInstruction frame allow
 AreSpelled frame allowed [] (i ∷ is) = ⊥
 AreSpelled frame allowed (code ∷ codes) [] = ⊥
 
-abbrev pub joined : List (List ℕ) → List ℕ
-joined [] = []
-joined (code ∷ codes) = code ++ joined codes
+abbrev pub concatenation : List (List ℕ) → List ℕ
+concatenation [] = []
+concatenation (code ∷ codes) = code ++ concatenation codes
 
 -- ---- where a state stands
 
@@ -84,12 +84,12 @@ pub record StandsInEpilog (image : List Span) (m : PeModule) (function : Runtime
   pub terminator : List ℕ
   pub rest : List ℕ
   pub beyond : List ℕ
-  pub mapped : memory_of image m.base (s.ra - m.base) ≡ Some ((joined codes ++ (terminator ++ rest)) ++ beyond)
-  pub up_to_end : length (joined codes ++ (terminator ++ rest)) ≡ f.end - s.ra
+  pub mapped : memory_of image m.base (s.ra - m.base) ≡ Some ((concatenation codes ++ (terminator ++ rest)) ++ beyond)
+  pub up_to_end : length (concatenation codes ++ (terminator ++ rest)) ≡ f.end - s.ra
   pub spelled : AreSpelled (frame_register_of d.first.header) true codes todo
   pub ends : IsTerminator terminator
   -- the epilog's first byte; where epilog operations tell of epilogs, they list this one with its whole size
   pub from : ℕ
   pub begins : f.start ≤ from
   pub begun : from ≤ s.ra
-  pub listed : (leading_epilogs (operations_in d.first) ≡ []) ⊎ Lists (f.end - from) ((s.ra - from) + length (joined codes ++ terminator)) (leading_epilogs (operations_in d.first))
+  pub listed : (leading_epilogs (operations_in d.first) ≡ []) ⊎ Lists (f.end - from) ((s.ra - from) + length (concatenation codes ++ terminator)) (leading_epilogs (operations_in d.first))

@@ -19,7 +19,7 @@ use Rattle.pe_unwind_info.specs.Info.{Info}
 use Rattle.pe_unwind_info.specs.InfoOperations.{operations_in}
 use Rattle.pe_unwind_info.specs.Operations.{First, first_of}
 use Rattle.format_definitions.specs.PeImage.{PeModule, memory_of, table_of}
-use Rattle.format_definitions.specs.PeUndoing.{undo, placed, Grouped, IsFrameOffset, Names}
+use Rattle.format_definitions.specs.PeUndoing.{undo, undo_at_end, Grouped, IsFrameOffset, Names}
 
 -- ---- the slots of a record
 
@@ -84,7 +84,7 @@ pub record DescribesRecord (image : List Span) (m : PeModule) (function : Runtim
   pub prologue : f.prologue ≡ inherited ++ own
   pub inherited_ends : AllByRecursion (λ (p : PrologueStep). p.end ≡ 0) inherited
   pub own_ends : Ascend 0 (ends_of own)
-  pub undoes_own : behind_epilogs (operations_in first) ≡ map placed (reverse own)
+  pub undoes_own : behind_epilogs (operations_in first) ≡ map undo_at_end (reverse own)
   pub undoes_inherited : all_operations chained ≡ map undo (reverse (steps_of inherited))
   pub grouped : Grouped (steps_of f.prologue)
   pub frame_offset : IsFrameOffset grouped.set

@@ -34,8 +34,8 @@ undo (SetFrame m) = RestoreSPFromFP
 undo (Store r k) = undo_store r k
 
 -- the same with the offset at which the step has ended
-abbrev pub placed : PrologueStep → Placed
-placed p = (p.end, undo p.step)
+abbrev pub undo_at_end : PrologueStep → Placed
+undo_at_end p = (p.end, undo p.step)
 
 -- ---- the order of a prologue
 

@@ -10,7 +10,7 @@ use Rattle.unwind_arch.specs.ContextViews.{columns_of}
 use Rattle.pe_unwind_info.specs.declared.x86_64.registers.Register.{Register}
 use Rattle.pe_unwind_info.specs.declared.x86_64.registers.Register.TheVariants as pe
 use Rattle.pe_unwind_info.specs.Registers.{register_number}
-use Rattle.pe_unwind_info.specs.Machine.{changed}
+use Rattle.pe_unwind_info.specs.Machine.{map_with}
 use Rattle.format_definitions.specs.CompactStep.{with_column}
 use Rattle.format_definitions.specs.PeRegisters.{column_at, number_at, registers_in, columns_with}
 use Rattle.format_frames.proofs.Written.{register_columns}
@@ -99,7 +99,7 @@ register_read c r k at =
     ap (slice_index c.registers) at ∙ sym (ap (λ (o : Option ℕ). unwrap_or o 0) (general_column c (column_at (register_number r)) facts.0))
 
 pub register_written : (c : Context) (r : Register) (k v : ℕ) → k ≡ column_at (register_number r) → length c.registers ≡ 16 →
-    (registers_in (columns_of (record c { registers = slice_set c.registers k v }))).general ≡ changed (registers_in (columns_of c)).general (register_number r) v
+    (registers_in (columns_of (record c { registers = slice_set c.registers k v }))).general ≡ map_with (registers_in (columns_of c)).general (register_number r) v
 register_written c r k v at all = λ i n. each n i
   where
     small : k < 16
@@ -108,10 +108,10 @@ register_written c r k v at all = λ i n. each n i
     with : Columns → ℕ → ℕ
     with columns n = (registers_in columns).general n
 
-    each : (n : ℕ) → (registers_in (columns_of (record c { registers = slice_set c.registers k v }))).general n ≡ changed (registers_in (columns_of c)).general (register_number r) v n
+    each : (n : ℕ) → (registers_in (columns_of (record c { registers = slice_set c.registers k v }))).general n ≡ map_with (registers_in (columns_of c)).general (register_number r) v n
     each n =
         ap (λ (columns : Columns). (registers_in columns).general n) (register_columns c k v small all)
-        ∙ elim (eqb_tells n (register_number r)) as (λ t. (registers_in (with_column (columns_of c) k v)).general n ≡ changed (registers_in (columns_of c)).general (register_number r) v n) [
+        ∙ elim (eqb_tells n (register_number r)) as (λ t. (registers_in (with_column (columns_of c) k v)).general n ≡ map_with (registers_in (columns_of c)).general (register_number r) v n) [
           | inl e ↦ let same : eqb (column_at n) k ≡ true = rw (e.1, at) (elim (eqb_tells (column_at (register_number r)) (column_at (register_number r))) as (λ t. eqb (column_at (register_number r)) (column_at (register_number r)) ≡ true) [
             | inl s ↦ s.0
             | inr o ↦ absurd (o.1 refl)

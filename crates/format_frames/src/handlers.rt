@@ -29,8 +29,8 @@ fn names_handler(info: &UnwindInfo<'_>) -> bool
     info.flags_raw() % 4 != 0
 }
 
-// the function whose record goes on behind this one
-fn chained(info: &UnwindInfo<'_>) -> Option<RuntimeFunction>
+// the function whose record goes on after this one
+fn chained_function(info: &UnwindInfo<'_>) -> Option<RuntimeFunction>
     ensures { result ≡ chained_of (info_of info.now) }
 {
     match info.trailer() {
@@ -66,7 +66,7 @@ fn handler_in(
         };
         let info = info_at(image, base, function.unwind_info_address)?;
         named = named || names_handler(&info);
-        next = chained(&info);
+        next = chained_function(&info);
     }
     match next {
         Some(_) => Err(FrameFault::ChainLimit),

@@ -1,6 +1,7 @@
 // What a step gives, and the machine that is unwound in a PE module.
 ghost use Rattle.std.specs.Prelude.{◌≡◌, ◌<◌};
 ghost use Rattle.memory_image.specs.Image.{word_at};
+ghost use Rattle.unwind_definitions.specs.LanguageSearch.{address_of_call};
 ghost use Rattle.format_definitions.specs.PeRegisters.{column_at};
 ghost use Rattle.pe_unwind_info.specs.Registers.{register_number};
 
@@ -10,16 +11,25 @@ use pe_unwind_info::x86_64::{Register, UnwindState, XmmRegister};
 use unwind_arch::x86_64::{
     Context, R8, R9, R10, R11, R12, R13, R14, R15, RAX, RBP, RBX, RCX, RDI, RDX, RSI, RSP,
 };
-use unwinding_frames::Window;
+use unwinding_frames::{Window, address_asked};
 
-/// A caller's registers, as a step leaves them.
+/// A state of the stack with its mark, as a step leaves it: a caller's registers.
 #[derive(Clone, Copy, Debug, PartialEq, Eq)]
 pub struct Stepped {
     /// The registers of the caller.
     pub context: Context,
-    /// Whether the frame that was left is a signal's, so that the caller stands before the
+    /// Whether the frame that was left is a signal frame, so that the caller stands before the
     /// instruction at its return address and not after a call.
     pub signal: bool,
+}
+
+impl Stepped {
+    /// The address that is asked of the frame: that of its instruction, or of a byte of its call.
+    pub fn address(&self) -> u64
+        ensures { result ≡ address_of_call self.now.context.ra self.now.signal }
+    {
+        address_asked(self.context.ra, self.signal)
+    }
 }
 
 // a register's place among a context's, which is its column

@@ -6,7 +6,7 @@ ghost use Rattle.unwind_arch.specs.ContextViews.{columns_of};
 ghost use Rattle.format_definitions.specs.PeImage.{memory_of, first_bytes, table_of};
 ghost use Rattle.format_definitions.specs.PeRegisters.{registers_in};
 ghost use Rattle.format_definitions.specs.PeStep.{columns_at, pe_step};
-ghost use Rattle.pe_unwind_info.specs.FrameOf.{framed};
+ghost use Rattle.pe_unwind_info.specs.FrameOf.{frame_end_of};
 ghost use Rattle.pe_unwind_info.specs.FunctionTable.{table_bytes, functions_of, lookup_of};
 ghost use Rattle.format_frames.specs.Modules.{pe_module};
 ghost use Rattle.format_frames.specs.Refusals.{address_in, frame_given, frame_refusal};
@@ -122,7 +122,7 @@ fn caller_by(
 ) -> Result<Context, FrameFault>
     requires { ForSome function (λ function. function.begin_address ≤ rva) }
     ensures { frame_given result ≡ columns_at (columns_of context.now)
-        (framed (memory_of stack.now base) (word_at stack.now) rva function
+        (frame_end_of (memory_of stack.now base) (word_at stack.now) rva function
         (registers_in (columns_of context.now))) }
 {
     let mut machine = Machine {
@@ -160,7 +160,7 @@ pub fn pe_caller(
 ) -> Result<Context, FrameError>
     ensures caller { pe_given result ≡ pe_due (pe_module module.now) rva
         (columns_at (columns_of context.now)
-        (framed (memory_of stack.old module.now.base) (word_at stack.old) rva
+        (frame_end_of (memory_of stack.old module.now.base) (word_at stack.old) rva
         (lookup_of (functions_of (table_bytes functions.now)) rva)
         (registers_in (columns_of context.now)))) }
     ensures same { stack.new ≡ stack.old }

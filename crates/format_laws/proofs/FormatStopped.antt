@@ -18,7 +18,7 @@ use Rattle.pe_unwind_info.specs.declared.x86_64.function_table.RuntimeFunction.{
 use Rattle.pe_unwind_info.specs.declared.x86_64.epilog.FunctionEpilogInstruction.{FunctionEpilogInstruction}
 use Rattle.format_definitions.specs.PeImage.{PeModule}
 use Rattle.format_definitions.specs.PeModules.{DescribesLeaf, HasRecord}
-use Rattle.format_definitions.specs.PeEpilogs.{joined, StandsAt, before_add, before_lea, before_pops, StandsInEpilog}
+use Rattle.format_definitions.specs.PeEpilogs.{concatenation, StandsAt, before_add, before_lea, before_pops, StandsInEpilog}
 use Rattle.format_definitions.specs.FormatModules.{FormatModule, Elf, Macho, Pe, in_format, convention_of, part_of, DescribesFormat, IsFormatChain}
 use Rattle.format_definitions.specs.FormatProcess.{FormatsApart}
 use Rattle.format_definitions.specs.FormatStep.{format_step, format_line}
@@ -58,7 +58,7 @@ module _ (image : List Span) (s : State) (c : Call) where
   epilog_lies m table r st =
       let some = terminator_length st.terminator st.ends in
       let up = st.up_to_end in
-      let long = length-append (joined st.codes) (st.terminator ++ st.rest) in
+      let long = length-append (concatenation st.codes) (st.terminator ++ st.rest) in
       let long' = length-append st.terminator st.rest in
       let low = st.begins in let here = st.begun in
       (omega arith, omega arith)

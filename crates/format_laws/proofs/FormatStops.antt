@@ -9,7 +9,7 @@ use Rattle.unwind_laws.specs.Three as three
 use Rattle.unwind_laws.proofs.Booleans.{pairs_one}
 use Rattle.unwind_laws.proofs.RowFacts.{by_register, state_fits}
 use Rattle.unwind_laws.proofs.ThreeValid.{function_b}
-use Rattle.pe_unwind_info.specs.Epilog.{parsed, sequence_from}
+use Rattle.pe_unwind_info.specs.Epilog.{parsed_instruction, sequence_from}
 use Rattle.pe_unwind_info.specs.EpilogList.{leading_epilogs}
 use Rattle.pe_unwind_info.specs.Operations.{operations_of}
 use Rattle.format_definitions.specs.PeImage.{memory_of}
@@ -72,7 +72,7 @@ pushed_stands = record {
 }
 
 quiet_here : IsInNoEpilog (memory_of room_image 0x140000000) loop_record room_info 0x1001
-unfolding parsed sequence_from leading_epilogs operations_of
+unfolding parsed_instruction sequence_from leading_epilogs operations_of
 quiet_here = quiet_at (memory_of room_image 0x140000000) loop_record room_info 0x1001 refl
 
 pub pe_prologue : IsFormatStop room_image modules functions pushed_room caught_pushing

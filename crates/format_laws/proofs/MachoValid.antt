@@ -2,7 +2,7 @@
 use Rattle.std.proofs.Common.{◌≡◌, ◌≢◌, ℕ, zero, suc, ◌+◌, ◌*◌, ◌≤◌, false, List, [], ◌∷◌, Option, Some, None, Result, Ok, Err, refl, ap, sym, subst, arith, lit<, lit≤, ◌∙◌}
 use Rattle.std.specs.Prelude.{IsTrue, slice_get}
 use Rattle.std.specs.List.{AllPairs, list_any}
-use Rattle.memory_image.specs.Halving.{halved, boundary_of}
+use Rattle.memory_image.specs.Halving.{place_by_halving, boundary_of}
 use Rattle.memory_image.specs.Image.{Span, table_at, half_at, word_at}
 use Rattle.unwind_definitions.specs.Entries.{AFde, entry_at}
 use Rattle.unwind_definitions.specs.LanguageTable.{input_at}
@@ -170,16 +170,16 @@ framed_caller_fits = state_fits framed_caller (lit< tt) (lit< tt) (lit< tt) (lit
 -- ---- steps, computed
 
 pub frameless_step : GivesState (macho_step image sample_module 0x100f (columns_of frameless_state)) frameless_caller
-unfolding word_at lookup_of halved boundary_of
+unfolding word_at lookup_of place_by_halving boundary_of
 frameless_step = record { caller = _; answered = refl; shows = record { ra = refl; sp = refl; saved = by_register (λ q. _ ≡ Some (value_of q frameless_caller)) refl refl refl refl refl refl } }
 
 pub framed_step : GivesState (macho_step image sample_module 0x200f (columns_of framed_state)) framed_caller
-unfolding word_at lookup_of halved boundary_of
+unfolding word_at lookup_of place_by_halving boundary_of
 framed_step = record { caller = _; answered = refl; shows = record { ra = refl; sp = refl; saved = by_register (λ q. _ ≡ Some (value_of q framed_caller)) refl refl refl refl refl refl } }
 
 -- the same where an entry after it names an opcode that isn't there
 pub damaged_step : GivesState (macho_step damaged_image sample_module 0x100f (columns_of frameless_state)) frameless_caller
-unfolding word_at lookup_of halved boundary_of
+unfolding word_at lookup_of place_by_halving boundary_of
 damaged_step = record { caller = _; answered = refl; shows = record { ra = refl; sp = refl; saved = by_register (λ q. _ ≡ Some (value_of q frameless_caller)) refl refl refl refl refl refl } }
 
 -- what holds of a value that there is

@@ -2,7 +2,7 @@
 use Rattle.std.proofs.Common.{◌≡◌, ℕ, zero, suc, ◌+◌, ◌-◌, Bool, true, false, leb, ltb, ◌&&◌, List, [], ◌∷◌, ◌++◌, Option, Some, None, refl, arith, inl, lit<, lit≤}
 use Rattle.std.specs.Prelude.{◌≢◌, IsTrue, is_some}
 use Rattle.std.proofs.lemmas.Bool.{leb-true, ltb-true}
-use Rattle.memory_image.specs.Halving.{halved, boundary_of}
+use Rattle.memory_image.specs.Halving.{place_by_halving, boundary_of}
 use Rattle.memory_image.specs.Image.{Span, byte_at, word_at}
 use Rattle.unwind_definitions.specs.State.{RBX, value_of, IsState}
 use Rattle.unwind_definitions.specs.Prologue.{Windows, Followed, RSI, XMM, Allocate, Store, steps_of, distance}
@@ -14,10 +14,10 @@ use Rattle.unwind_laws.proofs.WindowsEntered.{windows_function}
 use Rattle.unwind_laws.proofs.Booleans.{both_true, either_false}
 use Rattle.unwind_laws.proofs.RowFacts.{by_register, state_fits}
 use Rattle.pe_unwind_info.specs.Chain.{chain_of}
-use Rattle.pe_unwind_info.specs.Epilog.{parsed, sequence_from}
+use Rattle.pe_unwind_info.specs.Epilog.{parsed_instruction, sequence_from}
 use Rattle.pe_unwind_info.specs.EpilogList.{leading_epilogs, behind_epilogs, any_lists, is_due}
 use Rattle.pe_unwind_info.specs.Frame.{from_place}
-use Rattle.pe_unwind_info.specs.FrameOf.{tested, linked}
+use Rattle.pe_unwind_info.specs.FrameOf.{epilog_if_tested, end_of_chain}
 use Rattle.pe_unwind_info.specs.FunctionTable.{lookup_of}
 use Rattle.pe_unwind_info.specs.Header.{frame_register_of}
 use Rattle.pe_unwind_info.specs.InfoOperations.{operations_in}
@@ -62,10 +62,10 @@ unfolding all_mapped
 xmm_mapped = is_mapped chained_image 0x7fd0 16 refl
 
 abbrev test : ℕ → Bool
-test a = finds_none (tested (is_due 0x1100 a (leading_epilogs (operations_in chained_info))) (memory_of chained_image 0x140000000) (frame_register_of chained_info.header) 0x1100 a)
+test a = finds_none (epilog_if_tested (is_due 0x1100 a (leading_epilogs (operations_in chained_info))) (memory_of chained_image 0x140000000) (frame_register_of chained_info.header) 0x1100 a)
 
 tests : all_from 0x1018 232 test ≡ true
-unfolding parsed sequence_from leading_epilogs operations_of
+unfolding parsed_instruction sequence_from leading_epilogs operations_of
 tests = refl
 
 pub quiet : (pc : ℕ) → IsTrue (in_body windows.function pc) → IsInNoEpilog (memory_of chained_image 0x140000000) loop_record chained_info (pc - 0x140000000)
@@ -127,5 +127,5 @@ pub caller_fits : IsState windows.caller
 caller_fits = state_fits windows.caller (lit< tt) (lit< tt) (lit< tt) (lit< tt) (lit< tt) (lit< tt) (lit< tt) (lit< tt)
 
 pub computed : GivesState (pe_step chained_image module_of_one 0x101f (columns_of windows.start)) windows.caller
-unfolding word_at chain_of operations_of behind_epilogs leading_epilogs any_lists parsed sequence_from from_place linked run epilog_run lookup_of halved boundary_of
+unfolding word_at chain_of operations_of behind_epilogs leading_epilogs any_lists parsed_instruction sequence_from from_place end_of_chain run epilog_run lookup_of place_by_halving boundary_of
 computed = record { caller = _; answered = refl; shows = record { ra = refl; sp = refl; saved = by_register (λ q. _ ≡ Some (value_of q windows.caller)) refl refl refl refl refl refl } }

@@ -23,7 +23,7 @@ use Rattle.pe_unwind_info.specs.Epilog.{Sequence, sequence_of}
 use Rattle.pe_unwind_info.specs.EpilogGrammar.{IsPrefix, IsTerminator, ret, short_jump, near_jump, memory_jump, IsRun, IsEpilog}
 use Rattle.pe_unwind_info.specs.EpilogList.{leading_epilogs, is_within, lists, any_lists, lists_last, is_due}
 use Rattle.pe_unwind_info.specs.Frame.{epilog_or_none, epilog_in}
-use Rattle.pe_unwind_info.specs.FrameOf.{Image, tested, by_test, in_record}
+use Rattle.pe_unwind_info.specs.FrameOf.{Image, epilog_if_tested, by_test, in_record}
 use Rattle.pe_unwind_info.specs.Header.{frame_register_of}
 use Rattle.pe_unwind_info.specs.Info.{Info}
 use Rattle.pe_unwind_info.specs.InfoOperations.{operations_in}
@@ -35,7 +35,7 @@ use Rattle.format_definitions.specs.PeImage.{PeModule, memory_of}
 use Rattle.format_definitions.specs.PeRegisters.{number_of, ShowsRegisters, KeepsScratch}
 use Rattle.format_definitions.specs.PeUndoing.{general_of, undo, IsPushOrAllocation, set_step, Names}
 use Rattle.format_definitions.specs.PeModules.{DescribesRecord}
-use Rattle.format_definitions.specs.PeEpilogs.{AreSpelled, joined, pops, StandsAt, before_add, before_lea, before_pops, Lists, last, other, StandsInEpilog}
+use Rattle.format_definitions.specs.PeEpilogs.{AreSpelled, concatenation, pops, StandsAt, before_add, before_lea, before_pops, Lists, last, other, StandsInEpilog}
 use Rattle.format_laws.specs.PeUndone.{FrameUndone}
 use Rattle.format_laws.proofs.PeMachine.{set_other, not_sp, scratch_not, act_by, run_by, goes_same, leaves_append, stack_append, stack_falls}
 use Rattle.format_laws.proofs.PeBack.{no_frame, PopsBack, pops_back}
@@ -54,9 +54,9 @@ terminator_length code (near_jump {prefix} {bit} p next) = prefix_length prefix 
 terminator_length code (memory_jump {prefix} {bit} p modrm h) = prefix_length prefix bit (0xff ∷ modrm ∷ []) p (omega arith)
 
 -- codes are a run of the grammar
-runs : (frame : Option Register) (allowed : Bool) (codes : List (List ℕ)) (is : List FunctionEpilogInstruction) (rest : List ℕ) → AreSpelled frame allowed codes is → IsRun frame allowed (joined codes ++ rest) is rest
+runs : (frame : Option Register) (allowed : Bool) (codes : List (List ℕ)) (is : List FunctionEpilogInstruction) (rest : List ℕ) → AreSpelled frame allowed codes is → IsRun frame allowed (concatenation codes ++ rest) is rest
 runs frame allowed [] [] rest spelled = refl
-runs frame allowed (code ∷ codes) (i ∷ is) rest spelled = (joined codes ++ rest, (code, append_assoc code (joined codes) rest, spelled.0), runs frame false codes is rest spelled.2)
+runs frame allowed (code ∷ codes) (i ∷ is) rest spelled = (concatenation codes ++ rest, (code, append_assoc code (concatenation codes) rest, spelled.0), runs frame false codes is rest spelled.2)
 runs frame allowed [] (i ∷ is) rest spelled = absurd spelled
 runs frame allowed (code ∷ codes) [] rest spelled = absurd spelled
 
@@ -252,7 +252,7 @@ module _ (image : List Span) (m : PeModule) (function : RuntimeFunction) (f : Fu
       (subst (λ l. AllPairs Apart (saves l)) steps_are is.prologue.once)
 
   abbrev bytes : List ℕ
-  bytes = joined st.codes ++ (st.terminator ++ st.rest)
+  bytes = concatenation st.codes ++ (st.terminator ++ st.rest)
 
   reads : sequence_of register bytes ≡ Ok st.todo
   reads =
@@ -266,14 +266,14 @@ module _ (image : List Span) (m : PeModule) (function : RuntimeFunction) (f : Fu
       let memory : Image = memory_of image m.base in
       let starts = d.start in let ends = d.end in let from = st.begins in let at = st.begun in
       let some : 0 < length st.terminator = terminator_length st.terminator st.ends in
-      let long = length-append (joined st.codes) (st.terminator ++ st.rest) in
+      let long = length-append (concatenation st.codes) (st.terminator ++ st.rest) in
       let long' = length-append st.terminator st.rest in
-      let long'' = length-append (joined st.codes) st.terminator in
+      let long'' = length-append (concatenation st.codes) st.terminator in
       let up = st.up_to_end in
       let end_is : function.end_address - a ≡ f.end - s.ra = omega arith in
       let length_is : length bytes ≡ function.end_address - a = st.up_to_end ∙ sym end_is in
       let is_due_here : is_due function.end_address a (leading_epilogs (operations_in d.first)) ≡ true =
-      due function.end_address a (f.end - st.from) ((s.ra - st.from) + length (joined st.codes ++ st.terminator)) (leading_epilogs (operations_in d.first)) st.listed (omega arith) (omega arith) in
+      due function.end_address a (f.end - st.from) ((s.ra - st.from) + length (concatenation st.codes ++ st.terminator)) (leading_epilogs (operations_in d.first)) st.listed (omega arith) (omega arith) in
       let not_past : ltb function.end_address a ≡ false = le-ltb function.end_address a (omega arith) in
       let enough : ltb (length (bytes ++ st.beyond)) (function.end_address - a) ≡ false = le-ltb (length (bytes ++ st.beyond)) (function.end_address - a) (omega (arith, length-append bytes st.beyond, length_is)) in
       let taken : take (function.end_address - a) (bytes ++ st.beyond) ≡ bytes = ap (λ n. take n (bytes ++ st.beyond)) (sym length_is) ∙ take_all bytes st.beyond in
@@ -281,8 +281,8 @@ module _ (image : List Span) (m : PeModule) (function : RuntimeFunction) (f : Fu
       let answer : Sequence → Result (Option (List FunctionEpilogInstruction)) FrameFault = λ r. Ok (epilog_or_none r) in
       let tested_is : epilog_in register function.end_address a (memory a) ≡ Ok (Some st.todo) =
       (ap (epilog_in register function.end_address a) st.mapped ∙ rw (not_past, enough) (ap (λ l. answer (sequence_of register l)) taken ∙ ap answer reads)) in
-      let test : tested (is_due function.end_address a (leading_epilogs (operations_in d.first))) memory register function.end_address a ≡ Ok (Some st.todo) =
-      (ap (λ b. tested b memory register function.end_address a) is_due_here ∙ tested_is) in
+      let test : epilog_if_tested (is_due function.end_address a (leading_epilogs (operations_in d.first))) memory register function.end_address a ≡ Ok (Some st.todo) =
+      (ap (λ b. epilog_if_tested b memory register function.end_address a) is_due_here ∙ tested_is) in
       record {
         after = last_registers image t words st.room st.returns done.after done.sp;
         is = ap (λ (r : Result Info FrameFault). in_record memory stack a function r regs) d.reads

@@ -17,11 +17,11 @@ use Rattle.pe_unwind_info.specs.declared.x86_64.function_table.RuntimeFunction.{
 use Rattle.pe_unwind_info.specs.declared.x86_64.epilog.FunctionEpilogInstruction.{FunctionEpilogInstruction}
 use Rattle.pe_unwind_info.specs.declared.x86_64.operations.UnwindOperation.{UnwindOperation}
 use Rattle.pe_unwind_info.specs.declared.x86_64.registers.Register.{Register}
-use Rattle.pe_unwind_info.specs.Chain.{headed, operations_of_all, operations_at, run_headed}
+use Rattle.pe_unwind_info.specs.Chain.{headed_operations, operations_of_all, operations_at, run_headed}
 use Rattle.pe_unwind_info.specs.Epilog.{Sequence, sequence_of}
 use Rattle.pe_unwind_info.specs.EpilogList.{leading_epilogs, behind_epilogs, is_due}
 use Rattle.pe_unwind_info.specs.Frame.{operations_alone, from_place, epilog_or_none, epilog_in}
-use Rattle.pe_unwind_info.specs.FrameOf.{Image, tested}
+use Rattle.pe_unwind_info.specs.FrameOf.{Image, epilog_if_tested}
 use Rattle.pe_unwind_info.specs.Header.{frame_register_of}
 use Rattle.pe_unwind_info.specs.Info.{Info}
 use Rattle.pe_unwind_info.specs.InfoOperations.{operations_in}
@@ -31,7 +31,7 @@ use Rattle.pe_unwind_info.proofs.ChainLemmas.{run_of_both, frame_is_run}
 use Rattle.pe_unwind_info.proofs.EpilogSequences.{sequence_is}
 use Rattle.format_definitions.specs.PeImage.{PeModule, memory_of}
 use Rattle.format_definitions.specs.PeRegisters.{number_of, ShowsRegisters, KeepsScratch}
-use Rattle.format_definitions.specs.PeUndoing.{undo, placed, set_step, IsFrameOffset, Names}
+use Rattle.format_definitions.specs.PeUndoing.{undo, undo_at_end, set_step, IsFrameOffset, Names}
 use Rattle.format_definitions.specs.PeModules.{all_operations, BeginsWithNoEpilog, IsInNoEpilog, DescribesRecord}
 use Rattle.format_laws.specs.PeUndone.{FrameUndone}
 use Rattle.format_laws.proofs.PeMachine.{set_other, not_sp, scratch_not, FrameBase, frame_named, run_by, run_both, goes_same, headed_run, return_read}
@@ -44,7 +44,7 @@ unfolding run_headed
 all_run set stack [] regs names = refl
 all_run set stack (info ∷ infos) regs names =
     let own : List UnwindOperation = operations_alone (operations_in info) in
-    run_of_both stack (headed info own) (operations_of_all infos) regs
+    run_of_both stack (headed_operations info own) (operations_of_all infos) regs
     ∙ ap (λ (x : After). then_goes x (run_headed stack (operations_of_all infos))) (headed_run set info stack own regs names.0)
     ∙ goes_same (run_by (frame_named set) stack own regs) (run_headed stack (operations_of_all infos)) (run_by (frame_named set) stack (all_operations infos)) (λ after. all_run set stack infos after names.1)
     ∙ sym (run_both (frame_named set) stack own (all_operations infos) regs)
@@ -53,7 +53,7 @@ chain_run : (set : Option ℕ) (stack : Stack) (offset : ℕ) (first : Info) (ch
     run_headed stack (operations_at offset first chained) regs ≡ run_by (frame_named set) stack (operations_alone (from_place offset (behind_epilogs (operations_in first))) ++ all_operations chained) regs
 chain_run set stack offset first chained regs names =
     let own : List UnwindOperation = operations_alone (from_place offset (behind_epilogs (operations_in first))) in
-    run_of_both stack (headed first own) (operations_of_all chained) regs
+    run_of_both stack (headed_operations first own) (operations_of_all chained) regs
     ∙ ap (λ (x : After). then_goes x (run_headed stack (operations_of_all chained))) (headed_run set first stack own regs names.0)
     ∙ goes_same (run_by (frame_named set) stack own regs) (run_headed stack (operations_of_all chained)) (run_by (frame_named set) stack (all_operations chained)) (λ after. all_run set stack chained after names.1)
     ∙ sym (run_both (frame_named set) stack own (all_operations chained) regs)
@@ -74,11 +74,11 @@ begins_with_none memory frame end a b =
     (ap some (no_epilog_in frame code (sequence_of frame code) refl (λ is e. let epilog = (sequence.epilog is).0 e in b.none is epilog.0 epilog.1)))
 
 pub not_tested : (memory : Image) (function : RuntimeFunction) (first : Info) (a : ℕ) → IsInNoEpilog memory function first a →
-    tested (is_due function.end_address a (leading_epilogs (operations_in first))) memory (frame_register_of first.header) function.end_address a ≡ Ok None
-not_tested memory function first a (inl not_due) = ap (λ due. tested due memory (frame_register_of first.header) function.end_address a) not_due
+    epilog_if_tested (is_due function.end_address a (leading_epilogs (operations_in first))) memory (frame_register_of first.header) function.end_address a ≡ Ok None
+not_tested memory function first a (inl not_due) = ap (λ due. epilog_if_tested due memory (frame_register_of first.header) function.end_address a) not_due
 not_tested memory function first a (inr none) = go (is_due function.end_address a (leading_epilogs (operations_in first)))
   where
-    go : (due : Bool) → tested due memory (frame_register_of first.header) function.end_address a ≡ Ok None
+    go : (due : Bool) → epilog_if_tested due memory (frame_register_of first.header) function.end_address a ≡ Ok None
     go true = begins_with_none memory (frame_register_of first.header) function.end_address a none
     go false = refl
 
@@ -93,24 +93,24 @@ map_reverse f [] = refl
 map_reverse f (x ∷ xs) = ap (map f) (reverse_onto xs x []) ∙ map_append f (reverse xs) (x ∷ []) ∙ ap (λ l. l ++ f x ∷ []) (map_reverse f xs) ∙ sym (reverse_onto (map f xs) (f x) [])
 
 -- those after the offset are passed, up to the first that isn't
-pass_over : (o : ℕ) (xs : List PrologueStep) (ys : List Placed) → AllByRecursion (λ (p : PrologueStep). o < p.end) xs → from_place o (map placed xs ++ ys) ≡ from_place o ys
+pass_over : (o : ℕ) (xs : List PrologueStep) (ys : List Placed) → AllByRecursion (λ (p : PrologueStep). o < p.end) xs → from_place o (map undo_at_end xs ++ ys) ≡ from_place o ys
 unfolding from_place
 pass_over o [] ys all = refl
 pass_over o (x ∷ xs) ys all = rw (lt-ltb o x.end all.0) (pass_over o xs ys all.1)
 
-stop_at : (o : ℕ) (xs : List PrologueStep) → AllByRecursion (λ (p : PrologueStep). p.end ≤ o) xs → from_place o (map placed xs) ≡ map placed xs
+stop_at : (o : ℕ) (xs : List PrologueStep) → AllByRecursion (λ (p : PrologueStep). p.end ≤ o) xs → from_place o (map undo_at_end xs) ≡ map undo_at_end xs
 unfolding from_place
 stop_at o [] all = refl
 stop_at o (x ∷ xs) all = rw (le-ltb o x.end all.0) refl
 
 from_done : (o : ℕ) (done later : List PrologueStep) → AllByRecursion (λ (p : PrologueStep). p.end ≤ o) done → AllByRecursion (λ (p : PrologueStep). o < p.end) later →
-    from_place o (map placed (reverse (done ++ later))) ≡ map placed (reverse done)
+    from_place o (map undo_at_end (reverse (done ++ later))) ≡ map undo_at_end (reverse done)
 from_done o done later low high =
-    ap (from_place o) (ap (map placed) (reverse-append done later) ∙ map_append placed (reverse later) (reverse done))
-    ∙ pass_over o (reverse later) (map placed (reverse done)) (all_reverse (λ (p : PrologueStep). o < p.end) later high)
+    ap (from_place o) (ap (map undo_at_end) (reverse-append done later) ∙ map_append undo_at_end (reverse later) (reverse done))
+    ∙ pass_over o (reverse later) (map undo_at_end (reverse done)) (all_reverse (λ (p : PrologueStep). o < p.end) later high)
     ∙ stop_at o (reverse done) (all_reverse (λ (p : PrologueStep). p.end ≤ o) done low)
 
-operations_are : (xs : List PrologueStep) → operations_alone (map placed xs) ≡ map undo (steps_of xs)
+operations_are : (xs : List PrologueStep) → operations_alone (map undo_at_end xs) ≡ map undo (steps_of xs)
 operations_are [] = refl
 operations_are (x ∷ xs) = ap (λ l. undo x.step ∷ l) (operations_are xs)
 
@@ -209,7 +209,7 @@ module _ (image : List Span) (m : PeModule) (function : RuntimeFunction) (f : Fu
       let order : map undo (reverse (steps_of (d.inherited ++ done))) ≡ map undo (reverse (steps_of done)) ++ map undo (reverse (steps_of d.inherited)) =
       (ap (λ l. map undo (reverse l)) (map_append (λ (p : PrologueStep). p.step) d.inherited done) ∙ ap (map undo) (reverse-append (steps_of d.inherited) (steps_of done)) ∙ map_append undo (reverse (steps_of done)) (reverse (steps_of d.inherited))) in
       let own_is : operations_alone (from_place offset (behind_epilogs (operations_in d.first))) ≡ map undo (reverse (steps_of done)) =
-      (ap (λ l. operations_alone (from_place offset l)) (d.undoes_own ∙ ap (λ l. map placed (reverse l)) own) ∙ ap operations_alone (from_done offset done later low high) ∙ operations_are (reverse done) ∙ ap (map undo) (map_reverse (λ (p : PrologueStep). p.step) done)) in
+      (ap (λ l. operations_alone (from_place offset l)) (d.undoes_own ∙ ap (λ l. map undo_at_end (reverse l)) own) ∙ ap operations_alone (from_done offset done later low high) ∙ operations_are (reverse done) ∙ ap (map undo) (map_reverse (λ (p : PrologueStep). p.step) done)) in
       let ran : run_headed stack (operations_at offset d.first d.chained) regs ≡ Goes u.after =
       (chain_run d.grouped.set stack offset d.first d.chained regs d.names
       ∙ ap (λ l. run_by frame stack (l ++ all_operations d.chained) regs) own_is

@@ -3,7 +3,7 @@ use Rattle.std.proofs.Common.{◌≡◌, ◌≢◌, ℕ, ◌-◌, ◌<◌, ◌�
 use Rattle.std.specs.Prelude.{◌⊎◌, IsTrue}
 use Rattle.std.proofs.lemmas.Bool.{leb-true, ltb-true}
 use Rattle.std.proofs.lemmas.Bool.Decides.{nat_tests}
-use Rattle.memory_image.specs.Halving.{halved, boundary_of}
+use Rattle.memory_image.specs.Halving.{place_by_halving, boundary_of}
 use Rattle.memory_image.specs.Image.{word_at}
 use Rattle.unwind_definitions.specs.State.{RBX, value_of, IsState}
 use Rattle.unwind_definitions.specs.Prologue.{Windows, Followed, Save, steps_of}
@@ -15,11 +15,11 @@ use Rattle.pe_unwind_info.specs.declared.x86_64.operations.EpilogInformation.{Ep
 use Rattle.pe_unwind_info.specs.declared.x86_64.registers.Register.TheVariants as pe
 use Rattle.pe_unwind_info.specs.declared.x86_64.epilog.FunctionEpilogInstruction.TheVariants.{Pop}
 use Rattle.pe_unwind_info.specs.Chain.{chain_of}
-use Rattle.pe_unwind_info.specs.Epilog.{parsed, sequence_from}
+use Rattle.pe_unwind_info.specs.Epilog.{parsed_instruction, sequence_from}
 use Rattle.pe_unwind_info.specs.EpilogGrammar.{no_rex, pop, ret}
 use Rattle.pe_unwind_info.specs.EpilogList.{leading_epilogs, behind_epilogs, any_lists, is_due}
 use Rattle.pe_unwind_info.specs.Frame.{from_place}
-use Rattle.pe_unwind_info.specs.FrameOf.{linked}
+use Rattle.pe_unwind_info.specs.FrameOf.{end_of_chain}
 use Rattle.pe_unwind_info.specs.FunctionTable.{lookup_of}
 use Rattle.pe_unwind_info.specs.InfoOperations.{operations_in}
 use Rattle.pe_unwind_info.specs.Operations.{operations_of}
@@ -161,9 +161,9 @@ stand_in_described = (module_described, has_record, stands_before, stands_after)
 
 -- the steps, computed; after the pop the pushed word may even be unmapped
 pub computed_before : GivesState (pe_step epilog_image module_of_one 0x12e0 (columns_of epilog_start)) epilog_caller
-unfolding word_at chain_of operations_of behind_epilogs leading_epilogs any_lists parsed sequence_from from_place linked run epilog_run lookup_of halved boundary_of
+unfolding word_at chain_of operations_of behind_epilogs leading_epilogs any_lists parsed_instruction sequence_from from_place end_of_chain run epilog_run lookup_of place_by_halving boundary_of
 computed_before = record { caller = _; answered = refl; shows = record { ra = refl; sp = refl; saved = by_register (λ q. _ ≡ Some (value_of q epilog_caller)) refl refl refl refl refl refl } }
 
 pub computed_after : GivesState (pe_step short_epilog_image module_of_one 0x12e1 (columns_of epilog_state)) epilog_caller
-unfolding word_at chain_of operations_of behind_epilogs leading_epilogs any_lists parsed sequence_from from_place linked run epilog_run lookup_of halved boundary_of
+unfolding word_at chain_of operations_of behind_epilogs leading_epilogs any_lists parsed_instruction sequence_from from_place end_of_chain run epilog_run lookup_of place_by_halving boundary_of
 computed_after = record { caller = _; answered = refl; shows = record { ra = refl; sp = refl; saved = by_register (λ q. _ ≡ Some (value_of q epilog_caller)) refl refl refl refl refl refl } }

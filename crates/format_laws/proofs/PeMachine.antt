@@ -10,12 +10,12 @@ use Rattle.unwind_definitions.specs.Entered.{IsMapped, Leaves, stack_after}
 use Rattle.pe_unwind_info.specs.declared.x86_64.operations.UnwindOperation.{UnwindOperation}
 use Rattle.pe_unwind_info.specs.declared.x86_64.operations.UnwindOperation.TheVariants.{EpilogInformation, PopNonVolatile, UnStackAlloc, RestoreSPFromFP, ReadNonVolatile, ReadXMM, PopMachineFrame}
 use Rattle.pe_unwind_info.specs.declared.x86_64.unwind_info.UnwindInfoHeader.{UnwindInfoHeader}
-use Rattle.pe_unwind_info.specs.Chain.{headed, run_headed}
+use Rattle.pe_unwind_info.specs.Chain.{headed_operations, run_headed}
 use Rattle.pe_unwind_info.specs.Info.{Info}
 use Rattle.pe_unwind_info.specs.Machine.{Registers, Stack, with_general, stack_pointer, with_stack_pointer, plus, less, After, Goes, Ends, Returned, word_or_fault, pop_into, pop_return, then_goes}
 use Rattle.pe_unwind_info.specs.Operations.{offset_value}
 use Rattle.pe_unwind_info.specs.Registers.{register_number, xmm_number}
-use Rattle.pe_unwind_info.specs.Steps.{saved, saved_xmm, machine_frame, act}
+use Rattle.pe_unwind_info.specs.Steps.{with_saved_register, saved_xmm, machine_frame, act}
 use Rattle.format_definitions.specs.PeRegisters.{number_of, is_kept}
 use Rattle.format_definitions.specs.PeUndoing.{Names}
 
@@ -128,7 +128,7 @@ act_by frame stack (EpilogInformation e) regs = Goes regs
 act_by frame stack (PopNonVolatile r) regs = pop_into stack (register_number r) regs
 act_by frame stack (UnStackAlloc n) regs = Goes (with_stack_pointer (plus (stack_pointer regs) n) regs)
 act_by frame stack RestoreSPFromFP regs = Goes (restored_by frame regs)
-act_by frame stack (ReadNonVolatile r k) regs = saved stack (resolved frame regs (offset_value k)) (register_number r) regs
+act_by frame stack (ReadNonVolatile r k) regs = with_saved_register stack (resolved frame regs (offset_value k)) (register_number r) regs
 act_by frame stack (ReadXMM r k) regs = saved_xmm stack (resolved frame regs (offset_value k)) (xmm_number r) regs
 act_by frame stack (PopMachineFrame code) regs = machine_frame stack (plus (stack_pointer regs) (cond code 8 0)) regs
 
@@ -169,12 +169,12 @@ goes_same (Goes regs) f g h = h regs
 goes_same (Ends end) f g h = refl
 
 -- the operations of a record that names this register
-pub headed_run : (set : Option ℕ) (info : Info) (stack : Stack) (os : List UnwindOperation) (regs : Registers) → Names set info.header → run_headed stack (headed info os) regs ≡ run_by (frame_named set) stack os regs
+pub headed_run : (set : Option ℕ) (info : Info) (stack : Stack) (os : List UnwindOperation) (regs : Registers) → Names set info.header → run_headed stack (headed_operations info os) regs ≡ run_by (frame_named set) stack os regs
 unfolding run_headed
 headed_run set info stack [] regs names = refl
 headed_run set info stack (o ∷ os) regs names =
-    ap (λ (x : After). then_goes x (run_headed stack (headed info os))) (named_act set info.header stack o regs names)
-    ∙ goes_same (act_by (frame_named set) stack o regs) (run_headed stack (headed info os)) (run_by (frame_named set) stack os) (λ after. headed_run set info stack os after names)
+    ap (λ (x : After). then_goes x (run_headed stack (headed_operations info os))) (named_act set info.header stack o regs names)
+    ∙ goes_same (act_by (frame_named set) stack o regs) (run_headed stack (headed_operations info os)) (run_by (frame_named set) stack os) (λ after. headed_run set info stack os after names)
 
 pub run_cons : (frame : FrameBase) (stack : Stack) (o : UnwindOperation) (os : List UnwindOperation) (regs next : Registers) → act_by frame stack o regs ≡ Goes next → run_by frame stack (o ∷ os) regs ≡ run_by frame stack os next
 run_cons frame stack o os regs next e = ap (λ (x : After). then_goes x (run_by frame stack os)) e

@@ -13,16 +13,16 @@ use Rattle.unwind_laws.specs.Columns.{columns_of}
 use Rattle.unwind_laws.proofs.Booleans.{both_true, either_false}
 use Rattle.unwind_laws.proofs.RowFacts.{by_register, state_fits}
 use Rattle.pe_unwind_info.specs.Chain.{chain_of}
-use Rattle.pe_unwind_info.specs.Epilog.{parsed, sequence_from}
+use Rattle.pe_unwind_info.specs.Epilog.{parsed_instruction, sequence_from}
 use Rattle.pe_unwind_info.specs.EpilogList.{leading_epilogs, behind_epilogs, any_lists, is_due}
 use Rattle.pe_unwind_info.specs.Frame.{from_place}
-use Rattle.pe_unwind_info.specs.FrameOf.{tested, linked}
+use Rattle.pe_unwind_info.specs.FrameOf.{epilog_if_tested, end_of_chain}
 use Rattle.pe_unwind_info.specs.FunctionTable.{lookup_of}
 use Rattle.pe_unwind_info.specs.Header.{frame_register_of}
 use Rattle.pe_unwind_info.specs.InfoOperations.{operations_in}
 use Rattle.pe_unwind_info.specs.Operations.{operations_of}
 use Rattle.pe_unwind_info.specs.Steps.{run, epilog_run}
-use Rattle.memory_image.specs.Halving.{halved, boundary_of}
+use Rattle.memory_image.specs.Halving.{place_by_halving, boundary_of}
 use Rattle.format_definitions.specs.PeImage.{memory_of}
 use Rattle.format_definitions.specs.PeStep.{pe_step}
 use Rattle.format_definitions.specs.PeModules.{IsInNoEpilog, DescribesRecord, HasRecord, DescribesPe}
@@ -50,10 +50,10 @@ is_function = record {
 }
 
 abbrev test : ℕ → Bool
-test a = finds_none (tested (is_due 0x1020 a (leading_epilogs (operations_in pushes_info))) (memory_of pushes_image 0x140000000) (frame_register_of pushes_info.header) 0x1020 a)
+test a = finds_none (epilog_if_tested (is_due 0x1020 a (leading_epilogs (operations_in pushes_info))) (memory_of pushes_image 0x140000000) (frame_register_of pushes_info.header) 0x1020 a)
 
 tests : all_from 0x1005 27 test ≡ true
-unfolding parsed sequence_from leading_epilogs operations_of
+unfolding parsed_instruction sequence_from leading_epilogs operations_of
 tests = refl
 
 pub quiet : (pc : ℕ) → IsTrue (in_body pushes_function pc) → IsInNoEpilog (memory_of pushes_image 0x140000000) pushes_record pushes_info (pc - 0x140000000)
@@ -116,7 +116,7 @@ stands = record {
 }
 
 quiet_here : IsInNoEpilog (memory_of pushes_image 0x140000000) pushes_record pushes_info 0x1004
-unfolding parsed sequence_from leading_epilogs operations_of
+unfolding parsed_instruction sequence_from leading_epilogs operations_of
 quiet_here = quiet_at (memory_of pushes_image 0x140000000) pushes_record pushes_info 0x1004 refl
 
 -- what the law of prologues asks
@@ -130,7 +130,7 @@ caller_fits = state_fits pushes_caller (lit< tt) (lit< tt) (lit< tt) (lit< tt) (
 
 -- the step, computed
 pub computed : GivesState (pe_step pushes_image module_of_one 0x1004 (columns_of pushes_state)) pushes_caller
-unfolding word_at chain_of operations_of behind_epilogs leading_epilogs any_lists parsed sequence_from from_place linked run epilog_run lookup_of halved boundary_of
+unfolding word_at chain_of operations_of behind_epilogs leading_epilogs any_lists parsed_instruction sequence_from from_place end_of_chain run epilog_run lookup_of place_by_halving boundary_of
 computed = record {
   caller = _;
   answered = refl;

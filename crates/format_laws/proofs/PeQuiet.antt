@@ -8,7 +8,7 @@ use Rattle.pe_unwind_info.specs.declared.x86_64.registers.Register.{Register}
 use Rattle.pe_unwind_info.specs.Epilog.{Sequence, sequence_of}
 use Rattle.pe_unwind_info.specs.EpilogList.{leading_epilogs, is_due}
 use Rattle.pe_unwind_info.specs.Frame.{epilog_or_none, epilog_in}
-use Rattle.pe_unwind_info.specs.FrameOf.{Image, tested}
+use Rattle.pe_unwind_info.specs.FrameOf.{Image, epilog_if_tested}
 use Rattle.pe_unwind_info.specs.Header.{frame_register_of}
 use Rattle.pe_unwind_info.specs.Info.{Info}
 use Rattle.pe_unwind_info.specs.InfoOperations.{operations_in}
@@ -57,12 +57,12 @@ begins_with_none memory frame end a e = go (memory a) refl
             }
 
 pub quiet_at : (memory : Image) (function : RuntimeFunction) (first : Info) (a : ℕ) →
-    finds_none (tested (is_due function.end_address a (leading_epilogs (operations_in first))) memory (frame_register_of first.header) function.end_address a) ≡ true → IsInNoEpilog memory function first a
+    finds_none (epilog_if_tested (is_due function.end_address a (leading_epilogs (operations_in first))) memory (frame_register_of first.header) function.end_address a) ≡ true → IsInNoEpilog memory function first a
 quiet_at memory function first a e = go (is_due function.end_address a (leading_epilogs (operations_in first))) refl
   where
-    is : tested (is_due function.end_address a (leading_epilogs (operations_in first))) memory (frame_register_of first.header) function.end_address a ≡ Ok None
+    is : epilog_if_tested (is_due function.end_address a (leading_epilogs (operations_in first))) memory (frame_register_of first.header) function.end_address a ≡ Ok None
     is = none_is _ e
 
     go : (due : Bool) → is_due function.end_address a (leading_epilogs (operations_in first)) ≡ due → IsInNoEpilog memory function first a
     go false h = inl h
-    go true h = inr (begins_with_none memory (frame_register_of first.header) function.end_address a (sym (ap (λ due. tested due memory (frame_register_of first.header) function.end_address a) h) ∙ is))
+    go true h = inr (begins_with_none memory (frame_register_of first.header) function.end_address a (sym (ap (λ due. epilog_if_tested due memory (frame_register_of first.header) function.end_address a) h) ∙ is))

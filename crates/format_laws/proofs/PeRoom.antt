@@ -3,7 +3,7 @@
 use Rattle.std.proofs.Common.{◌≡◌, ◌≢◌, ℕ, ◌-◌, Bool, true, false, leb, ltb, List, [], ◌∷◌, Some, None, Result, Ok, Err, refl, sym, subst, ◌∙◌, arith, inl, inr, lit<, lit≤}
 use Rattle.std.specs.Prelude.{IsTrue}
 use Rattle.std.proofs.lemmas.Bool.{leb-true, ltb-true}
-use Rattle.memory_image.specs.Halving.{halved, boundary_of}
+use Rattle.memory_image.specs.Halving.{place_by_halving, boundary_of}
 use Rattle.memory_image.specs.Image.{word_at}
 use Rattle.unwind_definitions.specs.State.{CalleeSaved, RBX, RBP, R12, R13, R14, R15, value_of, IsState}
 use Rattle.unwind_definitions.specs.Prologue.{Windows, Save, steps_of, distance}
@@ -17,10 +17,10 @@ use Rattle.pe_unwind_info.specs.declared.x86_64.fault.FrameFault.TheVariants.{Ch
 use Rattle.pe_unwind_info.specs.Chain.{chain_of}
 use Rattle.pe_unwind_info.specs.Frame.{info_in, chained_of}
 use Rattle.pe_unwind_info.specs.Info.{Info}
-use Rattle.pe_unwind_info.specs.Epilog.{parsed, sequence_from}
+use Rattle.pe_unwind_info.specs.Epilog.{parsed_instruction, sequence_from}
 use Rattle.pe_unwind_info.specs.EpilogList.{leading_epilogs, behind_epilogs, any_lists, is_due}
 use Rattle.pe_unwind_info.specs.Frame.{from_place}
-use Rattle.pe_unwind_info.specs.FrameOf.{tested, linked}
+use Rattle.pe_unwind_info.specs.FrameOf.{epilog_if_tested, end_of_chain}
 use Rattle.pe_unwind_info.specs.FunctionTable.{lookup_of}
 use Rattle.pe_unwind_info.specs.Header.{frame_register_of}
 use Rattle.pe_unwind_info.specs.InfoOperations.{operations_in}
@@ -44,10 +44,10 @@ is_function = record {
 }
 
 abbrev test : ℕ → Bool
-test a = finds_none (tested (is_due 0x1100 a (leading_epilogs (operations_in room_info))) (memory_of room_image 0x140000000) (frame_register_of room_info.header) 0x1100 a)
+test a = finds_none (epilog_if_tested (is_due 0x1100 a (leading_epilogs (operations_in room_info))) (memory_of room_image 0x140000000) (frame_register_of room_info.header) 0x1100 a)
 
 tests : all_from 0x1005 251 test ≡ true
-unfolding parsed sequence_from leading_epilogs operations_of
+unfolding parsed_instruction sequence_from leading_epilogs operations_of
 tests = refl
 
 pub quiet : (pc : ℕ) → IsTrue (in_body room_function pc) → IsInNoEpilog (memory_of room_image 0x140000000) loop_record room_info (pc - 0x140000000)
@@ -99,7 +99,7 @@ unfolding word_at
 leaf_entered = record { room = lit≤ tt; returns = λ _. refl; leaves = tt; stack = refl; keeps = λ r e. by_register (λ q. value_of q leaf_state ≡ value_of q room_caller) refl refl refl refl refl refl r }
 
 pub computed_leaf : GivesState (pe_step room_image module_of_one 0x1103 (columns_of leaf_state)) room_caller
-unfolding word_at lookup_of halved boundary_of
+unfolding word_at lookup_of place_by_halving boundary_of
 computed_leaf = record { caller = _; answered = refl; shows = record { ra = refl; sp = refl; saved = by_register (λ q. _ ≡ Some (value_of q room_caller)) refl refl refl refl refl refl } }
 
 unfoldable pub module_described : DescribesPe room_image module_of_one (room_function ∷ leaf_function ∷ [])
@@ -121,13 +121,13 @@ pub caller_fits : IsState room_caller
 caller_fits = state_fits room_caller (lit< tt) (lit< tt) (lit< tt) (lit< tt) (lit< tt) (lit< tt) (lit< tt) (lit< tt)
 
 pub computed : GivesState (pe_step room_image module_of_one 0x104f (columns_of room_state)) room_caller
-unfolding word_at chain_of operations_of behind_epilogs leading_epilogs any_lists parsed sequence_from from_place linked run epilog_run lookup_of halved boundary_of
+unfolding word_at chain_of operations_of behind_epilogs leading_epilogs any_lists parsed_instruction sequence_from from_place end_of_chain run epilog_run lookup_of place_by_halving boundary_of
 computed = record { caller = _; answered = refl; shows = record { ra = refl; sp = refl; saved = by_register (λ q. _ ≡ Some (value_of q room_caller)) refl refl refl refl refl refl } }
 
 -- ---- the record that goes on with itself
 
 pub loops : pe_step loop_image module_of_one 0x104f (columns_of loop_state) ≡ Err (InFrame ChainLimit)
-unfolding word_at chain_of operations_of behind_epilogs leading_epilogs any_lists parsed sequence_from from_place linked run epilog_run lookup_of halved boundary_of
+unfolding word_at chain_of operations_of behind_epilogs leading_epilogs any_lists parsed_instruction sequence_from from_place end_of_chain run epilog_run lookup_of place_by_halving boundary_of
 loops = refl
 
 endless : chain_of (memory_of loop_image 0x140000000) 32 (chained_of loop_info) ≡ Err ChainLimit

@@ -16,14 +16,14 @@ use Rattle.unwind_laws.proofs.Booleans.{all_contains, both_true}
 use Rattle.unwind_laws.proofs.Found.{ranges_inside}
 use Rattle.pe_unwind_info.specs.declared.x86_64.function_table.RuntimeFunction.{RuntimeFunction}
 use Rattle.pe_unwind_info.specs.FunctionTable.{functions_of, lookup_of, Holds}
-use Rattle.pe_unwind_info.specs.FrameOf.{framed}
+use Rattle.pe_unwind_info.specs.FrameOf.{frame_end_of}
 use Rattle.pe_unwind_info.specs.Machine.{Registers}
 use Rattle.pe_unwind_info.proofs.TableLemmas.{holder_is_found, none_is_found}
 use Rattle.format_definitions.specs.PeImage.{PeModule, memory_of, table_of}
 use Rattle.format_definitions.specs.PeRegisters.{is_kept, column_at, number_at, ShowsRegisters, KeepsScratch, registers_in, columns_with, KeepsScratchColumns}
 use Rattle.format_definitions.specs.PeStep.{PeFault, columns_at, stepped_by, pe_step}
 use Rattle.format_definitions.specs.PeModules.{IsInNoEpilog, MeetsNot, DescribesRecord, DescribesLeaf, HasRecord, DescribesPe}
-use Rattle.format_definitions.specs.PeEpilogs.{joined, StandsInEpilog}
+use Rattle.format_definitions.specs.PeEpilogs.{concatenation, StandsInEpilog}
 use Rattle.format_laws.specs.PeUndone.{FrameUndone, CallUndone}
 use Rattle.format_laws.proofs.Tables.{each_from}
 use Rattle.format_laws.proofs.PeFrames.{own_part, in_body_undone, in_prologue_undone, leaf_undone}
@@ -103,7 +103,7 @@ call_undone : (image : List Span) (m : PeModule) (bytes : List ℕ) (table : Lis
     table_of image m ≡ Some bytes → functions_of bytes ≡ Some table → lookup_of (Some table) a ≡ function → Shows columns s →
     FrameUndone (memory_of image m.base) (word_at image) function a (registers_in columns) t → CallUndone (pe_step image m a columns) columns t
 call_undone image m bytes table function a columns s t mapped reads found shows u =
-    let ends : Option RuntimeFunction → Result Columns PeFault = λ g. columns_at columns (framed (memory_of image m.base) (word_at image) a g (registers_in columns)) in
+    let ends : Option RuntimeFunction → Result Columns PeFault = λ g. columns_at columns (frame_end_of (memory_of image m.base) (word_at image) a g (registers_in columns)) in
     record {
       caller = columns_with columns t.ra u.after;
       answered = ap (stepped_by image m a columns) mapped ∙ ap (λ o. ends (lookup_of o a)) reads ∙ ap ends found ∙ ap (columns_at columns) u.is;
@@ -203,7 +203,7 @@ module _ (image : List Span) (m : PeModule) (functions : List Function) (d : Des
   epilog_call_undone r st =
       let some = terminator_length st.terminator st.ends in
       let up = st.up_to_end in
-      let long = length-append (joined st.codes) (st.terminator ++ st.rest) in
+      let long = length-append (concatenation st.codes) (st.terminator ++ st.rest) in
       let long' = length-append st.terminator st.rest in
       let low = st.begins in let here = st.begun in
       let inside : s.ra < f.end = omega arith in

@@ -1,6 +1,7 @@
 -- The function that pushes R15, R14 and RBX, described by a frame table whose save records come late.
 use Rattle.std.specs.Prelude.{ℕ, ◌-◌, ◌^◌, ◌++◌, false, List, [], ◌∷◌, None}
 use Rattle.memory_image.specs.Image.{Span}
+use Rattle.unwind_definitions.specs.Columns as column
 use Rattle.unwind_definitions.specs.Input.{Input}
 use Rattle.unwind_definitions.specs.Pointers.{Bases}
 use Rattle.unwind_definitions.specs.Instructions.{Instruction, Nop, Advance, Write, Cfa, CfaOffset, Offset}
@@ -43,7 +44,7 @@ abbrev pub entries : List Entry
 entries = ACie cie ∷ AFde fde ∷ []
 
 abbrev pub run_of : List Instruction → RowInstructions
-run_of own = record { common = Cfa 7 8 ∷ Write 16 (Offset (2 ^ 64 - 8)) ∷ Nop ∷ Nop ∷ []; own = own }
+run_of own = record { common = Cfa column.rsp 8 ∷ Write column.ra (Offset (2 ^ 64 - 8)) ∷ Nop ∷ Nop ∷ []; own = own }
 
 -- the program up to each address where it has another row
 abbrev pub pushed_one : List Instruction
@@ -53,7 +54,7 @@ abbrev pub pushed_two : List Instruction
 pushed_two = Advance 2 ∷ CfaOffset 16 ∷ Advance 2 ∷ CfaOffset 24 ∷ []
 
 abbrev pub pushed_all : List Instruction
-pushed_all = Advance 2 ∷ CfaOffset 16 ∷ Advance 2 ∷ CfaOffset 24 ∷ Advance 1 ∷ CfaOffset 32 ∷ Write 3 (Offset (2 ^ 64 - 32)) ∷ Write 14 (Offset (2 ^ 64 - 24)) ∷ Write 15 (Offset (2 ^ 64 - 16)) ∷ []
+pushed_all = Advance 2 ∷ CfaOffset 16 ∷ Advance 2 ∷ CfaOffset 24 ∷ Advance 1 ∷ CfaOffset 32 ∷ Write column.rbx (Offset (2 ^ 64 - 32)) ∷ Write column.r14 (Offset (2 ^ 64 - 24)) ∷ Write column.r15 (Offset (2 ^ 64 - 16)) ∷ []
 
 abbrev pub function : Function
 function = record { start = 0x402000; end = 0x402020; prologue = pushes_done ++ pushes_later; bodies = record { from = 0x402005; to = 0x402020 } ∷ []; sites = None; outermost = false }

@@ -49,7 +49,7 @@ caught_delivery = record {
   outcome = Installed;
 }
 
--- stopped in the prologue of the PE function, behind its push
+-- stopped in the prologue of the PE function, after its push
 abbrev pub pushed_room : State
 pushed_room = record { ra = 0x140001001; sp = 0x70c0; rbx = 0x11; rbp = 0xc; r12 = 0; r13 = 0; r14 = 0x2e; r15 = 0 }
 

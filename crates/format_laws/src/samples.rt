@@ -178,7 +178,7 @@ pub fn calls_through_formats_are_caught()
 {}
 
 /// In those calls the Mach-O function may as well have been stopped where it stands in its body,
-/// and the PE function in its body or behind the push of its prologue: its callers' states begin
+/// and the PE function in its body or after the push of its prologue: its callers' states begin
 /// described chains.
 pub fn stops_in_formats_are_described()
     ensures macho_body { IsFormatStop pe.room_image mixed.modules mixed.functions

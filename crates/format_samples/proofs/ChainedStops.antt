@@ -1,6 +1,6 @@
 -- States that were stopped in the prologue of a function whose record goes on with another.
 use Rattle.std.proofs.Common.{◌≡◌, false, [], ◌∷◌, ◌++◌, Some, None, refl, inl, lit<, lit≤}
-use Rattle.memory_image.specs.Halving.{halved, boundary_of}
+use Rattle.memory_image.specs.Halving.{place_by_halving, boundary_of}
 use Rattle.memory_image.specs.Image.{word_at}
 use Rattle.unwind_definitions.specs.State.{RBP, value_of}
 use Rattle.unwind_definitions.specs.Prologue.{steps_of, distance, frame_depth}
@@ -11,10 +11,10 @@ use Rattle.unwind_laws.specs.Windows as windows
 use Rattle.unwind_laws.proofs.Booleans.{pairs_one}
 use Rattle.unwind_laws.proofs.RowFacts.{by_register}
 use Rattle.pe_unwind_info.specs.Chain.{chain_of}
-use Rattle.pe_unwind_info.specs.Epilog.{parsed, sequence_from}
+use Rattle.pe_unwind_info.specs.Epilog.{parsed_instruction, sequence_from}
 use Rattle.pe_unwind_info.specs.EpilogList.{leading_epilogs, behind_epilogs, any_lists}
 use Rattle.pe_unwind_info.specs.Frame.{from_place}
-use Rattle.pe_unwind_info.specs.FrameOf.{linked}
+use Rattle.pe_unwind_info.specs.FrameOf.{end_of_chain}
 use Rattle.pe_unwind_info.specs.FunctionTable.{lookup_of}
 use Rattle.pe_unwind_info.specs.Operations.{operations_of}
 use Rattle.pe_unwind_info.specs.Steps.{run, epilog_run}
@@ -68,7 +68,7 @@ allocated_stands = record {
 }
 
 allocated_quiet : IsInNoEpilog (memory_of chained_image 0x140000000) loop_record chained_info 0x1004
-unfolding parsed sequence_from leading_epilogs operations_of
+unfolding parsed_instruction sequence_from leading_epilogs operations_of
 allocated_quiet = quiet_at (memory_of chained_image 0x140000000) loop_record chained_info 0x1004 refl
 
 pub allocated_stop : IsFormatStop chained_image pe_modules (windows.function ∷ []) allocated_state chained_call
@@ -83,7 +83,7 @@ allocated_stop = record {
 }
 
 pub allocated_computed : GivesState (pe_step chained_image module_of_one 0x1004 (columns_of allocated_state)) windows.caller
-unfolding word_at chain_of operations_of behind_epilogs leading_epilogs any_lists parsed sequence_from from_place linked run epilog_run lookup_of halved boundary_of
+unfolding word_at chain_of operations_of behind_epilogs leading_epilogs any_lists parsed_instruction sequence_from from_place end_of_chain run epilog_run lookup_of place_by_halving boundary_of
 allocated_computed = record { caller = _; answered = refl; shows = record { ra = refl; sp = refl; saved = by_register (λ q. _ ≡ Some (value_of q windows.caller)) refl refl refl refl refl refl } }
 
 -- ---- after the step that sets RBP
@@ -107,7 +107,7 @@ set_stands = record {
 }
 
 set_quiet : IsInNoEpilog (memory_of chained_image 0x140000000) loop_record chained_info 0x1009
-unfolding parsed sequence_from leading_epilogs operations_of
+unfolding parsed_instruction sequence_from leading_epilogs operations_of
 set_quiet = quiet_at (memory_of chained_image 0x140000000) loop_record chained_info 0x1009 refl
 
 pub set_stop : IsFormatStop chained_image pe_modules (windows.function ∷ []) set_state chained_call
@@ -122,5 +122,5 @@ set_stop = record {
 }
 
 pub set_computed : GivesState (pe_step chained_image module_of_one 0x1009 (columns_of set_state)) windows.caller
-unfolding word_at chain_of operations_of behind_epilogs leading_epilogs any_lists parsed sequence_from from_place linked run epilog_run lookup_of halved boundary_of
+unfolding word_at chain_of operations_of behind_epilogs leading_epilogs any_lists parsed_instruction sequence_from from_place end_of_chain run epilog_run lookup_of place_by_halving boundary_of
 set_computed = record { caller = _; answered = refl; shows = record { ra = refl; sp = refl; saved = by_register (λ q. _ ≡ Some (value_of q windows.caller)) refl refl refl refl refl refl } }

@@ -3,7 +3,7 @@ use Rattle.std.proofs.Common.{◌≡◌, ◌≢◌, ℕ, ◌-◌, ◌≤◌, Boo
 use Rattle.std.specs.Prelude.{IsTrue, IsFalse}
 use Rattle.std.specs.List.{list_any}
 use Rattle.std.proofs.lemmas.Bool.{leb-true, ltb-true}
-use Rattle.memory_image.specs.Halving.{halved, boundary_of}
+use Rattle.memory_image.specs.Halving.{place_by_halving, boundary_of}
 use Rattle.memory_image.specs.Image.{word_at}
 use Rattle.unwind_definitions.specs.State.{CalleeSaved, RBX, State, value_of, IsState}
 use Rattle.unwind_definitions.specs.Prologue.{Windows, Register as Saved, Followed, is_register, Save, steps_of}
@@ -15,11 +15,11 @@ use Rattle.pe_unwind_info.specs.declared.x86_64.registers.Register.TheVariants a
 use Rattle.pe_unwind_info.specs.declared.x86_64.epilog.FunctionEpilogInstruction.{FunctionEpilogInstruction}
 use Rattle.pe_unwind_info.specs.declared.x86_64.epilog.FunctionEpilogInstruction.TheVariants.{AddSP, Pop}
 use Rattle.pe_unwind_info.specs.Chain.{chain_of}
-use Rattle.pe_unwind_info.specs.Epilog.{parsed, sequence_from}
+use Rattle.pe_unwind_info.specs.Epilog.{parsed_instruction, sequence_from}
 use Rattle.pe_unwind_info.specs.EpilogGrammar.{no_rex, add_byte, pop, ret}
 use Rattle.pe_unwind_info.specs.EpilogList.{leading_epilogs, behind_epilogs, any_lists, is_due}
 use Rattle.pe_unwind_info.specs.Frame.{from_place}
-use Rattle.pe_unwind_info.specs.FrameOf.{tested, linked}
+use Rattle.pe_unwind_info.specs.FrameOf.{epilog_if_tested, end_of_chain}
 use Rattle.pe_unwind_info.specs.FunctionTable.{lookup_of}
 use Rattle.pe_unwind_info.specs.Header.{frame_register_of}
 use Rattle.pe_unwind_info.specs.InfoOperations.{operations_in}
@@ -28,7 +28,7 @@ use Rattle.pe_unwind_info.specs.Steps.{run, epilog_run}
 use Rattle.format_definitions.specs.PeImage.{memory_of}
 use Rattle.format_definitions.specs.PeStep.{pe_step}
 use Rattle.format_definitions.specs.PeModules.{IsInNoEpilog, DescribesRecord, HasRecord, DescribesPe}
-use Rattle.format_definitions.specs.PeEpilogs.{AreSpelled, joined, StandsAt, before_add, before_pops, StandsInEpilog}
+use Rattle.format_definitions.specs.PeEpilogs.{AreSpelled, concatenation, StandsAt, before_add, before_pops, StandsInEpilog}
 use Rattle.format_definitions.specs.FormatModules.{Pe, LiesInFormat, IsFormatChain}
 use Rattle.format_definitions.specs.FormatProcess.{FormatsApart, IsFormatProcess}
 use Rattle.format_definitions.specs.FormatStops.{at_epilog, IsFormatStop}
@@ -54,10 +54,10 @@ is_function = record {
 
 -- ---- the code before the epilog begins with none
 abbrev test : ℕ → Bool
-test a = finds_none (tested (is_due 0x1040 a (leading_epilogs (operations_in room_info))) (memory_of returning_image 0x140000000) (frame_register_of room_info.header) 0x1040 a)
+test a = finds_none (epilog_if_tested (is_due 0x1040 a (leading_epilogs (operations_in room_info))) (memory_of returning_image 0x140000000) (frame_register_of room_info.header) 0x1040 a)
 
 tests : all_from 0x1005 53 test ≡ true
-unfolding parsed sequence_from leading_epilogs operations_of
+unfolding parsed_instruction sequence_from leading_epilogs operations_of
 tests = refl
 
 quiet : (pc : ℕ) → IsTrue (in_body returning_function pc) → IsInNoEpilog (memory_of returning_image 0x140000000) returning_record room_info (pc - 0x140000000)
@@ -110,7 +110,7 @@ nobody_above = ends_outside returning_image (returning_function ∷ []) returnin
 -- ---- in the epilog, with so much of it left
 stands_with : (s : State) (todo : List FunctionEpilogInstruction) (left : List Saved) (codes : List (List ℕ)) →
     StandsAt returning_caller s (Followed RBX ∷ []) (40 ∷ []) None todo left → ((r : CalleeSaved) → IsFalse (list_any (is_register r) left) → value_of r s ≡ value_of r returning_caller) →
-    memory_of returning_image 0x140000000 (s.ra - 0x140000000) ≡ Some ((joined codes ++ (0xc3 ∷ [] ++ [])) ++ replicate 16 0xcc) → length (joined codes ++ (0xc3 ∷ [] ++ [])) ≡ 0x140001040 - s.ra →
+    memory_of returning_image 0x140000000 (s.ra - 0x140000000) ≡ Some ((concatenation codes ++ (0xc3 ∷ [] ++ [])) ++ replicate 16 0xcc) → length (concatenation codes ++ (0xc3 ∷ [] ++ [])) ≡ 0x140001040 - s.ra →
     AreSpelled None true codes todo → 0x14000103a ≤ s.ra → StandsInEpilog returning_image module_of_one returning_record returning_function described returning_caller s
 unfolding described word_at leading_epilogs operations_of
 stands_with s todo left codes stands values mapped up_to_end spelled begun = record {
@@ -149,7 +149,7 @@ unfolding lies module_described has_record described
 add_stop = record { inner = refl; listed = (0, lit< tt, refl); lies = lies; returns = λ e. absurd cc; stands = at_epilog has_record stands_at_add; caller = caller_fits }
 
 pub add_computed : GivesState (pe_step returning_image module_of_one 0x103a (columns_of at_add)) returning_caller
-unfolding word_at chain_of operations_of behind_epilogs leading_epilogs any_lists parsed sequence_from from_place linked run epilog_run lookup_of halved boundary_of
+unfolding word_at chain_of operations_of behind_epilogs leading_epilogs any_lists parsed_instruction sequence_from from_place end_of_chain run epilog_run lookup_of place_by_halving boundary_of
 add_computed = record { caller = _; answered = refl; shows = record { ra = refl; sp = refl; saved = by_register (λ q. _ ≡ Some (value_of q returning_caller)) refl refl refl refl refl refl } }
 
 -- ---- before the pop
@@ -163,7 +163,7 @@ unfolding lies module_described has_record described
 pop_stop = record { inner = refl; listed = (0, lit< tt, refl); lies = lies; returns = λ e. absurd cc; stands = at_epilog has_record stands_at_pop; caller = caller_fits }
 
 pub pop_computed : GivesState (pe_step returning_image module_of_one 0x103e (columns_of at_pop)) returning_caller
-unfolding word_at chain_of operations_of behind_epilogs leading_epilogs any_lists parsed sequence_from from_place linked run epilog_run lookup_of halved boundary_of
+unfolding word_at chain_of operations_of behind_epilogs leading_epilogs any_lists parsed_instruction sequence_from from_place end_of_chain run epilog_run lookup_of place_by_halving boundary_of
 pop_computed = record { caller = _; answered = refl; shows = record { ra = refl; sp = refl; saved = by_register (λ q. _ ≡ Some (value_of q returning_caller)) refl refl refl refl refl refl } }
 
 -- ---- before the return
@@ -177,5 +177,5 @@ unfolding lies module_described has_record described
 return_stop = record { inner = refl; listed = (0, lit< tt, refl); lies = lies; returns = λ e. absurd cc; stands = at_epilog has_record stands_at_return; caller = caller_fits }
 
 pub return_computed : GivesState (pe_step returning_image module_of_one 0x103f (columns_of at_return)) returning_caller
-unfolding word_at chain_of operations_of behind_epilogs leading_epilogs any_lists parsed sequence_from from_place linked run epilog_run lookup_of halved boundary_of
+unfolding word_at chain_of operations_of behind_epilogs leading_epilogs any_lists parsed_instruction sequence_from from_place end_of_chain run epilog_run lookup_of place_by_halving boundary_of
 return_computed = record { caller = _; answered = refl; shows = record { ra = refl; sp = refl; saved = by_register (λ q. _ ≡ Some (value_of q returning_caller)) refl refl refl refl refl refl } }

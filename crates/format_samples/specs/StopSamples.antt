@@ -24,7 +24,7 @@ setting = record { step = SetFrame 32; end = 9 } ∷ []
 abbrev pub stores : List PrologueStep
 stores = record { step = Store (Followed RBX) 16; end = 14 } ∷ record { step = Store RSI 24; end = 19 } ∷ record { step = Store (XMM 6) 40; end = 24 } ∷ []
 
--- behind the step that allocates, and behind the one that sets RBP
+-- after the step that allocates, and after the one that sets RBP
 abbrev pub allocated_state : State
 allocated_state = record windows.caller { ra = 0x140001004; sp = 0x7fa8 }
 
@@ -33,7 +33,7 @@ set_state = record windows.caller { ra = 0x140001009; sp = 0x7fa8; rbp = 0x7fc8 
 
 -- ---- a function that pushes RBX and allocates 40, and whose last three instructions are an epilog
 
--- push rbx; sub rsp, 40; nops; add rsp, 40; pop rbx; ret; and behind the function int3
+-- push rbx; sub rsp, 40; nops; add rsp, 40; pop rbx; ret; and after the function int3
 abbrev pub returning_image : List Span
 returning_image = record { start = 0x6fd0; bytes = replicate 40 0 ++ (word 9 ++ far 0x60 0x10 0x40 0 0) } ∷
     record { start = 0x140001000; bytes = 0x53 ∷ 0x48 ∷ 0x83 ∷ 0xec ∷ 0x28 ∷ (replicate 53 0x90 ++ (0x48 ∷ 0x83 ∷ 0xc4 ∷ 0x28 ∷ 0x5b ∷ 0xc3 ∷ replicate 16 0xcc)) } ∷

@@ -2,7 +2,7 @@
 use Rattle.std.specs.Prelude.{ℕ, bit_and, bit_or, bit_xor}
 use Rattle.std.specs.Int.{w64, bit_not}
 use Rattle.unwind_definitions.specs.Caller.{◌+w◌}
-use Rattle.unwind_definitions.specs.Operations.{Nop, Pop, Swap, Rotate, Push, PushColumn, Pick, Load, Skip, Branch, magnitude, negated, quotient, remainder, difference, product, shifted_left, shifted_right, shifted_signed, is_equal, is_unequal, is_less, is_at_least}
+use Rattle.unwind_definitions.specs.Operations.{Nop, Pop, Swap, Rotate, Push, PushColumn, Pick, Load, Skip, Branch, magnitude, negation, quotient, remainder, difference, product, shifted_left, shifted_right, shifted_signed, is_equal, is_unequal, is_less, is_at_least}
 use Rattle.unwind_definitions.specs.Operations as definitions
 use Rattle.frame_expressions.specs.declared.operation.Operation.{Operation}
 use Rattle.frame_expressions.specs.declared.operation.Operation.TheVariants as coded
@@ -15,7 +15,7 @@ use Rattle.frame_expressions.specs.declared.operation.Division.TheVariants as di
 
 abbrev pub changed_by : Change → ℕ → ℕ
 changed_by change.Magnitude = magnitude
-changed_by change.Negate = negated
+changed_by change.Negate = negation
 changed_by change.Not = bit_not w64
 changed_by (change.Add n) = λ a. a +w n
 

@@ -11,7 +11,7 @@ use Rattle.unwind_definitions.specs.Input.{Input, Reads, number, sleb}
 use Rattle.unwind_definitions.specs.Instructions.{column}
 use Rattle.unwind_definitions.specs.Caller.{Columns, StepFault, Table, Unmapped, column_or_fault, fault_in}
 use Rattle.unwind_definitions.specs.Operations.{Operation, Nop, Pop, Swap, Rotate, Push, PushColumn, Pick, Load, Change, Combine, Divide, Skip, Branch, says, with_operand, pushes_column, loads, unknown, constant, rearrangement, arithmetic, decision, extension, operation_of, operation}
-use Rattle.unwind_definitions.specs.Expressions.{Configuration, goes_on, within, after_move, after_branch, after_load, load_or_fault, after_column_push, done, done_where_read, step, rest_at, last_of, is_at_end, top_of, fault_at, HasFault, begun, operation_limit, evaluation}
+use Rattle.unwind_definitions.specs.Expressions.{Configuration, goes_on, within, after_move, after_branch, after_load, load_or_fault, after_column_push, done, done_where_read, step, rest_at, last_of, is_at_end, top_of, fault_at, HasFault, initial_configuration, operation_limit, evaluation}
 use Rattle.frame_expressions.specs.Runs.{answer_is}
 
 -- ---- the numbers that operations read
@@ -239,5 +239,5 @@ unmapped_is image columns x limit start a has = go (limit - length has.run) (las
 pub unmapped_evaluation : (image : List Span) (expression stack : List ℕ) (columns : Columns) (a : ℕ) → evaluation image expression stack columns ≡ Err (Unmapped a) → word_at image a ≡ None
 unfolding evaluation
 unmapped_evaluation image expression stack columns a e =
-    let run = answer_is image columns expression (operation_limit expression) (begun stack) (Err (Unmapped a)) in
-    unmapped_is image columns expression (operation_limit expression) (begun stack) a (run.0 e)
+    let run = answer_is image columns expression (operation_limit expression) (initial_configuration stack) (Err (Unmapped a)) in
+    unmapped_is image columns expression (operation_limit expression) (initial_configuration stack) a (run.0 e)

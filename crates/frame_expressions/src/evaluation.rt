@@ -2,7 +2,7 @@
 
 ghost use Rattle.std.specs.Prelude.{◌≡◌, ◌↔◌, ℕ, Ok, Err};
 ghost use Rattle.unwind_definitions.specs.Caller.{StepFault, Table};
-ghost use Rattle.unwind_definitions.specs.Expressions.{HasValue, HasFault, IsEndless, begun};
+ghost use Rattle.unwind_definitions.specs.Expressions.{HasValue, HasFault, IsEndless, initial_configuration};
 ghost use Rattle.unwind_definitions.specs.Expressions.{operation_limit, evaluation};
 ghost use Rattle.frame_expressions.specs.Answers.{value_given, stack_of};
 
@@ -35,13 +35,13 @@ pub fn evaluate<R: RegisterMap<Word = u64>>(
 ) -> Result<u64, EvalError>
     ensures value { (v : ℕ) → (result ≡ Ok v) ↔
         HasValue image.now (R.columns registers.now) expression.now (operation_limit expression.now)
-        (begun (stack_of initial)) v }
+        (initial_configuration (stack_of initial)) v }
     ensures fault { (e : StepFault) → (value_given result ≡ Err e) ↔
         HasFault image.now (R.columns registers.now) expression.now (operation_limit expression.now)
-        (begun (stack_of initial)) e }
+        (initial_configuration (stack_of initial)) e }
     ensures endless { (value_given result ≡ Err (Table Error.TooManyOperations)) ↔
         IsEndless image.now (R.columns registers.now) expression.now
-        (operation_limit expression.now) (begun (stack_of initial)) }
+        (operation_limit expression.now) (initial_configuration (stack_of initial)) }
     ensures evaluated { value_given result ≡ evaluation image.now expression.now (stack_of initial)
         (R.columns registers.now) }
 {

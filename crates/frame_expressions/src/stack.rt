@@ -26,11 +26,11 @@ pub(crate) struct Stack {
 
 impl Model for Stack {
     ghost use Rattle.std.specs.Prelude.{ℕ, List, ◌≤◌};
-    ghost use Rattle.frame_expressions.specs.Stacked.{stacked};
+    ghost use Rattle.frame_expressions.specs.Stacked.{words_stacked};
 
     ghost Value = { List ℕ };
 
-    ghost view = { λ s. stacked s.words s.length };
+    ghost view = { λ s. words_stacked s.words s.length };
 
     ghost invariant = { λ s. s.length ≤ 64 };
 }
@@ -125,7 +125,7 @@ impl Stack {
         ensures { Leaves result self.new (after_change (changed_by change) self.old) }
     {
         let word = self.pop()?;
-        self.push(words::changed(change, word))
+        self.push(words::changed_word(change, word))
     }
 
     /// Puts one word in the place of the second and the top.
@@ -134,7 +134,7 @@ impl Stack {
     {
         let top = self.pop()?;
         let second = self.pop()?;
-        self.push(words::combined(combination, second, top))
+        self.push(words::combined_word(combination, second, top))
     }
 
     /// Puts a quotient or a remainder in the place of the second word and the top.
@@ -146,6 +146,6 @@ impl Stack {
         if top == 0 {
             return Err(Error::DivisionByZero);
         }
-        self.push(words::divided(division, second, top))
+        self.push(words::divided_word(division, second, top))
     }
 }

@@ -8,7 +8,7 @@ ghost use Rattle.unwind_definitions.specs.Operations.{is_less, is_at_least, quot
 use crate::operation::{Change, Combination, Division};
 
 /// What is put in the place of a word.
-pub(crate) fn changed(change: Change, word: u64) -> u64
+pub(crate) fn changed_word(change: Change, word: u64) -> u64
     ensures { result ≡ changed_by change word }
 {
     match change {
@@ -20,7 +20,7 @@ pub(crate) fn changed(change: Change, word: u64) -> u64
 }
 
 /// What is put in the place of two words.
-pub(crate) fn combined(combination: Combination, second: u64, top: u64) -> u64
+pub(crate) fn combined_word(combination: Combination, second: u64, top: u64) -> u64
     ensures { result ≡ combined_by combination second top }
 {
     match combination {
@@ -43,7 +43,7 @@ pub(crate) fn combined(combination: Combination, second: u64, top: u64) -> u64
 }
 
 /// A quotient or a remainder.
-pub(crate) fn divided(division: Division, second: u64, top: u64) -> u64
+pub(crate) fn divided_word(division: Division, second: u64, top: u64) -> u64
     requires { top ≢ 0 }
     ensures { result ≡ divided_by division second top }
 {

@@ -11,7 +11,7 @@ use Rattle.frame_rows.specs.RowValue.{RowValue}
 use Rattle.frame_rows.specs.Rows.{GivesRow, IsLast}
 use Rattle.frame_rows.specs.Movable.{IsMovable, IsRelative}
 use Rattle.frame_rows.specs.Running.{push, outcome}
-use Rattle.frame_rows.specs.KeptRows.{Kept, KeptRows, AreKeptOf, AreRows, AreTooMany, IsAdded, Ascends, answer_rule_count, kept_rule_count, location_of, locations_after, placed, reached_locations, rule_count_at, rule_count_of, then_location}
+use Rattle.frame_rows.specs.KeptRows.{Kept, KeptRows, AreKeptOf, AreRows, AreTooMany, IsAdded, Ascends, answer_rule_count, kept_rule_count, location_of, locations_after, kept_at_distance, reached_locations, rule_count_at, rule_count_of, then_location}
 use Rattle.frame_rows.specs.Stretches.{EndsStretch, IsLastStretch, IsStretch, IsFaultyStretch}
 use Rattle.frame_rows.specs.TableRows.{IsPushed, Keeps}
 use Rattle.frame_rows.specs.declared.machine.Machine.{Machine}
@@ -50,7 +50,7 @@ module _ (start end : ℕ) (common own : Program) (old : KeptRows) where
 
   -- what is kept at distances, from the start
   abbrev pub done : List Kept → List Kept
-  done by = map (placed start) by
+  done by = map (kept_at_distance start) by
 
   -- so many locations are done, and from one on so many instructions are left
   pub record IsAdding (here : ℕ) (now : RowInstructions) (q : Program) (table : KeptRows) : Type 0 where
@@ -88,7 +88,7 @@ module _ (start end : ℕ) (common own : Program) (old : KeptRows) where
   as_many_kept by all =
       let n = ap length all in
       let m = length-map (done by) location_of in
-      let k = length-map by (placed start) in
+      let k = length-map by (kept_at_distance start) in
       omega arith
 
   -- it is added: from the first index behind the rest on
@@ -151,7 +151,7 @@ module _ (start end : ℕ) (common own : Program) (old : KeptRows) where
     placed_one : done (a.by ++ one) ≡ done a.by ++ keeps here answer ∷ []
     placed_one =
         let there : start + (here - start) ≡ here = let h = a.ahead in omega arith in
-        map-append (placed start) a.by one ∙ ap (λ n. done a.by ++ keeps n answer ∷ []) there
+        map-append (kept_at_distance start) a.by one ∙ ap (λ n. done a.by ++ keeps n answer ∷ []) there
 
     locations_one : map location_of (done (a.by ++ one)) ≡ map location_of (done a.by) ++ here ∷ []
     locations_one = ap (map location_of) placed_one ∙ map-append location_of (done a.by) (keeps here answer ∷ [])
@@ -230,7 +230,7 @@ module _ (start end : ℕ) (common own : Program) (old : KeptRows) where
         let all = ap length a.listed in
         let n = length-append (map location_of (done a.by)) (here ∷ locations_after start end now q.instructions) in
         let m = length-map (done a.by) location_of in
-        let l = length-map a.by (placed start) in
+        let l = length-map a.by (kept_at_distance start) in
         let k = a.row_count in
         let rules = ap (rule_count_at due_at) a.listed in
         let r = count_append due_at (map location_of (done a.by)) (here ∷ locations_after start end now q.instructions) in

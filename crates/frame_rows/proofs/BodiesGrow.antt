@@ -6,7 +6,7 @@ use Rattle.std.proofs.lemmas.List.{take-append-le, drop-append-le, map-append}
 use Rattle.std.proofs.Math.Seq.{drop-append_seam, take-length}
 use Rattle.unwind_definitions.specs.declared.error.Error.{Error as Fault}
 use Rattle.frame_rows.specs.Rules.{entry_of, AscendsFrom}
-use Rattle.frame_rows.specs.Bodies.{IsInRules, ruled, body_in, kept_answer}
+use Rattle.frame_rows.specs.Bodies.{IsInRules, body_rules, body_in, kept_answer}
 use Rattle.unwind_arch.specs.declared.register.Register.{Register as Column}
 use Rattle.frame_rows.specs.declared.rule.CfaRule.{CfaRule as CodedCfa}
 use Rattle.frame_rows.specs.declared.rule.RegisterRule.{RegisterRule}
@@ -21,7 +21,7 @@ any_err (Ok x) p = tt
 any_err (Err e) p = p
 
 module _ (rules es : List (Column × RegisterRule)) where
-  still_ruled : (k : RowBody) → IsInRules rules k → ruled (rules ++ es) k ≡ ruled rules k
+  still_ruled : (k : RowBody) → IsInRules rules k → body_rules (rules ++ es) k ≡ body_rules rules k
   still_ruled k is =
       let o = is.ordered in let w = is.within in
       let n = length-drop k.first_rule rules in
@@ -48,7 +48,7 @@ module _ (rules es : List (Column × RegisterRule)) where
     abbrev pub added : RowBody
     added = record { cfa = cfa; saved_args_size = size; first_rule = length rules; end_rule = length rules + length es }
 
-    added_ruled : ruled (rules ++ es) added ≡ map entry_of es
+    added_ruled : body_rules (rules ++ es) added ≡ map entry_of es
     added_ruled =
         let n : length rules + length es - length rules ≡ length es = omega arith in
         ap (λ l. map entry_of (take (length rules + length es - length rules) l)) (drop-append_seam rules es)

@@ -7,7 +7,7 @@ use Rattle.unwind_definitions.specs.declared.error.Error.TheVariants.{Unexpected
 use Rattle.unwind_definitions.specs.Faults.{◌>>=◌}
 use Rattle.unwind_definitions.specs.Input.{Input, Reads, split, number, uleb_from, uleb, sleb_from, sleb}
 use Rattle.unwind_definitions.specs.Pointers.{direct}
-use Rattle.unwind_definitions.specs.Instructions.{Rule, Offset, ValOffset, Undefined, SameValue, Expression, ValExpression, Instruction, Advance, SetLocation, Write, Cfa, CfaOffset, CfaExpression, Arguments, Coding, scaled, column, advance, sets_location, writes_offset, writes_signed, writes, writes_register, resets, writes_block, defines_cfa_signed, defines_cfa_offset_signed, unknown, cfa_definition, offset_rule, register_rule, row_state, operation, saves, instruction_of, instruction, Program, after, program_from, program}
+use Rattle.unwind_definitions.specs.Instructions.{Rule, Offset, ValOffset, Undefined, SameValue, Expression, ValExpression, Instruction, Advance, SetLocation, Write, Cfa, CfaOffset, CfaExpression, Arguments, Coding, data_units, column, advance, sets_location, writes_offset, writes_signed, writes, writes_register, resets, writes_block, defines_cfa_signed, defines_cfa_offset_signed, unknown, cfa_definition, offset_rule, register_rule, row_state, operation, saves, instruction_of, instruction, Program, after, program_from, program}
 use Rattle.frame_rows.specs.Movable.{IsRelative, IsMovable}
 
 -- the same is read, and the same bytes are left
@@ -119,7 +119,7 @@ agrees_if true f g f' g' c d first second = first
 agrees_if false f g f' g' c d first second = second
 
 module _ (k j : Coding) (code : k.code_factor ≡ j.code_factor) (units : k.data_factor ≡ j.data_factor) where
-  scaled_same : (n : ℕ) → scaled k n ≡ scaled j n
+  scaled_same : (n : ℕ) → data_units k n ≡ data_units j n
   scaled_same n = ap (λ u. (n * u) % 2 ^ 64) units
 
   -- what is set isn't relative

@@ -7,7 +7,7 @@ use Rattle.unwind_definitions.specs.declared.error.Error.{Error as Fault}
 use Rattle.unwind_definitions.specs.Row.{RowInstructions}
 use Rattle.frame_rows.specs.RowValue.{RowValue}
 use Rattle.frame_rows.specs.Rows.{GivesRow}
-use Rattle.frame_rows.specs.KeptRows.{Kept, AreRows, first_location, location_of, placed}
+use Rattle.frame_rows.specs.KeptRows.{Kept, AreRows, first_location, location_of, kept_at_distance}
 use Rattle.frame_rows.specs.TableRows.{HoldsAt, IsLastAt, kept_in}
 use Rattle.frame_rows.specs.declared.row_table.TableRow.{TableRow}
 
@@ -43,18 +43,18 @@ module _ (bodies : List (Result RowValue Fault)) where
       record { before = kept_in bodies x ∷ h.before; here = h.here; later = h.later; all = ap (λ l. kept_in bodies x ∷ l) h.all; at_or_before = h.at_or_before; after = h.after; answers = h.answers }
 
 -- what holds at a distance holds at the address that is so far behind a start
-pub holds_placed : (start distance : ℕ) (kept : List Kept) (answer : Result RowValue Fault) → HoldsAt kept distance answer → HoldsAt (map (placed start) kept) (start + distance) answer
+pub holds_placed : (start distance : ℕ) (kept : List Kept) (answer : Result RowValue Fault) → HoldsAt kept distance answer → HoldsAt (map (kept_at_distance start) kept) (start + distance) answer
 holds_placed start distance kept answer h = record {
-  before = map (placed start) h.before;
-  here = placed start h.here;
-  later = map (placed start) h.later;
-  all = ap (map (placed start)) h.all ∙ map-append (placed start) h.before (h.here ∷ h.later);
+  before = map (kept_at_distance start) h.before;
+  here = kept_at_distance start h.here;
+  later = map (kept_at_distance start) h.later;
+  all = ap (map (kept_at_distance start)) h.all ∙ map-append (kept_at_distance start) h.before (h.here ∷ h.later);
   at_or_before = let a = h.at_or_before in omega arith;
   after = λ end below. go h.later end below (h.after (end - start) (omega arith));
   answers = h.answers;
 }
   where
-    go : (later : List Kept) (end : ℕ) → start + distance < end → distance < first_location (end - start) later → start + distance < first_location end (map (placed start) later)
+    go : (later : List Kept) (end : ℕ) → start + distance < end → distance < first_location (end - start) later → start + distance < first_location end (map (kept_at_distance start) later)
     go [] end below lt = below
     go (k ∷ ks) end below lt = omega arith
 

@@ -9,7 +9,7 @@ use Rattle.unwind_definitions.specs.declared.error.Error.TheVariants.{AddressOve
 use Rattle.unwind_definitions.specs.Instructions.{Instruction, Nop, Remember, Restore, Advance, SetLocation, Write, Reset, Cfa, CfaColumn, CfaOffset, CfaExpression, Arguments, Program}
 use Rattle.unwind_definitions.specs.Row.{RowInstructions, fault_of, fault_where, first_fault, location, up_to, or_else, common_fault, from_common, cfa_rule, row, row_of}
 use Rattle.frame_rows.specs.Movable.{IsRelative, IsMovable}
-use Rattle.frame_rows.specs.KeptRows.{Kept, AreRows, first_location, location_of, locations_after, placed, then_location, reached_locations, rule_count_at, rule_count_of}
+use Rattle.frame_rows.specs.KeptRows.{Kept, AreRows, first_location, location_of, locations_after, kept_at_distance, then_location, reached_locations, rule_count_at, rule_count_of}
 use Rattle.frame_rows.specs.Rows.{GivesRow}
 use Rattle.frame_rows.specs.Running.{push, stops}
 use Rattle.frame_rows.proofs.Pushed.{lead, location_one, location-push}
@@ -284,7 +284,7 @@ count_moved due due' s t (d ∷ ds) same =
 
 -- ---- what is kept
 
-pub placed_locations : (s : ℕ) (by : List Kept) → map location_of (map (placed s) by) ≡ map (from s) (map location_of by)
+pub placed_locations : (s : ℕ) (by : List Kept) → map location_of (map (kept_at_distance s) by) ≡ map (from s) (map location_of by)
 placed_locations s [] = refl
 placed_locations s (k ∷ ks) = ap (λ l. (s + k.location) ∷ l) (placed_locations s ks)
 
@@ -298,11 +298,11 @@ from_injective s (d ∷ ds) (e ∷ es) same =
     let later : map (from s) ds ≡ map (from s) es = cc in
     ap (λ n. n ∷ ds) first ∙ ap (λ l. e ∷ l) (from_injective s ds es later)
 
-first_placed : (s d : ℕ) (by : List Kept) → first_location (s + d) (map (placed s) by) ≡ s + first_location d by
+first_placed : (s d : ℕ) (by : List Kept) → first_location (s + d) (map (kept_at_distance s) by) ≡ s + first_location d by
 first_placed s d [] = refl
 first_placed s d (k ∷ ks) = refl
 
-pub rows_moved : (due due' : ℕ → Result RowInstructions Fault) (s t size : ℕ) (by : List Kept) → ((d : ℕ) → due (s + d) ≡ due' (t + d)) → AreRows due (s + size) (map (placed s) by) → AreRows due' (t + size) (map (placed t) by)
+pub rows_moved : (due due' : ℕ → Result RowInstructions Fault) (s t size : ℕ) (by : List Kept) → ((d : ℕ) → due (s + d) ≡ due' (t + d)) → AreRows due (s + size) (map (kept_at_distance s) by) → AreRows due' (t + size) (map (kept_at_distance t) by)
 rows_moved due due' s t size [] same rows = tt
 rows_moved due due' s t size (k ∷ ks) same rows = (
   λ pc from_here below.

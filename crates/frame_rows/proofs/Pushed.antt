@@ -3,7 +3,7 @@ use Rattle.std.proofs.Common.{◌≡◌, ℕ, ◌+◌, Bool, false, List, [], �
 use Rattle.std.specs.Option.{option_or, option_map, unwrap_or}
 use Rattle.std.proofs.lemmas.List.{append-nil}
 use Rattle.unwind_definitions.specs.Instructions.{Rule, Instruction, Nop, Remember, Restore, Advance, SetLocation, Write, Reset, Cfa, CfaColumn, CfaOffset, CfaExpression, Arguments}
-use Rattle.unwind_definitions.specs.Row.{RowInstructions, last_said, cut, cut_of, Cut, says_of, initial_rule, rule_of, cfa_rule, cfa_of, cfa_from, whole_cfa, cfa_column, cfa_offset, arguments, argument_size, CfaRule, ColumnAndOffset, ByExpression, location, remembers, is_open}
+use Rattle.unwind_definitions.specs.Row.{RowInstructions, last_said, kept_instructions, cut_of, Cut, says_of, initial_rule, rule_of, cfa_rule, cfa_of, cfa_from, whole_cfa, cfa_column, cfa_offset, arguments, argument_size, CfaRule, ColumnAndOffset, ByExpression, location, remembers, is_open}
 use Rattle.frame_rows.specs.Running.{push, IsClosed, IsOpenSince}
 
 or_none : {A : Type 0} (o : Option A) → option_or None o ≡ option_or o None
@@ -50,25 +50,25 @@ cut_push (CfaOffset n ∷ is) i plain = cons_pushed (CfaOffset n) i (cut_of (is 
 cut_push (CfaExpression n ∷ is) i plain = cons_pushed (CfaExpression n) i (cut_of (is ++ i ∷ [])) (cut_of is) (cut_push is i plain)
 cut_push (Arguments n ∷ is) i plain = cons_pushed (Arguments n) i (cut_of (is ++ i ∷ [])) (cut_of is) (cut_push is i plain)
 
-pub kept_push : (is : List Instruction) (i : Instruction) → IsPlain i → cut (is ++ i ∷ []) ≡ cut is ++ i ∷ []
+pub kept_push : (is : List Instruction) (i : Instruction) → IsPlain i → kept_instructions (is ++ i ∷ []) ≡ kept_instructions is ++ i ∷ []
 kept_push is i plain = ap (λ (c : Cut). c.kept) (cut_push is i plain)
 
 -- the rule of a column after one more instruction
 pub rule_push : (run : RowInstructions) (i : Instruction) (c : ℕ) → IsPlain i → rule_of (push run i) c ≡ unwrap_or (says_of (initial_rule run c) c i) (rule_of run c)
 rule_push run i c plain =
     ap (λ (is : List Instruction). unwrap_or (last_said (says_of (initial_rule run c) c) is) (initial_rule run c)) (kept_push run.own i plain)
-    ∙ ap (λ o. unwrap_or o (initial_rule run c)) (last_said-push (says_of (initial_rule run c) c) (cut run.own) i)
-    ∙ nested (says_of (initial_rule run c) c i) (last_said (says_of (initial_rule run c) c) (cut run.own)) (initial_rule run c)
+    ∙ ap (λ o. unwrap_or o (initial_rule run c)) (last_said-push (says_of (initial_rule run c) c) (kept_instructions run.own) i)
+    ∙ nested (says_of (initial_rule run c) c i) (last_said (says_of (initial_rule run c) c) (kept_instructions run.own)) (initial_rule run c)
   where
     nested : (a b : Option (Option Rule)) (d : Option Rule) → unwrap_or (option_or a b) d ≡ unwrap_or a (unwrap_or b d)
     nested None b d = refl
     nested (Some x) b d = refl
 
 abbrev all_of : RowInstructions → List Instruction
-all_of run = cut run.common ++ cut run.own
+all_of run = kept_instructions run.common ++ kept_instructions run.own
 
 all_push : (run : RowInstructions) (i : Instruction) → IsPlain i → all_of (push run i) ≡ all_of run ++ i ∷ []
-all_push run i plain = ap (λ (is : List Instruction). cut run.common ++ is) (kept_push run.own i plain) ∙ sym (append_assoc (cut run.common) (cut run.own) (i ∷ []))
+all_push run i plain = ap (λ (is : List Instruction). kept_instructions run.common ++ is) (kept_push run.own i plain) ∙ sym (append_assoc (kept_instructions run.common) (kept_instructions run.own) (i ∷ []))
 
 words_push : (run : RowInstructions) (i : Instruction) → IsPlain i → cfa_rule (push run i) ≡
     cfa_from (option_or (whole_cfa i) (last_said whole_cfa (all_of run))) (option_or (cfa_column i) (last_said cfa_column (all_of run))) (option_or (cfa_offset i) (last_said cfa_offset (all_of run)))
@@ -165,26 +165,26 @@ closed_at_start rest = refl
 
 pub closed_plain : (own : List Instruction) (i : Instruction) → IsPlain i → IsClosed own → IsClosed (own ++ i ∷ [])
 closed_plain own i plain closed rest =
-    ap cut (one_more own rest i) ∙ closed (i ∷ rest)
-    ∙ ap (λ (c : Cut). cut own ++ c.kept) (plain.alone rest)
-    ∙ sym (append_assoc (cut own) (i ∷ []) (cut rest))
-    ∙ ap (λ (is : List Instruction). is ++ cut rest) (sym (kept_push own i plain))
+    ap kept_instructions (one_more own rest i) ∙ closed (i ∷ rest)
+    ∙ ap (λ (c : Cut). kept_instructions own ++ c.kept) (plain.alone rest)
+    ∙ sym (append_assoc (kept_instructions own) (i ∷ []) (kept_instructions rest))
+    ∙ ap (λ (is : List Instruction). is ++ kept_instructions rest) (sym (kept_push own i plain))
 
 pub open_plain : (before own : List Instruction) (i : Instruction) → IsPlain i → IsOpenSince before own → IsOpenSince before (own ++ i ∷ [])
 open_plain before own i plain opened rest kept behind =
-    ap cut (one_more own rest i) ∙ opened (i ∷ rest) kept (ap (λ (c : Cut). c.behind) (plain.alone rest) ∙ behind)
+    ap kept_instructions (one_more own rest i) ∙ opened (i ∷ rest) kept (ap (λ (c : Cut). c.behind) (plain.alone rest) ∙ behind)
 
 pub open_remember : (own : List Instruction) → IsClosed own → IsOpenSince own (own ++ Remember ∷ [])
 open_remember own closed rest kept behind =
-    ap cut (one_more own rest Remember) ∙ closed (Remember ∷ rest) ∙ ap (λ (o : Option (List Instruction)). cut own ++ unwrap_or o (cut rest)) behind
+    ap kept_instructions (one_more own rest Remember) ∙ closed (Remember ∷ rest) ∙ ap (λ (o : Option (List Instruction)). kept_instructions own ++ unwrap_or o (kept_instructions rest)) behind
 
-pub cut_remember : (own : List Instruction) → IsClosed own → cut (own ++ Remember ∷ []) ≡ cut own
-cut_remember own closed = closed (Remember ∷ []) ∙ append-nil (cut own)
+pub cut_remember : (own : List Instruction) → IsClosed own → kept_instructions (own ++ Remember ∷ []) ≡ kept_instructions own
+cut_remember own closed = closed (Remember ∷ []) ∙ append-nil (kept_instructions own)
 
-pub cut_restore : (before own : List Instruction) → IsOpenSince before own → cut (own ++ Restore ∷ []) ≡ cut before
-cut_restore before own opened = opened (Restore ∷ []) [] refl ∙ append-nil (cut before)
+pub cut_restore : (before own : List Instruction) → IsOpenSince before own → kept_instructions (own ++ Restore ∷ []) ≡ kept_instructions before
+cut_restore before own opened = opened (Restore ∷ []) [] refl ∙ append-nil (kept_instructions before)
 
 pub closed_restore : (before own : List Instruction) → IsOpenSince before own → IsClosed (own ++ Restore ∷ [])
 closed_restore before own opened rest =
-    ap cut (one_more own rest Restore) ∙ opened (Restore ∷ rest) (cut rest) refl
-    ∙ ap (λ (is : List Instruction). is ++ cut rest) (sym (cut_restore before own opened))
+    ap kept_instructions (one_more own rest Restore) ∙ opened (Restore ∷ rest) (kept_instructions rest) refl
+    ∙ ap (λ (is : List Instruction). is ++ kept_instructions rest) (sym (cut_restore before own opened))

@@ -7,7 +7,7 @@ use Rattle.unwind_definitions.specs.declared.error.Error.{Error as Fault}
 use Rattle.unwind_definitions.specs.Input.{Input}
 use Rattle.unwind_definitions.specs.Instructions.{Coding, Program, program}
 use Rattle.unwind_definitions.specs.Row.{RowInstructions, location, row}
-use Rattle.frame_rows.specs.KeptRows.{Adds, Kept, KeptRows, AreKeptOf, AreRows, IsLonger, kept_rule_count, location_of, placed, reached_locations, rows_from, rule_count_at}
+use Rattle.frame_rows.specs.KeptRows.{Adds, Kept, KeptRows, AreKeptOf, AreRows, IsLonger, kept_rule_count, location_of, kept_at_distance, reached_locations, rows_from, rule_count_at}
 use Rattle.frame_rows.specs.Movable.{IsMovable}
 use Rattle.frame_rows.specs.KnownRows.{Serves, IsKnown, IsKnownSlot, AreKnown, AreBlank, Notes, NotesUnless, Finds}
 use Rattle.frame_rows.specs.Again.{CountsAgain}
@@ -27,8 +27,8 @@ use Rattle.frame_rows.proofs.Parts.{as_long, length-part, part_added, part_stays
 
 -- what is kept at distances of a program that was run to its end, where no location is set
 pub record IsWhole (start end : ℕ) (common own : Program) (reach : ℕ) (by : List Kept) : Type 0 where
-  pub locations : map location_of (map (placed start) by) ≡ reached_locations start end common own
-  pub rows : (bound : ℕ) → start + reach < bound → AreRows (λ pc. row start pc common own) bound (map (placed start) by)
+  pub locations : map location_of (map (kept_at_distance start) by) ≡ reached_locations start end common own
+  pub rows : (bound : ℕ) → start + reach < bound → AreRows (λ pc. row start pc common own) bound (map (kept_at_distance start) by)
   pub last : location start own.instructions ≡ start + reach
 
 module _ (s e : ℕ) (common own : Program) (reach : ℕ) (by : List Kept) (movable : IsMovable own) (inside : s + reach < e) (fits : e ≤ 2 ^ 64) (whole : IsWhole s e common own reach by) where
@@ -55,13 +55,13 @@ module _ (s e : ℕ) (common own : Program) (reach : ℕ) (by : List Kept) (mova
     reached_there : reached_locations t f common own ≡ map (from t) (distances common own)
     reached_there = let l = last_there in reached_moved t f common own movable (omega arith) below
 
-    pub kept_there : AreKeptOf t f common own (map (placed t) by)
+    pub kept_there : AreKeptOf t f common own (map (kept_at_distance t) by)
     kept_there = record {
       locations = placed_locations t by ∙ ap (map (from t)) at ∙ sym reached_there;
       rows =
           let size : ℕ = f - t in
           let there : t + size ≡ f = omega arith in
-          subst (λ n. AreRows (due t) n (map (placed t) by)) there
+          subst (λ n. AreRows (due t) n (map (kept_at_distance t) by)) there
           (rows_moved (due s) (due t) s t size by same_due (whole.rows (s + size) (omega arith)));
     }
 
@@ -75,7 +75,7 @@ pub serves : (s e : ℕ) (common : Program) (k : Coding) (c : Input) (reach : �
     Serves common k.code_factor k.data_factor c.bytes reach (kept_rule_count s e common (program k c)) by
 serves s e common k c reach by movable inside fits whole = record {
   kept = λ j d code units same t f within below.
-      subst (λ (p : Program). AreKeptOf t f common p (map (placed t) by))
+      subst (λ (p : Program). AreKeptOf t f common p (map (kept_at_distance t) by))
       (sym (program_by_bytes k j (sym code) (sym units) c d (sym same) movable))
       (kept_there s e common (program k c) reach by movable inside fits whole t f within below);
   counted = λ j d code units same t f within below.
@@ -198,7 +198,7 @@ module _ (limits : RowLimits) (common : Program) (k : Coding) (c : Input) (known
   as_many =
       let n = ap length are_kept.locations in
       let a = length-map (rows_from start old.rows known.rows) location_of in
-      let b = length-map (slice_range old.rows known.rows.first known.rows.end) (placed start) in
+      let b = length-map (slice_range old.rows known.rows.first known.rows.end) (kept_at_distance start) in
       let p = length-part old.rows known.rows.first known.rows.end is.ordered is.within in
       omega arith
 

@@ -4,7 +4,7 @@ use Rattle.std.specs.Prelude.{is_some, ◌==◌}
 use Rattle.std.specs.Option.{option_map, unwrap_or}
 use Rattle.std.proofs.lemmas.Bool.{eqb-true}
 use Rattle.unwind_definitions.specs.Instructions.{Rule, Instruction, Nop, Remember, Restore, Advance, SetLocation, Write, Reset, Arguments}
-use Rattle.unwind_definitions.specs.Row.{RowInstructions, rule_of, cfa_rule, cfa_of, arguments, cut, says_of, initial_rule, last_said, is_open}
+use Rattle.unwind_definitions.specs.Row.{RowInstructions, rule_of, cfa_rule, cfa_of, arguments, kept_instructions, says_of, initial_rule, last_said, is_open}
 use Rattle.frame_rows.specs.Rules.{rule_in, cfa_meaning, with_rule}
 use Rattle.frame_rows.specs.Running.{push, IsStateOf, IsClosed, IsRemembered, Represents}
 use Rattle.frame_rows.specs.declared.machine.RowState.{RowState}
@@ -115,9 +115,9 @@ module _ (start : ℕ) (m : Machine) (run : RowInstructions) (rep : Represents s
       record {
         here = here ∙ rep.here ∙ sym (location-push start run.own Remember);
         state = subst (λ s. IsStateOf s (push run Remember)) (sym state) (record {
-          cfa = rep.state.cfa ∙ sym (ap (λ is. cfa_of (cut run.common ++ is)) same);
+          cfa = rep.state.cfa ∙ sym (ap (λ is. cfa_of (kept_instructions run.common ++ is)) same);
           rules = λ c. rep.state.rules c ∙ sym (ap (λ is. unwrap_or (last_said (says_of (initial_rule run c) c) is) (initial_rule run c)) same);
-          arguments = rep.state.arguments ∙ sym (ap (λ is. unwrap_or (last_said arguments (cut run.common ++ is)) 0) same);
+          arguments = rep.state.arguments ∙ sym (ap (λ is. unwrap_or (last_said arguments (kept_instructions run.common ++ is)) 0) same);
         });
         opened = ap is_some memory ∙ sym (open-push run.own Remember);
         remembered = subst (λ r. IsRemembered r (push run Remember)) (sym memory) (run.own, open_remember run.own closed, rep.state);
@@ -132,9 +132,9 @@ module _ (start : ℕ) (m : Machine) (run : RowInstructions) (rep : Represents s
       record {
         here = here ∙ rep.here ∙ sym (location-push start run.own Restore);
         state = subst (λ s. IsStateOf s (push run Restore)) (sym state) (record {
-          cfa = r.2.cfa ∙ sym (ap (λ is. cfa_of (cut run.common ++ is)) same);
+          cfa = r.2.cfa ∙ sym (ap (λ is. cfa_of (kept_instructions run.common ++ is)) same);
           rules = λ c. r.2.rules c ∙ sym (ap (λ is. unwrap_or (last_said (says_of (initial_rule run c) c) is) (initial_rule run c)) same);
-          arguments = r.2.arguments ∙ sym (ap (λ is. unwrap_or (last_said arguments (cut run.common ++ is)) 0) same);
+          arguments = r.2.arguments ∙ sym (ap (λ is. unwrap_or (last_said arguments (kept_instructions run.common ++ is)) 0) same);
         });
         opened = ap is_some memory ∙ sym (open-push run.own Restore);
         remembered = subst (λ r. IsRemembered r (push run Restore)) (sym memory) (closed_restore r.0 run.own r.1);

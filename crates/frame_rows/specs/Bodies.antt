@@ -10,22 +10,22 @@ use Rattle.frame_rows.specs.declared.rule.CfaRule.{CfaRule as CodedCfa}
 use Rattle.frame_rows.specs.declared.row_bodies.RowBody.{RowBody}
 
 -- the rules of a body, among those of all
-abbrev pub ruled : List (Column × RegisterRule) → RowBody → List (ℕ × Rule)
-ruled rules b = map entry_of (slice_range rules b.first_rule b.end_rule)
+abbrev pub body_rules : List (Column × RegisterRule) → RowBody → List (ℕ × Rule)
+body_rules rules b = map entry_of (slice_range rules b.first_rule b.end_rule)
 
 abbrev pub kept_answer : Result CodedCfa Fault → List (ℕ × Rule) → ℕ → Result RowValue Fault
 kept_answer (Ok cfa) rules size = Ok (record { cfa = cfa_meaning cfa; rules = rules; saved_args_size = size })
 kept_answer (Err e) rules size = Err e
 
 abbrev pub body_in : List (Column × RegisterRule) → RowBody → Result RowValue Fault
-body_in rules b = kept_answer b.cfa (ruled rules b) b.saved_args_size
+body_in rules b = kept_answer b.cfa (body_rules rules b) b.saved_args_size
 
 -- a body's rules are among those of all, at most 32, by ascending column
 pub record IsInRules (rules : List (Column × RegisterRule)) (b : RowBody) : Type 0 where
   pub ordered : b.first_rule ≤ b.end_rule
   pub within : b.end_rule ≤ length rules
   pub few : b.end_rule ≤ b.first_rule + 32
-  pub ascending : AscendsFrom 0 (ruled rules b)
+  pub ascending : AscendsFrom 0 (body_rules rules b)
 
 -- what stands among bodies stays at its place
 pub record Grows (old new : List (Result RowValue Fault)) : Type 0 where

@@ -2,7 +2,7 @@
 use Rattle.std.specs.Prelude.{ℕ, List, Ok}
 use Rattle.unwind_definitions.specs.Faults.{◌>>=◌}
 use Rattle.unwind_definitions.specs.Input.{Reads, split, uleb, sleb}
-use Rattle.unwind_definitions.specs.Instructions.{Instruction, Nop, Remember, Restore, Advance, SetLocation, Write, Reset, Cfa, CfaColumn, CfaOffset, CfaExpression, Arguments, Coding, scaled, row_creation, cfa_definition, offset_rule, register_rule, row_state, unknown}
+use Rattle.unwind_definitions.specs.Instructions.{Instruction, Nop, Remember, Restore, Advance, SetLocation, Write, Reset, Cfa, CfaColumn, CfaOffset, CfaExpression, Arguments, Coding, data_units, row_creation, cfa_definition, offset_rule, register_rule, row_state, unknown}
 use Rattle.encoded_pointers.specs.PointerViews.{bases_of}
 use Rattle.frame_rows.specs.Rules.{rule_meaning}
 use Rattle.frame_rows.specs.declared.coding.Coding.{Coding as CodeCoding}
@@ -28,10 +28,10 @@ coding_in c = record { code_factor = c.code_factor; data_factor = c.data_factor;
 
 -- an offset in data units, and the bytes of an expression
 abbrev pub unsigned_offset : Coding → Reads ℕ
-unsigned_offset coding c = uleb c >>= λ n. Ok (scaled coding n.0, n.1)
+unsigned_offset coding c = uleb c >>= λ n. Ok (data_units coding n.0, n.1)
 
 abbrev pub signed_offset : Coding → Reads ℕ
-signed_offset coding c = sleb c >>= λ n. Ok (scaled coding n.0, n.1)
+signed_offset coding c = sleb c >>= λ n. Ok (data_units coding n.0, n.1)
 
 abbrev pub block : Reads (List ℕ)
 block c = uleb c >>= λ n. split n.0 n.1 >>= λ b. Ok (b.0.bytes, b.1)

@@ -22,12 +22,12 @@ pub record KeptRows : Type 0 where
   pub rule_count : ℕ
 
 -- what is kept at a distance, from a start
-abbrev pub placed : ℕ → Kept → Kept
-placed start k = record { location = start + k.location; answer = k.answer }
+abbrev pub kept_at_distance : ℕ → Kept → Kept
+kept_at_distance start k = record { location = start + k.location; answer = k.answer }
 
 -- the rows of a description that starts somewhere, among those of all
 abbrev pub rows_from : ℕ → List Kept → RowRange → List Kept
-rows_from start rows range = map (placed start) (slice_range rows range.first range.end)
+rows_from start rows range = map (kept_at_distance start) (slice_range rows range.first range.end)
 
 -- ---- locations
 

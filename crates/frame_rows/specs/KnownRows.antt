@@ -3,13 +3,13 @@ use Rattle.std.specs.Prelude.{◌≡◌, ℕ, ◌+◌, ◌^◌, ◌<◌, ◌≤�
 use Rattle.std.specs.List.{AllByRecursion}
 use Rattle.unwind_definitions.specs.Input.{Input}
 use Rattle.unwind_definitions.specs.Instructions.{Coding, Program, program}
-use Rattle.frame_rows.specs.KeptRows.{Kept, AreKeptOf, kept_rule_count, placed}
+use Rattle.frame_rows.specs.KeptRows.{Kept, AreKeptOf, kept_rule_count, kept_at_distance}
 use Rattle.frame_rows.specs.declared.known_programs.KnownProgram.{KnownProgram}
 use Rattle.frame_rows.specs.declared.known_programs.KnownPrograms.{KnownPrograms}
 
 -- These are kept, from any start, of a description whose program has these bytes, read by these factors, and whose range holds the program's last location.
 pub record Serves (common : Program) (code units : ℕ) (bytes : List ℕ) (reach count : ℕ) (by : List Kept) : Type 0 where
-  pub kept : (coding : Coding) (own : Input) → coding.code_factor ≡ code → coding.data_factor ≡ units → own.bytes ≡ bytes → (start end : ℕ) → start + reach < end → end ≤ 2 ^ 64 → AreKeptOf start end common (program coding own) (map (placed start) by)
+  pub kept : (coding : Coding) (own : Input) → coding.code_factor ≡ code → coding.data_factor ≡ units → own.bytes ≡ bytes → (start end : ℕ) → start + reach < end → end ≤ 2 ^ 64 → AreKeptOf start end common (program coding own) (map (kept_at_distance start) by)
   pub counted : (coding : Coding) (own : Input) → coding.code_factor ≡ code → coding.data_factor ≡ units → own.bytes ≡ bytes → (start end : ℕ) → start + reach < end → end ≤ 2 ^ 64 → kept_rule_count start end common (program coding own) ≡ count
 
 -- rows of a table are those that a program made, and serve others

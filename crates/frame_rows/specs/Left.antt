@@ -4,5 +4,5 @@ use Rattle.unwind_arch.specs.declared.register.Register.{Register as Column}
 use Rattle.frame_rows.specs.declared.rule.RegisterRule.{RegisterRule}
 use Rattle.frame_rows.specs.declared.row.Registers.{Registers}
 
-abbrev pub left : Registers → List (Column × RegisterRule)
-left registers = drop registers.passed registers.entries.now
+abbrev pub registers_left : Registers → List (Column × RegisterRule)
+registers_left registers = drop registers.passed registers.entries.now

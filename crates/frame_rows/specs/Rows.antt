@@ -23,6 +23,6 @@ IsLast run (Ok row) = IsRowOf row run
 IsLast run (Err e) = (e ≡ NoCfaRegister) × (cfa_rule run ≡ None)
 
 -- the row that a call leaves in its place, or its fault
-abbrev pub made : Result (Unit {0}) Fault → RowValue → Result RowValue Fault
-made (Ok done) row = Ok row
-made (Err e) row = Err e
+abbrev pub row_in_place : Result (Unit {0}) Fault → RowValue → Result RowValue Fault
+row_in_place (Ok done) row = Ok row
+row_in_place (Err e) row = Err e

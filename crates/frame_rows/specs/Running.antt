@@ -3,7 +3,7 @@ use Rattle.std.specs.Prelude.{◌≡◌, ℕ, ◌+◌, ◌^◌, Bool, false, ◌
 use Rattle.std.specs.Option.{option_or, option_map}
 use Rattle.unwind_definitions.specs.declared.error.Error.{Error as Fault}
 use Rattle.unwind_definitions.specs.Instructions.{Rule, Instruction, Advance, SetLocation, Program}
-use Rattle.unwind_definitions.specs.Row.{RowInstructions, cut, cut_of, cfa_rule, rule_of, initial_rule, argument_size, location, up_to, first_fault, fault_of, is_open, or_else, from_common}
+use Rattle.unwind_definitions.specs.Row.{RowInstructions, kept_instructions, cut_of, cfa_rule, rule_of, initial_rule, argument_size, location, up_to, first_fault, fault_of, is_open, or_else, from_common}
 use Rattle.frame_rows.specs.Rules.{rule_in, cfa_meaning}
 use Rattle.frame_rows.specs.RowValue.{RowValue}
 use Rattle.frame_rows.specs.Rows.{GivesRow, IsLast}
@@ -39,11 +39,11 @@ pub record IsStateOf (state : RowState) (run : RowInstructions) : Type 0 where
 
 -- No state is open: what follows is kept whole.
 abbrev pub IsClosed : List Instruction → Type 0
-IsClosed own = (rest : List Instruction) → cut (own ++ rest) ≡ cut own ++ cut rest
+IsClosed own = (rest : List Instruction) → kept_instructions (own ++ rest) ≡ kept_instructions own ++ kept_instructions rest
 
 -- A state is open since instructions: a restore leads back to them.
 abbrev pub IsOpenSince : List Instruction → List Instruction → Type 0
-IsOpenSince before own = (rest kept : List Instruction) → (cut_of rest).behind ≡ Some kept → cut (own ++ rest) ≡ cut before ++ kept
+IsOpenSince before own = (rest kept : List Instruction) → (cut_of rest).behind ≡ Some kept → kept_instructions (own ++ rest) ≡ kept_instructions before ++ kept
 
 -- what is remembered, if a state is open
 abbrev pub IsRemembered : Option RowState → RowInstructions → Type 0

@@ -22,7 +22,7 @@ pub(crate) struct KnownProgram<'a> {
     pub(crate) bytes: &'a [u8],
     pub(crate) code_factor: u64,
     pub(crate) data_factor: u64,
-    /// How far behind the function's start the last location stands that it led to.
+    /// How far after the function's start the last location stands that it led to.
     pub(crate) reach: u64,
     pub(crate) rows: RowRange,
     /// How many rules of registers its rows have.
@@ -64,7 +64,7 @@ impl<'a> KnownPrograms<'a> {
     }
 
     /// The program of a description whose function has so many bytes, lent, where it is known and
-    /// leads to no location behind them.
+    /// leads to no location after them.
     #[inline(always)]
     pub(crate) fn find(
         &self,

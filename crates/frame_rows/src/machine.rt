@@ -80,7 +80,7 @@ impl<'a> Machine<'a> {
     ghost use Rattle.frame_rows.specs.InstructionViews.{meaning};
     ghost use Rattle.frame_rows.specs.Running.{IsStateOf, Represents, Follows, stops};
     ghost use Rattle.frame_rows.specs.Running.{initial_rules, push};
-    ghost use Rattle.frame_rows.specs.Rows.{IsLast, made};
+    ghost use Rattle.frame_rows.specs.Rows.{IsLast, row_in_place};
     ghost use Rattle.frame_rows.specs.Stretches.{LeadsOn};
 
     /// A machine that is to run the program of a common information entry.
@@ -330,7 +330,7 @@ impl<'a> Machine<'a> {
     /// Puts the row that the programs end with in place of another.
     pub(crate) fn put_row(&self, row: &mut Row<'a>) -> Result<(), Error>
         ensures { (start : ℕ) (run : RowInstructions) → Represents start self.now run →
-            IsLast run (made result row.new) }
+            IsLast run (row_in_place result row.new) }
     {
         match self.state.cfa {
             Some(cfa) => {

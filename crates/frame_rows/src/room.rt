@@ -5,7 +5,7 @@ ghost use Rattle.unwind_definitions.specs.Instructions.{program};
 ghost use Rattle.unwind_definitions.specs.Row.{row, ColumnAndOffset};
 ghost use Rattle.encoded_pointers.specs.CursorViews.{at};
 ghost use Rattle.frame_rows.specs.InstructionViews.{coding_in};
-ghost use Rattle.frame_rows.specs.Rows.{GivesRow, made};
+ghost use Rattle.frame_rows.specs.Rows.{GivesRow, row_in_place};
 
 use crate::coding::Coding;
 use crate::machine::Machine;
@@ -41,7 +41,7 @@ impl<'a> Making<'a> {
         pc: u64,
     ) -> Result<(), Error>
         ensures { let coding = coding_in coding.entry in
-            GivesRow (made result self.new.row) (row start pc
+            GivesRow (row_in_place result self.new.row) (row start pc
             (program coding (at common.entry)) (program coding (at own.entry))) }
     {
         run_programs(&mut self.machine, common, own, coding, start, pc)?;
@@ -97,7 +97,7 @@ impl<'a> RowRoom<'a> {
         pc: u64,
     ) -> Result<(), Error>
         ensures { let coding = coding_in coding.entry in
-            GivesRow (made result self.new) (row start pc
+            GivesRow (row_in_place result self.new) (row start pc
             (program coding (at common.entry)) (program coding (at own.entry))) }
     {
         if let Some(making) = &mut self.making {

@@ -36,7 +36,7 @@ impl<'a> Model for Row<'a> {
 }
 
 impl<'a> Row<'a> {
-    ghost use Rattle.frame_rows.specs.Left.{left};
+    ghost use Rattle.frame_rows.specs.Left.{registers_left};
 
     pub(crate) fn new(cfa: CfaRule<'a>, rules: RegisterRules<'a>, saved_args_size: u64) -> Row<'a>
         ensures { result ≡ record {
@@ -86,7 +86,7 @@ impl<'a> Row<'a> {
 
     /// The registers that have a rule, at most 32, with their rules, by ascending number.
     pub fn registers(&self) -> Registers<'_, 'a>
-        ensures rules { map entry_of (left result) ≡ self.now.rules }
+        ensures rules { map entry_of (registers_left result) ≡ self.now.rules }
         ensures ascending { AscendsFrom 0 self.now.rules }
         ensures count { length self.now.rules ≤ 32 }
     {
@@ -117,11 +117,11 @@ pub struct Registers<'r, 'a> {
 }
 
 impl<'r, 'a> Registers<'r, 'a> {
-    ghost use Rattle.frame_rows.specs.Left.{left};
+    ghost use Rattle.frame_rows.specs.Left.{registers_left};
 
     // All of these.
     pub(crate) fn over(entries: &'r [(Register, RegisterRule<'a>)]) -> Registers<'r, 'a>
-        ensures { left result ≡ entries.now }
+        ensures { registers_left result ≡ entries.now }
     {
         Registers { entries, passed: 0 }
     }
@@ -131,11 +131,11 @@ impl<'r, 'a> Iterator for Registers<'r, 'a> {
     type Item = (Register, RegisterRule<'a>);
 
     ghost use Rattle.std.specs.Iterator.{YieldsFirst, item_count};
-    ghost use Rattle.frame_rows.specs.Left.{left};
+    ghost use Rattle.frame_rows.specs.Left.{registers_left};
 
-    ghost next_gives = { YieldsFirst left };
+    ghost next_gives = { YieldsFirst registers_left };
 
-    ghost remaining = { item_count left };
+    ghost remaining = { item_count registers_left };
 
     fn next(&mut self) -> Option<(Register, RegisterRule<'a>)> {
         if self.passed == self.entries.len() {

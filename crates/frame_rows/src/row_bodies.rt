@@ -82,7 +82,7 @@ impl<'a> RowBodies<'a> {
         requires { place < length self.now }
         ensures { (d : Result RowValue Fault) → result ≡ slice_index_or self.now place d }
     {
-        kept(&self.rules, self.bodies[place])
+        kept_body(&self.rules, self.bodies[place])
     }
 
     /// Where a body stands. One that isn't found by what it says is added, and known from then on.
@@ -159,7 +159,7 @@ impl<'a> RowBodies<'a> {
 }
 
 // What a body says, whose rules are among these.
-fn kept<'r, 'a>(
+fn kept_body<'r, 'a>(
     rules: &'r [(Register, RegisterRule<'a>)],
     body: RowBody<'a>,
 ) -> Result<RowRef<'r, 'a>, Error>

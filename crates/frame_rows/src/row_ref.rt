@@ -39,7 +39,7 @@ impl<'r, 'a> Model for RowRef<'r, 'a> {
 }
 
 impl<'r, 'a> RowRef<'r, 'a> {
-    ghost use Rattle.frame_rows.specs.Left.{left};
+    ghost use Rattle.frame_rows.specs.Left.{registers_left};
 
     pub(crate) fn new(
         cfa: CfaRule<'a>,
@@ -84,7 +84,7 @@ impl<'r, 'a> RowRef<'r, 'a> {
 
     /// The registers that have a rule, at most 32, with their rules, by ascending number.
     pub fn registers(&self) -> Registers<'r, 'a>
-        ensures rules { map entry_of (left result) ≡ self.now.rules }
+        ensures rules { map entry_of (registers_left result) ≡ self.now.rules }
         ensures ascending { AscendsFrom 0 self.now.rules }
         ensures count { length self.now.rules ≤ 32 }
     {

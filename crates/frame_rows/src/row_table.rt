@@ -41,7 +41,7 @@ pub struct RowRange {
     pub end: u32,
 }
 
-// How far behind its function's start a row or a fault begins to hold, and where among the bodies
+// How far after its function's start a row or a fault begins to hold, and where among the bodies
 // its own stands.
 #[derive(Clone, Copy)]
 pub(crate) struct TableRow {
@@ -116,7 +116,7 @@ impl<'a> RowTable<'a> {
         self.rows.len() as u32
     }
 
-    /// What holds so far behind a function's start by its rows, of which the first begins there or
+    /// What holds so far after a function's start by its rows, of which the first begins there or
     /// before: the row or the fault that is the last to begin there or before.
     ///
     /// # Errors

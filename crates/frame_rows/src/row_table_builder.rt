@@ -266,7 +266,7 @@ impl<'a> RowTableBuilder<'a> {
         }
     }
 
-    // Keeps what a stretch ends with that begins so far behind the start: its row, or its fault.
+    // Keeps what a stretch ends with that begins so far after the start: its row, or its fault.
     fn keep(&mut self, distance: u64, next: Result<Option<u64>, Error>) -> Result<bool, AllocError>
         ensures rows { Keeps self.old.limits distance next self.old.machine self.old.table
             result self.new.table }

@@ -17,12 +17,12 @@ abbrev pub answer_of : ℕ → UnwindReasonCode
 answer_of refuses = if refuses == 0 then NO_REASON else NORMAL_STOP
 
 -- one more call
-abbrev pub visited : List ℕ → ℕ → UnwindReasonCode × List ℕ
-visited (refuses ∷ calls ∷ first ∷ last ∷ []) now = (answer_of refuses, refuses ∷ ((calls + 1) % 2 ^ 64) ∷ (if calls == 0 then now else first) ∷ now ∷ [])
-visited words now = (NO_REASON, words)
+abbrev pub visit_answer : List ℕ → ℕ → UnwindReasonCode × List ℕ
+visit_answer (refuses ∷ calls ∷ first ∷ last ∷ []) now = (answer_of refuses, refuses ∷ ((calls + 1) % 2 ^ 64) ∷ (if calls == 0 then now else first) ∷ now ∷ [])
+visit_answer words now = (NO_REASON, words)
 
 abbrev pub by_actions : List ℕ → StopAsked → List Span → Option FrameValue → Columns → Bool → StopAnswer
-by_actions words asked image frame columns signal = let v = visited words (cast_unsigned w32 asked.actions.0) in (v.0, columns, v.1)
+by_actions words asked image frame columns signal = let v = visit_answer words (cast_unsigned w32 asked.actions.0) in (v.0, columns, v.1)
 
 abbrev pub by_address : List ℕ → List Span → Option FrameValue → Columns → Bool → TraceAnswer
-by_address words image frame columns signal = visited words (unwrap_or (columns 16) 0)
+by_address words image frame columns signal = visit_answer words (unwrap_or (columns 16) 0)

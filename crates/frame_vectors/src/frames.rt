@@ -5,7 +5,7 @@ use memory_image::{MemoryImage, NoLedger, Steps};
 use stack_deliver::{Context, DeliverError, Error, FrameInfo, FrameInfoKind, Space, Stepped, step};
 use std::alloc::{AllocError, Global};
 use std::test::Fail;
-use unwind_arch::x86_64::Arch;
+use unwind_arch::x86_64::{Arch, R12, R14, RBP, RBX, RSP};
 use unwinding_core::{
     CustomFinder, EhFrameFinder, FDEFinder, Frame, SetCustomEhFrameFinderError, StepError,
 };
@@ -89,10 +89,10 @@ fn stepped(
 fn a_frame_pointer_is_undone(rt: HostRuntime) -> Result<(), Fail> {
     let mut context = Context::default();
     context.ra = 0x40_1010;
-    context.registers[3] = 0x7;
-    context.registers[6] = 0x70c0;
-    context.registers[7] = 0x70b0;
-    context.registers[14] = 0x2e;
+    context.registers[RBX] = 0x7;
+    context.registers[RBP] = 0x70c0;
+    context.registers[RSP] = 0x70b0;
+    context.registers[R14] = 0x2e;
     let held = [0, 0x11, 0xc, 0x40_1030, 0x22, 0x40_1060, 0, 0xb, 0xe, 0];
     let answer = stepped(
         rt.alloc(),
@@ -103,9 +103,9 @@ fn a_frame_pointer_is_undone(rt: HostRuntime) -> Result<(), Fail> {
     )?;
     let mut caller = context;
     caller.ra = 0x40_1030;
-    caller.registers[3] = 0x11;
-    caller.registers[6] = 0xc;
-    caller.registers[7] = 0x70d0;
+    caller.registers[RBX] = 0x11;
+    caller.registers[RBP] = 0xc;
+    caller.registers[RSP] = 0x70d0;
     expect_equal(
         &rt,
         answer,
@@ -121,13 +121,13 @@ fn a_frame_pointer_is_undone(rt: HostRuntime) -> Result<(), Fail> {
 fn a_stored_register_is_read_back(rt: HostRuntime) -> Result<(), Fail> {
     let mut context = Context::default();
     context.ra = 0x40_1010;
-    context.registers[7] = 0x7000;
-    context.registers[12] = 1;
+    context.registers[RSP] = 0x7000;
+    context.registers[R12] = 1;
     let held = [1, 0xc12, 3, 0x40_1010];
     let answer = stepped(rt.alloc(), &[COMMON, STORE], 0x7000, &held, &context)?;
     let mut caller = context;
-    caller.registers[7] = 0x7020;
-    caller.registers[12] = 0xc12;
+    caller.registers[RSP] = 0x7020;
+    caller.registers[R12] = 0xc12;
     expect_equal(
         &rt,
         answer,
@@ -143,7 +143,7 @@ fn a_stored_register_is_read_back(rt: HostRuntime) -> Result<(), Fail> {
 fn faults_of_a_step_name_their_cause(rt: HostRuntime) -> Result<(), Fail> {
     let mut context = Context::default();
     context.ra = 0x40_1010;
-    context.registers[7] = 0x7000;
+    context.registers[RSP] = 0x7000;
     let held = [1, 0xc12, 3];
     // The return address's slot, above two words that are there: the lowest column comes first.
     let unmapped = stepped(rt.alloc(), &[COMMON, STORE], 0x7000, &held, &context)?;
@@ -221,7 +221,7 @@ fn a_frame_tells_what_was_found(rt: HostRuntime) -> Result<(), Fail> {
     let mut steps = Steps::new(NoLedger);
     let mut context = Context::default();
     context.ra = 0x40_1020;
-    context.registers[7] = 0x7000;
+    context.registers[RSP] = 0x7000;
     // After a call that is the function's last instruction; at that address nothing is found.
     let behind = Frame::<Arch>::from_context(&image, &finder, &context, false, &mut steps);
     let Ok(Some(frame)) = behind else {

@@ -6,6 +6,7 @@ use stack_deliver::{
 };
 use std::alloc::Global;
 use std::test::Fail;
+use unwind_arch::x86_64::RSP;
 
 /// A frame table with one function, 0x401000 to 0x401010, that pushes RBX. Its common information
 /// entry stands at 0, the description at 24.
@@ -149,7 +150,7 @@ fn walked(alloc: Global, case: &Case) -> Result<(Front, usize), Fail> {
     space.add_elf(0x40_1000, 0x40_1010, frame)?;
     let mut start = Context::default();
     start.ra = case.ra;
-    start.registers[7] = STACK;
+    start.registers[RSP] = STACK;
     let mut room = Room::new(alloc, 16)?;
     let front = walk_front_into(
         &space,

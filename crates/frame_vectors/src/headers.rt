@@ -4,6 +4,7 @@ use memory_image::{Counted, MemoryImage, Steps};
 use stack_deliver::{Context, FrameInfo, FrameInfoKind, Space, walk};
 use std::alloc::Global;
 use std::test::Fail;
+use unwind_arch::x86_64::{R14, RBP, RBX, RSP};
 use unwinding_core::{FDEFinder, GnuHdrFinder};
 
 // The descriptions of three functions, 0x401000 to 0x401020, 0x401020 to 0x401050 and 0x401050 to
@@ -89,15 +90,18 @@ fn walked(alloc: Global, kind: FrameInfoKind, expected: &[(u64, u64, u64)]) -> R
     space.add_elf(0x40_1000, 0x40_1080, frame)?;
     let mut start = Context::default();
     start.ra = 0x40_1030;
-    start.registers[7] = 0x70d0;
-    start.registers[3] = 0x11;
-    start.registers[6] = 0xc;
-    start.registers[14] = 0x2e;
+    start.registers[RSP] = 0x70d0;
+    start.registers[RBX] = 0x11;
+    start.registers[RBP] = 0xc;
+    start.registers[R14] = 0x2e;
     let visited = walk(alloc, &space, &start, false, 8)?;
     let mut same = visited.len() == expected.len();
     for (place, (ra, sp, rbx)) in expected.iter().enumerate() {
         let state = visited.get(place).unwrap_or(Context::default());
-        same = same && state.ra == *ra && state.registers[7] == *sp && state.registers[3] == *rbx;
+        same = same
+            && state.ra == *ra
+            && state.registers[RSP] == *sp
+            && state.registers[RBX] == *rbx;
     }
     Ok(same)
 }

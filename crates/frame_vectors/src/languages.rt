@@ -6,7 +6,7 @@ use memory_image::{MemoryImage, NoLedger, Steps};
 use stack_deliver::{Context, Error, FrameInfo, FrameInfoKind};
 use std::alloc::Global;
 use std::test::Fail;
-use unwind_arch::x86_64::Arch;
+use unwind_arch::x86_64::{Arch, RAX, RDX, RSP};
 use unwinding_core::{
     _Unwind_GetCFA, _Unwind_GetDataRelBase, _Unwind_GetGR, _Unwind_GetIP, _Unwind_GetIPInfo,
     _Unwind_GetLanguageSpecificData, _Unwind_GetRegionStart, _Unwind_GetTextRelBase, _Unwind_SetGR,
@@ -319,7 +319,7 @@ fn answered(
     let _ = image.add(0x50_2000, &languages);
     let mut context = Context::default();
     context.ra = ra;
-    context.registers[1] = 0x11;
+    context.registers[RDX] = 0x11;
     let Some(frame) = frame_at(&image, held) else {
         return Ok(None);
     };
@@ -339,14 +339,14 @@ fn answered(
 fn left(ra: u64) -> Context {
     let mut context = Context::default();
     context.ra = ra;
-    context.registers[1] = 0x11;
+    context.registers[RDX] = 0x11;
     context
 }
 
 fn landed(pad: u64) -> Context {
     let mut context = Context::default();
     context.ra = pad;
-    context.registers[0] = 0x90_0000;
+    context.registers[RAX] = 0x90_0000;
     context
 }
 
@@ -411,7 +411,7 @@ fn a_context_is_read_and_written(rt: HostRuntime) -> Result<(), Fail> {
     let frame = frame_at(&image, SECOND).ok_or("no frame")?;
     let mut context = Context::default();
     context.ra = 0x40_1030;
-    context.registers[7] = 0x70d0;
+    context.registers[RSP] = 0x70d0;
     let mut ctx = UnwindContext::<Arch>::new(&image, Some(&frame), &mut context, true);
     expect_equal(&rt, _Unwind_GetCFA(&ctx), 0x70d0);
     expect_equal(&rt, _Unwind_GetGR(&ctx, 7), Some(0x70d0));
@@ -430,7 +430,7 @@ fn a_context_is_read_and_written(rt: HostRuntime) -> Result<(), Fail> {
     expect_equal(&rt, _Unwind_GetIP(&ctx), 0x40_1040);
     expect_equal(&rt, _Unwind_SetGR(&mut ctx, 1, 9), Some(()));
     expect_equal(&rt, context.ra, 0x40_1040);
-    expect_equal(&rt, context.registers[1], 9);
+    expect_equal(&rt, context.registers[RDX], 9);
     let end = UnwindContext::<Arch>::new(&image, None, &mut context, false);
     expect_equal(&rt, _Unwind_GetRegionStart(&end), 0);
     expect_equal(&rt, _Unwind_GetLanguageSpecificData(&end), Ok(0));

@@ -6,6 +6,7 @@ use stack_deliver::{
 };
 use std::alloc::Global;
 use std::test::Fail;
+use unwind_arch::x86_64::{RBX, RSP};
 
 /// A frame table at 0x500000 with one function, 0x401000 to 0x401010, that pushes RBX.
 const TABLE: [u8; 52] =
@@ -34,8 +35,8 @@ fn space_of(alloc: Global, kind: FrameInfoKind) -> Result<Space<'static>, Fail> 
 fn start() -> Context {
     let mut context = Context::default();
     context.ra = 0x40_1006;
-    context.registers[7] = 0x7000;
-    context.registers[3] = 9;
+    context.registers[RSP] = 0x7000;
+    context.registers[RBX] = 9;
     context
 }
 
@@ -84,7 +85,7 @@ fn a_header_that_lists_the_table_is_prepared(rt: HostRuntime) -> Result<(), Fail
     );
     let caller = room.visited(1).unwrap_or(Context::default());
     expect_equal(&rt, caller.ra, 0);
-    expect_equal(&rt, caller.registers[7], 0x7010);
-    expect_equal(&rt, caller.registers[3], 5);
+    expect_equal(&rt, caller.registers[RSP], 0x7010);
+    expect_equal(&rt, caller.registers[RBX], 5);
     Ok(())
 }

@@ -7,6 +7,7 @@ use stack_deliver::{
 };
 use std::alloc::{AllocError, Global};
 use std::test::Fail;
+use unwind_arch::x86_64::{RBX, RSP};
 
 /// A frame table at 0x500000 with one function, 0x401000 to 0x401010, that pushes RBX.
 const TABLE: [u8; 52] =
@@ -45,7 +46,7 @@ fn space_of<'a>(alloc: Global, stack: &'a [u8]) -> Result<Space<'a>, Fail> {
 fn start() -> Context {
     let mut context = Context::default();
     context.ra = CODE;
-    context.registers[7] = STACK;
+    context.registers[RSP] = STACK;
     context
 }
 
@@ -65,8 +66,8 @@ fn a_hundred_thousand_calls_are_walked(rt: HostRuntime) -> Result<(), Fail> {
     expect_equal(&rt, room.visited_len(), 100_001);
     for place in 0..room.visited_len() {
         let state = room.visited(place).unwrap_or(Context::default());
-        expect_equal(&rt, state.registers[7], STACK + 16 * place as u64);
-        expect_equal(&rt, state.registers[3], place as u64);
+        expect_equal(&rt, state.registers[RSP], STACK + 16 * place as u64);
+        expect_equal(&rt, state.registers[RBX], place as u64);
         expect_equal(&rt, state.ra, if place == 100_000 { 0 } else { CODE });
     }
     expect_equal(&rt, room.visited(100_001), None);
@@ -100,7 +101,7 @@ fn a_room_is_used_again(rt: HostRuntime) -> Result<(), Fail> {
         (0, 0, 8),
     );
     let mut below = start();
-    below.registers[7] = STACK - 8;
+    below.registers[RSP] = STACK - 8;
     let refused = walk_into(&space, &below, false, 8, &mut room, &mut steps);
     expect_equal(&rt, refused, Err(DeliverError::Unmapped(STACK - 8)));
     expect_equal(&rt, room.visited(0), None);

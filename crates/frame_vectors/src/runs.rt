@@ -1,14 +1,14 @@
 // The runs of an unwinding over the worked examples: a stack of one frame without a personality,
 // and one of three with a cleanup and a handler.
 ghost use Rattle.std.specs.Prelude.{◌≡◌};
-ghost use Rattle.frame_vectors.specs.Visiting.{visit, visited};
+ghost use Rattle.frame_vectors.specs.Visiting.{visit, visit_answer};
 
 use crate::asserting::expect_equal;
 use crate::languages::{CELL, FRAMES, LANGUAGES, bytes_of};
 use memory_image::{MemoryImage, NoLedger, Steps};
 use std::alloc::Global;
 use std::test::Fail;
-use unwind_arch::x86_64::{Arch, Context};
+use unwind_arch::x86_64::{Arch, Context, RBP, RBX, RSP};
 use unwinding_core::{
     _Unwind_Backtrace, _Unwind_DeleteException, _Unwind_FindEnclosingFunction,
     _Unwind_ForcedUnwind, _Unwind_GetIP, _Unwind_RaiseException, _Unwind_Resume,
@@ -80,7 +80,7 @@ const REFUSED: Visits = Visits {
 impl Visits {
     fn visit(&mut self, now: u64) -> UnwindReasonCode
         ensures { (result, visit self.new.refuses self.new.calls self.new.first self.new.last) ≡
-            visited (visit self.old.refuses self.old.calls self.old.first self.old.last) now }
+            visit_answer (visit self.old.refuses self.old.calls self.old.first self.old.last) now }
     {
         if self.calls == 0 {
             self.first = now;
@@ -134,7 +134,7 @@ impl Trace<Arch> for Visits {
 fn start(ip: u64, stack_pointer: u64) -> Context {
     let mut context = Context::default();
     context.ra = ip;
-    context.registers[7] = stack_pointer;
+    context.registers[RSP] = stack_pointer;
     context
 }
 
@@ -283,8 +283,8 @@ fn raised(
     let finder = finder(0x40_1080);
     let mut steps = Steps::new(NoLedger);
     let mut context = start(0x40_1010, 0x70b0);
-    context.registers[3] = 0x7;
-    context.registers[6] = 0x70c0;
+    context.registers[RBX] = 0x7;
+    context.registers[RBP] = 0x70c0;
     let mut exception = UnwindException::new(0x22, 0x90_0000);
     let personality = RustPersonality;
     let cleanup = _Unwind_RaiseException::<Arch, CustomFinder<Text>, RustPersonality, NoLedger>(
@@ -299,8 +299,8 @@ fn raised(
     let found = exception.kept;
     let first = landing(cleanup);
     context = start(resume, 0x70d0);
-    context.registers[3] = 0x11;
-    context.registers[6] = 0xc;
+    context.registers[RBX] = 0x11;
+    context.registers[RBP] = 0xc;
     exception.kept = if kept == Kept::Stop { kept } else { found };
     let mut stop = NONE;
     let handler = _Unwind_Resume::<Arch, CustomFinder<Text>, RustPersonality, Visits, NoLedger>(

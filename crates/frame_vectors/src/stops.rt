@@ -4,6 +4,7 @@ use memory_image::MemoryImage;
 use stack_deliver::{Context, FrameInfo, FrameInfoKind, Space, Visited, walk};
 use std::alloc::Global;
 use std::test::Fail;
+use unwind_arch::x86_64::{RBX, RSP};
 
 /// A frame table at 0x500000 with one function, 0x401000 to 0x401010, that pushes RBX first.
 const TABLE: [u8; 52] =
@@ -25,15 +26,15 @@ fn walk_from(alloc: Global, address: u64) -> Result<Visited, Fail> {
     space.add_elf(0x40_1000, 0x40_1010, frame)?;
     let mut start = Context::default();
     start.ra = address;
-    start.registers[7] = 0x7000;
-    start.registers[3] = 9;
+    start.registers[RSP] = 0x7000;
+    start.registers[RBX] = 9;
     Ok(walk(alloc, &space, &start, true, 2)?)
 }
 
 /// The return address, RSP and RBX of a state.
 fn shown(states: &Visited, place: usize) -> Option<(u64, u64, u64)> {
     let state = states.get(place)?;
-    Some((state.ra, state.registers[7], state.registers[3]))
+    Some((state.ra, state.registers[RSP], state.registers[RBX]))
 }
 
 // Before the push the word at RSP is the return address.

@@ -4,7 +4,7 @@ use Rattle.std.specs.Prelude.{◌==◌, ◌≢◌}
 use Rattle.std.specs.Int.{w8, w32, from_le_bytes}
 use Rattle.std.proofs.lemmas.List.{length-append, take_at, drop_at}
 use Rattle.std.proofs.lemmas.Bool.{le-ltb, lt-ltb, ne_eqb, cases_lt}
-use Rattle.unwind_definitions.specs.Input.{Input, number, split, signed, uleb}
+use Rattle.unwind_definitions.specs.Input.{Input, number, split, signed_word, uleb}
 use Rattle.unwind_definitions.specs.Pointers.{Bases, Direct, pointer, direct}
 use Rattle.unwind_definitions.specs.Entries.{body}
 use Rattle.generated_chains.specs.Spelled.{half}
@@ -42,7 +42,7 @@ read_small base p b rest lt = rw (read_byte base p b rest, lt-ltb b 128 lt) refl
 
 -- ---- relative pointers
 
-distance_is : (at to : ℕ) → at < 2 ^ 31 → to < 2 ^ 31 → (at + signed 32 (distance_from at to)) % 2 ^ 64 ≡ to
+distance_is : (at to : ℕ) → at < 2 ^ 31 → to < 2 ^ 31 → (at + signed_word 32 (distance_from at to)) % 2 ^ 64 ≡ to
 distance_is at to la lt = elim (cases_lt to at) [
   | inl below ↦
       let d : distance_from at to ≡ 2 ^ 32 + to - at = omega arith in

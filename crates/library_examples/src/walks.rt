@@ -3,6 +3,7 @@ use crate::call_frames::TABLE;
 use anyhow::Result;
 use memory_image::MemoryImage;
 use stack_deliver::{Context, FrameInfo, FrameInfoKind, Space, walk};
+use unwind_arch::x86_64::RSP;
 
 /// The words of a stack at 0x7000: the pushed RBX, and the return address of the outermost function.
 pub(crate) const STACK: [u8; 16] = [5, 0, 0, 0, 0, 0, 0, 0, 0, 0, 0, 0, 0, 0, 0, 0];
@@ -12,7 +13,7 @@ pub(crate) fn print_walk(rt: &HostRuntime) -> Result<()> {
     let stack = STACK;
     let eh_frame = TABLE;
     let mut registers = [0; 16];
-    registers[7] = 0x7000;
+    registers[RSP] = 0x7000;
     // example
     let mut image = MemoryImage::new(rt.alloc());
     image.add(0x7000, &stack)?;

@@ -7,7 +7,7 @@ use Rattle.std.specs.Prelude.{option_map}
 use Rattle.std.proofs.lemmas.Option.{slice_get_past}
 use Rattle.std.proofs.lemmas.List.{length-append, length-replicate, take_at}
 use Rattle.std.proofs.lemmas.Bool.{eqb-true, eq-eqb, ltb-true, ltb-false, leb-true, le-ltb}
-use Rattle.macho_unwind_info.specs.Permutation.{permutation, named, and_named, unused, digits, six, arrangements, without, encoded, distinct, IsArrangement}
+use Rattle.macho_unwind_info.specs.Permutation.{permutation, registers_named, and_named, unused_registers, digits, six, arrangements, without, permutation_number, distinct, IsArrangement}
 
 both_true : (a b : Bool) → (a && b) ≡ true → (a ≡ true) × (b ≡ true)
 both_true true b e = (refl, e)
@@ -16,7 +16,7 @@ both_true false b e = absurd cc
 -- what a number of a count spells: k distinct registers, whose number it is, and then zeros
 abbrev spells_back : ℕ → ℕ → Option (List ℕ) → Bool
 spells_back k n None = false
-spells_back k n (Some xs) = distinct (take k xs) && ((eqb (length xs) 6) && (eqb (encoded (take k xs)) n))
+spells_back k n (Some xs) = distinct (take k xs) && ((eqb (length xs) 6) && (eqb (permutation_number (take k xs)) n))
 
 abbrev checks : ℕ → ℕ → Bool
 checks k n = spells_back k n (permutation k n)
@@ -43,7 +43,7 @@ spells (Some xs) ys = same_list xs ys
 
 -- a list's number is below the count of lists, and spells the list
 abbrev is_spelled : ℕ → List ℕ → Bool
-is_spelled k rs = ltb (encoded rs) (arrangements k) && spells (permutation k (encoded rs)) (rs ++ replicate (6 - k) 0)
+is_spelled k rs = ltb (permutation_number rs) (arrangements k) && spells (permutation k (permutation_number rs)) (rs ++ replicate (6 - k) 0)
 
 -- ---- the tables, computed
 table : (k : ℕ) → 1 ≤ k → k ≤ 6 → all_from 0 (arrangements k) (checks k) ≡ true
@@ -80,7 +80,7 @@ pub record Spelled (k n : ℕ) : Type 0 where
   pub is : permutation k n ≡ Some xs
   pub six_long : length xs ≡ 6
   pub each_once : distinct (take k xs) ≡ true
-  pub back : encoded (take k xs) ≡ n
+  pub back : permutation_number (take k xs) ≡ n
 
 pub spelled : (k n : ℕ) → 1 ≤ k → k ≤ 6 → n < arrangements k → Spelled k n
 spelled k n low high lt = go (permutation k n) refl (each_from (arrangements k) 0 (checks k) (table k low high) n (omega arith) (omega arith))
@@ -89,9 +89,9 @@ spelled k n low high lt = go (permutation k n) refl (each_from (arrangements k) 
     go None e h = let h' : spells_back k n None ≡ true = subst (λ o. spells_back k n o ≡ true) e h in absurd cc
     go (Some xs) e h =
         let h' : spells_back k n (Some xs) ≡ true = subst (λ o. spells_back k n o ≡ true) e h in
-        let a = both_true (distinct (take k xs)) (eqb (length xs) 6 && eqb (encoded (take k xs)) n) h' in
-        let b = both_true (eqb (length xs) 6) (eqb (encoded (take k xs)) n) a.1 in
-        record { xs = xs; is = e; six_long = eqb-true (length xs) 6 b.0; each_once = a.0; back = eqb-true (encoded (take k xs)) n b.1 }
+        let a = both_true (distinct (take k xs)) (eqb (length xs) 6 && eqb (permutation_number (take k xs)) n) h' in
+        let b = both_true (eqb (length xs) 6) (eqb (permutation_number (take k xs)) n) a.1 in
+        record { xs = xs; is = e; six_long = eqb-true (length xs) 6 b.0; each_once = a.0; back = eqb-true (permutation_number (take k xs)) n b.1 }
 
 -- one number at most spells a list
 some_list : (a b : List ℕ) → ◌≡◌ {A = Option (List ℕ)} (Some a) (Some b) → a ≡ b
@@ -102,7 +102,7 @@ one_number k n n' low high lt lt' same =
     let a = spelled k n low high lt in
     let b = spelled k n' low high lt' in
     let xs : a.xs ≡ b.xs = some_list a.xs b.xs (sym a.is ∙ same ∙ b.is) in
-    sym a.back ∙ ap (λ l. encoded (take k l)) xs ∙ b.back
+    sym a.back ∙ ap (λ l. permutation_number (take k l)) xs ∙ b.back
 
 -- ---- each list of distinct registers
 all_of : (p : ℕ → Bool) (xs : List ℕ) (x : ℕ) → list_all p xs ≡ true → list_any (λ y. eqb y x) xs ≡ true → p x ≡ true
@@ -176,11 +176,11 @@ same_is (x ∷ xs) [] e = absurd cc
 same_is (x ∷ xs) (y ∷ ys) e = let both = both_true (eqb x y) (same_list xs ys) e in ap (λ z. z ∷ xs) (eqb-true x y both.0) ∙ ap (λ l. y ∷ l) (same_is xs ys both.1)
 
 -- each list of k distinct registers is spelled by its number
-pub each_list : (k : ℕ) (rs : List ℕ) → 1 ≤ k → k ≤ 6 → length rs ≡ k → distinct rs ≡ true → (encoded rs < arrangements k) × (permutation k (encoded rs) ≡ Some (rs ++ replicate (6 - k) 0))
+pub each_list : (k : ℕ) (rs : List ℕ) → 1 ≤ k → k ≤ 6 → length rs ≡ k → distinct rs ≡ true → (permutation_number rs < arrangements k) × (permutation k (permutation_number rs) ≡ Some (rs ++ replicate (6 - k) 0))
 each_list k rs low high len once =
     let h = at_each k rs six (is_spelled k) (lists k low high) len once (within_six rs once) in
-    let both = both_true (ltb (encoded rs) (arrangements k)) (spells (permutation k (encoded rs)) (rs ++ replicate (6 - k) 0)) h in
-    (ltb-true (encoded rs) (arrangements k) both.0, go (permutation k (encoded rs)) both.1)
+    let both = both_true (ltb (permutation_number rs) (arrangements k)) (spells (permutation k (permutation_number rs)) (rs ++ replicate (6 - k) 0)) h in
+    (ltb-true (permutation_number rs) (arrangements k) both.0, go (permutation k (permutation_number rs)) both.1)
   where
     go : (o : Option (List ℕ)) → spells o (rs ++ replicate (6 - k) 0) ≡ true → o ≡ Some (rs ++ replicate (6 - k) 0)
     go None e = absurd cc
@@ -188,8 +188,8 @@ each_list k rs low high len once =
 
 -- ---- refused numbers
 -- a first digit of 6 or more names no register
-first_past : (d : ℕ) (ds : List ℕ) (k : ℕ) → 6 ≤ d → option_map (λ xs. xs ++ replicate (6 - k) 0) (named (d ∷ ds) []) ≡ None
-first_past d ds k le = ap (λ o. option_map (λ xs. xs ++ replicate (6 - k) 0) (and_named [] o (named ds))) (slice_get_past six d le)
+first_past : (d : ℕ) (ds : List ℕ) (k : ℕ) → 6 ≤ d → option_map (λ xs. xs ++ replicate (6 - k) 0) (registers_named (d ∷ ds) []) ≡ None
+first_past d ds k le = ap (λ o. option_map (λ xs. xs ++ replicate (6 - k) 0) (and_named [] o (registers_named ds))) (slice_get_past six d le)
 
 pub past_all : (k n : ℕ) → 1 ≤ k → k ≤ 6 → arrangements k ≤ n → permutation k n ≡ None
 past_all zero n low high le = absurd (omega arith)
@@ -212,13 +212,13 @@ arranged k n low high lt xs is =
     let s = spelled k n low high lt in
     let same : s.xs ≡ xs = some_list s.xs xs (sym s.is ∙ is) in
     let small : ltb 6 k ≡ false = le-ltb 6 k high in
-    let rs = mapped k (named (digits k n) []) xs (sym (ap (λ b. cond b None (option_map (λ rs. rs ++ replicate (6 - k) 0) (named (digits k n) []))) small) ∙ is) in
+    let rs = mapped k (registers_named (digits k n) []) xs (sym (ap (λ b. cond b None (option_map (λ rs. rs ++ replicate (6 - k) 0) (registers_named (digits k n) []))) small) ∙ is) in
     let whole : length rs.0 + (6 - k) ≡ 6 = sym (length-append rs.0 (replicate (6 - k) 0) ∙ ap (λ m. length rs.0 + m) (length-replicate (6 - k) 0)) ∙ ap length rs.1 ∙ sym (ap length same) ∙ s.six_long in
     let first : take k xs ≡ rs.0 = sym (ap (take k) rs.1) ∙ take_at rs.0 (replicate (6 - k) 0) k (omega arith) in
     record {
       each_once = subst (λ l. distinct (take k l) ≡ true) same s.each_once;
       zeros = sym rs.1 ∙ ap (λ l. l ++ replicate (6 - k) 0) (sym first);
-      number_is = subst (λ l. encoded (take k l) ≡ n) same s.back;
+      number_is = subst (λ l. permutation_number (take k l) ≡ n) same s.back;
     }
 
 -- what a call that decodes by `permutation` answers
@@ -229,7 +229,7 @@ decoded_below k n (Err e) ok refused low high lt =
     let some = (spelled k n low high lt).is in
     absurd cc
 
-pub decoded_onto : (k n : ℕ) (r : Result (List ℕ) (Unit {0})) → IfOk r (λ xs. permutation k n ≡ Some xs) → (IsErr r → permutation k n ≡ None) → (rs : List ℕ) → 1 ≤ k → k ≤ 6 → length rs ≡ k → distinct rs ≡ true → n ≡ encoded rs → r ≡ Ok (rs ++ replicate (6 - k) 0)
+pub decoded_onto : (k n : ℕ) (r : Result (List ℕ) (Unit {0})) → IfOk r (λ xs. permutation k n ≡ Some xs) → (IsErr r → permutation k n ≡ None) → (rs : List ℕ) → 1 ≤ k → k ≤ 6 → length rs ≡ k → distinct rs ≡ true → n ≡ permutation_number rs → r ≡ Ok (rs ++ replicate (6 - k) 0)
 decoded_onto k n (Ok xs) ok refused rs low high long once number =
     let spells : permutation k n ≡ Some (rs ++ replicate (6 - k) 0) = ap (permutation k) number ∙ (each_list k rs low high long once).1 in
     let same : xs ≡ rs ++ replicate (6 - k) 0 = some_list xs (rs ++ replicate (6 - k) 0) (sym ok ∙ spells) in

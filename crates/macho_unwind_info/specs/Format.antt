@@ -56,7 +56,7 @@ abbrev pub function_entry_in : List ℕ → RegularFunctionEntry
 function_entry_in bytes = record { address = u32_at 0 bytes; opcode = record { 0 = u32_at 4 bytes } }
 
 -- ---- equal records have equal bytes
--- bytes that agree on a field and behind it agree from the field on
+-- bytes that agree on a field and after it agree from the field on
 same_from_field : (xs ys : List ℕ) (k n : ℕ) → take n (drop k xs) ≡ take n (drop k ys) → drop (k + n) xs ≡ drop (k + n) ys → drop k xs ≡ drop k ys
 same_from_field xs ys k n field behind =
     sym (take-append-drop n (drop k xs)) ∙ rw (field, drop-drop n k xs, behind, ← drop-drop n k ys) (take-append-drop n (drop k ys))

@@ -22,6 +22,6 @@ abbrev pub left_in_any : List Opcode → Option OpenPage → List (Result Functi
 left_in_any global None = []
 left_in_any global (Some open_page) = left_in global open_page
 
--- and of the pages behind it
-abbrev pub left : List ℕ → List Opcode → Option OpenPage → List PageEntry → List (Result Function Error)
-left bytes global open_page pages = left_in_any global open_page ++ places_of bytes global pages
+-- and of the pages after it
+abbrev pub functions_left : List ℕ → List Opcode → Option OpenPage → List PageEntry → List (Result Function Error)
+functions_left bytes global open_page pages = left_in_any global open_page ++ places_of bytes global pages

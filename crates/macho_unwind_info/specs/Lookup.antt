@@ -16,13 +16,13 @@ use Rattle.macho_unwind_info.specs.declared.page.Page.TheVariants.{Regular, Comp
 use Rattle.macho_unwind_info.specs.declared.function.Function.{Function}
 
 -- ---- searches
--- the key at the index is at or before p, and the next one, if there is one, behind it
+-- the key at the index is at or before p, and the next one, if there is one, after it
 pub record IsBoundary (keys : List ℕ) (p i : ℕ) : Type 0 where
   pub within : i < length keys
   pub at_or_before : slice_index keys i ≤ p
   pub next_behind : i + 1 < length keys → p < slice_index keys (i + 1)
 
--- A search answers a boundary, and none only where there are no keys or the first one is behind p.
+-- A search answers a boundary, and none only where there are no keys or the first one is after p.
 abbrev pub Finds : List ℕ → ℕ → Option ℕ → Type 0
 Finds keys p (Some i) = IsBoundary keys p i
 Finds keys p None = 0 < length keys → p < slice_index keys 0
@@ -40,7 +40,7 @@ start_distance word = relative_address (u32_number word)
 abbrev pub page_addresses : Section → List ℕ
 page_addresses info = map first_address info.pages
 
--- the first page's address, and the last one's; 0 and 0 without pages, since 0 stands behind a list's end
+-- the first page's address, and the last one's; 0 and 0 without pages, since 0 stands after a list's end
 abbrev pub range_start : Section → ℕ
 range_start info = slice_index (page_addresses info) 0
 
@@ -67,14 +67,14 @@ pub record IsPageLookup (global : List Opcode) (page : Page) (next pc : ℕ) (an
   pub finds : Finds (keys_of page) (pc - base_of page) place
   pub is : answer ≡ answer_at (functions_of next (entries_of global page)) place
 
--- what is answered from a page and the one behind it, if there is one
+-- what is answered from a page and the one after it, if there is one
 abbrev pub IsAnswerFrom : Section → ℕ → Option PageEntry → Option PageEntry → Result (Option Function) Error → Type 0
 IsAnswerFrom info pc None next answer = answer ≡ Ok None
 IsAnswerFrom info pc (Some page) None answer = answer ≡ Ok None
 IsAnswerFrom info pc (Some page) (Some next) answer =
     MatchResult (page_of info.bytes page) (λ opened. IsPageLookup info.global_opcodes opened (first_address next) pc answer) (λ e. answer ≡ Err e)
 
--- none behind the pages that the search passed, or where they begin behind the address
+-- none after the pages that the search passed, or where they begin after the address
 abbrev pub IsAnswerAt : Section → ℕ → Option ℕ → Result (Option Function) Error → Type 0
 IsAnswerAt info pc None answer = answer ≡ Ok None
 IsAnswerAt info pc (Some i) answer = IsAnswerFrom info pc (slice_get info.pages i) (slice_get info.pages (i + 1)) answer
@@ -87,7 +87,7 @@ pub record IsLookup (info : Section) (pc : ℕ) (answer : Result (Option Functio
 
 -- ---- the answer of the look-up: its searches halve, so that also in lists out of order it is always the same
 
--- what is answered from an opened page that another one stands behind
+-- what is answered from an opened page that another one follows
 abbrev pub page_lookup_of : List Opcode → ℕ → ℕ → Page → Result (Option Function) Error
 page_lookup_of global next pc page = answer_at (functions_of next (entries_of global page)) (boundary_of (keys_of page) (pc - base_of page))
 

@@ -16,21 +16,21 @@ digits (suc (suc i)) n = digits (suc i) (n / (6 - suc i)) ++ n % (6 - suc i) ∷
 abbrev pub is_used : List ℕ → ℕ → Bool
 is_used used register = list_any (λ u. u == register) used
 
-abbrev pub unused : List ℕ → List ℕ → List ℕ
-unused used registers = filter (λ register. not (is_used used register)) registers
+abbrev pub unused_registers : List ℕ → List ℕ → List ℕ
+unused_registers used registers = filter (λ register. not (is_used used register)) registers
 
 -- each digit names that many-th register not used yet, counted from 0
 abbrev pub and_named : List ℕ → Option ℕ → (List ℕ → Option (List ℕ)) → Option (List ℕ)
 and_named used None later = None
 and_named used (Some register) later = later (used ++ register ∷ [])
 
-abbrev pub named : List ℕ → List ℕ → Option (List ℕ)
-named [] used = Some used
-named (digit ∷ digits) used = and_named used (slice_get (unused used six) digit) (named digits)
+abbrev pub registers_named : List ℕ → List ℕ → Option (List ℕ)
+registers_named [] used = Some used
+registers_named (digit ∷ digits) used = and_named used (slice_get (unused_registers used six) digit) (registers_named digits)
 
 -- the list of k registers that a number spells, followed by zeros
 abbrev pub permutation : ℕ → ℕ → Option (List ℕ)
-permutation k n = if nat_lt 6 k then None else option_map (λ registers. registers ++ replicate (6 - k) 0) (named (digits k n) [])
+permutation k n = if nat_lt 6 k then None else option_map (λ registers. registers ++ replicate (6 - k) 0) (registers_named (digits k n) [])
 
 -- ---- lists of distinct registers and their numbers
 -- how many lists of k distinct registers there are: 6! / (6 - k)!
@@ -62,11 +62,11 @@ number_from n i [] = n
 number_from n i (d ∷ ds) = number_from (n * (6 - i) + d) (suc i) ds
 
 -- the number of a list of registers
-abbrev pub encoded : List ℕ → ℕ
-encoded registers = number_from 0 0 (places_in six registers)
+abbrev pub permutation_number : List ℕ → ℕ
+permutation_number registers = number_from 0 0 (places_in six registers)
 
 -- count distinct registers and then zeros, the list having a number
 pub record IsArrangement (count number : ℕ) (registers : List ℕ) : Type 0 where
   pub each_once : distinct (take count registers) ≡ true
   pub zeros : registers ≡ take count registers ++ replicate (6 - count) 0
-  pub number_is : encoded (take count registers) ≡ number
+  pub number_is : permutation_number (take count registers) ≡ number

@@ -33,6 +33,6 @@ abbrev pub size_text : ℕ → List ℕ
 size_text zero = codes "CFA=reg7:"
 size_text (suc n) = codes "CFA=reg7+" ++ (decimal (suc n) ++ codes ":")
 
--- the size lies in the code, so far behind the function's start, and has so much added
+-- the size lies in the code, so far after the function's start, and has so much added
 abbrev pub indirect_text : ℕ → ℕ → List ℕ
 indirect_text behind added = codes "CFA=[function_start+" ++ (decimal behind ++ (codes "]+" ++ decimal added))

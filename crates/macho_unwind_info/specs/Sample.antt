@@ -23,7 +23,7 @@ page_bytes =
     (le 0 0x20 0 0 ++ (le 0x58 0 0 0 ++ (le 0 0 0 0 ++
     (le 0 0x30 0 0 ++ (le 0 0 0 0 ++ le 0 0 0 0)))))))
 
--- two entries at 12, no opcodes of its own; the second entry 0x100 behind the first, with the index of an opcode
+-- two entries at 12, no opcodes of its own; the second entry 0x100 after the first, with the index of an opcode
 abbrev pub compressed_bytes : ℕ → List ℕ
 compressed_bytes index = le 3 0 0 0 ++ (le 0x0c 0 2 0 ++ (le 0x14 0 0 0 ++ (le 0 0 0 0 ++ le 0 1 0 index)))
 

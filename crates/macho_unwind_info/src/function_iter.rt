@@ -25,11 +25,11 @@ impl<'a> Model for FunctionIter<'a> {
     ghost use Rattle.std.specs.Prelude.{List, Result};
     ghost use Rattle.macho_unwind_info.specs.declared.error.Error.{Error};
     ghost use Rattle.macho_unwind_info.specs.declared.function.Function.{Function};
-    ghost use Rattle.macho_unwind_info.specs.Iteration.{left};
+    ghost use Rattle.macho_unwind_info.specs.Iteration.{functions_left};
 
     ghost Value = { List (Result Function Error) };
 
-    ghost view = { λ i. left i.bytes.now i.global_opcodes i.page i.pages };
+    ghost view = { λ i. functions_left i.bytes.now i.global_opcodes i.page i.pages };
 }
 
 impl<'a> FunctionIter<'a> {
@@ -54,7 +54,7 @@ impl<'a> FunctionIter<'a> {
     ///
     /// A page whose kind, header, entries or own opcodes can't be read is one place, and is passed
     /// with its error. An entry whose address passes 2^32 - 1 or whose opcode is missing is one
-    /// place too, and the entries behind it follow.
+    /// place too, and the entries after it follow.
     #[allow(clippy::should_implement_trait)]
     pub fn next(&mut self) -> Result<Option<Function>, Error>
         ensures answer { result ≡ answer_of (slice_get self.old 0) }
@@ -89,7 +89,7 @@ fn take_first(
     }
 }
 
-/// A page and the one behind it, if there are two.
+/// A page and the one after it, if there are two.
 fn first_two(pages: &Records<'_, PageEntry>) -> Option<(PageEntry, PageEntry)>
     ensures first { IfSome result (λ two. slice_get pages.now 0 ≡ Some two.0) }
     ensures second { IfSome result (λ two. slice_get pages.now 1 ≡ Some two.1) }

@@ -14,7 +14,7 @@ pub fn described_section()
 {}
 
 /// Where the second entry of its compressed page names an opcode that isn't there, the listing has
-/// the error in that place, and the functions before and behind it.
+/// the error in that place, and the functions before and after it.
 pub fn damaged_section()
     ensures { (info : Section) × (section_of damaged_bytes ≡ Ok info) ×
         (listing info ≡ damaged_places) }

@@ -71,15 +71,15 @@ fn opcode_named(
     }
 }
 
-/// The address so far behind another.
+/// The address so far after another.
 fn address_after(first: u32, distance: u32) -> Result<u32, Error>
     ensures { result ≡ address_after first distance }
 {
     first.checked_add(distance).ok_or(Error::AddressOverflow)
 }
 
-/// The function of an entry with another behind it, or at the end of a page with the next page
-/// behind it.
+/// The function of an entry with another after it, or at the end of a page with the next page
+/// after it.
 fn function_of(next_address: u32, entry: &Entry, behind: Option<Entry>) -> Result<Function, Error>
     ensures { result ≡ function_of next_address entry.now behind }
 {
@@ -239,7 +239,7 @@ impl<'a> Page<'a> {
     }
 }
 
-/// What is left of a page, with the first address of the page behind it.
+/// What is left of a page, with the first address of the page after it.
 #[derive(Drop)]
 pub struct OpenPage<'a> {
     pub page: Page<'a>,

@@ -36,8 +36,8 @@ impl Keyed for U32 {
 }
 
 /// The index of a record whose key is at or before `p` and the next one's, if there is a next one,
-/// behind it. In a sorted list it is the last one at or before `p`. None only where the list is
-/// empty or its first key is behind `p`.
+/// after it. In a sorted list it is the last one at or before `p`. None only where the list is
+/// empty or its first key is after `p`.
 pub fn boundary<T: Keyed>(records: &Records<'_, T>, p: u32) -> Option<usize>
     ensures found { Finds (map T.key records.now) p result }
     ensures same { result ≡ boundary_of (map T.key records.now) p }

@@ -86,7 +86,7 @@ impl<'a> UnwindInfo<'a> {
         }
     }
 
-    /// The function of an address, or `Ok(None)` where the pages begin behind it or the last page
+    /// The function of an address, or `Ok(None)` where the pages begin after it or the last page
     /// begins at or before it.
     ///
     /// The pages are searched by their first addresses, and the entries of the page by theirs. In

@@ -8,7 +8,7 @@ use Rattle.pe_unwind_info.specs.declared.x86_64.epilog.FunctionEpilogInstruction
 use Rattle.pe_unwind_info.specs.declared.x86_64.epilog.InstructionParseError.TheVariants.{NotEnoughData, InvalidInstruction, TooManyInstructions}
 use Rattle.pe_unwind_info.specs.Numbers.{u32_at}
 use Rattle.pe_unwind_info.specs.Registers.{register_number}
-use Rattle.pe_unwind_info.specs.Epilog.{with_word, Read, Parsed, lea_from, lea_of, adjustment_of, pop_of, is_jump, two_bytes_of, pop_or_terminator_of, adjusted_or, behind_rex, split_behind, parsed}
+use Rattle.pe_unwind_info.specs.Epilog.{with_word, Read, Parsed, lea_from, lea_of, adjustment_of, pop_of, is_jump, two_bytes_of, pop_or_terminator_of, adjusted_or, behind_rex, split_behind, parsed_instruction}
 use Rattle.pe_unwind_info.specs.EpilogGrammar.{IsRexW, IsPrefix, no_rex, one_rex, NamesFrame, add_word, add_byte, lea_byte, lea_word, pop, pop_long, IsTerminator, ret, short_jump, near_jump, memory_jump, BeginsWith, BeginsWithTerminator, IsCut, empty, add_cut, lea_cut}
 
 -- what the grammar says of bytes, by what was read from them
@@ -170,8 +170,8 @@ without_prefix : (frame : Option Register) (allowed : Bool) (code : List ℕ) �
 without_prefix frame true code = pop_or_terminator_is frame true [] 0 no_rex code
 without_prefix frame false code = pop_or_terminator_is frame false [] 0 no_rex code
 
-pub is_read_rightly : (frame : Option Register) (allowed : Bool) (bytes : List ℕ) → IsReadRightly frame allowed bytes (parsed frame allowed bytes)
-unfolding parsed
+pub is_read_rightly : (frame : Option Register) (allowed : Bool) (bytes : List ℕ) → IsReadRightly frame allowed bytes (parsed_instruction frame allowed bytes)
+unfolding parsed_instruction
 is_read_rightly frame allowed [] = empty
 is_read_rightly frame allowed (first ∷ code) = go (eqb (first / 16) 4) refl
   where

@@ -5,7 +5,7 @@ use Rattle.pe_unwind_info.specs.declared.x86_64.registers.Register.{Register}
 use Rattle.pe_unwind_info.specs.declared.x86_64.epilog.FunctionEpilogInstruction.{FunctionEpilogInstruction}
 use Rattle.pe_unwind_info.specs.declared.x86_64.epilog.InstructionParseError.{InstructionParseError}
 use Rattle.pe_unwind_info.specs.declared.x86_64.epilog.InstructionParseError.TheVariants.{NotEnoughData, InvalidInstruction, TooManyInstructions}
-use Rattle.pe_unwind_info.specs.Epilog.{Parsed, Sequence, and_first, then_full, then_more, parsed, sequence_from, sequence_of}
+use Rattle.pe_unwind_info.specs.Epilog.{Parsed, Sequence, and_first, then_full, then_more, parsed_instruction, sequence_from, sequence_of}
 use Rattle.pe_unwind_info.specs.Frame.{epilog_or_none}
 use Rattle.pe_unwind_info.specs.EpilogGrammar.{BeginsWith, BeginsWithTerminator, IsCut, IsRun, IsSequence}
 use Rattle.pe_unwind_info.proofs.EpilogReads.{IsReadRightly, is_read_rightly}
@@ -31,29 +31,29 @@ unfolding continued
 continued_later frame first bytes = all_of_one first (sequence_from frame 11 false bytes)
 
 -- a sequence by its first instruction
-pub first_end : (frame : Option Register) (bytes : List ℕ) → parsed frame true bytes ≡ Ok None → sequence_of frame bytes ≡ Ok []
+pub first_end : (frame : Option Register) (bytes : List ℕ) → parsed_instruction frame true bytes ≡ Ok None → sequence_of frame bytes ≡ Ok []
 unfolding sequence_from
 first_end frame bytes e = rw e refl
 
-pub first_err : (frame : Option Register) (bytes : List ℕ) (x : InstructionParseError) → parsed frame true bytes ≡ Err x → sequence_of frame bytes ≡ Err x
+pub first_err : (frame : Option Register) (bytes : List ℕ) (x : InstructionParseError) → parsed_instruction frame true bytes ≡ Err x → sequence_of frame bytes ≡ Err x
 unfolding sequence_from
 first_err frame bytes x e = rw e refl
 
-pub first_more : (frame : Option Register) (bytes : List ℕ) (i : FunctionEpilogInstruction) (rest : List ℕ) → parsed frame true bytes ≡ Ok (Some (i, rest)) → sequence_of frame bytes ≡ and_first i (sequence_from frame 11 false rest)
+pub first_more : (frame : Option Register) (bytes : List ℕ) (i : FunctionEpilogInstruction) (rest : List ℕ) → parsed_instruction frame true bytes ≡ Ok (Some (i, rest)) → sequence_of frame bytes ≡ and_first i (sequence_from frame 11 false rest)
 unfolding sequence_from
 first_more frame bytes i rest e = rw e refl
 
-end_from : (frame : Option Register) (items : List FunctionEpilogInstruction) (n : ℕ) (allowed : Bool) (bytes : List ℕ) → parsed frame allowed bytes ≡ Ok None → and_all items (sequence_from frame n allowed bytes) ≡ Ok items
+end_from : (frame : Option Register) (items : List FunctionEpilogInstruction) (n : ℕ) (allowed : Bool) (bytes : List ℕ) → parsed_instruction frame allowed bytes ≡ Ok None → and_all items (sequence_from frame n allowed bytes) ≡ Ok items
 unfolding and_all sequence_from
 end_from frame items zero allowed bytes e = rw e (ap Ok (append-nil items))
 end_from frame items (suc n) allowed bytes e = rw e (ap Ok (append-nil items))
 
-err_from : (frame : Option Register) (items : List FunctionEpilogInstruction) (n : ℕ) (allowed : Bool) (bytes : List ℕ) (x : InstructionParseError) → parsed frame allowed bytes ≡ Err x → and_all items (sequence_from frame n allowed bytes) ≡ Err x
+err_from : (frame : Option Register) (items : List FunctionEpilogInstruction) (n : ℕ) (allowed : Bool) (bytes : List ℕ) (x : InstructionParseError) → parsed_instruction frame allowed bytes ≡ Err x → and_all items (sequence_from frame n allowed bytes) ≡ Err x
 unfolding and_all sequence_from
 err_from frame items zero allowed bytes x e = rw e refl
 err_from frame items (suc n) allowed bytes x e = rw e refl
 
-full_from : (frame : Option Register) (items : List FunctionEpilogInstruction) (n : ℕ) (allowed : Bool) (bytes : List ℕ) (p : FunctionEpilogInstruction × List ℕ) → n ≡ 0 → parsed frame allowed bytes ≡ Ok (Some p) → and_all items (sequence_from frame n allowed bytes) ≡ Err TooManyInstructions
+full_from : (frame : Option Register) (items : List FunctionEpilogInstruction) (n : ℕ) (allowed : Bool) (bytes : List ℕ) (p : FunctionEpilogInstruction × List ℕ) → n ≡ 0 → parsed_instruction frame allowed bytes ≡ Ok (Some p) → and_all items (sequence_from frame n allowed bytes) ≡ Err TooManyInstructions
 unfolding and_all sequence_from
 full_from frame items zero allowed bytes p none e = rw e refl
 full_from frame items (suc n) allowed bytes p none e = absurd (omega arith)
@@ -63,34 +63,34 @@ unfolding and_all
 and_all_first items i (Ok later) = ap Ok (sym (append_assoc items (i ∷ []) later))
 and_all_first items i (Err e) = refl
 
-more_from : (frame : Option Register) (items : List FunctionEpilogInstruction) (n m : ℕ) (allowed : Bool) (bytes : List ℕ) (i : FunctionEpilogInstruction) (rest : List ℕ) → n ≡ suc m → parsed frame allowed bytes ≡ Ok (Some (i, rest)) →
+more_from : (frame : Option Register) (items : List FunctionEpilogInstruction) (n m : ℕ) (allowed : Bool) (bytes : List ℕ) (i : FunctionEpilogInstruction) (rest : List ℕ) → n ≡ suc m → parsed_instruction frame allowed bytes ≡ Ok (Some (i, rest)) →
     and_all items (sequence_from frame n allowed bytes) ≡ and_all (items ++ i ∷ []) (sequence_from frame m false rest)
 unfolding and_all sequence_from
 more_from frame items zero m allowed bytes i rest one e = absurd (omega arith)
 more_from frame items (suc n) m allowed bytes i rest one e =
     let same : n ≡ m = omega arith in rw (e, same) (and_all_first items i (sequence_from frame m false rest))
 
-pub continued_end : (frame : Option Register) (items : List FunctionEpilogInstruction) (allowed : Bool) (bytes : List ℕ) → allowed ≡ (length items == 0) → parsed frame allowed bytes ≡ Ok None → continued frame items bytes ≡ Ok items
+pub continued_end : (frame : Option Register) (items : List FunctionEpilogInstruction) (allowed : Bool) (bytes : List ℕ) → allowed ≡ (length items == 0) → parsed_instruction frame allowed bytes ≡ Ok None → continued frame items bytes ≡ Ok items
 unfolding continued
-continued_end frame items allowed bytes a e = end_from frame items (12 - length items) (length items == 0) bytes (subst (λ (b : Bool). parsed frame b bytes ≡ Ok None) a e)
+continued_end frame items allowed bytes a e = end_from frame items (12 - length items) (length items == 0) bytes (subst (λ (b : Bool). parsed_instruction frame b bytes ≡ Ok None) a e)
 
-pub continued_err : (frame : Option Register) (items : List FunctionEpilogInstruction) (allowed : Bool) (bytes : List ℕ) (x : InstructionParseError) → allowed ≡ (length items == 0) → parsed frame allowed bytes ≡ Err x → continued frame items bytes ≡ Err x
+pub continued_err : (frame : Option Register) (items : List FunctionEpilogInstruction) (allowed : Bool) (bytes : List ℕ) (x : InstructionParseError) → allowed ≡ (length items == 0) → parsed_instruction frame allowed bytes ≡ Err x → continued frame items bytes ≡ Err x
 unfolding continued
-continued_err frame items allowed bytes x a e = err_from frame items (12 - length items) (length items == 0) bytes x (subst (λ (b : Bool). parsed frame b bytes ≡ Err x) a e)
+continued_err frame items allowed bytes x a e = err_from frame items (12 - length items) (length items == 0) bytes x (subst (λ (b : Bool). parsed_instruction frame b bytes ≡ Err x) a e)
 
-pub continued_full : (frame : Option Register) (items : List FunctionEpilogInstruction) (allowed : Bool) (bytes : List ℕ) (i : FunctionEpilogInstruction) (rest : List ℕ) → length items ≡ 12 → allowed ≡ (length items == 0) → parsed frame allowed bytes ≡ Ok (Some (i, rest)) → continued frame items bytes ≡ Err TooManyInstructions
+pub continued_full : (frame : Option Register) (items : List FunctionEpilogInstruction) (allowed : Bool) (bytes : List ℕ) (i : FunctionEpilogInstruction) (rest : List ℕ) → length items ≡ 12 → allowed ≡ (length items == 0) → parsed_instruction frame allowed bytes ≡ Ok (Some (i, rest)) → continued frame items bytes ≡ Err TooManyInstructions
 unfolding continued
 continued_full frame items allowed bytes i rest full a e =
-    full_from frame items (12 - length items) (length items == 0) bytes (i, rest) (omega arith) (subst (λ (b : Bool). parsed frame b bytes ≡ Ok (Some (i, rest))) a e)
+    full_from frame items (12 - length items) (length items == 0) bytes (i, rest) (omega arith) (subst (λ (b : Bool). parsed_instruction frame b bytes ≡ Ok (Some (i, rest))) a e)
 
-pub continued_more : (frame : Option Register) (items : List FunctionEpilogInstruction) (allowed : Bool) (bytes : List ℕ) (i : FunctionEpilogInstruction) (rest : List ℕ) → length items < 12 → allowed ≡ (length items == 0) → parsed frame allowed bytes ≡ Ok (Some (i, rest)) →
+pub continued_more : (frame : Option Register) (items : List FunctionEpilogInstruction) (allowed : Bool) (bytes : List ℕ) (i : FunctionEpilogInstruction) (rest : List ℕ) → length items < 12 → allowed ≡ (length items == 0) → parsed_instruction frame allowed bytes ≡ Ok (Some (i, rest)) →
     continued frame items bytes ≡ continued frame (items ++ i ∷ []) rest
 unfolding continued
 continued_more frame items allowed bytes i rest room a e =
     let longer : length (items ++ i ∷ []) ≡ length items + 1 = length-append items (i ∷ []) in
     let fewer : 12 - length items ≡ suc (12 - length (items ++ i ∷ [])) = omega arith in
     let later : (length (items ++ i ∷ []) == 0) ≡ false = differ (length (items ++ i ∷ [])) 0 (λ q. omega arith) in
-    more_from frame items (12 - length items) (12 - length (items ++ i ∷ [])) (length items == 0) bytes i rest fewer (subst (λ (b : Bool). parsed frame b bytes ≡ Ok (Some (i, rest))) a e)
+    more_from frame items (12 - length items) (12 - length (items ++ i ∷ [])) (length items == 0) bytes i rest fewer (subst (λ (b : Bool). parsed_instruction frame b bytes ≡ Ok (Some (i, rest))) a e)
     ∙ ap (λ (b : Bool). and_all (items ++ i ∷ []) (sequence_from frame (12 - length (items ++ i ∷ [])) b rest)) (sym later)
 
 -- ---- what the grammar says
@@ -136,9 +136,9 @@ more_right frame n allowed bytes (Err TooManyInstructions) r later h = absurd r
 
 sequence_right : (frame : Option Register) (n : ℕ) (allowed : Bool) (bytes : List ℕ) → IsRightSequence frame n allowed bytes (sequence_from frame n allowed bytes)
 unfolding sequence_from
-sequence_right frame zero allowed bytes = full_right frame allowed bytes (parsed frame allowed bytes) (is_read_rightly frame allowed bytes)
+sequence_right frame zero allowed bytes = full_right frame allowed bytes (parsed_instruction frame allowed bytes) (is_read_rightly frame allowed bytes)
 sequence_right frame (suc n) allowed bytes =
-    more_right frame n allowed bytes (parsed frame allowed bytes) (is_read_rightly frame allowed bytes) (sequence_from frame n false) (λ behind. sequence_right frame n false behind)
+    more_right frame n allowed bytes (parsed_instruction frame allowed bytes) (is_read_rightly frame allowed bytes) (sequence_from frame n false) (λ behind. sequence_right frame n false behind)
 
 -- ---- each run of the grammar is read
 run_ends : (frame : Option Register) (n : ℕ) (allowed : Bool) (bytes : List ℕ) (is : List FunctionEpilogInstruction) (rest : List ℕ) → IsRun frame allowed bytes is rest → BeginsWithTerminator rest → length is ≤ n → sequence_from frame n allowed bytes ≡ Ok is

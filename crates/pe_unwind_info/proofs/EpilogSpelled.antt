@@ -8,7 +8,7 @@ use Rattle.pe_unwind_info.specs.declared.x86_64.epilog.FunctionEpilogInstruction
 use Rattle.pe_unwind_info.specs.declared.x86_64.epilog.InstructionParseError.TheVariants.{NotEnoughData, InvalidInstruction}
 use Rattle.pe_unwind_info.specs.Numbers.{u32_at}
 use Rattle.pe_unwind_info.specs.Registers.{register_number, register_of}
-use Rattle.pe_unwind_info.specs.Epilog.{with_word, Read, Parsed, lea_from, adjustment_of, is_jump, pop_or_terminator_of, adjusted_or, behind_rex, parsed}
+use Rattle.pe_unwind_info.specs.Epilog.{with_word, Read, Parsed, lea_from, adjustment_of, is_jump, pop_or_terminator_of, adjusted_or, behind_rex, parsed_instruction}
 use Rattle.pe_unwind_info.specs.EpilogGrammar.{IsRexW, IsPrefix, no_rex, one_rex, NamesFrame, IsInstruction, add_word, add_byte, lea_byte, lea_word, pop, pop_long, IsTerminator, ret, short_jump, near_jump, memory_jump, BeginsWith, BeginsWithTerminator, IsCut, empty, add_cut, lea_cut, IsParsed}
 use Rattle.pe_unwind_info.proofs.EpilogReads.{IsReadRightly, is_read_rightly}
 
@@ -20,12 +20,12 @@ differ a b h = go (eqb a b) refl
     go false e = refl
 
 -- ---- behind a REX byte or none
-rexed : (frame : Option Register) (allowed : Bool) (rex : ℕ) (code : List ℕ) → rex / 16 ≡ 4 → parsed frame allowed (rex ∷ code) ≡ behind_rex frame allowed (rex % 16) code
-unfolding parsed
+rexed : (frame : Option Register) (allowed : Bool) (rex : ℕ) (code : List ℕ) → rex / 16 ≡ 4 → parsed_instruction frame allowed (rex ∷ code) ≡ behind_rex frame allowed (rex % 16) code
+unfolding parsed_instruction
 rexed frame allowed rex code e = rw e refl
 
-unrexed : (frame : Option Register) (allowed : Bool) (opcode : ℕ) (code : List ℕ) → eqb (opcode / 16) 4 ≡ false → parsed frame allowed (opcode ∷ code) ≡ behind_rex frame allowed 0 (opcode ∷ code)
-unfolding parsed
+unrexed : (frame : Option Register) (allowed : Bool) (opcode : ℕ) (code : List ℕ) → eqb (opcode / 16) 4 ≡ false → parsed_instruction frame allowed (opcode ∷ code) ≡ behind_rex frame allowed 0 (opcode ∷ code)
+unfolding parsed_instruction
 unrexed frame allowed opcode code e = rw e refl
 
 -- an opcode that is no REX byte and begins no adjustment of the stack pointer
@@ -53,7 +53,7 @@ pub record IsReadAs (bit : ℕ) (code : List ℕ) (answer : Parsed) : Type 0 whe
   same_bit : rex % 2 ≡ bit
   reads : answer ≡ pop_or_terminator_of rex code
 
-prefixed : (frame : Option Register) (allowed : Bool) (prefix : List ℕ) (bit : ℕ) → IsPrefix prefix bit → (opcode : ℕ) (code : List ℕ) → IsPlain opcode → IsReadAs bit (opcode ∷ code) (parsed frame allowed (prefix ++ (opcode ∷ code)))
+prefixed : (frame : Option Register) (allowed : Bool) (prefix : List ℕ) (bit : ℕ) → IsPrefix prefix bit → (opcode : ℕ) (code : List ℕ) → IsPlain opcode → IsReadAs bit (opcode ∷ code) (parsed_instruction frame allowed (prefix ++ (opcode ∷ code)))
 prefixed frame allowed prefix bit no_rex opcode code p =
     record { rex = 0; same_bit = refl; reads = unrexed frame allowed opcode code p.no_rex_byte ∙ plain_behind frame allowed 0 opcode code p }
 prefixed frame allowed prefix bit (one_rex {byte} x) opcode code p =
@@ -84,7 +84,7 @@ wide_rex rex w = let h : rex / 8 ≡ 9 = w.high in omega arith
 wide_bit : (rex : ℕ) → IsRexW rex → eqb ((rex % 16) / 8) 1 ≡ true
 wide_bit rex w = let h : rex / 8 ≡ 9 = w.high in eq-eqb _ _ (omega arith)
 
-adjusts : (frame : Option Register) (rex : ℕ) (code : List ℕ) (read : Read) → IsRexW rex → adjustment_of frame (rex % 16) code ≡ Some read → parsed frame true (rex ∷ code) ≡ adjusted_or (Some read) (Err InvalidInstruction)
+adjusts : (frame : Option Register) (rex : ℕ) (code : List ℕ) (read : Read) → IsRexW rex → adjustment_of frame (rex % 16) code ≡ Some read → parsed_instruction frame true (rex ∷ code) ≡ adjusted_or (Some read) (Err InvalidInstruction)
 adjusts frame rex code read w e = rexed frame true rex code (wide_rex rex w) ∙ rw (wide_bit rex w, e) (any read)
   where
     any : (read : Read) → adjusted_or (Some read) (pop_or_terminator_of (rex % 16) code) ≡ adjusted_or (Some read) (Err InvalidInstruction)
@@ -118,7 +118,7 @@ lea_reads_word base next rest =
     rw (low, other, mode) refl
 
 -- ---- each instruction
-pub reads_instruction : (frame : Option Register) (allowed : Bool) (code : List ℕ) (i : FunctionEpilogInstruction) (rest : List ℕ) → IsInstruction frame allowed code i → parsed frame allowed (code ++ rest) ≡ Ok (Some (i, rest))
+pub reads_instruction : (frame : Option Register) (allowed : Bool) (code : List ℕ) (i : FunctionEpilogInstruction) (rest : List ℕ) → IsInstruction frame allowed code i → parsed_instruction frame allowed (code ++ rest) ≡ Ok (Some (i, rest))
 reads_instruction frame allowed code i rest (add_word {rex} {n0} {n1} {n2} {n3} w) =
     adjusts frame rex (0x81 ∷ 0xc4 ∷ n0 ∷ n1 ∷ n2 ∷ n3 ∷ rest) (with_word AddSP (n0 ∷ n1 ∷ n2 ∷ n3 ∷ rest)) w refl ∙ rw (word_reads AddSP n0 n1 n2 n3 rest) refl
 reads_instruction frame allowed code i rest (add_byte {rex} {n} w) = adjusts frame rex (0x83 ∷ 0xc4 ∷ n ∷ rest) (Ok (AddSP n, rest)) w refl
@@ -135,7 +135,7 @@ reads_instruction frame allowed code i rest (pop_long {prefix = prefix} {bit = b
     let r = prefixed frame allowed prefix bit p 0x8f (modrm ∷ rest) long_is_plain in
     rw (append_assoc prefix (0x8f ∷ modrm ∷ []) rest) (r.reads ∙ reads_long_pop r.rex bit modrm rest r.same_bit e)
 
-pub begins_read : (frame : Option Register) (allowed : Bool) (bytes : List ℕ) (i : FunctionEpilogInstruction) (rest : List ℕ) → BeginsWith frame allowed bytes i rest → parsed frame allowed bytes ≡ Ok (Some (i, rest))
+pub begins_read : (frame : Option Register) (allowed : Bool) (bytes : List ℕ) (i : FunctionEpilogInstruction) (rest : List ℕ) → BeginsWith frame allowed bytes i rest → parsed_instruction frame allowed bytes ≡ Ok (Some (i, rest))
 begins_read frame allowed bytes i rest b = rw b.1 (reads_instruction frame allowed b.0 i rest b.2)
 
 -- ---- terminators
@@ -147,7 +147,7 @@ memory_jumps modrm (inr e) = go (eqb (modrm / 8) 4) (eq-eqb (modrm / 8) 5 e)
     go true h = refl
     go false h = h
 
-reads_terminator : (frame : Option Register) (allowed : Bool) (code rest : List ℕ) → IsTerminator code → parsed frame allowed (code ++ rest) ≡ Ok None
+reads_terminator : (frame : Option Register) (allowed : Bool) (code rest : List ℕ) → IsTerminator code → parsed_instruction frame allowed (code ++ rest) ≡ Ok None
 reads_terminator frame allowed code rest (ret {prefix} {bit} p) =
     let r = prefixed frame allowed prefix bit p 0xc3 rest (record { no_rex_byte = refl; no_add = refl; no_short_add = refl; no_lea = refl }) in
     rw (append_assoc prefix (0xc3 ∷ []) rest) r.reads
@@ -161,31 +161,31 @@ reads_terminator frame allowed code rest (memory_jump {prefix} {bit} p modrm e) 
     let r = prefixed frame allowed prefix bit p 0xff (modrm ∷ rest) (record { no_rex_byte = refl; no_add = refl; no_short_add = refl; no_lea = refl }) in
     rw (append_assoc prefix (0xff ∷ modrm ∷ []) rest) (r.reads ∙ rw (memory_jumps modrm e) refl)
 
-pub terminator_read : (frame : Option Register) (allowed : Bool) (bytes : List ℕ) → BeginsWithTerminator bytes → parsed frame allowed bytes ≡ Ok None
+pub terminator_read : (frame : Option Register) (allowed : Bool) (bytes : List ℕ) → BeginsWithTerminator bytes → parsed_instruction frame allowed bytes ≡ Ok None
 terminator_read frame allowed bytes b = rw b.2 (reads_terminator frame allowed b.0 b.1 b.3)
 
 -- ---- bytes that are missing
-cut_add : (frame : Option Register) (rex : ℕ) (number : List ℕ) → IsRexW rex → 1 ≤ length number → length number < 4 → parsed frame true (rex ∷ 0x81 ∷ 0xc4 ∷ number) ≡ Err NotEnoughData
+cut_add : (frame : Option Register) (rex : ℕ) (number : List ℕ) → IsRexW rex → 1 ≤ length number → length number < 4 → parsed_instruction frame true (rex ∷ 0x81 ∷ 0xc4 ∷ number) ≡ Err NotEnoughData
 cut_add frame rex [] w some few = absurd (omega arith)
 cut_add frame rex (n ∷ rest) w some few = adjusts frame rex (0x81 ∷ 0xc4 ∷ n ∷ rest) (with_word AddSP (n ∷ rest)) w refl ∙ rw (word_lacks AddSP (n ∷ rest) few) refl
 
-cut_lea : (frame : Option Register) (rex : ℕ) (base : Register) (number : List ℕ) → NamesFrame frame rex base → 1 ≤ length number → length number < 4 → parsed frame true (rex ∷ 0x8d ∷ (0xa0 + register_number base % 8) ∷ number) ≡ Err NotEnoughData
+cut_lea : (frame : Option Register) (rex : ℕ) (base : Register) (number : List ℕ) → NamesFrame frame rex base → 1 ≤ length number → length number < 4 → parsed_instruction frame true (rex ∷ 0x8d ∷ (0xa0 + register_number base % 8) ∷ number) ≡ Err NotEnoughData
 cut_lea frame rex base [] named some few = absurd (omega arith)
 cut_lea frame rex base (n ∷ rest) named some few =
     adjusts frame rex (0x8d ∷ (0xa0 + register_number base % 8) ∷ n ∷ rest) (Err NotEnoughData) named.wide
     (is_lea frame rex base named (0xa0 + register_number base % 8) n rest ∙ ap Some (lea_reads_word (register_number base) n rest ∙ word_lacks AddSPFromFP (n ∷ rest) few))
 
-parsed_empty : (frame : Option Register) (allowed : Bool) → parsed frame allowed [] ≡ Err NotEnoughData
-unfolding parsed
+parsed_empty : (frame : Option Register) (allowed : Bool) → parsed_instruction frame allowed [] ≡ Err NotEnoughData
+unfolding parsed_instruction
 parsed_empty frame allowed = refl
 
-pub cut_read : (frame : Option Register) (allowed : Bool) (bytes : List ℕ) → IsCut frame allowed bytes → parsed frame allowed bytes ≡ Err NotEnoughData
+pub cut_read : (frame : Option Register) (allowed : Bool) (bytes : List ℕ) → IsCut frame allowed bytes → parsed_instruction frame allowed bytes ≡ Err NotEnoughData
 cut_read frame allowed bytes empty = parsed_empty frame allowed
 cut_read frame allowed bytes (add_cut {rex} {number} w some few) = cut_add frame rex number w some few
 cut_read frame allowed bytes (lea_cut {rex} {base} {number} named some few) = cut_lea frame rex base number named some few
 
 -- ---- what is answered for one instruction
-pub parsed_is : (frame : Option Register) (allowed : Bool) (bytes : List ℕ) → IsParsed frame allowed bytes (parsed frame allowed bytes)
+pub parsed_is : (frame : Option Register) (allowed : Bool) (bytes : List ℕ) → IsParsed frame allowed bytes (parsed_instruction frame allowed bytes)
 parsed_is frame allowed bytes =
     let right = is_read_rightly frame allowed bytes in
     record {

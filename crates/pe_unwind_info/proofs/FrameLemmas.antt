@@ -12,7 +12,7 @@ use Rattle.pe_unwind_info.specs.EpilogList.{leading_epilogs, behind_epilogs, is_
 use Rattle.pe_unwind_info.specs.Machine.{Registers, Stack, FrameEnd, After, Goes, Ends, then_ends}
 use Rattle.pe_unwind_info.specs.Steps.{run}
 use Rattle.pe_unwind_info.specs.Frame.{info_in, epilog_in, operations_alone, from_place, Link, Follows, Stops, link_of, ByLink, chained_of, IsLinked, ByRun, IsTested, Leaves, ByTest, InRecord, IsFrame}
-use Rattle.pe_unwind_info.specs.FrameOf.{Image, then_follows, linked, left_by, tested, by_test, in_record, framed}
+use Rattle.pe_unwind_info.specs.FrameOf.{Image, then_follows, end_of_chain, left_by, epilog_if_tested, by_test, in_record, frame_end_of}
 
 module _ (gives more : ℕ → Option (List ℕ) → Type 0) (also : (rva : ℕ) (memory : Option (List ℕ)) → gives rva memory → more rva memory) (stack : Stack) where
   by_link_more : (link : Link) (f g : Option RuntimeFunction → Registers → FrameEnd → Type 0) (end : FrameEnd) → ((next : Option RuntimeFunction) (regs : Registers) → f next regs end → g next regs end) → ByLink link f end → ByLink link g end
@@ -60,16 +60,16 @@ module _ (gives : ℕ → Option (List ℕ) → Type 0) (memory : Image) (only :
   by_link_is (Follows next regs) f g end h b = h next regs b
   by_link_is (Stops stop) f g end h b = b
 
-  linked_is : (n : ℕ) (next : Option RuntimeFunction) (regs : Registers) (end : FrameEnd) → IsLinked gives stack n next regs end → end ≡ linked memory stack n next regs
-  unfolding IsLinked linked
+  linked_is : (n : ℕ) (next : Option RuntimeFunction) (regs : Registers) (end : FrameEnd) → IsLinked gives stack n next regs end → end ≡ end_of_chain memory stack n next regs
+  unfolding IsLinked end_of_chain
   linked_is zero next regs end l = l
   linked_is (suc n) None regs end l = l
   linked_is (suc n) (Some function) regs end l =
       let rva = function.unwind_info_address in
-      by_link_is (link_of (info_in rva l.0) stack regs) (IsLinked gives stack n) (linked memory stack n) end (λ next regs'. linked_is n next regs' end) l.2
-      ∙ ap (λ (m : Option (List ℕ)). then_follows (link_of (info_in rva m) stack regs) (linked memory stack n)) (only rva l.0 l.1)
+      by_link_is (link_of (info_in rva l.0) stack regs) (IsLinked gives stack n) (end_of_chain memory stack n) end (λ next regs'. linked_is n next regs' end) l.2
+      ∙ ap (λ (m : Option (List ℕ)). then_follows (link_of (info_in rva m) stack regs) (end_of_chain memory stack n)) (only rva l.0 l.1)
 
-  by_run_is : (after : After) (info : Info) (end : FrameEnd) → ByRun after (IsLinked gives stack 32 (chained_of info)) end → end ≡ then_ends after (linked memory stack 32 (chained_of info))
+  by_run_is : (after : After) (info : Info) (end : FrameEnd) → ByRun after (IsLinked gives stack 32 (chained_of info)) end → end ≡ then_ends after (end_of_chain memory stack 32 (chained_of info))
   by_run_is (Goes regs) info end l = linked_is 32 (chained_of info) regs end l
   by_run_is (Ends stop) info end l = l
 
@@ -77,7 +77,7 @@ module _ (gives : ℕ → Option (List ℕ) → Type 0) (memory : Image) (only :
   leaves_is info operations None regs end l = by_run_is (run info.header stack (operations_alone operations) regs) info end l
   leaves_is info operations (Some instructions) regs end l = l
 
-  tested_is : (due : Bool) (frame : Option Register) (end address : ℕ) (test : Result (Option (List FunctionEpilogInstruction)) FrameFault) → IsTested due gives frame end address test → test ≡ tested due memory frame end address
+  tested_is : (due : Bool) (frame : Option Register) (end address : ℕ) (test : Result (Option (List FunctionEpilogInstruction)) FrameFault) → IsTested due gives frame end address test → test ≡ epilog_if_tested due memory frame end address
   tested_is true frame end address test t = t.2 ∙ ap (epilog_in frame end address) (only address t.0 t.1)
   tested_is false frame end address test t = t
 
@@ -92,7 +92,7 @@ module _ (gives : ℕ → Option (List ℕ) → Type 0) (memory : Image) (only :
       ∙ ap (λ (test : Result (Option (List FunctionEpilogInstruction)) FrameFault). by_test memory stack address function info test regs)
       (tested_is (is_due function.end_address address (leading_epilogs (operations_in info))) (frame_register_of info.header) function.end_address address r.0 r.1)
 
-  pub frame_is : (address : ℕ) (function : Option RuntimeFunction) (regs : Registers) (end : FrameEnd) → IsFrame gives stack address function regs end → end ≡ framed memory stack address function regs
+  pub frame_is : (address : ℕ) (function : Option RuntimeFunction) (regs : Registers) (end : FrameEnd) → IsFrame gives stack address function regs end → end ≡ frame_end_of memory stack address function regs
   frame_is address None regs end f = f
   frame_is address (Some function) regs end f =
       in_record_is address function (info_in function.unwind_info_address f.0) regs end f.2

@@ -2,7 +2,7 @@
 use Rattle.std.proofs.Common.{◌≡◌, ℕ, zero, suc, ◌+◌, ◌*◌, ◌<◌, ◌≤◌, Bool, true, false, cond, eqb, ltb, List, [], ◌∷◌, length, drop, Option, Some, None, refl, ap, ◌∙◌, subst, arith}
 use Rattle.std.proofs.lemmas.Bool.{lt-ltb}
 use Rattle.std.proofs.lemmas.List.{length-drop}
-use Rattle.pe_unwind_info.specs.Numbers.{u16_at, u32_at, first_u16, first_u32, scaled}
+use Rattle.pe_unwind_info.specs.Numbers.{u16_at, u32_at, first_u16, first_u32, number_in_units}
 use Rattle.pe_unwind_info.specs.declared.x86_64.operations.UnwindCode.{UnwindCode}
 use Rattle.pe_unwind_info.specs.declared.x86_64.operations.UnwindOperation.{UnwindOperation}
 use Rattle.pe_unwind_info.specs.declared.x86_64.operations.UnwindOperationCode.{UnwindOperationCode}
@@ -27,10 +27,10 @@ less_u16 bytes p e = go (ltb (length bytes) 2) e
     go true e = absurd (cc)
     go false e = let same : (u16_at 0 bytes, drop 2 bytes) ≡ p = cc in subst (λ (q : ℕ × List ℕ). length q.1 ≤ length bytes) same (omega (arith, length-drop 2 bytes))
 
-less_scaled : (unit : ℕ) (bytes : List ℕ) (p : ℕ × List ℕ) → scaled unit (first_u16 bytes) ≡ Some p → length p.1 ≤ length bytes
+less_scaled : (unit : ℕ) (bytes : List ℕ) (p : ℕ × List ℕ) → number_in_units unit (first_u16 bytes) ≡ Some p → length p.1 ≤ length bytes
 less_scaled unit bytes p e = go (ltb (length bytes) 2) e
   where
-    go : (short : Bool) → scaled unit (cond short None (Some (u16_at 0 bytes, drop 2 bytes))) ≡ Some p → length p.1 ≤ length bytes
+    go : (short : Bool) → number_in_units unit (cond short None (Some (u16_at 0 bytes, drop 2 bytes))) ≡ Some p → length p.1 ≤ length bytes
     go true e = absurd (cc)
     go false e = let same : (u16_at 0 bytes * unit, drop 2 bytes) ≡ p = cc in subst (λ (q : ℕ × List ℕ). length q.1 ≤ length bytes) same (omega (arith, length-drop 2 bytes))
 
@@ -160,15 +160,15 @@ unfolding plain
 untold_head offset later None slot rest p = refl
 untold_head offset later (Some PushNonvol) slot rest p = refl
 untold_head offset later (Some AllocLarge) slot rest p =
-    untold_cond offset later (eqb (code_information slot) 0) _ _ (untold_counts offset later _ (scaled 8 (first_u16 rest)) (λ n. refl))
+    untold_cond offset later (eqb (code_information slot) 0) _ _ (untold_counts offset later _ (number_in_units 8 (first_u16 rest)) (λ n. refl))
     (untold_cond offset later (eqb (code_information slot) 1) _ _ (untold_counts offset later _ (first_u32 rest) (λ n. refl)) refl)
 untold_head offset later (Some AllocSmall) slot rest p = refl
 untold_head offset later (Some SetFPReg) slot rest p = refl
-untold_head offset later (Some SaveNonvol) slot rest p = untold_counts offset later _ (scaled 8 (first_u16 rest)) (λ n. refl)
+untold_head offset later (Some SaveNonvol) slot rest p = untold_counts offset later _ (number_in_units 8 (first_u16 rest)) (λ n. refl)
 untold_head offset later (Some SaveNonvolFar) slot rest p = untold_counts offset later _ (first_u32 rest) (λ n. refl)
 untold_head offset later (Some EpilogCode) slot rest p = absurd cc
 untold_head offset later (Some Spare) slot rest p = absurd cc
-untold_head offset later (Some SaveXmm128) slot rest p = untold_counts offset later _ (scaled 16 (first_u16 rest)) (λ n. refl)
+untold_head offset later (Some SaveXmm128) slot rest p = untold_counts offset later _ (number_in_units 16 (first_u16 rest)) (λ n. refl)
 untold_head offset later (Some SaveXmm128Far) slot rest p = untold_counts offset later _ (first_u32 rest) (λ n. refl)
 untold_head offset later (Some PushMachframe) slot rest p = refl
 

@@ -33,17 +33,17 @@ chain_of memory (suc n) (Some function) = then_chain (info_in function.unwind_in
 abbrev pub HeadedOperation : Type 0
 HeadedOperation = UnwindInfoHeader × UnwindOperation
 
-abbrev pub headed : Info → List UnwindOperation → List HeadedOperation
-headed info operations = map (λ (operation : UnwindOperation). (info.header, operation)) operations
+abbrev pub headed_operations : Info → List UnwindOperation → List HeadedOperation
+headed_operations info operations = map (λ (operation : UnwindOperation). (info.header, operation)) operations
 
 -- all operations of records, one record after another
 abbrev pub operations_of_all : List Info → List HeadedOperation
 operations_of_all [] = []
-operations_of_all (info ∷ infos) = headed info (operations_alone (operations_in info)) ++ operations_of_all infos
+operations_of_all (info ∷ infos) = headed_operations info (operations_alone (operations_in info)) ++ operations_of_all infos
 
 -- the operations of a function's records that undo what its prologue has done up to an offset in the code
 abbrev pub operations_at : ℕ → Info → List Info → List HeadedOperation
-operations_at offset first chained = headed first (operations_alone (from_place offset (behind_epilogs (operations_in first)))) ++ operations_of_all chained
+operations_at offset first chained = headed_operations first (operations_alone (from_place offset (behind_epilogs (operations_in first)))) ++ operations_of_all chained
 
 -- one operation after another
 unfoldable pub run_headed : Stack → List HeadedOperation → Registers → After

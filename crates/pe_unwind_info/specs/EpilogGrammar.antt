@@ -59,7 +59,7 @@ pub data IsCut (frame : Option Register) : Bool → List ℕ → Type 0 where
   lea_cut : {rex : ℕ} {base : Register} {number : List ℕ} → NamesFrame frame rex base → 1 ≤ length number → length number < 4 →
       IsCut frame true (rex ∷ 0x8d ∷ (0xa0 + register_number base % 8) ∷ number)
 
--- bytes that spell these instructions one after another, of which the first alone may adjust the stack pointer, and what stands behind them
+-- bytes that spell these instructions one after another, of which the first alone may adjust the stack pointer, and what stands after them
 abbrev pub IsRun : Option Register → Bool → List ℕ → List FunctionEpilogInstruction → List ℕ → Type 0
 IsRun frame allowed bytes [] rest = bytes ≡ rest
 IsRun frame allowed bytes (instruction ∷ later) rest = (behind : List ℕ) × BeginsWith frame allowed bytes instruction behind × IsRun frame false behind later rest
@@ -72,7 +72,7 @@ IsEpilog frame bytes instructions = (rest : List ℕ) × IsRun frame true bytes 
 abbrev pub HasInstructions : Option Register → List ℕ → ℕ → Type 0
 HasInstructions frame bytes n = (instructions : List FunctionEpilogInstruction) × (rest : List ℕ) × (length instructions ≡ n) × IsRun frame true bytes instructions rest
 
--- bytes that are cut behind at most so many instructions
+-- bytes that are cut after at most so many instructions
 abbrev pub IsCutWithin : Option Register → List ℕ → ℕ → Type 0
 IsCutWithin frame bytes n =
     (instructions : List FunctionEpilogInstruction) × (rest : List ℕ) × (length instructions ≤ n) × IsRun frame true bytes instructions rest × IsCut frame (length instructions == 0) rest

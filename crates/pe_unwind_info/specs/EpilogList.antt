@@ -14,7 +14,7 @@ abbrev pub first_epilog : List Placed → Option Epilog
 first_epilog [] = None
 first_epilog (p ∷ later) = told_by p.1
 
--- the epilog operations that come first, and the operations behind them
+-- the epilog operations that come first, and the operations after them
 abbrev pub lead_with : Option Epilog → List Epilog → List Epilog
 lead_with None later = []
 lead_with (Some epilog) later = epilog ∷ later

@@ -33,7 +33,7 @@ abbrev pub info_in : ℕ → Option (List ℕ) → Result Info FrameFault
 info_in rva None = Err (Memory rva)
 info_in rva (Some bytes) = info_or rva (parsed_info bytes)
 
--- the function whose record goes on behind this one
+-- the function whose record goes on after this one
 abbrev pub chained_by : Option Trailer → Option RuntimeFunction
 chained_by None = None
 chained_by (Some (OnException address bytes)) = None

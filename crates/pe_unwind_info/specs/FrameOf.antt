@@ -24,19 +24,19 @@ then_follows (Follows next regs) later = later next regs
 then_follows (Stops end) later = end
 
 -- at most so many chained records, and then the return address
-unfoldable pub linked : Image → Stack → ℕ → Option RuntimeFunction → Registers → FrameEnd
-linked memory stack zero next regs = at_limit stack next regs
-linked memory stack (suc n) None regs = pop_return stack regs
-linked memory stack (suc n) (Some function) regs = then_follows (link_of (info_in function.unwind_info_address (memory function.unwind_info_address)) stack regs) (linked memory stack n)
+unfoldable pub end_of_chain : Image → Stack → ℕ → Option RuntimeFunction → Registers → FrameEnd
+end_of_chain memory stack zero next regs = at_limit stack next regs
+end_of_chain memory stack (suc n) None regs = pop_return stack regs
+end_of_chain memory stack (suc n) (Some function) regs = then_follows (link_of (info_in function.unwind_info_address (memory function.unwind_info_address)) stack regs) (end_of_chain memory stack n)
 
 -- the rest of an epilog, or operations and the chained records
 abbrev pub left_by : Image → Stack → Info → List Placed → Option (List FunctionEpilogInstruction) → Registers → FrameEnd
 left_by memory stack info operations (Some instructions) regs = then_ends (epilog_run (frame_register_of info.header) stack instructions regs) (pop_return stack)
-left_by memory stack info operations None regs = then_ends (run info.header stack (operations_alone operations) regs) (linked memory stack 32 (chained_of info))
+left_by memory stack info operations None regs = then_ends (run info.header stack (operations_alone operations) regs) (end_of_chain memory stack 32 (chained_of info))
 
-abbrev pub tested : Bool → Image → Option Register → ℕ → ℕ → Result (Option (List FunctionEpilogInstruction)) FrameFault
-tested false memory frame end address = Ok None
-tested true memory frame end address = epilog_in frame end address (memory address)
+abbrev pub epilog_if_tested : Bool → Image → Option Register → ℕ → ℕ → Result (Option (List FunctionEpilogInstruction)) FrameFault
+epilog_if_tested false memory frame end address = Ok None
+epilog_if_tested true memory frame end address = epilog_in frame end address (memory address)
 
 abbrev pub by_test : Image → Stack → ℕ → RuntimeFunction → Info → Result (Option (List FunctionEpilogInstruction)) FrameFault → Registers → FrameEnd
 by_test memory stack address function info (Err fault) regs = Faulted fault regs
@@ -45,15 +45,15 @@ by_test memory stack address function info (Ok epilog) regs = left_by memory sta
 abbrev pub in_record : Image → Stack → ℕ → RuntimeFunction → Result Info FrameFault → Registers → FrameEnd
 in_record memory stack address function (Err fault) regs = Faulted fault regs
 in_record memory stack address function (Ok info) regs =
-    by_test memory stack address function info (tested (is_due function.end_address address (leading_epilogs (operations_in info))) memory (frame_register_of info.header) function.end_address address) regs
+    by_test memory stack address function info (epilog_if_tested (is_due function.end_address address (leading_epilogs (operations_in info))) memory (frame_register_of info.header) function.end_address address) regs
 
 -- How the frame at an address of a function ends, or of one that no record covers.
-abbrev pub framed : Image → Stack → ℕ → Option RuntimeFunction → Registers → FrameEnd
-framed memory stack address None regs = pop_return stack regs
-framed memory stack address (Some function) regs = in_record memory stack address function (info_in function.unwind_info_address (memory function.unwind_info_address)) regs
+abbrev pub frame_end_of : Image → Stack → ℕ → Option RuntimeFunction → Registers → FrameEnd
+frame_end_of memory stack address None regs = pop_return stack regs
+frame_end_of memory stack address (Some function) regs = in_record memory stack address function (info_in function.unwind_info_address (memory function.unwind_info_address)) regs
 
 -- the same by a function table and the memory of an image in its file layout; an image without sections gives no address, and leaves
 -- the registers
 abbrev pub IsUnwoundBy : List ℕ → Option (List ℕ) → Stack → Option (List RuntimeFunction) → ℕ → Registers → Option ℕ → Registers → Type 0
 IsUnwoundBy image None stack functions address regs result left = (result ≡ None) × (left ≡ regs)
-IsUnwoundBy image (Some headers) stack functions address regs result left = ShowsEnd result left (framed (memory_by image (sections_in headers)) stack address (lookup_of functions address) regs)
+IsUnwoundBy image (Some headers) stack functions address regs result left = ShowsEnd result left (frame_end_of (memory_by image (sections_in headers)) stack address (lookup_of functions address) regs)

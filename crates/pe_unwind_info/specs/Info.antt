@@ -1,4 +1,4 @@
--- An unwind record: its header, its slots, and the trailer behind them.
+-- An unwind record: its header, its slots, and the trailer after them.
 use Rattle.std.specs.Prelude.{ℕ, ◌+◌, ◌*◌, ◌%◌, ◌||◌, List, ◌∷◌, Option, Some, None, length, take, drop, nat_lt, ◌==◌, if◌then◌else◌}
 use Rattle.pe_unwind_info.specs.declared.x86_64.function_table.RuntimeFunction.{RuntimeFunction}
 use Rattle.pe_unwind_info.specs.declared.x86_64.unwind_info.UnwindInfoHeader.{UnwindInfoHeader}
@@ -9,7 +9,7 @@ use Rattle.pe_unwind_info.specs.Numbers.{u32_at}
 use Rattle.pe_unwind_info.specs.FunctionTable.{runtime_function_of}
 use Rattle.pe_unwind_info.specs.Header.{version_of, has_flag}
 
--- a record: the header, the bytes of its slots, and those behind an even number of slots
+-- a record: the header, the bytes of its slots, and those after an even number of slots
 pub record Info : Type 0 where
   pub header : UnwindInfoHeader
   pub slots : List ℕ
@@ -19,7 +19,7 @@ pub record Info : Type 0 where
 abbrev pub info_of : UnwindInfo → Info
 info_of info = record { header = info.header; slots = info.slots.now; behind = info.behind.now }
 
--- slots are two bytes long, and what stands behind an odd number of them stands behind one more
+-- slots are two bytes long, and what stands after an odd number of them stands after one more
 abbrev pub with_header : UnwindInfoHeader → List ℕ → Option Info
 with_header header bytes =
     if (version_of header == 1) || (version_of header == 2) then
@@ -32,7 +32,7 @@ abbrev pub parsed_info : List ℕ → Option Info
 parsed_info (flags ∷ size ∷ count ∷ frame ∷ bytes) = with_header (record { version_and_flags = flags; prolog_size = size; unwind_codes_len = count; frame_register_and_offset = frame }) bytes
 parsed_info _ = None
 
--- a handler's address with the data behind it, or the function whose record goes on
+-- a handler's address with the data after it, or the function whose record goes on
 pub data Trailer : Type 0 where
   OnException OnTermination : ℕ → List ℕ → Trailer
   ChainedTo : RuntimeFunction → Trailer

@@ -4,8 +4,8 @@ use Rattle.pe_unwind_info.specs.declared.x86_64.fault.FrameFault.{FrameFault}
 use Rattle.pe_unwind_info.specs.declared.x86_64.fault.FrameFault.TheVariants.{Stack as StackFault}
 
 -- a map with another value at one key
-abbrev pub changed : {V : Type 0} → (ℕ → V) → ℕ → V → ℕ → V
-changed map key value k = if k == key then value else map k
+abbrev pub map_with : {V : Type 0} → (ℕ → V) → ℕ → V → ℕ → V
+map_with map key value k = if k == key then value else map k
 
 -- the general purpose registers and the XMM registers, by their numbers
 pub record Registers : Type 0 where
@@ -20,10 +20,10 @@ abbrev pub Stack : Type 0
 Stack = ℕ → Option ℕ
 
 abbrev pub with_general : ℕ → ℕ → Registers → Registers
-with_general r v regs = record { general = changed regs.general r v; xmm = regs.xmm }
+with_general r v regs = record { general = map_with regs.general r v; xmm = regs.xmm }
 
 abbrev pub with_xmm : ℕ → ℕ → Registers → Registers
-with_xmm r v regs = record { general = regs.general; xmm = changed regs.xmm r v }
+with_xmm r v regs = record { general = regs.general; xmm = map_with regs.xmm r v }
 
 -- the stack pointer is register 4
 abbrev pub stack_pointer : Registers → ℕ

@@ -9,7 +9,7 @@ use Rattle.pe_unwind_info.specs.declared.x86_64.operations.UnwindOperation.TheVa
 use Rattle.pe_unwind_info.specs.declared.x86_64.operations.UnwindOperationCode.{UnwindOperationCode}
 use Rattle.pe_unwind_info.specs.declared.x86_64.operations.UnwindOperationCode.TheVariants.{PushNonvol, AllocLarge, AllocSmall, SetFPReg, SaveNonvol, SaveNonvolFar, Epilog as EpilogCode, Spare, SaveXmm128, SaveXmm128Far, PushMachframe}
 use Rattle.pe_unwind_info.specs.declared.x86_64.operations.UnwindOperations.{UnwindOperations}
-use Rattle.pe_unwind_info.specs.Numbers.{first_u16, first_u32, scaled}
+use Rattle.pe_unwind_info.specs.Numbers.{first_u16, first_u32, number_in_units}
 use Rattle.pe_unwind_info.specs.Registers.{register_of, xmm_register_of}
 
 -- a slot: the number of its operation in the low four bits of its second byte, the information above it
@@ -42,39 +42,39 @@ frame_offset n = record { 0 = n }
 abbrev pub offset_value : StackFrameOffset → ℕ
 offset_value offset = offset.0
 
--- What slots begin with: an operation, or none where they are spare, with the bytes behind it; or nothing that can be read.
+-- What slots begin with: an operation, or none where they are spare, with the bytes after it; or nothing that can be read.
 abbrev pub Head : Type 0
 Head = Option (Option UnwindOperation × List ℕ)
 
 abbrev pub gives : UnwindOperation → List ℕ → Head
 gives operation rest = Some (Some operation, rest)
 
--- an operation with a number from the slots behind its own
+-- an operation with a number from the slots after its own
 abbrev pub counts : (ℕ → UnwindOperation) → Option (ℕ × List ℕ) → Head
 counts operation None = None
 counts operation (Some (n, rest)) = gives (operation n) rest
 
--- the operation of a slot, by its code, from the bytes behind it
+-- the operation of a slot, by its code, from the bytes after it
 abbrev pub head_by : Option UnwindOperationCode → UnwindCode → List ℕ → Head
 head_by None slot rest = None
 head_by (Some PushNonvol) slot rest = gives (PopNonVolatile (register_of (code_information slot))) rest
 head_by (Some AllocLarge) slot rest =
-    if code_information slot == 0 then counts UnStackAlloc (scaled 8 (first_u16 rest))
+    if code_information slot == 0 then counts UnStackAlloc (number_in_units 8 (first_u16 rest))
     else (if code_information slot == 1 then counts UnStackAlloc (first_u32 rest) else None)
 head_by (Some AllocSmall) slot rest = gives (UnStackAlloc (8 * code_information slot + 8)) rest
 head_by (Some SetFPReg) slot rest = gives RestoreSPFromFP rest
-head_by (Some SaveNonvol) slot rest = counts (λ n. ReadNonVolatile (register_of (code_information slot)) (frame_offset n)) (scaled 8 (first_u16 rest))
+head_by (Some SaveNonvol) slot rest = counts (λ n. ReadNonVolatile (register_of (code_information slot)) (frame_offset n)) (number_in_units 8 (first_u16 rest))
 head_by (Some SaveNonvolFar) slot rest = counts (λ n. ReadNonVolatile (register_of (code_information slot)) (frame_offset n)) (first_u32 rest)
 head_by (Some EpilogCode) slot rest = gives (EpilogInformation (record { size_or_offset_low = slot.prolog_offset; single_or_offset_high = code_information slot })) rest
 head_by (Some Spare) slot rest = if nat_lt (length rest) 4 then None else Some (None, drop 4 rest)
-head_by (Some SaveXmm128) slot rest = counts (λ n. ReadXMM (xmm_register_of (code_information slot)) (frame_offset n)) (scaled 16 (first_u16 rest))
+head_by (Some SaveXmm128) slot rest = counts (λ n. ReadXMM (xmm_register_of (code_information slot)) (frame_offset n)) (number_in_units 16 (first_u16 rest))
 head_by (Some SaveXmm128Far) slot rest = counts (λ n. ReadXMM (xmm_register_of (code_information slot)) (frame_offset n)) (first_u32 rest)
 head_by (Some PushMachframe) slot rest = gives (PopMachineFrame (code_information slot == 1)) rest
 
 abbrev pub head_of : ℕ → UnwindCode → List ℕ → Head
 head_of version slot rest = head_by (code_of version (code_number slot)) slot rest
 
--- an operation with the offset in the code behind what it undoes
+-- an operation with the offset in the code after what it undoes
 abbrev pub Placed : Type 0
 Placed = ℕ × UnwindOperation
 

@@ -19,7 +19,7 @@ virtual_address section = u32_at 12 section.header
 abbrev pub raw_pointer : Section → ℕ
 raw_pointer section = u32_at 20 section.header
 
--- where the COFF header stands: behind the signature that the number at 0x3c leads to
+-- where the COFF header stands: after the signature that the number at 0x3c leads to
 abbrev pub coff_at : List ℕ → ℕ
 coff_at image = u32_at 0x3c image + 4
 

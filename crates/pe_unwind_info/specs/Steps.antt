@@ -23,13 +23,13 @@ abbrev pub frame_address : UnwindInfoHeader → Registers → ℕ → ℕ
 frame_address header regs offset = offset_from header (regs.general (register_number (base_register header))) offset
 
 -- the stack pointer that the frame register was set from, where there is a frame register
-abbrev pub restored : Option Register → ℕ → Registers → Registers
-restored None distance regs = regs
-restored (Some frame) distance regs = with_stack_pointer (less (regs.general (register_number frame)) distance) regs
+abbrev pub with_stack_restored : Option Register → ℕ → Registers → Registers
+with_stack_restored None distance regs = regs
+with_stack_restored (Some frame) distance regs = with_stack_pointer (less (regs.general (register_number frame)) distance) regs
 
 -- a stored register, and a stored XMM register, whose high half stands above the low one
-abbrev pub saved : Stack → ℕ → ℕ → Registers → After
-saved stack a r regs = with_word (word_or_fault stack a) regs (λ v. Goes (with_general r v regs))
+abbrev pub with_saved_register : Stack → ℕ → ℕ → Registers → After
+with_saved_register stack a r regs = with_word (word_or_fault stack a) regs (λ v. Goes (with_general r v regs))
 
 abbrev pub saved_xmm : Stack → ℕ → ℕ → Registers → After
 saved_xmm stack a r regs =
@@ -45,8 +45,8 @@ abbrev pub act : UnwindInfoHeader → Stack → UnwindOperation → Registers �
 act header stack (EpilogInformation e) regs = Goes regs
 act header stack (PopNonVolatile r) regs = pop_into stack (register_number r) regs
 act header stack (UnStackAlloc n) regs = Goes (with_stack_pointer (plus (stack_pointer regs) n) regs)
-act header stack RestoreSPFromFP regs = Goes (restored (frame_register_of header) (frame_distance header) regs)
-act header stack (ReadNonVolatile r k) regs = saved stack (frame_address header regs (offset_value k)) (register_number r) regs
+act header stack RestoreSPFromFP regs = Goes (with_stack_restored (frame_register_of header) (frame_distance header) regs)
+act header stack (ReadNonVolatile r k) regs = with_saved_register stack (frame_address header regs (offset_value k)) (register_number r) regs
 act header stack (ReadXMM r k) regs = saved_xmm stack (frame_address header regs (offset_value k)) (xmm_number r) regs
 act header stack (PopMachineFrame error_code) regs = machine_frame stack (plus (stack_pointer regs) (if error_code then 8 else 0)) regs
 

@@ -7,7 +7,7 @@ use Rattle.unwind_definitions.specs.Caller as calls
 use Rattle.unwind_arch.specs.declared.x86_64.Context.{Context}
 use Rattle.fde_finders.specs.Finding.{FoundFde}
 use Rattle.stack_walks.specs.declared.room.Trail.{Trail}
-use Rattle.stack_steps.specs.declared.answers.Stepped.{Stepped}
+use Rattle.format_frames.specs.declared.machine.Stepped.{Stepped}
 use Rattle.stack_steps.specs.declared.answers.DeliverError.{DeliverError}
 use Rattle.stack_steps.specs.declared.answers.DeliverError.TheVariants.{CompactHandler, FrameLimit, PassLimit, NoResume, PeHandler}
 use Rattle.stack_walks.specs.declared.outward.Phase.{Phase}
@@ -21,7 +21,7 @@ use Rattle.format_definitions.specs.PeImage.{memory_of}
 use Rattle.format_frames.specs.Handlers.{has_language_table, handler_in}
 use Rattle.stack_steps.specs.Asking.{action_if_named, action_asked, recorded_action, unless_handled}
 use Rattle.stack_walks.specs.Turns.{turn_at, stops, Line, Stop, Turn, Ends, Stops, Goes, turn_of, with_context, line_turn, pass_of, kept_at, pad_of, turn_for}
-use Rattle.stack_deliver.specs.Passes.{PassEnd, Finishes, Elsewhere, end_of, cleanup_of, cleanup_at, resume_at, CleanupsRun, with_cleanup, resumed, followed, passes_of}
+use Rattle.stack_deliver.specs.Passes.{PassEnd, Finishes, Elsewhere, end_of, cleanup_of, cleanup_at, resume_at, CleanupsRun, with_cleanup, cleanup_and_rest, after_pass, passes_of}
 use Rattle.stack_deliver.specs.StackDelivery.{delivery_after, delivery_at, delivery_to, delivery_by, stack_delivery}
 use Rattle.stack_steps.proofs.StepParts.{some_next, stepped_by, step_is}
 use Rattle.stack_deliver.proofs.TurnParts.{goes, turn_asked, turn_by}
@@ -33,7 +33,7 @@ module _ (space : SpaceValue) (exception kept : ℕ) (resumes : List (ℕ × ℕ
   passes = passes_of space exception kept resumes limit
 
   abbrev later : ℕ → ℕ → Context → Result CleanupsRun DeliverError
-  later n pad entered = resumed (cleanup_at pad entered) (resume_at pad entered (return_of resumes pad)) (passes n)
+  later n pad entered = cleanup_and_rest (cleanup_at pad entered) (resume_at pad entered (return_of resumes pad)) (passes n)
 
   -- the pass from a context is refused so, or the cleanup that it enters is
   abbrev pub RefusesNow : DeliverError → ℕ → Context → Type 0
@@ -50,7 +50,7 @@ module _ (space : SpaceValue) (exception kept : ℕ) (resumes : List (ℕ × ℕ
   pub refused_in : (places : ℕ) (c : Context) (e : DeliverError) → passes places c ≡ Err e → SomePass space exception kept resumes limit (RefusesNow e) places c
   refused_in zero c e fails = go (cleanup_of space exception kept limit c) refl fails
     where
-      go : (r : Result PassEnd DeliverError) → cleanup_of space exception kept limit c ≡ r → followed r (λ pad entered. Err PassLimit) ≡ Err e → RefusesNow e zero c
+      go : (r : Result PassEnd DeliverError) → cleanup_of space exception kept limit c ≡ r → after_pass r (λ pad entered. Err PassLimit) ≡ Err e → RefusesNow e zero c
       go (Ok (Finishes ending)) is h = absurd cc
       go (Ok (Elsewhere pad entered)) is h = inr (inl (sym (same_error PassLimit e h), (refl, (pad, entered, is))))
       go (Err x) is h = inl (is ∙ ap (λ (y : DeliverError). failed y) (same_error x e h))
@@ -60,14 +60,14 @@ module _ (space : SpaceValue) (exception kept : ℕ) (resumes : List (ℕ × ℕ
   refused_in (suc n) c e fails = go (cleanup_of space exception kept limit c) refl (λ d h. refused_in n d e h) fails
     where
       at_return : (pad : ℕ) (entered : Context) (o : Option ℕ) → cleanup_of space exception kept limit c ≡ Ok (Elsewhere pad entered) → return_of resumes pad ≡ o → ((d : Context) → passes n d ≡ Err e → SomePass space exception kept resumes limit (RefusesNow e) n d) →
-          resumed (cleanup_at pad entered) (resume_at pad entered o) (passes n) ≡ Err e → SomePass space exception kept resumes limit (RefusesNow e) (suc n) c
+          cleanup_and_rest (cleanup_at pad entered) (resume_at pad entered o) (passes n) ≡ Err e → SomePass space exception kept resumes limit (RefusesNow e) (suc n) c
       at_return pad entered None is found outer h = inl (inr (inr (pad, sym (same_error (NoResume pad) e h), (omega arith, (entered, is, found)))))
       at_return pad entered (Some ret) is found outer h = inr (pad, entered, ret, is, found, outer (record entered { ra = ret }) (cleanup_error (cleanup_at pad entered) (passes n (record entered { ra = ret })) e h))
 
       failed : DeliverError → Result PassEnd DeliverError
       failed y = Err y
 
-      go : (r : Result PassEnd DeliverError) → cleanup_of space exception kept limit c ≡ r → ((d : Context) → passes n d ≡ Err e → SomePass space exception kept resumes limit (RefusesNow e) n d) → followed r (later n) ≡ Err e →
+      go : (r : Result PassEnd DeliverError) → cleanup_of space exception kept limit c ≡ r → ((d : Context) → passes n d ≡ Err e → SomePass space exception kept resumes limit (RefusesNow e) n d) → after_pass r (later n) ≡ Err e →
           SomePass space exception kept resumes limit (RefusesNow e) (suc n) c
       go (Ok (Finishes ending)) is outer h = absurd cc
       go (Ok (Elsewhere pad entered)) is outer h = at_return pad entered (return_of resumes pad) is refl outer h
@@ -81,17 +81,17 @@ module _ (space : SpaceValue) (exception kept : ℕ) (resumes : List (ℕ × ℕ
       let pad = r.0 in let entered : Context = r.1 in let ret = r.2 in
       let d : Context = record entered { ra = ret } in
       let rest : passes n d ≡ Err e = some_refused P e each n d r.5 in
-      ap (λ x. followed x (later n)) r.3 ∙ ap (λ (o : Option ℕ). resumed (cleanup_at pad entered) (resume_at pad entered o) (passes n)) r.4 ∙ ap (with_cleanup (cleanup_at pad entered)) rest
+      ap (λ x. after_pass x (later n)) r.3 ∙ ap (λ (o : Option ℕ). cleanup_and_rest (cleanup_at pad entered) (resume_at pad entered o) (passes n)) r.4 ∙ ap (with_cleanup (cleanup_at pad entered)) rest
 
   pub full_refuses : (places : ℕ) (c : Context) → TrailIsFull space exception kept resumes limit places c → passes places c ≡ Err PassLimit
-  full_refuses zero c full = ap (λ x. followed x (λ pad entered. Err PassLimit)) full.1.2
+  full_refuses zero c full = ap (λ x. after_pass x (λ pad entered. Err PassLimit)) full.1.2
   full_refuses (suc n) c full = let none = full.0 in absurd (omega arith)
 
   pub no_return_refuses : (pad places : ℕ) (c : Context) → HasNoReturn space exception kept resumes limit pad places c → passes places c ≡ Err (NoResume pad)
   no_return_refuses pad zero c none = let some = none.0 in absurd (omega arith)
   no_return_refuses pad (suc n) c none =
       let entered : Context = none.1.0 in
-      ap (λ x. followed x (later n)) none.1.1 ∙ ap (λ (o : Option ℕ). resumed (cleanup_at pad entered) (resume_at pad entered o) (passes n)) none.1.2
+      ap (λ x. after_pass x (later n)) none.1.1 ∙ ap (λ (o : Option ℕ). cleanup_and_rest (cleanup_at pad entered) (resume_at pad entered o) (passes n)) none.1.2
 
   -- one pass is of a kind where one of another is
   pub some_pass : (P Q : ℕ → Context → Type 0) → ((places : ℕ) (d : Context) → P places d → Q places d) → (places : ℕ) (c : Context) → SomePass space exception kept resumes limit P places c → SomePass space exception kept resumes limit Q places c

@@ -18,7 +18,7 @@ use Rattle.pe_unwind_info.specs.FrameOf.{Image}
 use Rattle.pe_unwind_info.specs.Info.{Info, parsed_info}
 use Rattle.format_definitions.specs.PeImage.{PeModule, memory_of}
 use Rattle.format_frames.specs.Handlers.{has_language_table, any_handler, handler_in}
-use Rattle.stack_steps.specs.declared.answers.Stepped.{Stepped}
+use Rattle.format_frames.specs.declared.machine.Stepped.{Stepped}
 use Rattle.stack_walks.specs.declared.room.Trail.{Trail}
 use Rattle.stack_steps.specs.declared.answers.DeliverError.{DeliverError}
 use Rattle.stack_steps.specs.declared.answers.DeliverError.TheVariants.{NoMemory, Unmapped, FrameLimit, PassLimit, NoResume, Table, MachO, CompactHandler, CompactForm, PeInfo, PeHandler, ChainLimit}
@@ -29,7 +29,7 @@ use Rattle.stack_deliver.specs.Resumes.{return_of}
 use Rattle.stack_steps.specs.Stepping.{step_of, refusal_of, FrameAt, Described, Compact, Recorded, frame_of, caller_by}
 use Rattle.stack_steps.specs.Asking.{action_if_named, action_asked, described_action, recorded_action, unless_handled}
 use Rattle.stack_walks.specs.Turns.{turn_at, stops, Turn, Ends, Stops, Goes, turn_of, Line, with_context, line_turn, pass_of, kept_at, pad_of, Stop, turn_for}
-use Rattle.stack_deliver.specs.Passes.{PassEnd, Finishes, Elsewhere, end_of, cleanup_of, cleanup_at, resume_at, CleanupsRun, with_cleanup, resumed, followed, passes_of}
+use Rattle.stack_deliver.specs.Passes.{PassEnd, Finishes, Elsewhere, end_of, cleanup_of, cleanup_at, resume_at, CleanupsRun, with_cleanup, cleanup_and_rest, after_pass, passes_of}
 use Rattle.stack_deliver.specs.StackDelivery.{delivery_after, delivery_at, delivery_to, delivery_by, stack_delivery}
 use Rattle.stack_steps.proofs.StepParts.{some_next, stepped_by, step_is}
 use Rattle.stack_deliver.proofs.TurnParts.{goes, turn_asked, turn_by}
@@ -208,18 +208,18 @@ module _ (space : SpaceValue) where
     pub passes_cause : (places : ℕ) (c : Context) → OnCause space.image (passes_of space exception kept resumes limit places c)
     passes_cause zero c = go (cleanup_of space exception kept limit c) (end_cause exception kept (pass_of phase.Cleanup space limit c false) (pass_cause phase.Cleanup limit c false))
       where
-        go : (r : Result PassEnd DeliverError) → OnCause space.image r → OnCause space.image (followed r (λ pad entered. Err PassLimit))
+        go : (r : Result PassEnd DeliverError) → OnCause space.image r → OnCause space.image (after_pass r (λ pad entered. Err PassLimit))
         go (Ok (Finishes ending)) on = tt
         go (Ok (Elsewhere pad d)) on = tt
         go (Err e) on = on
     passes_cause (suc n) c = go (cleanup_of space exception kept limit c) (end_cause exception kept (pass_of phase.Cleanup space limit c false) (pass_cause phase.Cleanup limit c false)) (λ d. passes_cause n d)
       where
-        by_resume : (pad : ℕ) (entered : Context) (o : Option ℕ) → ((d : Context) → OnCause space.image (passes_of space exception kept resumes limit n d)) → OnCause space.image (resumed (cleanup_at pad entered) (resume_at pad entered o) (passes_of space exception kept resumes limit n))
+        by_resume : (pad : ℕ) (entered : Context) (o : Option ℕ) → ((d : Context) → OnCause space.image (passes_of space exception kept resumes limit n d)) → OnCause space.image (cleanup_and_rest (cleanup_at pad entered) (resume_at pad entered o) (passes_of space exception kept resumes limit n))
         by_resume pad entered None later = tt
         by_resume pad entered (Some ret) later = cleanup_cause (cleanup_at pad entered) (passes_of space exception kept resumes limit n (record entered { ra = ret })) (later (record entered { ra = ret }))
 
         go : (r : Result PassEnd DeliverError) → OnCause space.image r → ((d : Context) → OnCause space.image (passes_of space exception kept resumes limit n d)) →
-            OnCause space.image (followed r (λ pad entered. resumed (cleanup_at pad entered) (resume_at pad entered (return_of resumes pad)) (passes_of space exception kept resumes limit n)))
+            OnCause space.image (after_pass r (λ pad entered. cleanup_and_rest (cleanup_at pad entered) (resume_at pad entered (return_of resumes pad)) (passes_of space exception kept resumes limit n)))
         go (Ok (Finishes ending)) on later = tt
         go (Ok (Elsewhere pad d)) on later = by_resume pad d (return_of resumes pad) later
         go (Err e) on later = on

@@ -9,7 +9,7 @@ use Rattle.pe_unwind_info.specs.declared.x86_64.fault.FrameFault.{FrameFault}
 use Rattle.format_definitions.specs.PeImage.{memory_of}
 use Rattle.format_frames.specs.Handlers.{has_language_table, handler_in}
 use Rattle.unwind_arch.specs.declared.x86_64.Context.{Context}
-use Rattle.stack_steps.specs.declared.answers.Stepped.{Stepped}
+use Rattle.format_frames.specs.declared.machine.Stepped.{Stepped}
 use Rattle.stack_steps.specs.declared.answers.DeliverError.{DeliverError}
 use Rattle.stack_steps.specs.declared.answers.DeliverError.TheVariants.{CompactHandler, FrameLimit, PeHandler}
 use Rattle.stack_walks.specs.declared.outward.Phase.{Phase}

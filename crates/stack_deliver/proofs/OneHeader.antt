@@ -21,7 +21,7 @@ use Rattle.fde_finders.specs.declared.custom.FrameInfoKind.{FrameInfoKind}
 use Rattle.fde_finders.specs.declared.custom.FrameInfoKind.TheVariants.{EhFrame, EhFrameHdr}
 use Rattle.fde_finders.specs.Finding.{relative_to}
 use Rattle.fde_finders.specs.FrameTables.{FrameTable, led_table, table_by_kind}
-use Rattle.fde_finders.specs.HeaderFinding.{Led, at_header, led, led_by, pairs_in, pairs_led, pairs_by_header}
+use Rattle.fde_finders.specs.HeaderFinding.{Led, at_header, led_at, led_by, pairs_in, pairs_led, pairs_by_header}
 use Rattle.fde_finders.specs.Named.{pairs_by, pairs_by_kind}
 use Rattle.stack_steps.specs.declared.space.Module.{Module}
 use Rattle.stack_steps.specs.declared.space.ModuleTables.{ModuleTables}
@@ -39,7 +39,7 @@ as_listed : (text : Option ℕ) (kind : FrameInfoKind) (image : List Span) (h : 
     length index.functions ≡ pairs_by_kind text kind image
 unfolding pairs_by_header
 as_listed text (EhFrame frame) image h table index is names lists = absurd cc
-as_listed text (EhFrameHdr header) image h table index is names lists = by_led (led (relative_to text None) image header) names
+as_listed text (EhFrameHdr header) image h table index is names lists = by_led (led_at (relative_to text None) image header) names
   where
     by_pairs : (o : Option PairTable) → HeaderLists o table.entries.base (fdes_in index) → length index.functions ≡ pairs_in o
     by_pairs None lists = absurd lists

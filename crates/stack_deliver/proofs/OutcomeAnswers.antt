@@ -15,7 +15,7 @@ use Rattle.stack_walks.specs.declared.outward.Phase.TheVariants as phase
 use Rattle.stack_steps.specs.Modules.{SpaceValue}
 use Rattle.stack_deliver.specs.Resumes.{return_of}
 use Rattle.stack_walks.specs.Turns.{stops, Line, Stop, Ends, Stops, turn_of, pass_of, kept_at, pad_of, enters}
-use Rattle.stack_deliver.specs.Passes.{fatal, landed, PassEnd, Finishes, Elsewhere, end_at, end_by, end_of, cleanup_of, cleanup_at, resume_at, CleanupsRun, with_cleanup, resumed, followed, passes_of}
+use Rattle.stack_deliver.specs.Passes.{fatal, ending_at, PassEnd, Finishes, Elsewhere, end_at, end_by, end_of, cleanup_of, cleanup_at, resume_at, CleanupsRun, with_cleanup, cleanup_and_rest, after_pass, passes_of}
 use Rattle.stack_walks.proofs.TurnLines.{stop_in}
 use Rattle.stack_deliver.specs.Causes.{Asks, EndsProgram, StackEnds, CantRead, Meets, GoesOnFrom, TakesAt, Fails}
 use Rattle.stack_deliver.specs.Causes.{SomePass}
@@ -176,9 +176,9 @@ module _ (space : SpaceValue) (exception kept limit : ℕ) (c : Context) where
       fails meets same = subst (λ (x : Ending). Finished x.outcome) same meets
 
       by_kept : (stop : Stop) (pad : ℕ) → cleanup_stop ≡ Ok (Some stop) → pad_of stop.action ≡ Some pad → (b : Bool) → eqb (kept_at stop.context stop.interrupted) kept ≡ b →
-          cond b (Finishes (landed (enters stop.past exception pad))) (Elsewhere pad (enters stop.past exception pad)) ≡ Finishes ending → Finished ending.outcome
+          cond b (Finishes (ending_at (enters stop.past exception pad))) (Elsewhere pad (enters stop.past exception pad)) ≡ Finishes ending → Finished ending.outcome
       by_kept stop pad at named true same h =
-          let landing : landed (enters stop.past exception pad) ≡ ending = cc in
+          let landing : ending_at (enters stop.past exception pad) ≡ ending = cc in
           let mark : kept_at stop.context stop.interrupted ≡ kept = is_same (kept_at stop.context stop.interrupted) kept same in
           subst (λ (x : Ending). Finished x.outcome) landing (stopped_meets phase.Cleanup space limit c stop (TakesAt kept space) at (λ asks stopped. (record { action = stop.action; asks = asks; pad = pad; named = named }, mark)))
       by_kept stop pad at named false other h = absurd cc
@@ -196,7 +196,7 @@ module _ (space : SpaceValue) (exception kept limit : ℕ) (c : Context) where
       let r = meets_stopped phase.Cleanup space limit c Taken (meets_too phase.Cleanup space (TakesAt kept space) (StopsFor phase.Cleanup space Taken) each limit c false meets) in
       let stop : Stop = r.0 in let pad : ℕ = r.2.0 in
       let same : eqb (kept_at stop.context stop.interrupted) kept ≡ true = same_is (kept_at stop.context stop.interrupted) kept r.2.2 in
-      (landed (enters stop.past exception pad), by_finish (Some stop) r.1 ∙ ap finish (ap (end_at exception kept stop) r.2.1 ∙ taken stop pad (eqb (kept_at stop.context stop.interrupted) kept) same), refl)
+      (ending_at (enters stop.past exception pad), by_finish (Some stop) r.1 ∙ ap finish (ap (end_at exception kept stop) r.2.1 ∙ taken stop pad (eqb (kept_at stop.context stop.interrupted) kept) same), refl)
     where
       Taken : Context → Bool → Action → Type 0
       Taken d mark action = (pad : ℕ) × (pad_of action ≡ Some pad) × (kept_at d mark ≡ kept)
@@ -207,7 +207,7 @@ module _ (space : SpaceValue) (exception kept limit : ℕ) (c : Context) where
       finish : PassEnd → Result PassEnd DeliverError
       finish x = Ok x
 
-      taken : (stop : Stop) (pad : ℕ) (b : Bool) → b ≡ true → cond b (Finishes (landed (enters stop.past exception pad))) (Elsewhere pad (enters stop.past exception pad)) ≡ Finishes (landed (enters stop.past exception pad))
+      taken : (stop : Stop) (pad : ℕ) (b : Bool) → b ≡ true → cond b (Finishes (ending_at (enters stop.past exception pad))) (Elsewhere pad (enters stop.past exception pad)) ≡ Finishes (ending_at (enters stop.past exception pad))
       taken stop pad true is = refl
       taken stop pad false is = absurd cc
   finishes FatalPhase2 meets = go (meets_either phase.Cleanup space (StackEnds space) (EndsProgram space) limit c false meets)
@@ -244,7 +244,7 @@ module _ (space : SpaceValue) (exception kept : ℕ) (resumes : List (ℕ × ℕ
   passes = passes_of space exception kept resumes limit
 
   abbrev later : ℕ → ℕ → Context → Result CleanupsRun DeliverError
-  later n pad entered = resumed (cleanup_at pad entered) (resume_at pad entered (return_of resumes pad)) (passes n)
+  later n pad entered = cleanup_and_rest (cleanup_at pad entered) (resume_at pad entered (return_of resumes pad)) (passes n)
 
   -- the pass from a context finishes so
   abbrev pub FinishesSo : Ending → ℕ → Context → Type 0
@@ -256,7 +256,7 @@ module _ (space : SpaceValue) (exception kept : ℕ) (resumes : List (ℕ × ℕ
   pub finished_in : (places : ℕ) (c : Context) (passed : CleanupsRun) → passes places c ≡ Ok passed → SomePass space exception kept resumes limit (FinishesSo passed.ending) places c
   finished_in zero c passed is = go (cleanup_of space exception kept limit c) refl is
     where
-      go : (r : Result PassEnd DeliverError) → cleanup_of space exception kept limit c ≡ r → followed r (λ pad entered. Err PassLimit) ≡ Ok passed → FinishesSo passed.ending zero c
+      go : (r : Result PassEnd DeliverError) → cleanup_of space exception kept limit c ≡ r → after_pass r (λ pad entered. Err PassLimit) ≡ Ok passed → FinishesSo passed.ending zero c
       go (Ok (Finishes ending)) at h = let same : ending ≡ passed.ending = cc in at ∙ ap finish same
       go (Ok (Elsewhere pad entered)) at h = absurd cc
       go (Err e) at h = absurd cc
@@ -269,26 +269,26 @@ module _ (space : SpaceValue) (exception kept : ℕ) (resumes : List (ℕ × ℕ
       with_rest t d (Ok rest) at outer h = let same : rest.ending ≡ passed.ending = cc in subst (λ (x : Ending). SomePass space exception kept resumes limit (FinishesSo x) n d) same (outer d rest at)
       with_rest t d (Err e) at outer h = absurd cc
 
-      at_return : (pad : ℕ) (entered : Context) (o : Option ℕ) → cleanup_of space exception kept limit c ≡ Ok (Elsewhere pad entered) → return_of resumes pad ≡ o → Outer → resumed (cleanup_at pad entered) (resume_at pad entered o) (passes n) ≡ Ok passed →
+      at_return : (pad : ℕ) (entered : Context) (o : Option ℕ) → cleanup_of space exception kept limit c ≡ Ok (Elsewhere pad entered) → return_of resumes pad ≡ o → Outer → cleanup_and_rest (cleanup_at pad entered) (resume_at pad entered o) (passes n) ≡ Ok passed →
           SomePass space exception kept resumes limit (FinishesSo passed.ending) (suc n) c
       at_return pad entered None at found outer h = absurd cc
       at_return pad entered (Some ret) at found outer h = inr (pad, entered, ret, at, found, with_rest (cleanup_at pad entered) (record entered { ra = ret }) (passes n (record entered { ra = ret })) refl outer h)
 
-      go : (r : Result PassEnd DeliverError) → cleanup_of space exception kept limit c ≡ r → Outer → followed r (later n) ≡ Ok passed → SomePass space exception kept resumes limit (FinishesSo passed.ending) (suc n) c
+      go : (r : Result PassEnd DeliverError) → cleanup_of space exception kept limit c ≡ r → Outer → after_pass r (later n) ≡ Ok passed → SomePass space exception kept resumes limit (FinishesSo passed.ending) (suc n) c
       go (Ok (Finishes ending)) at outer h = let same : ending ≡ passed.ending = cc in inl (at ∙ ap finish same)
       go (Ok (Elsewhere pad entered)) at outer h = at_return pad entered (return_of resumes pad) at refl outer h
       go (Err e) at outer h = absurd cc
 
   pub finish_all : (ending : Ending) (places : ℕ) (c : Context) → SomePass space exception kept resumes limit (FinishesSo ending) places c → (passed : CleanupsRun) × (passes places c ≡ Ok passed) × (passed.ending ≡ ending)
-  finish_all ending zero c is = (record { trail = []; ending = ending }, ap (λ x. followed x (λ pad entered. Err PassLimit)) is, refl)
-  finish_all ending (suc n) c (inl is) = (record { trail = []; ending = ending }, ap (λ x. followed x (later n)) is, refl)
+  finish_all ending zero c is = (record { trail = []; ending = ending }, ap (λ x. after_pass x (λ pad entered. Err PassLimit)) is, refl)
+  finish_all ending (suc n) c (inl is) = (record { trail = []; ending = ending }, ap (λ x. after_pass x (later n)) is, refl)
   finish_all ending (suc n) c (inr r) =
       let pad = r.0 in let entered : Context = r.1 in let ret = r.2 in
       let d : Context = record entered { ra = ret } in
       let rest = finish_all ending n d r.5 in
       let passed : CleanupsRun = rest.0 in
       let done : with_cleanup (cleanup_at pad entered) (passes n d) ≡ Ok (record passed { trail = cleanup_at pad entered ∷ passed.trail }) = ap (with_cleanup (cleanup_at pad entered)) rest.1 in
-      (record passed { trail = cleanup_at pad entered ∷ passed.trail }, ap (λ x. followed x (later n)) r.3 ∙ ap (λ (o : Option ℕ). resumed (cleanup_at pad entered) (resume_at pad entered o) (passes n)) r.4 ∙ done, rest.2)
+      (record passed { trail = cleanup_at pad entered ∷ passed.trail }, ap (λ x. after_pass x (later n)) r.3 ∙ ap (λ (o : Option ℕ). cleanup_and_rest (cleanup_at pad entered) (resume_at pad entered o) (passes n)) r.4 ∙ done, rest.2)
 
   -- what holds of each pass that is so holds of one
   pub some_holds : (P : ℕ → Context → Type 0) (X : Type 0) → ((n : ℕ) (d : Context) → P n d → X) → (places : ℕ) (c : Context) → SomePass space exception kept resumes limit P places c → X

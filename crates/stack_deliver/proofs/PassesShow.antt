@@ -27,7 +27,7 @@ use Rattle.stack_deliver.specs.Resumes.{return_of}
 use Rattle.stack_deliver.specs.StateViews.{state_of, landing_of, pair_of}
 use Rattle.stack_walks.specs.Walking.{EachShows}
 use Rattle.stack_walks.specs.Turns.{Line, Stop, stops, with_context, pass_of, kept_at, pad_of, enters}
-use Rattle.stack_deliver.specs.Passes.{landed, PassEnd, Finishes, Elsewhere, end_at, end_of, cleanup_at, resume_at, CleanupsRun, with_cleanup, resumed, followed, passes_of}
+use Rattle.stack_deliver.specs.Passes.{ending_at, PassEnd, Finishes, Elsewhere, end_at, end_of, cleanup_at, resume_at, CleanupsRun, with_cleanup, cleanup_and_rest, after_pass, passes_of}
 use Rattle.stack_steps.proofs.ContextLemmas.{IsWhole}
 use Rattle.stack_deliver.proofs.Chains.{shown_state}
 use Rattle.stack_steps.proofs.MetFrames.{Met, met}
@@ -154,8 +154,8 @@ module _ (space : SpaceValue) (apart : AreApart 0 space.modules) (laid : IsLaidO
 
     -- what follows a pass
     abbrev pub from_pass : ℕ → Result Line DeliverError → Result CleanupsRun DeliverError
-    from_pass zero r = followed (end_of exception kept r) (λ pad entered. Err PassLimit)
-    from_pass (suc n) r = followed (end_of exception kept r) (λ pad entered. resumed (cleanup_at pad entered) (resume_at pad entered (return_of resumes pad)) (passes n))
+    from_pass zero r = after_pass (end_of exception kept r) (λ pad entered. Err PassLimit)
+    from_pass (suc n) r = after_pass (end_of exception kept r) (λ pad entered. cleanup_and_rest (cleanup_at pad entered) (resume_at pad entered (return_of resumes pad)) (passes n))
 
     pub by_pass : (places : ℕ) (c : Context) → passes places c ≡ from_pass places (pass_of phase.Cleanup space limit c false)
     by_pass zero c = refl
@@ -197,14 +197,14 @@ module _ (space : SpaceValue) (apart : AreApart 0 space.modules) (laid : IsLaidO
     cleans_met n met pad ret entered r e found = rw (e, found) refl
 
     finishes : (places : ℕ) (r : Result Line DeliverError) (ending : Ending) → end_of exception kept r ≡ Ok (Finishes ending) → from_pass places r ≡ Ok (record { trail = []; ending = ending })
-    finishes zero r ending e = ap (λ x. followed x (λ pad entered. Err PassLimit)) e
-    finishes (suc n) r ending e = ap (λ x. followed x (λ pad entered. resumed (cleanup_at pad entered) (resume_at pad entered (return_of resumes pad)) (passes n))) e
+    finishes zero r ending e = ap (λ x. after_pass x (λ pad entered. Err PassLimit)) e
+    finishes (suc n) r ending e = ap (λ x. after_pass x (λ pad entered. cleanup_and_rest (cleanup_at pad entered) (resume_at pad entered (return_of resumes pad)) (passes n))) e
 
     cleans : (n pad ret : ℕ) (entered : Context) (r : Result Line DeliverError) → end_of exception kept r ≡ Ok (Elsewhere pad entered) → return_of resumes pad ≡ Some ret →
         from_pass (suc n) r ≡ with_cleanup (cleanup_at pad entered) (passes n (record entered { ra = ret }))
     cleans n pad ret entered r e found =
-        ap (λ x. followed x (λ pad entered. resumed (cleanup_at pad entered) (resume_at pad entered (return_of resumes pad)) (passes n))) e
-        ∙ ap (λ (o : Option ℕ). resumed (cleanup_at pad entered) (resume_at pad entered o) (passes n)) found
+        ap (λ x. after_pass x (λ pad entered. cleanup_and_rest (cleanup_at pad entered) (resume_at pad entered (return_of resumes pad)) (passes n))) e
+        ∙ ap (λ (o : Option ℕ). cleanup_and_rest (cleanup_at pad entered) (resume_at pad entered o) (passes n)) found
 
     -- a pass that goes on at a context
     met_past : (places room : ℕ) (c : Context) (s : State) (k : Call) (here : Met space c s k) → Shows (columns_of c) s → s.sp < 2 ^ 64 → 0 < room → stops phase.Cleanup (action_in s k) ≡ false →
@@ -260,13 +260,13 @@ module _ (space : SpaceValue) (apart : AreApart 0 space.modules) (laid : IsLaidO
       lands_now pad at decided asks named lands =
           let mark : kept_at c false ≡ s.sp = marked_here in
           let same : eqb (kept_at c false) kept ≡ true = grind (arith, nat_tests) in
-          let ends : end_of exception kept (pass_of phase.Cleanup space room c false) ≡ Ok (Finishes (landed (enters c exception pad))) = ends_here pad asks named true same ∙ rw same refl in
+          let ends : end_of exception kept (pass_of phase.Cleanup space room c false) ≡ Ok (Finishes (ending_at (enters c exception pad))) = ends_here pad asks named true same ∙ rw same refl in
           let none : length (inner_frames s (k ∷ calls)) ≡ 0 = ap (λ (fs : List Frame). length fs) (before_now is_deciding (frame_in s k) (frames_of k.caller calls) decided) in
           let one = met_once asks in
-          let all = finishes_met places (contexts_met (Some phase.Cleanup) space room c false) (pass_of phase.Cleanup space room c false) (landed (enters c exception pad)) ends in
+          let all = finishes_met places (contexts_met (Some phase.Cleanup) space room c false) (pass_of phase.Cleanup space room c false) (ending_at (enters c exception pad)) ends in
           record {
-            passed = record { trail = []; ending = landed (enters c exception pad) };
-            is = finishes places (pass_of phase.Cleanup space room c false) (landed (enters c exception pad)) ends;
+            passed = record { trail = []; ending = ending_at (enters c exception pad) };
+            is = finishes places (pass_of phase.Cleanup space room c false) (ending_at (enters c exception pad)) ends;
             met = omega arith;
             trail = sym (ap (filter_map cleanup_of) (before_now is_deciding (frame_in s k) (frames_of k.caller calls) decided));
             outcome = refl;

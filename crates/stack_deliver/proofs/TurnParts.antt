@@ -3,7 +3,7 @@ use Rattle.std.proofs.Common.{Bool, List, Option, Some, Result}
 use Rattle.memory_image.specs.Image.{Span}
 use Rattle.unwind_definitions.specs.Function.{Action}
 use Rattle.unwind_arch.specs.declared.x86_64.Context.{Context}
-use Rattle.stack_steps.specs.declared.answers.Stepped.{Stepped}
+use Rattle.format_frames.specs.declared.machine.Stepped.{Stepped}
 use Rattle.stack_steps.specs.declared.answers.DeliverError.{DeliverError}
 use Rattle.stack_walks.specs.declared.outward.Phase.{Phase}
 use Rattle.memory_image.specs.Results.{◌>>=◌, result_map}

@@ -13,7 +13,7 @@ use Rattle.stack_deliver.specs.Passes.{Elsewhere, cleanup_of}
 use Rattle.unwind_definitions.specs.Caller.{StepFault}
 use Rattle.unwind_definitions.specs.Function.{Action, Terminate}
 use Rattle.unwind_definitions.specs.LanguageSearch.{personality_address, address_of_call, language_action}
-use Rattle.stack_steps.specs.declared.answers.Stepped.{Stepped}
+use Rattle.format_frames.specs.declared.machine.Stepped.{Stepped}
 use Rattle.stack_walks.specs.declared.outward.Phase.{Phase}
 use Rattle.memory_image.specs.Image.{Span}
 use Rattle.pe_unwind_info.specs.declared.x86_64.fault.FrameFault.{FrameFault}

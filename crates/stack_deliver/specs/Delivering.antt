@@ -25,8 +25,8 @@ abbrev pub IsDelivered : Result Ending DeliverError → RoomValue → Result Del
 IsDelivered (Ok ending) room due = due ≡ Ok (delivery_in room ending)
 IsDelivered (Err e) room due = due ≡ Err e
 
--- The same of a delivery: every module is an ELF module and describes its part of the functions, and where a handler takes the exception, the
--- resume table says where each frame inside it goes on after its cleanup.
+-- A delivery starts in a chain that the modules describe, with room for its states: every module is an ELF module and describes its part
+-- of the functions, and where a handler takes the exception, the resume table says where each frame inside it goes on after its cleanup.
 pub record StartsValidChain (space : SpaceValue) (c : Context) (resumes : List (ℕ × ℕ)) (limit : ℕ) (functions : List Function) (s : State) (calls : List Call) : Type 0 where
   pub valid : IsValid (process_of space) (columns_of c) resumes functions s calls
   pub elf : AreElf space.modules

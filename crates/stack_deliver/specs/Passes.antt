@@ -21,8 +21,8 @@ use Rattle.stack_walks.specs.Turns.{Stop, Line, pass_of, kept_at, pad_of, enters
 abbrev pub fatal : Ending
 fatal = record { outcome = FatalPhase2; landing = None }
 
-abbrev pub landed : Context → Ending
-landed c = record { outcome = Installed; landing = Some c }
+abbrev pub ending_at : Context → Ending
+ending_at c = record { outcome = Installed; landing = Some c }
 
 -- how a cleanup pass ends: the delivery ends with it, or a landing pad is entered elsewhere than at the kept frame
 pub data PassEnd : Type 0 where
@@ -32,7 +32,7 @@ pub data PassEnd : Type 0 where
 abbrev pub end_at : ℕ → ℕ → Stop → Option ℕ → PassEnd
 end_at exception kept stop None = Finishes fatal
 end_at exception kept stop (Some pad) =
-    if kept_at stop.context stop.interrupted == kept then Finishes (landed (enters stop.past exception pad))
+    if kept_at stop.context stop.interrupted == kept then Finishes (ending_at (enters stop.past exception pad))
     else Elsewhere pad (enters stop.past exception pad)
 
 abbrev pub end_by : ℕ → ℕ → Option Stop → PassEnd
@@ -63,16 +63,16 @@ pub record CleanupsRun : Type 0 where
 abbrev pub with_cleanup : Trail → Result CleanupsRun DeliverError → Result CleanupsRun DeliverError
 with_cleanup t = result_map (λ (passed : CleanupsRun). record passed { trail = t ∷ passed.trail })
 
-abbrev pub resumed : Trail → Result Context DeliverError → (Context → Result CleanupsRun DeliverError) → Result CleanupsRun DeliverError
-resumed t context later = context >>= (λ c. with_cleanup t (later c))
+abbrev pub cleanup_and_rest : Trail → Result Context DeliverError → (Context → Result CleanupsRun DeliverError) → Result CleanupsRun DeliverError
+cleanup_and_rest t context later = context >>= (λ c. with_cleanup t (later c))
 
-abbrev pub followed : Result PassEnd DeliverError → (ℕ → Context → Result CleanupsRun DeliverError) → Result CleanupsRun DeliverError
-followed (Ok (Finishes ending)) later = Ok (record { trail = []; ending = ending })
-followed (Ok (Elsewhere pad c)) later = later pad c
-followed (Err e) later = Err e
+abbrev pub after_pass : Result PassEnd DeliverError → (ℕ → Context → Result CleanupsRun DeliverError) → Result CleanupsRun DeliverError
+after_pass (Ok (Finishes ending)) later = Ok (record { trail = []; ending = ending })
+after_pass (Ok (Elsewhere pad c)) later = later pad c
+after_pass (Err e) later = Err e
 
 module _ (space : SpaceValue) (exception kept : ℕ) (resumes : List (ℕ × ℕ)) (limit : ℕ) where
   -- The passes from a context on toward the kept frame, where the trail has places for so many cleanups.
   abbrev pub passes_of : ℕ → Context → Result CleanupsRun DeliverError
-  passes_of zero c = followed (cleanup_of space exception kept limit c) (λ pad entered. Err PassLimit)
-  passes_of (suc places) c = followed (cleanup_of space exception kept limit c) (λ pad entered. resumed (cleanup_at pad entered) (resume_at pad entered (return_of resumes pad)) (passes_of places))
+  passes_of zero c = after_pass (cleanup_of space exception kept limit c) (λ pad entered. Err PassLimit)
+  passes_of (suc places) c = after_pass (cleanup_of space exception kept limit c) (λ pad entered. cleanup_and_rest (cleanup_at pad entered) (resume_at pad entered (return_of resumes pad)) (passes_of places))

@@ -44,6 +44,14 @@ impl Model for Delivery {
 }
 
 impl Delivery {
+    /// The room in which the states and the cleanups stand.
+    pub fn room(&self) -> &Room
+        ensures visited { result.now.visited ≡ self.now.visited }
+        ensures trail { result.now.trail ≡ self.now.trail }
+    {
+        &self.room
+    }
+
     /// How many states the search visited.
     pub fn visited_len(&self) -> usize
         ensures { result ≡ length self.now.visited }

@@ -25,7 +25,7 @@ use unwind_arch::x86_64::Context;
 
 /// The search for a handler, and where a frame takes the exception the passes toward it.
 #[tactic(auto, unfolding(crate::specs::StackDelivery::stack_delivery))]
-fn delivered<L: Ledger>(
+fn delivery_in_room<L: Ledger>(
     space: &Space<'_>,
     start: Context,
     exception: u64,
@@ -69,7 +69,7 @@ fn delivered<L: Ledger>(
 }
 
 /// The same in a room that is emptied first, and after an error again.
-fn emptied<L: Ledger>(
+fn fresh_delivery<L: Ledger>(
     space: &Space<'_>,
     start: Context,
     exception: u64,
@@ -89,7 +89,7 @@ fn emptied<L: Ledger>(
         steps.old.number steps.new.number }
 {
     room.clear();
-    match delivered(space, start, exception, resumes, limit, room, steps) {
+    match delivery_in_room(space, start, exception, resumes, limit, room, steps) {
         Ok(ending) => Ok(ending),
         Err(error) => {
             room.clear();
@@ -196,7 +196,7 @@ pub fn deliver_into<L: Ledger>(
     let _ = class;
     // No two of its modules share an address, as a space's type says.
     let _ = space.image();
-    emptied(space, *start, exception, resumes, limit, room, steps)
+    fresh_delivery(space, *start, exception, resumes, limit, room, steps)
 }
 
 /// Delivers an exception to the stack whose innermost frame has the registers `start`.

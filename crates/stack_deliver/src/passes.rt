@@ -37,7 +37,7 @@ const FATAL: Ending = Ending {
 };
 
 /// How a pass ends where it stops, toward the frame with the kept mark.
-fn ended(stop: &Stop, exception: u64, kept: u64) -> Pass
+fn pass_end(stop: &Stop, exception: u64, kept: u64) -> Pass
     ensures { end_shown result ≡ end_by exception kept (Some (stop_shown stop.now)) }
 {
     let Some(pad) = stop.pad() else {
@@ -80,7 +80,7 @@ fn cleanup<'a, L: Ledger>(
     let phase = Some(Phase::Cleanup);
     match outwards(phase, space, &mut state, limit, room, rows, steps)? {
         None => Ok(Pass::Finished(FATAL)),
-        Some(stop) => Ok(ended(&stop, exception, kept)),
+        Some(stop) => Ok(pass_end(&stop, exception, kept)),
     }
 }
 

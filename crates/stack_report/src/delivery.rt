@@ -1,12 +1,12 @@
 // The report of a delivery.
 ghost use Rattle.std.specs.Prelude.{◌≡◌, ◌++◌, IfOk, OnOk};
-ghost use Rattle.stack_report.specs.Report.{frame_lines, cleanup_line, cleanup_lines, landing_line};
+ghost use Rattle.stack_report.specs.Report.{cleanup_line, cleanup_lines, landing_line};
 ghost use Rattle.stack_report.specs.Report.{outcome_name, outcome_line, report_of};
 
 use crate::buffer::Report;
 use crate::line::Line;
-use crate::states::{put_fields, put_frame};
-use stack_deliver::{Context, Delivery, Outcome, Trail};
+use crate::states::{put_fields, put_frames};
+use stack_deliver::{Context, Delivery, Outcome, Room, Trail};
 use std::alloc::{AllocError, Global};
 use unwind_arch::x86_64::{RAX, RDX};
 
@@ -54,21 +54,11 @@ pub(crate) fn put_outcome(report: &mut Report, outcome: Outcome) -> Result<(), A
     report.end_line()
 }
 
-fn put_frames(report: &mut Report, delivery: &Delivery) -> Result<(), AllocError>
-    ensures { OnOk result (report.new ≡ report.old ++ frame_lines 0 delivery.now.visited) }
+fn put_cleanups(report: &mut Report, room: &Room) -> Result<(), AllocError>
+    ensures { OnOk result (report.new ≡ report.old ++ cleanup_lines room.now.trail) }
 {
-    for index in 0..delivery.visited_len() {
-        let state = delivery.visited(index).unwrap();
-        put_frame(report, index, &state)?;
-    }
-    Ok(())
-}
-
-fn put_cleanups(report: &mut Report, delivery: &Delivery) -> Result<(), AllocError>
-    ensures { OnOk result (report.new ≡ report.old ++ cleanup_lines delivery.now.trail) }
-{
-    for index in 0..delivery.trail_len() {
-        let trail = delivery.trail(index).unwrap();
+    for index in 0..room.trail_len() {
+        let trail = room.trail(index).unwrap();
         put_cleanup(report, trail)?;
     }
     Ok(())
@@ -84,8 +74,8 @@ pub fn report_of(alloc: Global, delivery: &Delivery) -> Result<Report, AllocErro
     ensures { IfOk result (λ report. report ≡ report_of delivery.now) }
 {
     let mut report = Report::new(alloc);
-    put_frames(&mut report, delivery)?;
-    put_cleanups(&mut report, delivery)?;
+    put_frames(&mut report, delivery.room())?;
+    put_cleanups(&mut report, delivery.room())?;
     if let Some(state) = delivery.landing() {
         put_landing(&mut report, &state)?;
     }

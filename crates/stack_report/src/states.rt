@@ -1,10 +1,10 @@
 // The states of a stack as text.
 ghost use Rattle.std.specs.Prelude.{◌≡◌, ◌+◌, ◌≤◌, ◌++◌, length, OnOk};
-ghost use Rattle.stack_report.specs.Report.{fields_text, frame_line};
+ghost use Rattle.stack_report.specs.Report.{fields_text, frame_line, frame_lines};
 
 use crate::buffer::Report;
 use crate::line::Line;
-use stack_deliver::Context;
+use stack_deliver::{Context, Room};
 use std::alloc::AllocError;
 use unwind_arch::x86_64::{R12, R13, R14, R15, RBP, RBX, RSP};
 
@@ -27,11 +27,7 @@ pub(crate) fn put_fields(line: &mut Line, state: &Context)
 
 /// Puts the line of a visited state.
 #[tactic(auto, unfolding(crate::specs::Report::frame_line, crate::specs::Report::state_line, crate::specs::Report::fields_text))]
-pub(crate) fn put_frame(
-    report: &mut Report,
-    index: usize,
-    state: &Context,
-) -> Result<(), AllocError>
+fn put_frame(report: &mut Report, index: usize, state: &Context) -> Result<(), AllocError>
     ensures { OnOk result (report.new ≡ report.old ++ frame_line index state.now) }
 {
     let mut line = Line::new();
@@ -39,4 +35,15 @@ pub(crate) fn put_frame(
     put_fields(&mut line, state);
     line.put("\n");
     report.put_line(&line)
+}
+
+/// Puts a line for each state that was visited.
+pub(crate) fn put_frames(report: &mut Report, room: &Room) -> Result<(), AllocError>
+    ensures { OnOk result (report.new ≡ report.old ++ frame_lines 0 room.now.visited) }
+{
+    for index in 0..room.visited_len() {
+        let state = room.visited(index).unwrap();
+        put_frame(report, index, &state)?;
+    }
+    Ok(())
 }

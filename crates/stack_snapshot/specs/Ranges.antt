@@ -13,7 +13,7 @@ lies_in a r = nat_le r.first a && nat_le a r.last
 abbrev pub AreDisjoint : List AddressRange → Type 0
 AreDisjoint rs = (a : ℕ) → count_by (lies_in a) rs ≤ 1
 
--- each begins behind the end of the one before, the first behind an address
+-- each begins after the end of the one before, the first after an address
 abbrev pub ascend_behind : ℕ → List AddressRange → Bool
 ascend_behind last [] = true
 ascend_behind last (r ∷ rs) = nat_lt last r.first && ascend_behind r.last rs

@@ -11,7 +11,7 @@ pub struct AddressRange {
     pub last: u64,
 }
 
-/// Whether each range begins behind the end of the one before.
+/// Whether each range begins after the end of the one before.
 fn are_ascending(ranges: &[AddressRange]) -> bool
     ensures { result ≡ are_ascending ranges.now }
 {
@@ -29,7 +29,7 @@ fn are_ascending(ranges: &[AddressRange]) -> bool
 }
 
 /// Whether no address lies in two of the ranges. In the order of their first addresses, each then
-/// begins behind the end of the one before.
+/// begins after the end of the one before.
 ///
 /// # Errors
 ///

@@ -1,6 +1,6 @@
 // A snapshot: memory by regions, the modules in it, and a delivery to make.
 ghost use Rattle.std.specs.Prelude.{◌≡◌, IfOk, MatchOption, map, option_map, true, false, []};
-ghost use Rattle.stack_steps.specs.Modules.{fits, unprepared};
+ghost use Rattle.stack_steps.specs.Modules.{fits, without_index};
 ghost use Rattle.stack_snapshot.specs.Answers.{Gives};
 ghost use Rattle.stack_snapshot.specs.Content.{image_of, modules_after, space_of, takes_regions};
 ghost use Rattle.stack_snapshot.specs.Content.{takes_modules};
@@ -158,7 +158,7 @@ fn space_of_modules<'a>(
         (space ≡ record {
           image = image.entry;
           modules = modules_after [] modules.now;
-          added = map unprepared modules.now;
+          added = map without_index modules.now;
         }))) }
 {
     let mut space = Space::new(alloc, image);

@@ -18,7 +18,7 @@ use Rattle.pe_unwind_info.specs.declared.x86_64.function_table.RuntimeFunction.{
 use Rattle.pe_unwind_info.specs.declared.x86_64.fault.FrameFault.{FrameFault}
 use Rattle.pe_unwind_info.specs.Chain.{with_first, then_chain, chain_of}
 use Rattle.pe_unwind_info.specs.Frame.{info_in, chained_of}
-use Rattle.pe_unwind_info.specs.FrameOf.{Image, framed}
+use Rattle.pe_unwind_info.specs.FrameOf.{Image, frame_end_of}
 use Rattle.pe_unwind_info.specs.FunctionTable as pe_tables
 use Rattle.pe_unwind_info.specs.Header.{flags_of}
 use Rattle.pe_unwind_info.specs.Info.{Info}
@@ -39,7 +39,7 @@ use Rattle.format_laws.specs.CompactUndone.{MachoUndone}
 use Rattle.format_laws.specs.PeUndone.{CallUndone}
 use Rattle.format_laws.proofs.MachoSteps.{listed_found}
 use Rattle.format_laws.proofs.PeSteps.{found_by_record, leaf_not_found}
-use Rattle.stack_steps.specs.declared.answers.Stepped.{Stepped}
+use Rattle.format_frames.specs.declared.machine.Stepped.{Stepped}
 use Rattle.stack_steps.specs.declared.space.Module.{Module}
 use Rattle.stack_steps.specs.declared.space.ModuleTables.{ModuleTables}
 use Rattle.stack_steps.specs.declared.space.ModuleTables.TheVariants.{Elf, Macho, Pe}
@@ -173,7 +173,7 @@ module _ (space : SpaceValue) (c : Context) (interrupted : Bool) (a : ℕ) (nonz
       let rva : ℕ = a - m.start in
       let function : Option RuntimeFunction = pe_tables.lookup_of (pe_tables.functions_of d.bytes) rva in
       let gives : recorded_columns space.image c home rva function ≡ Ok u.caller = sym (ap (pe_steps.stepped_by space.image home rva (columns_of c)) d.mapped) ∙ u.answered in
-      let both = scratch_values c (framed (memory_of space.image home.base) (word_at space.image) rva function (registers_in (columns_of c))) u.caller gives in
+      let both = scratch_values c (frame_end_of (memory_of space.image home.base) (word_at space.image) rva function (registers_in (columns_of c))) u.caller gives in
       let kept : columns_of (context_of u.caller) ≡ u.caller = λ i k. context_of-scratch c u.caller t u.shows u.others both.0 both.1 k i in
       let quiet : handler_in (memory_of space.image home.base) function ≡ Ok false =
       ap (λ (table : Option (List RuntimeFunction)). handler_in (memory_of space.image home.base) (pe_tables.lookup_of table rva)) d.reads ∙ quiet_by space.image home part d f a low high described in

@@ -38,7 +38,7 @@ use Rattle.pe_unwind_info.specs.Header.{frame_register_of}
 use Rattle.pe_unwind_info.specs.EpilogList.{leading_epilogs, behind_epilogs, is_due}
 use Rattle.pe_unwind_info.specs.Epilog.{sequence_of}
 use Rattle.pe_unwind_info.specs.Frame.{epilog_or_none, info_in, info_or, chained_of, operations_alone, from_place, follow, link_of, at_limit, epilog_in}
-use Rattle.pe_unwind_info.specs.FrameOf.{Image, then_follows, linked, left_by, tested, by_test, in_record, framed}
+use Rattle.pe_unwind_info.specs.FrameOf.{Image, then_follows, end_of_chain, left_by, epilog_if_tested, by_test, in_record, frame_end_of}
 use Rattle.pe_unwind_info.specs.FunctionTable.{functions_of, lookup_of as record_at}
 use Rattle.format_definitions.specs.CompactStep.{half_or_fault, read_up, read_down, by_frame, by_cfa, frame_bases, with_column, fields_up, registers_back, MachoModule, MachoFault, InSection, NoForm, InStep, answered_by, stepped_with, by_row, by_description, compact_step, stepped_by, found_in, macho_step}
 use Rattle.format_definitions.specs.CompactStep as compact
@@ -270,18 +270,18 @@ info_on stack rva (Some bytes) regs fault is = go (parsed_info bytes) is
     go None h = let same : pe.Info rva ≡ fault = cc in subst (λ (f : FrameFault). OnEnd stack (Faulted f regs)) same tt
     go (Some info) h = absurd cc
 
-linked_on : (memory : Image) (stack : Stack) (n : ℕ) (next : Option RuntimeFunction) (regs : Registers) → OnEnd stack (linked memory stack n next regs)
-unfolding linked
+linked_on : (memory : Image) (stack : Stack) (n : ℕ) (next : Option RuntimeFunction) (regs : Registers) → OnEnd stack (end_of_chain memory stack n next regs)
+unfolding end_of_chain
 linked_on memory stack zero next regs = limit_on stack next regs
 linked_on memory stack (suc n) None regs = return_on stack regs
 linked_on memory stack (suc n) (Some function) regs = by_info (info_in function.unwind_info_address (memory function.unwind_info_address)) refl (λ next left. linked_on memory stack n next left)
   where
-    by_run : (info : Info) (after : After) → OnAfter stack after → ((next : Option RuntimeFunction) (left : Registers) → OnEnd stack (linked memory stack n next left)) → OnEnd stack (then_follows (follow (chained_of info) after) (linked memory stack n))
+    by_run : (info : Info) (after : After) → OnAfter stack after → ((next : Option RuntimeFunction) (left : Registers) → OnEnd stack (end_of_chain memory stack n next left)) → OnEnd stack (then_follows (follow (chained_of info) after) (end_of_chain memory stack n))
     by_run info (Goes left) on later = later (chained_of info) left
     by_run info (Ends end) on later = on
 
-    by_info : (r : Result Info FrameFault) → info_in function.unwind_info_address (memory function.unwind_info_address) ≡ r → ((next : Option RuntimeFunction) (left : Registers) → OnEnd stack (linked memory stack n next left)) →
-        OnEnd stack (then_follows (link_of r stack regs) (linked memory stack n))
+    by_info : (r : Result Info FrameFault) → info_in function.unwind_info_address (memory function.unwind_info_address) ≡ r → ((next : Option RuntimeFunction) (left : Registers) → OnEnd stack (end_of_chain memory stack n next left)) →
+        OnEnd stack (then_follows (link_of r stack regs) (end_of_chain memory stack n))
     by_info (Err fault) is later = info_on stack function.unwind_info_address (memory function.unwind_info_address) regs fault is
     by_info (Ok info) is later = by_run info (run info.header stack (operations_alone (operations_in info)) regs) (run_on info.header stack (operations_alone (operations_in info)) regs) later
 
@@ -294,16 +294,16 @@ epilog_on frame stack end address (Some bytes) regs fault is = go (ltb end addre
     go false true h = let same : pe.EpilogBytes ≡ fault = cc in subst (λ (f : FrameFault). OnEnd stack (Faulted f regs)) same tt
     go false false h = absurd cc
 
-framed_on : (memory : Image) (stack : Stack) (address : ℕ) (function : Option RuntimeFunction) (regs : Registers) → OnEnd stack (framed memory stack address function regs)
+framed_on : (memory : Image) (stack : Stack) (address : ℕ) (function : Option RuntimeFunction) (regs : Registers) → OnEnd stack (frame_end_of memory stack address function regs)
 framed_on memory stack address None regs = return_on stack regs
 framed_on memory stack address (Some function) regs = by_info (info_in function.unwind_info_address (memory function.unwind_info_address)) refl
   where
     by_epilog : (info : Info) (operations : List Placed) (epilog : Option (List FunctionEpilogInstruction)) → OnEnd stack (left_by memory stack info operations epilog regs)
     by_epilog info operations (Some instructions) = then_ends_on stack (epilog_run (frame_register_of info.header) stack instructions regs) (pop_return stack) (epilog_run_on (frame_register_of info.header) stack instructions regs) (λ left. return_on stack left)
     by_epilog info operations None =
-        then_ends_on stack (run info.header stack (operations_alone operations) regs) (linked memory stack 32 (chained_of info)) (run_on info.header stack (operations_alone operations) regs) (λ left. linked_on memory stack 32 (chained_of info) left)
+        then_ends_on stack (run info.header stack (operations_alone operations) regs) (end_of_chain memory stack 32 (chained_of info)) (run_on info.header stack (operations_alone operations) regs) (λ left. linked_on memory stack 32 (chained_of info) left)
 
-    by_tested : (info : Info) (due : Bool) (r : Result (Option (List FunctionEpilogInstruction)) FrameFault) → tested due memory (frame_register_of info.header) function.end_address address ≡ r → OnEnd stack (by_test memory stack address function info r regs)
+    by_tested : (info : Info) (due : Bool) (r : Result (Option (List FunctionEpilogInstruction)) FrameFault) → epilog_if_tested due memory (frame_register_of info.header) function.end_address address ≡ r → OnEnd stack (by_test memory stack address function info r regs)
     by_tested info false (Err fault) is = absurd cc
     by_tested info true (Err fault) is = epilog_on (frame_register_of info.header) stack function.end_address address (memory address) regs fault is
     by_tested info due (Ok epilog) is = by_epilog info (from_place (address - function.begin_address) (behind_epilogs (operations_in info))) epilog
@@ -312,7 +312,7 @@ framed_on memory stack address (Some function) regs = by_info (info_in function.
     by_info (Err fault) is = info_on stack function.unwind_info_address (memory function.unwind_info_address) regs fault is
     by_info (Ok info) is =
         let due = is_due function.end_address address (leading_epilogs (operations_in info)) in
-        by_tested info due (tested due memory (frame_register_of info.header) function.end_address address) refl
+        by_tested info due (epilog_if_tested due memory (frame_register_of info.header) function.end_address address) refl
 
 abbrev OnPe : List Span → Result calls.Columns PeFault → Type 0
 OnPe image (Ok columns) = Unit {0}
@@ -338,4 +338,4 @@ pe_word image m rva columns a is = subst (OnPe image) is (by_table (table_of ima
     by_table None = tt
     by_table (Some table) =
         let function = record_at (functions_of table) rva in
-        columns_on image columns (framed (memory_of image m.base) (word_at image) rva function (registers_in columns)) (framed_on (memory_of image m.base) (word_at image) rva function (registers_in columns))
+        columns_on image columns (frame_end_of (memory_of image m.base) (word_at image) rva function (registers_in columns)) (framed_on (memory_of image m.base) (word_at image) rva function (registers_in columns))

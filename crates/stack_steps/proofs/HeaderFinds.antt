@@ -18,7 +18,7 @@ use Rattle.unwind_laws.specs.Found.{nothing_found}
 use Rattle.unwind_laws.proofs.Found.{not_found}
 use Rattle.unwind_laws.proofs.HeaderListed.{header_read, search_answers, uncovered_fails}
 use Rattle.fde_finders.specs.Finding.{at_frame, relative_to, scanned_in}
-use Rattle.fde_finders.specs.HeaderFinding.{at_header, by_led, by_table, found_by_header, led, led_by, or_scanned}
+use Rattle.fde_finders.specs.HeaderFinding.{at_header, by_led, by_table, found_by_header, led_at, led_by, or_scanned}
 
 -- a description that a scan finds too, and else the scan
 or_same : (bases : Bases) (frames : Input) (pc : ℕ) (r : Result Fde Fault) → scan bases frames pc ≡ r → or_scanned bases frames pc (result_ok r) ≡ scanned_in bases frames pc
@@ -38,7 +38,7 @@ module _ (image : List Span) (m : Module) (functions : List Function) (d : Descr
   bases_are : at_frame known d.frame ≡ bases_of m d.frame
   bases_are = rw named refl
 
-  led_is : led (relative_to m.text None) image h ≡ Some (record { header = head; frame = d.frame })
+  led_is : led_at (relative_to m.text None) image h ≡ Some (record { header = head; frame = d.frame })
   led_is = ap (led_by image) (header_read image h d.frame (fdes_of d.entries) known table)
 
   by_its_table : (o : Option PairTable) → table_in head ≡ o → by_table (bases_of m d.frame) (input_at image d.frame) pc o ≡ scanned_in (bases_of m d.frame) (input_at image d.frame) pc
@@ -73,7 +73,7 @@ module _ (image : List Span) (m : Module) (a : ℕ) (u : CoversNot image m a) (h
   bases_there : at_frame known_there u.frame ≡ bases_of m u.frame
   bases_there = rw named refl
 
-  led_there : led (relative_to m.text None) image h ≡ Some (record { header = head_there; frame = u.frame })
+  led_there : led_at (relative_to m.text None) image h ≡ Some (record { header = head_there; frame = u.frame })
   led_there = ap (led_by image) (header_read image h u.frame (fdes_of u.entries) known_there lists)
 
   none_in_table : (o : Option PairTable) → table_in head_there ≡ o → by_table (bases_of m u.frame) (input_at image u.frame) a o ≡ None

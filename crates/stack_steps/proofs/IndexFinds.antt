@@ -30,7 +30,7 @@ use Rattle.fde_finders.specs.declared.custom.FrameInfoKind.{FrameInfoKind}
 use Rattle.fde_finders.specs.declared.custom.FrameInfoKind.TheVariants.{EhFrame, EhFrameHdr}
 use Rattle.fde_finders.specs.Finding.{FoundFde, at_frame, found_in, relative_to, scanned_in, table_bases}
 use Rattle.fde_finders.specs.FrameTables.{FrameTable, led_table, table_by_kind}
-use Rattle.fde_finders.specs.HeaderFinding.{Led, at_header, by_led, by_table, found_by_header, led, or_scanned}
+use Rattle.fde_finders.specs.HeaderFinding.{Led, at_header, by_led, by_table, found_by_header, led_at, or_scanned}
 use Rattle.fde_finders.specs.Named.{found_by_kind}
 use Rattle.fde_finders.specs.Named as named
 use Rattle.std.specs.Result.{result_map_both}
@@ -139,7 +139,7 @@ module _ (image : List Span) (laid : IsLaidOut 0 image) (index : Index) (kept : 
   by_its_pairs bases frame None from lists = absurd lists
   by_its_pairs bases frame (Some pairs) from lists = by_pairs image laid bases frame index from pairs lists pc
 
-  by_its_header : (known : Bases) (h : ℕ) (o : Option Led) → led known image h ≡ o → option_map (led_table (at_header known h) image) o ≡ Some kept → IsListedBy (EhFrameHdr h) index kept → found_by_header known image h pc ≡ found_of pc kept
+  by_its_header : (known : Bases) (h : ℕ) (o : Option Led) → led_at known image h ≡ o → option_map (led_table (at_header known h) image) o ≡ Some kept → IsListedBy (EhFrameHdr h) index kept → found_by_header known image h pc ≡ found_of pc kept
   unfolding found_by_header
   by_its_header known h None is names by = absurd cc
   by_its_header known h (Some l) is names by =
@@ -151,7 +151,7 @@ module _ (image : List Span) (laid : IsLaidOut 0 image) (index : Index) (kept : 
 
   by_its_kind : (text : Option ℕ) (kind : FrameInfoKind) → table_by_kind text kind image ≡ Some kept → IsListedBy kind index kept → found_by_kind text kind image pc ≡ found_of pc kept
   by_its_kind text (EhFrame a) names by = ap (found_of pc) (some_table (record { entries = input_at image a; bases = table_bases text a; pairs = None }) kept names)
-  by_its_kind text (EhFrameHdr h) names by = by_its_header (relative_to text None) h (led (relative_to text None) image h) refl names by
+  by_its_kind text (EhFrameHdr h) names by = by_its_header (relative_to text None) h (led_at (relative_to text None) image h) refl names by
 
 -- the tables of a prepared module find what a scan of its frame table does
 pub table_finds : (image : List Span) (tables : FrameInfo) (t : PreparedTable) (pc : ℕ) → IsLaidOut 0 image → IsTableOf image tables t → named.found_by tables image pc ≡ found_of pc (kept_table t None)

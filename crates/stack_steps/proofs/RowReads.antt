@@ -9,7 +9,7 @@ use Rattle.unwind_definitions.specs.declared.error.Error.TheVariants.{NoCfaRegis
 use Rattle.unwind_definitions.specs.Instructions as rules
 use Rattle.unwind_definitions.specs.Row.{RowInstructions, CfaRule, ColumnAndOffset, ByExpression, cfa_rule, rule_of}
 use Rattle.unwind_definitions.specs.Caller as calls
-use Rattle.unwind_definitions.specs.Expressions.{begun, operation_limit, evaluation}
+use Rattle.unwind_definitions.specs.Expressions.{initial_configuration, operation_limit, evaluation}
 use Rattle.unwind_definitions.specs.Expressions as expressions
 use Rattle.frame_expressions.specs.Runs.{answer_is}
 use Rattle.frame_expressions.specs.Unmapped.{unmapped_evaluation}
@@ -33,19 +33,19 @@ unmapped_word image a b e = go (word_at image a) refl e
 
 expression_reads : (image : List Span) (columns : calls.Columns) (expression stack : List ℕ) (b : ℕ) → evaluation image expression stack columns ≡ Err (calls.Unmapped b) → ExpressionReadsUnmapped image columns expression stack b
 unfolding evaluation
-expression_reads image columns expression stack b = (answer_is image columns expression (operation_limit expression) (begun stack) (Err (calls.Unmapped b))).0
+expression_reads image columns expression stack b = (answer_is image columns expression (operation_limit expression) (initial_configuration stack) (Err (calls.Unmapped b))).0
 
 reads_expression : (image : List Span) (columns : calls.Columns) (expression stack : List ℕ) (b : ℕ) → ExpressionReadsUnmapped image columns expression stack b → evaluation image expression stack columns ≡ Err (calls.Unmapped b)
 unfolding evaluation
-reads_expression image columns expression stack b = (answer_is image columns expression (operation_limit expression) (begun stack) (Err (calls.Unmapped b))).1
+reads_expression image columns expression stack b = (answer_is image columns expression (operation_limit expression) (initial_configuration stack) (Err (calls.Unmapped b))).1
 
-gives_address : (image : List Span) (columns : calls.Columns) (expression stack : List ℕ) (a : ℕ) → evaluation image expression stack columns ≡ Ok a → expressions.HasValue image columns expression (operation_limit expression) (begun stack) a
+gives_address : (image : List Span) (columns : calls.Columns) (expression stack : List ℕ) (a : ℕ) → evaluation image expression stack columns ≡ Ok a → expressions.HasValue image columns expression (operation_limit expression) (initial_configuration stack) a
 unfolding evaluation
-gives_address image columns expression stack a = (answer_is image columns expression (operation_limit expression) (begun stack) (Ok a)).0
+gives_address image columns expression stack a = (answer_is image columns expression (operation_limit expression) (initial_configuration stack) (Ok a)).0
 
-address_given : (image : List Span) (columns : calls.Columns) (expression stack : List ℕ) (a : ℕ) → expressions.HasValue image columns expression (operation_limit expression) (begun stack) a → evaluation image expression stack columns ≡ Ok a
+address_given : (image : List Span) (columns : calls.Columns) (expression stack : List ℕ) (a : ℕ) → expressions.HasValue image columns expression (operation_limit expression) (initial_configuration stack) a → evaluation image expression stack columns ≡ Ok a
 unfolding evaluation
-address_given image columns expression stack a = (answer_is image columns expression (operation_limit expression) (begun stack) (Ok a)).1
+address_given image columns expression stack a = (answer_is image columns expression (operation_limit expression) (initial_configuration stack) (Ok a)).1
 
 reads_word : (image : List Span) (columns : calls.Columns) (expression stack : List ℕ) (b : ℕ) → ExpressionReadsUnmapped image columns expression stack b → word_at image b ≡ None
 reads_word image columns expression stack b reads = unmapped_evaluation image expression stack columns b (reads_expression image columns expression stack b reads)

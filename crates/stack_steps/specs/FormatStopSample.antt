@@ -6,7 +6,7 @@ use Rattle.format_laws.specs.MachoSamples.{sample_module}
 use Rattle.format_laws.specs.PeSamples.{module_of_one, room_image, epilog_image}
 use Rattle.stack_steps.specs.declared.space.Module.{Module}
 use Rattle.stack_steps.specs.declared.space.ModuleTables.TheVariants.{Elf}
-use Rattle.stack_steps.specs.Modules.{SpaceValue, unprepared, macho_sized, pe_sized}
+use Rattle.stack_steps.specs.Modules.{SpaceValue, without_index, macho_sized, pe_sized}
 
 abbrev pub elf_loaded : Module
 elf_loaded = record { start = three.module_of_them.start; end = three.module_of_them.end; tables = Elf (record { text_base = None; kind = EhFrame 0x500000 }) }
@@ -21,7 +21,7 @@ abbrev pub three_formats : List Module
 three_formats = elf_loaded ∷ macho_loaded ∷ pe_loaded ∷ []
 
 abbrev pub space_of_three : SpaceValue
-space_of_three = record { image = room_image; modules = three_formats; added = map unprepared three_formats }
+space_of_three = record { image = room_image; modules = three_formats; added = map without_index three_formats }
 
 abbrev pub space_with_epilog : SpaceValue
-space_with_epilog = record { image = epilog_image; modules = pe_loaded ∷ []; added = unprepared pe_loaded ∷ [] }
+space_with_epilog = record { image = epilog_image; modules = pe_loaded ∷ []; added = without_index pe_loaded ∷ [] }

@@ -6,7 +6,7 @@ use Rattle.unwind_definitions.specs.declared.error.Error.{Error as Fault}
 use Rattle.unwind_definitions.specs.Row.{RowInstructions}
 use Rattle.encoded_pointers.specs.PointerViews.{bases_of}
 use Rattle.eh_frame.specs.EntryViews.{table_of}
-use Rattle.fde_finders.specs.FoundViews.{answered}
+use Rattle.fde_finders.specs.FoundViews.{found_fde_of}
 use Rattle.fde_finders.specs.Finding.{FoundFde}
 use Rattle.stack_steps.specs.declared.answers.DeliverError.{DeliverError}
 use Rattle.stack_steps.specs.declared.stepping.FoundFrame.{FoundFrame}
@@ -41,7 +41,7 @@ recorded_frame_of f = Recorded (pe_module f.container) f.rva (lookup_of (functio
 
 -- what was found, and its row, as a frame of the definitions
 abbrev pub IsFrameOf : FoundFrame → FrameAt → Type 0
-IsFrameOf (code.Searched frame) due = IsDescribedBy (answered frame.found.now) (IsRowOf frame.row) due
+IsFrameOf (code.Searched frame) due = IsDescribedBy (found_fde_of frame.found.now) (IsRowOf frame.row) due
 IsFrameOf (code.Prepared table frame) due = IsDescribedBy (prepared_fde table.now frame.fde) (IsKeptRow frame.row) due
 IsFrameOf (code.Compact frame) due = due ≡ compact_frame_of frame
 IsFrameOf (code.Recorded frame) due = due ≡ recorded_frame_of frame

@@ -16,8 +16,8 @@ pub record Added : Type 0 where
   pub holder : Module
   pub index : Option Index
 
-abbrev pub unprepared : Module → Added
-unprepared m = record { holder = m; index = None }
+abbrev pub without_index : Module → Added
+without_index m = record { holder = m; index = None }
 
 -- memory by address, the modules in it by ascending start, and the same modules in the order in which they were added, with their
 -- indexes
@@ -54,14 +54,14 @@ abbrev pub module_refusal : List Module → Module → Option SpaceError
 module_refusal ms m = if nat_le m.end m.start then Some Wraps else option_map Overlap (lowest_shared ms m.start m.end)
 
 -- a module of so many bytes
-abbrev pub sized : ℕ → ℕ → ModuleTables → Module
-sized base size tables = record { start = base; end = base + size; tables = tables }
+abbrev pub module_of_size : ℕ → ℕ → ModuleTables → Module
+module_of_size base size tables = record { start = base; end = base + size; tables = tables }
 
 abbrev pub macho_sized : ℕ → ℕ → ℕ → Option ℕ → Module
-macho_sized base size unwind_info frames = sized base size (Macho (record { unwind_info = unwind_info; frames = frames }))
+macho_sized base size unwind_info frames = module_of_size base size (Macho (record { unwind_info = unwind_info; frames = frames }))
 
 abbrev pub pe_sized : ℕ → ℕ → ℕ → ℕ → Module
-pe_sized base size table_rva table_size = sized base size (Pe (record { table_rva = table_rva; table_size = table_size }))
+pe_sized base size table_rva table_size = module_of_size base size (Pe (record { table_rva = table_rva; table_size = table_size }))
 
 -- the same of a module that is given by its size, which may pass the highest address
 abbrev pub sized_refusal : List Module → Module → Option SpaceError
@@ -101,7 +101,7 @@ with_module m (n ∷ ns) = if nat_lt m.start n.start then m ∷ n ∷ ns else n 
 
 -- a space with one more module, which isn't prepared
 abbrev pub with_added : Module → SpaceValue → SpaceValue
-with_added m space = record space { modules = with_module m space.modules; added = space.added ++ unprepared m ∷ [] }
+with_added m space = record space { modules = with_module m space.modules; added = space.added ++ without_index m ∷ [] }
 
 -- the module that starts at a key of the map
 abbrev pub module_of : ℕ × Extent → Module

@@ -14,11 +14,11 @@ use Rattle.unwind_arch.specs.declared.x86_64.Context.{Context}
 use Rattle.unwind_arch.specs.ContextViews.{columns_of, context_of}
 use Rattle.fde_finders.specs.declared.custom.FrameInfoKind.{FrameInfoKind}
 use Rattle.fde_finders.specs.declared.custom.FrameInfoKind.TheVariants.{EhFrame, EhFrameHdr}
-use Rattle.unwind_definitions.specs.Expressions.{HasValue, HasFault, begun, operation_limit, evaluation}
+use Rattle.unwind_definitions.specs.Expressions.{HasValue, HasFault, initial_configuration, operation_limit, evaluation}
 use Rattle.fde_finders.specs.Finding.{FoundFde, relative_to, table_bases}
 use Rattle.fde_finders.specs.HeaderFinding.{found_by_header}
 use Rattle.fde_finders.specs.Named.{found_by}
-use Rattle.stack_steps.specs.declared.answers.Stepped.{Stepped}
+use Rattle.format_frames.specs.declared.machine.Stepped.{Stepped}
 use Rattle.stack_steps.specs.declared.answers.DeliverError.{DeliverError}
 use Rattle.stack_steps.specs.declared.answers.DeliverError.TheVariants.{Table, Unmapped, MachO, CompactForm, PeInfo, ChainLimit}
 use Rattle.stack_steps.specs.declared.space.Module.{Module}
@@ -34,7 +34,7 @@ use Rattle.pe_unwind_info.specs.declared.x86_64.fault.FrameFault.{FrameFault}
 use Rattle.pe_unwind_info.specs.declared.x86_64.fault.FrameFault.TheVariants as pe
 use Rattle.pe_unwind_info.specs.declared.x86_64.function_table.RuntimeFunction.{RuntimeFunction}
 use Rattle.pe_unwind_info.specs.FunctionTable.{functions_of, lookup_of}
-use Rattle.pe_unwind_info.specs.FrameOf.{framed}
+use Rattle.pe_unwind_info.specs.FrameOf.{frame_end_of}
 use Rattle.format_definitions.specs.CompactStep.{MachoModule, MachoFault, InSection, NoForm, InStep, compact_step, macho_step}
 use Rattle.format_definitions.specs.CompactStep as compact
 use Rattle.format_definitions.specs.PeImage.{PeModule, memory_of, table_of}
@@ -149,7 +149,7 @@ compact_caller image c m a listed = opcode_caller (compact_step image m.frames (
 
 -- by what unwind records give, and those of them that are read
 abbrev pub recorded_columns : List Span → Context → PeModule → ℕ → Option RuntimeFunction → Result Columns PeFault
-recorded_columns image c m rva function = columns_at (columns_of c) (framed (memory_of image m.base) (word_at image) rva function (registers_in (columns_of c)))
+recorded_columns image c m rva function = columns_at (columns_of c) (frame_end_of (memory_of image m.base) (word_at image) rva function (registers_in (columns_of c)))
 
 abbrev pub recorded_caller : List Span → Context → PeModule → ℕ → Option RuntimeFunction → Result Stepped DeliverError
 recorded_caller image c m rva function = result_map_both (next_with false) pe_refusal (recorded_columns image c m rva function)
@@ -162,10 +162,6 @@ caller_by image c (Recorded m rva function) = recorded_caller image c m rva func
 abbrev pub caller_at : List Span → Context → Option FrameAt → Result (Option Stepped) DeliverError
 caller_at image c None = Ok None
 caller_at image c (Some f) = result_map Some (caller_by image c f)
-
--- the caller of the frame that is found at a context, if one is
-abbrev pub stepped_from : List Span → Context → Result (Option FrameAt) DeliverError → Result (Option Stepped) DeliverError
-stepped_from image c frame = frame >>= caller_at image c
 
 -- The caller of the frame that a context shows, None at the end of the stack.
 unfoldable pub step_of : SpaceValue → Context → Bool → Result (Option Stepped) DeliverError
@@ -274,7 +270,7 @@ IsChainedTooLong space c interrupted = IsHeldBy space c interrupted (ChainsTooMa
 -- An expression reads a number at an address that isn't wholly mapped, and nothing before it has a fault.
 abbrev pub ExpressionReadsUnmapped : List Span → Columns → List ℕ → List ℕ → ℕ → Type 0
 ExpressionReadsUnmapped image columns expression stack a =
-    HasFault image columns expression (operation_limit expression) (begun stack) (calls.Unmapped a)
+    HasFault image columns expression (operation_limit expression) (initial_configuration stack) (calls.Unmapped a)
 
 -- the CFA is that of an expression, which begins with an empty stack
 abbrev pub CfaReadsUnmapped : List Span → Columns → CfaRule → ℕ → Type 0
@@ -289,7 +285,7 @@ RuleReadsUnmapped image columns cfa (Offset n) a =
     (a ≡ (cfa + n) % 2 ^ 64) × (word_at image a ≡ None)
 RuleReadsUnmapped image columns cfa (Expression expression) a =
     ExpressionReadsUnmapped image columns expression (cfa ∷ []) a
-    ⊎ (HasValue image columns expression (operation_limit expression) (begun (cfa ∷ [])) a × (word_at image a ≡ None))
+    ⊎ (HasValue image columns expression (operation_limit expression) (initial_configuration (cfa ∷ [])) a × (word_at image a ≡ None))
 RuleReadsUnmapped image columns cfa (ValExpression expression) a =
     ExpressionReadsUnmapped image columns expression (cfa ∷ []) a
 RuleReadsUnmapped image columns cfa _ a = ⊥

@@ -8,12 +8,13 @@ use Rattle.unwind_definitions.specs.Prologue.{Followed, Push, Allocate, SetFrame
 use Rattle.unwind_definitions.specs.Function.{Function}
 use Rattle.unwind_definitions.specs.Module.{Module, Process, Frames}
 use Rattle.unwind_definitions.specs.Chain.{Call}
+use Rattle.unwind_definitions.specs.Columns as column
 use Rattle.unwind_laws.specs.Pushing as pushing
 use Rattle.unwind_laws.specs.Storing.{cie, state}
 use Rattle.unwind_arch.specs.declared.x86_64.Context.{Context}
 use Rattle.fde_finders.specs.declared.custom.FrameInfoKind.TheVariants.{EhFrame}
 use Rattle.stack_steps.specs.declared.space.ModuleTables.TheVariants.{Elf}
-use Rattle.stack_steps.specs.Modules.{SpaceValue, unprepared}
+use Rattle.stack_steps.specs.Modules.{SpaceValue, without_index}
 use Rattle.stack_steps.specs.declared.space.Module.{Module as LoadedModule}
 
 abbrev pub frames : List ℕ
@@ -51,7 +52,7 @@ entries = ACie cie ∷ AFde fde ∷ []
 
 -- the description's program up to the body, whose rules for RBX and R12 come late, all at its start
 abbrev pub in_body_run : List Instruction
-in_body_run = Advance 1 ∷ CfaOffset 16 ∷ Write 6 (Offset (2 ^ 64 - 16)) ∷ Advance 3 ∷ CfaColumn 6 ∷ Advance 14 ∷ Write 3 (Offset (2 ^ 64 - 24)) ∷ Write 12 (Offset (2 ^ 64 - 40)) ∷ Nop ∷ Nop ∷ []
+in_body_run = Advance 1 ∷ CfaOffset 16 ∷ Write column.rbp (Offset (2 ^ 64 - 16)) ∷ Advance 3 ∷ CfaColumn column.rbp ∷ Advance 14 ∷ Write column.rbx (Offset (2 ^ 64 - 24)) ∷ Write column.r12 (Offset (2 ^ 64 - 40)) ∷ Nop ∷ Nop ∷ []
 
 -- pushes RBP, sets it, pushes RBX, allocates 24, and stores R12 8 above its stack pointer; its body begins later
 abbrev pub function : Function
@@ -96,7 +97,7 @@ abbrev pub pushing_module : LoadedModule
 pushing_module = record { start = 0x401000; end = 0x401010; tables = Elf (record { text_base = None; kind = EhFrame 0x500000 }) }
 
 abbrev pub pushing_space : SpaceValue
-pushing_space = record { image = pushing.image; modules = pushing_module ∷ []; added = unprepared pushing_module ∷ [] }
+pushing_space = record { image = pushing.image; modules = pushing_module ∷ []; added = without_index pushing_module ∷ [] }
 
 -- RBX is 9, and RSP 0x7000
 abbrev pub stopped_at : ℕ → Context

@@ -1,4 +1,4 @@
-// What a step answers.
+// Why a step is refused.
 ghost use Rattle.std.specs.Prelude.{◌≡◌};
 ghost use Rattle.stack_steps.specs.declared.answers.DeliverError.{DeliverError};
 ghost use Rattle.stack_steps.specs.declared.answers.DeliverError.TheVariants.{NoMemory};
@@ -6,18 +6,7 @@ ghost use Rattle.stack_steps.specs.declared.answers.DeliverError.TheVariants.{No
 use eh_frame::Error;
 use format_frames::FrameError;
 use std::alloc::AllocError;
-use unwind_arch::x86_64::Context;
 use unwinding_frames::StepError;
-
-/// A state of the stack with its mark, as a step leaves it: a caller's registers.
-#[derive(Clone, Copy, Debug, PartialEq, Eq)]
-pub struct Stepped {
-    /// The registers of the caller.
-    pub context: Context,
-    /// Whether the frame that was left is a signal frame, so that the caller stands before the
-    /// instruction at its return address and not after a call.
-    pub signal: bool,
-}
 
 /// Why a step, a walk or a delivery is refused.
 #[derive(Clone, Copy, Debug, PartialEq, Eq, thiserror::Error)]

@@ -1,17 +1,18 @@
 // What the language of a frame asks. Itanium C++ ABI, exception handling, level II.
 ghost use Rattle.std.specs.Prelude.{◌≡◌};
-ghost use Rattle.fde_finders.specs.FoundViews.{answered};
+ghost use Rattle.fde_finders.specs.FoundViews.{found_fde_of};
 ghost use Rattle.unwinding_frames.specs.LanguageViews.{action_of};
 ghost use Rattle.stack_steps.specs.Asking.{action_asked, described_action};
 ghost use Rattle.stack_steps.specs.FrameViews.{IsFrameOf, prepared_fde};
 ghost use Rattle.memory_image.specs.Results.{result_map};
 ghost use Rattle.stack_steps.specs.Stepping.{FrameAt};
 
-use crate::answers::{DeliverError, Stepped};
+use crate::answers::DeliverError;
 use crate::prepared::PreparedTable;
 use crate::stepping::FoundFrame;
 use eh_frame::PreparedFrame;
 use fde_finders::FDESearchResult;
+use format_frames::Stepped;
 use memory_image::MemoryImage;
 use unwinding_frames::{EhAction, eh_action_of, personality_of};
 
@@ -23,7 +24,7 @@ fn described_asked(
     found: &FDESearchResult<'_>,
 ) -> Result<EhAction, DeliverError>
     ensures { result_map action_of result ≡ described_action image.now state.now.context
-        state.now.signal (answered found.now) }
+        state.now.signal (found_fde_of found.now) }
 {
     match personality_of(found, image)? {
         None => Ok(EhAction::None),
@@ -70,7 +71,7 @@ fn copied_asked(
 /// `Unmapped` where the cell that names the personality isn't wholly mapped; `CompactHandler` where
 /// the opcode of a function says that it has a language table; `PeHandler` where an unwind record of
 /// a PE frame names a handler, and `PeInfo` and `ChainLimit` where its records can't all be read.
-pub fn asked(
+pub fn action_asked(
     image: &MemoryImage<'_>,
     state: &Stepped,
     frame: &FoundFrame<'_, '_>,
@@ -82,7 +83,7 @@ pub fn asked(
     match frame {
         FoundFrame::Searched(frame) => described_asked(image, state, frame.found),
         FoundFrame::Prepared(table, frame) => prepared_asked(image, state, table, frame),
-        FoundFrame::Compact(frame) => frame.asked(),
-        FoundFrame::Recorded(frame) => frame.asked(image),
+        FoundFrame::Compact(frame) => frame.action_asked(),
+        FoundFrame::Recorded(frame) => frame.action_asked(image),
     }
 }

@@ -9,12 +9,12 @@ ghost use Rattle.memory_image.specs.Results.{result_map};
 ghost use Rattle.stack_steps.specs.Stepping.{caller_by, frame_by_tables};
 ghost use Rattle.stack_steps.specs.declared.space.ModuleTables.TheVariants.{Macho, Pe};
 
-use crate::answers::{DeliverError, Stepped};
+use crate::answers::DeliverError;
 use crate::space::{MachoTables, Module, PeTables};
 use crate::stepping::FoundFrame;
 use eh_frame::RowRoom;
 use format_frames::{
-    MachoModule, PeModule, has_language_table, macho_caller, macho_function, pe_caller,
+    MachoModule, PeModule, Stepped, has_language_table, macho_caller, macho_function, pe_caller,
     pe_functions, pe_names_handler,
 };
 use macho_unwind_info::Function;
@@ -36,7 +36,7 @@ pub struct CompactFrame<'f, 'a> {
 
 impl<'f, 'a> CompactFrame<'f, 'a> {
     /// What the function asks. A function with a language table is refused.
-    pub(crate) fn asked(&self) -> Result<EhAction, DeliverError>
+    pub(crate) fn action_asked(&self) -> Result<EhAction, DeliverError>
         ensures { (image : List Span) (c : Registers) (interrupted : Bool) →
             result_map action_of result
             ≡ action_asked image c interrupted (compact_frame_of self.now) }
@@ -49,7 +49,7 @@ impl<'f, 'a> CompactFrame<'f, 'a> {
     }
 
     /// Puts its caller, by the opcode of the function, in the place of its state. After a fault the
-    /// state is as before. `stack` is a window over the image.
+    /// state is as before. The frame stays what it is. `stack` is a window over the image.
     #[inline(never)]
     pub(crate) fn leave(
         &mut self,
@@ -59,6 +59,7 @@ impl<'f, 'a> CompactFrame<'f, 'a> {
         ensures caller { result_map (λ done. state.new) result ≡
             caller_by stack.old state.old.context (compact_frame_of self.old) }
         ensures stays { OnErr result (state.new ≡ state.old) }
+        ensures kept { compact_frame_of self.new ≡ compact_frame_of self.old }
         ensures same { stack.new ≡ stack.old }
     {
         let (container, address) = (&self.container, self.address);
@@ -67,8 +68,7 @@ impl<'f, 'a> CompactFrame<'f, 'a> {
         let caller = macho_caller(stack, container, &self.function, address, context, rows)?;
         // A look at them tells the proof that there are sixteen registers.
         let _ = caller.context.registers[RSP];
-        state.context = caller.context;
-        state.signal = caller.signal;
+        *state = caller;
         Ok(())
     }
 }
@@ -86,7 +86,7 @@ impl<'a> RecordedFrame<'a> {
     /// What the function asks. A function whose unwind records name a handler is refused; all of
     /// them are read.
     #[inline(never)]
-    pub(crate) fn asked(&self, image: &MemoryImage<'_>) -> Result<EhAction, DeliverError>
+    pub(crate) fn action_asked(&self, image: &MemoryImage<'_>) -> Result<EhAction, DeliverError>
         ensures { (c : Registers) (interrupted : Bool) → result_map action_of result
             ≡ action_asked image.now c interrupted (recorded_frame_of self.now) }
     {

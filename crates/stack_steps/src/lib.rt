@@ -12,8 +12,9 @@ mod space;
 mod stepping;
 mod stops;
 
-pub use answers::{DeliverError, Stepped};
-pub use asking::asked;
+pub use answers::DeliverError;
+pub use asking::action_asked;
+pub use format_frames::Stepped;
 pub use frames::{CompactFrame, RecordedFrame};
 pub use laws::a_module_is_prepared;
 pub use prepared::PreparedTable;

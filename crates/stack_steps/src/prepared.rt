@@ -1,7 +1,7 @@
 // Frame tables of modules with their indexes.
 ghost use Rattle.std.specs.Prelude.{◌≡◌, ◌<◌, ◌≤◌, ◌^◌, IfOk, false, is_some, length, true};
 ghost use Rattle.std.specs.List.{count_by};
-ghost use Rattle.fde_finders.specs.FoundViews.{answered};
+ghost use Rattle.fde_finders.specs.FoundViews.{found_fde_of};
 ghost use Rattle.fde_finders.specs.NamedTables.{named_of};
 ghost use Rattle.stack_steps.specs.FrameViews.{prepared_fde};
 ghost use Rattle.stack_steps.specs.Held.{AreMade, IsTried, LeavesAfter, LeavesBy, MakesTable};
@@ -90,7 +90,7 @@ impl<'a> PreparedTable<'a> {
     /// What a search of the table answers, where its index finds a frame.
     #[inline(always)]
     pub(crate) fn search_result(&self, frame: &PreparedFrame<'_, 'a>) -> FDESearchResult<'a>
-        ensures { answered result ≡ prepared_fde self.now frame.now.fde }
+        ensures { found_fde_of result ≡ prepared_fde self.now frame.now.fde }
     {
         FDESearchResult {
             fde: frame.fde(),

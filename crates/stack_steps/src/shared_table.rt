@@ -80,7 +80,7 @@ impl<'a> Tried<'a> {
 }
 
 /// The same table, if there is one, for one more module.
-fn shared<'a>(table: &Option<SharedTable<'a>>) -> Result<Option<SharedTable<'a>>, AllocError>
+fn share_of<'a>(table: &Option<SharedTable<'a>>) -> Result<Option<SharedTable<'a>>, AllocError>
     ensures { IfOk result (λ shared. shared ≡ table.now) }
 {
     match table {
@@ -125,11 +125,11 @@ pub(crate) fn shared_table<'a>(
 {
     if let Some(before) = tried {
         if before.serves(tables, left) {
-            return shared(&before.table);
+            return share_of(&before.table);
         }
     }
     let table = first_table(alloc, image, tables, left)?;
-    let first = shared(&table)?;
+    let first = share_of(&table)?;
     *tried = Some(Tried { tables, table });
     Ok(first)
 }

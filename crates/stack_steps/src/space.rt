@@ -6,7 +6,7 @@ ghost use Rattle.std.specs.Option.{option_map};
 ghost use Rattle.memory_image.specs.Image.{IsLaidOut};
 ghost use Rattle.stack_steps.specs.Modules.{module_refusal, lowest_shared, module_at, module_of};
 ghost use Rattle.stack_steps.specs.Modules.{modules_in, AreApart, last_below, first_between};
-ghost use Rattle.stack_steps.specs.Modules.{with_added, FitsIn, sized, sized_refusal, macho_sized};
+ghost use Rattle.stack_steps.specs.Modules.{with_added, FitsIn, module_of_size, sized_refusal, macho_sized};
 ghost use Rattle.stack_steps.specs.Modules.{pe_sized, fits, given_refusal, contains};
 ghost use Rattle.stack_steps.specs.declared.space.ModuleTables.TheVariants.{Elf};
 
@@ -249,9 +249,9 @@ impl<'a> Space<'a> {
     /// Adds a module that is given by its size.
     fn add_sized(&mut self, base: u64, size: u32, tables: ModuleTables) -> Result<(), SpaceError>
         ensures refused { MatchOption
-            (sized_refusal self.old.modules (sized base size tables))
+            (sized_refusal self.old.modules (module_of_size base size tables))
             (IsOkUnless result SpaceError.NoMemory) (λ error. result ≡ Err error) }
-        ensures added { OnOk result (self.new ≡ with_added (sized base size tables) self.old) }
+        ensures added { OnOk result (self.new ≡ with_added (module_of_size base size tables) self.old) }
         ensures unchanged { OnErr result (self.new ≡ self.old) }
     {
         match base.checked_add(u64::from(size)) {

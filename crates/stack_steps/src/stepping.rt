@@ -25,7 +25,6 @@ ghost use Rattle.stack_steps.specs.Ticking.{IsScannedAt, RisesBySearch, TicksAt,
 ghost use Rattle.stack_steps.specs.Ticking.{searched_at, module_pairs};
 ghost use Rattle.memory_image.specs.Results.{result_map};
 ghost use Rattle.stack_steps.specs.Stepping.{FrameAt, frame_by, frame_in, frame_of, caller_by};
-ghost use Rattle.stack_steps.specs.Stepping.{stepped_from};
 ghost use Rattle.stack_steps.specs.Stepping.{step_of, GivesCaller, EndsAt, FaultsAt};
 ghost use Rattle.stack_steps.specs.Stepping.{ReadIsUnmapped, DescribedFrame, described_caller};
 ghost use Rattle.stack_steps.specs.Stepping.{IsUnreadSection, IsWithoutForm, IsUnreadInfo};
@@ -33,25 +32,17 @@ ghost use Rattle.stack_steps.specs.Stepping.{IsChainedTooLong};
 ghost use Rattle.stack_steps.specs.Undoing.{IsDescribedCall, Undone, UndoneIn};
 ghost use Rattle.stack_steps.specs.Stopped.{IsDescribedStop};
 
-use crate::answers::{DeliverError, Stepped};
+use crate::answers::DeliverError;
 use crate::frames::{CompactFrame, RecordedFrame, compact_frame, recorded_frame};
 use crate::prepared::PreparedTable;
 use crate::space::{Held, Module, ModuleTables, Space};
 use eh_frame::{PreparedFrame, RowRef, RowRoom};
 use fde_finders::{FDESearchResult, FrameInfo, find_named};
+use format_frames::Stepped;
 use memory_image::{Ledger, MemoryImage, Steps};
 use std::marker::Model;
 use unwind_arch::x86_64::{Arch, Context, RSP};
 use unwinding_frames::{Window, address_asked, write_caller};
-
-impl Stepped {
-    /// The address that is asked of the frame: that of its instruction, or of a byte of its call.
-    pub fn address(&self) -> u64
-        ensures { result ≡ address_of_call self.now.context.ra self.now.signal }
-    {
-        address_asked(self.context.ra, self.signal)
-    }
-}
 
 /// A frame of the stack: what was found for the address asked of it.
 #[derive(Drop)]
@@ -92,7 +83,7 @@ impl<'f, 'a> FoundFrame<'f, 'a> {
 }
 
 /// Puts what was found into the place for it, and lends it.
-fn lent<'f, 'a>(
+fn lent_place<'f, 'a>(
     place: &'f mut Option<FDESearchResult<'a>>,
     found: FDESearchResult<'a>,
 ) -> &'f FDESearchResult<'a>
@@ -123,7 +114,7 @@ fn searched_frame<'f, 'a, L: Ledger>(
     };
     match found.make_row(address, rows) {
         Ok(()) => Ok(Some(FoundFrame::Searched(SearchedFrame {
-            found: lent(place, found),
+            found: lent_place(place, found),
             row: rows.row(),
         }))),
         Err(fault) => Err(DeliverError::Table(fault)),
@@ -307,7 +298,7 @@ impl<'s, 'a> Stepper<'s, 'a> {
     }
 
     /// Puts the caller of the frame at a state in the state's place. After a fault the state is as
-    /// before.
+    /// before. The frame stays what it is.
     #[inline(always)]
     pub fn leave(
         &mut self,
@@ -317,6 +308,7 @@ impl<'s, 'a> Stepper<'s, 'a> {
         ensures caller { (f : FrameAt) → IsFrameOf frame.old f →
             result_map (λ done. state.new) result ≡ caller_by self.old.image state.old.context f }
         ensures stays { OnErr result (state.new ≡ state.old) }
+        ensures kept { (f : FrameAt) → IsFrameOf frame.old f → IsFrameOf frame.new f }
         ensures same { self.new ≡ self.old }
     {
         let callee = state.context.copied();
@@ -328,7 +320,7 @@ impl<'s, 'a> Stepper<'s, 'a> {
     }
 
     /// Makes a copy of the state at a frame its caller's. After a fault the copy's registers are
-    /// unspecified.
+    /// unspecified. The frame stays what it is.
     #[inline(always)]
     fn write_next(
         &mut self,
@@ -340,6 +332,7 @@ impl<'s, 'a> Stepper<'s, 'a> {
         ensures caller { (f : FrameAt) → IsFrameOf frame.old f →
             result_map (λ done. next.new) result ≡ caller_by self.old.image callee.now f }
         ensures mark { OnErr result (next.new.signal ≡ next.old.signal) }
+        ensures kept { (f : FrameAt) → IsFrameOf frame.old f → IsFrameOf frame.new f }
         ensures same { self.new ≡ self.old }
     {
         let stack = &mut self.stack;
@@ -392,7 +385,7 @@ fn step_in_room<L: Ledger>(
 }
 
 #[tactic(auto, unfolding(crate::specs::Stepping::step_of))]
-fn stepped<L: Ledger>(
+fn exact_step<L: Ledger>(
     space: &Space<'_>,
     context: &Context,
     interrupted: bool,
@@ -508,5 +501,5 @@ pub fn step<L: Ledger>(
     ensures scanned { IsScannedAt space.now context.now interrupted →
         steps.new.number ≡ steps.old.number }
 {
-    stepped(space, context, interrupted, steps)
+    exact_step(space, context, interrupted, steps)
 }

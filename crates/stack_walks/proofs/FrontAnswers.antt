@@ -12,7 +12,7 @@ use Rattle.eh_frame.specs.Search.{NoneContains}
 use Rattle.fde_finders.specs.declared.custom.FrameInfoKind.{FrameInfoKind}
 use Rattle.fde_finders.specs.declared.custom.FrameInfoKind.TheVariants.{EhFrame, EhFrameHdr}
 use Rattle.fde_finders.specs.Finding.{table_bases, relative_to}
-use Rattle.stack_steps.specs.declared.answers.Stepped.{Stepped}
+use Rattle.format_frames.specs.declared.machine.Stepped.{Stepped}
 use Rattle.stack_steps.specs.declared.answers.DeliverError.{DeliverError}
 use Rattle.stack_steps.specs.declared.answers.DeliverError.TheVariants.{NoMemory, Unmapped, FrameLimit, PassLimit, NoResume, Table, MachO, CompactHandler, CompactForm, PeInfo, PeHandler, ChainLimit}
 use Rattle.stack_walks.specs.declared.front.Front.{Front}
@@ -24,7 +24,7 @@ use Rattle.stack_steps.specs.declared.space.ModuleTables.{ModuleTables}
 use Rattle.stack_steps.specs.declared.space.ModuleTables.TheVariants.{Elf, Macho, Pe}
 use Rattle.format_definitions.specs.CompactStep.{MachoModule}
 use Rattle.stack_walks.specs.Lines.{with_first, line_after, line_of, NeedsMore}
-use Rattle.stack_walks.specs.Fronts.{reached_after, reached_by, caller_in, caller_from, turned_from, IsReached, started, front_of, IsUnreadableAt, IsUndescribedIn, IsUnlisted, IsUndescribed, IsUnheld, IsUnlistedIn, IsUnknownIn, IsUnknown, EndsFor, stopped_by, Meets, ComesTo}
+use Rattle.stack_walks.specs.Fronts.{reached_after, reached_by, caller_in, caller_from, turned_from, IsReached, start_state, front_of, IsUnreadableAt, IsUndescribedIn, IsUnlisted, IsUndescribed, IsUnheld, IsUnlistedIn, IsUnknownIn, IsUnknown, EndsFor, stopped_by, Meets, ComesTo}
 use Rattle.stack_walks.specs.declared.outward.Stop.{Stop as CodeStop}
 use Rattle.stack_walks.specs.Walking.{RoomValue, IsWalked}
 use Rattle.stack_walks.specs.Turns.{line_for}
@@ -40,7 +40,7 @@ use Rattle.stack_walks.proofs.Unread.{one_unread, none_unread}
 module _ (space : SpaceValue) where
   -- where so many contexts lead
   abbrev pub last : ℕ → Context → Bool → Stepped
-  last room c interrupted = (reached_by (caller_from space) room (started c interrupted)).state
+  last room c interrupted = (reached_by (caller_from space) room (start_state c interrupted)).state
 
   abbrev line_from : ℕ → Stepped → Result (List Context) DeliverError
   line_from room s = line_of space room s.context s.signal
@@ -336,9 +336,9 @@ held_finds_none space c interrupted m a returns none at_call holds = go (step_en
         rw at_call found
 
 module _ (space : SpaceValue) (limit : ℕ) (c : Context) (interrupted : Bool) (room : RoomValue) (state : Stepped)
-    (reached : IsReached true room state (reached_by (turned_from None space) limit (started c interrupted))) where
-  walk_reached : IsReached true room state (reached_by (caller_from space) limit (started c interrupted))
-  walk_reached = subst (IsReached true room state) (same_reached (turned_from None space) (caller_from space) (turned_called space) limit (started c interrupted)) reached
+    (reached : IsReached true room state (reached_by (turned_from None space) limit (start_state c interrupted))) where
+  walk_reached : IsReached true room state (reached_by (caller_from space) limit (start_state c interrupted))
+  walk_reached = subst (IsReached true room state) (same_reached (turned_from None space) (caller_from space) (turned_called space) limit (start_state c interrupted)) reached
 
   -- the contexts
   pub walk_states : room.visited ≡ front_of space limit c interrupted
@@ -352,12 +352,12 @@ module _ (space : SpaceValue) (limit : ℕ) (c : Context) (interrupted : Bool) (
     pub walk_ends : (stop : Option CodeStop) → result ≡ Ok stop → step_of space state.context state.signal ≡ Ok None
     walk_ends stop is =
         let ended : line_of space limit c interrupted ≡ Ok room.visited = rw is at line in
-        rw walk_reached.1 (line_ended space limit (started c interrupted) room.visited ended)
+        rw walk_reached.1 (line_ended space limit (start_state c interrupted) room.visited ended)
 
     pub walk_ends_for : (stop : Option CodeStop) → result ≡ Ok stop → (why : Front) → EndsFor why space state.context state.signal → ComesTo why space limit c interrupted
     walk_ends_for stop is why ends =
         let ended : line_of space limit c interrupted ≡ Ok room.visited = rw is at line in
-        comes why space limit (started c interrupted) (λ h. never (sym ended ∙ h)) (rw walk_reached.1 at ends)
+        comes why space limit (start_state c interrupted) (λ h. never (sym ended ∙ h)) (rw walk_reached.1 at ends)
       where
         never : ◌≡◌ {A = Result (List Context) DeliverError} (Ok room.visited) (Err FrameLimit) → ⊥
         never bad = absurd cc
@@ -372,9 +372,9 @@ module _ (space : SpaceValue) (limit : ℕ) (c : Context) (interrupted : Bool) (
     pub walk_fails : (e : DeliverError) → result ≡ Err e → e ≢ FrameLimit → (a : ℕ) → a ≡ address_of_call state.context.ra state.signal → Meets space (EndsFor (Refused a e) space) limit c interrupted
     walk_fails e is other a at_call =
         let failed : line_of space limit c interrupted ≡ Err e = rw is at line in
-        let steps : step_of space state.context state.signal ≡ Err e = rw walk_reached.1 (line_failed space limit (started c interrupted) e other failed) in
+        let steps : step_of space state.context state.signal ≡ Err e = rw walk_reached.1 (line_failed space limit (start_state c interrupted) e other failed) in
         let ends : EndsFor (Refused a e) space state.context state.signal = (at_call, steps) in
-        comes (Refused a e) space limit (started c interrupted) (λ h. other (same (sym failed ∙ h))) (rw walk_reached.1 at ends)
+        comes (Refused a e) space limit (start_state c interrupted) (λ h. other (same (sym failed ∙ h))) (rw walk_reached.1 at ends)
       where
         same : ◌≡◌ {A = Result (List Context) DeliverError} (Err e) (Err FrameLimit) → e ≡ FrameLimit
         same h = cc

@@ -1,11 +1,11 @@
 -- How many contexts are met on the way outwards, turn by turn.
 use Rattle.std.proofs.Common.{◌≡◌, ℕ, zero, suc, ◌+◌, ◌≤◌, Bool, List, [], ◌∷◌, ◌++◌, length, Option, Some, None, Result, Ok, Err, refl, sym, ap, ◌∙◌, arith, length-append, append-nil}
 use Rattle.unwind_arch.specs.declared.x86_64.Context.{Context}
-use Rattle.stack_steps.specs.declared.answers.Stepped.{Stepped}
+use Rattle.format_frames.specs.declared.machine.Stepped.{Stepped}
 use Rattle.stack_steps.specs.declared.answers.DeliverError.{DeliverError}
 use Rattle.stack_walks.specs.declared.outward.Phase.{Phase}
 use Rattle.stack_steps.specs.Modules.{SpaceValue}
-use Rattle.stack_walks.specs.Fronts.{Reached, reached_after, reached_by, caller_turned, started, turned_from}
+use Rattle.stack_walks.specs.Fronts.{Reached, reached_after, reached_by, caller_turned, start_state, turned_from}
 use Rattle.stack_walks.specs.Turns.{Line, Turn, Ends, Stops, Goes, turn_for, with_context, line_turn, line_for}
 use Rattle.stack_walks.specs.ContextsMet.{contexts_met}
 use Rattle.stack_walks.proofs.Reaching.{reached, met_before}
@@ -32,7 +32,7 @@ few_reached next (suc room) s = go (next s) (few_reached next room)
 
 -- no more than there may be
 pub few_met : (p : Option Phase) (space : SpaceValue) (limit : ℕ) (c : Context) (interrupted : Bool) → contexts_met p space limit c interrupted ≤ limit
-few_met p space limit c interrupted = few_reached (turned_from p space) limit (started c interrupted)
+few_met p space limit c interrupted = few_reached (turned_from p space) limit (start_state c interrupted)
 
 -- the contexts of the line
 pub line_met : (p : Option Phase) (space : SpaceValue) (room : ℕ) (c : Context) (interrupted : Bool) (line : Line) → line_for p space room c interrupted ≡ Ok line → contexts_met p space room c interrupted ≡ length line.contexts
@@ -46,7 +46,7 @@ line_met p space (suc room) c interrupted line is = go (turn_for p space c inter
     on next later (Ok l) at e = ap suc (later next.context next.signal l at) ∙ some_line (record l { contexts = c ∷ l.contexts }) line e
     on next later (Err f) at e = absurd cc
 
-    go : (t : Result Turn DeliverError) → ((d : Context) (i : Bool) (l : Line) → line_for p space room d i ≡ Ok l → contexts_met p space room d i ≡ length l.contexts) → line_turn c interrupted t (line_for p space room) ≡ Ok line → length (reached_after (started c interrupted) (caller_turned t) (reached_by (turned_from p space) room)).contexts ≡ length line.contexts
+    go : (t : Result Turn DeliverError) → ((d : Context) (i : Bool) (l : Line) → line_for p space room d i ≡ Ok l → contexts_met p space room d i ≡ length l.contexts) → line_turn c interrupted t (line_for p space room) ≡ Ok line → length (reached_after (start_state c interrupted) (caller_turned t) (reached_by (turned_from p space) room)).contexts ≡ length line.contexts
     go (Ok Ends) later e = some_line _ line e
     go (Ok (Stops _ _)) later e = some_line _ line e
     go (Ok (Goes next)) later e = on next later (line_for p space room next.context next.signal) refl e

@@ -4,7 +4,7 @@ use Rattle.unwind_arch.specs.declared.x86_64.Context.{Context}
 use Rattle.fde_finders.specs.declared.custom.FrameInfoKind.TheVariants.{EhFrame}
 use Rattle.stack_steps.specs.declared.space.Module.{Module}
 use Rattle.stack_steps.specs.declared.space.ModuleTables.TheVariants.{Elf}
-use Rattle.stack_steps.specs.Modules.{SpaceValue, unprepared}
+use Rattle.stack_steps.specs.Modules.{SpaceValue, without_index}
 
 -- stopped after a call that returns to an address
 abbrev pub after_call : ℕ → Context
@@ -21,7 +21,7 @@ abbrev pub held_by : List ℕ → SpaceValue
 held_by table = record {
   image = record { start = 0x2000; bytes = table } ∷ [];
   modules = module_there ∷ [];
-  added = unprepared module_there ∷ [];
+  added = without_index module_there ∷ [];
 }
 
 -- the list's end

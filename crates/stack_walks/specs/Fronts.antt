@@ -12,7 +12,7 @@ use Rattle.fde_finders.specs.declared.custom.FrameInfoKind.{FrameInfoKind}
 use Rattle.fde_finders.specs.declared.custom.FrameInfoKind.TheVariants.{EhFrame, EhFrameHdr}
 use Rattle.fde_finders.specs.Finding.{table_bases, relative_to}
 use Rattle.fde_finders.specs.HeaderFinding.{found_by_header}
-use Rattle.stack_steps.specs.declared.answers.Stepped.{Stepped}
+use Rattle.format_frames.specs.declared.machine.Stepped.{Stepped}
 use Rattle.stack_steps.specs.declared.answers.DeliverError.{DeliverError}
 use Rattle.stack_steps.specs.declared.answers.DeliverError.TheVariants.{FrameLimit}
 use Rattle.stack_walks.specs.declared.front.Front.{Front}
@@ -54,13 +54,13 @@ caller_in (Err e) = None
 abbrev pub caller_from : SpaceValue → Stepped → Option Stepped
 caller_from space s = caller_in (step_of space s.context s.signal)
 
-abbrev pub started : Context → Bool → Stepped
-started c interrupted = record { context = c; signal = interrupted }
+abbrev pub start_state : Context → Bool → Stepped
+start_state c interrupted = record { context = c; signal = interrupted }
 
 -- The contexts from one outwards, at most so many, each the caller of the one before: up to the end of the stack, or to the
 -- first whose step has a fault.
 abbrev pub front_of : SpaceValue → ℕ → Context → Bool → List Context
-front_of space limit c interrupted = (reached_by (caller_from space) limit (started c interrupted)).contexts
+front_of space limit c interrupted = (reached_by (caller_from space) limit (start_state c interrupted)).contexts
 
 -- the same for a pass, which goes to the caller or ends
 abbrev pub caller_turned : Result Turn DeliverError → Option Stepped

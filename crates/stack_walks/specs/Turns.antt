@@ -7,7 +7,7 @@ use Rattle.unwind_definitions.specs.Delivery.{decides}
 use Rattle.unwind_arch.specs.declared.x86_64.Context.{Context}
 use Rattle.unwind_definitions.specs.Columns.{rax, rdx, rsp}
 use Rattle.unwinding_frames.specs.Passes.{less_signal}
-use Rattle.stack_steps.specs.declared.answers.Stepped.{Stepped}
+use Rattle.format_frames.specs.declared.machine.Stepped.{Stepped}
 use Rattle.stack_steps.specs.declared.answers.DeliverError.{DeliverError}
 use Rattle.stack_steps.specs.declared.answers.DeliverError.TheVariants.{FrameLimit}
 use Rattle.stack_walks.specs.declared.outward.Phase.{Phase}

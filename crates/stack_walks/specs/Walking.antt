@@ -8,7 +8,7 @@ use Rattle.format_definitions.specs.FormatModules.{IsFormatChain}
 use Rattle.unwind_arch.specs.declared.x86_64.Context.{Context}
 use Rattle.unwind_arch.specs.ContextViews.{columns_of}
 use Rattle.stack_walks.specs.declared.room.Trail.{Trail}
-use Rattle.stack_steps.specs.declared.answers.Stepped.{Stepped}
+use Rattle.format_frames.specs.declared.machine.Stepped.{Stepped}
 use Rattle.stack_steps.specs.declared.answers.DeliverError.{DeliverError}
 use Rattle.stack_steps.specs.Modules.{AreElf, SpaceValue}
 use Rattle.stack_steps.specs.SpaceViews.{process_of, formats_of}

@@ -82,7 +82,7 @@ fn unreadable(entries: &mut Entries<'_>, turns: usize, address: u64, error: Erro
 }
 
 /// Why the scan of a frame table finds no description for an address.
-fn unlisted(bytes: &[u8], table: u64, text_base: Option<u64>, address: u64) -> Front
+fn unlisted_front(bytes: &[u8], table: u64, text_base: Option<u64>, address: u64) -> Front
     requires { (e : Fault) × (scan (table_bases text_base table)
         (input_of table bytes.now) address ≡ Err e) }
     ensures { IsUndescribedIn (table_bases text_base table)
@@ -114,25 +114,25 @@ fn bytes_at<'a>(image: &MemoryImage<'a>, address: u64) -> &'a [u8]
 }
 
 /// Why no description is found for an address by the tables that its module names.
-fn undescribed(image: &MemoryImage<'_>, address: u64, tables: FrameInfo) -> Front
+fn undescribed_front(image: &MemoryImage<'_>, address: u64, tables: FrameInfo) -> Front
     requires { FindsNone image.now tables.text_base tables.kind address }
     ensures { IsUndescribed image.now tables.text_base tables.kind address result }
 {
     match tables.kind {
         FrameInfoKind::EhFrameHdr(_) => Front::NoDescription(address),
         FrameInfoKind::EhFrame(table) => {
-            unlisted(bytes_at(image, table), table, tables.text_base, address)
+            unlisted_front(bytes_at(image, table), table, tables.text_base, address)
         }
     }
 }
 
 /// Why nothing is known of an address by the tables of its module.
-fn unknown(image: &MemoryImage<'_>, address: u64, holder: &Module) -> Front
+fn unknown_front(image: &MemoryImage<'_>, address: u64, holder: &Module) -> Front
     requires { FindsNoneIn image.now holder.now holder.now.tables address }
     ensures { IsUnknownIn image.now holder.now holder.now.tables address result }
 {
     match holder.tables {
-        ModuleTables::Elf(tables) => undescribed(image, address, tables),
+        ModuleTables::Elf(tables) => undescribed_front(image, address, tables),
         ModuleTables::Macho(_) => Front::NoDescription(address),
         // An address without a record is one of a leaf.
         ModuleTables::Pe(_) => unreachable!(),
@@ -140,7 +140,7 @@ fn unknown(image: &MemoryImage<'_>, address: u64, holder: &Module) -> Front
 }
 
 /// Why there is no frame at a state.
-fn unframed(space: &Space<'_>, state: &Stepped) -> Front
+fn unframed_front(space: &Space<'_>, state: &Stepped) -> Front
     requires { step_of space.now state.now.context state.now.signal ≡ Ok None }
     ensures { EndsFor result space.now state.now.context state.now.signal }
 {
@@ -150,12 +150,12 @@ fn unframed(space: &Space<'_>, state: &Stepped) -> Front
     let address = state.address();
     match space.module_at(address) {
         None => Front::NoModule(address),
-        Some(holder) => unknown(space.image(), address, &holder),
+        Some(holder) => unknown_front(space.image(), address, &holder),
     }
 }
 
 /// Why a walk goes no further where it meets the limit or a fault.
-fn stopped(address: u64, error: DeliverError) -> Front
+fn stopped_front(address: u64, error: DeliverError) -> Front
     ensures { result ≡ stopped_by address error }
 {
     match error {
@@ -165,7 +165,7 @@ fn stopped(address: u64, error: DeliverError) -> Front
 }
 
 /// Visits the states from the start outwards, in a room that is emptied first.
-fn fronted<L: Ledger>(
+fn walk_front<L: Ledger>(
     space: &Space<'_>,
     start: &Context,
     interrupted: bool,
@@ -194,8 +194,8 @@ fn fronted<L: Ledger>(
         &mut RowRoom::new(),
         steps,
     ) {
-        Ok(_) => unframed(space, &state),
-        Err(error) => stopped(state.address(), error),
+        Ok(_) => unframed_front(space, &state),
+        Err(error) => stopped_front(state.address(), error),
     }
 }
 
@@ -234,7 +234,7 @@ pub fn walk_front_into<L: Ledger>(
     // table and none is prepared.
     ensures ticks { RisesWithin space.now limit steps.old.number steps.new.number }
 {
-    fronted(space, start, interrupted, limit, room, steps)
+    walk_front(space, start, interrupted, limit, room, steps)
 }
 
 /// Each reason can be given, so that its cause can be met: after a call that returns to 0, to an

@@ -19,7 +19,7 @@ use crate::room::Room;
 use eh_frame::RowRoom;
 use fde_finders::FDESearchResult;
 use memory_image::{Ledger, MemoryImage, Steps};
-use stack_steps::{DeliverError, FoundFrame, Space, Stepped, Stepper, asked};
+use stack_steps::{DeliverError, FoundFrame, Space, Stepped, Stepper, action_asked};
 use unwind_arch::x86_64::{Context, RAX, RDX, RSP};
 use unwinding_frames::{EhAction, frame_mark};
 
@@ -113,7 +113,7 @@ fn stop_action(
     let Some(phase) = phase else {
         return Ok(None);
     };
-    let action = asked(image, state, frame)?;
+    let action = action_asked(image, state, frame)?;
     if phase.stops(action) {
         Ok(Some(action))
     } else {

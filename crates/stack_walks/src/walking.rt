@@ -22,7 +22,7 @@ use unwind_arch::x86_64::Context;
 
 /// Visits the states from the start outwards, in a room that is emptied first, and after an error
 /// again.
-fn walked<L: Ledger>(
+fn fresh_walk<L: Ledger>(
     space: &Space<'_>,
     start: &Context,
     interrupted: bool,
@@ -117,7 +117,7 @@ pub fn walk_into<L: Ledger>(
 {
     // No two of its modules share an address, as a space's type says.
     let _ = space.image();
-    walked(space, start, interrupted, limit, room, steps)
+    fresh_walk(space, start, interrupted, limit, room, steps)
 }
 
 /// The states of a stack that was walked.
@@ -138,6 +138,13 @@ impl Model for Visited {
 }
 
 impl Visited {
+    /// The room in which they stand.
+    pub fn room(&self) -> &Room
+        ensures { result.now.visited ≡ self.now }
+    {
+        &self.room
+    }
+
     /// How many states there are.
     pub fn len(&self) -> usize
         ensures { result ≡ length self.now }

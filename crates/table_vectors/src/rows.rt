@@ -53,7 +53,7 @@ struct Shown {
 }
 
 const SHOWN: &[Shown] = &[
-    // before a push, and behind it
+    // before a push, and after it
     Shown {
         own: PUSH,
         start: 0x401000,

@@ -36,6 +36,6 @@ context_of columns = record {
 }
 
 -- a context that was written, if it was
-abbrev pub written : {C : Type 0} → Option (Unit {0}) → C → Option C
-written None c = None
-written (Some done) c = Some c
+abbrev pub context_if_written : {C : Type 0} → Option (Unit {0}) → C → Option C
+context_if_written None c = None
+context_if_written (Some done) c = Some c

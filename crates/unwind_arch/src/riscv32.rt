@@ -2,7 +2,7 @@
 //! numbers.
 
 ghost use Rattle.std.specs.Prelude.{◌≡◌, ◌≢◌, ◌<◌, ◌↔◌, ℕ, Some, IsSome, is_some, OnSome, IfNone};
-ghost use Rattle.unwind_arch.specs.ContextViews.{written};
+ghost use Rattle.unwind_arch.specs.ContextViews.{context_if_written};
 ghost use Rattle.unwind_arch.specs.Riscv32.{columns_of, with_column};
 
 use crate::register::Register;
@@ -40,7 +40,7 @@ impl RegisterMap for Context {
     /// Writes a column. `None`, and nothing is written, exactly where the number is none of 0 to
     /// 31.
     fn set(&mut self, register: Register, value: u32) -> Option<()>
-        ensures context { written result self.new ≡ with_column self.old register.0 value }
+        ensures context { context_if_written result self.new ≡ with_column self.old register.0 value }
         ensures found { is_some result ≡ is_some (columns_of self.old register.0) }
         ensures holds { OnSome result (columns_of self.new register.0 ≡ Some value) }
         ensures others { OnSome result ((k : ℕ) → k ≢ register.0 →

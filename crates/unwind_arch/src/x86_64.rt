@@ -2,7 +2,7 @@
 //! numbers.
 
 ghost use Rattle.std.specs.Prelude.{◌≡◌, ◌≢◌, ℕ, Some, is_some, OnSome, IfNone, refl};
-ghost use Rattle.unwind_arch.specs.ContextViews.{columns_of, with_column, written};
+ghost use Rattle.unwind_arch.specs.ContextViews.{columns_of, with_column, context_if_written};
 
 use crate::machine::Machine;
 use crate::register::Register;
@@ -100,7 +100,7 @@ impl RegisterMap for Context {
     /// Writes a column. `None`, and nothing is written, exactly where the number is none of 0 to
     /// 16, 64 and 65.
     fn set(&mut self, register: Register, value: u64) -> Option<()>
-        ensures context { written result self.new ≡ with_column self.old register.0 value }
+        ensures context { context_if_written result self.new ≡ with_column self.old register.0 value }
         ensures found { is_some result ≡ is_some (columns_of self.old register.0) }
         ensures holds { OnSome result (columns_of self.new register.0 ≡ Some value) }
         ensures others { OnSome result ((k : ℕ) → k ≢ register.0 →

@@ -159,8 +159,8 @@ pub record IsEndless (image : List Span) (columns : Columns) (expression : List 
   pub goes_on : (last_of start run).position ≢ length expression
 
 -- An expression begins at its first byte. It may take 10,000 operations and one more for each of its bytes.
-abbrev pub begun : List ℕ → Configuration
-begun stack = record { position = 0; stack = stack }
+abbrev pub initial_configuration : List ℕ → Configuration
+initial_configuration stack = record { position = 0; stack = stack }
 
 abbrev pub operation_limit : List ℕ → ℕ
 operation_limit expression = 10000 + length expression
@@ -188,4 +188,4 @@ answer_from image columns expression (suc left) c =
 
 -- the evaluator that a caller's definition takes
 unfoldable pub evaluation : List Span → Evaluates
-evaluation image expression stack columns = answer_from image columns expression (operation_limit expression) (begun stack)
+evaluation image expression stack columns = answer_from image columns expression (operation_limit expression) (initial_configuration stack)

@@ -3,7 +3,7 @@
 use Rattle.std.proofs.Common.{◌≡◌, ℕ, zero, suc, ◌+◌, ◌-◌, ◌/◌, ◌<◌, ◌≤◌, Bool, true, false, ltb, leb, List, length, Option, Some, Result, Ok, Err, refl, sym, ap, subst, ◌∙◌, arith}
 use Rattle.std.specs.Prelude.{slice_index}
 use Rattle.std.proofs.lemmas.Bool.{ltb-true, ltb-false, leb-true, leb-false, lt-ltb, le-ltb, le-leb, lt-leb}
-use Rattle.memory_image.specs.Halving.{halved, place_before, is_at_or_before, boundary_of}
+use Rattle.memory_image.specs.Halving.{place_by_halving, place_before, is_at_or_before, boundary_of}
 use Rattle.unwind_definitions.specs.Faults.{Fault, ◌>>=◌}
 use Rattle.unwind_definitions.specs.Input.{Input}
 use Rattle.unwind_definitions.specs.Pointers.{Bases}
@@ -176,15 +176,15 @@ module _ (t : PairTable) (pc : ℕ) (keys : List ℕ) (are : AreStarts t keys) w
   test_is : (i : ℕ) → i < t.count → starts_by t pc i ≡ Ok (is_at_or_before keys pc i)
   test_is i lt = let p = are.each i lt in rw (p.1, p.2) refl
 
-  halved_is : (n low high : ℕ) → high ≤ t.count → halved_or n (starts_by t pc) low high ≡ Ok (halved n (is_at_or_before keys pc) low high)
-  unfolding halved_or halved
+  halved_is : (n low high : ℕ) → high ≤ t.count → halved_or n (starts_by t pc) low high ≡ Ok (place_by_halving n (is_at_or_before keys pc) low high)
+  unfolding halved_or place_by_halving
   halved_is zero low high within = refl
   halved_is (suc n) low high within = go (ltb low high) refl (is_at_or_before keys pc (low + (high - low) / 2)) refl (halved_is n ((low + (high - low) / 2) + 1) high within) (λ lt. halved_is n low (low + (high - low) / 2) (omega arith))
     where
       go : (c : Bool) → ltb low high ≡ c → (b : Bool) → is_at_or_before keys pc (low + (high - low) / 2) ≡ b →
-          halved_or n (starts_by t pc) ((low + (high - low) / 2) + 1) high ≡ Ok (halved n (is_at_or_before keys pc) ((low + (high - low) / 2) + 1) high) →
-          (low < high → halved_or n (starts_by t pc) low (low + (high - low) / 2) ≡ Ok (halved n (is_at_or_before keys pc) low (low + (high - low) / 2))) →
-          halved_or (suc n) (starts_by t pc) low high ≡ Ok (halved (suc n) (is_at_or_before keys pc) low high)
+          halved_or n (starts_by t pc) ((low + (high - low) / 2) + 1) high ≡ Ok (place_by_halving n (is_at_or_before keys pc) ((low + (high - low) / 2) + 1) high) →
+          (low < high → halved_or n (starts_by t pc) low (low + (high - low) / 2) ≡ Ok (place_by_halving n (is_at_or_before keys pc) low (low + (high - low) / 2))) →
+          halved_or (suc n) (starts_by t pc) low high ≡ Ok (place_by_halving (suc n) (is_at_or_before keys pc) low high)
       go false e b is up down = rw e refl
       go true e true is up down = let lt = ltb-true low high e in rw (e, test_is (low + (high - low) / 2) (omega arith), is) up
       go true e false is up down = let lt = ltb-true low high e in rw (e, test_is (low + (high - low) / 2) (omega arith), is) (down lt)
@@ -194,4 +194,4 @@ module _ (t : PairTable) (pc : ℕ) (keys : List ℕ) (are : AreStarts t keys) w
   unfolding boundary_in boundary_of
   boundary_in-is =
       ap (λ (r : Result ℕ Fault). r >>= λ place. pair_of_place t (place_before place)) (halved_is t.count 0 t.count (omega arith))
-      ∙ ap (λ (n : ℕ). pair_of_place t (place_before (halved n (is_at_or_before keys pc) 0 n))) (sym are.all)
+      ∙ ap (λ (n : ℕ). pair_of_place t (place_before (place_by_halving n (is_at_or_before keys pc) 0 n))) (sym are.all)

@@ -29,8 +29,8 @@ abbrev pub number : Width → Reads ℕ
 number w c = if nat_lt (length c.bytes) (byte_len w) then Err UnexpectedEof else Ok (from_le_bytes w (take (byte_len w) c.bytes), skip (byte_len w) c)
 
 -- signed numbers are words: those below 0 count from 2 ^ 64
-abbrev pub signed : ℕ → ℕ → ℕ
-signed bits n = if nat_lt n (2 ^ (bits - 1)) then n else (2 ^ 64 - 2 ^ bits) + n
+abbrev pub signed_word : ℕ → ℕ → ℕ
+signed_word bits n = if nat_lt n (2 ^ (bits - 1)) then n else (2 ^ 64 - 2 ^ bits) + n
 
 -- An unsigned LEB128 number of which at most `left` bytes may come. Each gives seven bits, the lowest first; the last is below 128. The tenth is 0 or 1.
 abbrev pub uleb_from : ℕ → Reads ℕ
@@ -53,7 +53,7 @@ sleb_from (suc zero) c = do
   if b.0 == 0 then Ok b else (if b.0 == 127 then Ok (2 ^ 64 - 1, b.1) else Err BadSignedLeb128)
 sleb_from (suc (suc left)) c = do
   b ← number w8 c
-  if nat_lt b.0 128 then Ok (signed 7 b.0, b.1) else (sleb_from (suc left) b.1 >>= λ high. Ok ((b.0 - 128 + 128 * high.0) % 2 ^ 64, high.1))
+  if nat_lt b.0 128 then Ok (signed_word 7 b.0, b.1) else (sleb_from (suc left) b.1 >>= λ high. Ok ((b.0 - 128 + 128 * high.0) % 2 ^ 64, high.1))
 
 abbrev pub sleb : Reads ℕ
 sleb c = sleb_from 10 c

@@ -34,8 +34,8 @@ pub record Coding : Type 0 where
   pub bases : Bases
 
 -- a number of data units, as a word
-abbrev pub scaled : Coding → ℕ → ℕ
-scaled coding n = (n * coding.data_factor) % 2 ^ 64
+abbrev pub data_units : Coding → ℕ → ℕ
+data_units coding n = (n * coding.data_factor) % 2 ^ 64
 
 abbrev pub column : Reads ℕ
 column c = do
@@ -59,13 +59,13 @@ abbrev pub writes_offset : Coding → (ℕ → Rule) → Reads Instruction
 writes_offset coding rule c = do
   r ← column c
   n ← uleb r.1
-  Ok (Write r.0 (rule (scaled coding n.0)), n.1)
+  Ok (Write r.0 (rule (data_units coding n.0)), n.1)
 
 abbrev pub writes_signed : Coding → (ℕ → Rule) → Reads Instruction
 writes_signed coding rule c = do
   r ← column c
   n ← sleb r.1
-  Ok (Write r.0 (rule (scaled coding n.0)), n.1)
+  Ok (Write r.0 (rule (data_units coding n.0)), n.1)
 
 abbrev pub writes : Rule → Reads Instruction
 writes rule c = do
@@ -100,7 +100,7 @@ abbrev pub defines_cfa_signed : Coding → Reads Instruction
 defines_cfa_signed coding c = do
   r ← column c
   n ← sleb r.1
-  Ok (Cfa r.0 (scaled coding n.0), n.1)
+  Ok (Cfa r.0 (data_units coding n.0), n.1)
 
 abbrev pub defines_cfa_column : Reads Instruction
 defines_cfa_column c = do
@@ -115,7 +115,7 @@ defines_cfa_offset c = do
 abbrev pub defines_cfa_offset_signed : Coding → Reads Instruction
 defines_cfa_offset_signed coding c = do
   n ← sleb c
-  Ok (CfaOffset (scaled coding n.0), n.1)
+  Ok (CfaOffset (data_units coding n.0), n.1)
 
 abbrev pub defines_cfa_block : Reads Instruction
 defines_cfa_block c = do
@@ -184,7 +184,7 @@ operation coding op = row_creation coding op (cfa_definition coding op (offset_r
 abbrev pub saves : Coding → ℕ → Reads Instruction
 saves coding r c = do
   n ← uleb c
-  Ok (Write r (Offset (scaled coding n.0)), n.1)
+  Ok (Write r (Offset (data_units coding n.0)), n.1)
 
 -- an instruction by the two high and the six low bits of its first byte
 unfoldable pub instruction_of : Coding → ℕ → ℕ → Reads Instruction

@@ -16,8 +16,8 @@ use Rattle.unwind_definitions.specs.Caller.{StepFault, Table, word_or_fault}
 -- ---- readings that also follow pointers into the memory
 
 -- a reading of the table's own bytes
-abbrev pub read : {A : Type 0} → Result A Fault → Result A StepFault
-read = result_map_both (λ x. x) Table
+abbrev pub table_reading : {A : Type 0} → Result A Fault → Result A StepFault
+table_reading = result_map_both (λ x. x) Table
 
 -- where a pointer leads: to its address, or to the address that the cell there holds
 abbrev pub target : List Span → Pointer → Result ℕ StepFault
@@ -27,7 +27,7 @@ target image (Indirect a) = word_or_fault image a
 -- an address by an encoding, and what is left
 abbrev pub address : List Span → ℕ → Bases → Input → Result (ℕ × Input) StepFault
 address image e bases c = do
-  p ← read (pointer e bases c)
+  p ← table_reading (pointer e bases c)
   a ← target image p.0
   Ok (a, p.1)
 
@@ -47,17 +47,17 @@ pub record Head : Type 0 where
 -- the encoding of the landing pads' base, and the base unless there is none: it is the function's start then
 abbrev pub pad_base : List Span → Bases → ℕ → Input → Result (ℕ × Input) StepFault
 pad_base image bases start c = do
-  e ← read (encoding c)
+  e ← table_reading (encoding c)
   if e.0 == DW_EH_PE_omit then Ok (start, e.1) else address image e.0 bases e.1
 
 -- the landing pads' base, the types, how call sites are encoded, how many bytes they take, and these
 abbrev pub head : List Span → Bases → ℕ → Input → Result Head StepFault
 head image bases start c = do
   base ← pad_base image bases start c
-  behind ← read (types base.1)
-  site ← read (encoding behind.1)
-  size ← read (uleb site.1)
-  parts ← read (split size.0 size.1)
+  behind ← table_reading (types base.1)
+  site ← table_reading (encoding behind.1)
+  size ← table_reading (uleb site.1)
+  parts ← table_reading (split size.0 size.1)
   Ok (record { pad_base = base.0; site_encoding = site.0; sites = parts.0; actions = parts.1 })
 
 -- ---- call sites
@@ -75,14 +75,14 @@ call_site image bases e c = do
   from ← address image e bases c
   size ← address image e bases from.1
   pad ← address image e bases size.1
-  index ← read (uleb pad.1)
+  index ← table_reading (uleb pad.1)
   Ok (record { from = from.0; size = size.0; pad = pad.0; index = index.0 }, index.1)
 
 -- what a landing pad is entered for: a cleanup, or what its number in the action table says
 abbrev pub pad_action : Input → ℕ → ℕ → Result Action StepFault
 pad_action actions pad index =
     if index == 0 then Ok (Cleanup pad)
-    else (read (sleb (skip (index - 1) actions)) >>= λ n. Ok (numbered_action pad n.0))
+    else (table_reading (sleb (skip (index - 1) actions)) >>= λ n. Ok (numbered_action pad n.0))
 
 -- what a call site asks of a call in it: nothing where it has no landing pad
 abbrev pub site_action : Head → CallSite → Result Action StepFault

@@ -1,7 +1,7 @@
 -- What bytes spell a number of variable length, digit by digit: DWARF 5 section 7.6 (LEB128). And relative pointers.
 use Rattle.std.specs.Prelude.{◌≡◌, ◌⊎◌, ℕ, ◌+◌, ◌-◌, ◌*◌, ◌%◌, ◌^◌, ◌<◌, ◌≤◌, Bool, false, List, [], ◌∷◌, length, get_or, nat_le, if◌then◌else◌}
 use Rattle.std.specs.Int.{w32, from_le_bytes}
-use Rattle.unwind_definitions.specs.Input.{signed}
+use Rattle.unwind_definitions.specs.Input.{signed_word}
 
 -- the sum of the low seven bits of each byte times a power of 128, the lowest first
 abbrev pub digits : List ℕ → ℕ
@@ -41,4 +41,4 @@ pub record SpellsSigned (bytes : List ℕ) (n : ℕ) : Type 0 where
 -- four bytes at an address spell the pointer to another: the address plus their signed number, as words
 pub record SpellsRelative (bytes : List ℕ) (at to : ℕ) : Type 0 where
   pub size : length bytes ≡ 4
-  pub number : to ≡ (at + signed 32 (from_le_bytes w32 bytes)) % 2 ^ 64
+  pub number : to ≡ (at + signed_word 32 (from_le_bytes w32 bytes)) % 2 ^ 64

@@ -27,8 +27,8 @@ pub data Operation : Type 0 where
 
 -- ---- what is done with words: of two, the second comes first and then the top
 
-abbrev pub negated : ℕ → ℕ
-negated a = (2 ^ 64 - a) % 2 ^ 64
+abbrev pub negation : ℕ → ℕ
+negation a = (2 ^ 64 - a) % 2 ^ 64
 
 abbrev pub magnitude : ℕ → ℕ
 magnitude a = unsigned_abs (cast_signed w64 a)
@@ -137,7 +137,7 @@ arithmetic op =
     else (if op == DW_OP_minus then says (Combine difference)
     else (if op == DW_OP_mod then says (Divide remainder)
     else (if op == DW_OP_mul then says (Combine product)
-    else (if op == DW_OP_neg then says (Change negated)
+    else (if op == DW_OP_neg then says (Change negation)
     else (if op == DW_OP_not then says (Change (bit_not w64))
     else (if op == DW_OP_or then says (Combine bit_or)
     else (if op == DW_OP_plus then says (Combine ◌+w◌)

@@ -3,7 +3,7 @@
 use Rattle.std.specs.Prelude.{ℕ, ◌+◌, ◌*◌, ◌/◌, ◌%◌, ◌^◌, Bool, ◌&&◌, ◌||◌, Option, Some, None, Result, Ok, Err, nat_lt, nat_le, ◌==◌, if◌then◌else◌}
 use Rattle.std.specs.Int.{Width, w8, w16, w32, w64}
 use Rattle.unwind_definitions.specs.Faults.{Fault, UnsupportedPointerEncoding, UndefinedBase, CannotParseOmitPointerEncoding, UnknownPointerEncoding, ◌>>=◌, unless}
-use Rattle.unwind_definitions.specs.Input.{Reads, address_of, number, signed, uleb, sleb}
+use Rattle.unwind_definitions.specs.Input.{Reads, address_of, number, signed_word, uleb, sleb}
 use Rattle.unwind_definitions.specs.PointerEncodings.{DW_EH_PE_absptr, DW_EH_PE_uleb128, DW_EH_PE_udata2, DW_EH_PE_udata4, DW_EH_PE_udata8, DW_EH_PE_sleb128, DW_EH_PE_sdata2, DW_EH_PE_sdata4, DW_EH_PE_sdata8, DW_EH_PE_pcrel, DW_EH_PE_textrel, DW_EH_PE_datarel, DW_EH_PE_funcrel, DW_EH_PE_aligned, DW_EH_PE_indirect, DW_EH_PE_omit}
 
 -- what a pointer may be relative to
@@ -43,7 +43,7 @@ encoding c = do
 abbrev pub signed_number : Width → ℕ → Reads ℕ
 signed_number w bits c = do
   n ← number w c
-  Ok (signed bits n.0, n.1)
+  Ok (signed_word bits n.0, n.1)
 
 -- the number of a format; what is left is DW_EH_PE_sdata8
 abbrev pub value : ℕ → Reads ℕ
@@ -58,9 +58,9 @@ value format =
     else (if format == DW_EH_PE_sdata4 then signed_number w32 32
     else number w64)))))))
 
-abbrev pub known : Option ℕ → Result ℕ Fault
-known None = Err UndefinedBase
-known (Some base) = Ok base
+abbrev pub base_if_known : Option ℕ → Result ℕ Fault
+base_if_known None = Err UndefinedBase
+base_if_known (Some base) = Ok base
 
 -- What an application adds, for a pointer whose first byte is at an address: nothing, that address, the text, the data
 -- or the function. An aligned pointer isn't read.
@@ -68,9 +68,9 @@ abbrev pub base_of : Bases → ℕ → ℕ → Result ℕ Fault
 base_of bases at application =
     if application == DW_EH_PE_absptr then Ok 0
     else (if application == DW_EH_PE_pcrel then Ok at
-    else (if application == DW_EH_PE_textrel then known bases.text
-    else (if application == DW_EH_PE_datarel then known bases.data_base
-    else (if application == DW_EH_PE_funcrel then known bases.func
+    else (if application == DW_EH_PE_textrel then base_if_known bases.text
+    else (if application == DW_EH_PE_datarel then base_if_known bases.data_base
+    else (if application == DW_EH_PE_funcrel then base_if_known bases.func
     else Err UnsupportedPointerEncoding))))
 
 abbrev pub pointer : ℕ → Bases → Reads Pointer

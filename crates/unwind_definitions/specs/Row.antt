@@ -38,8 +38,8 @@ cut_of (Remember ∷ is) = let c = cut_of is in record { kept = unwrap_or c.behi
 cut_of (Restore ∷ is) = let c = cut_of is in record { kept = Restore ∷ c.kept; behind = Some c.kept }
 cut_of (i ∷ is) = let c = cut_of is in record { kept = i ∷ c.kept; behind = c.behind }
 
-abbrev pub cut : List Instruction → List Instruction
-cut is = (cut_of is).kept
+abbrev pub kept_instructions : List Instruction → List Instruction
+kept_instructions is = (cut_of is).kept
 
 -- what an instruction says of a column: a rule, or its initial one
 abbrev pub says_of : Option Rule → ℕ → Instruction → Option (Option Rule)
@@ -86,16 +86,16 @@ pub record RowInstructions : Type 0 where
   pub own : List Instruction
 
 abbrev pub initial_rule : RowInstructions → ℕ → Option Rule
-initial_rule run column = unwrap_or (last_said (says_of None column) (cut run.common)) None
+initial_rule run column = unwrap_or (last_said (says_of None column) (kept_instructions run.common)) None
 
 abbrev pub rule_of : RowInstructions → ℕ → Option Rule
-rule_of run column = unwrap_or (last_said (says_of (initial_rule run column) column) (cut run.own)) (initial_rule run column)
+rule_of run column = unwrap_or (last_said (says_of (initial_rule run column) column) (kept_instructions run.own)) (initial_rule run column)
 
 abbrev pub cfa_rule : RowInstructions → Option CfaRule
-cfa_rule run = cfa_of (cut run.common ++ cut run.own)
+cfa_rule run = cfa_of (kept_instructions run.common ++ kept_instructions run.own)
 
 abbrev pub argument_size : RowInstructions → ℕ
-argument_size run = unwrap_or (last_said arguments (cut run.common ++ cut run.own)) 0
+argument_size run = unwrap_or (last_said arguments (kept_instructions run.common ++ kept_instructions run.own)) 0
 
 -- the columns that have a rule, each once
 abbrev pub column_named : Instruction → Option ℕ

@@ -12,7 +12,7 @@ use Rattle.memory_image.specs.ImageLaws.{table_past, table_at-add}
 use Rattle.unwind_definitions.specs.declared.error.Error.{Error as Fault}
 use Rattle.unwind_definitions.specs.declared.error.Error.TheVariants.{NoUnwindInfoForAddress}
 use Rattle.unwind_definitions.specs.Faults.{◌>>=◌}
-use Rattle.unwind_definitions.specs.Input.{Input, address_of, number, signed, skip}
+use Rattle.unwind_definitions.specs.Input.{Input, address_of, number, signed_word, skip}
 use Rattle.unwind_definitions.specs.Pointers.{Bases, Pointer, Direct, pointer, direct}
 use Rattle.unwind_definitions.specs.Entries.{Fde, AFde, Found, entry_at}
 use Rattle.unwind_definitions.specs.Row.{covers_pc}
@@ -47,7 +47,7 @@ pointer_read bases c d a e = go (number w32 c) refl
     go (Err f) is = let h = rw is at e in absurd cc
     go (Ok n) is =
         let h = rw is at e in
-        let same : ((address_of c + signed 32 n.0) % 2 ^ 64, n.1) ≡ (a, d) = ok_same _ _ h in
+        let same : ((address_of c + signed_word 32 n.0) % 2 ^ 64, n.1) ≡ (a, d) = ok_same _ _ h in
         rw is (ap (λ (p : ℕ × Input). pointed (Direct p.0) p.1) same)
 
 abbrev behind_head : Bases → ℕ → Pointer × Input → Result FrameHeader Fault

@@ -16,7 +16,7 @@ use Rattle.unwind_definitions.specs.Function.{Function, Site, Action, NoAction, 
 use Rattle.unwind_definitions.specs.LanguageTable.{input_at, numbered_action, action_of, site_at, AreSites, types, site_bytes, IsLanguageTable}
 use Rattle.unwind_definitions.specs.Caller.{StepFault}
 use Rattle.unwind_definitions.specs.LanguageSearch as tables
-use Rattle.unwind_laws.specs.Searched.{searched}
+use Rattle.unwind_laws.specs.Searched.{action_of_sites}
 use Rattle.unwind_laws.proofs.OneLanguage.{same_pair}
 use Rattle.unwind_laws.proofs.SearchSites.{searched_is}
 
@@ -194,12 +194,12 @@ module _ (f : Function) (small : f.end < 2 ^ 64) (listed actions : Input) where
       same : (x y : Action) → some_action x ≡ some_action y → acts x ≡ acts y
       same x y e = let is : x ≡ y = cc in ap acts is
 
-      read_same : (pad : ℕ) (r : Result (ℕ × Input) Fault) → (r >>= λ m. some_action (numbered_action pad m.0)) ≡ Ok s.action → (tables.read r >>= λ m. acts (numbered_action pad m.0)) ≡ Ok s.action
+      read_same : (pad : ℕ) (r : Result (ℕ × Input) Fault) → (r >>= λ m. some_action (numbered_action pad m.0)) ≡ Ok s.action → (tables.table_reading r >>= λ m. acts (numbered_action pad m.0)) ≡ Ok s.action
       read_same pad (Ok m) e = same (numbered_action pad m.0) s.action e
       read_same pad (Err x) e = absurd cc
 
       by_index : (b : Bool) (pad : ℕ) → cond b (some_action (Cleanup pad)) (sleb (skip (n.index.0 - 1) actions) >>= λ m. some_action (numbered_action pad m.0)) ≡ Ok s.action →
-          cond b (acts (Cleanup pad)) (tables.read (sleb (skip (n.index.0 - 1) actions)) >>= λ m. acts (numbered_action pad m.0)) ≡ Ok s.action
+          cond b (acts (Cleanup pad)) (tables.table_reading (sleb (skip (n.index.0 - 1) actions)) >>= λ m. acts (numbered_action pad m.0)) ≡ Ok s.action
       by_index true pad e = same (Cleanup pad) s.action e
       by_index false pad e = read_same pad (sleb (skip (n.index.0 - 1) actions)) e
 
@@ -244,7 +244,7 @@ module _ (f : Function) (small : f.end < 2 ^ 64) (listed actions : Input) where
 
     -- turns enough, a search through the function's sites finds what a search through their ranges does
     sites_searched : (turns : ℕ) (c : Input) (ss : List Site) (low : ℕ) → length c.bytes ≤ turns → AreSites f.start actions c ss → AreWithin low f.end (ranges_of ss) → AllByRecursion (λ (s : Site). MayAsk f s.action) ss →
-        tables.search_from turns image bases f.start a table_head c ≡ Ok (searched ss a)
+        tables.search_from turns image bases f.start a table_head c ≡ Ok (action_of_sites ss a)
     sites_searched zero c [] low enough are within may = refl
     sites_searched (suc turns) c [] low enough are within may = rw are refl
     sites_searched zero c (s ∷ ss) low enough are within may =
@@ -258,7 +258,7 @@ module _ (f : Function) (small : f.end < 2 ^ 64) (listed actions : Input) where
         let two = uleb_takes n.from.1 n.len.1 n.len.0 n.len_reads in
         let three = uleb_takes n.len.1 n.pad.1 n.pad.0 n.pad_reads in
         let four = uleb_takes n.pad.1 n.index.1 n.index.0 n.index_reads in
-        let later : tables.search_from turns image bases f.start a table_head n.index.1 ≡ Ok (searched ss a) =
+        let later : tables.search_from turns image bases f.start a table_head n.index.1 ≡ Ok (action_of_sites ss a) =
         sites_searched turns n.index.1 ss s.range.to (omega arith) (subst (λ (i : Input). AreSites f.start actions i ss) n.behind are.2) within.3 may.1 in
         rw (nonempty (length c.bytes) (omega arith), site_reads c s are.0 n long inside may.0, decision_is c s are.0 n long inside may.0)
         (go (tables.search_from turns image bases f.start a table_head n.index.1) later (nat_lt a s.range.from) (nat_lt a s.range.to))
@@ -266,7 +266,7 @@ module _ (f : Function) (small : f.end < 2 ^ 64) (listed actions : Input) where
         nonempty : (k : ℕ) → 0 < k → eqb k 0 ≡ false
         nonempty k lt = grind (arith, nat_tests)
 
-        go : (r : Result Action StepFault) → r ≡ Ok (searched ss a) → (b d : Bool) → tables.decided_or (cond b (Some Terminate) (cond d (Some s.action) None)) r ≡ Ok (cond b Terminate (cond d s.action (searched ss a)))
+        go : (r : Result Action StepFault) → r ≡ Ok (action_of_sites ss a) → (b d : Bool) → tables.decided_or (cond b (Some Terminate) (cond d (Some s.action) None)) r ≡ Ok (cond b Terminate (cond d s.action (action_of_sites ss a)))
         go r later true d = refl
         go r later false true = refl
         go r later false false = later

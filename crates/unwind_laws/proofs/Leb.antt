@@ -7,7 +7,7 @@ use Rattle.std.proofs.Math.Nat.{pow-succ'}
 use Rattle.unwind_definitions.specs.declared.error.Error.{Error as Fault}
 use Rattle.unwind_definitions.specs.declared.error.Error.TheVariants.{BadUnsignedLeb128, BadSignedLeb128, UnexpectedEof}
 use Rattle.unwind_definitions.specs.Faults.{◌>>=◌}
-use Rattle.unwind_definitions.specs.Input.{Input, number, signed, uleb_from, uleb, sleb_from, sleb}
+use Rattle.unwind_definitions.specs.Input.{Input, number, signed_word, uleb_from, uleb, sleb_from, sleb}
 use Rattle.unwind_definitions.specs.Numbers.{digits, EndsOnce, has_sign, IsSignOnly}
 use Rattle.unwind_laws.specs.Spelled.{AreBytes, Follows, BeginsUnsigned, BeginsSigned}
 
@@ -159,8 +159,8 @@ last_signed : (base offset b : ℕ) (bs : List ℕ) → sleb_from 1 (input base 
 last_signed base offset b bs = ap (λ r. r >>= λ x. cond (eqb x.0 0) (Ok x) (cond (eqb x.0 127) (read (2 ^ 64 - 1) x.1) (bad BadSignedLeb128))) (one_byte base offset b bs)
 
 next_signed : (left base offset b : ℕ) (bs : List ℕ) →
-    sleb_from (suc (suc left)) (input base offset (b ∷ bs)) ≡ cond (ltb b 128) (read (signed 7 b) (input base (offset + 1) bs)) (sleb_from (suc left) (input base (offset + 1) bs) >>= more_signed b)
-next_signed left base offset b bs = ap (λ r. r >>= λ x. cond (ltb x.0 128) (read (signed 7 x.0) x.1) (sleb_from (suc left) x.1 >>= more_signed x.0)) (one_byte base offset b bs)
+    sleb_from (suc (suc left)) (input base offset (b ∷ bs)) ≡ cond (ltb b 128) (read (signed_word 7 b) (input base (offset + 1) bs)) (sleb_from (suc left) (input base (offset + 1) bs) >>= more_signed b)
+next_signed left base offset b bs = ap (λ r. r >>= λ x. cond (ltb x.0 128) (read (signed_word 7 x.0) x.1) (sleb_from (suc left) x.1 >>= more_signed x.0)) (one_byte base offset b bs)
 
 -- the word that bytes spell
 abbrev pub signed_value : List ℕ → ℕ
@@ -266,7 +266,7 @@ next_value left b c bs few high byte s = go (has_sign (c ∷ bs)) refl
             wrap : (a m : ℕ) → a < 128 → 1 ≤ m → 128 * m ≤ 2 ^ 63 → (a + 128 * (2 ^ 64 - m)) % 2 ^ 64 ≡ 2 ^ 64 - (128 * m - a)
             wrap a m lt one most = omega arith
 
-single_value : (b : ℕ) → b < 128 → signed 7 b ≡ signed_value (b ∷ [])
+single_value : (b : ℕ) → b < 128 → signed_word 7 b ≡ signed_value (b ∷ [])
 single_value b lt = go (leb 64 b) refl
   where
     go : (t : Bool) → leb 64 b ≡ t → cond (ltb b 64) b ((2 ^ 64 - 2 ^ 7) + b) ≡ cond t (2 ^ 64 - (128 ^ length (b ∷ []) - digits (b ∷ []))) (digits (b ∷ []))
@@ -285,7 +285,7 @@ forward_signed zero base offset (b ∷ []) rest few ends size only = last_signed
 forward_signed zero base offset (b ∷ c ∷ bs) rest few ends size only = absurd (omega arith)
 forward_signed (suc left) base offset (b ∷ []) rest few ends size only =
     let lt : b < 128 = ends in
-    next_signed left base offset b rest ∙ rw (lt-ltb b 128 lt) (same_read base (signed 7 b) (signed_value (b ∷ [])) (offset + 1) (offset + length (b ∷ [])) rest (single_value b lt) (omega arith))
+    next_signed left base offset b rest ∙ rw (lt-ltb b 128 lt) (same_read base (signed_word 7 b) (signed_value (b ∷ [])) (offset + 1) (offset + length (b ∷ [])) rest (single_value b lt) (omega arith))
 forward_signed (suc left) base offset (b ∷ c ∷ bs) rest few ends size only =
     let high : 128 ≤ b = ends.0 in let byte : b < 256 = ends.1 in
     let ih = forward_signed left base (offset + 1) (c ∷ bs) rest (omega arith) ends.2 (omega arith) only in
@@ -336,9 +336,9 @@ back_signed (suc left) base offset (b ∷ bs) n d few are e = go (ltb b 128) ref
     none : IsSignOnly (get_or (b ∷ []) (suc left) 0)
     none = inl refl
 
-    go : (t : Bool) → ltb b 128 ≡ t → (r : Result (ℕ × Input) Fault) → cond t (read (signed 7 b) (input base (offset + 1) bs)) (r >>= more_signed b) ≡ read n d →
+    go : (t : Bool) → ltb b 128 ≡ t → (r : Result (ℕ × Input) Fault) → cond t (read (signed_word 7 b) (input base (offset + 1) bs)) (r >>= more_signed b) ≡ read n d →
         ((m : ℕ) (c : Input) → r ≡ read m c → SpeltSigned left (input base (offset + 1) bs) m c) → SpeltSigned (suc left) (input base offset (b ∷ bs)) n d
-    go true is r e ih = let lt = ltb-true b 128 is in one_signed (suc left) base offset b (signed 7 b) bs n d lt none (single_value b lt) e
+    go true is r e ih = let lt = ltb-true b 128 is in one_signed (suc left) base offset b (signed_word 7 b) bs n d lt none (single_value b lt) e
     go false is (Err f) e ih = absurd cc
     go false is (Ok x) e ih = later b bs n d x (ltb-false b 128 is) are.0 e (ih x.0 x.1 refl)
       where

@@ -2,7 +2,7 @@
 use Rattle.std.proofs.Common.{◌≡◌, ℕ, ◌+◌, List, [], ◌∷◌, ◌++◌, Option, Some, None, refl, sym, ap, ◌∙◌, append_assoc}
 use Rattle.std.specs.Option.{option_or, option_map, unwrap_or}
 use Rattle.unwind_definitions.specs.Instructions.{Rule, Instruction, Nop, Remember, Restore, Advance, SetLocation, Write, Reset, Cfa, CfaColumn, CfaOffset, CfaExpression, Arguments}
-use Rattle.unwind_definitions.specs.Row.{RowInstructions, last_said, cut, cut_of, Cut, says_of, initial_rule, rule_of, cfa_rule, cfa_of, cfa_from, whole_cfa, cfa_column, cfa_offset, CfaRule, ColumnAndOffset, ByExpression, location, arguments, argument_size}
+use Rattle.unwind_definitions.specs.Row.{RowInstructions, last_said, kept_instructions, cut_of, Cut, says_of, initial_rule, rule_of, cfa_rule, cfa_of, cfa_from, whole_cfa, cfa_column, cfa_offset, CfaRule, ColumnAndOffset, ByExpression, location, arguments, argument_size}
 
 or_none : {A : Type 0} (o : Option A) → option_or None o ≡ option_or o None
 or_none None = refl
@@ -47,7 +47,7 @@ cut_push (CfaOffset n ∷ is) i plain = cons_pushed (CfaOffset n) i (cut_of (is 
 cut_push (CfaExpression n ∷ is) i plain = cons_pushed (CfaExpression n) i (cut_of (is ++ i ∷ [])) (cut_of is) (cut_push is i plain)
 cut_push (Arguments n ∷ is) i plain = cons_pushed (Arguments n) i (cut_of (is ++ i ∷ [])) (cut_of is) (cut_push is i plain)
 
-pub kept_push : (is : List Instruction) (i : Instruction) → IsPlain i → cut (is ++ i ∷ []) ≡ cut is ++ i ∷ []
+pub kept_push : (is : List Instruction) (i : Instruction) → IsPlain i → kept_instructions (is ++ i ∷ []) ≡ kept_instructions is ++ i ∷ []
 kept_push is i plain = ap (λ (c : Cut). c.kept) (cut_push is i plain)
 
 abbrev pub push : RowInstructions → Instruction → RowInstructions
@@ -57,18 +57,18 @@ push run i = record run { own = run.own ++ i ∷ [] }
 pub rule_push : (run : RowInstructions) (i : Instruction) (c : ℕ) → IsPlain i → rule_of (push run i) c ≡ unwrap_or (says_of (initial_rule run c) c i) (rule_of run c)
 rule_push run i c plain =
     ap (λ (is : List Instruction). unwrap_or (last_said (says_of (initial_rule run c) c) is) (initial_rule run c)) (kept_push run.own i plain)
-    ∙ ap (λ o. unwrap_or o (initial_rule run c)) (last_said-push (says_of (initial_rule run c) c) (cut run.own) i)
-    ∙ nested (says_of (initial_rule run c) c i) (last_said (says_of (initial_rule run c) c) (cut run.own)) (initial_rule run c)
+    ∙ ap (λ o. unwrap_or o (initial_rule run c)) (last_said-push (says_of (initial_rule run c) c) (kept_instructions run.own) i)
+    ∙ nested (says_of (initial_rule run c) c i) (last_said (says_of (initial_rule run c) c) (kept_instructions run.own)) (initial_rule run c)
   where
     nested : (a b : Option (Option Rule)) (d : Option Rule) → unwrap_or (option_or a b) d ≡ unwrap_or a (unwrap_or b d)
     nested None b d = refl
     nested (Some x) b d = refl
 
 abbrev all_of : RowInstructions → List Instruction
-all_of run = cut run.common ++ cut run.own
+all_of run = kept_instructions run.common ++ kept_instructions run.own
 
 all_push : (run : RowInstructions) (i : Instruction) → IsPlain i → all_of (push run i) ≡ all_of run ++ i ∷ []
-all_push run i plain = ap (λ (is : List Instruction). cut run.common ++ is) (kept_push run.own i plain) ∙ sym (append_assoc (cut run.common) (cut run.own) (i ∷ []))
+all_push run i plain = ap (λ (is : List Instruction). kept_instructions run.common ++ is) (kept_push run.own i plain) ∙ sym (append_assoc (kept_instructions run.common) (kept_instructions run.own) (i ∷ []))
 
 -- a whole definition
 pub cfa_whole : (run : RowInstructions) (c n : ℕ) → cfa_rule (push run (Cfa c n)) ≡ Some (ColumnAndOffset c n)

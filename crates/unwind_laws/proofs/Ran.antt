@@ -7,7 +7,7 @@ use Rattle.std.proofs.lemmas.Bool.{eqb-true}
 use Rattle.unwind_definitions.specs.declared.error.Error.{Error as Fault}
 use Rattle.unwind_definitions.specs.declared.error.Error.TheVariants.{NoCfaRegister, StackFull, PopWithEmptyStack}
 use Rattle.unwind_definitions.specs.Instructions.{Rule, Instruction, Nop, Remember, Restore, Advance, SetLocation, Write, Reset, Cfa, CfaColumn, CfaOffset, CfaExpression, Arguments}
-use Rattle.unwind_definitions.specs.Row.{RowInstructions, CfaRule, ColumnAndOffset, ByExpression, rule_of, initial_rule, cfa_rule, cfa_of, arguments, says_of, remembers, is_open, has_column, fault_of, fault_where, first_fault, from_common, cut, last_said}
+use Rattle.unwind_definitions.specs.Row.{RowInstructions, CfaRule, ColumnAndOffset, ByExpression, rule_of, initial_rule, cfa_rule, cfa_of, arguments, says_of, remembers, is_open, has_column, fault_of, fault_where, first_fault, from_common, kept_instructions, last_said}
 use Rattle.unwind_laws.specs.Reached.{push}
 use Rattle.unwind_laws.specs.Running.{Running, Memory, nothing, with_cfa_column, with_cfa_offset, row_after, restored_from, run_one, run_all, fresh, after_common, after_both, SaysRow, HasNoFault}
 use Rattle.unwind_laws.proofs.Push.{IsPlain, rule_push, cfa_whole, cfa_partial, cfa_same, cfa_by_column, cfa_by_expression, arguments_push}
@@ -163,8 +163,8 @@ common_says common fine = (all_steps 0 (λ c. None) common (from_common []) (fre
 begins : (common : List Instruction) → SaysRow (after_common common) (record { common = []; own = common }) → SaysRow (after_common common) (from_common common)
 begins common says = record {
   rules = says.rules;
-  cfa = says.cfa ∙ sym (ap cfa_of (append-nil (cut common)));
-  size = says.size ∙ sym (ap (λ (is : List Instruction). unwrap_or (last_said arguments is) 0) (append-nil (cut common)));
+  cfa = says.cfa ∙ sym (ap cfa_of (append-nil (kept_instructions common)));
+  size = says.size ∙ sym (ap (λ (is : List Instruction). unwrap_or (last_said arguments is) 0) (append-nil (kept_instructions common)));
 }
 
 -- Running both programs says what the row says.

@@ -9,7 +9,7 @@ use Rattle.unwind_definitions.specs.Faults.{◌>>=◌}
 use Rattle.unwind_definitions.specs.Input.{Input}
 use Rattle.unwind_definitions.specs.Instructions.{Instruction, Nop, Remember, Restore, Advance, SetLocation, Write, Reset, Cfa, CfaColumn, CfaOffset, CfaExpression, Arguments, Coding, instruction, Program, program, program_from, after}
 use Rattle.unwind_definitions.specs.Row.{RowInstructions, fault_of, first_fault, location, up_to, or_else, from_common, common_fault, own_fault, row}
-use Rattle.unwind_laws.specs.Reached.{passes_limit, push, act, reached, common_reached, own_reached, row_reached}
+use Rattle.unwind_laws.specs.Reached.{leads_past_limit, push, act, instructions_reached, common_reached, own_reached, row_reached}
 
 same_number : (n : ℕ) → eqb n n ≡ true
 same_number zero = refl
@@ -62,7 +62,7 @@ location-push start (CfaOffset n ∷ is) i = location-push start is i
 location-push start (CfaExpression n ∷ is) i = location-push start is i
 location-push start (Arguments n ∷ is) i = location-push start is i
 
-part_is : (limit : Option ℕ) (at : ℕ) (i : Instruction) (is : List Instruction) → part limit at (i ∷ is) ≡ cond (passes_limit at limit i) [] (i ∷ part limit (lead at i) is)
+part_is : (limit : Option ℕ) (at : ℕ) (i : Instruction) (is : List Instruction) → part limit at (i ∷ is) ≡ cond (leads_past_limit at limit i) [] (i ∷ part limit (lead at i) is)
 part_is None at i is = refl
 part_is (Some pc) at (Advance n) is = refl
 part_is (Some pc) at (SetLocation a) is = refl
@@ -102,7 +102,7 @@ further start run i p is = parts (fault_of start run i) (first_fault start (push
     (ap (λ (o : List Instruction). ended (record run { own = o })) (sym (append_assoc run.own (i ∷ []) is)))
 
 one : (start : ℕ) (limit : Option ℕ) (run : RowInstructions) (i : Instruction) (p : Program) → whole_rest start limit run (record { instructions = i ∷ p.instructions; fault = p.fault }) ≡ act start limit run i (whole_rest start limit (push run i) p)
-one start limit run i p = ap (rest_of start run (record { instructions = i ∷ p.instructions; fault = p.fault })) (part_is limit (location start run.own) i p.instructions) ∙ go (passes_limit (location start run.own) limit i)
+one start limit run i p = ap (rest_of start run (record { instructions = i ∷ p.instructions; fault = p.fault })) (part_is limit (location start run.own) i p.instructions) ∙ go (leads_past_limit (location start run.own) limit i)
   where
     go : (b : Bool) → rest_of start run (record { instructions = i ∷ p.instructions; fault = p.fault }) (cond b [] (i ∷ part limit (lead (location start run.own) i) p.instructions)) ≡
         cond b (Ok run) (or_else (fault_of start run i) (whole_rest start limit (push run i) p))
@@ -116,16 +116,16 @@ nothing start limit run = ap (rest_of start run (record { instructions = []; fau
 unread : (start : ℕ) (limit : Option ℕ) (run : RowInstructions) (e : Fault) → whole_rest start limit run (record { instructions = []; fault = Some e }) ≡ Err e
 unread start limit run e = ap (rest_of start run (record { instructions = []; fault = Some e })) (part_nil limit (location start run.own))
 
-cases : (turns : ℕ) (coding : Coding) (start : ℕ) (limit : Option ℕ) (run : RowInstructions) → ((run : RowInstructions) (c : Input) → reached turns coding start limit run c ≡ whole_rest start limit run (program_from turns coding c)) →
-    (b : Bool) (r : Result (Instruction × Input) Fault) → cond b (Ok run) (r >>= λ x. act start limit run x.0 (reached turns coding start limit (push run x.0) x.1)) ≡
+cases : (turns : ℕ) (coding : Coding) (start : ℕ) (limit : Option ℕ) (run : RowInstructions) → ((run : RowInstructions) (c : Input) → instructions_reached turns coding start limit run c ≡ whole_rest start limit run (program_from turns coding c)) →
+    (b : Bool) (r : Result (Instruction × Input) Fault) → cond b (Ok run) (r >>= λ x. act start limit run x.0 (instructions_reached turns coding start limit (push run x.0) x.1)) ≡
     whole_rest start limit run (cond b (record { instructions = []; fault = None }) (after r (program_from turns coding)))
 cases turns coding start limit run ih true r = sym (nothing start limit run)
 cases turns coding start limit run ih false (Ok x) = ap (act start limit run x.0) (ih (push run x.0) x.1) ∙ sym (one start limit run x.0 (program_from turns coding x.1))
 cases turns coding start limit run ih false (Err e) = sym (unread start limit run e)
 
 -- what is reached of what is left of a program, after what ran
-pub reached_is : (turns : ℕ) (coding : Coding) (start : ℕ) (limit : Option ℕ) (run : RowInstructions) (c : Input) → reached turns coding start limit run c ≡ whole_rest start limit run (program_from turns coding c)
-unfolding reached
+pub reached_is : (turns : ℕ) (coding : Coding) (start : ℕ) (limit : Option ℕ) (run : RowInstructions) (c : Input) → instructions_reached turns coding start limit run c ≡ whole_rest start limit run (program_from turns coding c)
+unfolding instructions_reached
 reached_is zero coding start limit run c = sym (nothing start limit run)
 reached_is (suc turns) coding start limit run c = cases turns coding start limit run (reached_is turns coding start limit) (length c.bytes == 0) (instruction coding c)
 

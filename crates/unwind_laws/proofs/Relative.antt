@@ -5,7 +5,7 @@ use Rattle.std.proofs.lemmas.Bool.{le-ltb}
 use Rattle.std.proofs.Common.{length-append}
 use Rattle.std.proofs.Math.Seq.{take-append_seam, drop-append_seam}
 use Rattle.unwind_definitions.specs.declared.error.Error.{Error as Fault}
-use Rattle.unwind_definitions.specs.Input.{Input, address_of, number, signed}
+use Rattle.unwind_definitions.specs.Input.{Input, address_of, number, signed_word}
 use Rattle.unwind_definitions.specs.Pointers.{Bases, direct}
 use Rattle.unwind_definitions.specs.Numbers.{SpellsRelative}
 use Rattle.unwind_laws.specs.Spelled.{Follows}
@@ -29,7 +29,7 @@ four c d bytes follows size =
     ∙ ap (λ n. read (from_le_bytes w32 bytes) (input n d.offset d.bytes)) (sym follows.base))
 
 -- what a relative pointer makes of its number
-pointer_is : (bases : Bases) (c d : Input) (n : ℕ) → number w32 c ≡ read n d → direct 0x1b bases c ≡ read ((address_of c + signed 32 n) % 2 ^ 64) d
+pointer_is : (bases : Bases) (c d : Input) (n : ℕ) → number w32 c ≡ read n d → direct 0x1b bases c ≡ read ((address_of c + signed_word 32 n) % 2 ^ 64) d
 pointer_is bases c d n e = rw e refl
 
 pub relative_read : (bases : Bases) (c d : Input) (bytes : List ℕ) (to : ℕ) → Follows c bytes d → SpellsRelative bytes (address_of c) to → direct 0x1b bases c ≡ Ok (to, d)

@@ -2,7 +2,7 @@
 use Rattle.std.proofs.Common.{◌≡◌, ℕ, Bool, true, false, List, [], ◌∷◌, ◌++◌, Option, Some, None, refl, sym, ap, ◌∙◌, append_assoc}
 use Rattle.std.specs.Option.{option_or, unwrap_or}
 use Rattle.unwind_definitions.specs.Instructions.{Instruction, Nop, Remember, Restore, Advance, SetLocation, Write, Reset, Cfa, CfaColumn, CfaOffset, CfaExpression, Arguments}
-use Rattle.unwind_definitions.specs.Row.{RowInstructions, last_said, remembers, is_open, cut, cut_of, Cut, rule_of, cfa_rule, cfa_of, argument_size, arguments, initial_rule, says_of}
+use Rattle.unwind_definitions.specs.Row.{RowInstructions, last_said, remembers, is_open, kept_instructions, cut_of, Cut, rule_of, cfa_rule, cfa_of, argument_size, arguments, initial_rule, says_of}
 use Rattle.unwind_laws.proofs.Push.{last_said-push}
 use Rattle.unwind_laws.specs.Reached.{push}
 
@@ -134,10 +134,10 @@ same_nil [] = refl
 same_nil (x ∷ xs) = ap (λ l. x ∷ l) (same_nil xs)
 
 -- where no state is remembered, one that is remembered and restored at once leaves what is kept
-pub remembered_kept : (own : List Instruction) → is_open own ≡ false → cut (own ++ Remember ∷ Restore ∷ []) ≡ cut own
+pub remembered_kept : (own : List Instruction) → is_open own ≡ false → kept_instructions (own ++ Remember ∷ Restore ∷ []) ≡ kept_instructions own
 remembered_kept own e = go (says own) refl e
   where
-    go : (o : Option Bool) → says own ≡ o → unwrap_or o false ≡ false → cut (own ++ Remember ∷ Restore ∷ []) ≡ cut own
+    go : (o : Option Bool) → says own ≡ o → unwrap_or o false ≡ false → kept_instructions (own ++ Remember ∷ Restore ∷ []) ≡ kept_instructions own
     go None at h = ap (λ (c : Cut). c.kept) (silent own (Remember ∷ Restore ∷ []) at) ∙ sym (ap (λ (c : Cut). c.kept) (ap cut_of (sym (same_nil own)) ∙ silent own [] at))
     go (Some true) at h = absurd cc
     go (Some false) at h = ap (λ (c : Cut). c.kept) (closed_cut own at)
@@ -167,11 +167,11 @@ pub record SaysSame (a b : RowInstructions) : Type 0 where
   pub cfa : cfa_rule a ≡ cfa_rule b
   pub arguments_are : argument_size a ≡ argument_size b
 
-says_same : (common xs ys : List Instruction) → cut xs ≡ cut ys → SaysSame (record { common = common; own = xs }) (record { common = common; own = ys })
+says_same : (common xs ys : List Instruction) → kept_instructions xs ≡ kept_instructions ys → SaysSame (record { common = common; own = xs }) (record { common = common; own = ys })
 says_same common xs ys e = record {
   rules = λ c. let i = initial_rule (record { common = common; own = xs }) c in ap (λ (l : List Instruction). unwrap_or (last_said (says_of i c) l) i) e;
-  cfa = ap (λ (l : List Instruction). cfa_of (cut common ++ l)) e;
-  arguments_are = ap (λ (l : List Instruction). unwrap_or (last_said arguments (cut common ++ l)) 0) e;
+  cfa = ap (λ (l : List Instruction). cfa_of (kept_instructions common ++ l)) e;
+  arguments_are = ap (λ (l : List Instruction). unwrap_or (last_said arguments (kept_instructions common ++ l)) 0) e;
 }
 
 -- A state is remembered: all stays, and what a restore would leave is what there is.
@@ -179,12 +179,12 @@ pub remember_same : (run : RowInstructions) → SaysSame (push run Remember) run
 remember_same run = says_same run.common (run.own ++ Remember ∷ []) run.own (ap (λ (c : Cut). c.kept) (remember_kept run.own))
 
 pub remember_restores : (run : RowInstructions) → is_open run.own ≡ false → SaysSame (restored (push run Remember)) run
-remember_restores run closed = says_same run.common ((run.own ++ Remember ∷ []) ++ Restore ∷ []) run.own (ap cut (append_assoc run.own (Remember ∷ []) (Restore ∷ [])) ∙ remembered_kept run.own closed)
+remember_restores run closed = says_same run.common ((run.own ++ Remember ∷ []) ++ Restore ∷ []) run.own (ap kept_instructions (append_assoc run.own (Remember ∷ []) (Restore ∷ [])) ∙ remembered_kept run.own closed)
 
 -- After it, what a restore would leave stays.
 pub plain_restores : (run : RowInstructions) (i : Instruction) → remembers i ≡ None → is_open run.own ≡ true → SaysSame (restored (push run i)) (restored run)
 plain_restores run i plain opened = says_same run.common ((run.own ++ i ∷ []) ++ Restore ∷ []) (run.own ++ Restore ∷ [])
-    (ap cut (append_assoc run.own (i ∷ []) (Restore ∷ [])) ∙ ap (λ (c : Cut). c.kept) (open_cut run.own i plain (open_says run.own opened)))
+    (ap kept_instructions (append_assoc run.own (i ∷ []) (Restore ∷ [])) ∙ ap (λ (c : Cut). c.kept) (open_cut run.own i plain (open_says run.own opened)))
 
 -- whether a state is remembered after one more instruction
 pub open_push : (own : List Instruction) (i : Instruction) → is_open (own ++ i ∷ []) ≡ unwrap_or (remembers i) (is_open own)

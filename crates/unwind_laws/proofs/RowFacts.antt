@@ -6,7 +6,7 @@ use Rattle.std.proofs.lemmas.Bool.{leb-true, le-leb, lt-leb, eqb-true}
 use Rattle.unwind_definitions.specs.State.{CalleeSaved, RBX, RBP, R12, R13, R14, R15, State, IsState, value_of}
 use Rattle.unwind_definitions.specs.Prologue.{PrologueStep}
 use Rattle.unwind_definitions.specs.Instructions.{Rule, Instruction, Nop, Remember, Restore, Advance, SetLocation, Write, Reset, Cfa, CfaColumn, CfaOffset, CfaExpression, Arguments}
-use Rattle.unwind_definitions.specs.Row.{RowInstructions, last_said, says_of, cut, initial_rule, rule_of}
+use Rattle.unwind_definitions.specs.Row.{RowInstructions, last_said, says_of, kept_instructions, initial_rule, rule_of}
 use Rattle.unwind_definitions.specs.DescribedRows.{may_have_rule, ended_by}
 use Rattle.unwind_laws.proofs.Booleans.{both_true}
 
@@ -48,10 +48,10 @@ silent initial c (CfaExpression n ∷ is) unf all = rw (silent initial c is unf 
 silent initial c (Arguments n ∷ is) unf all = rw (silent initial c is unf all) refl
 
 -- a column that isn't followed has no rule where each rule is of one that is
-pub unnamed : (run : RowInstructions) → names_ruled (cut run.common) ≡ true → names_ruled (cut run.own) ≡ true → (c : ℕ) → may_have_rule c ≡ false → rule_of run c ≡ None
+pub unnamed : (run : RowInstructions) → names_ruled (kept_instructions run.common) ≡ true → names_ruled (kept_instructions run.own) ≡ true → (c : ℕ) → may_have_rule c ≡ false → rule_of run c ≡ None
 unnamed run common own c unf =
-    let first : initial_rule run c ≡ None = ap (λ o. unwrap_or o None) (silent None c (cut run.common) unf common) in
-    ap (λ o. unwrap_or o (initial_rule run c)) (silent (initial_rule run c) c (cut run.own) unf own) ∙ first
+    let first : initial_rule run c ≡ None = ap (λ o. unwrap_or o None) (silent None c (kept_instructions run.common) unf common) in
+    ap (λ o. unwrap_or o (initial_rule run c)) (silent (initial_rule run c) c (kept_instructions run.own) unf own) ∙ first
 
 -- whether no step ends above low and below high
 abbrev pub none_ends : ℕ → ℕ → List PrologueStep → Bool

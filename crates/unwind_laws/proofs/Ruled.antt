@@ -9,7 +9,7 @@ use Rattle.memory_image.specs.Results.{◌>>=◌}
 use Rattle.unwind_definitions.specs.Instructions.{Rule}
 use Rattle.unwind_definitions.specs.Row.{RowInstructions}
 use Rattle.unwind_definitions.specs.Caller.{Columns, Machine, StepFault, Evaluates, rule_value, value_for_column, value_without_rule, column_value, value_in, fault_in, first_fault_below, unless_fault, column_limit, caller_with}
-use Rattle.unwind_laws.specs.Undoes.{rule_in, ColumnsAscend, AreRules, with_column, ruled}
+use Rattle.unwind_laws.specs.Undoes.{rule_in, ColumnsAscend, AreRules, with_column, columns_by_rules}
 use Rattle.unwind_laws.proofs.Faultless.{HasValue, no_fault_below, first_fault_at}
 
 order : (a b : ℕ) → (a < b) ⊎ (b ≤ a)
@@ -62,13 +62,13 @@ module _ (machine : Machine) (evaluates : Evaluates) (image : List Span) (old : 
       go false e = rw e refl
 
   -- rule by rule comes to the first fault of a rule, or to the columns by all of them
-  ruled_is : (rules : List (ℕ × Rule)) (low : ℕ) (new : Columns) → ColumnsAscend low rules → ruled evaluates image old cfa rules new ≡ unless_fault (rules_fault rules) (λ c. by_rules rules new c)
+  ruled_is : (rules : List (ℕ × Rule)) (low : ℕ) (new : Columns) → ColumnsAscend low rules → columns_by_rules evaluates image old cfa rules new ≡ unless_fault (rules_fault rules) (λ c. by_rules rules new c)
   ruled_is [] low new up = refl
   ruled_is (r ∷ rules) low new up = go (value_for_column (old r.0) (rule_value evaluates image old cfa r.0 r.1)) refl (λ v. ruled_is rules (r.0 + 1) (with_column new r.0 v) up.2)
     where
       go : (p : Result (Option ℕ) StepFault) → value_for_column (old r.0) (rule_value evaluates image old cfa r.0 r.1) ≡ p →
-          ((v : Option ℕ) → ruled evaluates image old cfa rules (with_column new r.0 v) ≡ unless_fault (rules_fault rules) (λ c. by_rules rules (with_column new r.0 v) c)) →
-          (p >>= (λ v. ruled evaluates image old cfa rules (with_column new r.0 v))) ≡ unless_fault (option_or (fault_in p) (rules_fault rules)) (λ c. by_rules (r ∷ rules) new c)
+          ((v : Option ℕ) → columns_by_rules evaluates image old cfa rules (with_column new r.0 v) ≡ unless_fault (rules_fault rules) (λ c. by_rules rules (with_column new r.0 v) c)) →
+          (p >>= (λ v. columns_by_rules evaluates image old cfa rules (with_column new r.0 v))) ≡ unless_fault (option_or (fault_in p) (rules_fault rules)) (λ c. by_rules (r ∷ rules) new c)
       go (Err e) is ih = refl
       go (Ok v) is ih = ih v ∙ ap (unless_fault (rules_fault rules)) (λ i c. set_first rules r new v (nothing_below rules (r.0 + 1) r.0 up.2 (omega arith)) is c i)
 
@@ -136,7 +136,7 @@ module _ (machine : Machine) (evaluates : Evaluates) (image : List Span) (old : 
   value_in_by (Some r) c = refl
 
   -- The caller by a row is what its rules give one after another, by ascending column, from the columns without rules.
-  pub caller_is_ruled : (run : RowInstructions) (rules : List (ℕ × Rule)) → AreRules run rules → caller_with machine evaluates image old run (Ok cfa) ≡ ruled evaluates image old cfa rules (value_without_rule machine old cfa)
+  pub caller_is_ruled : (run : RowInstructions) (rules : List (ℕ × Rule)) → AreRules run rules → caller_with machine evaluates image old run (Ok cfa) ≡ columns_by_rules evaluates image old cfa rules (value_without_rule machine old cfa)
   caller_is_ruled run rules are =
       let is : IsBy (column_value machine evaluates image old cfa run) 0 rules = record { below = λ c lt. absurd (omega arith); behind = λ c le. by_each run rules are c } in
       ap (λ o. unless_fault o (λ c. value_in (column_value machine evaluates image old cfa run c))) (first_is (column_value machine evaluates image old cfa run) 0 rules are.ascend is)

@@ -2,7 +2,7 @@
 -- description's start, as a distance from its place, its length, and its program are any bytes.
 use Rattle.std.specs.Prelude.{ℕ, ◌+◌, ◌-◌, ◌%◌, ◌^◌, false, List, [], ◌∷◌, ◌++◌, Some, None}
 use Rattle.std.specs.Int.{w32, from_le_bytes}
-use Rattle.unwind_definitions.specs.Input.{Input, signed}
+use Rattle.unwind_definitions.specs.Input.{Input, signed_word}
 use Rattle.unwind_definitions.specs.Entries.{Cie, Fde}
 use Rattle.unwind_definitions.specs.PointerEncodings.{pcrel_sdata4}
 
@@ -18,7 +18,7 @@ four b rest = b.first ∷ b.second ∷ b.third ∷ b.fourth ∷ rest
 
 -- the signed number that they spell, as a word
 abbrev pub signed_of : Four → ℕ
-signed_of b = signed 32 (from_le_bytes w32 (four b []))
+signed_of b = signed_word 32 (from_le_bytes w32 (four b []))
 
 -- The length 20, 0 for a CIE, version 1, zR, the alignments 1 and -8, the column 16, one byte of augmentation: starts are
 -- relative to their place. Then the entry rules and two nops.

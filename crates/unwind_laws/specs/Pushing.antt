@@ -11,6 +11,7 @@ use Rattle.unwind_definitions.specs.Prologue.{Followed, Push}
 use Rattle.unwind_definitions.specs.Function.{Function}
 use Rattle.unwind_definitions.specs.Module.{Module, Process, Frames, bases_of}
 use Rattle.unwind_definitions.specs.Chain.{Call}
+use Rattle.unwind_definitions.specs.Columns as column
 use Rattle.unwind_definitions.specs.Delivery.{Delivery, EndOfStack}
 use Rattle.unwind_definitions.specs.PointerEncodings.{pcrel_sdata4}
 
@@ -55,13 +56,13 @@ entries = ACie cie ∷ AFde fde ∷ []
 
 -- at each function's start
 abbrev pub common : List Instruction
-common = Cfa 7 8 ∷ Write 16 (Offset (2 ^ 64 - 8)) ∷ Nop ∷ Nop ∷ []
+common = Cfa column.rsp 8 ∷ Write column.ra (Offset (2 ^ 64 - 8)) ∷ Nop ∷ Nop ∷ []
 
 abbrev pub start_run : RowInstructions
 start_run = record { common = common; own = [] }
 
 abbrev pub body_run : RowInstructions
-body_run = record { common = common; own = Advance 1 ∷ CfaOffset 16 ∷ Write 3 (Offset (2 ^ 64 - 16)) ∷ Nop ∷ Nop ∷ [] }
+body_run = record { common = common; own = Advance 1 ∷ CfaOffset 16 ∷ Write column.rbx (Offset (2 ^ 64 - 16)) ∷ Nop ∷ Nop ∷ [] }
 
 abbrev pub function : Function
 function = record { start = 0x401000; end = 0x401010; prologue = record { step = Push (Followed RBX); end = 1 } ∷ []; bodies = record { from = 0x401001; to = 0x401010 } ∷ []; sites = None; outermost = false }

@@ -12,6 +12,7 @@ use Rattle.unwind_definitions.specs.Prologue.{Followed, Push, Allocate, Prologue
 use Rattle.unwind_definitions.specs.Function.{Function}
 use Rattle.unwind_definitions.specs.Module.{Module, Process, Frames, bases_of}
 use Rattle.unwind_definitions.specs.Chain.{Call}
+use Rattle.unwind_definitions.specs.Columns as column
 use Rattle.unwind_definitions.specs.Delivery.{Delivery, EndOfStack}
 use Rattle.unwind_definitions.specs.PointerEncodings.{pcrel_sdata4}
 
@@ -76,7 +77,7 @@ abbrev pub entries : List Entry
 entries = ACie cie ∷ AFde callee_fde ∷ AFde outermost_fde ∷ AFde foreign_fde ∷ []
 
 abbrev pub common : List Instruction
-common = Cfa 7 8 ∷ Write 16 (Offset (2 ^ 64 - 8)) ∷ Nop ∷ Nop ∷ []
+common = Cfa column.rsp 8 ∷ Write column.ra (Offset (2 ^ 64 - 8)) ∷ Nop ∷ Nop ∷ []
 
 abbrev pub run_of : List Instruction → RowInstructions
 run_of own = record { common = common; own = own }
@@ -89,15 +90,15 @@ abbrev pub pushed_two : List Instruction
 pushed_two = Advance 2 ∷ CfaOffset 16 ∷ Advance 1 ∷ CfaOffset 24 ∷ []
 
 abbrev pub in_first_body : List Instruction
-in_first_body = Advance 2 ∷ CfaOffset 16 ∷ Advance 1 ∷ CfaOffset 24 ∷ Advance 4 ∷ CfaOffset 32 ∷ Write 3 (Offset (2 ^ 64 - 24)) ∷ Write 14 (Offset (2 ^ 64 - 16)) ∷ []
+in_first_body = Advance 2 ∷ CfaOffset 16 ∷ Advance 1 ∷ CfaOffset 24 ∷ Advance 4 ∷ CfaOffset 32 ∷ Write column.rbx (Offset (2 ^ 64 - 24)) ∷ Write column.r14 (Offset (2 ^ 64 - 16)) ∷ []
 
 -- after the epilogue what was before it is restored
 abbrev pub in_second_body : List Instruction
-in_second_body = Advance 2 ∷ CfaOffset 16 ∷ Advance 1 ∷ CfaOffset 24 ∷ Advance 4 ∷ CfaOffset 32 ∷ Write 3 (Offset (2 ^ 64 - 24)) ∷ Write 14 (Offset (2 ^ 64 - 16)) ∷
+in_second_body = Advance 2 ∷ CfaOffset 16 ∷ Advance 1 ∷ CfaOffset 24 ∷ Advance 4 ∷ CfaOffset 32 ∷ Write column.rbx (Offset (2 ^ 64 - 24)) ∷ Write column.r14 (Offset (2 ^ 64 - 16)) ∷
     Advance 25 ∷ Remember ∷ Advance 4 ∷ CfaOffset 24 ∷ Advance 1 ∷ CfaOffset 16 ∷ Advance 2 ∷ CfaOffset 8 ∷ Advance 1 ∷ Restore ∷ Nop ∷ []
 
 abbrev pub in_outermost : List Instruction
-in_outermost = Write 16 Undefined ∷ Nop ∷ []
+in_outermost = Write column.ra Undefined ∷ Nop ∷ []
 
 -- pushes R14 and RBX, and allocates 8; its epilogue stands between two parts of its body
 abbrev pub callee : Function

@@ -2,6 +2,6 @@
 use Rattle.std.specs.Prelude.{ℕ, List, [], ◌∷◌, nat_lt, if◌then◌else◌}
 use Rattle.unwind_definitions.specs.Function.{Site, Action, Terminate}
 
-abbrev pub searched : List Site → ℕ → Action
-searched [] a = Terminate
-searched (s ∷ ss) a = if nat_lt a s.range.from then Terminate else (if nat_lt a s.range.to then s.action else searched ss a)
+abbrev pub action_of_sites : List Site → ℕ → Action
+action_of_sites [] a = Terminate
+action_of_sites (s ∷ ss) a = if nat_lt a s.range.from then Terminate else (if nat_lt a s.range.to then s.action else action_of_sites ss a)

@@ -12,6 +12,7 @@ use Rattle.unwind_definitions.specs.Prologue.{Followed, Push, Allocate, SetFrame
 use Rattle.unwind_definitions.specs.Function.{Function}
 use Rattle.unwind_definitions.specs.Module.{Module, Process, Frames, bases_of}
 use Rattle.unwind_definitions.specs.Chain.{Call}
+use Rattle.unwind_definitions.specs.Columns as column
 use Rattle.unwind_definitions.specs.Delivery.{Delivery, EndOfStack}
 use Rattle.unwind_definitions.specs.PointerEncodings.{pcrel_sdata4}
 
@@ -70,7 +71,7 @@ abbrev pub entries : List Entry
 entries = ACie cie ∷ AFde storing_fde ∷ AFde framed_fde ∷ []
 
 abbrev pub common : List Instruction
-common = Cfa 7 8 ∷ Write 16 (Offset (2 ^ 64 - 8)) ∷ Nop ∷ Nop ∷ []
+common = Cfa column.rsp 8 ∷ Write column.ra (Offset (2 ^ 64 - 8)) ∷ Nop ∷ Nop ∷ []
 
 abbrev pub run_of : List Instruction → RowInstructions
 run_of own = record { common = common; own = own }
@@ -80,17 +81,17 @@ abbrev pub allocated : List Instruction
 allocated = Advance 4 ∷ CfaOffset 32 ∷ []
 
 abbrev pub in_storing : List Instruction
-in_storing = Advance 4 ∷ CfaOffset 32 ∷ Advance 5 ∷ Write 12 (Offset (2 ^ 64 - 24)) ∷ Nop ∷ []
+in_storing = Advance 4 ∷ CfaOffset 32 ∷ Advance 5 ∷ Write column.r12 (Offset (2 ^ 64 - 24)) ∷ Nop ∷ []
 
 -- the second one
 abbrev pub pushed : List Instruction
-pushed = Advance 1 ∷ CfaOffset 16 ∷ Write 6 (Offset (2 ^ 64 - 16)) ∷ []
+pushed = Advance 1 ∷ CfaOffset 16 ∷ Write column.rbp (Offset (2 ^ 64 - 16)) ∷ []
 
 abbrev pub set : List Instruction
-set = Advance 1 ∷ CfaOffset 16 ∷ Write 6 (Offset (2 ^ 64 - 16)) ∷ Advance 3 ∷ CfaColumn 6 ∷ []
+set = Advance 1 ∷ CfaOffset 16 ∷ Write column.rbp (Offset (2 ^ 64 - 16)) ∷ Advance 3 ∷ CfaColumn column.rbp ∷ []
 
 abbrev pub in_framed : List Instruction
-in_framed = Advance 1 ∷ CfaOffset 16 ∷ Write 6 (Offset (2 ^ 64 - 16)) ∷ Advance 3 ∷ CfaColumn 6 ∷ Advance 5 ∷ Write 3 (Offset (2 ^ 64 - 24)) ∷ Nop ∷ Nop ∷ Nop ∷ Nop ∷ []
+in_framed = Advance 1 ∷ CfaOffset 16 ∷ Write column.rbp (Offset (2 ^ 64 - 16)) ∷ Advance 3 ∷ CfaColumn column.rbp ∷ Advance 5 ∷ Write column.rbx (Offset (2 ^ 64 - 24)) ∷ Nop ∷ Nop ∷ Nop ∷ Nop ∷ []
 
 -- allocates 24, and stores R12 8 above its stack pointer
 abbrev pub storing : Function

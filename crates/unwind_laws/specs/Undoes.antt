@@ -36,6 +36,6 @@ abbrev pub with_column : Columns → ℕ → Option ℕ → Columns
 with_column columns c v = λ k. if c == k then v else columns k
 
 -- one rule after another, up to the first fault: each gives its column a value from the old columns
-abbrev pub ruled : Evaluates → List Span → Columns → ℕ → List (ℕ × Rule) → Columns → Result Columns StepFault
-ruled evaluates image old cfa [] new = Ok new
-ruled evaluates image old cfa (r ∷ rules) new = value_for_column (old r.0) (rule_value evaluates image old cfa r.0 r.1) >>= (λ v. ruled evaluates image old cfa rules (with_column new r.0 v))
+abbrev pub columns_by_rules : Evaluates → List Span → Columns → ℕ → List (ℕ × Rule) → Columns → Result Columns StepFault
+columns_by_rules evaluates image old cfa [] new = Ok new
+columns_by_rules evaluates image old cfa (r ∷ rules) new = value_for_column (old r.0) (rule_value evaluates image old cfa r.0 r.1) >>= (λ v. columns_by_rules evaluates image old cfa rules (with_column new r.0 v))

@@ -19,7 +19,7 @@ ghost use Rattle.unwind_definitions.specs.DescribedRows.{DescribesRows, HasRow};
 ghost use Rattle.unwind_definitions.specs.Stopped.{StandsAfter};
 ghost use Rattle.unwind_laws.specs.Reached.{ReadsRow};
 ghost use Rattle.unwind_laws.specs.Running.{after_both, SaysRow, HasNoFault};
-ghost use Rattle.unwind_laws.specs.Undoes.{Undoes, AreRules, ruled};
+ghost use Rattle.unwind_laws.specs.Undoes.{Undoes, AreRules, columns_by_rules};
 
 /// Reading the common program whole, and then a description's up to an address, one instruction
 /// after another and up to the first fault, gives the row of the two whole programs.
@@ -72,7 +72,7 @@ pub fn interrupted_row_undoes()
 pub fn caller_is_by_rules()
     ensures { (machine : Machine) (evaluates : Evaluates) (image : List Span) (columns : Columns)
         (cfa : ℕ) (run : RowInstructions) (rules : List (ℕ × Rule)) → AreRules run rules →
-        caller_with machine evaluates image columns run (Ok cfa) ≡ ruled evaluates image columns cfa
+        caller_with machine evaluates image columns run (Ok cfa) ≡ columns_by_rules evaluates image columns cfa
         rules (value_without_rule machine columns cfa) }
 {}
 

@@ -25,7 +25,7 @@ ghost use Rattle.unwind_definitions.specs.HeaderSearch.{pair_of_place, table_ans
 ghost use Rattle.unwind_definitions.specs.HeaderSearchLaws.{AreStarts};
 ghost use Rattle.unwind_laws.specs.ByHeader.{BoundaryAnswers};
 ghost use Rattle.unwind_laws.specs.Listing.{listing};
-ghost use Rattle.unwind_laws.specs.Searched.{searched};
+ghost use Rattle.unwind_laws.specs.Searched.{action_of_sites};
 ghost use Rattle.unwind_laws.specs.Found.{found_among, nothing_found, AsksAs, FindsFunction};
 
 /// An augmentation of a `z` and letters names a personality exactly where `P` is among them, how
@@ -111,7 +111,7 @@ pub fn header_search_halves()
 /// begins past it, finds the action of the site that holds the address.
 pub fn site_search_finds_action()
     ensures { (f : Function) (sites : List Site) (a : ℕ) → AreSitesOf f sites →
-        searched sites a ≡ action_among sites a }
+        action_of_sites sites a ≡ action_among sites a }
 {}
 
 /// A search of a language table that describes a function's sites, on its bytes, finds the action

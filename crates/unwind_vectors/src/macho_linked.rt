@@ -17,7 +17,7 @@
 //     ld64.lld -arch ARCH -platform_version macos 11.0 11.0 -undefined dynamic_lookup -e _main v.o -o v
 //
 // `llvm-objcopy --dump-section __TEXT,__unwind_info=v.bin v /dev/null` gave the bytes, of which only
-// the zeros behind the last entry are cut off, and `llvm-objdump --unwind-info v` the starts and the
+// the zeros after the last entry are cut off, and `llvm-objdump --unwind-info v` the starts and the
 // opcodes that are expected. A function ends where the next one begins, and the last one at the last
 // index. The slots of registers were read off the pushes and stores that `llvm-objdump -d v` shows.
 use macho_unwind_info::opcodes::OpcodeArm64;

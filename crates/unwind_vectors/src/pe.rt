@@ -187,7 +187,7 @@ const RECORDS: &[Record] = &[
             (4, "allocates", [40, 0, 0]),
         ],
     },
-    // nothing is read behind an operation that isn't known
+    // nothing is read after an operation that isn't known
     Record {
         bytes: &[1, 0, 2, 0, 0, 0xb, 4, 0x42],
         flags: 0,
@@ -249,7 +249,7 @@ const CHAINED: &[u8] = &[
     0x21, 0, 0, 0, 0, 0x10, 0, 0, 0, 0x11, 0, 0, 0, 0x20, 0, 0, 0xa5,
 ];
 
-// What stands behind the operations of a record.
+// What stands after the operations of a record.
 fn trailer_of(bytes: &[u8]) -> (&'static str, [u32; 3]) {
     let Some(info) = UnwindInfo::parse(bytes) else {
         return ("no record", [0; 3]);
@@ -416,7 +416,7 @@ fn unwound(place: u32, rbx: u64, rbp: u64, rsp: u64) -> Option<[u64; 4]> {
 }
 
 const PLACES: &[(u32, u64, u64, u64)] = &[
-    // before the prologue, and behind the pushes
+    // before the prologue, and after the pushes
     (0x1000, 0x51, 0x52, 0x7038),
     (0x1002, 0, 0x52, 0x7028),
     // in the body

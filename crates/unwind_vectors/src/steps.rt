@@ -11,7 +11,7 @@ use std::alloc::Global;
 use std::fmt::Debug;
 use std::process::Abort;
 use std::test::Fail;
-use unwind_arch::x86_64::{Context, RBP, RBX, RSP};
+use unwind_arch::x86_64::{Context, R12, R14, R15, RBP, RBX, RSP};
 use unwinding_frames::Window;
 
 /// Asserts that a value is the one that is expected. It is proved once, and a call of it is a call.
@@ -151,13 +151,13 @@ fn a_prologue_is_undone_step_by_step(rt: HostRuntime) -> Result<(), Fail> {
         0x01, 0x05, 0x03, 0x00, 0x05, 0x30, 0x04, 0xe0, 0x02, 0xf0, 0, 0,
     ];
     let mut context = stopped_at(0x140001004, 0x7000);
-    context.registers[14] = 0x14;
-    context.registers[15] = 0x15;
+    context.registers[R14] = 0x14;
+    context.registers[R15] = 0x15;
     let caller = pe_caller(rt.alloc(), &code, &table, &info, &PUSHED, &context)??;
     expect_equal(&rt, (caller.ra, caller.registers[RSP]), (0, 0x7018));
     expect_equal(
         &rt,
-        (caller.registers[14], caller.registers[15]),
+        (caller.registers[R14], caller.registers[R15]),
         (0x14, 0x15),
     );
     Ok(())
@@ -228,7 +228,7 @@ fn a_size_is_read_from_the_code(rt: HostRuntime) -> Result<(), Fail> {
     expect_equal(&rt, (caller.ra, caller.registers[RSP]), (7, 0x9038));
     expect_equal(&rt, (caller.registers[RBX], caller.registers[RBP]), (1, 6));
     let saved = [2, 3, 4, 5];
-    expect_equal(&rt, &caller.registers[12..], saved.as_slice());
+    expect_equal(&rt, &caller.registers[R12..], saved.as_slice());
     let dwarf = OpcodeX86_64::parse(0x0400_0018);
     let none = compact_step(
         &mut stack, None, 0x3000, 0x3017, &context, &dwarf, &mut rows,

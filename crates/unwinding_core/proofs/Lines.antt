@@ -1,8 +1,8 @@
 -- A line that is gone along, context by context.
 use Rattle.std.proofs.Common.{◌≡◌, ℕ, zero, suc, [], ◌∷◌, Option, Result, refl, sym, subst}
-use Rattle.unwinding_frames.specs.Passes.{Marked, Stepping, Asks, LineEnd, Crowded, Turn, Ends, Goes, Line, IsAfter, IsLine, turn_seen}
+use Rattle.unwinding_frames.specs.Passes.{Marked, Stepping, Asking, LineEnd, Crowded, Turn, Ends, Goes, Line, IsAfter, IsLine, turn_seen}
 
-module _ {C F E S : Type 0} (step : Stepping C F E) (asks : Asks C F E S) (limit : ℕ) (s0 : S) (x0 : Marked C) where
+module _ {C F E S : Type 0} (step : Stepping C F E) (asks : Asking C F E S) (limit : ℕ) (s0 : S) (x0 : Marked C) where
   -- what a line from here comes to, one from the start comes to
   pub record Reaches (room : ℕ) (s : S) (x : Marked C) : Type 0 where
     pub comes : (line : Line C E S) → IsLine step asks room s x line → (whole : Line C E S) × IsLine step asks limit s0 x0 whole × (whole.end ≡ line.end) × (whole.state ≡ line.state)

@@ -3,7 +3,7 @@ use Rattle.std.proofs.Common.{◌≡◌, ℕ, zero, suc, Bool, true, false, cond
 use Rattle.unwinding_frames.specs.declared.abi.UnwindReasonCode.{UnwindReasonCode}
 use Rattle.unwinding_frames.specs.declared.abi.UnwindAction.{UnwindAction}
 use Rattle.unwinding_frames.specs.declared.abi.TheConstants.UnwindReasonCode.{CONTINUE_UNWIND}
-use Rattle.unwinding_frames.specs.Passes.{Marked, Stepping, Answering, LineEnd, Decides, Crowded, Turn, Ends, Goes, Line, IsAfter, IsLine, is_code, goes, turn_seen, turn_asked, by_personality, asked}
+use Rattle.unwinding_frames.specs.Passes.{Marked, Stepping, Answering, LineEnd, Decides, Crowded, Turn, Ends, Goes, Line, IsAfter, IsLine, is_code, goes, turn_seen, turn_asked, by_personality, answer_of_personality}
 
 abbrev without_state : {C E S : Type 0} → Turn C E S → Turn C E (Unit {0})
 without_state (Ends s end) = Ends tt end
@@ -29,7 +29,7 @@ module _ {C F E S : Type 0} (step : Stepping C F E) (p : Answering C F E) (actio
 
   of_turn : (s : S) (x : Marked C) (seen : Result (Option F) E) → without_state (turn_seen step.undoing (by_personality p actions) s x seen) ≡ turn_seen step.undoing (by_personality p actions) tt x seen
   of_turn s x (Ok None) = refl
-  of_turn s x (Ok (Some f)) = of_answer s f x (asked p (actions x) f x)
+  of_turn s x (Ok (Some f)) = of_answer s f x (answer_of_personality p (actions x) f x)
   of_turn s x (Err e) = refl
 
   after : (room : ℕ) → ((s : S) (y : Marked C) (line : Line C E S) → IsLine step (by_personality p actions) room s y line → Plain step p actions room y line.end) →

@@ -17,7 +17,7 @@ use Rattle.unwinding_core.specs.declared.abi.passes.LineEnd.TheVariants as end
 use Rattle.unwinding_frames.specs.declared.abi.TheConstants.UnwindAction as actions
 use Rattle.unwinding_frames.specs.Calling.{fault_of}
 use Rattle.unwinding_frames.specs.FrameValue.{FrameValue}
-use Rattle.unwinding_frames.specs.Passes.{Marked, Answering, Stops, Asks, Turn, Ends, Goes, LineEnd, RanOut, Decides, Fails, Crowded, by_personality, by_force, cleanup_actions, forced_actions, both}
+use Rattle.unwinding_frames.specs.Passes.{Marked, Answering, Stops, Asking, Turn, Ends, Goes, LineEnd, RanOut, Decides, Fails, Crowded, by_personality, by_force, cleanup_actions, forced_actions, both}
 use Rattle.unwinding_frames.specs.Seen.{FrameSeen, Thrown}
 
 -- a frame, or the stack's end, as it is seen
@@ -31,7 +31,7 @@ abbrev pub answer_shown : {C : Type 0} → (C → Columns) → Answer C → Unwi
 answer_shown columns a = (a.code, columns a.left)
 
 -- what the frames of a pass are asked
-abbrev pub asks_in : Phase → (Columns → ℕ) → Answering Columns FrameSeen StepFault → Stops Columns FrameSeen → Asks Columns FrameSeen StepFault (List ℕ)
+abbrev pub asks_in : Phase → (Columns → ℕ) → Answering Columns FrameSeen StepFault → Stops Columns FrameSeen → Asking Columns FrameSeen StepFault (List ℕ)
 asks_in phase.Search stack_pointer p stops = by_personality p (λ x. actions.SEARCH_PHASE)
 asks_in (phase.Cleanup kept) stack_pointer p stops = by_personality p (cleanup_actions stack_pointer kept)
 asks_in phase.Forced stack_pointer p stops = by_force p stops
@@ -48,8 +48,8 @@ end_shown columns (end.Decided c signal reason left past) = Decides (record { co
 end_shown columns (end.Failed e) = Fails (fault_of e)
 end_shown columns end.Crowded = Crowded
 
-abbrev pub thrown : Call → Thrown
-thrown c = record { class = c.exception_class; word = c.word }
+abbrev pub thrown_of : Call → Thrown
+thrown_of c = record { class = c.exception_class; word = c.word }
 
 -- what the personality of a frame with a mark is asked
 abbrev pub actions_in : Phase → ℕ → UnwindAction

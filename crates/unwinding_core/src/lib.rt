@@ -9,7 +9,7 @@
 //!
 //! ```rust
 //! use memory_image::{NoLedger, Steps};
-//! use unwind_arch::x86_64::Arch;
+//! use unwind_arch::x86_64::{Arch, RBX};
 //! use unwinding_core::{Frame, StaticFinder};
 //!
 //! let finder = StaticFinder::new(0x40_1000, 0x40_1010, 0x50_0000);
@@ -17,7 +17,7 @@
 //! let frame = Frame::<Arch>::from_context(&image, &finder, &context, true, &mut steps)?;
 //! if let Some(frame) = frame {
 //!     let caller = frame.unwind(&image, &context)?;
-//!     println!(rt; "ra={:#x} rbx={:#x}", caller.ra, caller.registers[3])?;
+//!     println!(rt; "ra={:#x} rbx={:#x}", caller.ra, caller.registers[RBX])?;
 //! }
 //! ```
 #![tactic(auto)]

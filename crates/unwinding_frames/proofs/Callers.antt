@@ -11,7 +11,7 @@ use Rattle.unwind_definitions.specs.Instructions.{Rule}
 use Rattle.unwind_definitions.specs.Row.{RowInstructions, CfaRule, rule_of, cfa_rule}
 use Rattle.unwind_definitions.specs.Caller.{Columns, Machine, Evaluates, StepFault, Table, rule_value, value_for_column, value_without_rule, column_value, first_fault_below, fault_in, value_in, column_limit, cfa_value, caller_with, caller_of}
 use Rattle.frame_rows.specs.Rules.{rule_in, AscendsFrom}
-use Rattle.unwinding_frames.specs.Calling.{applied, written_to}
+use Rattle.unwinding_frames.specs.Calling.{rules_applied, written_to}
 
 -- a column has a value
 abbrev pub HasValue : Result (Option ℕ) StepFault → Type 0
@@ -127,8 +127,8 @@ module _ (machine : Machine) (evaluates : Evaluates) (image : List Span) (old : 
 
   -- what follows the first rule left, once its value is written or not
   after_write : (low : ℕ) (p : ℕ × Rule) (ps : List (ℕ × Rule)) (now : Columns) (v : ℕ) → Stands low (p ∷ ps) now → rule_value evaluates image old cfa p.0 p.1 ≡ Ok v →
-      ((next : Columns) → Stands (suc p.0) ps next → applied evaluates image old cfa ps next ≡ due) → (o : Option ℕ) → now p.0 ≡ o →
-      (written_to o now p.0 v >>= applied evaluates image old cfa ps) ≡ due
+      ((next : Columns) → Stands (suc p.0) ps next → rules_applied evaluates image old cfa ps next ≡ due) → (o : Option ℕ) → now p.0 ≡ o →
+      (written_to o now p.0 v >>= rules_applied evaluates image old cfa ps) ≡ due
   after_write low p ps now v stands gives later None missing =
       let absent : old p.0 ≡ None = no_column (old p.0) (sym (stands.same p.0) ∙ ap is_some missing) in
       failed low p ps now (Table UnsupportedRegister) stands (first_value low p ps now stands ∙ rw (gives, absent) refl)
@@ -136,13 +136,13 @@ module _ (machine : Machine) (evaluates : Evaluates) (image : List Span) (old : 
 
   -- what follows the value of the first rule left
   after_value : (low : ℕ) (p : ℕ × Rule) (ps : List (ℕ × Rule)) (now : Columns) → Stands low (p ∷ ps) now →
-      ((next : Columns) → Stands (suc p.0) ps next → applied evaluates image old cfa ps next ≡ due) → (given : Result ℕ StepFault) → rule_value evaluates image old cfa p.0 p.1 ≡ given →
-      ((given >>= (λ v. written_to (now p.0) now p.0 v)) >>= applied evaluates image old cfa ps) ≡ due
+      ((next : Columns) → Stands (suc p.0) ps next → rules_applied evaluates image old cfa ps next ≡ due) → (given : Result ℕ StepFault) → rule_value evaluates image old cfa p.0 p.1 ≡ given →
+      ((given >>= (λ v. written_to (now p.0) now p.0 v)) >>= rules_applied evaluates image old cfa ps) ≡ due
   after_value low p ps now stands later (Err e) gives = failed low p ps now e stands (first_value low p ps now stands ∙ rw gives refl)
   after_value low p ps now stands later (Ok v) gives = after_write low p ps now v stands gives later (now p.0) refl
 
   -- Applied in ascending column order, the rules left lead to the caller or to its first fault.
-  pub applied-is_caller : (low : ℕ) (rest : List (ℕ × Rule)) (now : Columns) → Stands low rest now → applied evaluates image old cfa rest now ≡ due
+  pub applied-is_caller : (low : ℕ) (rest : List (ℕ × Rule)) (now : Columns) → Stands low rest now → rules_applied evaluates image old cfa rest now ≡ due
   applied-is_caller low [] now stands = finished low now stands
   applied-is_caller low (p ∷ ps) now stands =
       after_value low p ps now stands (λ next later. applied-is_caller (suc p.0) ps next later) (rule_value evaluates image old cfa p.0 p.1) refl
@@ -169,7 +169,7 @@ begun-stands machine evaluates image old cfa run rules sp ra up each = record {
 -- A row's rules, applied to the columns with its CFA, give the caller by the row.
 pub row_caller : (machine : Machine) (evaluates : Evaluates) (image : List Span) (old : Columns) (cfa : ℕ) (run : RowInstructions) (rule : CfaRule) (rules : List (ℕ × Rule)) → is_some (old machine.stack_pointer) ≡ true → is_some (old machine.return_address) ≡ true →
     cfa_rule run ≡ Some rule → cfa_value evaluates old rule ≡ Ok cfa → AscendsFrom 0 rules → ((k : ℕ) → rule_in rules k ≡ rule_of run k) →
-    applied evaluates image old cfa rules (value_without_rule machine old cfa) ≡ caller_of machine evaluates image old run
+    rules_applied evaluates image old cfa rules (value_without_rule machine old cfa) ≡ caller_of machine evaluates image old run
 row_caller machine evaluates image old cfa run rule rules sp ra ruled gives up each =
     let stands = begun-stands machine evaluates image old cfa run rules sp ra up each in
     applied-is_caller machine evaluates image old cfa run 0 rules (value_without_rule machine old cfa) stands ∙ rw (ruled, gives) refl

@@ -14,7 +14,7 @@ use Rattle.unwind_definitions.specs.Caller.{StepFault, Table}
 use Rattle.unwind_definitions.specs.LanguageSearch.{Head, CallSite, head, call_site, site_action, sum_below, decision, decided_or, search_from, search, language_address, asked_by, language_action, Says, SitesAsk, LanguageAsks}
 use Rattle.unwinding_frames.specs.declared.frame.StepError.{StepError}
 use Rattle.unwinding_frames.specs.declared.language_table.EhAction.{EhAction}
-use Rattle.unwinding_frames.specs.LanguageViews.{action_of, given}
+use Rattle.unwinding_frames.specs.LanguageViews.{action_of, answer_seen}
 use Rattle.unwinding_frames.proofs.Taken.{site_takes}
 
 abbrev acts : Action → Result Action StepFault
@@ -121,6 +121,6 @@ language_asks image bases fde a x e = go (language_address image fde) refl e
     go (Ok table) is h = tabled table is (eqb table 0) refl h
 
 -- the same of the code's answer
-pub result_asks : (image : List Span) (bases : Bases) (fde : Fde) (a : ℕ) (r : Result EhAction StepError) → given action_of r ≡ language_action image bases fde a → IfOk r (λ action. LanguageAsks image bases fde a (action_of action))
+pub result_asks : (image : List Span) (bases : Bases) (fde : Fde) (a : ℕ) (r : Result EhAction StepError) → answer_seen action_of r ≡ language_action image bases fde a → IfOk r (λ action. LanguageAsks image bases fde a (action_of action))
 result_asks image bases fde a (Ok x) is = language_asks image bases fde a (action_of x) (sym is)
 result_asks image bases fde a (Err e) is = tt

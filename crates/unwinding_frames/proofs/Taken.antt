@@ -8,7 +8,7 @@ use Rattle.memory_image.specs.Image.{Span}
 use Rattle.unwind_definitions.specs.declared.error.Error.{Error as Fault}
 use Rattle.unwind_definitions.specs.declared.error.Error.TheVariants.{UnexpectedEof, UnknownPointerEncoding, CannotParseOmitPointerEncoding, BadUnsignedLeb128, BadSignedLeb128}
 use Rattle.unwind_definitions.specs.Faults.{◌>>=◌, unless}
-use Rattle.unwind_definitions.specs.Input.{Input, Reads, address_of, skip, number, signed, uleb_from, uleb, sleb_from, sleb}
+use Rattle.unwind_definitions.specs.Input.{Input, Reads, address_of, skip, number, signed_word, uleb_from, uleb, sleb_from, sleb}
 use Rattle.unwind_definitions.specs.Pointers.{Bases, Pointer, Direct, Indirect, is_known, is_indirect, format_of, application_of, base_of, signed_number, value, pointer}
 use Rattle.unwind_definitions.specs.Caller.{StepFault}
 use Rattle.unwind_definitions.specs.LanguageSearch as tables
@@ -23,7 +23,7 @@ then_below : {A B E : Type 0} (r : Result (A × Input) E) (f : A × Input → Re
 then_below (Ok x) f m n below each = each x below
 then_below (Err e) f m n below each = tt
 
-read_below : {A : Type 0} (r : Result (A × Input) Fault) (n : ℕ) → IsBelow r n → IsBelow (tables.read r) n
+read_below : {A : Type 0} (r : Result (A × Input) Fault) (n : ℕ) → IsBelow r n → IsBelow (tables.table_reading r) n
 read_below (Ok x) n below = below
 read_below (Err e) n below = tt
 
@@ -78,15 +78,15 @@ sleb_from_below (suc zero) c =
     then_below (number w8 c) (λ b. cond (b.0 == 0) (Ok b) (cond (b.0 == 127) (Ok (2 ^ 64 - 1, b.1)) (Err BadSignedLeb128))) (length c.bytes) (length c.bytes) (byte_below c)
     (λ b lt. if_below (b.0 == 0) (Ok b) (cond (b.0 == 127) (Ok (2 ^ 64 - 1, b.1)) (Err BadSignedLeb128)) (length c.bytes) lt (if_below (b.0 == 127) (Ok (2 ^ 64 - 1, b.1)) (Err BadSignedLeb128) (length c.bytes) lt tt))
 sleb_from_below (suc (suc most)) c =
-    then_below (number w8 c) (λ b. cond (nat_lt b.0 128) (Ok (signed 7 b.0, b.1)) (◌>>=◌ (sleb_from (suc most) b.1) (λ high. Ok ((b.0 - 128 + 128 * high.0) % 2 ^ 64, high.1)))) (length c.bytes) (length c.bytes) (byte_below c)
-    (λ b lt. if_below (nat_lt b.0 128) (Ok (signed 7 b.0, b.1)) (◌>>=◌ (sleb_from (suc most) b.1) (λ high. Ok ((b.0 - 128 + 128 * high.0) % 2 ^ 64, high.1))) (length c.bytes) lt
+    then_below (number w8 c) (λ b. cond (nat_lt b.0 128) (Ok (signed_word 7 b.0, b.1)) (◌>>=◌ (sleb_from (suc most) b.1) (λ high. Ok ((b.0 - 128 + 128 * high.0) % 2 ^ 64, high.1)))) (length c.bytes) (length c.bytes) (byte_below c)
+    (λ b lt. if_below (nat_lt b.0 128) (Ok (signed_word 7 b.0, b.1)) (◌>>=◌ (sleb_from (suc most) b.1) (λ high. Ok ((b.0 - 128 + 128 * high.0) % 2 ^ 64, high.1))) (length c.bytes) lt
     (then_below (sleb_from (suc most) b.1) (λ high. Ok ((b.0 - 128 + 128 * high.0) % 2 ^ 64, high.1)) (length b.1.bytes) (length c.bytes) (sleb_from_below (suc most) b.1) (λ high less. omega arith)))
 
 sleb_below : (c : Input) → IsBelow (sleb c) (length c.bytes)
 sleb_below c = sleb_from_below 10 c
 
 signed_below : (w : Width) (bits : ℕ) (c : Input) → IsBelow (signed_number w bits c) (suc (length c.bytes))
-signed_below w bits c = then_below (number w c) (λ n. Ok (signed bits n.0, n.1)) (suc (length c.bytes)) (suc (length c.bytes)) (number_below w c) (λ n lt. lt)
+signed_below w bits c = then_below (number w c) (λ n. Ok (signed_word bits n.0, n.1)) (suc (length c.bytes)) (suc (length c.bytes)) (number_below w c) (λ n lt. lt)
 
 -- ---- pointers
 value_below : (format : ℕ) (c : Input) → IsBelow (value format c) (suc (length c.bytes))
@@ -122,7 +122,7 @@ aimed r d = ◌>>=◌ r (λ a. Ok (a, d))
 
 address_below : (image : List Span) (e : ℕ) (bases : Bases) (c : Input) → IsBelow (tables.address image e bases c) (suc (length c.bytes))
 address_below image e bases c =
-    then_below (tables.read (pointer e bases c)) (λ p. aimed (tables.target image p.0) p.1) (suc (length c.bytes)) (suc (length c.bytes)) (read_below (pointer e bases c) (suc (length c.bytes)) (pointer_below e bases c))
+    then_below (tables.table_reading (pointer e bases c)) (λ p. aimed (tables.target image p.0) p.1) (suc (length c.bytes)) (suc (length c.bytes)) (read_below (pointer e bases c) (suc (length c.bytes)) (pointer_below e bases c))
     (λ p lt. go (tables.target image p.0) p.1 lt)
   where
     go : (r : Result ℕ StepFault) (d : Input) → length d.bytes < suc (length c.bytes) → IsBelow (aimed r d) (suc (length c.bytes))
@@ -135,7 +135,7 @@ site_below image bases e c =
     then_below (tables.address image e bases c) _ (suc (length c.bytes)) (length c.bytes) (address_below image e bases c) (λ from a.
     then_below (tables.address image e bases from.1) _ (suc (length from.1.bytes)) (length c.bytes) (address_below image e bases from.1) (λ size b.
     then_below (tables.address image e bases size.1) _ (suc (length size.1.bytes)) (length c.bytes) (address_below image e bases size.1) (λ pad d.
-    then_below (tables.read (uleb pad.1)) _ (length pad.1.bytes) (length c.bytes) (read_below (uleb pad.1) (length pad.1.bytes) (uleb_below pad.1)) (λ index f. omega arith))))
+    then_below (tables.table_reading (uleb pad.1)) _ (length pad.1.bytes) (length c.bytes) (read_below (uleb pad.1) (length pad.1.bytes) (uleb_below pad.1)) (λ index f. omega arith))))
 
 -- a call site takes a byte at least
 pub site_takes : (image : List Span) (bases : Bases) (e : ℕ) (c d : Input) (s : tables.CallSite) → tables.call_site image bases e c ≡ Ok (s, d) → length d.bytes < length c.bytes

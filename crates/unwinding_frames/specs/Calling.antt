@@ -41,13 +41,13 @@ abbrev pub written_to : Option ℕ → Columns → ℕ → ℕ → Result Column
 written_to None columns k v = Err (Table UnsupportedRegister)
 written_to (Some old) columns k v = Ok (λ j. if j == k then Some v else columns j)
 
-abbrev pub written : Columns → ℕ → ℕ → Result Columns StepFault
-written columns k v = written_to (columns k) columns k v
+abbrev pub with_column_set : Columns → ℕ → ℕ → Result Columns StepFault
+with_column_set columns k v = written_to (columns k) columns k v
 
 -- a rule gives its column a value from the old columns
 abbrev pub rule_applied : Evaluates → List Span → Columns → ℕ → ℕ × Rule → Columns → Result Columns StepFault
-rule_applied evaluates image old cfa p now = rule_value evaluates image old cfa p.0 p.1 >>= (λ v. written now p.0 v)
+rule_applied evaluates image old cfa p now = rule_value evaluates image old cfa p.0 p.1 >>= (λ v. with_column_set now p.0 v)
 
-abbrev pub applied : Evaluates → List Span → Columns → ℕ → List (ℕ × Rule) → Columns → Result Columns StepFault
-applied evaluates image old cfa [] now = Ok now
-applied evaluates image old cfa (p ∷ ps) now = rule_applied evaluates image old cfa p now >>= applied evaluates image old cfa ps
+abbrev pub rules_applied : Evaluates → List Span → Columns → ℕ → List (ℕ × Rule) → Columns → Result Columns StepFault
+rules_applied evaluates image old cfa [] now = Ok now
+rules_applied evaluates image old cfa (p ∷ ps) now = rule_applied evaluates image old cfa p now >>= rules_applied evaluates image old cfa ps

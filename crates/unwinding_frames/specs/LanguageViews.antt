@@ -29,8 +29,8 @@ abbrev pub head_of : LanguageTable → tables.Head
 head_of t = record { pad_base = t.pad_base; site_encoding = t.site_encoding.0; sites = at t.sites; actions = at t.actions }
 
 -- An answer, seen by a view, or a fault, as the code gives it.
-abbrev pub given : {A B : Type 0} → (A → B) → Result A StepError → Result B StepFault
-given view = result_map_both view fault_of
+abbrev pub answer_seen : {A B : Type 0} → (A → B) → Result A StepError → Result B StepFault
+answer_seen view = result_map_both view fault_of
 
 -- From one place a reader gives a value, seen by a view, and the next place; or a fault. The place after a fault is unspecified.
 abbrev pub GivesOr : {A B : Type 0} → (A → B) → Result A StepError → Result (B × Input) StepFault → Input → Type 0

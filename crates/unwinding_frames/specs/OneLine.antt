@@ -1,6 +1,6 @@
 -- Lines where one thing is seen at each context: there is one line from each.
 use Rattle.std.proofs.Common.{◌≡◌, ℕ, zero, suc, [], ◌∷◌, Option, Result, refl, ap, subst, ◌∙◌}
-use Rattle.unwinding_frames.specs.Passes.{Marked, Undoing, Stepping, Asks, Crowded, Turn, Ends, Goes, Line, IsAfter, IsLine, turn_seen}
+use Rattle.unwinding_frames.specs.Passes.{Marked, Undoing, Stepping, Asking, Crowded, Turn, Ends, Goes, Line, IsAfter, IsLine, turn_seen}
 
 -- the step by what is seen at each context
 abbrev pub by_one : {C F E : Type 0} → (Marked C → Result (Option F) E) → Undoing C F E → Stepping C F E
@@ -14,11 +14,11 @@ line_after outer x (Ends s end) = record { contexts = x ∷ []; end = end; state
 line_after outer x (Goes s next) = with_rest x (outer s next)
 
 -- the line from a context outwards, where there is room for so many contexts
-abbrev pub line_of : {C F E S : Type 0} → (Marked C → Result (Option F) E) → Undoing C F E → Asks C F E S → ℕ → S → Marked C → Line C E S
+abbrev pub line_of : {C F E S : Type 0} → (Marked C → Result (Option F) E) → Undoing C F E → Asking C F E S → ℕ → S → Marked C → Line C E S
 line_of sees undoing asks zero s x = record { contexts = []; end = Crowded; state = s }
 line_of sees undoing asks (suc room) s x = line_after (line_of sees undoing asks room) x (turn_seen undoing asks s x (sees x))
 
-module _ {C F E S : Type 0} (sees : Marked C → Result (Option F) E) (undoing : Undoing C F E) (asks : Asks C F E S) where
+module _ {C F E S : Type 0} (sees : Marked C → Result (Option F) E) (undoing : Undoing C F E) (asks : Asking C F E S) where
   after_is : (room : ℕ) → ((s : S) (y : Marked C) (line : Line C E S) → IsLine (by_one sees undoing) asks room s y line → line ≡ line_of sees undoing asks room s y) →
       (x : Marked C) (turn : Turn C E S) (line : Line C E S) → IsAfter (IsLine (by_one sees undoing) asks room) x turn line → line ≡ line_after (line_of sees undoing asks room) x turn
   after_is room outer x (Ends s end) line is = is

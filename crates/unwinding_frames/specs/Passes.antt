@@ -18,8 +18,8 @@ pub record Marked (C : Type 0) : Type 0 where
   pub context : C
   pub signal : Bool
 
-abbrev pub unmarked : {C : Type 0} → C → Marked C
-unmarked c = record { context = c; signal = false }
+abbrev pub without_mark : {C : Type 0} → C → Marked C
+without_mark c = record { context = c; signal = false }
 
 -- How frames F over contexts C are undone, with faults E.
 pub record Undoing (C F E : Type 0) : Type 0 where
@@ -57,8 +57,8 @@ pub data LineEnd (C E : Type 0) : Type 0 where
 
 -- What is answered at a frame, by what holds a state S: the state afterwards, and the answer with what is left of the context, or a
 -- fault.
-abbrev pub Asks : Type 0 → Type 0 → Type 0 → Type 0 → Type 0
-Asks C F E S = S → F → Marked C → S × Result (UnwindReasonCode × C) E
+abbrev pub Asking : Type 0 → Type 0 → Type 0 → Type 0 → Type 0
+Asking C F E S = S → F → Marked C → S × Result (UnwindReasonCode × C) E
 
 -- what is met at a context: an end, or the caller
 pub data Turn (C E S : Type 0) : Type 0 where
@@ -75,7 +75,7 @@ turn_asked undoing f x (s, Ok (code, left)) = if is_code code CONTINUE_UNWIND th
 turn_asked undoing f x (s, Err e) = Ends s (Fails e)
 
 -- the row is read first
-abbrev pub turn_seen : {C F E S : Type 0} → Undoing C F E → Asks C F E S → S → Marked C → Result (Option F) E → Turn C E S
+abbrev pub turn_seen : {C F E S : Type 0} → Undoing C F E → Asking C F E S → S → Marked C → Result (Option F) E → Turn C E S
 turn_seen undoing asks s x (Ok None) = Ends s (RanOut x)
 turn_seen undoing asks s x (Ok (Some f)) = turn_asked undoing f x (asks s f x)
 turn_seen undoing asks s x (Err e) = Ends s (Fails e)
@@ -91,7 +91,7 @@ IsAfter outer x (Ends s end) line = line ≡ record { contexts = x ∷ []; end =
 IsAfter {C} {E} {S} outer x (Goes s next) line = (rest : Line C E S) × outer s next rest × (line ≡ record rest { contexts = x ∷ rest.contexts })
 
 -- A line from a context outwards, where there is room for so many contexts.
-abbrev pub IsLine : {C F E S : Type 0} → Stepping C F E → Asks C F E S → ℕ → S → Marked C → Line C E S → Type 0
+abbrev pub IsLine : {C F E S : Type 0} → Stepping C F E → Asking C F E S → ℕ → S → Marked C → Line C E S → Type 0
 IsLine step asks zero s x line = line ≡ record { contexts = []; end = Crowded; state = s }
 IsLine {C} {F} {E} {S} step asks (suc room) s x line =
     (seen : Result (Option F) E) × step.Sees x seen × IsAfter (IsLine step asks room) x (turn_seen step.undoing asks s x seen) line
@@ -111,12 +111,12 @@ asked_if_named p actions f x (Ok (Some routine)) = Ok (p.answers routine actions
 asked_if_named p actions f x (Err e) = Err e
 
 -- a frame without a personality goes on
-abbrev pub asked : {C F E : Type 0} → Answering C F E → UnwindAction → F → Marked C → Result (UnwindReasonCode × C) E
-asked p actions f x = asked_if_named p actions f x (p.named f)
+abbrev pub answer_of_personality : {C F E : Type 0} → Answering C F E → UnwindAction → F → Marked C → Result (UnwindReasonCode × C) E
+answer_of_personality p actions f x = asked_if_named p actions f x (p.named f)
 
 -- personalities keep no state
-abbrev pub by_personality : {C F E S : Type 0} → Answering C F E → (Marked C → UnwindAction) → Asks C F E S
-by_personality p actions s f x = (s, asked p (actions x) f x)
+abbrev pub by_personality : {C F E S : Type 0} → Answering C F E → (Marked C → UnwindAction) → Asking C F E S
+by_personality p actions s f x = (s, answer_of_personality p (actions x) f x)
 
 abbrev pub both : UnwindAction → UnwindAction → UnwindAction
 both a b = record { 0 = int_bit_or w32 a.0 b.0 }
@@ -133,14 +133,14 @@ pub data Outcome (C E : Type 0) : Type 0 where
   Gives : UnwindReasonCode → Option (Cause E) → Outcome C E
 
 -- what ends a line but an answer and the stack's end is a cause, with the phase's code
-abbrev pub caused : {C E : Type 0} → UnwindReasonCode → Cause E → Outcome C E
-caused code cause = Gives code (Some cause)
+abbrev pub outcome_of_cause : {C E : Type 0} → UnwindReasonCode → Cause E → Outcome C E
+outcome_of_cause code cause = Gives code (Some cause)
 
 -- ---- the search
 
 -- A line on which each frame is asked for a handler.
 abbrev pub IsSearched : {C F E : Type 0} → Stepping C F E → Answering C F E → ℕ → C → Line C E (Unit {0}) → Type 0
-IsSearched step p limit start line = IsLine step (by_personality p (λ x. actions.SEARCH_PHASE)) limit tt (unmarked start) line
+IsSearched step p limit start line = IsLine step (by_personality p (λ x. actions.SEARCH_PHASE)) limit tt (without_mark start) line
 
 -- ---- a cleanup pass
 
@@ -151,13 +151,13 @@ cleanup_actions stack_pointer kept x = if mark_of stack_pointer x == kept then b
 abbrev pub cleanup_end : {C E : Type 0} → (C → ℕ) → ℕ → LineEnd C E → Outcome C E
 cleanup_end stack_pointer kept (RanOut x) = Gives FATAL_PHASE2_ERROR None
 cleanup_end stack_pointer kept (Decides x code left past) = if is_code code INSTALL_CONTEXT then Installs past (mark_of stack_pointer x == kept) else Gives FATAL_PHASE2_ERROR None
-cleanup_end stack_pointer kept (Fails e) = caused FATAL_PHASE2_ERROR (Fault e)
-cleanup_end stack_pointer kept Crowded = caused FATAL_PHASE2_ERROR FrameLimit
+cleanup_end stack_pointer kept (Fails e) = outcome_of_cause FATAL_PHASE2_ERROR (Fault e)
+cleanup_end stack_pointer kept Crowded = outcome_of_cause FATAL_PHASE2_ERROR FrameLimit
 
 -- A cleanup pass from a context toward the frame with a mark.
 abbrev pub IsCleanup : {C F E : Type 0} → Stepping C F E → Answering C F E → ℕ → ℕ → C → Outcome C E → Type 0
 IsCleanup {C} {F} {E} step p kept limit start outcome =
-    (line : Line C E (Unit {0})) × IsLine step (by_personality p (cleanup_actions step.undoing.stack_pointer kept)) limit tt (unmarked start) line × (outcome ≡ cleanup_end step.undoing.stack_pointer kept line.end)
+    (line : Line C E (Unit {0})) × IsLine step (by_personality p (cleanup_actions step.undoing.stack_pointer kept)) limit tt (without_mark start) line × (outcome ≡ cleanup_end step.undoing.stack_pointer kept line.end)
 
 -- ---- a raise
 
@@ -173,8 +173,8 @@ IsRaisedBy step p limit start (Decides x code left past) before outcome after =
     MatchBool (is_code code HANDLER_FOUND)
     ((after ≡ Handler (less_signal x.signal (step.undoing.stack_pointer left))) × IsCleanup step p (less_signal x.signal (step.undoing.stack_pointer left)) limit start outcome)
     (IsNotTaken (Gives FATAL_PHASE1_ERROR None) before outcome after)
-IsRaisedBy step p limit start (Fails e) before outcome after = IsNotTaken (caused FATAL_PHASE1_ERROR (Fault e)) before outcome after
-IsRaisedBy step p limit start Crowded before outcome after = IsNotTaken (caused FATAL_PHASE1_ERROR FrameLimit) before outcome after
+IsRaisedBy step p limit start (Fails e) before outcome after = IsNotTaken (outcome_of_cause FATAL_PHASE1_ERROR (Fault e)) before outcome after
+IsRaisedBy step p limit start Crowded before outcome after = IsNotTaken (outcome_of_cause FATAL_PHASE1_ERROR FrameLimit) before outcome after
 
 -- A raise from a context: how it ends, and what the exception keeps before and after.
 abbrev pub IsRaised : {C F E : Type 0} → Stepping C F E → Answering C F E → ℕ → C → Kept → Outcome C E → Kept → Type 0
@@ -194,9 +194,9 @@ forced_actions = both actions.FORCE_UNWIND actions.CLEANUP_PHASE
 -- the personality takes what is left where nothing stops the pass
 abbrev pub unless_stopped : {C F E : Type 0} → Answering C F E → F → Marked C → UnwindReasonCode × C × List ℕ → List ℕ × Result (UnwindReasonCode × C) E
 unless_stopped p f x (code, left, words) =
-    (words, if is_code code NO_REASON then asked p forced_actions f (record x { context = left }) else Ok (FATAL_PHASE2_ERROR, left))
+    (words, if is_code code NO_REASON then answer_of_personality p forced_actions f (record x { context = left }) else Ok (FATAL_PHASE2_ERROR, left))
 
-abbrev pub by_force : {C F E : Type 0} → Answering C F E → Stops C F → Asks C F E (List ℕ)
+abbrev pub by_force : {C F E : Type 0} → Answering C F E → Stops C F → Asking C F E (List ℕ)
 by_force p stops words f x = unless_stopped p f x (stops words forced_actions (Some f) x)
 
 abbrev pub end_stopped : {C E : Type 0} → UnwindReasonCode × C × List ℕ → Outcome C E × List ℕ
@@ -206,13 +206,13 @@ end_stopped (code, left, words) = (Gives (if is_code code NO_REASON then END_OF_
 abbrev pub forced_end : {C F E : Type 0} → Stops C F → List ℕ → LineEnd C E → Outcome C E × List ℕ
 forced_end stops words (RanOut x) = end_stopped (stops words (both forced_actions actions.END_OF_STACK) None x)
 forced_end stops words (Decides x code left past) = ((if is_code code INSTALL_CONTEXT then Installs past false else Gives FATAL_PHASE2_ERROR None), words)
-forced_end stops words (Fails e) = (caused FATAL_PHASE2_ERROR (Fault e), words)
-forced_end stops words Crowded = (caused FATAL_PHASE2_ERROR FrameLimit, words)
+forced_end stops words (Fails e) = (outcome_of_cause FATAL_PHASE2_ERROR (Fault e), words)
+forced_end stops words Crowded = (outcome_of_cause FATAL_PHASE2_ERROR FrameLimit, words)
 
 -- A forced pass from a context: how it ends, and the words before and after.
 abbrev pub IsForced : {C F E : Type 0} → Stepping C F E → Answering C F E → Stops C F → ℕ → C → List ℕ → Outcome C E → List ℕ → Type 0
 IsForced {C} {F} {E} step p stops limit start before outcome after =
-    (line : Line C E (List ℕ)) × IsLine step (by_force p stops) limit before (unmarked start) line × ((outcome, after) ≡ forced_end stops line.state line.end)
+    (line : Line C E (List ℕ)) × IsLine step (by_force p stops) limit before (without_mark start) line × ((outcome, after) ≡ forced_end stops line.state line.end)
 
 -- A resume goes by what the exception keeps: toward the handler's frame, or by force.
 abbrev pub IsResumed : {C F E : Type 0} → Stepping C F E → Answering C F E → Stops C F → ℕ → C → Kept → List ℕ → Outcome C E → List ℕ → Type 0
@@ -239,14 +239,14 @@ pub record Tracing : Type 0 where
 abbrev pub hidden_after : ℕ → ℕ → Option ℕ
 hidden_after h start = if h == start then None else Some h
 
-abbrev pub traced : {C E : Type 0} → C → UnwindReasonCode × List ℕ → Tracing × Result (UnwindReasonCode × C) E
-traced c (code, words) = (record { words = words; hidden = None }, Ok ((if is_code code NO_REASON then CONTINUE_UNWIND else FATAL_PHASE1_ERROR), c))
+abbrev pub trace_answer : {C E : Type 0} → C → UnwindReasonCode × List ℕ → Tracing × Result (UnwindReasonCode × C) E
+trace_answer c (code, words) = (record { words = words; hidden = None }, Ok ((if is_code code NO_REASON then CONTINUE_UNWIND else FATAL_PHASE1_ERROR), c))
 
 abbrev pub traced_unless_hidden : {C F E : Type 0} → (F → ℕ) → Traces C F → List ℕ → Option ℕ → F → Marked C → Tracing × Result (UnwindReasonCode × C) E
 traced_unless_hidden starts traces words (Some h) f x = (record { words = words; hidden = hidden_after h (starts f) }, Ok (CONTINUE_UNWIND, x.context))
-traced_unless_hidden starts traces words None f x = traced x.context (traces words (Some f) x)
+traced_unless_hidden starts traces words None f x = trace_answer x.context (traces words (Some f) x)
 
-abbrev pub by_trace : {C F E : Type 0} → (F → ℕ) → Traces C F → Asks C F E Tracing
+abbrev pub by_trace : {C F E : Type 0} → (F → ℕ) → Traces C F → Asking C F E Tracing
 by_trace starts traces t f x = traced_unless_hidden starts traces t.words t.hidden f x
 
 -- how a backtrace ends: its code and cause, and the words then
@@ -270,4 +270,4 @@ trace_end traces t Crowded = (FATAL_PHASE1_ERROR, Some FrameLimit, t.words)
 -- A backtrace from a context, over frames that start at addresses.
 abbrev pub IsTraced : {C F E : Type 0} → Stepping C F E → (F → ℕ) → Traces C F → ℕ → C → Option ℕ → List ℕ → Traced E → Type 0
 IsTraced {C} {F} {E} step starts traces limit start hidden before end =
-    (line : Line C E Tracing) × IsLine step (by_trace starts traces) limit (record { words = before; hidden = hidden }) (unmarked start) line × (end ≡ trace_end traces line.state line.end)
+    (line : Line C E Tracing) × IsLine step (by_trace starts traces) limit (record { words = before; hidden = hidden }) (without_mark start) line × (end ≡ trace_end traces line.state line.end)

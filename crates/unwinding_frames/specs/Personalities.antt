@@ -31,39 +31,39 @@ pub record Landing : Type 0 where
   pub selector : ℕ
 
 -- the registers as a landing pad is entered with an exception's word
-abbrev pub landed : Landing → ℕ → ℕ → Columns → Columns
-landed machine exception pad columns = with_value (with_value (with_value columns machine.exception exception) machine.selector 0) machine.return_address pad
+abbrev pub columns_at_pad : Landing → ℕ → ℕ → Columns → Columns
+columns_at_pad machine exception pad columns = with_value (with_value (with_value columns machine.exception exception) machine.selector 0) machine.return_address pad
 
 -- an answer, and the registers that are left
 abbrev pub Answer : Type 0
 Answer = UnwindReasonCode × Columns
 
 -- In the search phase a frame with a handler or an exception specification ends the search, and one that ends the program is fatal.
-abbrev pub searched : Action → UnwindReasonCode
-searched NoAction = CONTINUE_UNWIND
-searched (Cleanup pad) = CONTINUE_UNWIND
-searched (Catch pad) = HANDLER_FOUND
-searched (Filter pad) = HANDLER_FOUND
-searched Terminate = FATAL_PHASE1_ERROR
+abbrev pub search_answer : Action → UnwindReasonCode
+search_answer NoAction = CONTINUE_UNWIND
+search_answer (Cleanup pad) = CONTINUE_UNWIND
+search_answer (Catch pad) = HANDLER_FOUND
+search_answer (Filter pad) = HANDLER_FOUND
+search_answer Terminate = FATAL_PHASE1_ERROR
 
 -- a landing pad is entered
-abbrev pub installed : Landing → ℕ → ℕ → Columns → Answer
-installed machine exception pad columns = (INSTALL_CONTEXT, landed machine exception pad columns)
+abbrev pub pad_answer : Landing → ℕ → ℕ → Columns → Answer
+pad_answer machine exception pad columns = (INSTALL_CONTEXT, columns_at_pad machine exception pad columns)
 
 -- In the cleanup phase landing pads are entered, but in a forced unwinding not that of an exception specification.
-abbrev pub cleaned : Landing → Bool → ℕ → Columns → Action → Answer
-cleaned machine forced exception columns NoAction = (CONTINUE_UNWIND, columns)
-cleaned machine forced exception columns (Cleanup pad) = installed machine exception pad columns
-cleaned machine forced exception columns (Catch pad) = installed machine exception pad columns
-cleaned machine forced exception columns (Filter pad) = if forced then (CONTINUE_UNWIND, columns) else installed machine exception pad columns
-cleaned machine forced exception columns Terminate = (FATAL_PHASE2_ERROR, columns)
+abbrev pub cleanup_answer : Landing → Bool → ℕ → Columns → Action → Answer
+cleanup_answer machine forced exception columns NoAction = (CONTINUE_UNWIND, columns)
+cleanup_answer machine forced exception columns (Cleanup pad) = pad_answer machine exception pad columns
+cleanup_answer machine forced exception columns (Catch pad) = pad_answer machine exception pad columns
+cleanup_answer machine forced exception columns (Filter pad) = if forced then (CONTINUE_UNWIND, columns) else pad_answer machine exception pad columns
+cleanup_answer machine forced exception columns Terminate = (FATAL_PHASE2_ERROR, columns)
 
 -- the answer by what a frame's language asks; a language table that can't be read is fatal
 abbrev pub answered_by : Landing → Asked → Columns → Result Action StepFault → Answer
 answered_by machine asked columns (Err e) = (FATAL_PHASE1_ERROR, columns)
 answered_by machine asked columns (Ok x) =
-    if shares asked.actions.0 SEARCH_PHASE.0 then (searched x, columns)
-    else cleaned machine (shares asked.actions.0 FORCE_UNWIND.0) asked.exception columns x
+    if shares asked.actions.0 SEARCH_PHASE.0 then (search_answer x, columns)
+    else cleanup_answer machine (shares asked.actions.0 FORCE_UNWIND.0) asked.exception columns x
 
 -- what the language of a frame asks, which is nothing without a frame
 abbrev pub action_of_frame : List Span → Option FrameValue → ℕ → Result Action StepFault

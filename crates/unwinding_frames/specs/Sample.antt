@@ -1,6 +1,7 @@
 -- A sample: a frame that is stopped in a call of a function with a handler for it.
 use Rattle.std.specs.Prelude.{◌-◌, ◌^◌, pos, false, List, [], ◌∷◌, replicate, Some, None}
 use Rattle.memory_image.specs.Image.{Span}
+use Rattle.unwind_definitions.specs.Columns as column
 use Rattle.unwind_definitions.specs.Entries.{Cie, Fde}
 use Rattle.unwind_definitions.specs.Input.{Input}
 use Rattle.unwind_definitions.specs.Module.{no_bases}
@@ -41,7 +42,7 @@ fde = record { offset = 0; cie = cie; start = 0x1000; size = 256; language = Som
 abbrev pub frame : FrameValue
 frame = record {
   found = record { fde = fde; bases = no_bases; table = nothing };
-  row = record { cfa = ColumnAndOffset 7 8; rules = []; saved_args_size = 0 };
+  row = record { cfa = ColumnAndOffset column.rsp 8; rules = []; saved_args_size = 0 };
 }
 
 abbrev pub search_asked : Asked

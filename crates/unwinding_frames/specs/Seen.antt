@@ -47,13 +47,13 @@ in_column k c = unwrap_or (c k) 0
 abbrev pub past_in_column : ℕ → ℕ → Columns → Columns
 past_in_column k n c = with_value c k ((in_column k c + n) % 2 ^ 64)
 
-abbrev pub marked : Bool → Result Columns StepFault → Result (Marked Columns) StepFault
-marked signal = result_map (λ c. record { context = c; signal = signal })
+abbrev pub marked_columns : Bool → Result Columns StepFault → Result (Marked Columns) StepFault
+marked_columns signal = result_map (λ c. record { context = c; signal = signal })
 
 -- how a frame of a machine is undone, over its columns
 abbrev pub undoing : Machine → List Span → Undoing Columns FrameSeen StepFault
 undoing machine image = record {
-  caller = λ f c. marked f.value.found.fde.cie.letters.signal (caller_of machine (evaluation image) image c f.run);
+  caller = λ f c. marked_columns f.value.found.fde.cie.letters.signal (caller_of machine (evaluation image) image c f.run);
   stack_pointer = in_column machine.stack_pointer;
   past_arguments = λ f c. past_in_column machine.stack_pointer (argument_size f.run) c;
 }

@@ -8,6 +8,6 @@ pub record IsWindow (image : List Span) (start : ℕ) (bytes : List ℕ) (places
   pub held : bytes ≡ table_at image start
   pub whole : places ≤ length bytes - 7
 
--- Bytes from an address on: each of them, with those behind it, is what stands there to the end of the region.
+-- Bytes from an address on: each of them, with those after it, is what stands there to the end of the region.
 abbrev pub IsPlace : List Span → ℕ → List ℕ → Type 0
 IsPlace image start bytes = (k : ℕ) → k < length bytes → table_at image (start + k) ≡ drop k bytes

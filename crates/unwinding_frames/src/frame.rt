@@ -12,16 +12,16 @@ ghost use Rattle.unwind_definitions.specs.LanguageSearch.{personality_address, t
 ghost use Rattle.unwind_definitions.specs.Caller.{Columns, caller_of, rule_value, cfa_value};
 ghost use Rattle.unwind_definitions.specs.Caller.{word_or_fault, column_or_fault, value_without_rule};
 ghost use Rattle.frame_rows.specs.Rules.{rule_meaning, cfa_meaning, entry_of};
-ghost use Rattle.frame_rows.specs.Left.{left};
+ghost use Rattle.frame_rows.specs.Left.{registers_left};
 ghost use Rattle.frame_rows.specs.Rows.{IsRowOf};
 ghost use Rattle.encoded_pointers.specs.PointerViews.{bases_of, pointer_of};
 ghost use Rattle.fde_finders.specs.Finding.{FoundFde};
-ghost use Rattle.fde_finders.specs.FoundViews.{answered};
+ghost use Rattle.fde_finders.specs.FoundViews.{found_fde_of};
 ghost use Rattle.unwinding_frames.specs.Framed.{GivesFrame, GivesRowOf};
 ghost use Rattle.unwind_definitions.specs.Expressions.{evaluation};
 ghost use Rattle.unwinding_frames.specs.Calling.{machine_of, value_given, columns_given};
 ghost use Rattle.unwinding_frames.specs.Passes.{less_signal};
-ghost use Rattle.unwinding_frames.specs.Calling.{written_in, applied, rule_applied};
+ghost use Rattle.unwinding_frames.specs.Calling.{written_in, rules_applied, rule_applied};
 
 use crate::window::Window;
 use eh_frame::{
@@ -83,11 +83,11 @@ pub struct Frame<'a, M: Machine> {
 
 impl<'a, M: Machine> Model for Frame<'a, M> {
     ghost use Rattle.unwinding_frames.specs.FrameValue.{FrameValue};
-    ghost use Rattle.fde_finders.specs.FoundViews.{answered};
+    ghost use Rattle.fde_finders.specs.FoundViews.{found_fde_of};
 
     ghost Value = { FrameValue };
 
-    ghost view = { λ f. record { found = answered f.fde_result; row = f.row } };
+    ghost view = { λ f. record { found = found_fde_of f.fde_result; row = f.row } };
 }
 
 impl<'a, M: Machine> Frame<'a, M> {
@@ -131,12 +131,12 @@ impl<'a, M: Machine> Frame<'a, M> {
     /// is the one that [`Frame::from_context`] gives at that address over a finder that answers
     /// `found`.
     pub fn from_parts(found: FDESearchResult<'a>, row: Row<'a>) -> Frame<'a, M>
-        ensures parts { (result.found ≡ answered found.entry) × (result.row ≡ row.entry) }
+        ensures parts { (result.found ≡ found_fde_of found.entry) × (result.row ≡ row.entry) }
         ensures frame { (address : ℕ) (run : RowInstructions) →
-            IsTrue (covers_pc (answered found.entry).fde address) →
-            row_at (answered found.entry).bases (answered found.entry).fde address ≡ Ok run →
+            IsTrue (covers_pc (found_fde_of found.entry).fde address) →
+            row_at (found_fde_of found.entry).bases (found_fde_of found.entry).fde address ≡ Ok run →
             IsRowOf row.entry run →
-            GivesFrame address (Some (answered found.entry)) (Ok (Some result)) }
+            GivesFrame address (Some (found_fde_of found.entry)) (Ok (Some result)) }
     {
         Frame {
             fde_result: found,
@@ -164,7 +164,7 @@ impl<'a, M: Machine> Frame<'a, M> {
 
     // The frame of a description, at an address.
     fn at(fde_result: FDESearchResult<'a>, address: u64) -> Result<Frame<'a, M>, Error>
-        ensures { GivesRowOf result (answered fde_result.entry) address }
+        ensures { GivesRowOf result (found_fde_of fde_result.entry) address }
     {
         let row = fde_result
             .fde
@@ -217,7 +217,7 @@ impl<'a, M: Machine> Frame<'a, M> {
 
     // What was found.
     pub(crate) fn found(&self) -> &FDESearchResult<'a>
-        ensures { answered result.now ≡ self.now.found }
+        ensures { found_fde_of result.now ≡ self.now.found }
     {
         &self.fde_result
     }
@@ -293,7 +293,7 @@ pub fn personality_of(
     found: &FDESearchResult<'_>,
     image: &MemoryImage<'_>,
 ) -> Result<Option<u64>, StepError>
-    ensures { value_given result ≡ personality_address image.now (answered found.now).fde }
+    ensures { value_given result ≡ personality_address image.now (found_fde_of found.now).fde }
 {
     match found.fde.personality() {
         None => Ok(None),
@@ -308,7 +308,7 @@ pub fn personality_of(
 /// `Unmapped` with the address of the cell that holds the address, where it isn't wholly mapped.
 #[inline(always)]
 pub fn lsda_of(found: &FDESearchResult<'_>, image: &MemoryImage<'_>) -> Result<u64, StepError>
-    ensures { value_given result ≡ language_address image.now (answered found.now).fde }
+    ensures { value_given result ≡ language_address image.now (found_fde_of found.now).fde }
 {
     match found.fde.lsda() {
         None => Ok(0),
@@ -514,9 +514,9 @@ fn apply<M: Machine>(
     rules: Registers<'_, '_>,
     caller: &mut M::Context,
 ) -> Result<(), StepError>
-    ensures { columns_given M.Context.columns (written_in result caller.new) ≡ applied
+    ensures { columns_given M.Context.columns (written_in result caller.new) ≡ rules_applied
         (evaluation stack.now) stack.now (M.Context.columns context.now) cfa
-        (map entry_of (left rules.entry)) (M.Context.columns caller.old) }
+        (map entry_of (registers_left rules.entry)) (M.Context.columns caller.old) }
 {
     let mut rest = rules;
     match apply_saved::<M>(stack, cfa, &mut rest, caller) {
@@ -535,12 +535,12 @@ fn apply_saved<'a, M: Machine>(
     rules: &mut Registers<'_, 'a>,
     caller: &mut M::Context,
 ) -> Option<(Register, RegisterRule<'a>)>
-    ensures ended { IfNone result (left rules.new ≡ []) }
-    ensures applied { (old : Columns) →
-        applied (evaluation stack.now) stack.now old cfa
-        (map entry_of (cons_option result (left rules.new))) (M.Context.columns caller.new)
-        ≡ applied (evaluation stack.now) stack.now old cfa
-        (map entry_of (left rules.old)) (M.Context.columns caller.old) }
+    ensures ended { IfNone result (registers_left rules.new ≡ []) }
+    ensures rules_applied { (old : Columns) →
+        rules_applied (evaluation stack.now) stack.now old cfa
+        (map entry_of (cons_option result (registers_left rules.new))) (M.Context.columns caller.new)
+        ≡ rules_applied (evaluation stack.now) stack.now old cfa
+        (map entry_of (registers_left rules.old)) (M.Context.columns caller.old) }
 {
     while let Some((register, rule)) = rules.next() {
         if !apply_slot::<M>(stack, cfa, register, rule, caller) {
@@ -559,7 +559,7 @@ fn apply_slot<M: Machine>(
     rule: RegisterRule<'_>,
     caller: &mut M::Context,
 ) -> bool
-    ensures applied { OnTrue result ((old : Columns) →
+    ensures rules_applied { OnTrue result ((old : Columns) →
         rule_applied (evaluation stack.now) stack.now old cfa (entry_of (register, rule.entry))
         (M.Context.columns caller.old) ≡ Ok (M.Context.columns caller.new)) }
     ensures unchanged { OnFalse result (caller.new ≡ caller.old) }
@@ -586,9 +586,9 @@ fn apply_from<M: Machine>(
     rules: Registers<'_, '_>,
     caller: &mut M::Context,
 ) -> Result<(), StepError>
-    ensures { columns_given M.Context.columns (written_in result caller.new) ≡ applied
+    ensures { columns_given M.Context.columns (written_in result caller.new) ≡ rules_applied
         (evaluation image.now) image.now (M.Context.columns context.now) cfa
-        (map entry_of (first.entry ∷ left rules.entry)) (M.Context.columns caller.old) }
+        (map entry_of (first.entry ∷ registers_left rules.entry)) (M.Context.columns caller.old) }
 {
     apply_rule::<M>(image, context, cfa, first.0, first.1, caller)?;
     apply_rest::<M>(image, context, cfa, rules, caller)
@@ -602,9 +602,9 @@ fn apply_rest<M: Machine>(
     rules: Registers<'_, '_>,
     caller: &mut M::Context,
 ) -> Result<(), StepError>
-    ensures { columns_given M.Context.columns (written_in result caller.new) ≡ applied
+    ensures { columns_given M.Context.columns (written_in result caller.new) ≡ rules_applied
         (evaluation image.now) image.now (M.Context.columns context.now) cfa
-        (map entry_of (left rules.entry)) (M.Context.columns caller.old) }
+        (map entry_of (registers_left rules.entry)) (M.Context.columns caller.old) }
 {
     for (register, rule) in rules {
         apply_rule::<M>(image, context, cfa, register, rule, caller)?;

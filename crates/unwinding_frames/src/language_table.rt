@@ -14,9 +14,9 @@ ghost use Rattle.unwind_definitions.specs.LanguageSearch.{sum_below};
 ghost use Rattle.encoded_pointers.specs.PointerViews.{bases_of};
 ghost use Rattle.encoded_pointers.specs.Readers.{GivesOr as Reads};
 ghost use Rattle.encoded_pointers.specs.CursorViews.{at};
-ghost use Rattle.fde_finders.specs.FoundViews.{answered};
+ghost use Rattle.fde_finders.specs.FoundViews.{found_fde_of};
 ghost use Rattle.unwinding_frames.specs.Calling.{value_given};
-ghost use Rattle.unwinding_frames.specs.LanguageViews.{action_of, given, head_of, site_of};
+ghost use Rattle.unwinding_frames.specs.LanguageViews.{action_of, answer_seen, head_of, site_of};
 ghost use Rattle.unwinding_frames.specs.LanguageViews.{passes_types, GivesOr};
 
 use crate::frame::{Frame, StepError, address_asked, lsda_of, return_address, target};
@@ -93,7 +93,7 @@ pub fn find_eh_action<M: Machine>(
     signal: bool,
 ) -> Result<EhAction, StepError>
     ensures action { (ra : ℕ) → M.Context.columns context.now M.RA.0 ≡ Some ra →
-        given action_of result ≡ language_action image.now frame.now.found.bases frame.now.found.fde
+        answer_seen action_of result ≡ language_action image.now frame.now.found.bases frame.now.found.fde
         (address_of_call ra signal) }
     ensures first { (ra : ℕ) → M.Context.columns context.now M.RA.0 ≡ Some ra →
         IfOk result (λ action. LanguageAsks image.now frame.now.found.bases frame.now.found.fde
@@ -115,8 +115,8 @@ pub fn eh_action_of(
     image: &MemoryImage<'_>,
     address: u64,
 ) -> Result<EhAction, StepError>
-    ensures { given action_of result ≡ language_action image.now (answered found.now).bases
-        (answered found.now).fde address }
+    ensures { answer_seen action_of result ≡ language_action image.now (found_fde_of found.now).bases
+        (found_fde_of found.now).fde address }
 {
     let table = lsda_of(found, image)?;
     if table == 0 {
@@ -139,7 +139,7 @@ fn action_at(
     table: u64,
     address: u64,
 ) -> Result<EhAction, StepError>
-    ensures { given action_of result ≡ search image.now (bases_of bases.now) start address
+    ensures { answer_seen action_of result ≡ search image.now (bases_of bases.now) start address
         (input_at image.now table) }
 {
     let table = LanguageTable::read(image, bases, start, input_at(image, table))?;
@@ -161,7 +161,7 @@ impl<'a> LanguageTable<'a> {
         start: u64,
         input: Cursor<'a>,
     ) -> Result<LanguageTable<'a>, StepError>
-        ensures { given head_of result ≡ head image.now (bases_of bases.now) start
+        ensures { answer_seen head_of result ≡ head image.now (bases_of bases.now) start
             (at input.entry) }
     {
         let mut rest = input;
@@ -186,7 +186,7 @@ impl<'a> LanguageTable<'a> {
         start: u64,
         address: u64,
     ) -> Result<EhAction, StepError>
-        ensures { given action_of result ≡ search_from (length (at self.now.sites).bytes) image.now
+        ensures { answer_seen action_of result ≡ search_from (length (at self.now.sites).bytes) image.now
             (bases_of bases.now) start address (head_of self.now) (at self.now.sites) }
     {
         let mut sites = self.sites;
@@ -206,7 +206,7 @@ impl<'a> LanguageTable<'a> {
         address: u64,
         site: CallSite,
     ) -> Result<Option<EhAction>, StepError>
-        ensures { given (option_map action_of) result ≡ decision start address (head_of self.now)
+        ensures { answer_seen (option_map action_of) result ≡ decision start address (head_of self.now)
             (site_of site) }
     {
         let from = sum(start, site.from)?;
@@ -222,7 +222,7 @@ impl<'a> LanguageTable<'a> {
 
     /// What a site asks of a call in it.
     fn action(&self, site: CallSite) -> Result<EhAction, StepError>
-        ensures { given action_of result ≡ site_action (head_of self.now) (site_of site) }
+        ensures { answer_seen action_of result ≡ site_action (head_of self.now) (site_of site) }
     {
         if site.pad == 0 {
             return Ok(EhAction::None);
@@ -234,7 +234,7 @@ impl<'a> LanguageTable<'a> {
 
 /// What a landing pad is entered for: a cleanup, or what its number in the action table says.
 fn pad_action(actions: Cursor<'_>, pad: u64, index: u64) -> Result<EhAction, StepError>
-    ensures { given action_of result ≡ pad_action (at actions.entry) pad index }
+    ensures { answer_seen action_of result ≡ pad_action (at actions.entry) pad index }
 {
     if index == 0 {
         return Ok(EhAction::Cleanup(pad));

@@ -9,9 +9,9 @@ ghost use Rattle.unwind_definitions.specs.Caller.{Columns};
 ghost use Rattle.unwind_definitions.specs.LanguageSearch.{address_of_call};
 ghost use Rattle.unwinding_frames.specs.FrameValue.{FrameValue};
 ghost use Rattle.unwinding_frames.specs.Columns.{with_value};
-ghost use Rattle.unwinding_frames.specs.LanguageViews.{action_of, given};
-ghost use Rattle.unwinding_frames.specs.Personalities.{Asked, Answer, Landing, landed, searched};
-ghost use Rattle.unwinding_frames.specs.Personalities.{cleaned, action_of_frame, rust_answers};
+ghost use Rattle.unwinding_frames.specs.LanguageViews.{action_of, answer_seen};
+ghost use Rattle.unwinding_frames.specs.Personalities.{Asked, Answer, Landing, columns_at_pad, search_answer};
+ghost use Rattle.unwinding_frames.specs.Personalities.{cleanup_answer, action_of_frame, rust_answers};
 
 use crate::abi::context::UnwindContext;
 use crate::abi::{UnwindAction, UnwindReasonCode};
@@ -93,10 +93,10 @@ impl<M: Machine> Personality<M> for RustPersonality {
         }
         match action(unwind_ctx) {
             Err(_) => UnwindReasonCode::FATAL_PHASE1_ERROR,
-            Ok(action) if actions.contains(UnwindAction::SEARCH_PHASE) => searched(action),
+            Ok(action) if actions.contains(UnwindAction::SEARCH_PHASE) => search_answer(action),
             Ok(action) => {
                 let forced = actions.contains(UnwindAction::FORCE_UNWIND);
-                cleaned::<M>(action, forced, exception, unwind_ctx.ctx)
+                cleanup_answer::<M>(action, forced, exception, unwind_ctx.ctx)
             }
         }
     }
@@ -104,7 +104,7 @@ impl<M: Machine> Personality<M> for RustPersonality {
 
 /// What the language of a frame asks, which is nothing without a frame.
 fn action<M: Machine>(unwind_ctx: &UnwindContext<'_, '_, M>) -> Result<EhAction, StepError>
-    ensures { given action_of result ≡ action_of_frame unwind_ctx.now.image.now (option_map
+    ensures { answer_seen action_of result ≡ action_of_frame unwind_ctx.now.image.now (option_map
         (λ f. f.now) unwind_ctx.now.frame)
         (address_of_call (unwrap_or (M.Context.columns unwind_ctx.now.ctx.now M.RA.0) 0)
         unwind_ctx.now.signal) }
@@ -116,8 +116,8 @@ fn action<M: Machine>(unwind_ctx: &UnwindContext<'_, '_, M>) -> Result<EhAction,
 }
 
 /// The answer in the search phase.
-fn searched(action: EhAction) -> UnwindReasonCode
-    ensures { result ≡ searched (action_of action) }
+fn search_answer(action: EhAction) -> UnwindReasonCode
+    ensures { result ≡ search_answer (action_of action) }
 {
     match action {
         EhAction::None | EhAction::Cleanup(_) => UnwindReasonCode::CONTINUE_UNWIND,
@@ -127,13 +127,13 @@ fn searched(action: EhAction) -> UnwindReasonCode
 }
 
 /// The answer in the cleanup phase, and the registers of the landing pad that is entered.
-fn cleaned<M: Machine>(
+fn cleanup_answer<M: Machine>(
     action: EhAction,
     forced: bool,
     exception: u64,
     context: &mut M::Context,
 ) -> UnwindReasonCode
-    ensures { (result, M.Context.columns context.new) ≡ cleaned
+    ensures { (result, M.Context.columns context.new) ≡ cleanup_answer
         (record {
           return_address = M.RA.0;
           exception = M.UNWIND_DATA_REG.0.0;
@@ -155,7 +155,7 @@ fn cleaned<M: Machine>(
 
 /// The registers as a landing pad is entered.
 fn land<M: Machine>(exception: u64, pad: u64, context: &mut M::Context)
-    ensures { M.Context.columns context.new ≡ landed
+    ensures { M.Context.columns context.new ≡ columns_at_pad
         (record {
           return_address = M.RA.0;
           exception = M.UNWIND_DATA_REG.0.0;

@@ -1,12 +1,12 @@
 // Lists of registers that are packed into ten bits.
 ghost use Rattle.std.specs.Prelude.{◌≡◌, ◌-◌, ◌≤◌, ◌<◌, ◌↔◌, ◌++◌, ℕ, List, true, length, Some};
 ghost use Rattle.std.specs.Prelude.{None, Ok, IfOk, IsOkAnd, IsErr, slice_index, replicate};
-ghost use Rattle.macho_unwind_info.specs.Permutation.{permutation, arrangements, encoded, distinct};
+ghost use Rattle.macho_unwind_info.specs.Permutation.{permutation, arrangements, permutation_number, distinct};
 ghost use Rattle.macho_unwind_info.specs.Permutation.{IsArrangement};
 ghost use Rattle.macho_unwind_info.specs.FirstOnes.{kept_at, first_ones};
 
 /// By what the number of a list of so many registers is multiplied to be that of the list of all six
-/// which begins with them and goes on in order: by that list's digits behind theirs, which are 0.
+/// which begins with them and goes on in order: by that list's digits after theirs, which are 0.
 static SCALES: [u64; 7] = [0, 120, 24, 6, 2, 1, 1];
 
 /// How many lists of all six registers there are.
@@ -47,7 +47,7 @@ static PAIRS: [[u8; 6]; 30] = [
     [6, 5, 1, 2, 3, 4],
 ];
 
-/// By the digits behind the first two, taken together, where in a row of `PAIRS` the last four
+/// By the digits after the first two, taken together, where in a row of `PAIRS` the last four
 /// registers stand.
 static ORDERS: [[u8; 4]; 24] = [
     [2, 3, 4, 5],
@@ -139,7 +139,7 @@ pub fn decode_permutation_6(count: u32, encoding: u32) -> Result<[u8; 6], ()>
     ensures below { 1 ≤ count → count ≤ 6 → encoding < arrangements count → IsOkAnd result
         (IsArrangement count encoding) }
     ensures onto { (registers : List ℕ) → 1 ≤ count → count ≤ 6 → length registers ≡ count →
-        distinct registers ≡ true → encoding ≡ encoded registers →
+        distinct registers ≡ true → encoding ≡ permutation_number registers →
         result ≡ Ok (registers ++ replicate (6 - count) 0) }
 
     // and no other number
@@ -147,11 +147,11 @@ pub fn decode_permutation_6(count: u32, encoding: u32) -> Result<[u8; 6], ()>
     ensures none { count ≡ 0 → result ≡ Ok (replicate 6 0) }
     ensures above { 6 < count → IsErr result }
 {
-    decoded(count, encoding)
+    decoded_registers(count, encoding)
 }
 
 /// The list of registers: the first ones of the list of all six that begins with them.
-fn decoded(count: u32, encoding: u32) -> Result<[u8; 6], ()>
+fn decoded_registers(count: u32, encoding: u32) -> Result<[u8; 6], ()>
     ensures ok { IfOk result (λ registers. permutation count encoding ≡ Some registers) }
     ensures refused { IsErr result ↔ (permutation count encoding ≡ None) }
 {

@@ -3,7 +3,7 @@ ghost use Rattle.std.specs.Prelude.{◌≡◌, ◌≤◌, false, [], length, is_
 ghost use Rattle.std.specs.Option.{option_map};
 ghost use Rattle.pe_unwind_info.specs.Epilog.{result_map, word_in, with_word, lea_from, lea_of};
 ghost use Rattle.pe_unwind_info.specs.Epilog.{adjustment_of, pop_of, is_jump, two_bytes_of};
-ghost use Rattle.pe_unwind_info.specs.Epilog.{pop_or_terminator_of, behind_rex, rex_split, parsed};
+ghost use Rattle.pe_unwind_info.specs.Epilog.{pop_or_terminator_of, behind_rex, rex_split, parsed_instruction};
 ghost use Rattle.pe_unwind_info.specs.Epilog.{and_first, sequence_from, sequence_of};
 ghost use Rattle.pe_unwind_info.specs.EpilogGrammar.{IsParsed, IsSequence};
 ghost use Rattle.pe_unwind_info.specs.Numbers.{first_u32};
@@ -59,7 +59,7 @@ pub enum InstructionParseError {
     TooManyInstructions,
 }
 
-// a number of four bytes, and the bytes behind it
+// a number of four bytes, and the bytes after it
 fn split_word(bytes: &[u8]) -> Result<(u32, &[u8]), InstructionParseError>
     ensures { result_map (λ p. (p.0, p.1.now)) result ≡ word_in (first_u32 bytes.now) }
 {
@@ -116,7 +116,7 @@ fn parse_frame_lea(
     }
 }
 
-// an `add` to the stack pointer or a `lea` into it, behind a REX byte for operands of 64 bits;
+// an `add` to the stack pointer or a `lea` into it, after a REX byte for operands of 64 bits;
 // `None` where the bytes begin with neither
 fn parse_adjustment(
     frame: Option<Register>,
@@ -201,7 +201,7 @@ fn parse_pop_or_terminator(
     }
 }
 
-// the low four bits of a REX byte that the bytes begin with, or 0, and the bytes behind it
+// the low four bits of a REX byte that the bytes begin with, or 0, and the bytes after it
 fn split_rex(code: &[u8]) -> Option<(u8, &[u8])>
     ensures { option_map (λ p. (p.0, p.1.now)) result ≡ rex_split code.now }
 {
@@ -212,7 +212,7 @@ fn split_rex(code: &[u8]) -> Option<(u8, &[u8])>
     }
 }
 
-// an instruction behind a REX byte
+// an instruction after a REX byte
 #[inline(always)]
 fn parse_behind_rex(
     frame: Option<Register>,
@@ -231,16 +231,16 @@ fn parse_behind_rex(
     parse_pop_or_terminator(rex, code)
 }
 
-// an instruction, perhaps behind a REX byte
+// an instruction, perhaps after a REX byte
 #[inline(always)]
-#[tactic(auto, unfolding(crate::specs::Epilog::parsed))]
+#[tactic(auto, unfolding(crate::specs::Epilog::parsed_instruction))]
 fn parse_instruction(
     frame: Option<Register>,
     allow_add_sp: bool,
     code: &[u8],
 ) -> Result<Option<(FunctionEpilogInstruction, &[u8])>, InstructionParseError>
     ensures { result_map (option_map (λ p. (p.0, p.1.now))) result
-        ≡ parsed frame allow_add_sp code.now }
+        ≡ parsed_instruction frame allow_add_sp code.now }
 {
     match split_rex(code) {
         Some((rex, code)) => parse_behind_rex(frame, allow_add_sp, rex, code),
@@ -258,7 +258,7 @@ fn no_instructions() -> ArrayVec<FunctionEpilogInstruction, FUNCTION_EPILOG_LIMI
     instructions
 }
 
-// the first instruction and those behind it, up to a terminator
+// the first instruction and those after it, up to a terminator
 #[tactic(auto, using(crate::proofs::EpilogSequences::continued_later, crate::proofs::EpilogSequences::continued_end, crate::proofs::EpilogSequences::continued_err, crate::proofs::EpilogSequences::continued_full, crate::proofs::EpilogSequences::continued_more))]
 fn parse_later(
     frame: Option<Register>,
@@ -320,7 +320,7 @@ pub(crate) fn begins_with_epilog(frame: Option<Register>, code: &[u8]) -> bool
 }
 
 impl FunctionEpilogInstruction {
-    /// The instruction that bytes begin with and the bytes behind it, or `None` at a terminator:
+    /// The instruction that bytes begin with and the bytes after it, or `None` at a terminator:
     /// a return, or a jump. `fpreg` is the function's frame register. An adjustment of the stack
     /// pointer is taken only where `allow_add_sp` is true.
     pub fn parse(
@@ -329,7 +329,7 @@ impl FunctionEpilogInstruction {
         allow_add_sp: bool,
     ) -> Result<Option<(FunctionEpilogInstruction, &[u8])>, InstructionParseError>
         ensures value { result_map (option_map (λ p. (p.0, p.1.now))) result
-            ≡ parsed fpreg allow_add_sp ip.now }
+            ≡ parsed_instruction fpreg allow_add_sp ip.now }
         ensures grammar { IsParsed fpreg allow_add_sp ip.now
             (result_map (option_map (λ p. (p.0, p.1.now))) result) }
     {

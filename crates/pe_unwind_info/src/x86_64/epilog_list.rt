@@ -53,7 +53,7 @@ fn lists_last(end: u32, address: u32, first: &EpilogInformation) -> bool
     header.single_epilog() && is_within(end, size, address, u16::from(size))
 }
 
-// takes the epilog operations behind the first one, and answers whether one of them lists an
+// takes the epilog operations after the first one, and answers whether one of them lists an
 // epilog that holds the address
 #[tactic(auto, using(crate::proofs::EpilogListLemmas::leading_none, crate::proofs::EpilogListLemmas::behind_none, crate::proofs::EpilogListLemmas::behind_some, crate::proofs::EpilogListLemmas::any_none, crate::proofs::EpilogListLemmas::any_listed, crate::proofs::EpilogListLemmas::any_unlisted))]
 fn take_later_epilogs(
@@ -110,7 +110,7 @@ fn behind_told<'a>(
 
 /// Whether the code at the address has to be tested for an epilog: where no epilog operations come
 /// first, and where one of the epilogs that they list holds the address. Beside it, the operations
-/// behind them.
+/// after them.
 #[tactic(auto, using(crate::proofs::EpilogListLemmas::leading_none, crate::proofs::EpilogListLemmas::behind_none))]
 pub(crate) fn behind_epilogs<'a>(
     operations: UnwindOperations<'a>,

@@ -7,7 +7,7 @@ ghost use Rattle.pe_unwind_info.specs.Frame.{operations_alone, from_place, link_
 ghost use Rattle.pe_unwind_info.specs.Frame.{link_end, IsLinked, IsTested, Leaves, ByRun, InRecord};
 ghost use Rattle.pe_unwind_info.specs.Frame.{IsFunctionFrame, IsFrame, IsUnwound, ShowsEnd};
 ghost use Rattle.pe_unwind_info.specs.Frame.{IsUnwoundIn};
-ghost use Rattle.pe_unwind_info.specs.FrameOf.{Image, framed, IsUnwoundBy};
+ghost use Rattle.pe_unwind_info.specs.FrameOf.{Image, frame_end_of, IsUnwoundBy};
 ghost use Rattle.pe_unwind_info.specs.Sections.{section_table, image_of, headers_of, sections_in};
 ghost use Rattle.pe_unwind_info.specs.Sections.{memory_by};
 ghost use Rattle.pe_unwind_info.specs.FunctionTable.{table_bytes, functions_of, IsLookup};
@@ -59,8 +59,8 @@ fn info_at<'m, M: Fn(u32) -> Option<&'m [u8]>>(
     info_in(rva, memory_at_rva(rva))
 }
 
-// the function whose record goes on behind this one
-fn chained(info: &UnwindInfo<'_>) -> Option<RuntimeFunction>
+// the function whose record goes on after this one
+fn chained_function(info: &UnwindInfo<'_>) -> Option<RuntimeFunction>
     ensures { result ≡ chained_of (info_of info.now) }
 {
     match info.trailer() {
@@ -153,7 +153,7 @@ fn apply_record<S: UnwindState>(
     apply_all(&info.header(), state, info.unwind_operations())
 }
 
-// does all operations of a chained record; answers the function whose record goes on behind it
+// does all operations of a chained record; answers the function whose record goes on after it
 fn unwind_link<S: UnwindState>(
     info: &UnwindInfo<'_>,
     state: &mut S,
@@ -165,7 +165,7 @@ fn unwind_link<S: UnwindState>(
     ensures stack { S.stack state.new ≡ S.stack state.old }
 {
     match apply_record(info, state)? {
-        ControlFlow::Continue(()) => Ok(ControlFlow::Continue(chained(info))),
+        ControlFlow::Continue(()) => Ok(ControlFlow::Continue(chained_function(info))),
         ControlFlow::Break(address) => Ok(ControlFlow::Break(address)),
     }
 }
@@ -240,7 +240,7 @@ fn leave_by_operations<'m, S: UnwindState, M: Fn(u32) -> Option<&'m [u8]>>(
     ensures stack { S.stack state.new ≡ S.stack state.old }
 {
     match apply_from(&info.header(), state, operations, offset)? {
-        ControlFlow::Continue(()) => unwind_links(state, memory_at_rva, chained(info)),
+        ControlFlow::Continue(()) => unwind_links(state, memory_at_rva, chained_function(info)),
         ControlFlow::Break(address) => Ok(address),
     }
 }
@@ -387,7 +387,7 @@ pub fn try_unwind_function<'m, S: UnwindState, M: Fn(u32) -> Option<&'m [u8]>>(
         → Gives (M.post memory_at_rva) (option_map (λ bytes. bytes.now)) rva given
         → given ≡ memory rva)
         → frame_end result (registers_of (S.registers state.new) (S.xmm_registers state.new))
-        ≡ framed memory (S.stack state.old) address function
+        ≡ frame_end_of memory (S.stack state.old) address function
         (registers_of (S.registers state.old) (S.xmm_registers state.old)) }
     ensures stack { S.stack state.new ≡ S.stack state.old }
 {
@@ -428,7 +428,7 @@ impl<'a> FunctionTableEntries<'a> {
             → (function : Option RuntimeFunction)
             × IsLookup (functions_of (table_bytes self.now)) address function
             × (frame_end result (registers_of (S.registers state.new) (S.xmm_registers state.new))
-            ≡ framed memory (S.stack state.old) address function
+            ≡ frame_end_of memory (S.stack state.old) address function
             (registers_of (S.registers state.old) (S.xmm_registers state.old))) }
 
         // The same with the record that the look-up always answers.
@@ -437,7 +437,7 @@ impl<'a> FunctionTableEntries<'a> {
             → Gives (M.post memory_at_rva) (option_map (λ bytes. bytes.now)) rva given
             → given ≡ memory rva)
             → frame_end result (registers_of (S.registers state.new) (S.xmm_registers state.new))
-            ≡ framed memory (S.stack state.old) address
+            ≡ frame_end_of memory (S.stack state.old) address
             (lookup_of (functions_of (table_bytes self.now)) address)
             (registers_of (S.registers state.old) (S.xmm_registers state.old)) }
         ensures stack { S.stack state.new ≡ S.stack state.old }
@@ -467,7 +467,7 @@ impl<'a> FunctionTableEntries<'a> {
             → Gives (M.post memory_at_rva) (option_map (λ bytes. bytes.now)) rva given
             → given ≡ memory rva)
             → ShowsEnd result (registers_of (S.registers state.new) (S.xmm_registers state.new))
-            (framed memory (S.stack state.old) address
+            (frame_end_of memory (S.stack state.old) address
             (lookup_of (functions_of (table_bytes self.now)) address)
             (registers_of (S.registers state.old) (S.xmm_registers state.old))) }
         ensures stack { S.stack state.new ≡ S.stack state.old }

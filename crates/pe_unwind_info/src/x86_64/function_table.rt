@@ -19,7 +19,7 @@ pub type U32 = u32;
 pub struct RuntimeFunction {
     /// Where the function begins.
     pub begin_address: U32,
-    /// The first address behind the function.
+    /// The first address after the function.
     pub end_address: U32,
     /// Where its unwind record stands.
     pub unwind_info_address: U32,

@@ -5,7 +5,7 @@ ghost use Rattle.pe_unwind_info.specs.Epilog.{sequence_of};
 ghost use Rattle.pe_unwind_info.specs.EpilogGrammar.{IsSequence};
 ghost use Rattle.pe_unwind_info.specs.EpilogList.{leading_epilogs, is_due};
 ghost use Rattle.pe_unwind_info.specs.Frame.{info_in, chained_of};
-ghost use Rattle.pe_unwind_info.specs.FrameOf.{Image, tested, framed};
+ghost use Rattle.pe_unwind_info.specs.FrameOf.{Image, epilog_if_tested, frame_end_of};
 ghost use Rattle.pe_unwind_info.specs.Header.{frame_register_of};
 ghost use Rattle.pe_unwind_info.specs.Info.{Info};
 ghost use Rattle.pe_unwind_info.specs.InfoOperations.{operations_in};
@@ -21,9 +21,9 @@ pub fn frame_is_one_run()
         (regs : Registers) (first : Info) (chained : List Info)
         → info_in function.unwind_info_address (memory function.unwind_info_address) ≡ Ok first
         → chain_of memory 32 (chained_of first) ≡ Ok chained
-        → tested (is_due function.end_address address (leading_epilogs (operations_in first)))
+        → epilog_if_tested (is_due function.end_address address (leading_epilogs (operations_in first)))
         memory (frame_register_of first.header) function.end_address address ≡ Ok None
-        → framed memory stack address (Some function) regs
+        → frame_end_of memory stack address (Some function) regs
         ≡ then_ends (run_headed stack (operations_at (address - function.begin_address) first
         chained) regs) (pop_return stack) }
 {}

@@ -22,7 +22,7 @@ pub(crate) fn u32_at(bytes: &[u8], offset: usize) -> u32
     ])
 }
 
-/// The number of the first two bytes, with the bytes behind them.
+/// The number of the first two bytes, with the bytes after them.
 pub(crate) fn split_u16(bytes: &[u8]) -> Option<(u16, &[u8])>
     ensures { option_map (λ p. (p.0, p.1.now)) result ≡ first_u16 bytes.now }
 {
@@ -33,7 +33,7 @@ pub(crate) fn split_u16(bytes: &[u8]) -> Option<(u16, &[u8])>
     }
 }
 
-/// The number of the first four bytes, with the bytes behind them.
+/// The number of the first four bytes, with the bytes after them.
 pub(crate) fn split_u32(bytes: &[u8]) -> Option<(u32, &[u8])>
     ensures { option_map (λ p. (p.0, p.1.now)) result ≡ first_u32 bytes.now }
 {

@@ -2,7 +2,7 @@
 ghost use Rattle.std.specs.Prelude.{◌≡◌, ◌*◌, ◌≤◌, None};
 ghost use Rattle.std.specs.Bool.{OnFalse};
 ghost use Rattle.std.specs.Option.{option_map};
-ghost use Rattle.pe_unwind_info.specs.Numbers.{first_u16, scaled};
+ghost use Rattle.pe_unwind_info.specs.Numbers.{first_u16, number_in_units};
 ghost use Rattle.pe_unwind_info.specs.EpilogList.{first_epilog};
 ghost use Rattle.pe_unwind_info.specs.Operations.{code_number, code_information, code_of};
 ghost use Rattle.pe_unwind_info.specs.Operations.{offset_value, head_by, first_of, slots_left};
@@ -124,7 +124,7 @@ pub enum UnwindOperationCode {
 /// A slot with which an operation begins.
 #[derive(Clone, Copy, Debug)]
 pub struct UnwindCode {
-    /// The offset in the code behind the instruction that the operation undoes, or the low byte of
+    /// The offset in the code after the instruction that the operation undoes, or the low byte of
     /// what an epilog operation tells.
     pub prolog_offset: u8,
     /// The operation in the low four bits, its information above them.
@@ -168,16 +168,16 @@ impl UnwindCode {
     }
 }
 
-// a number of units of so many bytes in the next slot, in bytes, with the slots behind it
+// a number of units of so many bytes in the next slot, in bytes, with the slots after it
 fn split_scaled(slots: &[u8], unit: u32) -> Option<(u32, &[u8])>
     requires { unit ≤ 16 }
-    ensures { option_map (λ p. (p.0, p.1.now)) result ≡ scaled unit (first_u16 slots.now) }
+    ensures { option_map (λ p. (p.0, p.1.now)) result ≡ number_in_units unit (first_u16 slots.now) }
 {
     let (number, rest) = split_u16(slots)?;
     Some((u32::from(number) * unit, rest))
 }
 
-// the operation of a slot, or none where it is spare, with the slots behind it
+// the operation of a slot, or none where it is spare, with the slots after it
 #[inline(always)]
 fn decode(
     code: UnwindOperationCode,
@@ -266,7 +266,7 @@ fn decode_first(version: u8, slots: &[u8]) -> Option<(u8, Option<UnwindOperation
 }
 
 /// The unwind operations of a record, from the last instruction of the prolog to the first. Each
-/// comes with the offset in the code behind the instruction that it undoes. They end at the first
+/// comes with the offset in the code after the instruction that it undoes. They end at the first
 /// one that can't be read.
 #[derive(Clone, Copy, Debug)]
 pub struct UnwindOperations<'a> {

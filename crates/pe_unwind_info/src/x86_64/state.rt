@@ -1,6 +1,6 @@
 // The state that is unwound.
 ghost use Rattle.std.specs.Prelude.{◌≡◌, ℕ, Option};
-ghost use Rattle.pe_unwind_info.specs.Machine.{changed, registers_of, word_or_fault, pop_into};
+ghost use Rattle.pe_unwind_info.specs.Machine.{map_with, registers_of, word_or_fault, pop_into};
 ghost use Rattle.pe_unwind_info.specs.Machine.{pop_return, done, frame_end, with_stack_pointer};
 ghost use Rattle.pe_unwind_info.specs.Machine.{plus};
 ghost use Rattle.pe_unwind_info.specs.Registers.{register_number, xmm_number};
@@ -37,7 +37,7 @@ pub trait UnwindState {
     /// Gives the register another value.
     fn write_register(&mut self, register: Register, value: u64)
         ensures registers { registers self.new
-            ≡ changed (registers self.old) (register_number register) value }
+            ≡ map_with (registers self.old) (register_number register) value }
         ensures xmm_registers { xmm_registers self.new ≡ xmm_registers self.old }
         ensures stack { stack self.new ≡ stack self.old };
 
@@ -45,7 +45,7 @@ pub trait UnwindState {
     fn write_xmm_register(&mut self, register: XmmRegister, value: u128)
         ensures registers { registers self.new ≡ registers self.old }
         ensures xmm_registers { xmm_registers self.new
-            ≡ changed (xmm_registers self.old) (xmm_number register) value }
+            ≡ map_with (xmm_registers self.old) (xmm_number register) value }
         ensures stack { stack self.new ≡ stack self.old };
 }
 

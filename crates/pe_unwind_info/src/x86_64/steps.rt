@@ -8,7 +8,7 @@ ghost use Rattle.pe_unwind_info.specs.Info.{info_of};
 ghost use Rattle.pe_unwind_info.specs.Machine.{registers_of, done};
 ghost use Rattle.pe_unwind_info.specs.Operations.{offset_value, operations_left};
 ghost use Rattle.pe_unwind_info.specs.Registers.{register_number, xmm_number};
-ghost use Rattle.pe_unwind_info.specs.Steps.{offset_from, frame_address, restored, saved};
+ghost use Rattle.pe_unwind_info.specs.Steps.{offset_from, frame_address, with_stack_restored, with_saved_register};
 ghost use Rattle.pe_unwind_info.specs.Steps.{saved_xmm, machine_frame, act, run, epilog_act};
 ghost use Rattle.pe_unwind_info.specs.Steps.{epilog_run, flow_end, IsResolved};
 
@@ -125,7 +125,7 @@ fn address_in_frame<S: UnwindState>(
 // sets the stack pointer to what the frame register was set from, where there is one
 fn restore_stack_pointer<S: UnwindState>(header: &UnwindInfoHeader, state: &mut S)
     ensures registers { registers_of (S.registers state.new) (S.xmm_registers state.new)
-        ≡ restored (frame_register_of header.now) (frame_distance header.now)
+        ≡ with_stack_restored (frame_register_of header.now) (frame_distance header.now)
         (registers_of (S.registers state.old) (S.xmm_registers state.old)) }
     ensures stack { S.stack state.new ≡ S.stack state.old }
 {
@@ -144,7 +144,7 @@ fn read_saved<S: UnwindState>(
 ) -> Result<(), FrameFault>
     ensures registers { done result
         (registers_of (S.registers state.new) (S.xmm_registers state.new))
-        ≡ saved (S.stack state.old) address (register_number register)
+        ≡ with_saved_register (S.stack state.old) address (register_number register)
         (registers_of (S.registers state.old) (S.xmm_registers state.old)) }
     ensures stack { S.stack state.new ≡ S.stack state.old }
 {

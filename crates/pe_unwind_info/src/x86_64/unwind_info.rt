@@ -1,4 +1,4 @@
-// Unwind records: the header, and what stands behind the slots.
+// Unwind records: the header, and what stands after the slots.
 ghost use Rattle.std.specs.Prelude.{◌≡◌, ◌%◌};
 ghost use Rattle.std.specs.Option.{option_map};
 ghost use Rattle.pe_unwind_info.specs.Header.{version_of, flags_of, frame_number, frame_units};
@@ -132,21 +132,21 @@ fn first_function(bytes: &[u8]) -> Option<RuntimeFunction>
     }
 }
 
-/// What stands behind the slots of an unwind record.
+/// What stands after the slots of an unwind record.
 #[derive(Drop)]
 pub enum UnwindInfoTrailer<'a> {
     /// The function has a handler for exceptions.
     ExceptionHandler {
         /// Where the handler stands, relative to the base of the image.
         handler_address: U32,
-        /// The bytes behind it, which are the handler's own.
+        /// The bytes after it, which are the handler's own.
         handler_data: &'a [u8],
     },
     /// The function has a handler for termination.
     TerminationHandler {
         /// Where the handler stands, relative to the base of the image.
         handler_address: U32,
-        /// The bytes behind it, which are the handler's own.
+        /// The bytes after it, which are the handler's own.
         handler_data: &'a [u8],
     },
     /// The unwind record of another function goes on where this one ends.
@@ -193,7 +193,7 @@ impl<'a> UnwindInfo<'a> {
         if rest.len() < 2 * count {
             return None;
         }
-        // the trailer stands behind an even number of slots
+        // the trailer stands after an even number of slots
         let behind = (2 * (count + count % 2)).min(rest.len());
         Some(UnwindInfo {
             header,
@@ -209,7 +209,7 @@ impl<'a> UnwindInfo<'a> {
         self.header
     }
 
-    /// What stands behind an even number of slots, by the first flag that is set of those for
+    /// What stands after an even number of slots, by the first flag that is set of those for
     /// exceptions, termination and chaining. `None` where none is set, and where the bytes of the
     /// slot that makes the number even, or its own, are missing.
     #[tactic(auto, using(crate::proofs::FlagLemmas::and_two, crate::proofs::FlagLemmas::and_four))]

@@ -52,7 +52,7 @@ pub struct Ended {
 }
 
 /// What a trace answers at a frame, or at the end of the stack where there is none.
-fn visited<'a, M: Machine, T: Trace<M>>(
+fn trace_answer<'a, M: Machine, T: Trace<M>>(
     image: &MemoryImage<'a>,
     frame: Option<&Frame<'a, M>>,
     trace: &mut T,
@@ -92,7 +92,7 @@ fn goes_on<'a, M: Machine, T: Trace<M>>(
         }
         return UnwindReasonCode::CONTINUE_UNWIND;
     }
-    let code = visited(image, Some(frame), trace, context, signal);
+    let code = trace_answer(image, Some(frame), trace, context, signal);
     if code == UnwindReasonCode::NO_REASON {
         UnwindReasonCode::CONTINUE_UNWIND
     } else {
@@ -173,7 +173,7 @@ fn last_visit<M: Machine, T: Trace<M>>(
 {
     let mut code = UnwindReasonCode::END_OF_STACK;
     if hidden.is_none()
-        && visited(image, None, trace, context, signal) != UnwindReasonCode::NO_REASON
+        && trace_answer(image, None, trace, context, signal) != UnwindReasonCode::NO_REASON
     {
         code = UnwindReasonCode::FATAL_PHASE1_ERROR;
     }

@@ -9,14 +9,14 @@ ghost use Rattle.unwind_definitions.specs.Caller.{Columns, StepFault};
 ghost use Rattle.frame_rows.specs.Rows.{IsRowOf};
 ghost use Rattle.unwinding_frames.specs.Calling.{machine_of};
 ghost use Rattle.unwinding_frames.specs.Columns.{with_value};
-ghost use Rattle.unwinding_frames.specs.Passes.{Line, IsLine, less_signal, by_force, unmarked};
+ghost use Rattle.unwinding_frames.specs.Passes.{Line, IsLine, less_signal, by_force, without_mark};
 ghost use Rattle.unwinding_frames.specs.Passes.{turn_asked, turn_seen};
-ghost use Rattle.unwinding_frames.specs.Passes.{asked};
+ghost use Rattle.unwinding_frames.specs.Passes.{answer_of_personality};
 ghost use Rattle.unwinding_frames.specs.Seen.{FrameSeen, SeesFrame, in_column, past_in_column};
 ghost use Rattle.unwinding_frames.specs.Seen.{undoing, stepping, answering};
-ghost use Rattle.unwinding_frames.specs.LanguageViews.{given};
+ghost use Rattle.unwinding_frames.specs.LanguageViews.{answer_seen};
 ghost use Rattle.unwinding_core.specs.Stopping.{stopping};
-ghost use Rattle.unwinding_core.specs.Turns.{IsSeen, thrown, actions_in, answer_shown, asks_in};
+ghost use Rattle.unwinding_core.specs.Turns.{IsSeen, thrown_of, actions_in, answer_shown, asks_in};
 ghost use Rattle.unwinding_core.specs.Turns.{turn_shown, end_shown};
 
 use crate::abi::stop::Stop;
@@ -138,8 +138,8 @@ fn personality_answer<'a, M: Machine, P: Personality<M>>(
     context: &M::Context,
     signal: bool,
 ) -> Result<Answer<M::Context>, StepError>
-    ensures { (run : RowInstructions) → given (answer_shown M.Context.columns) result ≡
-        asked (answering (P.answers personality.now) image.now (thrown call)) actions
+    ensures { (run : RowInstructions) → answer_seen (answer_shown M.Context.columns) result ≡
+        answer_of_personality (answering (P.answers personality.now) image.now (thrown_of call)) actions
         (record { value = frame.now; run = run })
         (record { context = M.Context.columns context.now; signal = signal }) }
 {
@@ -195,9 +195,9 @@ fn forced_answer<'a, M: Machine, P: Personality<M>, T: Stop<M>>(
     signal: bool,
 ) -> Result<Answer<M::Context>, StepError>
     ensures { (run : RowInstructions) →
-        (T.words stop.new, given (answer_shown M.Context.columns) result) ≡
-        by_force (answering (P.answers personality.now) image.now (thrown call))
-        (stopping T.stops image.now (thrown call)) (T.words stop.old)
+        (T.words stop.new, answer_seen (answer_shown M.Context.columns) result) ≡
+        by_force (answering (P.answers personality.now) image.now (thrown_of call))
+        (stopping T.stops image.now (thrown_of call)) (T.words stop.old)
         (record { value = frame.now; run = run })
         (record { context = M.Context.columns context.now; signal = signal }) }
 {
@@ -232,10 +232,10 @@ fn frame_answer<'a, M: Machine, P: Personality<M>, T: Stop<M>>(
     signal: bool,
 ) -> Result<Answer<M::Context>, StepError>
     ensures { (run : RowInstructions) →
-        (T.words stop.new, given (answer_shown M.Context.columns) result) ≡
+        (T.words stop.new, answer_seen (answer_shown M.Context.columns) result) ≡
         asks_in call.phase (in_column M.SP.0)
-        (answering (P.answers personality.now) image.now (thrown call))
-        (stopping T.stops image.now (thrown call)) (T.words stop.old)
+        (answering (P.answers personality.now) image.now (thrown_of call))
+        (stopping T.stops image.now (thrown_of call)) (T.words stop.old)
         (record { value = frame.now; run = run })
         (record { context = M.Context.columns context.now; signal = signal }) }
 {
@@ -264,8 +264,8 @@ fn meet_frame<'a, M: Machine, P: Personality<M>, T: Stop<M>>(
         (record { value = frame.now; run = run })
         (record { context = M.Context.columns context.now; signal = signal })
         (asks_in call.phase (in_column M.SP.0)
-        (answering (P.answers personality.now) image.now (thrown call))
-        (stopping T.stops image.now (thrown call)) (T.words stop.old)
+        (answering (P.answers personality.now) image.now (thrown_of call))
+        (stopping T.stops image.now (thrown_of call)) (T.words stop.old)
         (record { value = frame.now; run = run })
         (record { context = M.Context.columns context.now; signal = signal })) }
 {
@@ -298,8 +298,8 @@ fn meet<M: Machine, F: FDEFinder, P: Personality<M>, T: Stop<M>, L: Ledger>(
         (T.words stop.new) result ≡
         turn_seen (undoing (machine_of M.SP.0 M.RA.0) image.now)
         (asks_in call.phase (in_column M.SP.0)
-        (answering (P.answers personality.now) image.now (thrown call))
-        (stopping T.stops image.now (thrown call)))
+        (answering (P.answers personality.now) image.now (thrown_of call))
+        (stopping T.stops image.now (thrown_of call)))
         (T.words stop.old) (record { context = M.Context.columns context.now; signal = signal })
         seen) }
 {
@@ -324,9 +324,9 @@ pub(crate) fn pass<M: Machine, F: FDEFinder, P: Personality<M>, T: Stop<M>, L: L
     ensures { (line : Line Columns StepFault (List ℕ)) ×
         IsLine (stepping (machine_of M.SP.0 M.RA.0) (F.finds finder.now) image.now)
         (asks_in call.phase (in_column M.SP.0)
-        (answering (P.answers personality.now) image.now (thrown call))
-        (stopping T.stops image.now (thrown call)))
-        limit (T.words stop.old) (unmarked (M.Context.columns start.now)) line ×
+        (answering (P.answers personality.now) image.now (thrown_of call))
+        (stopping T.stops image.now (thrown_of call)))
+        limit (T.words stop.old) (without_mark (M.Context.columns start.now)) line ×
         (end_shown M.Context.columns result ≡ line.end) × (T.words stop.new ≡ line.state) }
 {
     let mut context = *start;

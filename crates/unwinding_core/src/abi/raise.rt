@@ -11,7 +11,7 @@ ghost use Rattle.unwinding_frames.specs.Passes.{RanOut, Gives};
 ghost use Rattle.unwinding_core.specs.Runs.{thrown_by, cause_shown, unwound_shown, IsUntaken};
 ghost use Rattle.unwinding_frames.specs.Seen.{in_column, stepping, answering};
 ghost use Rattle.unwinding_core.specs.Stopping.{stopping};
-ghost use Rattle.unwinding_core.specs.Turns.{thrown, end_shown};
+ghost use Rattle.unwinding_core.specs.Turns.{thrown_of, end_shown};
 
 use crate::abi::passes::{Call, LineEnd, Phase, mark, pass, stop_answer};
 use crate::abi::stop::{NoStop, Stop};
@@ -45,7 +45,7 @@ fn code<M: Machine>(code: UnwindReasonCode) -> Unwound<M>
 }
 
 /// A code with its cause.
-fn caused<M: Machine>(code: UnwindReasonCode, cause: Cause) -> Unwound<M>
+fn code_with_cause<M: Machine>(code: UnwindReasonCode, cause: Cause) -> Unwound<M>
     ensures { unwound_shown M.Context.columns result ≡ Gives code (Some (cause_shown cause)) }
 {
     let cause = Some(cause);
@@ -53,7 +53,7 @@ fn caused<M: Machine>(code: UnwindReasonCode, cause: Cause) -> Unwound<M>
 }
 
 /// How a cleanup pass toward the frame with a mark ends.
-fn cleaned<M: Machine>(end: LineEnd<M::Context>, kept: u64) -> Unwound<M>
+fn cleanup_end<M: Machine>(end: LineEnd<M::Context>, kept: u64) -> Unwound<M>
     ensures { unwound_shown M.Context.columns result ≡ cleanup_end (in_column M.SP.0) kept
         (end_shown M.Context.columns end) }
 {
@@ -66,8 +66,14 @@ fn cleaned<M: Machine>(end: LineEnd<M::Context>, kept: u64) -> Unwound<M>
             }
         }
         LineEnd::RanOut(..) | LineEnd::Decided(..) => code(UnwindReasonCode::FATAL_PHASE2_ERROR),
-        LineEnd::Failed(fault) => caused(UnwindReasonCode::FATAL_PHASE2_ERROR, Cause::from(fault)),
-        LineEnd::Crowded => caused(UnwindReasonCode::FATAL_PHASE2_ERROR, Cause::FrameLimit),
+        LineEnd::Failed(fault) => code_with_cause(
+            UnwindReasonCode::FATAL_PHASE2_ERROR,
+            Cause::from(fault),
+        ),
+        LineEnd::Crowded => code_with_cause(
+            UnwindReasonCode::FATAL_PHASE2_ERROR,
+            Cause::FrameLimit,
+        ),
     }
 }
 
@@ -126,7 +132,7 @@ fn cleanup<M: Machine, F: FDEFinder, P: Personality<M>, L: Ledger>(
         limit,
         steps,
     );
-    cleaned(end, kept)
+    cleanup_end(end, kept)
 }
 
 /// Raises an exception: searches the stack from `context` outwards for a frame whose personality
@@ -174,13 +180,19 @@ pub fn _Unwind_RaiseException<M: Machine, F: FDEFinder, P: Personality<M>, L: Le
                 )
             }
         LineEnd::Decided(..) => code(UnwindReasonCode::FATAL_PHASE1_ERROR),
-        LineEnd::Failed(fault) => caused(UnwindReasonCode::FATAL_PHASE1_ERROR, Cause::from(fault)),
-        LineEnd::Crowded => caused(UnwindReasonCode::FATAL_PHASE1_ERROR, Cause::FrameLimit),
+        LineEnd::Failed(fault) => code_with_cause(
+            UnwindReasonCode::FATAL_PHASE1_ERROR,
+            Cause::from(fault),
+        ),
+        LineEnd::Crowded => code_with_cause(
+            UnwindReasonCode::FATAL_PHASE1_ERROR,
+            Cause::FrameLimit,
+        ),
     }
 }
 
 /// How a forced pass from a context ends. Where the stack does, `stop` is asked once more.
-fn forced<M: Machine, F: FDEFinder, P: Personality<M>, T: Stop<M>, L: Ledger>(
+fn forced_end<M: Machine, F: FDEFinder, P: Personality<M>, T: Stop<M>, L: Ledger>(
     image: &MemoryImage<'_>,
     finder: &F,
     start: &M::Context,
@@ -205,8 +217,14 @@ fn forced<M: Machine, F: FDEFinder, P: Personality<M>, T: Stop<M>, L: Ledger>(
             }
         }
         LineEnd::Decided(..) => code(UnwindReasonCode::FATAL_PHASE2_ERROR),
-        LineEnd::Failed(fault) => caused(UnwindReasonCode::FATAL_PHASE2_ERROR, Cause::from(fault)),
-        LineEnd::Crowded => caused(UnwindReasonCode::FATAL_PHASE2_ERROR, Cause::FrameLimit),
+        LineEnd::Failed(fault) => code_with_cause(
+            UnwindReasonCode::FATAL_PHASE2_ERROR,
+            Cause::from(fault),
+        ),
+        LineEnd::Crowded => code_with_cause(
+            UnwindReasonCode::FATAL_PHASE2_ERROR,
+            Cause::FrameLimit,
+        ),
     }
 }
 
@@ -219,7 +237,7 @@ fn last_stop<M: Machine, T: Stop<M>>(
     signal: bool,
 ) -> Unwound<M>
     ensures { (unwound_shown M.Context.columns result, T.words stop.new) ≡
-        forced_end (stopping T.stops image.now (thrown call)) (T.words stop.old)
+        forced_end (stopping T.stops image.now (thrown_of call)) (T.words stop.old)
         (RanOut (record { context = M.Context.columns context.now; signal = signal })) }
 {
     let actions = UnwindAction::FORCE_UNWIND
@@ -261,7 +279,7 @@ pub fn _Unwind_ForcedUnwind<M: Machine, F: FDEFinder, P: Personality<M>, T: Stop
     ensures exception { exception.new ≡ record exception.old { kept = Kept.Stop } }
 {
     exception.kept = Kept::Stop;
-    forced(
+    forced_end(
         image,
         finder,
         context,
@@ -309,7 +327,7 @@ pub fn _Unwind_Resume<M: Machine, F: FDEFinder, P: Personality<M>, T: Stop<M>, L
             limit,
             steps,
         ),
-        Kept::Stop => forced(
+        Kept::Stop => forced_end(
             image,
             finder,
             context,
@@ -362,7 +380,7 @@ pub fn _Unwind_Resume_or_Rethrow<
             limit,
             steps,
         ),
-        Kept::Stop => forced(
+        Kept::Stop => forced_end(
             image,
             finder,
             context,

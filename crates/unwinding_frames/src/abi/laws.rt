@@ -3,7 +3,7 @@
 ghost use Rattle.std.specs.Prelude.{◌≡◌, ◌↔◌, ℕ, List, Option, Result};
 ghost use Rattle.unwind_definitions.specs.Caller.{Columns, StepFault};
 ghost use Rattle.unwinding_frames.specs.OneLine.{by_one, line_of};
-ghost use Rattle.unwinding_frames.specs.Passes.{Marked, Undoing, Asks, Line, IsLine};
+ghost use Rattle.unwinding_frames.specs.Passes.{Marked, Undoing, Asking, Line, IsLine};
 ghost use Rattle.unwinding_frames.specs.Seen.{FrameSeen};
 
 /// Where one thing is seen at each context there is one line from each: the plain recursion on
@@ -11,7 +11,7 @@ ghost use Rattle.unwinding_frames.specs.Seen.{FrameSeen};
 pub fn lines_are_one()
     ensures { (sees : Marked Columns → Result (Option FrameSeen) StepFault)
         (undoing : Undoing Columns FrameSeen StepFault)
-        (asks : Asks Columns FrameSeen StepFault (List ℕ))
+        (asks : Asking Columns FrameSeen StepFault (List ℕ))
         (limit : ℕ) (words : List ℕ) (start : Marked Columns)
         (line : Line Columns StepFault (List ℕ)) →
         IsLine (by_one sees undoing) asks limit words start line ↔

@@ -1,6 +1,6 @@
 use Rattle.std.proofs.Common.{ℕ, ◌+◌, ◌^◌, ◌<◌, ◌≤◌, sym, subst, arith}
 use Rattle.encoded_pointers.specs.PointerViews.{bases_of}
-use Rattle.fde_finders.specs.FoundViews.{answered}
+use Rattle.fde_finders.specs.FoundViews.{found_fde_of}
 use Rattle.fde_finders.proofs.Listed.{IsPast, begun, passed, found, ends_behind}
 use Rattle.fde_finders.proofs.registry.find_listed.Goals as goal
 
@@ -9,7 +9,7 @@ loop-table-init c = (begun (bases_of c.args.known.now) c.args.image.now c.args.p
 
 pub returns-in-Some : goal.returns-in-Some
 returns-in-Some c =
-    found (bases_of c.args.known.now) c.args.image.now c.args.pc c.args.begin c.loop-table.place c.in_ok-table.table (answered c.in-Some.found) c.loop-table.invariant.0 c.loop-table.invariant.1 (sym c.in_ok-table.ensures) c.if-table-eq0.false (sym c.in-Some.ensures)
+    found (bases_of c.args.known.now) c.args.image.now c.args.pc c.args.begin c.loop-table.place c.in_ok-table.table (found_fde_of c.in-Some.found) c.loop-table.invariant.0 c.loop-table.invariant.1 (sym c.in_ok-table.ensures) c.if-table-eq0.false (sym c.in-Some.ensures)
 
 pub returns-in_err-place : goal.returns-in_err-place
 returns-in_err-place c =

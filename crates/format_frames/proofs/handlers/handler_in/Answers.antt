@@ -30,7 +30,7 @@ loop-turn-preserved c =
       | then-named w ↦ rw (w.named-is, w.if-named.true) refl
       | else-named w ↦ rw (w.named-is, w.if-named.false) w.names_handler-named.ensures
     ] in
-    rw (either, c.chained-next.ensures) (sym next ∙ rw c.in-Some.is at c.loop-turn.invariant)
+    rw (either, c.chained_function-next.ensures) (sym next ∙ rw c.in-Some.is at c.loop-turn.invariant)
 
 pub returns-in-Some-next : goal.returns-in-Some-next
 returns-in-Some-next c =

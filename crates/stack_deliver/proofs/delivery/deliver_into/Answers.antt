@@ -15,15 +15,15 @@ use Rattle.stack_deliver.proofs.ElfDeliveries.{elf_starts_valid}
 use Rattle.stack_deliver.proofs.delivery.deliver_into.Goals as goal
 
 pub returns-clause-unmapped : goal.returns-clause-unmapped
-returns-clause-unmapped g c a e = delivery_unmapped c.args.space.now c.args.start.now c.args.exception c.args.resumes.now c.args.limit a (delivered_fault c.emptied.result c.emptied.new.room _ (Unmapped a) c.emptied.ensures.exact e)
+returns-clause-unmapped g c a e = delivery_unmapped c.args.space.now c.args.start.now c.args.exception c.args.resumes.now c.args.limit a (delivered_fault c.fresh_delivery.result c.fresh_delivery.new.room _ (Unmapped a) c.fresh_delivery.ensures.exact e)
 
 pub returns-clause-takes_no_memory : goal.returns-clause-takes_no_memory
-returns-clause-takes_no_memory g c e = delivery_memory c.args.space.now c.args.start.now c.args.exception c.args.resumes.now c.args.limit (delivered_fault c.emptied.result c.emptied.new.room _ NoMemory c.emptied.ensures.exact e)
+returns-clause-takes_no_memory g c e = delivery_memory c.args.space.now c.args.start.now c.args.exception c.args.resumes.now c.args.limit (delivered_fault c.fresh_delivery.result c.fresh_delivery.new.room _ NoMemory c.fresh_delivery.ensures.exact e)
 
 pub returns-clause-chain_in : goal.returns-clause-chain_in
 returns-clause-chain_in g c functions s calls starts =
-    let d = chain_delivered c.args.space.now c.args.start.now c.args.exception c.args.resumes.now c.args.limit functions s calls c.image.ensures.apart c.image.ensures.laid_out c.emptied.ensures.whole starts in
-    ending_delivered c.emptied.result c.emptied.new.room _ d.delivered (λ (x : DeliveryValue). ShowsDelivery x c.args.exception s calls) c.emptied.ensures.exact d.is d.shows
+    let d = chain_delivered c.args.space.now c.args.start.now c.args.exception c.args.resumes.now c.args.limit functions s calls c.image.ensures.apart c.image.ensures.laid_out c.fresh_delivery.ensures.whole starts in
+    ending_delivered c.fresh_delivery.result c.fresh_delivery.new.room _ d.delivered (λ (x : DeliveryValue). ShowsDelivery x c.args.exception s calls) c.fresh_delivery.ensures.exact d.is d.shows
 
 pub returns-clause-chain : goal.returns-clause-chain
 returns-clause-chain g c functions s calls starts =
@@ -31,13 +31,13 @@ returns-clause-chain g c functions s calls starts =
 
 pub returns-clause-ticks : goal.returns-clause-ticks
 returns-clause-ticks g c =
-    rises_up_to c.args.space.now _ _ _ _ (few_in_delivery c.args.space.now c.args.start.now c.args.exception c.args.resumes.now c.args.limit) c.emptied.ensures.ticks
+    rises_up_to c.args.space.now _ _ _ _ (few_in_delivery c.args.space.now c.args.start.now c.args.exception c.args.resumes.now c.args.limit) c.fresh_delivery.ensures.ticks
 
 pub returns-clause-chain_searches_in : goal.returns-clause-chain_searches_in
 returns-clause-chain_searches_in g c functions s calls starts =
-    let d = chain_delivered c.args.space.now c.args.start.now c.args.exception c.args.resumes.now c.args.limit functions s calls c.image.ensures.apart c.image.ensures.laid_out c.emptied.ensures.whole starts in
-    let few = few_delivered c.emptied.result c.emptied.new.room _ d.delivered (met_in_delivery c.args.space.now c.args.start.now c.args.exception c.args.resumes.now c.args.limit) c.emptied.ensures.exact d.is d.few in
-    rises_up_to c.args.space.now _ _ _ _ few c.emptied.ensures.ticks
+    let d = chain_delivered c.args.space.now c.args.start.now c.args.exception c.args.resumes.now c.args.limit functions s calls c.image.ensures.apart c.image.ensures.laid_out c.fresh_delivery.ensures.whole starts in
+    let few = few_delivered c.fresh_delivery.result c.fresh_delivery.new.room _ d.delivered (met_in_delivery c.args.space.now c.args.start.now c.args.exception c.args.resumes.now c.args.limit) c.fresh_delivery.ensures.exact d.is d.few in
+    rises_up_to c.args.space.now _ _ _ _ few c.fresh_delivery.ensures.ticks
 
 pub returns-clause-chain_searches : goal.returns-clause-chain_searches
 returns-clause-chain_searches g c functions s calls starts =
@@ -49,16 +49,16 @@ returns-clause-chain_ticks g c functions s calls digits starts one =
 
 pub returns-clause-refused : goal.returns-clause-refused
 returns-clause-refused g c error = (
-  λ e. refused_why c.args.space.now c.args.start.now c.args.exception c.args.resumes.now c.args.limit error (delivered_fault c.emptied.result c.emptied.new.room _ error c.emptied.ensures.exact e),
-  λ why. fault_delivered c.emptied.result c.emptied.new.room _ error c.emptied.ensures.exact (why_refused c.args.space.now c.args.start.now c.args.exception c.args.resumes.now c.args.limit error why),
+  λ e. refused_why c.args.space.now c.args.start.now c.args.exception c.args.resumes.now c.args.limit error (delivered_fault c.fresh_delivery.result c.fresh_delivery.new.room _ error c.fresh_delivery.ensures.exact e),
+  λ why. fault_delivered c.fresh_delivery.result c.fresh_delivery.new.room _ error c.fresh_delivery.ensures.exact (why_refused c.args.space.now c.args.start.now c.args.exception c.args.resumes.now c.args.limit error why),
 )
 
 pub returns-clause-ended : goal.returns-clause-ended
 returns-clause-ended g c outcome = (
   λ ends.
-      let d = delivered_ending c.emptied.result c.emptied.new.room _ outcome c.emptied.ensures.exact ends in
+      let d = delivered_ending c.fresh_delivery.result c.fresh_delivery.new.room _ outcome c.fresh_delivery.ensures.exact ends in
       subst (EndsBy c.args.space.now c.args.start.now c.args.exception c.args.resumes.now c.args.limit) d.2 (ended_by c.args.space.now c.args.start.now c.args.exception c.args.resumes.now c.args.limit d.0 d.1),
   λ by.
       let d = by_end c.args.space.now c.args.start.now c.args.exception c.args.resumes.now c.args.limit outcome by in
-      ending_delivered c.emptied.result c.emptied.new.room _ d.0 (λ (x : DeliveryValue). x.outcome ≡ outcome) c.emptied.ensures.exact d.1 d.2,
+      ending_delivered c.fresh_delivery.result c.fresh_delivery.new.room _ d.0 (λ (x : DeliveryValue). x.outcome ≡ outcome) c.fresh_delivery.ensures.exact d.1 d.2,
 )

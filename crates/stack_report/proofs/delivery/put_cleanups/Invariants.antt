@@ -4,4 +4,4 @@ use Rattle.stack_report.proofs.delivery.put_cleanups.Given as goal
 
 abbrev pub invariant-loop-index : goal.invariant-loop-index
 invariant-loop-index l =
-    l.report ++ cleanup_lines (drop l.index l.delivery.trail) ≡ l.initial.report ++ cleanup_lines l.delivery.trail
+    l.report ++ cleanup_lines (drop l.index l.room.trail) ≡ l.initial.report ++ cleanup_lines l.room.trail

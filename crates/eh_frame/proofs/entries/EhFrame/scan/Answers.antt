@@ -49,7 +49,7 @@ loop-found-preserved c =
       c.loop-found.invariant.3
           ∙ scan_next (bases_of c.args.bases.now) (table_of c.args.self.now) c.args.pc (turns - 1) turns c.loop-found.offset more (found_of c.in-Some.found)
           (rw c.in-Some.is at c.in_ok-found.ensures) ∙ c.in_default-containing.ensures _,
-      subst (StandsIn (bases_of c.args.bases.now) (table_of c.args.self.now)) (sym c.shared.ensures) (shared_stands (bases_of c.args.bases.now) (table_of c.args.self.now) c.loop-found.offset (found_of c.in-Some.found) (rw c.in-Some.is at c.in_ok-found.ensures)),
+      subst (StandsIn (bases_of c.args.bases.now) (table_of c.args.self.now)) (sym c.named_cie.ensures) (shared_stands (bases_of c.args.bases.now) (table_of c.args.self.now) c.loop-found.offset (found_of c.in-Some.found) (rw c.in-Some.is at c.in_ok-found.ensures)),
     )
 
 pub returns : goal.returns

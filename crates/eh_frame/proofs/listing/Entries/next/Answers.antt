@@ -7,6 +7,6 @@ use Rattle.eh_frame.proofs.listing.Entries.next.Goals as goal
 
 pub invariant_of-self : goal.invariant_of-self
 invariant_of-self c = record {
-  stands = subst (StandsIn (bases_of c.args.self.now.bases) (table_of c.args.self.now.table)) (sym c.shared.ensures)
+  stands = subst (StandsIn (bases_of c.args.self.now.bases) (table_of c.args.self.now.table)) (sym c.named_cie.ensures)
       (shared_stands (bases_of c.args.self.now.bases) (table_of c.args.self.now.table) c.args.self.now.offset (found_of c.in-Ok-Some.found) (rw (c.in-Ok-Some.is, c.in-Ok-Some.field-0-is, c.in-Ok-Some.found-is) at c.entry_at.ensures));
 }

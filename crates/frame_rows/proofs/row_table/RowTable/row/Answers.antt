@@ -1,7 +1,7 @@
 use Rattle.std.proofs.Common.{◌≡◌, ◌+◌, ◌≤◌, map, get_or, sym, ap, subst, ◌∙◌, List, Err}
 use Rattle.unwind_definitions.specs.declared.error.Error.TheVariants.{NoCfaRegister}
 use Rattle.std.specs.Prelude.{slice_range}
-use Rattle.frame_rows.specs.KeptRows.{Kept, KeptRows, location_of, placed}
+use Rattle.frame_rows.specs.KeptRows.{Kept, KeptRows, location_of, kept_at_distance}
 use Rattle.frame_rows.specs.TableRows.{HoldsAt, kept_in}
 use Rattle.frame_rows.proofs.LookedUp.{part_of, first_begun, holds, holds_placed, due_there}
 use Rattle.frame_rows.proofs.row_table.RowTable.row.Goals as goal
@@ -25,4 +25,4 @@ returns-clause-last c =
 pub returns-clause-due : goal.returns-clause-due
 returns-clause-due c due start bound rows below =
     let part : List Kept = slice_range c.args.self.now.rows c.args.rows.first c.args.rows.end in
-    due_there due bound (start + c.args.distance) (map (placed start) part) c.get.result rows below (holds_placed start c.args.distance part c.get.result (returns-clause-last c))
+    due_there due bound (start + c.args.distance) (map (kept_at_distance start) part) c.get.result rows below (holds_placed start c.args.distance part c.get.result (returns-clause-last c))

@@ -1,7 +1,7 @@
 use Rattle.std.proofs.Common.{Option, ap, ◌∙◌}
 use Rattle.pe_unwind_info.specs.declared.x86_64.function_table.RuntimeFunction.{RuntimeFunction}
 use Rattle.pe_unwind_info.specs.Machine.{Registers, registers_of}
-use Rattle.pe_unwind_info.specs.FrameOf.{framed}
+use Rattle.pe_unwind_info.specs.FrameOf.{frame_end_of}
 use Rattle.pe_unwind_info.proofs.FrameLemmas.{frame_is}
 use Rattle.pe_unwind_info.proofs.x86_64.function_table.FunctionTableEntries.try_unwind_frame.Goals as goal
 
@@ -16,4 +16,4 @@ pub returns-clause-repeats : goal.returns-clause-repeats
 returns-clause-repeats g c = λ memory only.
     let regs : Registers = registers_of (g.S.UnwindState.registers c.args.state.now) (g.S.UnwindState.xmm_registers c.args.state.now) in
     frame_is _ memory only (g.S.UnwindState.stack c.args.state.now) c.args.address c.lookup-function.result regs _ c.unwind.ensures.registers
-    ∙ ap (λ (function : Option RuntimeFunction). framed memory (g.S.UnwindState.stack c.args.state.now) c.args.address function regs) c.lookup-function.ensures.repeats
+    ∙ ap (λ (function : Option RuntimeFunction). frame_end_of memory (g.S.UnwindState.stack c.args.state.now) c.args.address function regs) c.lookup-function.ensures.repeats

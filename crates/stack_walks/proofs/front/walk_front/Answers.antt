@@ -2,10 +2,10 @@ use Rattle.std.proofs.Common.{None}
 use Rattle.stack_steps.proofs.Counted.{rises_up_to}
 use Rattle.stack_walks.proofs.FrontAnswers.{walk_states, walk_ends, walk_ends_for, walk_stops}
 use Rattle.stack_walks.proofs.TurnCounts.{few_met}
-use Rattle.stack_walks.proofs.front.fronted.Goals as goal
+use Rattle.stack_walks.proofs.front.walk_front.Goals as goal
 
-pub unframed-requires : goal.unframed-requires
-unframed-requires g c =
+pub unframed_front-requires : goal.unframed_front-requires
+unframed_front-requires g c =
     walk_ends c.args.space.now c.args.limit c.args.start.now c.args.interrupted c.outwards.new.room c.outwards.new.state c.outwards.ensures.reached c.outwards.result c.outwards.ensures.exact c.in-Ok.field-0 c.in-Ok.is
 
 pub returns-in-Ok-clause-states : goal.returns-in-Ok-clause-states
@@ -15,7 +15,7 @@ returns-in-Ok-clause-states g c =
 pub returns-in-Ok-clause-why : goal.returns-in-Ok-clause-why
 returns-in-Ok-clause-why g c =
     walk_ends_for c.args.space.now c.args.limit c.args.start.now c.args.interrupted c.outwards.new.room c.outwards.new.state c.outwards.ensures.reached c.outwards.result c.outwards.ensures.exact c.in-Ok.field-0 c.in-Ok.is
-    c.unframed.result c.unframed.ensures
+    c.unframed_front.result c.unframed_front.ensures
 
 pub returns-in-Err-clause-states : goal.returns-in-Err-clause-states
 returns-in-Err-clause-states g c =
@@ -23,7 +23,7 @@ returns-in-Err-clause-states g c =
 
 pub returns-in-Err-clause-why : goal.returns-in-Err-clause-why
 returns-in-Err-clause-why g c =
-    rw c.stopped.ensures (walk_stops c.args.space.now c.args.limit c.args.start.now c.args.interrupted c.outwards.new.room c.outwards.new.state c.outwards.ensures.reached c.outwards.result c.outwards.ensures.exact c.in-Err.error c.in-Err.is c.address.result c.address.ensures)
+    rw c.stopped_front.ensures (walk_stops c.args.space.now c.args.limit c.args.start.now c.args.interrupted c.outwards.new.room c.outwards.new.state c.outwards.ensures.reached c.outwards.result c.outwards.ensures.exact c.in-Err.error c.in-Err.is c.address.result c.address.ensures)
 
 pub returns-in-Ok-clause-ticks : goal.returns-in-Ok-clause-ticks
 returns-in-Ok-clause-ticks g c = rises_up_to c.args.space.now _ c.args.limit _ _ (few_met None c.args.space.now c.args.limit c.args.start.now c.args.interrupted) c.outwards.ensures.ticks

@@ -1,7 +1,7 @@
 use Rattle.std.proofs.Common.{Some, refl}
 use Rattle.stack_walks.specs.TurnViews.{line_shown, stop_shown}
 use Rattle.stack_deliver.proofs.SearchCounts.{named_pad, search_met, passes_met}
-use Rattle.stack_deliver.proofs.delivery.delivered.Goals as goal
+use Rattle.stack_deliver.proofs.delivery.delivery_in_room.Goals as goal
 
 pub returns-in_err-stop-clause-ticks : goal.returns-in_err-stop-clause-ticks
 returns-in_err-stop-clause-ticks g c = search_met c.args.space.now c.args.start c.args.exception c.args.resumes.now c.args.limit _ _ c.outwards.ensures.ticks

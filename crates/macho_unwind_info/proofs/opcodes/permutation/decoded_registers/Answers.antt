@@ -1,6 +1,6 @@
 use Rattle.std.proofs.Common.{ℕ, List, Some, refl, sym, ap, ◌∙◌, arith}
 use Rattle.macho_unwind_info.proofs.PermutationRows.{fewer_is, none_is}
-use Rattle.macho_unwind_info.proofs.opcodes.permutation.decoded.Goals as goal
+use Rattle.macho_unwind_info.proofs.opcodes.permutation.decoded_registers.Goals as goal
 
 pub returns-then-number-ge-LISTS-clause-refused : goal.returns-then-number-ge-LISTS-clause-refused
 returns-then-number-ge-LISTS-clause-refused c = (

@@ -1,7 +1,0 @@
-use Rattle.std.proofs.Common.{◌≡◌, ◌++◌, drop}
-use Rattle.stack_report.specs.Report.{frame_lines}
-use Rattle.stack_report.proofs.delivery.put_frames.Given as goal
-
-abbrev pub invariant-loop-index : goal.invariant-loop-index
-invariant-loop-index l =
-    l.report ++ frame_lines l.index (drop l.index l.delivery.visited) ≡ l.initial.report ++ frame_lines 0 l.delivery.visited
