@@ -137,6 +137,13 @@ const PRINTED: &[(Machine, u32, &str)] = &[
         0x030d_f800,
         "CFA=[function_start+13]+56 reg16=[CFA-8], reg6=[CFA-16], reg15=[CFA-24], reg14=[CFA-32], reg13=[CFA-40], reg12=[CFA-48], reg3=[CFA-56]",
     ),
+    // of small sections: a frame with RBX stored, and a frameless function without registers
+    (
+        X86_64,
+        0x0101_0001,
+        "CFA=reg6+16: reg6=[CFA-16], reg16=[CFA-8], reg3=[CFA-24]",
+    ),
+    (X86_64, 0x0201_0000, "CFA=reg7+8: reg16=[CFA-8]"),
     // of the linked sections
     (
         X86_64,
@@ -166,6 +173,11 @@ const PRINTED: &[(Machine, u32, &str)] = &[
         Arm64,
         0x0400_0101,
         "CFA=reg29+16: reg29=[CFA-16], reg30=[CFA-8], reg14=[CFA-32], reg15=[CFA-40], reg19=[CFA-48], reg20=[CFA-56]",
+    ),
+    (
+        Arm64,
+        0x0400_0001,
+        "CFA=reg29+16: reg29=[CFA-16], reg30=[CFA-8], reg19=[CFA-32], reg20=[CFA-40]",
     ),
     (Arm64, 0x0f00_0000, "!! Unrecognized kind 15"),
 ];
