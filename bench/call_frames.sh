@@ -7,7 +7,7 @@
 #     bench/call_frames.sh [FILE]
 #
 # With FILE, callgrind's counts of the rows are left there, by function (callgrind_annotate tells
-# them). It wants `rt` and `valgrind`, and leaves nothing else behind.
+# them). It wants `rt` and `valgrind`, and leaves nothing else after.
 
 # shellcheck source-path=SCRIPTDIR source=common.sh
 . "$(dirname "$0")/common.sh"
@@ -45,8 +45,8 @@ fn push_u32(bytes: &mut Vec<u8>, word: u32) -> Result<(), AllocError> {
     bytes.extend_from_slice(&word.to_le_bytes())
 }
 
-// Behind the function so many descriptions of functions that push RBX, each at an address that lies
-// as far behind the last as its description does.
+// After the function so many descriptions of functions that push RBX, each at an address that lies
+// as far after the last as its description does.
 fn push_descriptions(bytes: &mut Vec<u8>, count: u32) -> Result<(), AllocError> {
     for number in 0..count {
         push_u32(bytes, 20)?;

@@ -44,7 +44,7 @@ PROGRAMS = [
     bytes.fromhex("41 0e10 8602 43 0d06 000000"),
     bytes.fromhex("41 0e10 8602 43 0d06 41 8303"),
 ]
-# A language table whose call site has a cleanup, and behind it one with a handler.
+# A language table whose call site has a cleanup, and after it one with a handler.
 CLEANUP = bytes([0xFF, 0xFF, 1, 8, 16, 24, 48, 0, 48, 16, 0, 0])
 CATCH = bytes([0xFF, 0xFF, 1, 4, 16, 24, 48, 1, 1, 0])
 

@@ -39,7 +39,7 @@ inclusive() {
     python3 "$here/inclusive.py" "$work/unwind_cli.counts" "$@"
 }
 
-# a/b with two digits behind the point
+# a/b with two digits after the point
 ratio() {
     awk -v a="$1" -v b="$2" 'BEGIN { if (b > 0) printf "%.2f", a / b; else printf "-" }'
 }

@@ -11,7 +11,7 @@
 #   walked      `walk`: a step of each frame, and its line
 #   searched    `deliver` where no call site holds the outermost call: what each language table asks in
 #               a search too
-#   delivered   `deliver`: a cleanup of each frame too, the pass that goes on behind it, and its line
+#   delivered   `deliver`: a cleanup of each frame too, the pass that goes on after it, and its line
 
 # shellcheck source-path=SCRIPTDIR source=common.sh
 . "$(dirname "$0")/common.sh"

@@ -6,7 +6,7 @@
 #     bench/indexes.sh [FILE]
 #
 # With FILE, callgrind's counts of the last run are left there, by function (callgrind_annotate tells
-# them). It wants `rt`, `valgrind` and GNU time, and leaves nothing else behind.
+# them). It wants `rt`, `valgrind` and GNU time, and leaves nothing else after.
 set -euo pipefail
 
 counts=${1:-/dev/null}

@@ -40,7 +40,7 @@ CLEANUP_TABLE = (
 LANGUAGE = "ffff01080810200020100000" + "ff9b0c010408102001010000000000"
 PERSONALITY = "0040400000000000"
 
-# The second function by itself, for an address 2,048 bytes behind its start: its table of 64 bytes, its
+# The second function by itself, for an address 2,048 bytes after its start: its table of 64 bytes, its
 # language table of 12, and at 80 the personality's cell.
 APART = (
     "1c00000000000000017a504c5200017810079b3d0000001b1b0c070890010000"
@@ -76,7 +76,7 @@ def frames(count, limit):
     )
 
 
-def table_behind(passed):
+def table_after(passed):
     """The frame table with so many descriptions of other functions before the function's."""
     entries = bytearray.fromhex(TABLE[:48])
     for start in [0x600000 + 16 * i for i in range(passed)] + [0x401000]:
@@ -144,7 +144,7 @@ def main():
         return
     if kind == "passed":
         passed, count, limit = map(int, sys.argv[2:5])
-        print(calls(count, limit, table_behind(passed)), end="")
+        print(calls(count, limit, table_after(passed)), end="")
         return
     if kind == "frames":
         print(frames(int(sys.argv[2]), int(sys.argv[3])), end="")

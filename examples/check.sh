@@ -34,7 +34,7 @@ take() {
     backtrace "$core" "examples/out/$1" "$core"
 }
 
-# The state behind the outermost function, which has no return address, is no frame of gdb's.
+# The state after the outermost function, which has no return address, is no frame of gdb's.
 without_outermost() {
     grep -v '^frame [0-9]* ra=0x0 ' "$1"
 }

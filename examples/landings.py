@@ -6,7 +6,7 @@ The process waits in `wait_here` (stopped.h). `raised` lets it go on to the thro
 frame that threw. `landings` does that and then stops at each landing pad: it prints the frames from
 the one that threw to the one that catches, each pad with the stack pointer there, the registers at
 the handler's pad, and a line `resume PAD RETURN` for each cleanup, which holds what the call of
-_Unwind_Resume behind it would return to. Everything is read from the running process.
+_Unwind_Resume after it would return to. Everything is read from the running process.
 """
 from __future__ import annotations
 

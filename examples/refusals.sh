@@ -22,7 +22,7 @@ start() {
     until grep -qE '^(34|29) ' "/proc/$started/syscall"; do sleep 0.1; done
 }
 
-# Runs gdb with `words` behind `snapshot`, and looks at its status and at the files that it leaves.
+# Runs gdb with `words` after `snapshot`, and looks at its status and at the files that it leaves.
 try() {
     local wanted=$1 what=$2 words=$3 said status left as=()
     set -- "${@:4}"

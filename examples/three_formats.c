@@ -1,6 +1,6 @@
 /* A stack through three formats: ELF code calls functions of a PE image, these of a Mach-O image, and these
  * ELF code again. The images are mapped at the addresses that they were linked for. Their files stand beside
- * the program, with .pe and .macho behind its name. */
+ * the program, with .pe and .macho after its name. */
 #include "stopped.h"
 #include "three_formats.h"
 #include <elf.h>

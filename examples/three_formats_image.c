@@ -91,7 +91,7 @@ Word enter(Word turns, const struct Images *images) {
     return first * 2 + last(second, first) + ending(turns + 3) + small;
 }
 
-/* Behind all others: it keeps RBX alone, and so has an opcode of its own. LLD 14 writes the opcode of neighbours
+/* After all others: it keeps RBX alone, and so has an opcode of its own. LLD 14 writes the opcode of neighbours
  * that have the same one once, and lets the table end where the first of these ends. */
 KEPT Word last(Word a, Word b) {
     __asm__ volatile("add %1, %0" : "+r"(a) : "r"(b) : "rbx");

@@ -144,8 +144,8 @@ impl<'a> Prepared<'a> {
                 .fde_for_address(&self.table, &self.bases, address, EhFrame::cie_from_offset)
                 .ok(),
             Index::Places(places) => {
-                let behind = places.partition_point(|place| place.start <= address);
-                let place = &places[behind.checked_sub(1)?];
+                let after = places.partition_point(|place| place.start <= address);
+                let place = &places[after.checked_sub(1)?];
                 if place.end <= address {
                     return None;
                 }

@@ -31,7 +31,7 @@ use Rattle.stack_walks.specs.declared.outward.Phase.TheVariants as phase
 use Rattle.delivery_laws.specs.AnyPasses.{marked_of, no_routine, undoing_in, sees_in, stepping_in, rust_in, answer_left, Search, TakenBy, Untaken, search_end, search_stop, search_line, search_of, pass_end, FollowedBy, ResumedBy, IsSearchBy, IsPassBy, ArePassesBy, IsDeliveredAfter, IsDeliveredBy, IsDeliveryBy}
 use Rattle.stack_steps.specs.Modules.{SpaceValue}
 use Rattle.stack_steps.specs.Asking.{action_if_named, action_asked, arguments_of, or_terminate, recorded_action, unless_handled}
-use Rattle.stack_walks.specs.Turns.{Line, Stop, Turn, Ends, Stops, Goes, stops, stop_by, turn_at, turn_in, turn_for, line_turn, line_for, pass_of, past_arguments, pad_of, enters, kept_at, with_context}
+use Rattle.stack_walks.specs.Turns.{Line, Stop, Turn, Ends, Stops, Goes, stops, stop_by, turn_at, turn_in, turn_for, line_turn, line_for, pass_of, past_arguments, pad_of, enters, mark_at, with_context}
 use Rattle.stack_deliver.specs.Passes.{PassEnd, Finishes, Elsewhere, end_at, end_by, end_of, cleanup_of, ending_at, cleanup_at, resume_at, CleanupsRun, with_cleanup, cleanup_and_rest, after_pass, passes_of}
 use Rattle.stack_deliver.specs.StackDelivery.{DeliveryValue, delivery_after, delivery_at, delivery_to, delivery_by, stack_delivery}
 use Rattle.stack_deliver.specs.Resumes.{return_of}
@@ -285,8 +285,8 @@ module _ (space : SpaceValue) (row : RowInstructions → RowValue) (thrown : Thr
   search_same (Ok found) line (same, end) = go found.stop refl end
     where
       pads : (contexts : List Context) (stop : Stop) (o : Option ℕ) →
-          ◌≡◌ {A = Result Search DeliverError} (Ok (record { visited = contexts; end = if is_some o then TakenBy (kept_at stop.context stop.interrupted) else Untaken FatalPhase1 }))
-          (Ok (record { visited = contexts; end = option_map_or (λ pad. TakenBy (kept_at stop.context stop.interrupted)) o (Untaken FatalPhase1) }))
+          ◌≡◌ {A = Result Search DeliverError} (Ok (record { visited = contexts; end = if is_some o then TakenBy (mark_at stop.context stop.interrupted) else Untaken FatalPhase1 }))
+          (Ok (record { visited = contexts; end = option_map_or (λ pad. TakenBy (mark_at stop.context stop.interrupted)) o (Untaken FatalPhase1) }))
       pads contexts stop None = refl
       pads contexts stop (Some pad) = refl
 
@@ -335,7 +335,7 @@ module _ (space : SpaceValue) (row : RowInstructions → RowValue) (thrown : Thr
         at_pad : (stop : Stop) (code : UnwindReasonCode) (left entered : Context) (o : Option ℕ) → Enters o stop code entered →
             Passes (Ok (end_at thrown.word kept stop o)) (cleanup_end stack_pointer kept (Decides (record { context = stop.context; signal = stop.interrupted }) code left entered))
         at_pad stop code left entered None other = rw other (refl, tt)
-        at_pad stop code left entered (Some pad) (installs, is, whole) = rw installs (marks (kept_at stop.context stop.interrupted == kept))
+        at_pad stop code left entered (Some pad) (installs, is, whole) = rw installs (marks (mark_at stop.context stop.interrupted == kept))
           where
             marks : (b : Bool) → Passes (Ok (if b then Finishes (ending_at (enters stop.past thrown.word pad)) else Elsewhere pad (enters stop.past thrown.word pad))) (any.Installs entered b)
             marks true = rw is (refl, tt)
@@ -433,9 +433,9 @@ module _ (space : SpaceValue) (row : RowInstructions → RowValue) (thrown : Thr
     Delivered_by found due = IsDeliveredBy (stepping_in space) p limit resumes start found due
 
     holds_at : (visited : List Context) (stop : Stop) (o : Option ℕ) →
-        IsDeliveredAfter (stepping_in space) p limit resumes start visited (option_map_or (λ pad. TakenBy (kept_at stop.context stop.interrupted)) o (Untaken FatalPhase1)) (delivery_at visited o (toward (kept_at stop.context stop.interrupted)))
+        IsDeliveredAfter (stepping_in space) p limit resumes start visited (option_map_or (λ pad. TakenBy (mark_at stop.context stop.interrupted)) o (Untaken FatalPhase1)) (delivery_at visited o (toward (mark_at stop.context stop.interrupted)))
     holds_at visited stop None = refl
-    holds_at visited stop (Some pad) = let kept : ℕ = kept_at stop.context stop.interrupted in (toward kept, hold kept resumes limit limit start whole, refl)
+    holds_at visited stop (Some pad) = let kept : ℕ = mark_at stop.context stop.interrupted in (toward kept, hold kept resumes limit limit start whole, refl)
 
     holds_to : (visited : List Context) (o : Option Stop) → IsDeliveredAfter (stepping_in space) p limit resumes start visited (search_stop o) (delivery_to visited o toward)
     holds_to visited None = refl
@@ -446,9 +446,9 @@ module _ (space : SpaceValue) (row : RowInstructions → RowValue) (thrown : Thr
     holds_by (Err e) = refl
 
     only_at : (due : Result DeliveryValue DeliverError) (visited : List Context) (stop : Stop) (o : Option ℕ) →
-        IsDeliveredAfter (stepping_in space) p limit resumes start visited (option_map_or (λ pad. TakenBy (kept_at stop.context stop.interrupted)) o (Untaken FatalPhase1)) due → due ≡ delivery_at visited o (toward (kept_at stop.context stop.interrupted))
+        IsDeliveredAfter (stepping_in space) p limit resumes start visited (option_map_or (λ pad. TakenBy (mark_at stop.context stop.interrupted)) o (Untaken FatalPhase1)) due → due ≡ delivery_at visited o (toward (mark_at stop.context stop.interrupted))
     only_at due visited stop None e = e
-    only_at due visited stop (Some pad) (passed, are, e) = e ∙ ap (delivery_after visited) (only (kept_at stop.context stop.interrupted) resumes limit limit start passed whole are)
+    only_at due visited stop (Some pad) (passed, are, e) = e ∙ ap (delivery_after visited) (only (mark_at stop.context stop.interrupted) resumes limit limit start passed whole are)
 
     only_to : (due : Result DeliveryValue DeliverError) (visited : List Context) (o : Option Stop) → IsDeliveredAfter (stepping_in space) p limit resumes start visited (search_stop o) due → due ≡ delivery_to visited o toward
     only_to due visited None e = e

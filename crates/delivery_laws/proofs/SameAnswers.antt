@@ -10,7 +10,7 @@ use Rattle.stack_walks.specs.declared.outward.Phase.TheVariants as phase
 use Rattle.stack_walks.specs.Lines.{line_after, line_of, with_first}
 use Rattle.stack_deliver.specs.StackDelivery.{delivery_at, delivery_by, delivery_to, stack_delivery}
 use Rattle.stack_steps.specs.Modules.{Added, SpaceValue}
-use Rattle.stack_walks.specs.Turns.{Ends, Stops, Goes, Line, Stop, Turn, kept_at, line_for, line_turn, pad_of, pass_of, turn_for, with_context}
+use Rattle.stack_walks.specs.Turns.{Ends, Stops, Goes, Line, Stop, Turn, mark_at, line_for, line_turn, pad_of, pass_of, turn_for, with_context}
 use Rattle.stack_deliver.specs.Passes.{Elsewhere, Finishes, CleanupsRun, PassEnd, cleanup_at, cleanup_of, end_of, after_pass, passes_of, resume_at, cleanup_and_rest, with_cleanup}
 use Rattle.stack_deliver.specs.Resumes.{return_of}
 use Rattle.stack_steps.specs.Stepping.{frame_of, step_of}
@@ -70,7 +70,7 @@ module _ (s : SpaceValue) (added : List Added) where
     where
       stopped : (line : Line) (o : Option Stop) → delivery_to line.contexts o (λ kept. passes_of other exception kept resumes limit limit c) ≡ delivery_to line.contexts o (λ kept. passes_of s exception kept resumes limit limit c)
       stopped line None = refl
-      stopped line (Some stop) = ap (λ (p : Result CleanupsRun DeliverError). delivery_at line.contexts (pad_of stop.action) p) (passes_same exception (kept_at stop.context stop.interrupted) resumes limit limit c)
+      stopped line (Some stop) = ap (λ (p : Result CleanupsRun DeliverError). delivery_at line.contexts (pad_of stop.action) p) (passes_same exception (mark_at stop.context stop.interrupted) resumes limit limit c)
 
       go : (r : Result Line DeliverError) → delivery_by r (λ kept. passes_of other exception kept resumes limit limit c) ≡ delivery_by r (λ kept. passes_of s exception kept resumes limit limit c)
       go (Ok line) = stopped line line.stop

@@ -13,7 +13,7 @@ use Rattle.unwind_arch.specs.ContextViews.{columns_of, context_of}
 use Rattle.unwinding_frames.specs.declared.abi.UnwindReasonCode.{UnwindReasonCode}
 use Rattle.unwinding_frames.specs.declared.abi.TheConstants.UnwindReasonCode.{CONTINUE_UNWIND, HANDLER_FOUND}
 use Rattle.unwinding_frames.specs.OneLine.{by_one}
-use Rattle.unwinding_frames.specs.Passes.{Marked, Undoing, Stepping, Answering, LineEnd, RanOut, Decides, Fails, Crowded, Line, Fault, Installs, Gives, is_code, less_signal, IsSearched, IsCleanup}
+use Rattle.unwinding_frames.specs.Passes.{Marked, Undoing, Stepping, Answering, LineEnd, RanOut, Decides, Fails, Crowded, Line, Fault, Installs, Gives, is_code, frame_mark, IsSearched, IsCleanup}
 use Rattle.unwinding_frames.specs.Passes as any
 use Rattle.unwinding_frames.specs.Personalities.{Answer, rust_answers}
 use Rattle.unwinding_frames.specs.Seen.{FrameSeen, Thrown, answering}
@@ -26,7 +26,7 @@ use Rattle.stack_steps.specs.declared.answers.DeliverError.TheVariants.{CompactH
 use Rattle.stack_walks.specs.declared.outward.Phase.TheVariants as phase
 use Rattle.stack_deliver.specs.StackDelivery.{DeliveryValue, delivery_after, no_delivery}
 use Rattle.stack_steps.specs.Modules.{SpaceValue}
-use Rattle.stack_walks.specs.Turns.{Stop, past_arguments, pass_of, kept_at, pad_of}
+use Rattle.stack_walks.specs.Turns.{Stop, past_arguments, pass_of, mark_at, pad_of}
 use Rattle.stack_deliver.specs.Passes.{PassEnd, Finishes, Elsewhere, CleanupsRun, fatal, ending_at, cleanup_at, resume_at, with_cleanup}
 use Rattle.stack_walks.specs.Turns as stopped
 use Rattle.delivery_laws.specs.Personality.{landing_columns}
@@ -109,7 +109,7 @@ pub record Search : Type 0 where
 abbrev pub search_end : (Context → ℕ) → List Context → LineEnd Context DeliverError → Result Search DeliverError
 search_end stack_pointer visited (RanOut x) = Ok (record { visited = visited; end = Untaken EndOfStack })
 search_end stack_pointer visited (Decides x code left past) =
-    Ok (record { visited = visited; end = if is_code code HANDLER_FOUND then TakenBy (less_signal x.signal (stack_pointer left)) else Untaken FatalPhase1 })
+    Ok (record { visited = visited; end = if is_code code HANDLER_FOUND then TakenBy (frame_mark x.signal (stack_pointer left)) else Untaken FatalPhase1 })
 search_end stack_pointer visited (Fails e) = Err e
 search_end stack_pointer visited Crowded = Err FrameLimit
 
@@ -170,7 +170,7 @@ module _ (step : Stepping Context FrameAt DeliverError) (p : Answering Context F
 
 abbrev pub search_stop : Option Stop → SearchEnd
 search_stop None = Untaken EndOfStack
-search_stop (Some stop) = option_map_or (λ pad. TakenBy (kept_at stop.context stop.interrupted)) (pad_of stop.action) (Untaken FatalPhase1)
+search_stop (Some stop) = option_map_or (λ pad. TakenBy (mark_at stop.context stop.interrupted)) (pad_of stop.action) (Untaken FatalPhase1)
 
 abbrev pub search_line : stopped.Line → Search
 search_line line = record { visited = line.contexts; end = search_stop line.stop }

@@ -8,7 +8,7 @@ use Rattle.unwind_definitions.specs.Faults.{◌>>=◌, unless}
 use Rattle.unwind_definitions.specs.Input.{Input, Reads, address_of, skip, split, number, uleb_from, uleb, sleb_from, sleb, text_before, text}
 use Rattle.unwind_definitions.specs.Pointers.{Bases, Pointer, Direct, Indirect, is_known, is_indirect, format_of, application_of, encoding, signed_number, value, base_if_known, base_of, pointer, direct_target, direct}
 use Rattle.unwind_definitions.specs.Instructions.{column}
-use Rattle.unwind_definitions.specs.Entries.{Letters, Cie, Entry, ACie, AFde, Found, address_encoding, letter, letters_from, no_letters, augmentation_data, sizes, return_column, cie_body, language_pointer, fde_data, fde_body, body, length_behind, cie_in, cie_at, entry_in, found_in, entry_at}
+use Rattle.unwind_definitions.specs.Entries.{Letters, Cie, Entry, ACie, AFde, Found, address_encoding, letter, letters_from, no_letters, augmentation_data, sizes, return_column, cie_body, language_pointer, fde_data, fde_body, body, length_after, cie_in, cie_at, entry_in, found_in, entry_at}
 use Rattle.unwind_definitions.specs.Header.{PairTable, pair_from, pair_at}
 use Rattle.unwind_definitions.specs.HeaderSearch.{fde_in, fde_at_address}
 
@@ -160,7 +160,7 @@ module _ (bases : Bases) where
       other_then _ _ (other_value (format_of (address_encoding cie)) start.1) (λ len. other_then _ _ (other_unless (nat_le (start.0 + len.0) (2 ^ 64 - 1)) AddressOverflow (λ h. cc)) (λ v.
       other_then _ _ (other_fde_data bases cie start.0 len.1) (λ found. other_ok (record { offset = offset; cie = cie; start = start.0; size = len.0; language = found.0; program = found.1 })))))
 
-  other_length : (n : ℕ × Input) → Other (length_behind n)
+  other_length : (n : ℕ × Input) → Other (length_after n)
   other_length n = other_if _ _ _ (other_number w64 n.1) (other_ok _)
 
   other_body : (c : Input) → Other (body c)

@@ -47,7 +47,7 @@ same_end bases a b application = go (application == 0) (application == 0x10) _
     go false false later = refl
 
 abbrev refused : ℕ → Result (Pointer × Input) Fault → Result (Pointer × Input) Fault
-refused e behind = if e == 255 then Err CannotParseOmitPointerEncoding else (unless (is_known e) UnknownPointerEncoding >>= λ u. behind)
+refused e after = if e == 255 then Err CannotParseOmitPointerEncoding else (unless (is_known e) UnknownPointerEncoding >>= λ u. after)
 
 no_pointer : (e base offset : ℕ) (bases : Bases) → pointer e bases (none_at base offset) ≡ refused e (ends (base_of bases (address_of (none_at base offset)) (application_of e)))
 no_pointer e base offset bases = rw (no_value (format_of e) base offset) refl
@@ -61,24 +61,24 @@ direct_from p = direct_target p.0 >>= λ x. placed x p.1
 abbrev both : ℕ → ℕ → Result (ℕ × ℕ) Fault
 both x y = Ok (x, y)
 
-abbrev pair_behind : ℕ → Bases → ℕ × Input → Result (ℕ × ℕ) Fault
-pair_behind e bases start = direct e bases start.1 >>= λ place. both start.0 place.0
+abbrev pair_after : ℕ → Bases → ℕ × Input → Result (ℕ × ℕ) Fault
+pair_after e bases start = direct e bases start.1 >>= λ place. both start.0 place.0
 
 same_pair : (e base a b : ℕ) (bases : Bases) → pair_from e bases (none_at base a) ≡ pair_from e bases (none_at base b)
 same_pair e base a b bases =
     let same : pointer e bases (none_at base a) ≡ pointer e bases (none_at base b) =
     no_pointer e base a bases ∙ ap (refused e) (same_end bases (address_of (none_at base a)) (address_of (none_at base b)) (application_of e)) ∙ sym (no_pointer e base b bases) in
-    ap (λ (r : Result (Pointer × Input) Fault). (r >>= direct_from) >>= pair_behind e bases) same
+    ap (λ (r : Result (Pointer × Input) Fault). (r >>= direct_from) >>= pair_after e bases) same
 
 -- so many bytes that are there are passed
 pub passed : (k : ℕ) (c d : Input) → k ≤ length c.bytes → checked_skip k c ≡ Ok (tt, d) → d ≡ skip k c
 passed k c d le e =
     let h = rw (le-ltb (length c.bytes) k le) at e in
-    let same : (tt, skip k c) ≡ (tt, d) = behind_same _ _ h in
+    let same : (tt, skip k c) ≡ (tt, d) = after_same _ _ h in
     sym (ap (λ (p : Unit {0} × Input). p.1) same)
   where
-    behind_same : (x y : Unit {0} × Input) → ◌≡◌ {A = Result (Unit {0} × Input) Fault} (Ok x) (Ok y) → x ≡ y
-    behind_same x y e = cc
+    after_same : (x y : Unit {0} × Input) → ◌≡◌ {A = Result (Unit {0} × Input) Fault} (Ok x) (Ok y) → x ≡ y
+    after_same x y e = cc
 
 pub pair_there : (t : PairTable) (i k : ℕ) → k ≡ min (min (i * (2 * t.width)) (2 ^ 64 - 1)) (length t.pairs.bytes) → length t.pairs.bytes < 2 ^ 64 → pair_from t.encoding t.bases (skip k t.pairs) ≡ pair_at t i
 pair_there t i k is small = elim (leb_tells (i * (2 * t.width)) (length t.pairs.bytes)) [

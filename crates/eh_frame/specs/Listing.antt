@@ -28,7 +28,7 @@ abbrev pub entry_in : Result (Option Found) Fault → Result (Option Entry) Faul
 entry_in = result_map (option_map (λ found. found.entry))
 
 -- what is left after that
-abbrev pub behind : Listing → Result (Option Found) Fault → Listing
-behind l (Ok (Some found)) = record l { offset = found.next }
-behind l (Ok None) = record l { is_over = true }
-behind l (Err e) = record l { is_over = true }
+abbrev pub after : Listing → Result (Option Found) Fault → Listing
+after l (Ok (Some found)) = record l { offset = found.next }
+after l (Ok None) = record l { is_over = true }
+after l (Err e) = record l { is_over = true }

@@ -6,7 +6,7 @@ ghost use Rattle.std.specs.List.{AllByRecursion};
 ghost use Rattle.std.specs.Result.{IsErrOf};
 ghost use Rattle.std.specs.Option.{option_map, option_map_or};
 ghost use Rattle.unwind_definitions.specs.Input.{skip};
-ghost use Rattle.unwind_definitions.specs.Entries.{Fde as Described, body, length_behind, cie_at, cie_body};
+ghost use Rattle.unwind_definitions.specs.Entries.{Fde as Described, body, length_after, cie_at, cie_body};
 ghost use Rattle.unwind_definitions.specs.Entries.{cie_in};
 ghost use Rattle.unwind_definitions.specs.Entries.{entry_in, entry_at};
 ghost use Rattle.unwind_definitions.specs.Row.{covers_pc};
@@ -437,7 +437,7 @@ fn read_body<'a>(input: &mut Cursor<'a>) -> Result<Option<Cursor<'a>>, Error>
 
 // The length of an entry: what four bytes spell or, where these are all set, the eight after them.
 fn read_long_length(short: u32, input: &mut Cursor) -> Result<u64, Error>
-    ensures { GivesOr (λ n. n) result (length_behind (short, at input.old)) (at input.new) }
+    ensures { GivesOr (λ n. n) result (length_after (short, at input.old)) (at input.new) }
 {
     if short == u32::MAX {
         return input.read_u64();

@@ -36,7 +36,7 @@ impl<'a> Entries<'a> {
     ghost use Rattle.std.specs.Option.{option_map};
     ghost use Rattle.encoded_pointers.specs.Readers.{Answers};
     ghost use Rattle.eh_frame.specs.EntryViews.{entry_of};
-    ghost use Rattle.eh_frame.specs.Listing.{listing_of, upcoming, entry_in, behind};
+    ghost use Rattle.eh_frame.specs.Listing.{listing_of, upcoming, entry_in, after};
 
     /// The entries of a table from its first byte on.
     pub(crate) fn new(table: EhFrame<'a>, bases: Bases) -> Entries<'a>
@@ -69,7 +69,7 @@ impl<'a> Entries<'a> {
     pub fn next(&mut self) -> Result<Option<Entry<'a>>, Error>
         ensures entry { Answers (option_map entry_of) result
             (entry_in (upcoming (listing_of self.old))) }
-        ensures rest { listing_of self.new ≡ behind (listing_of self.old)
+        ensures rest { listing_of self.new ≡ after (listing_of self.old)
             (upcoming (listing_of self.old)) }
     {
         if self.is_over {

@@ -1,6 +1,6 @@
 //! Where the functions of an index start, with a directory of them.
 
-ghost use Rattle.std.specs.Prelude.{◌≡◌, ◌+◌, ◌*◌, ◌^◌, ◌<◌, ◌≤◌, ℕ, IfOk, IfSome, length};
+ghost use Rattle.std.specs.Prelude.{◌≡◌, ◌+◌, ◌<◌, ◌≤◌, ℕ, IfOk, IfSome, length};
 ghost use Rattle.std.specs.Prelude.{slice_index};
 ghost use Rattle.eh_frame.specs.Directory.{AreBefore, AreBoundsAt, IsDirectory};
 

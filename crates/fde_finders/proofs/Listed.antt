@@ -52,8 +52,8 @@ module _ (bases : Bases) (image : List Span) (pc : ℕ) where
   pub ends_at_zero : (begin place : ℕ) → IsPast begin place → place < 2 ^ 64 → word_at image place ≡ Some 0 → FindsListed bases image begin pc None
   ends_at_zero begin place p lt at = ends_at begin place p (inr (mapped place (Some 0) lt at))
 
-  pub ends_behind : (begin place : ℕ) → IsPast begin place → 2 ^ 64 ≤ place → FindsListed bases image begin pc None
-  ends_behind begin place p le = ends_at begin place p (inl (rw (le-ltb place (2 ^ 64) le) refl))
+  pub ends_after : (begin place : ℕ) → IsPast begin place → 2 ^ 64 ≤ place → FindsListed bases image begin pc None
+  ends_after begin place p le = ends_at begin place p (inl (rw (le-ltb place (2 ^ 64) le) refl))
 
   pub found : (begin place w : ℕ) (k : FoundFde) → IsPast begin place → place < 2 ^ 64 → word_at image place ≡ Some w → w ≢ 0 → scanned_by bases image w pc ≡ Some k → FindsListed bases image begin pc (Some k)
   found begin place w k p lt at some is =

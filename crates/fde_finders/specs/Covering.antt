@@ -12,12 +12,12 @@ use Rattle.fde_finders.specs.Finding.{FoundFde, found_in, scanned_in}
 
 module _ (bases : Bases) (table : Input) (pc : ℕ) (fde : Fde) where
   in_entry : (entry : Entry) (later : Result Fde Fault) → (later ≡ Ok fde → IsTrue (covers_pc fde pc)) → found_or pc entry later ≡ Ok fde → IsTrue (covers_pc fde pc)
-  in_entry (ACie cie) later behind e = behind e
-  in_entry (AFde first) later behind e = go (covers_pc first pc) refl e
+  in_entry (ACie cie) later after e = after e
+  in_entry (AFde first) later after e = go (covers_pc first pc) refl e
     where
       go : (b : Bool) → covers_pc first pc ≡ b → cond b (Ok first) later ≡ Ok fde → IsTrue (covers_pc fde pc)
       go true is e = let same : first ≡ fde = cc in subst (λ (f : Fde). IsTrue (covers_pc f pc)) same is
-      go false is e = behind e
+      go false is e = after e
 
   covers_from : (turns offset : ℕ) → scan_from turns bases table pc offset ≡ Ok fde → IsTrue (covers_pc fde pc)
   covers_from zero offset e = absurd cc
@@ -25,9 +25,9 @@ module _ (bases : Bases) (table : Input) (pc : ℕ) (fde : Fde) where
     where
       go : ((next : ℕ) → scan_from turns bases table pc next ≡ Ok fde → IsTrue (covers_pc fde pc)) → (r : Result (Option Found) Fault) →
           (r >>= λ found. scan_after pc found (scan_from turns bases table pc)) ≡ Ok fde → IsTrue (covers_pc fde pc)
-      go behind (Err x) e = absurd cc
-      go behind (Ok None) e = absurd cc
-      go behind (Ok (Some found)) e = in_entry found.entry (scan_from turns bases table pc found.next) (behind found.next) e
+      go after (Err x) e = absurd cc
+      go after (Ok None) e = absurd cc
+      go after (Ok (Some found)) e = in_entry found.entry (scan_from turns bases table pc found.next) (after found.next) e
 
   pub scan-covers : scan bases table pc ≡ Ok fde → IsTrue (covers_pc fde pc)
   unfolding scan

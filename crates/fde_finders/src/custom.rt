@@ -1,6 +1,6 @@
 //! A finder that is told where the frame tables lie.
 
-ghost use Rattle.std.specs.Prelude.{◌≡◌, ◌≢◌, ◌+◌, ℕ, Option, Some, None, IsOk, IsErr, OnOk, OnErr};
+ghost use Rattle.std.specs.Prelude.{◌≡◌, ◌≢◌, ◌+◌, ℕ, Option, Some, None, OnOk, OnErr};
 ghost use Rattle.std.specs.Option.{option_map};
 ghost use Rattle.fde_finders.specs.declared.custom.FrameInfo.{FrameInfo};
 ghost use Rattle.fde_finders.specs.FoundViews.{found_fde_of};

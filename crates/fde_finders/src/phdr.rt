@@ -1,23 +1,20 @@
 //! A finder by the program headers of loaded objects.
 
-ghost use Rattle.std.specs.Prelude.{◌≡◌, ◌+◌, ◌≤◌, ℕ, List, [], ◌∷◌, ◌++◌, length, OnErr, OnOk};
+ghost use Rattle.std.specs.Prelude.{◌≡◌, ◌+◌, ◌≤◌, ℕ, List, [], ◌∷◌, ◌++◌, OnErr, OnOk};
 ghost use Rattle.std.specs.Prelude.{Option};
 ghost use Rattle.std.specs.Option.{option_map};
-ghost use Rattle.memory_image.specs.Words.{u32_at, u64_at};
-ghost use Rattle.memory_image.specs.Image.{Span};
 ghost use Rattle.unwind_definitions.specs.HeaderSearch.{AreWithinDigits};
 ghost use Rattle.fde_finders.specs.FoundViews.{found_fde_of};
-ghost use Rattle.fde_finders.specs.Finding.{FoundFde};
 ghost use Rattle.fde_finders.specs.InTurn.{FindsAmong};
 ghost use Rattle.fde_finders.specs.TurnCovering.{objects_contain};
 ghost use Rattle.fde_finders.specs.ProgramHeaders.{FindsInObject, data_base_of, dynamic_entries};
-ghost use Rattle.fde_finders.specs.ProgramHeaders.{found_in_object, in_range, is_of_type, is_text};
+ghost use Rattle.fde_finders.specs.ProgramHeaders.{found_in_object, in_range};
 ghost use Rattle.fde_finders.specs.ProgramHeaders.{last_such, pairs_in_object, plt_got, start_of};
 ghost use Rattle.fde_finders.specs.Sought.{is_sought};
 
 use crate::find_fde::{FDEFinder, FDESearchResult};
 use crate::tables::{relative_to, search_header};
-use memory_image::{Ledger, MemoryImage, Record, Records, Steps};
+use memory_image::{Ledger, MemoryImage, Record, Records, Steps, u32_at, u64_at};
 use std::alloc::{AllocError, Global};
 use std::marker::Model;
 
@@ -53,36 +50,6 @@ pub struct Phdr {
     pub p_memsz: u64,
     /// How its part is aligned.
     pub p_align: u64,
-}
-
-// The little-endian number of four bytes.
-fn u32_at(bytes: &[u8], offset: usize) -> u32
-    requires { offset + 4 ≤ length bytes.now }
-    ensures { result ≡ u32_at bytes.now offset }
-{
-    u32::from_le_bytes([
-        bytes[offset],
-        bytes[offset + 1],
-        bytes[offset + 2],
-        bytes[offset + 3],
-    ])
-}
-
-// The little-endian number of eight bytes.
-fn u64_at(bytes: &[u8], offset: usize) -> u64
-    requires { offset + 8 ≤ length bytes.now }
-    ensures { result ≡ u64_at bytes.now offset }
-{
-    u64::from_le_bytes([
-        bytes[offset],
-        bytes[offset + 1],
-        bytes[offset + 2],
-        bytes[offset + 3],
-        bytes[offset + 4],
-        bytes[offset + 5],
-        bytes[offset + 6],
-        bytes[offset + 7],
-    ])
 }
 
 impl Record for Phdr {
@@ -308,7 +275,7 @@ fn data_base(image: &MemoryImage<'_>, object: &PhdrObject<'_>) -> Option<u64>
     ensures { result ≡ data_base_of image.now object.now }
 {
     let dynamic = last_header(&object.headers, Sought::OfType(PT_DYNAMIC))?;
-    plt_got(image.from(start_of(object.base, &dynamic)).unwrap_or(&[]))
+    plt_got(image.bytes_from(start_of(object.base, &dynamic)))
 }
 
 // The first `DT_PLTGOT` of a dynamic section, which ends with its bytes or at `DT_NULL`.

@@ -1,7 +1,7 @@
 //! A finder by frame tables that are registered.
 
-ghost use Rattle.std.specs.Prelude.{◌≡◌, ◌+◌, ◌∷◌, ◌==◌, ℕ, [], Bool, true, false, OnErr, OnOk, Ok};
-ghost use Rattle.std.specs.Prelude.{Option, if◌then◌else◌};
+ghost use Rattle.std.specs.Prelude.{◌≡◌, ◌+◌, ◌∷◌, ◌==◌, [], true, false, OnErr, OnOk, Ok};
+ghost use Rattle.std.specs.Prelude.{Option};
 ghost use Rattle.std.specs.Option.{option_map};
 ghost use Rattle.fde_finders.specs.FoundViews.{found_fde_of};
 ghost use Rattle.fde_finders.specs.InTurn.{FindsAmong};

@@ -2,14 +2,13 @@
 
 ghost use Rattle.std.specs.Prelude.{◌≡◌, ◌+◌, ℕ};
 ghost use Rattle.std.specs.Option.{option_map};
-ghost use Rattle.unwind_definitions.specs.Header.{table_in};
 ghost use Rattle.unwind_definitions.specs.HeaderSearch.{AreWithinDigits};
 ghost use Rattle.unwind_definitions.specs.LanguageTable.{input_at};
 ghost use Rattle.encoded_pointers.specs.PointerViews.{bases_of, pointer_of};
 ghost use Rattle.eh_frame.specs.EntryViews.{fde_of, table_of};
-ghost use Rattle.eh_frame.specs.HeaderViews.{header_of, pairs_of};
+ghost use Rattle.eh_frame.specs.HeaderViews.{pairs_of};
 ghost use Rattle.fde_finders.specs.FoundViews.{found_fde_of};
-ghost use Rattle.fde_finders.specs.Finding.{found_in, relative_to, scanned_by, scanned_in};
+ghost use Rattle.fde_finders.specs.Finding.{relative_to, scanned_by};
 ghost use Rattle.fde_finders.specs.FrameTables.{table_by_header};
 ghost use Rattle.fde_finders.specs.NamedTables.{named_of};
 ghost use Rattle.fde_finders.specs.HeaderFinding.{by_table, found_by_header, led_address, fde_by_table};
@@ -92,7 +91,7 @@ pub(crate) fn table_by_header<'a>(
         hdr: Some(header),
         ..*known
     };
-    let bytes = image.from(header).unwrap_or(&[]);
+    let bytes = image.bytes_from(header);
     let parsed = EhFrameHdr::parse(bytes, header, &bases).ok()?;
     let table = target(image, parsed.eh_frame_ptr())?;
     Some(NamedTable {
@@ -152,7 +151,7 @@ fn listed_fde<'a, L: Ledger>(
 pub(crate) fn frames_at<'a>(image: &MemoryImage<'a>, table: u64) -> EhFrame<'a>
     ensures { table_of result ≡ input_at image.now table }
 {
-    EhFrame::new(image.from(table).unwrap_or(&[]), table)
+    EhFrame::new(image.bytes_from(table), table)
 }
 
 // Where a header's pointer leads: to its address, or to that in the cell there, if it is mapped.

@@ -10,7 +10,7 @@ use Rattle.pe_unwind_info.specs.declared.x86_64.operations.UnwindOperation.{Unwi
 use Rattle.pe_unwind_info.specs.declared.x86_64.registers.Register.{Register}
 use Rattle.pe_unwind_info.specs.Chain.{chain_of}
 use Rattle.pe_unwind_info.specs.EpilogGrammar.{IsEpilog}
-use Rattle.pe_unwind_info.specs.EpilogList.{leading_epilogs, behind_epilogs, is_due}
+use Rattle.pe_unwind_info.specs.EpilogList.{leading_epilogs, after_epilogs, is_due}
 use Rattle.pe_unwind_info.specs.Frame.{info_in, chained_of, operations_alone}
 use Rattle.pe_unwind_info.specs.FrameOf.{Image}
 use Rattle.pe_unwind_info.specs.FunctionTable.{functions_of, AreOrdered}
@@ -84,7 +84,7 @@ pub record DescribesRecord (image : List Span) (m : PeModule) (function : Runtim
   pub prologue : f.prologue ≡ inherited ++ own
   pub inherited_ends : AllByRecursion (λ (p : PrologueStep). p.end ≡ 0) inherited
   pub own_ends : Ascend 0 (ends_of own)
-  pub undoes_own : behind_epilogs (operations_in first) ≡ map undo_at_end (reverse own)
+  pub undoes_own : after_epilogs (operations_in first) ≡ map undo_at_end (reverse own)
   pub undoes_inherited : all_operations chained ≡ map undo (reverse (steps_of inherited))
   pub grouped : Grouped (steps_of f.prologue)
   pub frame_offset : IsFrameOffset grouped.set

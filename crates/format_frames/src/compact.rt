@@ -23,7 +23,6 @@ ghost use Rattle.format_frames.specs.Callers.{stepped_given, opcode_given, liste
 ghost use Rattle.format_frames.specs.Callers.{listed_given};
 
 use crate::machine::Stepped;
-use crate::memory::bytes_at;
 use eh_frame::{Bases, EhFrame, Fde, RowRoom};
 use macho_unwind_info::opcodes::{OpcodeX86_64, RegisterNameX86_64};
 use memory_image::MemoryImage;
@@ -328,7 +327,7 @@ fn by_frame_data<'a>(
         ≡ by_description image.now frames address (columns_of context.now)
         (fde_at (frame_bases frames) (input_at image.now frames) offset) }
 {
-    let table = EhFrame::new(bytes_at(image, frames), frames);
+    let table = EhFrame::new(image.bytes_from(frames), frames);
     let bases = Bases {
         text: None,
         data_base: None,

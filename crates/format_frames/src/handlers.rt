@@ -1,23 +1,18 @@
 // Whether the unwind records of a function name a handler.
 ghost use Rattle.std.specs.Prelude.{◌≡◌, ◌-◌};
-ghost use Rattle.std.specs.Option.{option_map};
 ghost use Rattle.std.specs.Result.{result_map_both};
 ghost use Rattle.format_definitions.specs.PeImage.{memory_of};
-ghost use Rattle.pe_unwind_info.specs.Chain.{chain_of};
-ghost use Rattle.pe_unwind_info.specs.Frame.{chained_of, info_in};
+ghost use Rattle.pe_unwind_info.specs.Frame.{info_in};
 ghost use Rattle.pe_unwind_info.specs.FunctionTable.{table_bytes, functions_of, lookup_of};
 ghost use Rattle.pe_unwind_info.specs.Info.{info_of};
 ghost use Rattle.format_frames.specs.Handlers.{handler_in, names_handler};
-ghost use Rattle.format_frames.specs.HandlerViews.{or_named};
 ghost use Rattle.format_frames.specs.Modules.{pe_module};
 ghost use Rattle.format_frames.specs.Refusals.{handler_due};
 
 use crate::error::FrameError;
 use crate::pe::{PeModule, refusal};
 use memory_image::MemoryImage;
-use pe_unwind_info::x86_64::{
-    FrameFault, FunctionTableEntries, RuntimeFunction, UnwindInfo, UnwindInfoTrailer,
-};
+use pe_unwind_info::x86_64::{FrameFault, FunctionTableEntries, RuntimeFunction, UnwindInfo};
 
 // how many records a function may have: its first, and those that are chained to it
 const RECORD_LIMIT: u32 = 33;
@@ -27,16 +22,6 @@ fn names_handler(info: &UnwindInfo<'_>) -> bool
     ensures { result ≡ names_handler (info_of info.now) }
 {
     info.flags_raw() % 4 != 0
-}
-
-// the function whose record goes on after this one
-fn chained_function(info: &UnwindInfo<'_>) -> Option<RuntimeFunction>
-    ensures { result ≡ chained_of (info_of info.now) }
-{
-    match info.trailer() {
-        Some(UnwindInfoTrailer::ChainedUnwindInfo { chained }) => Some(chained),
-        _ => None,
-    }
 }
 
 // the unwind record at an address so far from a module's base
@@ -66,7 +51,7 @@ fn handler_in(
         };
         let info = info_at(image, base, function.unwind_info_address)?;
         named = named || names_handler(&info);
-        next = chained_function(&info);
+        next = info.chained_function();
     }
     match next {
         Some(_) => Err(FrameFault::ChainLimit),

@@ -13,7 +13,6 @@ mod error;
 mod handlers;
 mod machine;
 mod macho;
-mod memory;
 mod pe;
 mod xmm;
 

@@ -1,5 +1,5 @@
 // The step in a Mach-O module.
-ghost use Rattle.std.specs.Prelude.{◌≡◌, ◌+◌, ◌-◌, ◌<◌, ◌≤◌, ◌^◌};
+ghost use Rattle.std.specs.Prelude.{◌≡◌, ◌-◌, ◌<◌, ◌≤◌, ◌^◌};
 ghost use Rattle.unwind_arch.specs.ContextViews.{columns_of};
 ghost use Rattle.format_definitions.specs.CompactStep.{macho_step};
 ghost use Rattle.macho_unwind_info.specs.Listing.{section_of};

@@ -1,5 +1,5 @@
 // The step in a PE module. Microsoft x64 exception handling, unwind procedure.
-ghost use Rattle.std.specs.Prelude.{◌≡◌, ◌+◌, ◌-◌, ◌<◌, ◌≤◌, ◌^◌};
+ghost use Rattle.std.specs.Prelude.{◌≡◌, ◌-◌, ◌<◌, ◌≤◌, ◌^◌};
 ghost use Rattle.std.specs.Option.{option_map, ForSome};
 ghost use Rattle.memory_image.specs.Image.{word_at};
 ghost use Rattle.unwind_arch.specs.ContextViews.{columns_of};

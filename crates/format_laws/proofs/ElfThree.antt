@@ -18,10 +18,10 @@ use Rattle.unwind_laws.proofs.ThreeValid.{sites_b, sites_c, emitted_plain, pairs
 use Rattle.format_laws.specs.PeSamples.{room_image}
 
 language_b : IsLanguageTable room_image 0x502000 0x401020 sites_b
-language_b = record { nonzero = λ e. absurd cc; size = 8; behind = _; header = refl; listed = _; actions = _; parts = refl; each = (_, refl, (_, refl, refl)) }
+language_b = record { nonzero = λ e. absurd cc; size = 8; after = _; header = refl; listed = _; actions = _; parts = refl; each = (_, refl, (_, refl, refl)) }
 
 language_c : IsLanguageTable room_image 0x50200c 0x401050 sites_c
-language_c = record { nonzero = λ e. absurd cc; size = 4; behind = _; header = refl; listed = _; actions = _; parts = refl; each = (_, refl, refl) }
+language_c = record { nonzero = λ e. absurd cc; size = 4; after = _; header = refl; listed = _; actions = _; parts = refl; each = (_, refl, refl) }
 
 emitted_language : IsEmittedCie room_image cie_language
 unfolding word_at

@@ -191,6 +191,6 @@ stands = record {
     keeps = by_register (λ r. distance r (steps_of pushes_done) ≡ None → value_of r state ≡ value_of r caller) (λ e. refl) (λ e. refl) (λ e. refl) (λ e. refl) (λ e. refl) (λ e. refl);
   };
   intact = by_register (λ r. _ → value_of r state ≡ value_of r caller) (λ e. refl) (λ e. refl) (λ e. refl) (λ e. refl) (λ e. refl) (λ e. refl);
-  behind = lit≤ tt;
+  after = lit≤ tt;
   below = lit< tt;
 }

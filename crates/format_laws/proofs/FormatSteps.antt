@@ -34,7 +34,7 @@ uncovered_ends image m a columns u =
       | inr from ↦ elim (cases_lt (a - m.base) (range_end u.info)) [
         | inl within ↦ let found = inside u.info (a - m.base) (lookup_of u.info (a - m.base)) u.pages (lookup_of-is u.info (a - m.base)) (from, within) in
             absurd (u.uncovered found.0 found.2.listed found.2.covers)
-        | inr behind ↦ outside u.info (a - m.base) (lookup_of u.info (a - m.base)) u.pages (lookup_of-is u.info (a - m.base)) (inr behind)
+        | inr after ↦ outside u.info (a - m.base) (lookup_of u.info (a - m.base)) u.pages (lookup_of-is u.info (a - m.base)) (inr after)
       ]
     ]
 

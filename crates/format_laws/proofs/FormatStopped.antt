@@ -51,7 +51,7 @@ module _ (image : List Span) (s : State) (c : Call) where
       let first = first_inside (c.callee.start + last_end c.callee.prologue) c.callee.end c.callee.bodies is.bodies is.has_body in
       let later : p.later ≡ [] = none_later p.done p.later (sym no_steps ∙ p.stands.steps) in
       let below : s.ra < first_body c.callee = subst (IsBelowNext c.callee s.ra) later p.stands.below in
-      let high = first.1 in let behind = p.stands.behind in
+      let high = first.1 in let after = p.stands.after in
       (omega arith, omega arith)
 
   epilog_lies : (m : PeModule) (table : List RuntimeFunction) (r : HasRecord image m table c.callee) → StandsInEpilog image m r.function c.callee r.describes c.caller s → (c.callee.start ≤ s.ra) × (s.ra < c.callee.end)

@@ -45,7 +45,7 @@ pub pe_body : IsFormatStop room_image modules functions caught_room caught_pushi
 unfolding room_lies room.module_described
 pe_body = record { inner = refl; listed = (0, lit< tt, refl); lies = room_lies; returns = λ e. absurd cc; stands = at_body (record { inside = refl; entered = room_entered }); caller = second_fits }
 
--- ---- behind the push of a prologue
+-- ---- after the push of a prologue
 abbrev done : List PrologueStep
 done = record { step = Push (Followed RBX); end = 1 } ∷ []
 
@@ -67,7 +67,7 @@ pushed_stands = record {
   steps = refl;
   entered = pushed_entered;
   intact = λ r h. by_register (λ q. value_of q pushed_room ≡ value_of q three.second) refl refl refl refl refl refl r;
-  behind = lit≤ tt;
+  after = lit≤ tt;
   below = lit< tt;
 }
 

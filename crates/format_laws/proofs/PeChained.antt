@@ -15,7 +15,7 @@ use Rattle.unwind_laws.proofs.Booleans.{both_true, either_false}
 use Rattle.unwind_laws.proofs.RowFacts.{by_register, state_fits}
 use Rattle.pe_unwind_info.specs.Chain.{chain_of}
 use Rattle.pe_unwind_info.specs.Epilog.{parsed_instruction, sequence_from}
-use Rattle.pe_unwind_info.specs.EpilogList.{leading_epilogs, behind_epilogs, any_lists, is_due}
+use Rattle.pe_unwind_info.specs.EpilogList.{leading_epilogs, after_epilogs, any_lists, is_due}
 use Rattle.pe_unwind_info.specs.Frame.{from_place}
 use Rattle.pe_unwind_info.specs.FrameOf.{epilog_if_tested, end_of_chain}
 use Rattle.pe_unwind_info.specs.FunctionTable.{lookup_of}
@@ -76,7 +76,7 @@ quiet pc h =
     quiet_at (memory_of chained_image 0x140000000) loop_record chained_info (pc - 0x140000000) (each_from 232 0x1018 test tests (pc - 0x140000000) (omega arith) (omega arith))
 
 unfoldable pub described : DescribesRecord chained_image module_of_one loop_record windows.function
-unfolding chain_of operations_of behind_epilogs
+unfolding chain_of operations_of after_epilogs
 described = record {
   start = refl;
   end = refl;
@@ -127,5 +127,5 @@ pub caller_fits : IsState windows.caller
 caller_fits = state_fits windows.caller (lit< tt) (lit< tt) (lit< tt) (lit< tt) (lit< tt) (lit< tt) (lit< tt) (lit< tt)
 
 pub computed : GivesState (pe_step chained_image module_of_one 0x101f (columns_of windows.start)) windows.caller
-unfolding word_at chain_of operations_of behind_epilogs leading_epilogs any_lists parsed_instruction sequence_from from_place end_of_chain run epilog_run lookup_of place_by_halving boundary_of
+unfolding word_at chain_of operations_of after_epilogs leading_epilogs any_lists parsed_instruction sequence_from from_place end_of_chain run epilog_run lookup_of place_by_halving boundary_of
 computed = record { caller = _; answered = refl; shows = record { ra = refl; sp = refl; saved = by_register (λ q. _ ≡ Some (value_of q windows.caller)) refl refl refl refl refl refl } }

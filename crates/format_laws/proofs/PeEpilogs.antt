@@ -149,22 +149,22 @@ module _ (image : List Span) (m : PeModule) (function : RuntimeFunction) (f : Fu
   top : t.sp - 8 < 2 ^ 64
   top = let h = words.sp in omega arith
 
-  abbrev behind_frame : List Step
-  behind_frame = set_step d.grouped.set ++ d.grouped.stores
+  abbrev after_frame : List Step
+  after_frame = set_step d.grouped.set ++ d.grouped.stores
 
-  steps_are : steps_of f.prologue ≡ map Push st.pushed ++ (map Allocate st.rooms ++ behind_frame)
-  steps_are = d.grouped.is ∙ ap (λ l. l ++ behind_frame) st.frame ∙ append_assoc (map Push st.pushed) (map Allocate st.rooms) behind_frame
+  steps_are : steps_of f.prologue ≡ map Push st.pushed ++ (map Allocate st.rooms ++ after_frame)
+  steps_are = d.grouped.is ∙ ap (λ l. l ++ after_frame) st.frame ∙ append_assoc (map Push st.pushed) (map Allocate st.rooms) after_frame
 
-  whole : Leaves image t start (map Push st.pushed ++ (map Allocate st.rooms ++ behind_frame))
+  whole : Leaves image t start (map Push st.pushed ++ (map Allocate st.rooms ++ after_frame))
   whole = subst (Leaves image t start) steps_are st.leaves
 
   pushed_part : Leaves image t start (map Push st.pushed)
-  pushed_part = (leaves_append image t (map Push st.pushed) (map Allocate st.rooms ++ behind_frame) start whole).0
+  pushed_part = (leaves_append image t (map Push st.pushed) (map Allocate st.rooms ++ after_frame) start whole).0
 
   allocated_part : stack_after start (map Push st.pushed ++ map Allocate st.rooms) + sum st.rooms ≡ stack_after start (map Push st.pushed)
   allocated_part =
-      let later = (leaves_append image t (map Push st.pushed) (map Allocate st.rooms ++ behind_frame) start whole).1 in
-      let rooms = (leaves_append image t (map Allocate st.rooms) behind_frame (stack_after start (map Push st.pushed)) later).0 in
+      let later = (leaves_append image t (map Push st.pushed) (map Allocate st.rooms ++ after_frame) start whole).1 in
+      let rooms = (leaves_append image t (map Allocate st.rooms) after_frame (stack_after start (map Push st.pushed)) later).0 in
       let h = lowered image t st.rooms (stack_after start (map Push st.pushed)) rooms in
       let e = stack_append (map Push st.pushed) (map Allocate st.rooms) start in
       omega (arith, h, e)
@@ -206,10 +206,10 @@ module _ (image : List Span) (m : PeModule) (function : RuntimeFunction) (f : Fu
   moved v r = set_other (number_of r) 4 v regs (not_sp r) ∙ shows.saved r
 
   -- an instruction that gives the stack back, and then all pops
-  behind_adjustment : (i : FunctionEpilogInstruction) (v : ℕ) → epilog_act register stack i regs ≡ Goes (with_stack_pointer v regs) → v ≡ stack_after start (map Push st.pushed) →
+  after_adjustment : (i : FunctionEpilogInstruction) (v : ℕ) → epilog_act register stack i regs ≡ Goes (with_stack_pointer v regs) → v ≡ stack_after start (map Push st.pushed) →
       ((r : CalleeSaved) → IsFalse (list_any (is_register r) st.pushed) → value_of r s ≡ value_of r t) → EpilogDone (i ∷ pops st.pushed)
   unfolding epilog_run
-  behind_adjustment i v acts at values =
+  after_adjustment i v acts at values =
       let next : Registers = with_stack_pointer v regs in
       let back = popped st.pushed next frames pushed_part at in
       record {
@@ -229,12 +229,12 @@ module _ (image : List Span) (m : PeModule) (function : RuntimeFunction) (f : Fu
   by_place todo left (before_add {n = n} total sp) values =
       let at = shows.sp in let parts = allocated_part in let falls = stack_falls (map Push st.pushed) start in let high = top in
       let back_is : (regs.general 4 + n) % 2 ^ 64 ≡ stack_after start (map Push st.pushed) = omega arith in
-      behind_adjustment (AddSP n) (plus (regs.general 4) n) (add_acts register n) back_is values
+      after_adjustment (AddSP n) (plus (regs.general 4) n) (add_acts register n) back_is values
   by_place todo left (before_lea {n = n} {m = k} set total sp frame) values =
       let at : regs.general 5 ≡ s.rbp = shows.saved RBP in let parts = allocated_part in let falls = stack_falls (map Push st.pushed) start in let high = top in
       let back_is : (regs.general 5 + n) % 2 ^ 64 ≡ stack_after start (map Push st.pushed) = omega arith in
       let named : register ≡ Some pe.RBP = names_rbp d.grouped.set d.first.header d.names.0 ∙ ap rbp_if set in
-      behind_adjustment (AddSPFromFP n) (plus (regs.general 5) n) (ap (λ o. epilog_act o stack (AddSPFromFP n) regs) named) back_is values
+      after_adjustment (AddSPFromFP n) (plus (regs.general 5) n) (ap (λ o. epilog_act o stack (AddSPFromFP n) regs) named) back_is values
   by_place todo left (before_pops gone split sp) values =
       let both : map Push st.pushed ≡ map Push left ++ map Push gone = ap (map Push) split ∙ map_append (λ (r : Saved). Push r) left gone in
       let back = popped left regs (first_part IsPushOrAllocation (map Push left) (map Push gone) (subst (AllByRecursion IsPushOrAllocation) both frames))
@@ -248,7 +248,7 @@ module _ (image : List Span) (m : PeModule) (function : RuntimeFunction) (f : Fu
       }
 
   few : length st.todo ≤ 12
-  few = few_instructions t s st.pushed st.rooms d.grouped.set st.todo st.left (map Allocate st.rooms ++ behind_frame) st.stands (unmapped IsPushOrAllocation st.pushed frames)
+  few = few_instructions t s st.pushed st.rooms d.grouped.set st.todo st.left (map Allocate st.rooms ++ after_frame) st.stands (unmapped IsPushOrAllocation st.pushed frames)
       (subst (λ l. AllPairs Apart (saves l)) steps_are is.prologue.once)
 
   abbrev bytes : List ℕ

@@ -19,7 +19,7 @@ use Rattle.pe_unwind_info.specs.declared.x86_64.operations.UnwindOperation.{Unwi
 use Rattle.pe_unwind_info.specs.declared.x86_64.registers.Register.{Register}
 use Rattle.pe_unwind_info.specs.Chain.{headed_operations, operations_of_all, operations_at, run_headed}
 use Rattle.pe_unwind_info.specs.Epilog.{Sequence, sequence_of}
-use Rattle.pe_unwind_info.specs.EpilogList.{leading_epilogs, behind_epilogs, is_due}
+use Rattle.pe_unwind_info.specs.EpilogList.{leading_epilogs, after_epilogs, is_due}
 use Rattle.pe_unwind_info.specs.Frame.{operations_alone, from_place, epilog_or_none, epilog_in}
 use Rattle.pe_unwind_info.specs.FrameOf.{Image, epilog_if_tested}
 use Rattle.pe_unwind_info.specs.Header.{frame_register_of}
@@ -50,9 +50,9 @@ all_run set stack (info ∷ infos) regs names =
     ∙ sym (run_both (frame_named set) stack own (all_operations infos) regs)
 
 chain_run : (set : Option ℕ) (stack : Stack) (offset : ℕ) (first : Info) (chained : List Info) (regs : Registers) → AllByRecursion (λ (info : Info). Names set info.header) (first ∷ chained) →
-    run_headed stack (operations_at offset first chained) regs ≡ run_by (frame_named set) stack (operations_alone (from_place offset (behind_epilogs (operations_in first))) ++ all_operations chained) regs
+    run_headed stack (operations_at offset first chained) regs ≡ run_by (frame_named set) stack (operations_alone (from_place offset (after_epilogs (operations_in first))) ++ all_operations chained) regs
 chain_run set stack offset first chained regs names =
-    let own : List UnwindOperation = operations_alone (from_place offset (behind_epilogs (operations_in first))) in
+    let own : List UnwindOperation = operations_alone (from_place offset (after_epilogs (operations_in first))) in
     run_of_both stack (headed_operations first own) (operations_of_all chained) regs
     ∙ ap (λ (x : After). then_goes x (run_headed stack (operations_of_all chained))) (headed_run set first stack own regs names.0)
     ∙ goes_same (run_by (frame_named set) stack own regs) (run_headed stack (operations_of_all chained)) (run_by (frame_named set) stack (all_operations chained)) (λ after. all_run set stack chained after names.1)
@@ -208,7 +208,7 @@ module _ (image : List Span) (m : PeModule) (function : RuntimeFunction) (f : Fu
       let u : Undone image t frame (steps_of (d.inherited ++ done)) regs = undone image t s regs frame (steps_of (d.inherited ++ done)) words shows p entered in
       let order : map undo (reverse (steps_of (d.inherited ++ done))) ≡ map undo (reverse (steps_of done)) ++ map undo (reverse (steps_of d.inherited)) =
       (ap (λ l. map undo (reverse l)) (map_append (λ (p : PrologueStep). p.step) d.inherited done) ∙ ap (map undo) (reverse-append (steps_of d.inherited) (steps_of done)) ∙ map_append undo (reverse (steps_of done)) (reverse (steps_of d.inherited))) in
-      let own_is : operations_alone (from_place offset (behind_epilogs (operations_in d.first))) ≡ map undo (reverse (steps_of done)) =
+      let own_is : operations_alone (from_place offset (after_epilogs (operations_in d.first))) ≡ map undo (reverse (steps_of done)) =
       (ap (λ l. operations_alone (from_place offset l)) (d.undoes_own ∙ ap (λ l. map undo_at_end (reverse l)) own) ∙ ap operations_alone (from_done offset done later low high) ∙ operations_are (reverse done) ∙ ap (map undo) (map_reverse (λ (p : PrologueStep). p.step) done)) in
       let ran : run_headed stack (operations_at offset d.first d.chained) regs ≡ Goes u.after =
       (chain_run d.grouped.set stack offset d.first d.chained regs d.names
@@ -245,7 +245,7 @@ module _ (image : List Span) (m : PeModule) (function : RuntimeFunction) (f : Fu
         FrameUndone (memory_of image m.base) (word_at image) (Some function) (s.ra - m.base) regs t
     in_prologue_undone done later st quiet =
         let at = d.start in
-        let from = st.behind in
+        let from = st.after in
         let o : Own d.inherited d.own done later = own_part f s.ra d.inherited d.own done later (sym d.prologue ∙ st.steps) d.inherited_ends (omega arith) st.below in
         let ascends : Ascend 0 (ends_of (o.rest ++ later)) = subst (λ l. Ascend 0 (ends_of l)) o.own_is d.own_ends in
         let from' : f.start + last_end (d.inherited ++ o.rest) ≤ s.ra = subst (λ l. f.start + last_end l ≤ s.ra) o.done_is from in
@@ -257,7 +257,7 @@ module _ (image : List Span) (m : PeModule) (function : RuntimeFunction) (f : Fu
         high : (later : List PrologueStep) → IsBelowNext f s.ra later → s.ra - f.start ≡ s.ra - m.base - function.begin_address → (l : ℕ) × (0 ≤ l) × Ascend l (ends_of later) → AllByRecursion (λ (p : PrologueStep). s.ra - m.base - function.begin_address < p.end) later
         high [] below same h = tt
         high (x ∷ xs) below same h =
-            let behind = st.behind in
+            let after = st.after in
             let lt : s.ra - m.base - function.begin_address < x.end = omega (arith, below) in
             (lt, above _ x.end xs (omega arith) (all_above x.end xs h.2.1))
 

@@ -17,7 +17,7 @@ use Rattle.pe_unwind_info.specs.declared.x86_64.epilog.FunctionEpilogInstruction
 use Rattle.pe_unwind_info.specs.Chain.{chain_of}
 use Rattle.pe_unwind_info.specs.Epilog.{parsed_instruction, sequence_from}
 use Rattle.pe_unwind_info.specs.EpilogGrammar.{no_rex, pop, ret}
-use Rattle.pe_unwind_info.specs.EpilogList.{leading_epilogs, behind_epilogs, any_lists, is_due}
+use Rattle.pe_unwind_info.specs.EpilogList.{leading_epilogs, after_epilogs, any_lists, is_due}
 use Rattle.pe_unwind_info.specs.Frame.{from_place}
 use Rattle.pe_unwind_info.specs.FrameOf.{end_of_chain}
 use Rattle.pe_unwind_info.specs.FunctionTable.{lookup_of}
@@ -63,7 +63,7 @@ pub quiet : (pc : ℕ) → IsTrue (in_body epilog_function pc) → IsInNoEpilog 
 quiet pc h = inl (ap (is_due 0x1400 (pc - 0x140000000)) listed_is ∙ not_due (pc - 0x140000000) (outside pc h))
 
 unfoldable pub described : DescribesRecord epilog_image module_of_one epilog_record epilog_function
-unfolding chain_of operations_of behind_epilogs
+unfolding chain_of operations_of after_epilogs
 described = record {
   start = refl;
   end = refl;
@@ -161,9 +161,9 @@ stand_in_described = (module_described, has_record, stands_before, stands_after)
 
 -- the steps, computed; after the pop the pushed word may even be unmapped
 pub computed_before : GivesState (pe_step epilog_image module_of_one 0x12e0 (columns_of epilog_start)) epilog_caller
-unfolding word_at chain_of operations_of behind_epilogs leading_epilogs any_lists parsed_instruction sequence_from from_place end_of_chain run epilog_run lookup_of place_by_halving boundary_of
+unfolding word_at chain_of operations_of after_epilogs leading_epilogs any_lists parsed_instruction sequence_from from_place end_of_chain run epilog_run lookup_of place_by_halving boundary_of
 computed_before = record { caller = _; answered = refl; shows = record { ra = refl; sp = refl; saved = by_register (λ q. _ ≡ Some (value_of q epilog_caller)) refl refl refl refl refl refl } }
 
 pub computed_after : GivesState (pe_step short_epilog_image module_of_one 0x12e1 (columns_of epilog_state)) epilog_caller
-unfolding word_at chain_of operations_of behind_epilogs leading_epilogs any_lists parsed_instruction sequence_from from_place end_of_chain run epilog_run lookup_of place_by_halving boundary_of
+unfolding word_at chain_of operations_of after_epilogs leading_epilogs any_lists parsed_instruction sequence_from from_place end_of_chain run epilog_run lookup_of place_by_halving boundary_of
 computed_after = record { caller = _; answered = refl; shows = record { ra = refl; sp = refl; saved = by_register (λ q. _ ≡ Some (value_of q epilog_caller)) refl refl refl refl refl refl } }

@@ -14,7 +14,7 @@ use Rattle.unwind_laws.proofs.Booleans.{both_true, either_false}
 use Rattle.unwind_laws.proofs.RowFacts.{by_register, state_fits}
 use Rattle.pe_unwind_info.specs.Chain.{chain_of}
 use Rattle.pe_unwind_info.specs.Epilog.{parsed_instruction, sequence_from}
-use Rattle.pe_unwind_info.specs.EpilogList.{leading_epilogs, behind_epilogs, any_lists, is_due}
+use Rattle.pe_unwind_info.specs.EpilogList.{leading_epilogs, after_epilogs, any_lists, is_due}
 use Rattle.pe_unwind_info.specs.Frame.{from_place}
 use Rattle.pe_unwind_info.specs.FrameOf.{epilog_if_tested, end_of_chain}
 use Rattle.pe_unwind_info.specs.FunctionTable.{lookup_of}
@@ -64,7 +64,7 @@ quiet pc h =
     quiet_at (memory_of pushes_image 0x140000000) pushes_record pushes_info (pc - 0x140000000) (each_from 27 0x1005 test tests (pc - 0x140000000) (omega arith) (omega arith))
 
 unfoldable pub described : DescribesRecord pushes_image module_of_one pushes_record pushes_function
-unfolding chain_of operations_of behind_epilogs
+unfolding chain_of operations_of after_epilogs
 described = record {
   start = refl;
   end = refl;
@@ -111,7 +111,7 @@ stands = record {
   steps = refl;
   entered = entered;
   intact = λ r h. by_register (λ q. value_of q pushes_state ≡ value_of q pushes_caller) refl refl refl refl refl refl r;
-  behind = lit≤ tt;
+  after = lit≤ tt;
   below = lit< tt;
 }
 
@@ -130,7 +130,7 @@ caller_fits = state_fits pushes_caller (lit< tt) (lit< tt) (lit< tt) (lit< tt) (
 
 -- the step, computed
 pub computed : GivesState (pe_step pushes_image module_of_one 0x1004 (columns_of pushes_state)) pushes_caller
-unfolding word_at chain_of operations_of behind_epilogs leading_epilogs any_lists parsed_instruction sequence_from from_place end_of_chain run epilog_run lookup_of place_by_halving boundary_of
+unfolding word_at chain_of operations_of after_epilogs leading_epilogs any_lists parsed_instruction sequence_from from_place end_of_chain run epilog_run lookup_of place_by_halving boundary_of
 computed = record {
   caller = _;
   answered = refl;

@@ -18,7 +18,7 @@ use Rattle.pe_unwind_info.specs.Chain.{chain_of}
 use Rattle.pe_unwind_info.specs.Frame.{info_in, chained_of}
 use Rattle.pe_unwind_info.specs.Info.{Info}
 use Rattle.pe_unwind_info.specs.Epilog.{parsed_instruction, sequence_from}
-use Rattle.pe_unwind_info.specs.EpilogList.{leading_epilogs, behind_epilogs, any_lists, is_due}
+use Rattle.pe_unwind_info.specs.EpilogList.{leading_epilogs, after_epilogs, any_lists, is_due}
 use Rattle.pe_unwind_info.specs.Frame.{from_place}
 use Rattle.pe_unwind_info.specs.FrameOf.{epilog_if_tested, end_of_chain}
 use Rattle.pe_unwind_info.specs.FunctionTable.{lookup_of}
@@ -58,7 +58,7 @@ quiet pc h =
     quiet_at (memory_of room_image 0x140000000) loop_record room_info (pc - 0x140000000) (each_from 251 0x1005 test tests (pc - 0x140000000) (omega arith) (omega arith))
 
 unfoldable pub described : DescribesRecord room_image module_of_one loop_record room_function
-unfolding chain_of operations_of behind_epilogs
+unfolding chain_of operations_of after_epilogs
 described = record {
   start = refl;
   end = refl;
@@ -121,13 +121,13 @@ pub caller_fits : IsState room_caller
 caller_fits = state_fits room_caller (lit< tt) (lit< tt) (lit< tt) (lit< tt) (lit< tt) (lit< tt) (lit< tt) (lit< tt)
 
 pub computed : GivesState (pe_step room_image module_of_one 0x104f (columns_of room_state)) room_caller
-unfolding word_at chain_of operations_of behind_epilogs leading_epilogs any_lists parsed_instruction sequence_from from_place end_of_chain run epilog_run lookup_of place_by_halving boundary_of
+unfolding word_at chain_of operations_of after_epilogs leading_epilogs any_lists parsed_instruction sequence_from from_place end_of_chain run epilog_run lookup_of place_by_halving boundary_of
 computed = record { caller = _; answered = refl; shows = record { ra = refl; sp = refl; saved = by_register (λ q. _ ≡ Some (value_of q room_caller)) refl refl refl refl refl refl } }
 
 -- ---- the record that goes on with itself
 
 pub loops : pe_step loop_image module_of_one 0x104f (columns_of loop_state) ≡ Err (InFrame ChainLimit)
-unfolding word_at chain_of operations_of behind_epilogs leading_epilogs any_lists parsed_instruction sequence_from from_place end_of_chain run epilog_run lookup_of place_by_halving boundary_of
+unfolding word_at chain_of operations_of after_epilogs leading_epilogs any_lists parsed_instruction sequence_from from_place end_of_chain run epilog_run lookup_of place_by_halving boundary_of
 loops = refl
 
 endless : chain_of (memory_of loop_image 0x140000000) 32 (chained_of loop_info) ≡ Err ChainLimit

@@ -146,7 +146,7 @@ ascends_after low [] ys h = (low, h)
 ascends_after low (x ∷ xs) ys h = ascends_after x.end xs ys h.1
 
 pub stands_inside : (image : List Span) (m : PeModule) (function : RuntimeFunction) (f : Function) (d : DescribesRecord image m function f) → IsFunction Windows f → (done later : List PrologueStep) (t s : State) → StandsAfter image f done later t s → (f.start ≤ s.ra) × (s.ra < f.end)
-stands_inside image m function f d is done later t s st = (let h = st.behind in omega arith, go later st.steps st.below)
+stands_inside image m function f d is done later t s st = (let h = st.after in omega arith, go later st.steps st.below)
   where
     ends : (f.start + last_end f.prologue ≤ first_body f) × (first_body f < f.end)
     ends = first_inside (f.start + last_end f.prologue) f.end f.bodies is.bodies is.has_body
@@ -154,7 +154,7 @@ stands_inside image m function f d is done later t s st = (let h = st.behind in 
     go : (later : List PrologueStep) → f.prologue ≡ done ++ later → IsBelowNext f s.ra later → s.ra < f.end
     go [] steps below = let h = ends.1 in omega (arith, below)
     go (p ∷ later) steps below =
-        let own = own_part f s.ra d.inherited d.own done (p ∷ later) (sym d.prologue ∙ steps) d.inherited_ends (let h = st.behind in omega arith) below in
+        let own = own_part f s.ra d.inherited d.own done (p ∷ later) (sym d.prologue ∙ steps) d.inherited_ends (let h = st.after in omega arith) below in
         let ascends = ascends_after 0 own.rest (p ∷ later) (subst (λ l. Ascend 0 (ends_of l)) own.own_is d.own_ends) in
         let last = end_of_later ascends.0 p later ascends.1 in
         let same = ap last_end steps ∙ last_after done p later in

@@ -43,7 +43,7 @@ abbrev pub pushes_record : RuntimeFunction
 pushes_record = record { begin_address = 0x1000; end_address = 0x1020; unwind_info_address = 0x2010 }
 
 abbrev pub pushes_info : Info
-pushes_info = record { header = header 0x01 0x05 0x03 0x00; slots = 0x05 ∷ 0x30 ∷ 0x04 ∷ 0xe0 ∷ 0x02 ∷ 0xf0 ∷ []; behind = [] }
+pushes_info = record { header = header 0x01 0x05 0x03 0x00; slots = 0x05 ∷ 0x30 ∷ 0x04 ∷ 0xe0 ∷ 0x02 ∷ 0xf0 ∷ []; after = [] }
 
 -- the first two steps, and the last
 abbrev pub pushes_done : List PrologueStep
@@ -80,7 +80,7 @@ abbrev pub epilog_record : RuntimeFunction
 epilog_record = record { begin_address = 0x1000; end_address = 0x1400; unwind_info_address = 0x2010 }
 
 abbrev pub epilog_info : Info
-epilog_info = record { header = header 0x02 0x01 0x03 0x00; slots = 0x02 ∷ 0x06 ∷ 0x20 ∷ 0x16 ∷ 0x01 ∷ 0x30 ∷ []; behind = [] }
+epilog_info = record { header = header 0x02 0x01 0x03 0x00; slots = 0x02 ∷ 0x06 ∷ 0x20 ∷ 0x16 ∷ 0x01 ∷ 0x30 ∷ []; after = [] }
 
 abbrev pub epilog_function : Function
 epilog_function = record {
@@ -113,7 +113,7 @@ abbrev pub loop_record : RuntimeFunction
 loop_record = record { begin_address = 0x1000; end_address = 0x1100; unwind_info_address = 0x2010 }
 
 abbrev pub loop_info : Info
-loop_info = record { header = header 0x21 0 0 0; slots = []; behind = table_bytes 0x00 0x11 }
+loop_info = record { header = header 0x21 0 0 0; slots = []; after = table_bytes 0x00 0x11 }
 
 abbrev pub loop_state : State
 loop_state = record { ra = 0x140001050; sp = 0x7000; rbx = 0; rbp = 0; r12 = 0; r13 = 0; r14 = 0; r15 = 0 }
@@ -140,7 +140,7 @@ room_image = record { start = 0x7090; bytes = room_stack } ∷
     record { start = 0x140002010; bytes = 0x01 ∷ 0x05 ∷ 0x02 ∷ 0x00 ∷ 0x05 ∷ 0x42 ∷ 0x01 ∷ 0x30 ∷ [] } ∷ []
 
 abbrev pub room_info : Info
-room_info = record { header = header 0x01 0x05 0x02 0x00; slots = 0x05 ∷ 0x42 ∷ 0x01 ∷ 0x30 ∷ []; behind = [] }
+room_info = record { header = header 0x01 0x05 0x02 0x00; slots = 0x05 ∷ 0x42 ∷ 0x01 ∷ 0x30 ∷ []; after = [] }
 
 abbrev pub room_function : Function
 room_function = record {
@@ -183,10 +183,10 @@ chained_image = record { start = 0x7fa8; bytes = windows.stack } ∷
     record { start = 0x140002040; bytes = 0x01 ∷ 0x02 ∷ 2 ∷ 0x25 ∷ 0x02 ∷ 0x50 ∷ 0x01 ∷ 0x70 ∷ [] } ∷ []
 
 abbrev pub chained_info : Info
-chained_info = record { header = header 0x21 0x18 9 0x25; slots = chained_first; behind = chained_trailer }
+chained_info = record { header = header 0x21 0x18 9 0x25; slots = chained_first; after = chained_trailer }
 
 abbrev pub inherited_info : Info
-inherited_info = record { header = header 0x01 0x02 2 0x25; slots = 0x02 ∷ 0x50 ∷ 0x01 ∷ 0x70 ∷ []; behind = [] }
+inherited_info = record { header = header 0x01 0x02 2 0x25; slots = 0x02 ∷ 0x50 ∷ 0x01 ∷ 0x70 ∷ []; after = [] }
 
 abbrev pub inherited_steps : List PrologueStep
 inherited_steps = record { step = Push RDI; end = 0 } ∷ record { step = Push (Followed RBP); end = 0 } ∷ []

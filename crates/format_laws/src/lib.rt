@@ -31,7 +31,7 @@ pub use samples::{
     state_stands_in_an_elf_prologue, states_stand_in_a_pe_epilog,
     stops_in_a_pe_epilog_are_described, stops_in_formats_are_described,
 };
-pub use stops::{chain_behind_a_stop_is_the_line, described_stop_is_undone};
+pub use stops::{chain_after_a_stop_is_the_line, described_stop_is_undone};
 pub use validity::{
     address_lies_in_one_module, format_chain_is_one, format_delivery_is_one,
     language_tables_lie_in_elf_modules, valid_format_chain_is_described,

@@ -1,7 +1,7 @@
 //! Modules byte for byte that meet the laws, states in their functions, and what the step answers
 //! there.
 
-ghost use Rattle.std.specs.Prelude.{◌≡◌, ◌-◌, ℕ, List, [], ◌∷◌, Some, None, Err, false};
+ghost use Rattle.std.specs.Prelude.{◌≡◌, ◌-◌, List, [], ◌∷◌, Some, None, Err, false};
 ghost use Rattle.memory_image.specs.Image.{IsLaidOut};
 ghost use Rattle.unwind_definitions.specs.State.{IsState};
 ghost use Rattle.unwind_definitions.specs.Prologue.{SystemV, Windows, steps_of};

@@ -27,7 +27,7 @@ pub fn described_stop_is_undone()
 
 /// Where the caller's state begins a described chain, the line from there shows the stopped state
 /// and then the chain's states.
-pub fn chain_behind_a_stop_is_the_line()
+pub fn chain_after_a_stop_is_the_line()
     ensures { (image : List Span) (modules : List FormatModule) (functions : List Function)
         (s : State) (c : Call) (calls : List Call) (columns : Columns) (limit : ℕ)
         → IsFormatProcess image modules

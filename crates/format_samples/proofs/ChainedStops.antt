@@ -12,7 +12,7 @@ use Rattle.unwind_laws.proofs.Booleans.{pairs_one}
 use Rattle.unwind_laws.proofs.RowFacts.{by_register}
 use Rattle.pe_unwind_info.specs.Chain.{chain_of}
 use Rattle.pe_unwind_info.specs.Epilog.{parsed_instruction, sequence_from}
-use Rattle.pe_unwind_info.specs.EpilogList.{leading_epilogs, behind_epilogs, any_lists}
+use Rattle.pe_unwind_info.specs.EpilogList.{leading_epilogs, after_epilogs, any_lists}
 use Rattle.pe_unwind_info.specs.Frame.{from_place}
 use Rattle.pe_unwind_info.specs.FrameOf.{end_of_chain}
 use Rattle.pe_unwind_info.specs.FunctionTable.{lookup_of}
@@ -63,7 +63,7 @@ allocated_stands = record {
   steps = refl;
   entered = allocated_entered;
   intact = λ r h. by_register (λ q. value_of q allocated_state ≡ value_of q windows.caller) refl refl refl refl refl refl r;
-  behind = lit≤ tt;
+  after = lit≤ tt;
   below = lit< tt;
 }
 
@@ -83,7 +83,7 @@ allocated_stop = record {
 }
 
 pub allocated_computed : GivesState (pe_step chained_image module_of_one 0x1004 (columns_of allocated_state)) windows.caller
-unfolding word_at chain_of operations_of behind_epilogs leading_epilogs any_lists parsed_instruction sequence_from from_place end_of_chain run epilog_run lookup_of place_by_halving boundary_of
+unfolding word_at chain_of operations_of after_epilogs leading_epilogs any_lists parsed_instruction sequence_from from_place end_of_chain run epilog_run lookup_of place_by_halving boundary_of
 allocated_computed = record { caller = _; answered = refl; shows = record { ra = refl; sp = refl; saved = by_register (λ q. _ ≡ Some (value_of q windows.caller)) refl refl refl refl refl refl } }
 
 -- ---- after the step that sets RBP
@@ -102,7 +102,7 @@ set_stands = record {
   steps = refl;
   entered = set_entered;
   intact = by_register (λ q. (q ≡ RBP → frame_depth (steps_of (inherited_steps ++ (allocation ++ setting))) ≡ None) → value_of q set_state ≡ value_of q windows.caller) (λ h. refl) (λ h. let unset = h refl in absurd cc) (λ h. refl) (λ h. refl) (λ h. refl) (λ h. refl);
-  behind = lit≤ tt;
+  after = lit≤ tt;
   below = lit< tt;
 }
 
@@ -122,5 +122,5 @@ set_stop = record {
 }
 
 pub set_computed : GivesState (pe_step chained_image module_of_one 0x1009 (columns_of set_state)) windows.caller
-unfolding word_at chain_of operations_of behind_epilogs leading_epilogs any_lists parsed_instruction sequence_from from_place end_of_chain run epilog_run lookup_of place_by_halving boundary_of
+unfolding word_at chain_of operations_of after_epilogs leading_epilogs any_lists parsed_instruction sequence_from from_place end_of_chain run epilog_run lookup_of place_by_halving boundary_of
 set_computed = record { caller = _; answered = refl; shows = record { ra = refl; sp = refl; saved = by_register (λ q. _ ≡ Some (value_of q windows.caller)) refl refl refl refl refl refl } }

@@ -17,7 +17,7 @@ use Rattle.pe_unwind_info.specs.declared.x86_64.epilog.FunctionEpilogInstruction
 use Rattle.pe_unwind_info.specs.Chain.{chain_of}
 use Rattle.pe_unwind_info.specs.Epilog.{parsed_instruction, sequence_from}
 use Rattle.pe_unwind_info.specs.EpilogGrammar.{no_rex, add_byte, pop, ret}
-use Rattle.pe_unwind_info.specs.EpilogList.{leading_epilogs, behind_epilogs, any_lists, is_due}
+use Rattle.pe_unwind_info.specs.EpilogList.{leading_epilogs, after_epilogs, any_lists, is_due}
 use Rattle.pe_unwind_info.specs.Frame.{from_place}
 use Rattle.pe_unwind_info.specs.FrameOf.{epilog_if_tested, end_of_chain}
 use Rattle.pe_unwind_info.specs.FunctionTable.{lookup_of}
@@ -68,7 +68,7 @@ quiet pc h =
     quiet_at (memory_of returning_image 0x140000000) returning_record room_info (pc - 0x140000000) (each_from 53 0x1005 test tests (pc - 0x140000000) (omega arith) (omega arith))
 
 unfoldable described : DescribesRecord returning_image module_of_one returning_record returning_function
-unfolding chain_of operations_of behind_epilogs
+unfolding chain_of operations_of after_epilogs
 described = record {
   start = refl;
   end = refl;
@@ -149,7 +149,7 @@ unfolding lies module_described has_record described
 add_stop = record { inner = refl; listed = (0, lit< tt, refl); lies = lies; returns = λ e. absurd cc; stands = at_epilog has_record stands_at_add; caller = caller_fits }
 
 pub add_computed : GivesState (pe_step returning_image module_of_one 0x103a (columns_of at_add)) returning_caller
-unfolding word_at chain_of operations_of behind_epilogs leading_epilogs any_lists parsed_instruction sequence_from from_place end_of_chain run epilog_run lookup_of place_by_halving boundary_of
+unfolding word_at chain_of operations_of after_epilogs leading_epilogs any_lists parsed_instruction sequence_from from_place end_of_chain run epilog_run lookup_of place_by_halving boundary_of
 add_computed = record { caller = _; answered = refl; shows = record { ra = refl; sp = refl; saved = by_register (λ q. _ ≡ Some (value_of q returning_caller)) refl refl refl refl refl refl } }
 
 -- ---- before the pop
@@ -163,7 +163,7 @@ unfolding lies module_described has_record described
 pop_stop = record { inner = refl; listed = (0, lit< tt, refl); lies = lies; returns = λ e. absurd cc; stands = at_epilog has_record stands_at_pop; caller = caller_fits }
 
 pub pop_computed : GivesState (pe_step returning_image module_of_one 0x103e (columns_of at_pop)) returning_caller
-unfolding word_at chain_of operations_of behind_epilogs leading_epilogs any_lists parsed_instruction sequence_from from_place end_of_chain run epilog_run lookup_of place_by_halving boundary_of
+unfolding word_at chain_of operations_of after_epilogs leading_epilogs any_lists parsed_instruction sequence_from from_place end_of_chain run epilog_run lookup_of place_by_halving boundary_of
 pop_computed = record { caller = _; answered = refl; shows = record { ra = refl; sp = refl; saved = by_register (λ q. _ ≡ Some (value_of q returning_caller)) refl refl refl refl refl refl } }
 
 -- ---- before the return
@@ -177,5 +177,5 @@ unfolding lies module_described has_record described
 return_stop = record { inner = refl; listed = (0, lit< tt, refl); lies = lies; returns = λ e. absurd cc; stands = at_epilog has_record stands_at_return; caller = caller_fits }
 
 pub return_computed : GivesState (pe_step returning_image module_of_one 0x103f (columns_of at_return)) returning_caller
-unfolding word_at chain_of operations_of behind_epilogs leading_epilogs any_lists parsed_instruction sequence_from from_place end_of_chain run epilog_run lookup_of place_by_halving boundary_of
+unfolding word_at chain_of operations_of after_epilogs leading_epilogs any_lists parsed_instruction sequence_from from_place end_of_chain run epilog_run lookup_of place_by_halving boundary_of
 return_computed = record { caller = _; answered = refl; shows = record { ra = refl; sp = refl; saved = by_register (λ q. _ ≡ Some (value_of q returning_caller)) refl refl refl refl refl refl } }

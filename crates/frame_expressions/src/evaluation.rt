@@ -67,9 +67,9 @@ fn run<R: RegisterMap<Word = u64>>(
         }
         left -= 1;
         let operation = read_operation(&mut input)?;
-        let behind = input.offset();
-        let next = perform(operation, behind, end, &mut stack, registers, image)?;
-        if next != behind {
+        let after = input.offset();
+        let next = perform(operation, after, end, &mut stack, registers, image)?;
+        if next != after {
             input = Cursor::from_offset(expression, 0, next);
         }
     }

@@ -38,7 +38,7 @@ pub fn loop_is_endless()
 
 /// Where a number that an expression reads isn't wholly mapped, the word at its address isn't
 /// either.
-pub fn fault_tells_what_is_unmapped()
+pub fn fault_names_what_is_unmapped()
     ensures { (image : List Span) (columns : Columns) (expression : List ℕ) (limit : ℕ)
         (start : Configuration) (a : ℕ) →
         HasFault image columns expression limit start (Unmapped a) → word_at image a ≡ None }

@@ -20,7 +20,7 @@ mod words;
 pub use error::EvalError;
 pub use evaluation::evaluate;
 pub use laws::{
-    answer_is_that_of_a_run, fault_tells_what_is_unmapped, loop_is_endless, sum_has_a_value,
+    answer_is_that_of_a_run, fault_names_what_is_unmapped, loop_is_endless, sum_has_a_value,
     unmapped_word_is_a_fault,
 };
 pub use unwind_definitions::Error;

@@ -1,6 +1,6 @@
 //! What operations do. DWARF 5 section 2.5.
 
-ghost use Rattle.std.specs.Prelude.{◌≡◌, ℕ, List, Result, ◌≤◌, ◌<◌, ◌^◌, length, IfOk, not, ◌==◌};
+ghost use Rattle.std.specs.Prelude.{◌≡◌, ℕ, List, Result, ◌≤◌, ◌<◌, ◌^◌, length, IfOk, ◌==◌};
 ghost use Rattle.memory_image.specs.Image.{number_at};
 ghost use Rattle.unwind_definitions.specs.declared.error.Error.{Error as Fault};
 ghost use Rattle.unwind_definitions.specs.Caller.{column_or_fault};
@@ -36,25 +36,25 @@ pub(crate) fn perform<R: RegisterMap<Word = u64>>(
 {
     match operation {
         Operation::Nop => Ok(next),
-        Operation::Pop => behind(stack.discard(), next),
-        Operation::Swap => behind(stack.swap(), next),
-        Operation::Rotate => behind(stack.rotate(), next),
-        Operation::Push(word) => behind(stack.push(word), next),
+        Operation::Pop => after(stack.discard(), next),
+        Operation::Swap => after(stack.swap(), next),
+        Operation::Rotate => after(stack.rotate(), next),
+        Operation::Push(word) => after(stack.push(word), next),
         Operation::PushRegister { register, offset } => {
             push_register(register, offset, next, stack, registers)
         }
-        Operation::Pick(below) => behind(stack.pick(below), next),
+        Operation::Pick(below) => after(stack.pick(below), next),
         Operation::Load(count) => load(count, next, stack, image),
-        Operation::Change(change) => behind(stack.change(change), next),
-        Operation::Combine(combination) => behind(stack.combine(combination), next),
-        Operation::Divide(division) => behind(stack.divide(division), next),
+        Operation::Change(change) => after(stack.change(change), next),
+        Operation::Combine(combination) => after(stack.combine(combination), next),
+        Operation::Divide(division) => after(stack.divide(division), next),
         Operation::Skip(distance) => target(distance, next, end),
         Operation::Branch(distance) => branch(distance, next, end, stack),
     }
 }
 
 // Where it goes on after an operation on the stack alone.
-fn behind(done: Result<(), Error>, next: u64) -> Result<u64, EvalError>
+fn after(done: Result<(), Error>, next: u64) -> Result<u64, EvalError>
     ensures goes_on { (new : List ℕ) (due : Result (List ℕ) Fault) → Leaves done new due →
         GoesOn result new (goes_on next due) }
     ensures within { IfOk result (λ n. n ≡ next) }
@@ -78,7 +78,7 @@ fn push_register<R: RegisterMap<Word = u64>>(
     ensures within { IfOk result (λ n. n ≡ next) }
 {
     match registers.get(register) {
-        Some(value) => behind(stack.push(value.wrapping_add(offset)), next),
+        Some(value) => after(stack.push(value.wrapping_add(offset)), next),
         None => Err(EvalError::Table(Error::UnsupportedRegister)),
     }
 }
@@ -94,7 +94,7 @@ fn load(
 {
     let address = stack.pop()?;
     match number(image, address, count) {
-        Some(number) => behind(stack.push(number), next),
+        Some(number) => after(stack.push(number), next),
         None => Err(EvalError::Unmapped(address)),
     }
 }

@@ -1,6 +1,5 @@
 //! Decoding operations from their bytes. DWARF 5 section 7.7.1.
 
-ghost use Rattle.std.specs.Prelude.{◌≡◌};
 ghost use Rattle.std.specs.Int.{w16};
 ghost use Rattle.unwind_definitions.specs.Pointers.{signed_number};
 ghost use Rattle.unwind_definitions.specs.Operations.{operation, constant, rearrangement};

@@ -1,9 +1,9 @@
 //! The stack that expressions work on. DWARF 5 section 2.5.1.
 
-ghost use Rattle.std.specs.Prelude.{◌≡◌, ◌≢◌, ◌<◌, ◌∷◌, [], OnErr, IfOk, IfErr};
+ghost use Rattle.std.specs.Prelude.{◌≡◌, ◌<◌, ◌∷◌, [], OnErr, IfOk, IfErr};
 ghost use Rattle.unwind_definitions.specs.Expressions.{push, pick, after_pop, after_swap};
 ghost use Rattle.unwind_definitions.specs.Expressions.{after_rotation, after_change};
-ghost use Rattle.unwind_definitions.specs.Expressions.{after_combination, after_division, top_of};
+ghost use Rattle.unwind_definitions.specs.Expressions.{after_combination, after_division};
 ghost use Rattle.frame_expressions.specs.OperationViews.{changed_by, combined_by, divided_by};
 ghost use Rattle.frame_expressions.specs.Answers.{Leaves, stack_of};
 

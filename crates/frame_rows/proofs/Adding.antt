@@ -65,7 +65,7 @@ module _ (start end : ℕ) (common own : Program) (old : KeptRows) where
     pub row_count : table.row_count ≡ old.row_count + length by
     pub counted : table.rule_count ≡ old.rule_count + rule_count_at due_at (map location_of (done by))
 
-  -- A program was run to its end, and a table has what is kept of it: for locations behind its range, too.
+  -- A program was run to its end, and a table has what is kept of it: for locations after its range, too.
   pub record IsKeptWhole (here : ℕ) (new : KeptRows) : Type 0 where
     pub by : List Kept
     pub locations : map location_of (done by) ≡ reached_locations start end common own
@@ -74,7 +74,7 @@ module _ (start end : ℕ) (common own : Program) (old : KeptRows) where
     pub counted : new.rule_count ≡ old.rule_count + kept_rule_count start end common own
     pub last : IsMovable own → location start own.instructions ≡ here
 
-  -- what is kept of the description stands behind the rest, within limits
+  -- what is kept of the description stands after the rest, within limits
   pub record IsAppended (limits : RowLimits) (new : KeptRows) : Type 0 where
     pub by : List Kept
     pub of : AreKeptOf start end common own (done by)
@@ -91,7 +91,7 @@ module _ (start end : ℕ) (common own : Program) (old : KeptRows) where
       let k = length-map by (kept_at_distance start) in
       omega arith
 
-  -- it is added: from the first index behind the rest on
+  -- it is added: from the first index after the rest on
   pub ranged : (limits : RowLimits) (range : RowRange) (new : KeptRows) → range.first ≡ length old.rows → range.end ≡ length new.rows → IsAppended limits new → IsAdded limits start end common own old range new
   ranged limits range new first last a =
       let part : slice_range new.rows range.first range.end ≡ a.by =
@@ -278,7 +278,7 @@ module _ (start end : ℕ) (common own : Program) (old : KeptRows) where
       pub kept_on : next < end → IsAdding next (push st.now st.by) rest new
       kept_on inside = goes_on here now q table a limits k.0 as_many next new m rest st inside gives_up_to k.2.pushes
 
-    -- the program was run to its end: what is kept stays for locations behind the range
+    -- the program was run to its end: what is kept stays for locations after the range
     pub kept_whole : (st : IsLastStretch start now q m) → Keeps limits (here - start) (Ok None) m table (Ok true) new → IsKeptWhole here new
     kept_whole st k =
         let h = a.stands in

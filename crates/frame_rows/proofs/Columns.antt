@@ -21,14 +21,14 @@ names is c = is_member nat_eq (filter_map column_named is) c
 -- what a cut keeps, and what it keeps after the first restore, says nothing of a column
 record Silent (initial : Option Rule) (c : ℕ) (kept : Cut) : Type 0 where
   now : last_said (says_of initial c) kept.kept ≡ None
-  later : last_said (says_of initial c) (unwrap_or kept.behind []) ≡ None
+  later : last_said (says_of initial c) (unwrap_or kept.after []) ≡ None
 
 or_false : (a b : Bool) → (a || b) ≡ false → (a ≡ false) × (b ≡ false)
 or_false false b e = (refl, e)
 or_false true b e = absurd cc
 
 module _ (initial : Option Rule) (c : ℕ) where
-  chosen : (behind : Option (List Instruction)) (kept : List Instruction) → last_said (says_of initial c) kept ≡ None → last_said (says_of initial c) (unwrap_or behind []) ≡ None → last_said (says_of initial c) (unwrap_or behind kept) ≡ None
+  chosen : (after : Option (List Instruction)) (kept : List Instruction) → last_said (says_of initial c) kept ≡ None → last_said (says_of initial c) (unwrap_or after []) ≡ None → last_said (says_of initial c) (unwrap_or after kept) ≡ None
   chosen None kept now later = now
   chosen (Some b) kept now later = later
 
@@ -41,7 +41,7 @@ module _ (initial : Option Rule) (c : ℕ) where
 
   silent : (is : List Instruction) → names is c ≡ false → Silent initial c (cut_of is)
   silent [] e = record { now = refl; later = refl }
-  silent (Remember ∷ is) e = let ih = silent is e in record { now = chosen (cut_of is).behind (cut_of is).kept ih.now ih.later; later = ih.later }
+  silent (Remember ∷ is) e = let ih = silent is e in record { now = chosen (cut_of is).after (cut_of is).kept ih.now ih.later; later = ih.later }
   silent (Restore ∷ is) e = let ih = silent is e in record { now = rw ih.now refl; later = ih.now }
   silent (Write k r ∷ is) e =
       let both = or_false (nat_eq c k) (names is c) e in

@@ -28,12 +28,12 @@ pub same_by_ends : (xs ys : List ℕ) → length xs ≡ length ys → 8 ≤ leng
     slice_range xs (length xs - 8) (length xs - 8 + 8) ≡ slice_range ys (length xs - 8) (length xs - 8 + 8) → xs ≡ ys
 same_by_ends xs ys count some few first last =
     let n : ℕ = length xs - 8 in
-    let behind : drop n xs ≡ drop n ys = sym (rest xs n (omega arith)) ∙ last ∙ rest ys n (omega arith) in
-    let later : drop 8 xs ≡ drop 8 ys = sym (from_behind xs n (omega arith)) ∙ ap (drop (8 - n)) behind ∙ from_behind ys n (omega arith) in
+    let after : drop n xs ≡ drop n ys = sym (rest xs n (omega arith)) ∙ last ∙ rest ys n (omega arith) in
+    let later : drop 8 xs ≡ drop 8 ys = sym (from_after xs n (omega arith)) ∙ ap (drop (8 - n)) after ∙ from_after ys n (omega arith) in
     sym (take-append-drop 8 xs) ∙ ap (λ l. l ++ drop 8 xs) first ∙ ap (λ l. take 8 ys ++ l) later ∙ take-append-drop 8 ys
   where
     rest : (zs : List ℕ) (n : ℕ) → length zs ≡ n + 8 → slice_range zs n (n + 8) ≡ drop n zs
     rest zs n is = let same : n + 8 - n ≡ length zs - n = omega arith in ap (λ k. take k (drop n zs)) same ∙ take_rest zs n
 
-    from_behind : (zs : List ℕ) (n : ℕ) → n ≤ 8 → drop (8 - n) (drop n zs) ≡ drop 8 zs
-    from_behind zs n le = let same : n + (8 - n) ≡ 8 = omega arith in drop_more (8 - n) n zs ∙ ap (λ k. drop k zs) same
+    from_after : (zs : List ℕ) (n : ℕ) → n ≤ 8 → drop (8 - n) (drop n zs) ≡ drop 8 zs
+    from_after zs n le = let same : n + (8 - n) ≡ 8 = omega arith in drop_more (8 - n) n zs ∙ ap (λ k. drop k zs) same

@@ -36,13 +36,13 @@ module _ (bodies : List (Result RowValue Fault)) where
   }
     where
       go : (xs : List TableRow) (end : ℕ) → pc < end → ((d : TableRow) → 0 + 1 < length (x ∷ xs) → pc < (get_or (x ∷ xs) (0 + 1) d).distance) → pc < first_location end (map (kept_in bodies) xs)
-      go [] end below behind = below
-      go (y ∷ ys) end below behind = behind d (omega arith)
+      go [] end below after = below
+      go (y ∷ ys) end below after = after d (omega arith)
   holds (x ∷ xs) pc (suc i) d answer last is =
       let h = holds xs pc i d answer (record { within = let w = last.within in omega arith; before = last.before; after = λ e lt. let more : suc i + 1 ≡ suc (i + 1) = omega arith in subst (λ n. pc < (get_or (x ∷ xs) n e).distance) more (last.after e (omega arith)) }) is in
       record { before = kept_in bodies x ∷ h.before; here = h.here; later = h.later; all = ap (λ l. kept_in bodies x ∷ l) h.all; at_or_before = h.at_or_before; after = h.after; answers = h.answers }
 
--- what holds at a distance holds at the address that is so far behind a start
+-- what holds at a distance holds at the address that is so far after a start
 pub holds_placed : (start distance : ℕ) (kept : List Kept) (answer : Result RowValue Fault) → HoldsAt kept distance answer → HoldsAt (map (kept_at_distance start) kept) (start + distance) answer
 holds_placed start distance kept answer h = record {
   before = map (kept_at_distance start) h.before;

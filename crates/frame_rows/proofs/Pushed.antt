@@ -20,25 +20,25 @@ last_said-push says (k ∷ is) i = ap (λ o. option_or o (says k)) (last_said-pu
 
 -- an instruction that neither remembers nor restores
 pub record IsPlain (i : Instruction) : Type 0 where
-  pub alone : (is : List Instruction) → cut_of (i ∷ is) ≡ record { kept = i ∷ (cut_of is).kept; behind = (cut_of is).behind }
+  pub alone : (is : List Instruction) → cut_of (i ∷ is) ≡ record { kept = i ∷ (cut_of is).kept; after = (cut_of is).after }
   pub still : remembers i ≡ None
 
 abbrev pushed : Instruction → Cut → Cut
-pushed i c = record { kept = c.kept ++ i ∷ []; behind = option_map (λ is. is ++ i ∷ []) c.behind }
+pushed i c = record { kept = c.kept ++ i ∷ []; after = option_map (λ is. is ++ i ∷ []) c.after }
 
-choose_pushed : (behind : Option (List Instruction)) (kept : List Instruction) (i : Instruction) → unwrap_or (option_map (λ is. is ++ i ∷ []) behind) (kept ++ i ∷ []) ≡ unwrap_or behind kept ++ i ∷ []
+choose_pushed : (after : Option (List Instruction)) (kept : List Instruction) (i : Instruction) → unwrap_or (option_map (λ is. is ++ i ∷ []) after) (kept ++ i ∷ []) ≡ unwrap_or after kept ++ i ∷ []
 choose_pushed None kept i = refl
 choose_pushed (Some b) kept i = refl
 
-cons_pushed : (k i : Instruction) (c d : Cut) → c ≡ pushed i d → record { kept = k ∷ c.kept; behind = c.behind } ≡ pushed i (record { kept = k ∷ d.kept; behind = d.behind })
-cons_pushed k i c d e = ap (λ (x : Cut). let r : Cut = record { kept = k ∷ x.kept; behind = x.behind } in r) e
+cons_pushed : (k i : Instruction) (c d : Cut) → c ≡ pushed i d → record { kept = k ∷ c.kept; after = c.after } ≡ pushed i (record { kept = k ∷ d.kept; after = d.after })
+cons_pushed k i c d e = ap (λ (x : Cut). let r : Cut = record { kept = k ∷ x.kept; after = x.after } in r) e
 
 cut_push : (is : List Instruction) (i : Instruction) → IsPlain i → cut_of (is ++ i ∷ []) ≡ pushed i (cut_of is)
 cut_push [] i plain = plain.alone []
 cut_push (Remember ∷ is) i plain =
-    ap (λ (x : Cut). let r : Cut = record { kept = unwrap_or x.behind x.kept; behind = x.behind } in r) (cut_push is i plain)
-    ∙ ap (λ (k : List Instruction). let r : Cut = record { kept = k; behind = option_map (λ is. is ++ i ∷ []) (cut_of is).behind } in r) (choose_pushed (cut_of is).behind (cut_of is).kept i)
-cut_push (Restore ∷ is) i plain = ap (λ (x : Cut). let r : Cut = record { kept = Restore ∷ x.kept; behind = Some x.kept } in r) (cut_push is i plain)
+    ap (λ (x : Cut). let r : Cut = record { kept = unwrap_or x.after x.kept; after = x.after } in r) (cut_push is i plain)
+    ∙ ap (λ (k : List Instruction). let r : Cut = record { kept = k; after = option_map (λ is. is ++ i ∷ []) (cut_of is).after } in r) (choose_pushed (cut_of is).after (cut_of is).kept i)
+cut_push (Restore ∷ is) i plain = ap (λ (x : Cut). let r : Cut = record { kept = Restore ∷ x.kept; after = Some x.kept } in r) (cut_push is i plain)
 cut_push (Nop ∷ is) i plain = cons_pushed (Nop) i (cut_of (is ++ i ∷ [])) (cut_of is) (cut_push is i plain)
 cut_push (Advance n ∷ is) i plain = cons_pushed (Advance n) i (cut_of (is ++ i ∷ [])) (cut_of is) (cut_push is i plain)
 cut_push (SetLocation n ∷ is) i plain = cons_pushed (SetLocation n) i (cut_of (is ++ i ∷ [])) (cut_of is) (cut_push is i plain)
@@ -171,12 +171,12 @@ closed_plain own i plain closed rest =
     ∙ ap (λ (is : List Instruction). is ++ kept_instructions rest) (sym (kept_push own i plain))
 
 pub open_plain : (before own : List Instruction) (i : Instruction) → IsPlain i → IsOpenSince before own → IsOpenSince before (own ++ i ∷ [])
-open_plain before own i plain opened rest kept behind =
-    ap kept_instructions (one_more own rest i) ∙ opened (i ∷ rest) kept (ap (λ (c : Cut). c.behind) (plain.alone rest) ∙ behind)
+open_plain before own i plain opened rest kept after =
+    ap kept_instructions (one_more own rest i) ∙ opened (i ∷ rest) kept (ap (λ (c : Cut). c.after) (plain.alone rest) ∙ after)
 
 pub open_remember : (own : List Instruction) → IsClosed own → IsOpenSince own (own ++ Remember ∷ [])
-open_remember own closed rest kept behind =
-    ap kept_instructions (one_more own rest Remember) ∙ closed (Remember ∷ rest) ∙ ap (λ (o : Option (List Instruction)). kept_instructions own ++ unwrap_or o (kept_instructions rest)) behind
+open_remember own closed rest kept after =
+    ap kept_instructions (one_more own rest Remember) ∙ closed (Remember ∷ rest) ∙ ap (λ (o : Option (List Instruction)). kept_instructions own ++ unwrap_or o (kept_instructions rest)) after
 
 pub cut_remember : (own : List Instruction) → IsClosed own → kept_instructions (own ++ Remember ∷ []) ≡ kept_instructions own
 cut_remember own closed = closed (Remember ∷ []) ∙ append-nil (kept_instructions own)

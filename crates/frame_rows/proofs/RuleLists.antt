@@ -96,39 +96,39 @@ module _ (c : ℕ) where
   }
 
   -- after a lower entry
-  behind : (rule r o : Option Rule) (e : ℕ × Rule) (q : ℕ) → e.0 < c → r ≡ cond (c == q) rule o → cond (e.0 == q) (Some e.1) r ≡ cond (c == q) rule (cond (e.0 == q) (Some e.1) o)
-  behind rule r o e q lt is = go (e.0 == q) refl
+  after : (rule r o : Option Rule) (e : ℕ × Rule) (q : ℕ) → e.0 < c → r ≡ cond (c == q) rule o → cond (e.0 == q) (Some e.1) r ≡ cond (c == q) rule (cond (e.0 == q) (Some e.1) o)
+  after rule r o e q lt is = go (e.0 == q) refl
     where
       go : (b : Bool) → (e.0 == q) ≡ b → cond (e.0 == q) (Some e.1) r ≡ cond (c == q) rule (cond (e.0 == q) (Some e.1) o)
       go true same = let eq : e.0 ≡ q = eqb-true e.0 q same in let other : (c == q) ≡ false = differ c q (λ k. omega arith) in rw (same, other) refl
       go false differs = rw differs is
 
-  found_behind : (low j : ℕ) (e : ℕ × Rule) (es : List (ℕ × Rule)) → low ≤ e.0 → e.0 < c → FoundAt c (suc e.0) es j → FoundAt c low (e ∷ es) (suc j)
-  found_behind low j e es from lt f =
+  found_after : (low j : ℕ) (e : ℕ × Rule) (es : List (ℕ × Rule)) → low ≤ e.0 → e.0 < c → FoundAt c (suc e.0) es j → FoundAt c low (e ∷ es) (suc j)
+  found_after low j e es from lt f =
       let other : (e.0 == c) ≡ false = differ e.0 c (λ k. omega arith) in
       record {
         within = let h = f.within in omega arith;
         has = rw other f.has;
         at = λ d. rw other (f.at d);
-        set_says = λ rule q. behind (Some rule) _ _ e q lt (f.set_says rule q);
+        set_says = λ rule q. after (Some rule) _ _ e q lt (f.set_says rule q);
         set_ascends = λ rule. (from, f.set_ascends rule);
-        removed_says = λ q. behind None _ _ e q lt (f.removed_says q);
+        removed_says = λ q. after None _ _ e q lt (f.removed_says q);
         removed_ascends = (from, f.removed_ascends);
       }
 
-  place_behind : (low j : ℕ) (e : ℕ × Rule) (es : List (ℕ × Rule)) → low ≤ e.0 → e.0 < c → PlaceAt c (suc e.0) es j → PlaceAt c low (e ∷ es) (suc j)
-  place_behind low j e es from lt p =
+  place_after : (low j : ℕ) (e : ℕ × Rule) (es : List (ℕ × Rule)) → low ≤ e.0 → e.0 < c → PlaceAt c (suc e.0) es j → PlaceAt c low (e ∷ es) (suc j)
+  place_after low j e es from lt p =
       let other : (e.0 == c) ≡ false = differ e.0 c (λ k. omega arith) in
       record {
         within = let h = p.within in omega arith;
         none = rw other p.none;
-        says = λ rule q. behind (Some rule) _ _ e q lt (p.says rule q);
+        says = λ rule q. after (Some rule) _ _ e q lt (p.says rule q);
         ascends = λ rule above fits. (from, p.ascends rule (omega arith) fits);
       }
 
   moved : (low k : ℕ) (e : ℕ × Rule) (es : List (ℕ × Rule)) (r : Result ℕ ℕ) → low ≤ e.0 → e.0 < c → Places c (suc e.0) (k + 1) es r → Places c low k (e ∷ es) r
-  moved low k e es (Ok i) from lt p = let h = p.1 in (suc p.0, omega arith, found_behind low p.0 e es from lt p.2)
-  moved low k e es (Err i) from lt p = let h = p.1 in (suc p.0, omega arith, place_behind low p.0 e es from lt p.2)
+  moved low k e es (Ok i) from lt p = let h = p.1 in (suc p.0, omega arith, found_after low p.0 e es from lt p.2)
+  moved low k e es (Err i) from lt p = let h = p.1 in (suc p.0, omega arith, place_after low p.0 e es from lt p.2)
 
   pub places : (low k : ℕ) (es : List (ℕ × Rule)) → AscendsFrom low es → Places c low k es (find_in c k es)
   places low k [] asc = (0, omega arith, record { within = omega arith; none = refl; says = λ rule q. refl; ascends = λ rule from fits. (from, omega arith) })

@@ -43,7 +43,7 @@ IsClosed own = (rest : List Instruction) → kept_instructions (own ++ rest) ≡
 
 -- A state is open since instructions: a restore leads back to them.
 abbrev pub IsOpenSince : List Instruction → List Instruction → Type 0
-IsOpenSince before own = (rest kept : List Instruction) → (cut_of rest).behind ≡ Some kept → kept_instructions (own ++ rest) ≡ kept_instructions before ++ kept
+IsOpenSince before own = (rest kept : List Instruction) → (cut_of rest).after ≡ Some kept → kept_instructions (own ++ rest) ≡ kept_instructions before ++ kept
 
 -- what is remembered, if a state is open
 abbrev pub IsRemembered : Option RowState → RowInstructions → Type 0

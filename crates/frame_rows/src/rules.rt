@@ -1,6 +1,6 @@
 //! The registers that have a rule, by ascending column.
 
-ghost use Rattle.std.specs.Prelude.{◌≡◌, ◌<◌, ℕ, List, length, IfOk, IfErr};
+ghost use Rattle.std.specs.Prelude.{◌≡◌, ◌<◌, ℕ, List, length, IfErr};
 
 use crate::rule::RegisterRule;
 use arrayvec::ArrayVec;

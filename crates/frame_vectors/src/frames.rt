@@ -223,8 +223,8 @@ fn a_frame_tells_what_was_found(rt: HostRuntime) -> Result<(), Fail> {
     context.ra = 0x40_1020;
     context.registers[RSP] = 0x7000;
     // After a call that is the function's last instruction; at that address nothing is found.
-    let behind = Frame::<Arch>::from_context(&image, &finder, &context, false, &mut steps);
-    let Ok(Some(frame)) = behind else {
+    let after = Frame::<Arch>::from_context(&image, &finder, &context, false, &mut steps);
+    let Ok(Some(frame)) = after else {
         assert!(rt; false);
         return Ok(());
     };

@@ -108,7 +108,7 @@ fn walked(alloc: Global, kind: FrameInfoKind, expected: &[(u64, u64, u64)]) -> R
 
 // The first common information entry can't be read: a header leads after it, a scan doesn't.
 #[test]
-fn a_header_leads_behind_what_a_scan_cannot_read(rt: HostRuntime) -> Result<(), Fail> {
+fn a_header_leads_past_what_a_scan_cannot_read(rt: HostRuntime) -> Result<(), Fail> {
     let frames = [
         (0x40_1030, 0x70d0, 0x11),
         (0x40_1060, 0x70e0, 0x22),

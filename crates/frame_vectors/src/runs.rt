@@ -6,6 +6,7 @@ ghost use Rattle.frame_vectors.specs.Visiting.{visit, visit_answer};
 use crate::asserting::expect_equal;
 use crate::languages::{CELL, FRAMES, LANGUAGES, bytes_of};
 use memory_image::{MemoryImage, NoLedger, Steps};
+use stack_deliver::{MachoTables, Module, ModuleTables};
 use std::alloc::Global;
 use std::test::Fail;
 use unwind_arch::x86_64::{Arch, Context, RBP, RBX, RSP};
@@ -21,36 +22,45 @@ use unwinding_core::{
 const PUSHES: &str =
     "1400000000000000017a5200017810011b0c070890010000140000001c000000e00ff0ff1000000000410e108302000000000000";
 
-// The frame table at 0x500000 for the addresses of a text.
-#[derive(Drop)]
-struct Text {
-    start: u64,
-    end: u64,
-}
-
-impl EhFrameFinder for Text {
-    ghost use Rattle.std.specs.Prelude.{◌≡◌, ◌<◌, ◌≤◌, Some, IfSome};
-
-    ghost names = { λ t pc info. IfSome info (λ i. (t.start ≤ pc) × (pc < t.end)) };
-
-    fn find(&self, pc: u64) -> Option<FrameInfo> {
-        if pc < self.start || pc >= self.end {
-            return None;
-        }
-        Some(FrameInfo {
-            text_base: None,
-            kind: FrameInfoKind::EhFrame(0x50_0000),
-        })
+// The frame table at 0x500000.
+fn frame_table() -> FrameInfo {
+    FrameInfo {
+        text_base: None,
+        kind: FrameInfoKind::EhFrame(0x50_0000),
     }
 }
 
-fn finder(end: u64) -> CustomFinder<Text> {
-    let mut finder = CustomFinder::new();
-    let _ = finder.set_custom_eh_frame_finder(Text {
+// The module of the text from 0x401000 on, which names that table.
+fn text(end: u64) -> Module {
+    Module {
         start: 0x40_1000,
         end,
-    });
+        tables: ModuleTables::Elf(frame_table()),
+    }
+}
+
+fn finder(end: u64) -> CustomFinder<Module> {
+    let mut finder = CustomFinder::new();
+    let _ = finder.set_custom_eh_frame_finder(text(end));
     finder
+}
+
+#[test]
+fn a_module_is_its_own_finder(rt: HostRuntime) -> Result<(), Fail> {
+    let elf = text(0x40_1010);
+    expect_equal(&rt, elf.find(0x40_0fff), None);
+    expect_equal(&rt, elf.find(0x40_1000), Some(frame_table()));
+    expect_equal(&rt, elf.find(0x40_100f), Some(frame_table()));
+    expect_equal(&rt, elf.find(0x40_1010), None);
+    let macho = Module {
+        tables: ModuleTables::Macho(MachoTables {
+            unwind_info: 0x50_0000,
+            frames: None,
+        }),
+        ..elf
+    };
+    expect_equal(&rt, macho.find(0x40_1000), None);
+    Ok(())
 }
 
 // What a stop or a trace was asked: how often, and for which actions or return addresses first and
@@ -147,7 +157,13 @@ fn forced(alloc: Global, stop: Visits, limit: u32) -> Result<(Option<i32>, (u64,
     let _ = image.add(0x7000, &stack);
     let mut stop = stop;
     let mut exception = UnwindException::new(0x22, 0x90_0000);
-    let end = _Unwind_ForcedUnwind::<Arch, CustomFinder<Text>, DummyPersonality, Visits, NoLedger>(
+    let end = _Unwind_ForcedUnwind::<
+        Arch,
+        CustomFinder<Module>,
+        DummyPersonality,
+        Visits,
+        NoLedger,
+    >(
         &image,
         &finder(0x40_1010),
         &start(0x40_1006, 0x7000),
@@ -198,7 +214,7 @@ fn traced(
     let _ = image.add(0x50_0000, &frames);
     let _ = image.add(0x7000, &stack);
     let mut trace = trace;
-    let ended = _Unwind_Backtrace::<Arch, CustomFinder<Text>, Visits, NoLedger>(
+    let ended = _Unwind_Backtrace::<Arch, CustomFinder<Module>, Visits, NoLedger>(
         &image,
         &finder(0x40_1010),
         &start(0x40_1006, 0x7000),
@@ -287,7 +303,7 @@ fn raised(
     context.registers[RBP] = 0x70c0;
     let mut exception = UnwindException::new(0x22, 0x90_0000);
     let personality = RustPersonality;
-    let cleanup = _Unwind_RaiseException::<Arch, CustomFinder<Text>, RustPersonality, NoLedger>(
+    let cleanup = _Unwind_RaiseException::<Arch, CustomFinder<Module>, RustPersonality, NoLedger>(
         &image,
         &finder,
         &context,
@@ -303,7 +319,7 @@ fn raised(
     context.registers[RBP] = 0xc;
     exception.kept = if kept == Kept::Stop { kept } else { found };
     let mut stop = NONE;
-    let handler = _Unwind_Resume::<Arch, CustomFinder<Text>, RustPersonality, Visits, NoLedger>(
+    let handler = _Unwind_Resume::<Arch, CustomFinder<Module>, RustPersonality, Visits, NoLedger>(
         &image,
         &finder,
         &context,
@@ -355,7 +371,7 @@ fn a_raise_without_handler_keeps_the_exception(rt: HostRuntime) -> Result<(), Fa
     let mut stop = NONE;
     let end = _Unwind_Resume_or_Rethrow::<
         Arch,
-        CustomFinder<Text>,
+        CustomFinder<Module>,
         RustPersonality,
         Visits,
         NoLedger,

@@ -38,7 +38,7 @@ module _ (image : List Span) (os : List Outline) (holds : HoldsTables image os) 
   cleanup_table start = record {
     nonzero = λ e. absurd cc;
     size = 8;
-    behind = input languages_place 4 (16 ∷ 24 ∷ 48 ∷ 0 ∷ 48 ∷ 16 ∷ 0 ∷ 0 ∷ after_cleanup);
+    after = input languages_place 4 (16 ∷ 24 ∷ 48 ∷ 0 ∷ 48 ∷ 16 ∷ 0 ∷ 0 ∷ after_cleanup);
     header = rw (holds.cleanup) refl;
     listed = input languages_place 4 (16 ∷ 24 ∷ 48 ∷ 0 ∷ 48 ∷ 16 ∷ 0 ∷ 0 ∷ []);
     actions = input languages_place 12 after_cleanup;
@@ -50,7 +50,7 @@ module _ (image : List Span) (os : List Outline) (holds : HoldsTables image os) 
   catch_table start = record {
     nonzero = λ e. absurd cc;
     size = 4;
-    behind = input (languages_place + 12) 4 (16 ∷ 24 ∷ 48 ∷ 1 ∷ 1 ∷ 0 ∷ []);
+    after = input (languages_place + 12) 4 (16 ∷ 24 ∷ 48 ∷ 1 ∷ 1 ∷ 0 ∷ []);
     header = rw (holds.catch) refl;
     listed = input (languages_place + 12) 4 (16 ∷ 24 ∷ 48 ∷ 1 ∷ []);
     actions = input (languages_place + 12) 8 (1 ∷ 0 ∷ []);

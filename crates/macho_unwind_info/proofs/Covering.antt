@@ -49,7 +49,7 @@ after_is : (b : Bool) (x a : ℕ) → ◌≡◌ {A = Result ℕ Error} (cond b (
 after_is true x a e = cc
 after_is false x a e = absurd cc
 
--- an entry's key stands so far behind the base
+-- an entry's key stands so far after the base
 address_of_key : (global : List Opcode) (page : Page) (j : ℕ) (e : Entry) (a : ℕ) → slice_get (entries_of global page) j ≡ Some e → e.address ≡ Ok a → get_or (keys_of page) j 0 + base_of page ≡ a
 address_of_key global (Regular functions) j e a at is = go (slice_get functions j) refl (sym (slice_get-map regular_entry functions j) ∙ at)
   where
@@ -93,7 +93,7 @@ pub record IsFoundIn (places : List (Result Function Error)) (pc : ℕ) (answer 
   pub at : slice_get places place ≡ Some (Ok function)
   pub covers : Covers function pc
 
--- the entry at a boundary and the one behind it lie round the address
+-- the entry at a boundary and the one after it lie round the address
 at_boundary : (global : List Opcode) (page : Page) (first next pc : ℕ) → AscendWithin first next (entries_of global page) → base_of page ≤ pc → pc < next → (j : ℕ) → IsBoundary (keys_of page) (pc - base_of page) j → (answer : Result (Option Function) Error) → answer ≡ answer_at (functions_of next (entries_of global page)) (Some j) →
     IsFoundIn (functions_of next (entries_of global page)) pc answer
 at_boundary global page first next pc ascend low high j is answer answered =
@@ -101,27 +101,27 @@ at_boundary global page first next pc ascend low high j is answer answered =
     let e = some_at (entries_of global page) j (let h = is.within in omega arith) in
     go e.0 e.1 (slice_get (entries_of global page) (j + 1)) refl
   where
-    go : (e : Entry) → slice_get (entries_of global page) j ≡ Some e → (behind : Option Entry) → slice_get (entries_of global page) (j + 1) ≡ behind → IsFoundIn (functions_of next (entries_of global page)) pc answer
-    go e at None behind_is =
+    go : (e : Entry) → slice_get (entries_of global page) j ≡ Some e → (after : Option Entry) → slice_get (entries_of global page) (j + 1) ≡ after → IsFoundIn (functions_of next (entries_of global page)) pc answer
+    go e at None next_is =
         let within = entry_within first next (entries_of global page) ascend j e at in
         let key = address_of_key global page j e within.at at within.is in
         let function : Function = record { start_address = within.at; end_address = next; opcode = within.opcode } in
         let here : slice_get (functions_of next (entries_of global page)) j ≡ Some (Ok function) =
         slice_get-functions_of next (entries_of global page) j ∙ ap (option_map (λ (x : Entry). function_of next x (slice_get (entries_of global page) (j + 1)))) at ∙
-        ap Some (ap (function_of next e) behind_is ∙ made next e None within.at next within.opcode within.is refl within.reads) in
+        ap Some (ap (function_of next e) next_is ∙ made next e None within.at next within.opcode within.is refl within.reads) in
         record { function = function; is = answered ∙ ap answer_of here; place = j; at = here; covers = ((let h = is.at_or_before in omega arith), high) }
-    go e at (Some e') behind_is =
+    go e at (Some e') next_is =
         let within = entry_within first next (entries_of global page) ascend j e at in
-        let within' = entry_within first next (entries_of global page) ascend (j + 1) e' behind_is in
+        let within' = entry_within first next (entries_of global page) ascend (j + 1) e' next_is in
         let key = address_of_key global page j e within.at at within.is in
-        let key' = address_of_key global page (j + 1) e' within'.at behind_is within'.is in
+        let key' = address_of_key global page (j + 1) e' within'.at next_is within'.is in
         let len = length_keys global page in
-        let inside = slice_get_within (entries_of global page) (j + 1) e' behind_is in
-        let below = is.next_behind (omega arith) in
+        let inside = slice_get_within (entries_of global page) (j + 1) e' next_is in
+        let below = is.next_after (omega arith) in
         let function : Function = record { start_address = within.at; end_address = within'.at; opcode = within.opcode } in
         let here : slice_get (functions_of next (entries_of global page)) j ≡ Some (Ok function) =
         slice_get-functions_of next (entries_of global page) j ∙ ap (option_map (λ (x : Entry). function_of next x (slice_get (entries_of global page) (j + 1)))) at ∙
-        ap Some (ap (function_of next e) behind_is ∙ made next e (Some e') within.at within'.at within.opcode within.is within'.is within.reads) in
+        ap Some (ap (function_of next e) next_is ∙ made next e (Some e') within.at within'.at within.opcode within.is within'.is within.reads) in
         record { function = function; is = answered ∙ ap answer_of here; place = j; at = here; covers = ((let h = is.at_or_before in omega arith), omega arith) }
 
 begin_at : (first : ℕ) (entries : List Entry) → BeginAt first entries → (e : Entry) × (slice_get entries 0 ≡ Some e) × (e.address ≡ Ok first)
@@ -147,29 +147,29 @@ found_in_page global page first next pc begin ascend low high answer look = go l
 
 -- ---- pages
 described_at : (bytes : List ℕ) (global : List Opcode) (pages : List PageEntry) → AreDescribed bytes global pages → (i : ℕ) (page next : PageEntry) → slice_get pages i ≡ Some page → slice_get pages (i + 1) ≡ Some next → IsDescribedPage bytes global page (first_address next)
-described_at bytes global [] are i page next at behind = absurd cc
-described_at bytes global (p ∷ []) are zero page next at behind = absurd cc
-described_at bytes global (p ∷ []) are (suc i) page next at behind = absurd cc
-described_at bytes global (p ∷ q ∷ pages) are zero page next at behind =
+described_at bytes global [] are i page next at after = absurd cc
+described_at bytes global (p ∷ []) are zero page next at after = absurd cc
+described_at bytes global (p ∷ []) are (suc i) page next at after = absurd cc
+described_at bytes global (p ∷ q ∷ pages) are zero page next at after =
     subst (λ (x : PageEntry). IsDescribedPage bytes global x (first_address next)) (same_some p page at)
-    (subst (λ (x : PageEntry). IsDescribedPage bytes global p (first_address x)) (same_some q next behind) are.1)
-described_at bytes global (p ∷ q ∷ pages) are (suc i) page next at behind =
+    (subst (λ (x : PageEntry). IsDescribedPage bytes global p (first_address x)) (same_some q next after) are.1)
+described_at bytes global (p ∷ q ∷ pages) are (suc i) page next at after =
     let more : suc i + 1 ≡ suc (i + 1) = omega arith in
-    described_at bytes global (q ∷ pages) are.2 i page next at (sym (ap (slice_get (p ∷ q ∷ pages)) more) ∙ behind)
+    described_at bytes global (q ∷ pages) are.2 i page next at (sym (ap (slice_get (p ∷ q ∷ pages)) more) ∙ after)
 
 in_listing : (bytes : List ℕ) (global : List Opcode) (pages : List PageEntry) (i : ℕ) (page next : PageEntry) → slice_get pages i ≡ Some page → slice_get pages (i + 1) ≡ Some next →
     (k : ℕ) (x : Result Function Error) → slice_get (page_places global (first_address next) (page_of bytes page >>= whole_page)) k ≡ Some x → (l : ℕ) × (slice_get (places_of bytes global pages) l ≡ Some x)
-in_listing bytes global [] i page next at behind k x e = absurd cc
-in_listing bytes global (p ∷ []) zero page next at behind k x e = absurd cc
-in_listing bytes global (p ∷ []) (suc i) page next at behind k x e = absurd cc
-in_listing bytes global (p ∷ q ∷ pages) zero page next at behind k x e =
+in_listing bytes global [] i page next at after k x e = absurd cc
+in_listing bytes global (p ∷ []) zero page next at after k x e = absurd cc
+in_listing bytes global (p ∷ []) (suc i) page next at after k x e = absurd cc
+in_listing bytes global (p ∷ q ∷ pages) zero page next at after k x e =
     let own : slice_get (page_places global (first_address q) (page_of bytes p >>= whole_page)) k ≡ Some x =
-    ap (λ (y : PageEntry). slice_get (page_places global (first_address y) (page_of bytes p >>= whole_page)) k) (same_some q next behind) ∙
+    ap (λ (y : PageEntry). slice_get (page_places global (first_address y) (page_of bytes p >>= whole_page)) k) (same_some q next after) ∙
     ap (λ (y : PageEntry). slice_get (page_places global (first_address next) (page_of bytes y >>= whole_page)) k) (same_some p page at) ∙ e in
     (k, get_left (page_places global (first_address q) (page_of bytes p >>= whole_page)) (places_of bytes global (q ∷ pages)) k x own)
-in_listing bytes global (p ∷ q ∷ pages) (suc i) page next at behind k x e =
+in_listing bytes global (p ∷ q ∷ pages) (suc i) page next at after k x e =
     let more : suc i + 1 ≡ suc (i + 1) = omega arith in
-    let inner = in_listing bytes global (q ∷ pages) i page next at (sym (ap (slice_get (p ∷ q ∷ pages)) more) ∙ behind) k x e in
+    let inner = in_listing bytes global (q ∷ pages) i page next at (sym (ap (slice_get (p ∷ q ∷ pages)) more) ∙ after) k x e in
     get_right (page_places global (first_address q) (page_of bytes p >>= whole_page)) (places_of bytes global (q ∷ pages)) inner.0 x inner.1
 
 opened_as : (r : Result Page Error) (page : Page) → (r >>= whole_page) ≡ Ok page → r ≡ Ok page
@@ -197,25 +197,25 @@ some_page : (pages : List PageEntry) (pc : ℕ) → pc < get_or (map first_addre
 some_page [] pc h = absurd (omega arith)
 some_page (p ∷ pages) pc h = omega arith
 
--- a page with another behind it, whose address is behind pc
+-- a page with another after it, whose address is after pc
 between : (info : Section) (pc : ℕ) (answer : Result (Option Function) Error) → HasDescribedPages info → (i : ℕ) (page next : PageEntry) → slice_get info.pages i ≡ Some page → slice_get info.pages (i + 1) ≡ Some next →
     IsBoundary (page_addresses info) pc i → IsAnswerAt info pc (Some i) answer → FindsListed info pc answer
-between info pc answer are i page next at behind is answered =
-    let described = described_at info.bytes info.global_opcodes info.pages are i page next at behind in
+between info pc answer are i page next at after is answered =
+    let described = described_at info.bytes info.global_opcodes info.pages are i page next at after in
     let from : IsAnswerFrom info pc (Some page) (Some next) answer =
-    subst (λ (o : Option PageEntry). IsAnswerFrom info pc (Some page) o answer) behind
+    subst (λ (o : Option PageEntry). IsAnswerFrom info pc (Some page) o answer) after
     (subst (λ (o : Option PageEntry). IsAnswerFrom info pc o (slice_get info.pages (i + 1)) answer) at answered) in
     let look : IsPageLookup info.global_opcodes described.opened (first_address next) pc answer =
     subst (λ (r : Result Page Error). MatchResult r (λ opened. IsPageLookup info.global_opcodes opened (first_address next) pc answer) (λ e. answer ≡ Err e))
     (opened_as (page_of info.bytes page) described.opened described.reads) from in
     let key = key_of_record first_address info.pages i page at in
-    let key' = key_of_record first_address info.pages (i + 1) next behind in
-    let inside = slice_get_within info.pages (i + 1) next behind in
+    let key' = key_of_record first_address info.pages (i + 1) next after in
+    let inside = slice_get_within info.pages (i + 1) next after in
     let len = length-map info.pages first_address in
     let low : first_address page ≤ pc = (let h = is.at_or_before in omega arith) in
-    let high : pc < first_address next = (let h = is.next_behind (omega arith) in omega arith) in
+    let high : pc < first_address next = (let h = is.next_after (omega arith) in omega arith) in
     let found = found_in_page info.global_opcodes described.opened (first_address page) (first_address next) pc described.begin described.ascend low high answer look in
-    let listed = in_listing info.bytes info.global_opcodes info.pages i page next at behind found.place (Ok found.function)
+    let listed = in_listing info.bytes info.global_opcodes info.pages i page next at after found.place (Ok found.function)
     (ap (λ (r : Result Page Error). slice_get (page_places info.global_opcodes (first_address next) r) found.place) described.reads ∙ found.at) in
     (found.function, found.is, record { listed = contained_at (listing info) listed.0 (Ok found.function) listed.1; covers = found.covers })
 
@@ -223,14 +223,14 @@ pub inside : (info : Section) (pc : ℕ) (answer : Result (Option Function) Erro
 inside info pc answer are look range = go look.page look.finds look.is
   where
     last : (i : ℕ) (page : PageEntry) → slice_get info.pages i ≡ Some page → (o : Option PageEntry) → slice_get info.pages (i + 1) ≡ o → IsBoundary (page_addresses info) pc i → IsAnswerAt info pc (Some i) answer → FindsListed info pc answer
-    last i page at None behind is answered =
+    last i page at None after is answered =
         let inside = slice_get_within info.pages i page at in
-        let end = none_at info.pages (i + 1) behind in
+        let end = none_at info.pages (i + 1) after in
         let i_is : i ≡ length info.pages - 1 = omega arith in
         let below : get_or (map first_address info.pages) (length info.pages - 1) 0 ≤ pc = subst (λ (k : ℕ). get_or (map first_address info.pages) k 0 ≤ pc) i_is is.at_or_before in
         let above = range.1 in
         absurd (omega arith)
-    last i page at (Some next) behind is answered = between info pc answer are i page next at behind is answered
+    last i page at (Some next) after is answered = between info pc answer are i page next at after is answered
 
     go : (place : Option ℕ) → Finds (page_addresses info) pc place → IsAnswerAt info pc place answer → FindsListed info pc answer
     go None finds answered =
@@ -253,21 +253,21 @@ last_key bytes global (p ∷ pages) are i page at = rw (last_address_is p pages)
 pub outside : (info : Section) (pc : ℕ) (answer : Result (Option Function) Error) → HasDescribedPages info → IsLookup info pc answer → IsOutside info pc → answer ≡ Ok None
 outside info pc answer are look out = go look.page look.finds look.is
   where
-    behind_page : (i : ℕ) (page : PageEntry) → slice_get info.pages i ≡ Some page → (o : Option PageEntry) → slice_get info.pages (i + 1) ≡ o → IsBoundary (page_addresses info) pc i → IsAnswerAt info pc (Some i) answer → IsOutside info pc → answer ≡ Ok None
-    behind_page i page at None behind is answered out =
-        subst (λ (o : Option PageEntry). IsAnswerFrom info pc (Some page) o answer) behind
+    after_page : (i : ℕ) (page : PageEntry) → slice_get info.pages i ≡ Some page → (o : Option PageEntry) → slice_get info.pages (i + 1) ≡ o → IsBoundary (page_addresses info) pc i → IsAnswerAt info pc (Some i) answer → IsOutside info pc → answer ≡ Ok None
+    after_page i page at None after is answered out =
+        subst (λ (o : Option PageEntry). IsAnswerFrom info pc (Some page) o answer) after
         (subst (λ (o : Option PageEntry). IsAnswerFrom info pc o (slice_get info.pages (i + 1)) answer) at answered)
-    behind_page i page at (Some next) behind is answered (inl before) =
+    after_page i page at (Some next) after is answered (inl before) =
         let key = key_of_record first_address info.pages i page at in
         let least = first_key info.bytes info.global_opcodes info.pages are i page at in
         let low = is.at_or_before in
         absurd (omega arith)
-    behind_page i page at (Some next) behind is answered (inr end) =
-        let key = key_of_record first_address info.pages (i + 1) next behind in
-        let greatest = last_key info.bytes info.global_opcodes info.pages are (i + 1) next behind in
-        let inside = slice_get_within info.pages (i + 1) next behind in
+    after_page i page at (Some next) after is answered (inr end) =
+        let key = key_of_record first_address info.pages (i + 1) next after in
+        let greatest = last_key info.bytes info.global_opcodes info.pages are (i + 1) next after in
+        let inside = slice_get_within info.pages (i + 1) next after in
         let len = length-map info.pages first_address in
-        let high = is.next_behind (omega arith) in
+        let high = is.next_after (omega arith) in
         absurd (omega arith)
 
     go : (place : Option ℕ) → Finds (page_addresses info) pc place → IsAnswerAt info pc place answer → answer ≡ Ok None
@@ -275,7 +275,7 @@ outside info pc answer are look out = go look.page look.finds look.is
     go (Some i) finds answered =
         let len = length-map info.pages first_address in
         let page = some_at info.pages i (let h = finds.within in omega arith) in
-        behind_page i page.0 page.1 (slice_get info.pages (i + 1)) refl finds answered out
+        after_page i page.0 page.1 (slice_get info.pages (i + 1)) refl finds answered out
 
 pub each : (info : Section) (pc : ℕ) (answer : Result (Option Function) Error) → HasDescribedPages info → IsLookup info pc answer → FindsEachListed info pc answer
 each info pc answer are look f is =

@@ -21,6 +21,6 @@ pub none_left : (bytes : List ℕ) (global : List Opcode) (open_page : Option Op
 none_left bytes global open_page pages e few =
     rw (nil_from_none (left_in_any global open_page) e, places_of-few bytes global pages few) refl
 
-pub none_left_behind : (bytes : List ℕ) (global : List Opcode) (open_page behind : Option OpenPage) (pages : List PageEntry) → None ≡ slice_get (left_in_any global open_page) 0 → left_in_any global behind ≡ drop 1 (left_in_any global open_page) → length pages < 2 → functions_left bytes global behind pages ≡ []
-none_left_behind bytes global open_page behind pages e rest few =
+pub none_left_after : (bytes : List ℕ) (global : List Opcode) (open_page after : Option OpenPage) (pages : List PageEntry) → None ≡ slice_get (left_in_any global open_page) 0 → left_in_any global after ≡ drop 1 (left_in_any global open_page) → length pages < 2 → functions_left bytes global after pages ≡ []
+none_left_after bytes global open_page after pages e rest few =
     rw (rest, nil_from_none (left_in_any global open_page) e, places_of-few bytes global pages few) refl

@@ -4,7 +4,7 @@ use Rattle.std.specs.Prelude.{slice_get, option_map}
 use Rattle.macho_unwind_info.specs.Listing.{function_of, functions_of}
 use Rattle.macho_unwind_info.specs.declared.page.Entry.{Entry}
 
--- the function at an index is that of the entry there and the one behind it
+-- the function at an index is that of the entry there and the one after it
 pub slice_get-functions_of : (next : ℕ) (entries : List Entry) (i : ℕ) → slice_get (functions_of next entries) i ≡ option_map (λ e. function_of next e (slice_get entries (i + 1))) (slice_get entries i)
 slice_get-functions_of next [] i = refl
 slice_get-functions_of next (e ∷ es) zero = refl

@@ -14,7 +14,7 @@ use Rattle.macho_unwind_info.specs.declared.page.Page.{Page}
 -- a boundary in the words of this crate
 finds_of : (keys : List ℕ) (p : ℕ) (place : Option ℕ) → halving.Finds keys p place → Finds keys p place
 finds_of keys p None finds = finds
-finds_of keys p (Some i) finds = record { within = finds.within; at_or_before = finds.at_or_before; next_behind = finds.next_behind }
+finds_of keys p (Some i) finds = record { within = finds.within; at_or_before = finds.at_or_before; next_after = finds.next_after }
 
 pub boundary_finds : (keys : List ℕ) (p : ℕ) → Finds keys p (boundary_of keys p)
 boundary_finds keys p = finds_of keys p (boundary_of keys p) (boundary_of-finds keys p)

@@ -18,10 +18,10 @@ pub join : (low mid high : ℕ) (xs ys : List (Result Function Error)) → LieEn
 join low mid high [] ys a b = subst (λ (n : ℕ). LieEndToEnd n high ys) (sym a) b
 join low mid high (x ∷ xs) ys a b = (a.0, join a.0.function.end_address mid high xs ys a.1 b)
 
--- the function of an entry with others behind it
-pub made : (next : ℕ) (entry : Entry) (behind : Option Entry) (start end opcode : ℕ) → entry.address ≡ Ok start → end_of next behind ≡ Ok end → entry.opcode ≡ Ok opcode →
-    function_of next entry behind ≡ Ok (record { start_address = start; end_address = end; opcode = opcode })
-made next entry behind start end opcode s e o = rw (s, e, o) refl
+-- the function of an entry with others after it
+pub made : (next : ℕ) (entry : Entry) (after : Option Entry) (start end opcode : ℕ) → entry.address ≡ Ok start → end_of next after ≡ Ok end → entry.opcode ≡ Ok opcode →
+    function_of next entry after ≡ Ok (record { start_address = start; end_address = end; opcode = opcode })
+made next entry after start end opcode s e o = rw (s, e, o) refl
 
 -- the entries of a page, the first at the low address
 page_end_to_end : (low next : ℕ) (entry : Entry) (entries : List Entry) (within : IsEntryWithin low next entry) → AscendWithin (within.at + 1) next entries → LieEndToEnd within.at next (functions_of next (entry ∷ entries))
@@ -30,18 +30,18 @@ page_end_to_end low next entry [] within ascend = (
     function = record { start_address = within.at; end_address = next; opcode = within.opcode };
     is = made next entry None within.at next within.opcode within.is refl within.reads;
     start = refl;
-    ends_behind = within.below_high;
+    ends_after = within.below_high;
   },
   refl,
 )
-page_end_to_end low next entry (behind ∷ entries) within ascend = (
+page_end_to_end low next entry (after ∷ entries) within ascend = (
   record {
     function = record { start_address = within.at; end_address = ascend.0.at; opcode = within.opcode };
-    is = made next entry (Some behind) within.at ascend.0.at within.opcode within.is ascend.0.is within.reads;
+    is = made next entry (Some after) within.at ascend.0.at within.opcode within.is ascend.0.is within.reads;
     start = refl;
-    ends_behind = (let h : within.at + 1 ≤ ascend.0.at = ascend.0.from_low in omega arith);
+    ends_after = (let h : within.at + 1 ≤ ascend.0.at = ascend.0.from_low in omega arith);
   },
-  page_end_to_end (within.at + 1) next behind entries ascend.0 ascend.1,
+  page_end_to_end (within.at + 1) next after entries ascend.0 ascend.1,
 )
 
 same_ok : {A E : Type 0} (x y : A) → ◌≡◌ {A = Result A E} (Ok x) (Ok y) → x ≡ y
@@ -92,7 +92,7 @@ contained_at xs k x e = (k, slice_get_within xs k x e, get_or_from_slice_get xs 
 pub rises : (low high : ℕ) (places : List (Result Function Error)) → LieEndToEnd low high places → low ≤ high
 rises low high [] lie = omega arith
 rises low high (place ∷ places) lie =
-    let behind = lie.0.ends_behind in
+    let after = lie.0.ends_after in
     let rest = rises lie.0.function.end_address high places lie.1 in
     omega arith
 
@@ -111,7 +111,7 @@ lies_within low high (place ∷ places) lie zero f e =
     subst (λ (g : Function). (low ≤ g.start_address) × (g.end_address ≤ high)) (head_is low place lie.0 f e) (omega arith, rest)
 lies_within low high (place ∷ places) lie (suc k) f e =
     let inner = lies_within lie.0.function.end_address high places lie.1 k f e in
-    let behind = lie.0.ends_behind in
+    let after = lie.0.ends_after in
     (omega (arith, inner.0), inner.1)
 
 pub one_covers : (low high : ℕ) (places : List (Result Function Error)) → LieEndToEnd low high places → (pc k l : ℕ) (f g : Function) → slice_get places k ≡ Some (Ok f) → slice_get places l ≡ Some (Ok g) → Covers f pc → Covers g pc → f ≡ g

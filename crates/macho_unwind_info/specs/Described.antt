@@ -74,7 +74,7 @@ pub record IsNext (low : ℕ) (place : Result Function Error) : Type 0 where
   pub function : Function
   pub is : place ≡ Ok function
   pub start : function.start_address ≡ low
-  pub ends_behind : low < function.end_address
+  pub ends_after : low < function.end_address
 
 abbrev pub LieEndToEnd : ℕ → ℕ → List (Result Function Error) → Type 0
 LieEndToEnd low high [] = low ≡ high

@@ -58,8 +58,8 @@ function_entry_in bytes = record { address = u32_at 0 bytes; opcode = record { 0
 -- ---- equal records have equal bytes
 -- bytes that agree on a field and after it agree from the field on
 same_from_field : (xs ys : List ℕ) (k n : ℕ) → take n (drop k xs) ≡ take n (drop k ys) → drop (k + n) xs ≡ drop (k + n) ys → drop k xs ≡ drop k ys
-same_from_field xs ys k n field behind =
-    sym (take-append-drop n (drop k xs)) ∙ rw (field, drop-drop n k xs, behind, ← drop-drop n k ys) (take-append-drop n (drop k ys))
+same_from_field xs ys k n field after =
+    sym (take-append-drop n (drop k xs)) ∙ rw (field, drop-drop n k xs, after, ← drop-drop n k ys) (take-append-drop n (drop k ys))
 
 same_ends : (xs ys : List ℕ) (n : ℕ) → length xs ≡ n → length ys ≡ n → drop n xs ≡ drop n ys
 same_ends xs ys n m l = drop_all n xs (omega arith) ∙ sym (drop_all n ys (omega arith))

@@ -10,9 +10,9 @@ use Rattle.macho_unwind_info.specs.declared.page.OpenPage.{OpenPage}
 use Rattle.macho_unwind_info.specs.declared.function.Function.{Function}
 
 -- a page without its first entry
-abbrev pub behind_first : Page → Page
-behind_first (Regular functions) = Regular (drop 1 functions)
-behind_first (Compressed first functions local) = Compressed first (drop 1 functions) local
+abbrev pub after_first : Page → Page
+after_first (Regular functions) = Regular (drop 1 functions)
+after_first (Compressed first functions local) = Compressed first (drop 1 functions) local
 
 -- what is left of a page
 abbrev pub left_in : List Opcode → OpenPage → List (Result Function Error)

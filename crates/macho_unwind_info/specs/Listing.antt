@@ -91,12 +91,12 @@ entries_of global (Compressed first functions local) = map (compressed_entry glo
 -- a function ends where the next begins, the last one of a page where the next page begins
 abbrev pub end_of : ℕ → Option Entry → Result ℕ Error
 end_of next None = Ok next
-end_of next (Some behind) = behind.address
+end_of next (Some after) = after.address
 
 abbrev pub function_of : ℕ → Entry → Option Entry → Result Function Error
-function_of next entry behind = do
+function_of next entry after = do
   start ← entry.address
-  end ← end_of next behind
+  end ← end_of next after
   opcode ← entry.opcode
   Ok (record { start_address = start; end_address = end; opcode = opcode })
 

@@ -20,7 +20,7 @@ use Rattle.macho_unwind_info.specs.declared.function.Function.{Function}
 pub record IsBoundary (keys : List ℕ) (p i : ℕ) : Type 0 where
   pub within : i < length keys
   pub at_or_before : slice_index keys i ≤ p
-  pub next_behind : i + 1 < length keys → p < slice_index keys (i + 1)
+  pub next_after : i + 1 < length keys → p < slice_index keys (i + 1)
 
 -- A search answers a boundary, and none only where there are no keys or the first one is after p.
 abbrev pub Finds : List ℕ → ℕ → Option ℕ → Type 0

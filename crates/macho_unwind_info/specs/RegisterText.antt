@@ -35,4 +35,4 @@ size_text (suc n) = codes "CFA=reg7+" ++ (decimal (suc n) ++ codes ":")
 
 -- the size lies in the code, so far after the function's start, and has so much added
 abbrev pub indirect_text : ℕ → ℕ → List ℕ
-indirect_text behind added = codes "CFA=[function_start+" ++ (decimal behind ++ (codes "]+" ++ decimal added))
+indirect_text after added = codes "CFA=[function_start+" ++ (decimal after ++ (codes "]+" ++ decimal added))

@@ -64,7 +64,7 @@ abbrev pub text_of : OpcodeX86 → List ℕ
 text_of Null = codes "(uncovered)"
 text_of (FrameBased offset saved) = frame_based_text offset saved
 text_of (FramelessImmediate size saved) = size_text size ++ frameless_text saved
-text_of (FramelessIndirect behind added saved) = indirect_text behind added ++ frameless_text saved
+text_of (FramelessIndirect after added saved) = indirect_text after added ++ frameless_text saved
 text_of (Dwarf entry) = codes "(check eh_frame FDE 0x" ++ (digits 16 false entry ++ codes ")")
 text_of InvalidFrameless = codes "!! frameless immediate or indirect with invalid permutation encoding"
 text_of (UnrecognizedKind kind) = codes "!! Unrecognized kind " ++ decimal kind

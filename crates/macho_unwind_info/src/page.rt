@@ -1,15 +1,15 @@
 // A page that was opened: its entries, and what they say.
-ghost use Rattle.std.specs.Prelude.{◌≡◌, ◌+◌, ◌-◌, ◌<◌, ◌≤◌, ◌^◌, IfSome, IfOk, length, slice_get};
-ghost use Rattle.std.specs.Prelude.{map, drop, option_copied};
+ghost use Rattle.std.specs.Prelude.{◌≡◌, ◌+◌, ◌-◌, ◌<◌, ◌≤◌, ◌^◌, IfSome, IfOk, slice_get};
+ghost use Rattle.std.specs.Prelude.{map, drop};
 ghost use Rattle.memory_image.specs.Halving.{boundary_of};
 ghost use Rattle.macho_unwind_info.specs.Unaligned.{u32_number};
 ghost use Rattle.macho_unwind_info.specs.Listing.{page_of, regular_of, compressed_of, opcode_at};
-ghost use Rattle.macho_unwind_info.specs.Listing.{opcode_named, address_after, regular_entry};
-ghost use Rattle.macho_unwind_info.specs.Listing.{compressed_entry, entries_of, end_of};
+ghost use Rattle.macho_unwind_info.specs.Listing.{opcode_named, address_after};
+ghost use Rattle.macho_unwind_info.specs.Listing.{entries_of};
 ghost use Rattle.macho_unwind_info.specs.Listing.{function_of, functions_of, whole_page};
 ghost use Rattle.macho_unwind_info.specs.Lookup.{Finds, base_of, keys_of, IsPageLookup};
 ghost use Rattle.macho_unwind_info.specs.Lookup.{page_lookup_of};
-ghost use Rattle.macho_unwind_info.specs.Iteration.{behind_first, left_in};
+ghost use Rattle.macho_unwind_info.specs.Iteration.{after_first, left_in};
 
 use crate::error::{Error, ReadError};
 use crate::function::Function;
@@ -80,12 +80,12 @@ fn address_after(first: u32, distance: u32) -> Result<u32, Error>
 
 /// The function of an entry with another after it, or at the end of a page with the next page
 /// after it.
-fn function_of(next_address: u32, entry: &Entry, behind: Option<Entry>) -> Result<Function, Error>
-    ensures { result ≡ function_of next_address entry.now behind }
+fn function_of(next_address: u32, entry: &Entry, after: Option<Entry>) -> Result<Function, Error>
+    ensures { result ≡ function_of next_address entry.now after }
 {
     let start_address = entry.address?;
-    let end_address = match behind {
-        Some(behind) => behind.address?,
+    let end_address = match after {
+        Some(after) => after.address?,
         None => next_address,
     };
     let opcode = entry.opcode?;
@@ -174,8 +174,8 @@ impl<'a> Page<'a> {
             i }
     {
         let entry = self.entry(global, i)?;
-        let behind = self.entry(global, i + 1);
-        Some(function_of(next_address, &entry, behind))
+        let after = self.entry(global, i + 1);
+        Some(function_of(next_address, &entry, after))
     }
 
     /// The index of the entry at an address, or of the last one before it.
@@ -230,7 +230,7 @@ impl<'a> Page<'a> {
 
     /// Passes the first entry.
     pub fn skip(&mut self)
-        ensures { self.new ≡ behind_first self.old }
+        ensures { self.new ≡ after_first self.old }
     {
         match self {
             Page::Regular { functions } => *functions = functions.after(1),

@@ -1,7 +1,6 @@
 // The search in a sorted list of records, and the keys by which lists are sorted.
 ghost use Rattle.std.specs.Prelude.{◌≡◌, ◌+◌, ◌<◌, ◌^◌, map, IfSome};
 ghost use Rattle.memory_image.specs.Halving.{boundary_of};
-ghost use Rattle.macho_unwind_info.specs.Unaligned.{u32_number};
 ghost use Rattle.macho_unwind_info.specs.Lookup.{Finds, first_address, start_address};
 ghost use Rattle.macho_unwind_info.specs.Lookup.{start_distance};
 

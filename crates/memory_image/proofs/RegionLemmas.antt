@@ -121,7 +121,7 @@ spans_of-insert_entry (e ∷ es) low a bytes laid some none =
     elim (leb_tells e.0 a) [
       | inl q ↦
           let no : ltb a e.0 ≡ false = grind (arith, nat_tests) in
-          let behind : end_of (span_of e) ≤ a = elim apart_from.here [ inl h ↦ h | inr h ↦ absurd (omega (arith, q.1)) ] in
+          let after : end_of (span_of e) ≤ a = elim apart_from.here [ inl h ↦ h | inr h ↦ absurd (omega (arith, q.1)) ] in
           rw (cmp_greater a e.0 (omega (arith, laid.1)), no) (ap (λ (us : List Span). span_of e ∷ us) (spans_of-insert_entry es (end_of (span_of e)) a bytes laid.3 some apart_from.rest))
       | inr q ↦ let yes : ltb a e.0 ≡ true = grind (arith, nat_tests) in rw (cmp_less a e.0 q.1, yes) refl
     ]

@@ -87,7 +87,7 @@ halved_is_turn (suc n) test low high le few = go (ltb low high) refl (test (low 
 pub record IsBoundary (keys : List ℕ) (p i : ℕ) : Type 0 where
   pub within : i < length keys
   pub at_or_before : slice_index keys i ≤ p
-  pub next_behind : i + 1 < length keys → p < slice_index keys (i + 1)
+  pub next_after : i + 1 < length keys → p < slice_index keys (i + 1)
 
 -- a boundary, and none only where there are no keys or the first one is after p
 abbrev pub Finds : List ℕ → ℕ → Option ℕ → Type 0
@@ -99,7 +99,7 @@ finds_before keys p zero is = λ some. leb-false (slice_index keys 0) p (is.at s
 finds_before keys p (suc i) is = record {
   within = (let h = is.to in omega arith);
   at_or_before = (let here : suc i - 1 ≡ i = omega arith in leb-true (slice_index keys i) p (sym (ap (is_at_or_before keys p) here) ∙ is.before (omega arith)));
-  next_behind = λ more. (let next : suc i ≡ i + 1 = omega arith in subst (λ (k : ℕ). p < slice_index keys k) next (leb-false (slice_index keys (suc i)) p (is.at (omega arith))));
+  next_after = λ more. (let next : suc i ≡ i + 1 = omega arith in subst (λ (k : ℕ). p < slice_index keys k) next (leb-false (slice_index keys (suc i)) p (is.at (omega arith))));
 }
 
 pub boundary_of-finds : (keys : List ℕ) (p : ℕ) → Finds keys p (boundary_of keys p)

@@ -7,7 +7,7 @@ use Rattle.pe_unwind_info.specs.declared.x86_64.operations.UnwindOperation.{Unwi
 use Rattle.pe_unwind_info.specs.Header.{frame_register_of}
 use Rattle.pe_unwind_info.specs.Info.{Info}
 use Rattle.pe_unwind_info.specs.InfoOperations.{operations_in}
-use Rattle.pe_unwind_info.specs.EpilogList.{leading_epilogs, behind_epilogs, is_due}
+use Rattle.pe_unwind_info.specs.EpilogList.{leading_epilogs, after_epilogs, is_due}
 use Rattle.pe_unwind_info.specs.Machine.{Registers, Stack, FrameEnd, After, Goes, Ends, then_goes, then_ends, pop_return}
 use Rattle.pe_unwind_info.specs.Steps.{act, run}
 use Rattle.pe_unwind_info.specs.Frame.{info_in, chained_of, operations_alone, from_place, follow, link_of}
@@ -85,7 +85,7 @@ pub frame_is_run : (memory : Image) (stack : Stack) (address : ℕ) (function : 
     epilog_if_tested (is_due function.end_address address (leading_epilogs (operations_in first))) memory (frame_register_of first.header) function.end_address address ≡ Ok None →
     frame_end_of memory stack address (Some function) regs ≡ then_ends (run_headed stack (operations_at (address - function.begin_address) first chained) regs) (pop_return stack)
 frame_is_run memory stack address function regs first chained reads links quiet =
-    let own : List UnwindOperation = operations_alone (from_place (address - function.begin_address) (behind_epilogs (operations_in first))) in
+    let own : List UnwindOperation = operations_alone (from_place (address - function.begin_address) (after_epilogs (operations_in first))) in
     ap (λ (r : Result Info FrameFault). in_record memory stack address function r regs) reads
     ∙ ap (λ (r : Result (Option (List FunctionEpilogInstruction)) FrameFault). by_test memory stack address function first r regs) quiet
     ∙ ends_same (run first.header stack own regs) (end_of_chain memory stack 32 (chained_of first)) (λ after. then_ends (run_headed stack (operations_of_all chained) after) (pop_return stack))

@@ -3,25 +3,25 @@ use Rattle.std.proofs.Common.{◌≡◌, ℕ, Bool, true, false, ◌||◌, List,
 use Rattle.pe_unwind_info.specs.declared.x86_64.operations.EpilogInformation.{EpilogInformation as Epilog}
 use Rattle.pe_unwind_info.specs.declared.x86_64.operations.UnwindOperation.TheVariants.{EpilogInformation}
 use Rattle.pe_unwind_info.specs.Operations.{Placed}
-use Rattle.pe_unwind_info.specs.EpilogList.{first_epilog, leading_epilogs, behind_epilogs, lists, any_lists}
+use Rattle.pe_unwind_info.specs.EpilogList.{first_epilog, leading_epilogs, after_epilogs, lists, any_lists}
 
 pub leading_none : (ops : List Placed) → first_epilog ops ≡ None → leading_epilogs ops ≡ []
 unfolding leading_epilogs
 leading_none [] e = refl
 leading_none (p ∷ later) e = rw e refl
 
-pub behind_none : (ops : List Placed) → first_epilog ops ≡ None → behind_epilogs ops ≡ ops
-unfolding behind_epilogs
-behind_none [] e = refl
-behind_none (p ∷ later) e = rw e refl
+pub after_none : (ops : List Placed) → first_epilog ops ≡ None → after_epilogs ops ≡ ops
+unfolding after_epilogs
+after_none [] e = refl
+after_none (p ∷ later) e = rw e refl
 
 pub leading_some : (ops later : List Placed) (place : ℕ) (epilog : Epilog) → ops ≡ (place, EpilogInformation epilog) ∷ later → leading_epilogs ops ≡ epilog ∷ leading_epilogs later
 unfolding leading_epilogs
 leading_some ops later place epilog e = rw e refl
 
-pub behind_some : (ops later : List Placed) (place : ℕ) (epilog : Epilog) → ops ≡ (place, EpilogInformation epilog) ∷ later → behind_epilogs ops ≡ behind_epilogs later
-unfolding behind_epilogs
-behind_some ops later place epilog e = rw e refl
+pub after_some : (ops later : List Placed) (place : ℕ) (epilog : Epilog) → ops ≡ (place, EpilogInformation epilog) ∷ later → after_epilogs ops ≡ after_epilogs later
+unfolding after_epilogs
+after_some ops later place epilog e = rw e refl
 
 pub any_none : (end size address : ℕ) → any_lists end size address [] ≡ false
 unfolding any_lists

@@ -8,7 +8,7 @@ use Rattle.pe_unwind_info.specs.declared.x86_64.epilog.FunctionEpilogInstruction
 use Rattle.pe_unwind_info.specs.declared.x86_64.epilog.InstructionParseError.TheVariants.{NotEnoughData, InvalidInstruction, TooManyInstructions}
 use Rattle.pe_unwind_info.specs.Numbers.{u32_at}
 use Rattle.pe_unwind_info.specs.Registers.{register_number}
-use Rattle.pe_unwind_info.specs.Epilog.{with_word, Read, Parsed, lea_from, lea_of, adjustment_of, pop_of, is_jump, two_bytes_of, pop_or_terminator_of, adjusted_or, behind_rex, split_behind, parsed_instruction}
+use Rattle.pe_unwind_info.specs.Epilog.{with_word, Read, Parsed, lea_from, lea_of, adjustment_of, pop_of, is_jump, two_bytes_of, pop_or_terminator_of, adjusted_or, after_rex, split_after, parsed_instruction}
 use Rattle.pe_unwind_info.specs.EpilogGrammar.{IsRexW, IsPrefix, no_rex, one_rex, NamesFrame, add_word, add_byte, lea_byte, lea_word, pop, pop_long, IsTerminator, ret, short_jump, near_jump, memory_jump, BeginsWith, BeginsWithTerminator, IsCut, empty, add_cut, lea_cut}
 
 -- what the grammar says of bytes, by what was read from them
@@ -149,7 +149,7 @@ adjusted_is frame bytes (Some (Err NotEnoughData)) later a b = a
 adjusted_is frame bytes (Some (Err InvalidInstruction)) later a b = tt
 adjusted_is frame bytes (Some (Err TooManyInstructions)) later a b = a
 
-with_prefix : (frame : Option Register) (allowed : Bool) (first : ℕ) (code : List ℕ) → first / 16 ≡ 4 → IsReadRightly frame allowed (first ∷ code) (behind_rex frame allowed (first % 16) code)
+with_prefix : (frame : Option Register) (allowed : Bool) (first : ℕ) (code : List ℕ) → first / 16 ≡ 4 → IsReadRightly frame allowed (first ∷ code) (after_rex frame allowed (first % 16) code)
 with_prefix frame allowed first code e = go allowed (eqb ((first % 16) / 8) 1) refl
   where
     bit : (first % 16) % 2 ≡ first % 2
@@ -161,12 +161,12 @@ with_prefix frame allowed first code e = go allowed (eqb ((first % 16) / 8) 1) r
     wide : eqb ((first % 16) / 8) 1 ≡ true → IsRexW first
     wide f = let g : (first % 16) / 8 ≡ 1 = eqb-true _ _ f in record { high = omega arith }
 
-    go : (allowed w : Bool) → eqb ((first % 16) / 8) 1 ≡ w → IsReadRightly frame allowed (first ∷ code) (behind_rex frame allowed (first % 16) code)
+    go : (allowed w : Bool) → eqb ((first % 16) / 8) 1 ≡ w → IsReadRightly frame allowed (first ∷ code) (after_rex frame allowed (first % 16) code)
     go true true f = rw f (adjusted_is frame (first ∷ code) (adjustment_of frame (first % 16) code) _ (adjustment_is frame first (wide f) code) (plain true))
     go true false f = rw f (plain true)
     go false w f = plain false
 
-without_prefix : (frame : Option Register) (allowed : Bool) (code : List ℕ) → IsReadRightly frame allowed code (behind_rex frame allowed 0 code)
+without_prefix : (frame : Option Register) (allowed : Bool) (code : List ℕ) → IsReadRightly frame allowed code (after_rex frame allowed 0 code)
 without_prefix frame true code = pop_or_terminator_is frame true [] 0 no_rex code
 without_prefix frame false code = pop_or_terminator_is frame false [] 0 no_rex code
 
@@ -175,6 +175,6 @@ unfolding parsed_instruction
 is_read_rightly frame allowed [] = empty
 is_read_rightly frame allowed (first ∷ code) = go (eqb (first / 16) 4) refl
   where
-    go : (rexed : Bool) → eqb (first / 16) 4 ≡ rexed → IsReadRightly frame allowed (first ∷ code) (split_behind frame allowed (cond (eqb (first / 16) 4) (Some (first % 16, code)) (Some (0, first ∷ code))))
+    go : (rexed : Bool) → eqb (first / 16) 4 ≡ rexed → IsReadRightly frame allowed (first ∷ code) (split_after frame allowed (cond (eqb (first / 16) 4) (Some (first % 16, code)) (Some (0, first ∷ code))))
     go true e = rw e (with_prefix frame allowed first code (eqb-true _ _ e))
     go false e = rw e (without_prefix frame allowed (first ∷ code))

@@ -12,7 +12,7 @@ use Rattle.pe_unwind_info.proofs.EpilogReads.{IsReadRightly, is_read_rightly}
 use Rattle.pe_unwind_info.proofs.EpilogSpelled.{differ, begins_read, terminator_read, cut_read}
 
 -- ---- one by one
--- the sequence behind those instructions, with them before it
+-- the sequence after those instructions, with them before it
 pub and_all : List FunctionEpilogInstruction → Sequence → Sequence
 and_all items (Ok later) = Ok (items ++ later)
 and_all items (Err e) = Err e
@@ -25,7 +25,7 @@ unfolding and_all
 all_of_one i (Ok later) = refl
 all_of_one i (Err e) = refl
 
--- those behind a first one
+-- those after a first one
 pub continued_later : (frame : Option Register) (first : FunctionEpilogInstruction) (bytes : List ℕ) → continued frame (first ∷ []) bytes ≡ and_first first (sequence_from frame 11 false bytes)
 unfolding continued
 continued_later frame first bytes = all_of_one first (sequence_from frame 11 false bytes)
@@ -119,14 +119,14 @@ full_right frame allowed bytes (Err NotEnoughData) r = ([], bytes, omega arith, 
 full_right frame allowed bytes (Err InvalidInstruction) r = tt
 full_right frame allowed bytes (Err TooManyInstructions) r = absurd r
 
-first_right : (frame : Option Register) (n : ℕ) (allowed : Bool) (bytes : List ℕ) (i : FunctionEpilogInstruction) (behind : List ℕ) (s : Sequence) → BeginsWith frame allowed bytes i behind → IsRightSequence frame n false behind s → IsRightSequence frame (suc n) allowed bytes (and_first i s)
+first_right : (frame : Option Register) (n : ℕ) (allowed : Bool) (bytes : List ℕ) (i : FunctionEpilogInstruction) (after : List ℕ) (s : Sequence) → BeginsWith frame allowed bytes i after → IsRightSequence frame n false after s → IsRightSequence frame (suc n) allowed bytes (and_first i s)
 unfolding IsRightSequence
-first_right frame n allowed bytes i behind (Ok is) b r = (r.0, omega (arith, r.1), (behind, b, r.2), r.3)
-first_right frame n allowed bytes i behind (Err TooManyInstructions) b r = (i ∷ r.0, r.1, omega (arith, r.2), (behind, b, r.3))
-first_right frame n allowed bytes i behind (Err NotEnoughData) b r = (i ∷ r.0, r.1, omega (arith, r.2), (behind, b, r.3), subst (λ (f : Bool). IsCut frame f r.1) (sym (not_first allowed i r.0)) r.4)
-first_right frame n allowed bytes i behind (Err InvalidInstruction) b r = tt
+first_right frame n allowed bytes i after (Ok is) b r = (r.0, omega (arith, r.1), (after, b, r.2), r.3)
+first_right frame n allowed bytes i after (Err TooManyInstructions) b r = (i ∷ r.0, r.1, omega (arith, r.2), (after, b, r.3))
+first_right frame n allowed bytes i after (Err NotEnoughData) b r = (i ∷ r.0, r.1, omega (arith, r.2), (after, b, r.3), subst (λ (f : Bool). IsCut frame f r.1) (sym (not_first allowed i r.0)) r.4)
+first_right frame n allowed bytes i after (Err InvalidInstruction) b r = tt
 
-more_right : (frame : Option Register) (n : ℕ) (allowed : Bool) (bytes : List ℕ) (p : Parsed) → IsReadRightly frame allowed bytes p → (later : List ℕ → Sequence) → ((behind : List ℕ) → IsRightSequence frame n false behind (later behind)) → IsRightSequence frame (suc n) allowed bytes (then_more p later)
+more_right : (frame : Option Register) (n : ℕ) (allowed : Bool) (bytes : List ℕ) (p : Parsed) → IsReadRightly frame allowed bytes p → (later : List ℕ → Sequence) → ((after : List ℕ) → IsRightSequence frame n false after (later after)) → IsRightSequence frame (suc n) allowed bytes (then_more p later)
 unfolding IsRightSequence
 more_right frame n allowed bytes (Ok (Some (i, rest))) r later h = first_right frame n allowed bytes i rest (later rest) r (h rest)
 more_right frame n allowed bytes (Ok None) r later h = (bytes, omega arith, refl, r)
@@ -138,7 +138,7 @@ sequence_right : (frame : Option Register) (n : ℕ) (allowed : Bool) (bytes : L
 unfolding sequence_from
 sequence_right frame zero allowed bytes = full_right frame allowed bytes (parsed_instruction frame allowed bytes) (is_read_rightly frame allowed bytes)
 sequence_right frame (suc n) allowed bytes =
-    more_right frame n allowed bytes (parsed_instruction frame allowed bytes) (is_read_rightly frame allowed bytes) (sequence_from frame n false) (λ behind. sequence_right frame n false behind)
+    more_right frame n allowed bytes (parsed_instruction frame allowed bytes) (is_read_rightly frame allowed bytes) (sequence_from frame n false) (λ after. sequence_right frame n false after)
 
 -- ---- each run of the grammar is read
 run_ends : (frame : Option Register) (n : ℕ) (allowed : Bool) (bytes : List ℕ) (is : List FunctionEpilogInstruction) (rest : List ℕ) → IsRun frame allowed bytes is rest → BeginsWithTerminator rest → length is ≤ n → sequence_from frame n allowed bytes ≡ Ok is

@@ -8,7 +8,7 @@ use Rattle.pe_unwind_info.specs.declared.x86_64.epilog.FunctionEpilogInstruction
 use Rattle.pe_unwind_info.specs.declared.x86_64.epilog.InstructionParseError.TheVariants.{NotEnoughData, InvalidInstruction}
 use Rattle.pe_unwind_info.specs.Numbers.{u32_at}
 use Rattle.pe_unwind_info.specs.Registers.{register_number, register_of}
-use Rattle.pe_unwind_info.specs.Epilog.{with_word, Read, Parsed, lea_from, adjustment_of, is_jump, pop_or_terminator_of, adjusted_or, behind_rex, parsed_instruction}
+use Rattle.pe_unwind_info.specs.Epilog.{with_word, Read, Parsed, lea_from, adjustment_of, is_jump, pop_or_terminator_of, adjusted_or, after_rex, parsed_instruction}
 use Rattle.pe_unwind_info.specs.EpilogGrammar.{IsRexW, IsPrefix, no_rex, one_rex, NamesFrame, IsInstruction, add_word, add_byte, lea_byte, lea_word, pop, pop_long, IsTerminator, ret, short_jump, near_jump, memory_jump, BeginsWith, BeginsWithTerminator, IsCut, empty, add_cut, lea_cut, IsParsed}
 use Rattle.pe_unwind_info.proofs.EpilogReads.{IsReadRightly, is_read_rightly}
 
@@ -19,12 +19,12 @@ differ a b h = go (eqb a b) refl
     go true e = absurd (h (eqb-true a b e))
     go false e = refl
 
--- ---- behind a REX byte or none
-rexed : (frame : Option Register) (allowed : Bool) (rex : ℕ) (code : List ℕ) → rex / 16 ≡ 4 → parsed_instruction frame allowed (rex ∷ code) ≡ behind_rex frame allowed (rex % 16) code
+-- ---- after a REX byte or none
+rexed : (frame : Option Register) (allowed : Bool) (rex : ℕ) (code : List ℕ) → rex / 16 ≡ 4 → parsed_instruction frame allowed (rex ∷ code) ≡ after_rex frame allowed (rex % 16) code
 unfolding parsed_instruction
 rexed frame allowed rex code e = rw e refl
 
-unrexed : (frame : Option Register) (allowed : Bool) (opcode : ℕ) (code : List ℕ) → eqb (opcode / 16) 4 ≡ false → parsed_instruction frame allowed (opcode ∷ code) ≡ behind_rex frame allowed 0 (opcode ∷ code)
+unrexed : (frame : Option Register) (allowed : Bool) (opcode : ℕ) (code : List ℕ) → eqb (opcode / 16) 4 ≡ false → parsed_instruction frame allowed (opcode ∷ code) ≡ after_rex frame allowed 0 (opcode ∷ code)
 unfolding parsed_instruction
 unrexed frame allowed opcode code e = rw e refl
 
@@ -40,8 +40,8 @@ no_adjustment frame rex opcode [] p = refl
 no_adjustment frame rex opcode (b ∷ []) p = refl
 no_adjustment frame rex opcode (b ∷ c ∷ code) p = rw (p.no_add, p.no_short_add, p.no_lea) refl
 
-plain_behind : (frame : Option Register) (allowed : Bool) (rex opcode : ℕ) (code : List ℕ) → IsPlain opcode → behind_rex frame allowed rex (opcode ∷ code) ≡ pop_or_terminator_of rex (opcode ∷ code)
-plain_behind frame allowed rex opcode code p = go (allowed && eqb (rex / 8) 1)
+plain_after : (frame : Option Register) (allowed : Bool) (rex opcode : ℕ) (code : List ℕ) → IsPlain opcode → after_rex frame allowed rex (opcode ∷ code) ≡ pop_or_terminator_of rex (opcode ∷ code)
+plain_after frame allowed rex opcode code p = go (allowed && eqb (rex / 8) 1)
   where
     go : (w : Bool) → adjusted_or (cond w (adjustment_of frame rex (opcode ∷ code)) None) (pop_or_terminator_of rex (opcode ∷ code)) ≡ pop_or_terminator_of rex (opcode ∷ code)
     go true = rw (no_adjustment frame rex opcode code p) refl
@@ -55,9 +55,9 @@ pub record IsReadAs (bit : ℕ) (code : List ℕ) (answer : Parsed) : Type 0 whe
 
 prefixed : (frame : Option Register) (allowed : Bool) (prefix : List ℕ) (bit : ℕ) → IsPrefix prefix bit → (opcode : ℕ) (code : List ℕ) → IsPlain opcode → IsReadAs bit (opcode ∷ code) (parsed_instruction frame allowed (prefix ++ (opcode ∷ code)))
 prefixed frame allowed prefix bit no_rex opcode code p =
-    record { rex = 0; same_bit = refl; reads = unrexed frame allowed opcode code p.no_rex_byte ∙ plain_behind frame allowed 0 opcode code p }
+    record { rex = 0; same_bit = refl; reads = unrexed frame allowed opcode code p.no_rex_byte ∙ plain_after frame allowed 0 opcode code p }
 prefixed frame allowed prefix bit (one_rex {byte} x) opcode code p =
-    record { rex = byte % 16; same_bit = omega arith; reads = rexed frame allowed byte (opcode ∷ code) x.high ∙ plain_behind frame allowed (byte % 16) opcode code p }
+    record { rex = byte % 16; same_bit = omega arith; reads = rexed frame allowed byte (opcode ∷ code) x.high ∙ plain_after frame allowed (byte % 16) opcode code p }
 
 pop_is_plain : (opcode : ℕ) → opcode / 8 ≡ 11 → IsPlain opcode
 pop_is_plain opcode e = record {

@@ -8,7 +8,7 @@ use Rattle.pe_unwind_info.specs.Header.{frame_register_of}
 use Rattle.pe_unwind_info.specs.Info.{Info}
 use Rattle.pe_unwind_info.specs.InfoOperations.{operations_in}
 use Rattle.pe_unwind_info.specs.Operations.{Placed}
-use Rattle.pe_unwind_info.specs.EpilogList.{leading_epilogs, behind_epilogs, is_due}
+use Rattle.pe_unwind_info.specs.EpilogList.{leading_epilogs, after_epilogs, is_due}
 use Rattle.pe_unwind_info.specs.Machine.{Registers, Stack, FrameEnd, After, Goes, Ends, then_ends}
 use Rattle.pe_unwind_info.specs.Steps.{run}
 use Rattle.pe_unwind_info.specs.Frame.{info_in, epilog_in, operations_alone, from_place, Link, Follows, Stops, link_of, ByLink, chained_of, IsLinked, ByRun, IsTested, Leaves, ByTest, InRecord, IsFrame}
@@ -40,7 +40,7 @@ module _ (gives more : ℕ → Option (List ℕ) → Type 0) (also : (rva : ℕ)
 
   by_test_more : (address : ℕ) (function : RuntimeFunction) (info : Info) (test : Result (Option (List FunctionEpilogInstruction)) FrameFault) (regs : Registers) (end : FrameEnd) → ByTest gives stack address function info test regs end → ByTest more stack address function info test regs end
   by_test_more address function info (Err fault) regs end b = b
-  by_test_more address function info (Ok epilog) regs end b = leaves_more info (from_place (address - function.begin_address) (behind_epilogs (operations_in info))) epilog regs end b
+  by_test_more address function info (Ok epilog) regs end b = leaves_more info (from_place (address - function.begin_address) (after_epilogs (operations_in info))) epilog regs end b
 
   in_record_more : (address : ℕ) (function : RuntimeFunction) (info : Result Info FrameFault) (regs : Registers) (end : FrameEnd) → InRecord gives stack address function info regs end → InRecord more stack address function info regs end
   in_record_more address function (Err fault) regs end r = r
@@ -83,7 +83,7 @@ module _ (gives : ℕ → Option (List ℕ) → Type 0) (memory : Image) (only :
 
   by_test_is : (address : ℕ) (function : RuntimeFunction) (info : Info) (test : Result (Option (List FunctionEpilogInstruction)) FrameFault) (regs : Registers) (end : FrameEnd) → ByTest gives stack address function info test regs end → end ≡ by_test memory stack address function info test regs
   by_test_is address function info (Err fault) regs end b = b
-  by_test_is address function info (Ok epilog) regs end b = leaves_is info (from_place (address - function.begin_address) (behind_epilogs (operations_in info))) epilog regs end b
+  by_test_is address function info (Ok epilog) regs end b = leaves_is info (from_place (address - function.begin_address) (after_epilogs (operations_in info))) epilog regs end b
 
   in_record_is : (address : ℕ) (function : RuntimeFunction) (info : Result Info FrameFault) (regs : Registers) (end : FrameEnd) → InRecord gives stack address function info regs end → end ≡ in_record memory stack address function info regs
   in_record_is address function (Err fault) regs end r = r

@@ -8,9 +8,9 @@ use Rattle.pe_unwind_info.specs.declared.x86_64.operations.UnwindOperation.{Unwi
 use Rattle.pe_unwind_info.specs.declared.x86_64.operations.UnwindOperationCode.{UnwindOperationCode}
 use Rattle.pe_unwind_info.specs.declared.x86_64.operations.UnwindOperationCode.TheVariants.{PushNonvol, AllocLarge, AllocSmall, SetFPReg, SaveNonvol, SaveNonvolFar, Epilog as EpilogCode, Spare, SaveXmm128, SaveXmm128Far, PushMachframe}
 use Rattle.pe_unwind_info.specs.EpilogList.{told_by, first_epilog}
-use Rattle.pe_unwind_info.specs.Operations.{Head, First, Placed, counts, code_of, code_number, code_information, head_by, head_of, placed_at, first_of, then_later, operations_from, operations_of}
+use Rattle.pe_unwind_info.specs.Operations.{Head, First, Placed, counts, code_of, code_number, code_information, large_size, head_by, head_of, placed_at, first_of, then_later, operations_from, operations_of}
 
--- what is left behind a head has at most n bytes
+-- what is left after a head has at most n bytes
 LeavesAtMost : ℕ → Head → Type 0
 LeavesAtMost n None = Unit {0}
 LeavesAtMost n (Some p) = length p.1 ≤ n
@@ -41,6 +41,14 @@ less_u32 bytes p e = go (ltb (length bytes) 4) e
     go true e = absurd (cc)
     go false e = let same : (u32_at 0 bytes, drop 4 bytes) ≡ p = cc in subst (λ (q : ℕ × List ℕ). length q.1 ≤ length bytes) same (omega (arith, length-drop 4 bytes))
 
+less_large : (information : ℕ) (bytes : List ℕ) (p : ℕ × List ℕ) → large_size information bytes ≡ Some p → length p.1 ≤ length bytes
+less_large information bytes p e = go (eqb information 0) (eqb information 1) e
+  where
+    go : (units single : Bool) → cond units (number_in_units 8 (first_u16 bytes)) (cond single (first_u32 bytes) None) ≡ Some p → length p.1 ≤ length bytes
+    go true single e = less_scaled 8 bytes p e
+    go false true e = less_u32 bytes p e
+    go false false e = absurd cc
+
 at_cond : (b : Bool) (n : ℕ) (h k : Head) → LeavesAtMost n h → LeavesAtMost n k → LeavesAtMost n (cond b h k)
 at_cond true n h k p q = p
 at_cond false n h k p q = q
@@ -49,9 +57,7 @@ head_less : (code : Option UnwindOperationCode) (slot : UnwindCode) (rest : List
 unfolding LeavesAtMost
 head_less None slot rest = tt
 head_less (Some PushNonvol) slot rest = omega arith
-head_less (Some AllocLarge) slot rest =
-    at_cond (eqb (code_information slot) 0) (length rest) _ _ (counts_less _ _ _ (less_scaled 8 rest))
-    (at_cond (eqb (code_information slot) 1) (length rest) _ _ (counts_less _ _ _ (less_u32 rest)) tt)
+head_less (Some AllocLarge) slot rest = counts_less _ _ _ (less_large (code_information slot) rest)
 head_less (Some AllocSmall) slot rest = omega arith
 head_less (Some SetFPReg) slot rest = omega arith
 head_less (Some SaveNonvol) slot rest = counts_less _ _ _ (less_scaled 8 rest)
@@ -62,7 +68,7 @@ head_less (Some SaveXmm128) slot rest = counts_less _ _ _ (less_scaled 16 rest)
 head_less (Some SaveXmm128Far) slot rest = counts_less _ _ _ (less_u32 rest)
 head_less (Some PushMachframe) slot rest = omega arith
 
--- what is left behind the first slots has two bytes fewer at least
+-- what is left after the first slots has two bytes fewer at least
 LeavesFewer : ℕ → First → Type 0
 LeavesFewer n None = Unit {0}
 LeavesFewer n (Some p) = length p.2 + 2 ≤ n
@@ -97,7 +103,7 @@ enough (suc n) (suc m) version bytes p q =
     then_same (length bytes) (first_of version bytes) (first_less version bytes) (operations_from n version) (operations_from m version)
     (λ later fewer. enough n m version later (omega arith) (omega arith))
 
--- the operations are the first one and those of what is left behind it
+-- the operations are the first one and those of what is left after it
 pub operations_step : (version : ℕ) (bytes : List ℕ) → operations_of version bytes ≡ then_later (first_of version bytes) (operations_of version)
 unfolding operations_of
 operations_step version [] = refl
@@ -147,10 +153,6 @@ plain_code version n old =
 abbrev untold : ℕ → (List ℕ → List Placed) → Head → Type 0
 untold offset later head = first_epilog (then_later (placed_at offset head) later) ≡ None
 
-untold_cond : (offset : ℕ) (later : List ℕ → List Placed) (b : Bool) (h k : Head) → untold offset later h → untold offset later k → untold offset later (cond b h k)
-untold_cond offset later true h k p q = p
-untold_cond offset later false h k p q = q
-
 untold_counts : (offset : ℕ) (later : List ℕ → List Placed) (operation : ℕ → UnwindOperation) (number : Option (ℕ × List ℕ)) → ((n : ℕ) → told_by (operation n) ≡ None) → untold offset later (counts operation number)
 untold_counts offset later operation None h = refl
 untold_counts offset later operation (Some (n, rest)) h = h n
@@ -159,9 +161,7 @@ untold_head : (offset : ℕ) (later : List ℕ → List Placed) (code : Option U
 unfolding plain
 untold_head offset later None slot rest p = refl
 untold_head offset later (Some PushNonvol) slot rest p = refl
-untold_head offset later (Some AllocLarge) slot rest p =
-    untold_cond offset later (eqb (code_information slot) 0) _ _ (untold_counts offset later _ (number_in_units 8 (first_u16 rest)) (λ n. refl))
-    (untold_cond offset later (eqb (code_information slot) 1) _ _ (untold_counts offset later _ (first_u32 rest) (λ n. refl)) refl)
+untold_head offset later (Some AllocLarge) slot rest p = untold_counts offset later _ (large_size (code_information slot) rest) (λ n. refl)
 untold_head offset later (Some AllocSmall) slot rest p = refl
 untold_head offset later (Some SetFPReg) slot rest p = refl
 untold_head offset later (Some SaveNonvol) slot rest p = untold_counts offset later _ (number_in_units 8 (first_u16 rest)) (λ n. refl)

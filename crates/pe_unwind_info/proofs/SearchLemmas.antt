@@ -81,7 +81,7 @@ found_by {T} start records address (Some i) finds =
       index = i;
       at = here.1;
       below = (let key = start_of_record start records i here.0 here.1 in let low = finds.at_or_before in omega arith);
-      above = λ next at. (let key = start_of_record start records (i + 1) next at in let inside = slice_get_within records (i + 1) next at in let high = finds.next_behind (omega arith) in omega arith);
+      above = λ next at. (let key = start_of_record start records (i + 1) next at in let inside = slice_get_within records (i + 1) next at in let high = finds.next_after (omega arith) in omega arith);
     })
 
 pub boundary_in-searched : {T : Type 0} (start : T → ℕ) (records : List T) (address : ℕ) → IsSearched start records address (boundary_in start records address)

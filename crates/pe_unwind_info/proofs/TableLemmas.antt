@@ -55,12 +55,12 @@ ascending (f ∷ functions) low high ordered (suc i) zero a b le at at' = absurd
 ascending (f ∷ functions) low high ordered (suc i) (suc j) a b le at at' = ascending functions f.end_address high ordered.3 i j a b (omega arith) at at'
 
 next_begins : (functions : List RuntimeFunction) (low high : ℕ) → AreOrdered low high functions → (i : ℕ) (f next : RuntimeFunction) → slice_get functions i ≡ Some f → slice_get functions (suc i) ≡ Some next → f.end_address ≤ next.begin_address
-next_begins [] low high ordered i f next at behind = absurd cc
-next_begins (g ∷ functions) low high ordered zero f next at behind =
+next_begins [] low high ordered i f next at after = absurd cc
+next_begins (g ∷ functions) low high ordered zero f next at after =
     let same : g ≡ f = cc in
-    let later = begins_within functions g.end_address high ordered.3 zero next behind in
+    let later = begins_within functions g.end_address high ordered.3 zero next after in
     subst (λ (h : RuntimeFunction). h.end_address ≤ next.begin_address) same later.0
-next_begins (g ∷ functions) low high ordered (suc i) f next at behind = next_begins functions g.end_address high ordered.3 i f next at behind
+next_begins (g ∷ functions) low high ordered (suc i) f next at after = next_begins functions g.end_address high ordered.3 i f next at after
 
 covers_held : (f : RuntimeFunction) (address : ℕ) → Holds f address → covering (Some f) address ≡ Some f
 covers_held f address holds = go (eqb f.begin_address address) refl
@@ -78,7 +78,7 @@ holder_is_found functions low high address f ordered has holds =
       index = k;
       at = at;
       below = holds.0;
-      above = λ next behind. (let place : k + 1 ≡ suc k = omega arith in let e = next_begins functions low high ordered k f next at (sym (ap (slice_get functions) place) ∙ behind) in let lt = holds.1 in omega arith);
+      above = λ next after. (let place : k + 1 ≡ suc k = omega arith in let e = next_begins functions low high ordered k f next at (sym (ap (slice_get functions) place) ∙ after) in let lt = holds.1 in omega arith);
     } in
     let found : boundary_in begin_of functions address ≡ Some f = searched_is_one begin_of functions address (boundary_in begin_of functions address) (Some f) (ascending functions low high ordered) (boundary_in-searched begin_of functions address) one in
     ap (λ (o : Option RuntimeFunction). covering o address) found ∙ covers_held f address holds

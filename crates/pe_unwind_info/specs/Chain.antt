@@ -5,7 +5,7 @@ use Rattle.pe_unwind_info.specs.declared.x86_64.fault.FrameFault.TheVariants.{Ch
 use Rattle.pe_unwind_info.specs.declared.x86_64.function_table.RuntimeFunction.{RuntimeFunction}
 use Rattle.pe_unwind_info.specs.declared.x86_64.operations.UnwindOperation.{UnwindOperation}
 use Rattle.pe_unwind_info.specs.declared.x86_64.unwind_info.UnwindInfoHeader.{UnwindInfoHeader}
-use Rattle.pe_unwind_info.specs.EpilogList.{behind_epilogs}
+use Rattle.pe_unwind_info.specs.EpilogList.{after_epilogs}
 use Rattle.pe_unwind_info.specs.Frame.{info_in, chained_of, operations_alone, from_place}
 use Rattle.pe_unwind_info.specs.FrameOf.{Image}
 use Rattle.pe_unwind_info.specs.Info.{Info}
@@ -43,7 +43,7 @@ operations_of_all (info ∷ infos) = headed_operations info (operations_alone (o
 
 -- the operations of a function's records that undo what its prologue has done up to an offset in the code
 abbrev pub operations_at : ℕ → Info → List Info → List HeadedOperation
-operations_at offset first chained = headed_operations first (operations_alone (from_place offset (behind_epilogs (operations_in first)))) ++ operations_of_all chained
+operations_at offset first chained = headed_operations first (operations_alone (from_place offset (after_epilogs (operations_in first)))) ++ operations_of_all chained
 
 -- one operation after another
 unfoldable pub run_headed : Stack → List HeadedOperation → Registers → After

@@ -76,21 +76,21 @@ adjusted_or None later = later
 adjusted_or (Some (Ok p)) later = Ok (Some p)
 adjusted_or (Some (Err e)) later = Err e
 
-abbrev pub behind_rex : Option Register → Bool → ℕ → List ℕ → Parsed
-behind_rex frame allowed rex code = adjusted_or (if allowed && (rex / 8 == 1) then adjustment_of frame rex code else None) (pop_or_terminator_of rex code)
+abbrev pub after_rex : Option Register → Bool → ℕ → List ℕ → Parsed
+after_rex frame allowed rex code = adjusted_or (if allowed && (rex / 8 == 1) then adjustment_of frame rex code else None) (pop_or_terminator_of rex code)
 
 -- the low four bits of a REX byte, 0 where there is none, and what stands after it
 abbrev pub rex_split : List ℕ → Option (ℕ × List ℕ)
 rex_split [] = None
 rex_split (first ∷ code) = if first / 16 == 4 then Some (first % 16, code) else Some (0, first ∷ code)
 
-abbrev pub split_behind : Option Register → Bool → Option (ℕ × List ℕ) → Parsed
-split_behind frame allowed None = Err NotEnoughData
-split_behind frame allowed (Some (rex, code)) = behind_rex frame allowed rex code
+abbrev pub split_after : Option Register → Bool → Option (ℕ × List ℕ) → Parsed
+split_after frame allowed None = Err NotEnoughData
+split_after frame allowed (Some (rex, code)) = after_rex frame allowed rex code
 
 -- one instruction, perhaps after a REX byte
 unfoldable pub parsed_instruction : Option Register → Bool → List ℕ → Parsed
-parsed_instruction frame allowed bytes = split_behind frame allowed (rex_split bytes)
+parsed_instruction frame allowed bytes = split_after frame allowed (rex_split bytes)
 
 -- ---- instructions up to a terminator
 abbrev pub Sequence : Type 0

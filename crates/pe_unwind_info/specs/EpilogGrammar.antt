@@ -62,7 +62,7 @@ pub data IsCut (frame : Option Register) : Bool → List ℕ → Type 0 where
 -- bytes that spell these instructions one after another, of which the first alone may adjust the stack pointer, and what stands after them
 abbrev pub IsRun : Option Register → Bool → List ℕ → List FunctionEpilogInstruction → List ℕ → Type 0
 IsRun frame allowed bytes [] rest = bytes ≡ rest
-IsRun frame allowed bytes (instruction ∷ later) rest = (behind : List ℕ) × BeginsWith frame allowed bytes instruction behind × IsRun frame false behind later rest
+IsRun frame allowed bytes (instruction ∷ later) rest = (after : List ℕ) × BeginsWith frame allowed bytes instruction after × IsRun frame false after later rest
 
 -- bytes that begin with an epilog of these instructions before its terminator
 abbrev pub IsEpilog : Option Register → List ℕ → List FunctionEpilogInstruction → Type 0

@@ -27,9 +27,9 @@ abbrev pub rest_unless : Option Epilog → List Placed → List Placed → List 
 rest_unless None all later = all
 rest_unless (Some epilog) all later = later
 
-unfoldable pub behind_epilogs : List Placed → List Placed
-behind_epilogs [] = []
-behind_epilogs (p ∷ later) = rest_unless (told_by p.1) (p ∷ later) (behind_epilogs later)
+unfoldable pub after_epilogs : List Placed → List Placed
+after_epilogs [] = []
+after_epilogs (p ∷ later) = rest_unless (told_by p.1) (p ∷ later) (after_epilogs later)
 
 -- an epilog of this size that begins so many bytes before the end holds the address
 abbrev pub is_within : ℕ → ℕ → ℕ → ℕ → Bool

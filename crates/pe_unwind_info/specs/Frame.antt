@@ -14,7 +14,7 @@ use Rattle.pe_unwind_info.specs.Info.{Info, parsed_info, Trailer, OnException, O
 use Rattle.pe_unwind_info.specs.InfoOperations.{operations_in}
 use Rattle.pe_unwind_info.specs.Operations.{Placed}
 use Rattle.pe_unwind_info.specs.Epilog.{Sequence, sequence_of}
-use Rattle.pe_unwind_info.specs.EpilogList.{leading_epilogs, behind_epilogs, is_due}
+use Rattle.pe_unwind_info.specs.EpilogList.{leading_epilogs, after_epilogs, is_due}
 use Rattle.pe_unwind_info.specs.Machine.{Registers, Stack, FrameEnd, Returned, Faulted, After, Goes, Ends, pop_return, then_ends}
 use Rattle.pe_unwind_info.specs.Sections.{sections_in, IsMemoryAt}
 use Rattle.pe_unwind_info.specs.Steps.{run, epilog_run}
@@ -119,7 +119,7 @@ Leaves gives stack info operations None regs end = ByRun (run info.header stack 
 
 abbrev pub ByTest : (ℕ → Option (List ℕ) → Type 0) → Stack → ℕ → RuntimeFunction → Info → Result (Option (List FunctionEpilogInstruction)) FrameFault → Registers → FrameEnd → Type 0
 ByTest gives stack address function info (Err fault) regs end = end ≡ Faulted fault regs
-ByTest gives stack address function info (Ok epilog) regs end = Leaves gives stack info (from_place (address - function.begin_address) (behind_epilogs (operations_in info))) epilog regs end
+ByTest gives stack address function info (Ok epilog) regs end = Leaves gives stack info (from_place (address - function.begin_address) (after_epilogs (operations_in info))) epilog regs end
 
 abbrev pub InRecord : (ℕ → Option (List ℕ) → Type 0) → Stack → ℕ → RuntimeFunction → Result Info FrameFault → Registers → FrameEnd → Type 0
 InRecord gives stack address function (Err fault) regs end = end ≡ Faulted fault regs

@@ -8,7 +8,7 @@ use Rattle.pe_unwind_info.specs.Header.{frame_register_of}
 use Rattle.pe_unwind_info.specs.Info.{Info}
 use Rattle.pe_unwind_info.specs.InfoOperations.{operations_in}
 use Rattle.pe_unwind_info.specs.Operations.{Placed}
-use Rattle.pe_unwind_info.specs.EpilogList.{leading_epilogs, behind_epilogs, is_due}
+use Rattle.pe_unwind_info.specs.EpilogList.{leading_epilogs, after_epilogs, is_due}
 use Rattle.pe_unwind_info.specs.Machine.{Registers, Stack, FrameEnd, Faulted, pop_return, then_ends}
 use Rattle.pe_unwind_info.specs.Steps.{run, epilog_run}
 use Rattle.pe_unwind_info.specs.Frame.{info_in, epilog_in, operations_alone, from_place, Link, Follows, Stops, ShowsEnd, link_of, at_limit, chained_of}
@@ -40,7 +40,7 @@ epilog_if_tested true memory frame end address = epilog_in frame end address (me
 
 abbrev pub by_test : Image → Stack → ℕ → RuntimeFunction → Info → Result (Option (List FunctionEpilogInstruction)) FrameFault → Registers → FrameEnd
 by_test memory stack address function info (Err fault) regs = Faulted fault regs
-by_test memory stack address function info (Ok epilog) regs = left_by memory stack info (from_place (address - function.begin_address) (behind_epilogs (operations_in info))) epilog regs
+by_test memory stack address function info (Ok epilog) regs = left_by memory stack info (from_place (address - function.begin_address) (after_epilogs (operations_in info))) epilog regs
 
 abbrev pub in_record : Image → Stack → ℕ → RuntimeFunction → Result Info FrameFault → Registers → FrameEnd
 in_record memory stack address function (Err fault) regs = Faulted fault regs

@@ -13,18 +13,18 @@ use Rattle.pe_unwind_info.specs.Header.{version_of, has_flag}
 pub record Info : Type 0 where
   pub header : UnwindInfoHeader
   pub slots : List ℕ
-  pub behind : List ℕ
+  pub after : List ℕ
 
 -- what a view of a record holds
 abbrev pub info_of : UnwindInfo → Info
-info_of info = record { header = info.header; slots = info.slots.now; behind = info.behind.now }
+info_of info = record { header = info.header; slots = info.slots.now; after = info.after.now }
 
 -- slots are two bytes long, and what stands after an odd number of them stands after one more
 abbrev pub with_header : UnwindInfoHeader → List ℕ → Option Info
 with_header header bytes =
     if (version_of header == 1) || (version_of header == 2) then
     (if nat_lt (length bytes) (2 * header.unwind_codes_len) then None
-    else Some (record { header = header; slots = take (2 * header.unwind_codes_len) bytes; behind = drop (2 * (header.unwind_codes_len + header.unwind_codes_len % 2)) bytes }))
+    else Some (record { header = header; slots = take (2 * header.unwind_codes_len) bytes; after = drop (2 * (header.unwind_codes_len + header.unwind_codes_len % 2)) bytes }))
     else None
 
 -- the record that bytes begin with: of version 1 or 2, and with all of its slots
@@ -43,10 +43,10 @@ trailer_view (TerminationHandler address bytes) = OnTermination address bytes.no
 trailer_view (ChainedUnwindInfo function) = ChainedTo function
 
 abbrev pub handler_in : (ℕ → List ℕ → Trailer) → List ℕ → Option Trailer
-handler_in handler behind = if nat_lt (length behind) 4 then None else Some (handler (u32_at 0 behind) (drop 4 behind))
+handler_in handler after = if nat_lt (length after) 4 then None else Some (handler (u32_at 0 after) (drop 4 after))
 
 abbrev pub chained_in : List ℕ → Option RuntimeFunction
-chained_in behind = if nat_lt (length behind) 12 then None else Some (runtime_function_of (take 12 behind))
+chained_in after = if nat_lt (length after) 12 then None else Some (runtime_function_of (take 12 after))
 
 abbrev pub chained_trailer : Option RuntimeFunction → Option Trailer
 chained_trailer None = None
@@ -55,6 +55,6 @@ chained_trailer (Some function) = Some (ChainedTo function)
 -- the trailer: the first that the flags for exceptions, for termination and for chaining name
 abbrev pub trailer_of : Info → Option Trailer
 trailer_of info =
-    if has_flag 1 info.header then handler_in OnException info.behind
-    else (if has_flag 2 info.header then handler_in OnTermination info.behind
-    else (if has_flag 4 info.header then chained_trailer (chained_in info.behind) else None))
+    if has_flag 1 info.header then handler_in OnException info.after
+    else (if has_flag 2 info.header then handler_in OnTermination info.after
+    else (if has_flag 4 info.header then chained_trailer (chained_in info.after) else None))

@@ -54,13 +54,17 @@ abbrev pub counts : (ℕ → UnwindOperation) → Option (ℕ × List ℕ) → H
 counts operation None = None
 counts operation (Some (n, rest)) = gives (operation n) rest
 
+-- how many bytes a large allocation has, with the bytes after their number: in units of eight in one slot, or one by one in two
+abbrev pub large_size : ℕ → List ℕ → Option (ℕ × List ℕ)
+large_size information rest =
+    if information == 0 then number_in_units 8 (first_u16 rest)
+    else (if information == 1 then first_u32 rest else None)
+
 -- the operation of a slot, by its code, from the bytes after it
 abbrev pub head_by : Option UnwindOperationCode → UnwindCode → List ℕ → Head
 head_by None slot rest = None
 head_by (Some PushNonvol) slot rest = gives (PopNonVolatile (register_of (code_information slot))) rest
-head_by (Some AllocLarge) slot rest =
-    if code_information slot == 0 then counts UnStackAlloc (number_in_units 8 (first_u16 rest))
-    else (if code_information slot == 1 then counts UnStackAlloc (first_u32 rest) else None)
+head_by (Some AllocLarge) slot rest = counts UnStackAlloc (large_size (code_information slot) rest)
 head_by (Some AllocSmall) slot rest = gives (UnStackAlloc (8 * code_information slot + 8)) rest
 head_by (Some SetFPReg) slot rest = gives RestoreSPFromFP rest
 head_by (Some SaveNonvol) slot rest = counts (λ n. ReadNonVolatile (register_of (code_information slot)) (frame_offset n)) (number_in_units 8 (first_u16 rest))

@@ -1,4 +1,4 @@
--- Entries whose pads ascend: what a search among them finds, and one more behind them.
+-- Entries whose pads ascend: what a search among them finds, and one more after them.
 use Rattle.std.proofs.Common.{◌≡◌, ℕ, zero, suc, ◌+◌, ◌-◌, ◌<◌, ◌≤◌, ◌≢◌, List, [], ◌∷◌, ◌++◌, length, get_or, slice_get, Option, Some, None, Result, Ok, Err, refl, sym, ap, ◌∙◌, arith}
 use Rattle.std.specs.List.Sorted.{IsSearchInRange, IsBinarySearchResult, IsNonDecreasingBy}
 use Rattle.std.specs.Ordering.{nat_cmp, ordering_index}
@@ -45,7 +45,7 @@ module _ (es : List (ℕ × ℕ)) (ascend : Ascend es) (pad : ℕ) where
   sought (Err i) in_range parted = none_found es pad (λ j lt same.
       let sides = parted comparisons_rise in
       let lower : j < i → pad_at es j < pad = λ before. ranked _ pad _ (sym (sides.0 j (0, 0) (omega arith) before)) in
-      let higher : i ≤ j → pad < pad_at es j = λ behind. ranked _ pad _ (sym (sides.1 j (0, 0) behind lt)) in
+      let higher : i ≤ j → pad < pad_at es j = λ after. ranked _ pad _ (sym (sides.1 j (0, 0) after lt)) in
       grind (arith, lower, higher))
 
   pub found_by_key : (r s : Result ℕ ℕ) → IsSearchInRange r (length es) → IsBinarySearchResult (λ e. nat_cmp e.0 pad) es r → r ≡ s → return_of es pad ≡ found_at es s

@@ -20,7 +20,7 @@ use Rattle.pe_unwind_info.specs.declared.x86_64.fault.FrameFault.TheVariants as 
 use Rattle.format_definitions.specs.PeImage.{memory_of}
 use Rattle.format_frames.specs.Handlers.{has_language_table, handler_in}
 use Rattle.stack_steps.specs.Asking.{action_if_named, action_asked, recorded_action, unless_handled}
-use Rattle.stack_walks.specs.Turns.{turn_at, stops, Line, Stop, Turn, Ends, Stops, Goes, turn_of, with_context, line_turn, pass_of, kept_at, pad_of, turn_for}
+use Rattle.stack_walks.specs.Turns.{turn_at, stops, Line, Stop, Turn, Ends, Stops, Goes, turn_of, with_context, line_turn, pass_of, mark_at, pad_of, turn_for}
 use Rattle.stack_deliver.specs.Passes.{PassEnd, Finishes, Elsewhere, end_of, cleanup_of, cleanup_at, resume_at, CleanupsRun, with_cleanup, cleanup_and_rest, after_pass, passes_of}
 use Rattle.stack_deliver.specs.StackDelivery.{delivery_after, delivery_at, delivery_to, delivery_by, stack_delivery}
 use Rattle.stack_steps.proofs.StepParts.{some_next, stepped_by, step_is}
@@ -215,13 +215,13 @@ module _ (space : SpaceValue) (c : Context) (exception : ℕ) (resumes : List (�
   unfolding stack_delivery
   refused_either e fails = go (pass_of phase.Search space limit c false) refl fails
     where
-      at_pad : (line : Line) → pass_of phase.Search space limit c false ≡ Ok line → (stop : Stop) → line.stop ≡ Some stop → (o : Option ℕ) → pad_of stop.action ≡ o → delivery_at line.contexts o (toward (kept_at stop.context stop.interrupted)) ≡ Err e →
+      at_pad : (line : Line) → pass_of phase.Search space limit c false ≡ Ok line → (stop : Stop) → line.stop ≡ Some stop → (o : Option ℕ) → pad_of stop.action ≡ o → delivery_at line.contexts o (toward (mark_at stop.context stop.interrupted)) ≡ Err e →
           (kept : ℕ) × TakenAt space limit c kept × (toward kept ≡ Err e)
       at_pad line is stop stops None named h = absurd cc
       at_pad line is stop stops (Some pad) named h = (
-        kept_at stop.context stop.interrupted,
+        mark_at stop.context stop.interrupted,
         record { line = line; searched = is; stop = stop; stops = stops; pad = pad; takes = named; mark = refl },
-        after_error line.contexts (toward (kept_at stop.context stop.interrupted)) e h,
+        after_error line.contexts (toward (mark_at stop.context stop.interrupted)) e h,
       )
 
       at_stop : (line : Line) → pass_of phase.Search space limit c false ≡ Ok line → (o : Option Stop) → line.stop ≡ o → delivery_to line.contexts o toward ≡ Err e → (kept : ℕ) × TakenAt space limit c kept × (toward kept ≡ Err e)
@@ -249,9 +249,9 @@ module _ (space : SpaceValue) (c : Context) (exception : ℕ) (resumes : List (�
   pub refuses : (e : DeliverError) (kept : ℕ) → TakenAt space limit c kept → toward kept ≡ Err e → stack_delivery space c exception resumes limit ≡ Err e
   unfolding stack_delivery
   refuses e kept taken fails =
-      let own : toward (kept_at taken.stop.context taken.stop.interrupted) ≡ Err e = ap toward (sym taken.mark) ∙ fails in
+      let own : toward (mark_at taken.stop.context taken.stop.interrupted) ≡ Err e = ap toward (sym taken.mark) ∙ fails in
       ap (λ r. delivery_by r toward) taken.searched ∙ ap (λ o. delivery_to taken.line.contexts o toward) taken.stops
-      ∙ ap (λ o. delivery_at taken.line.contexts o (toward (kept_at taken.stop.context taken.stop.interrupted))) taken.takes ∙ ap (delivery_after taken.line.contexts) own
+      ∙ ap (λ o. delivery_at taken.line.contexts o (toward (mark_at taken.stop.context taken.stop.interrupted))) taken.takes ∙ ap (delivery_after taken.line.contexts) own
 
   abbrev full_at : ℕ → ℕ → Context → Type 0
   full_at kept = TrailIsFull space exception kept resumes limit

@@ -20,13 +20,13 @@ use Rattle.stack_steps.specs.Modules.{SpaceValue, AreApart}
 use Rattle.stack_steps.specs.SpaceViews.{formats_of}
 use Rattle.stack_deliver.specs.StateViews.{state_of, outcome_of}
 use Rattle.stack_walks.specs.Walking.{EachShows}
-use Rattle.stack_walks.specs.Turns.{Stop, pass_of, kept_at, pad_of}
+use Rattle.stack_walks.specs.Turns.{Stop, pass_of, mark_at, pad_of}
 use Rattle.stack_deliver.specs.Passes.{CleanupsRun, passes_of}
 use Rattle.stack_deliver.specs.StackDelivery.{DeliveryValue, delivery_after, no_delivery, delivery_at, delivery_to, stack_delivery}
 use Rattle.stack_deliver.specs.Delivering.{StartsValidFormatChain, ShowsDelivery}
 use Rattle.stack_steps.proofs.ContextLemmas.{IsWhole}
 use Rattle.stack_deliver.proofs.Chains.{shown_states}
-use Rattle.stack_deliver.specs.Searches.{met_in_passes, met_behind, met_in_delivery}
+use Rattle.stack_deliver.specs.Searches.{met_in_passes, met_after_stop, met_in_delivery}
 use Rattle.stack_walks.proofs.TurnCounts.{line_met}
 use Rattle.stack_deliver.proofs.PassesShow.{seen, StopIs, StopShows, SearchShows, search_shows, by_pass, by_count, lands_in, passes_show}
 
@@ -66,7 +66,7 @@ module _ (space : SpaceValue) (c : Context) (exception : ℕ) (resumes : List (�
 
   -- how many contexts are met by a search that visits these, and by the passes toward where it stopped
   abbrev met : List Context → Option Stop → ℕ
-  met contexts stop = length contexts + met_behind stop (λ kept. met_in_passes space exception kept resumes limit limit c)
+  met contexts stop = length contexts + met_after_stop stop (λ kept. met_in_passes space exception kept resumes limit limit c)
 
   -- no frame decides
   undecided : (contexts : List Context) → described.deciding_frame s calls ≡ None → EachShows contexts (states_of s calls) → DeliversChain exception s calls (delivery_to contexts None passes) (met contexts None)
@@ -102,28 +102,28 @@ module _ (space : SpaceValue) (c : Context) (exception : ℕ) (resumes : List (�
         DeliversChain exception s calls (delivery_to contexts (Some stop) passes) (met contexts (Some stop))
     terminates x acts none due = record {
       delivered = no_delivery contexts FatalPhase1;
-      is = ap (λ (o : Option ℕ). delivery_at contexts o (passes (kept_at stop.context stop.interrupted))) (pad_is x acts ∙ none);
+      is = ap (λ (o : Option ℕ). delivery_at contexts o (passes (mark_at stop.context stop.interrupted))) (pad_is x acts ∙ none);
       shows = ap (λ (v : List State). made v [] None described.FatalPhase1) visited ∙ sym (due_is x acts ∙ due);
-      few = let here : met_behind (Some stop) (λ kept. met_in_passes space exception kept resumes limit limit c) ≡ 0 = rw (pad_is x acts, none) refl in omega arith;
+      few = let here : met_after_stop (Some stop) (λ kept. met_in_passes space exception kept resumes limit limit c) ≡ 0 = rw (pad_is x acts, none) refl in omega arith;
     }
 
-    kept_is : kept_at stop.context stop.interrupted ≡ f.state.sp
-    kept_is = ap (kept_at stop.context) stops.unmarked ∙ sp
+    kept_is : mark_at stop.context stop.interrupted ≡ f.state.sp
+    kept_is = ap (mark_at stop.context) stops.unmarked ∙ sp
       where
         sp : get_or stop.context.registers 7 0 ≡ f.state.sp
         sp = let e : columns_of stop.context 7 ≡ Some f.state.sp = stops.shows.sp in cc
 
     accepted : (x : Action) (pad : ℕ) → described.action_of_frame f ≡ x → IsTrue (described.accepts x) → pad_of x ≡ Some pad →
         described.decided_by exception (described.inner_frames s calls) f.state x ≡ described.delivery_at_handler exception (described.inner_frames s calls) f.state pad →
-        lands_in space apart laid functions exception (kept_at stop.context stop.interrupted) resumes limit f.state x ≡ Some (described.landing_at exception f.state pad) →
+        lands_in space apart laid functions exception (mark_at stop.context stop.interrupted) resumes limit f.state x ≡ Some (described.landing_at exception f.state pad) →
         DeliversChain exception s calls (delivery_to contexts (Some stop) passes) (met contexts (Some stop))
     accepted x pad acts accepts named due lands =
-        let kept : ℕ = kept_at stop.context stop.interrupted in
+        let kept : ℕ = mark_at stop.context stop.interrupted in
         let accepting : IsTrue (described.accepts (described.action_of_frame f)) = subst (λ (y : Action). IsTrue (described.accepts y)) (sym acts) accepts in
         let within = is.shorter in
         let shown = passes_show space apart laid functions exception kept resumes limit s calls c limit limit f is.valid.chain chain.described is.valid.shows whole within within (omega arith) decided accepting kept_is
         (is.valid.resumed f decided accepting) in
-        let toward : met_behind (Some stop) (λ kept. met_in_passes space exception kept resumes limit limit c) ≡ met_in_passes space exception kept resumes limit limit c = rw (pad_is x acts, named) refl in
+        let toward : met_after_stop (Some stop) (λ kept. met_in_passes space exception kept resumes limit limit c) ≡ met_in_passes space exception kept resumes limit limit c = rw (pad_is x acts, named) refl in
         let counted = by_count space apart laid functions exception kept resumes limit limit c in
         let run_met = shown.met in
         let long = visited_count in

@@ -28,7 +28,7 @@ use Rattle.stack_steps.specs.Modules.{SpaceValue}
 use Rattle.stack_deliver.specs.Resumes.{return_of}
 use Rattle.stack_steps.specs.Stepping.{step_of, refusal_of, FrameAt, Described, Compact, Recorded, frame_of, caller_by}
 use Rattle.stack_steps.specs.Asking.{action_if_named, action_asked, described_action, recorded_action, unless_handled}
-use Rattle.stack_walks.specs.Turns.{turn_at, stops, Turn, Ends, Stops, Goes, turn_of, Line, with_context, line_turn, pass_of, kept_at, pad_of, Stop, turn_for}
+use Rattle.stack_walks.specs.Turns.{turn_at, stops, Turn, Ends, Stops, Goes, turn_of, Line, with_context, line_turn, pass_of, mark_at, pad_of, Stop, turn_for}
 use Rattle.stack_deliver.specs.Passes.{PassEnd, Finishes, Elsewhere, end_of, cleanup_of, cleanup_at, resume_at, CleanupsRun, with_cleanup, cleanup_and_rest, after_pass, passes_of}
 use Rattle.stack_deliver.specs.StackDelivery.{delivery_after, delivery_at, delivery_to, delivery_by, stack_delivery}
 use Rattle.stack_steps.proofs.StepParts.{some_next, stepped_by, step_is}
@@ -238,7 +238,7 @@ module _ (space : SpaceValue) where
 
       to_stop : (visited : List Context) (o : Option Stop) → OnCause space.image (delivery_to visited o (λ kept. passes_of space exception kept resumes limit limit c))
       to_stop visited None = tt
-      to_stop visited (Some stop) = at_pad visited (pad_of stop.action) (kept_at stop.context stop.interrupted)
+      to_stop visited (Some stop) = at_pad visited (pad_of stop.action) (mark_at stop.context stop.interrupted)
 
       go : (r : Result Line DeliverError) → OnCause space.image r → OnCause space.image (delivery_by r (λ kept. passes_of space exception kept resumes limit limit c))
       go (Ok line) on = to_stop line.contexts line.stop

@@ -11,7 +11,7 @@ use Rattle.stack_walks.specs.declared.outward.Phase.{Phase}
 use Rattle.stack_walks.specs.declared.outward.Phase.TheVariants as phase
 use Rattle.stack_steps.specs.Modules.{SpaceValue}
 use Rattle.stack_walks.proofs.LineAnswers.{IsStepFault}
-use Rattle.stack_walks.specs.Turns.{Line, Stop, pass_of, kept_at, pad_of}
+use Rattle.stack_walks.specs.Turns.{Line, Stop, pass_of, mark_at, pad_of}
 use Rattle.stack_deliver.specs.Passes.{cleanup_of, CleanupsRun, passes_of}
 use Rattle.stack_walks.proofs.TurnLines.{stop_in}
 use Rattle.stack_deliver.specs.StackDelivery.{DeliveryValue, delivery_after, no_delivery, delivery_at, delivery_to, delivery_by, stack_delivery}
@@ -49,14 +49,14 @@ module _ (space : SpaceValue) (c : Context) (exception : ℕ) (resumes : List (�
   unfolding stack_delivery
   course d is = go (pass_of phase.Search space limit c false) refl is
     where
-      by_passes : (line : Line) → pass_of phase.Search space limit c false ≡ Ok line → (stop : Stop) → line.stop ≡ Some stop → (pad : ℕ) → pad_of stop.action ≡ Some pad → (r : Result CleanupsRun DeliverError) → passes (kept_at stop.context stop.interrupted) ≡ r →
+      by_passes : (line : Line) → pass_of phase.Search space limit c false ≡ Ok line → (stop : Stop) → line.stop ≡ Some stop → (pad : ℕ) → pad_of stop.action ≡ Some pad → (r : Result CleanupsRun DeliverError) → passes (mark_at stop.context stop.interrupted) ≡ r →
           delivery_after line.contexts r ≡ Ok d → Course d
       by_passes line at stop stops pad named (Ok passed) run h =
           let out : d.outcome ≡ passed.ending.outcome = cc in
-          InPass (kept_at stop.context stop.interrupted) (record { line = line; searched = at; stop = stop; stops = stops; pad = pad; takes = named; mark = refl }) passed run out
+          InPass (mark_at stop.context stop.interrupted) (record { line = line; searched = at; stop = stop; stops = stops; pad = pad; takes = named; mark = refl }) passed run out
       by_passes line at stop stops pad named (Err e) run h = absurd cc
 
-      by_pad : (line : Line) → pass_of phase.Search space limit c false ≡ Ok line → (stop : Stop) → line.stop ≡ Some stop → (o : Option ℕ) → pad_of stop.action ≡ o → delivery_at line.contexts o (passes (kept_at stop.context stop.interrupted)) ≡ Ok d → Course d
+      by_pad : (line : Line) → pass_of phase.Search space limit c false ≡ Ok line → (stop : Stop) → line.stop ≡ Some stop → (o : Option ℕ) → pad_of stop.action ≡ o → delivery_at line.contexts o (passes (mark_at stop.context stop.interrupted)) ≡ Ok d → Course d
       by_pad line at stop stops None none h =
           let out : d.outcome ≡ FatalPhase1 = cc in
           let stopped : search_stop ≡ Ok (Some stop) = ap stop_in at ∙ ap stopped_at stops in
@@ -64,7 +64,7 @@ module _ (space : SpaceValue) (c : Context) (exception : ℕ) (resumes : List (�
         where
           stopped_at : Option Stop → Result (Option Stop) DeliverError
           stopped_at o = Ok o
-      by_pad line at stop stops (Some pad) named h = by_passes line at stop stops pad named (passes (kept_at stop.context stop.interrupted)) refl h
+      by_pad line at stop stops (Some pad) named h = by_passes line at stop stops pad named (passes (mark_at stop.context stop.interrupted)) refl h
 
       by_stop : (line : Line) → pass_of phase.Search space limit c false ≡ Ok line → (o : Option Stop) → line.stop ≡ o → delivery_to line.contexts o passes ≡ Ok d → Course d
       by_stop line at None none h =
@@ -121,10 +121,10 @@ module _ (space : SpaceValue) (c : Context) (exception : ℕ) (resumes : List (�
   by_taken : (kept : ℕ) → TakenAt space limit c kept → (passed : CleanupsRun) → passes kept ≡ Ok passed → (d : DeliveryValue) × (delivery ≡ Ok d) × (d.outcome ≡ passed.ending.outcome)
   unfolding stack_delivery
   by_taken kept taken passed run =
-      let own : passes (kept_at taken.stop.context taken.stop.interrupted) ≡ Ok passed = ap passes (sym taken.mark) ∙ run in (
+      let own : passes (mark_at taken.stop.context taken.stop.interrupted) ≡ Ok passed = ap passes (sym taken.mark) ∙ run in (
         record { visited = taken.line.contexts; trail = passed.trail; outcome = passed.ending.outcome; landing = passed.ending.landing },
         ap (λ r. delivery_by r passes) taken.searched ∙ ap (λ o. delivery_to taken.line.contexts o passes) taken.stops
-            ∙ ap (λ o. delivery_at taken.line.contexts o (passes (kept_at taken.stop.context taken.stop.interrupted))) taken.takes ∙ ap (delivery_after taken.line.contexts) own,
+            ∙ ap (λ o. delivery_at taken.line.contexts o (passes (mark_at taken.stop.context taken.stop.interrupted))) taken.takes ∙ ap (delivery_after taken.line.contexts) own,
         refl,
       )
 
@@ -153,7 +153,7 @@ module _ (space : SpaceValue) (c : Context) (exception : ℕ) (resumes : List (�
   by_end FatalPhase1 ends =
       let stop = meets_fatal phase.Search space limit c ends in
       let r = by_search (Some stop.0) stop.1 in
-      (no_delivery r.0.contexts FatalPhase1, r.1 ∙ ap (λ (o : Option ℕ). delivery_at r.0.contexts o (passes (kept_at stop.0.context stop.0.interrupted))) stop.2, refl)
+      (no_delivery r.0.contexts FatalPhase1, r.1 ∙ ap (λ (o : Option ℕ). delivery_at r.0.contexts o (passes (mark_at stop.0.context stop.0.interrupted))) stop.2, refl)
 
   -- ---- refusals
 

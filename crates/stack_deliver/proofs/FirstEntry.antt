@@ -32,8 +32,8 @@ in_front es pad ret q none = go (pad == q) refl
         rw (p, gone) refl
     go false p = rw p (first_of_none (return_of es q))
 
-behind : (e : ℕ × ℕ) (o p : Option ℕ) (q : ℕ) → cond (e.0 == q) (Some e.1) (first_of o p) ≡ first_of (cond (e.0 == q) (Some e.1) o) p
-behind e o p q = elim (e.0 == q) as (λ b. cond b (Some e.1) (first_of o p) ≡ first_of (cond b (Some e.1) o) p) [ true ↦ refl | false ↦ refl ]
+after : (e : ℕ × ℕ) (o p : Option ℕ) (q : ℕ) → cond (e.0 == q) (Some e.1) (first_of o p) ≡ first_of (cond (e.0 == q) (Some e.1) o) p
+after e o p q = elim (e.0 == q) as (λ b. cond b (Some e.1) (first_of o p) ≡ first_of (cond b (Some e.1) o) p) [ true ↦ refl | false ↦ refl ]
 
 placed : (es : List (ℕ × ℕ)) (pad ret q : ℕ) → return_of es pad ≡ None → return_of (by_pad es pad ret) q ≡ first_of (return_of es q) (said_of pad ret q)
 placed [] pad ret q none = refl
@@ -45,7 +45,7 @@ placed (e ∷ es) pad ret q none = go (e.0 == pad) refl (placed es pad ret q)
       where
         order : (b : Bool) → ltb pad e.0 ≡ b → return_of ((pad, ret) ∷ e ∷ es) q ≡ first_of (return_of (e ∷ es) q) (said_of pad ret q) → return_of (by_pad es pad ret) q ≡ first_of (return_of es q) (said_of pad ret q) → return_of (by_pad (e ∷ es) pad ret) q ≡ first_of (return_of (e ∷ es) q) (said_of pad ret q)
         order true l front rest = rw l front
-        order false l front rest = rw (l, rest) (behind e (return_of es q) (said_of pad ret q) q)
+        order false l front rest = rw (l, rest) (after e (return_of es q) (said_of pad ret q) q)
 
 pub with_one : (table : List (ℕ × ℕ)) (pad ret q : ℕ) → return_of (with_resume table pad ret) q ≡ first_of (return_of table q) (said_of pad ret q)
 with_one table pad ret q = go (return_of table pad) refl
@@ -66,7 +66,7 @@ pub with_all : (es table : List (ℕ × ℕ)) (q : ℕ) → return_of (with_resu
 with_all [] table q = first_of_none (return_of table q)
 with_all (e ∷ es) table q =
     let one : return_of (with_resume table e.0 e.1) q ≡ first_of (return_of table q) (said_of e.0 e.1 q) = with_one table e.0 e.1 q in
-    let said : first_of (said_of e.0 e.1 q) (return_of es q) ≡ return_of (e ∷ es) q = sym (behind e None (return_of es q) q) in
+    let said : first_of (said_of e.0 e.1 q) (return_of es q) ≡ return_of (e ∷ es) q = sym (after e None (return_of es q) q) in
     with_all es (with_resume table e.0 e.1) q ∙ (ap (λ o. first_of o (return_of es q)) one ∙ (first_of_first (return_of table q) (said_of e.0 e.1 q) (return_of es q) ∙ ap (λ o. first_of (return_of table q) o) said))
 
 -- the table of some entries has of each pad the first one

@@ -14,7 +14,7 @@ use Rattle.stack_walks.specs.declared.outward.Phase.{Phase}
 use Rattle.stack_walks.specs.declared.outward.Phase.TheVariants as phase
 use Rattle.stack_steps.specs.Modules.{SpaceValue}
 use Rattle.stack_deliver.specs.Resumes.{return_of}
-use Rattle.stack_walks.specs.Turns.{stops, Line, Stop, Ends, Stops, turn_of, pass_of, kept_at, pad_of, enters}
+use Rattle.stack_walks.specs.Turns.{stops, Line, Stop, Ends, Stops, turn_of, pass_of, mark_at, pad_of, enters}
 use Rattle.stack_deliver.specs.Passes.{fatal, ending_at, PassEnd, Finishes, Elsewhere, end_at, end_by, end_of, cleanup_of, cleanup_at, resume_at, CleanupsRun, with_cleanup, cleanup_and_rest, after_pass, passes_of}
 use Rattle.stack_walks.proofs.TurnLines.{stop_in}
 use Rattle.stack_deliver.specs.Causes.{Asks, EndsProgram, StackEnds, CantRead, Meets, GoesOnFrom, TakesAt, Fails}
@@ -175,17 +175,17 @@ module _ (space : SpaceValue) (exception kept limit : ℕ) (c : Context) where
       fails : Meets phase.Cleanup space (Fails space) limit c false → fatal ≡ ending → Finished ending.outcome
       fails meets same = subst (λ (x : Ending). Finished x.outcome) same meets
 
-      by_kept : (stop : Stop) (pad : ℕ) → cleanup_stop ≡ Ok (Some stop) → pad_of stop.action ≡ Some pad → (b : Bool) → eqb (kept_at stop.context stop.interrupted) kept ≡ b →
+      by_kept : (stop : Stop) (pad : ℕ) → cleanup_stop ≡ Ok (Some stop) → pad_of stop.action ≡ Some pad → (b : Bool) → eqb (mark_at stop.context stop.interrupted) kept ≡ b →
           cond b (Finishes (ending_at (enters stop.past exception pad))) (Elsewhere pad (enters stop.past exception pad)) ≡ Finishes ending → Finished ending.outcome
       by_kept stop pad at named true same h =
           let landing : ending_at (enters stop.past exception pad) ≡ ending = cc in
-          let mark : kept_at stop.context stop.interrupted ≡ kept = is_same (kept_at stop.context stop.interrupted) kept same in
+          let mark : mark_at stop.context stop.interrupted ≡ kept = is_same (mark_at stop.context stop.interrupted) kept same in
           subst (λ (x : Ending). Finished x.outcome) landing (stopped_meets phase.Cleanup space limit c stop (TakesAt kept space) at (λ asks stopped. (record { action = stop.action; asks = asks; pad = pad; named = named }, mark)))
       by_kept stop pad at named false other h = absurd cc
 
       by_pad : (stop : Stop) (o : Option ℕ) → cleanup_stop ≡ Ok (Some stop) → pad_of stop.action ≡ o → end_at exception kept stop o ≡ Finishes ending → Finished ending.outcome
       by_pad stop None at none h = fails (meets_too phase.Cleanup space (EndsProgram space) (Fails space) (λ d mark ends. inr ends) limit c false (fatal_meets phase.Cleanup space limit c stop at none)) cc
-      by_pad stop (Some pad) at named h = by_kept stop pad at named (eqb (kept_at stop.context stop.interrupted) kept) refl h
+      by_pad stop (Some pad) at named h = by_kept stop pad at named (eqb (mark_at stop.context stop.interrupted) kept) refl h
 
       by_stop : (o : Option Stop) → cleanup_stop ≡ Ok o → end_by exception kept o ≡ Finishes ending → Finished ending.outcome
       by_stop None at h = fails (meets_too phase.Cleanup space (StackEnds space) (Fails space) (λ d mark ends. inl ends) limit c false (ended_meets phase.Cleanup space limit c at)) cc
@@ -195,11 +195,11 @@ module _ (space : SpaceValue) (exception kept limit : ℕ) (c : Context) where
   finishes Installed meets =
       let r = meets_stopped phase.Cleanup space limit c Taken (meets_too phase.Cleanup space (TakesAt kept space) (StopsFor phase.Cleanup space Taken) each limit c false meets) in
       let stop : Stop = r.0 in let pad : ℕ = r.2.0 in
-      let same : eqb (kept_at stop.context stop.interrupted) kept ≡ true = same_is (kept_at stop.context stop.interrupted) kept r.2.2 in
-      (ending_at (enters stop.past exception pad), by_finish (Some stop) r.1 ∙ ap finish (ap (end_at exception kept stop) r.2.1 ∙ taken stop pad (eqb (kept_at stop.context stop.interrupted) kept) same), refl)
+      let same : eqb (mark_at stop.context stop.interrupted) kept ≡ true = same_is (mark_at stop.context stop.interrupted) kept r.2.2 in
+      (ending_at (enters stop.past exception pad), by_finish (Some stop) r.1 ∙ ap finish (ap (end_at exception kept stop) r.2.1 ∙ taken stop pad (eqb (mark_at stop.context stop.interrupted) kept) same), refl)
     where
       Taken : Context → Bool → Action → Type 0
-      Taken d mark action = (pad : ℕ) × (pad_of action ≡ Some pad) × (kept_at d mark ≡ kept)
+      Taken d mark action = (pad : ℕ) × (pad_of action ≡ Some pad) × (mark_at d mark ≡ kept)
 
       each : (d : Context) (mark : Bool) → TakesAt kept space d mark → StopsFor phase.Cleanup space Taken d mark
       each d mark takes = (takes.0.action, takes.0.asks, pad_stops takes.0.action takes.0.pad takes.0.named, (takes.0.pad, takes.0.named, takes.1))

@@ -26,7 +26,7 @@ use Rattle.stack_steps.specs.SpaceViews.{formats_of}
 use Rattle.stack_deliver.specs.Resumes.{return_of}
 use Rattle.stack_deliver.specs.StateViews.{state_of, landing_of, pair_of}
 use Rattle.stack_walks.specs.Walking.{EachShows}
-use Rattle.stack_walks.specs.Turns.{Line, Stop, stops, with_context, pass_of, kept_at, pad_of, enters}
+use Rattle.stack_walks.specs.Turns.{Line, Stop, stops, with_context, pass_of, mark_at, pad_of, enters}
 use Rattle.stack_deliver.specs.Passes.{ending_at, PassEnd, Finishes, Elsewhere, end_at, end_of, cleanup_at, resume_at, CleanupsRun, with_cleanup, cleanup_and_rest, after_pass, passes_of}
 use Rattle.stack_steps.proofs.ContextLemmas.{IsWhole}
 use Rattle.stack_deliver.proofs.Chains.{shown_state}
@@ -161,7 +161,7 @@ module _ (space : SpaceValue) (apart : AreApart 0 space.modules) (laid : IsLaidO
     by_pass zero c = refl
     by_pass (suc n) c = refl
 
-    -- a context that a pass leaves behind doesn't count
+    -- a context that a pass leaves after doesn't count
     goes_on : (places : ℕ) (c : Context) (r : Result Line DeliverError) → from_pass places (with_context c r) ≡ from_pass places r
     goes_on zero c (Ok line) = refl
     goes_on zero c (Err e) = refl
@@ -181,7 +181,7 @@ module _ (space : SpaceValue) (apart : AreApart 0 space.modules) (laid : IsLaidO
     by_count zero c = refl
     by_count (suc n) c = refl
 
-    -- a context that a pass leaves behind is one more
+    -- a context that a pass leaves after is one more
     one_more : (places met : ℕ) (c : Context) (r : Result Line DeliverError) → met_from places (suc met) (with_context c r) ≡ suc (met_from places met r)
     one_more zero met c (Ok line) = refl
     one_more zero met c (Err e) = refl
@@ -235,10 +235,10 @@ module _ (space : SpaceValue) (apart : AreApart 0 space.modules) (laid : IsLaidO
       abbrev Now : Type 0
       Now = PassesShow s (k ∷ calls) (frame_in s k) places room c
 
-      marked_here : kept_at c false ≡ s.sp
+      marked_here : mark_at c false ≡ s.sp
       marked_here = let e : columns_of c 7 ≡ Some s.sp = shows.sp in cc
 
-      ends_here : (pad : ℕ) → stops phase.Cleanup (action_in s k) ≡ true → pad_of (action_in s k) ≡ Some pad → (at : Bool) → eqb (kept_at c false) kept ≡ at →
+      ends_here : (pad : ℕ) → stops phase.Cleanup (action_in s k) ≡ true → pad_of (action_in s k) ≡ Some pad → (at : Bool) → eqb (mark_at c false) kept ≡ at →
           end_of exception kept (pass_of phase.Cleanup space room c false) ≡ Ok (end_at exception kept (stop_at c false (action_in s k) c) (Some pad))
       ends_here pad asks named at is =
           ap (end_of exception kept) (pass_stops_at space c s k here shows small phase.Cleanup room some asks)
@@ -258,8 +258,8 @@ module _ (space : SpaceValue) (apart : AreApart 0 space.modules) (laid : IsLaidO
 
       lands_now : (pad : ℕ) → kept ≡ s.sp → is_deciding (frame_in s k) ≡ true → stops phase.Cleanup (action_in s k) ≡ true → pad_of (action_in s k) ≡ Some pad → lands_in s (action_in s k) ≡ Some (landing_at exception s pad) → Now
       lands_now pad at decided asks named lands =
-          let mark : kept_at c false ≡ s.sp = marked_here in
-          let same : eqb (kept_at c false) kept ≡ true = grind (arith, nat_tests) in
+          let mark : mark_at c false ≡ s.sp = marked_here in
+          let same : eqb (mark_at c false) kept ≡ true = grind (arith, nat_tests) in
           let ends : end_of exception kept (pass_of phase.Cleanup space room c false) ≡ Ok (Finishes (ending_at (enters c exception pad))) = ends_here pad asks named true same ∙ rw same refl in
           let none : length (inner_frames s (k ∷ calls)) ≡ 0 = ap (λ (fs : List Frame). length fs) (before_now is_deciding (frame_in s k) (frames_of k.caller calls) decided) in
           let one = met_once asks in
@@ -275,8 +275,8 @@ module _ (space : SpaceValue) (apart : AreApart 0 space.modules) (laid : IsLaidO
 
       elsewhere_now : (pad : ℕ) → s.sp < kept → stops phase.Cleanup (action_in s k) ≡ true → pad_of (action_in s k) ≡ Some pad → end_of exception kept (pass_of phase.Cleanup space room c false) ≡ Ok (Elsewhere pad (enters c exception pad))
       elsewhere_now pad below asks named =
-          let mark : kept_at c false ≡ s.sp = marked_here in
-          let other : eqb (kept_at c false) kept ≡ false = grind (arith, nat_tests) in
+          let mark : mark_at c false ≡ s.sp = marked_here in
+          let other : eqb (mark_at c false) kept ≡ false = grind (arith, nat_tests) in
           ends_here pad asks named false other ∙ rw other refl
 
     -- the passes from the callers outwards

@@ -6,11 +6,11 @@ use Rattle.stack_steps.specs.declared.answers.DeliverError.{DeliverError}
 use Rattle.stack_walks.specs.declared.outward.Phase.TheVariants as phase
 use Rattle.stack_steps.specs.Modules.{SpaceValue}
 use Rattle.stack_deliver.specs.Resumes.{return_of}
-use Rattle.stack_walks.specs.Turns.{Line, Stop, pad_of, kept_at, pass_of}
+use Rattle.stack_walks.specs.Turns.{Line, Stop, pad_of, mark_at, pass_of}
 use Rattle.stack_deliver.specs.Passes.{PassEnd, Finishes, Elsewhere, cleanup_of, resume_at}
 use Rattle.stack_steps.specs.Ticking.{RisesWithin}
 use Rattle.stack_walks.specs.ContextsMet.{contexts_met}
-use Rattle.stack_deliver.specs.Searches.{met_after, met_after_resume, met_in_passes, met_toward, met_behind, met_after_search, met_in_delivery}
+use Rattle.stack_deliver.specs.Searches.{met_after, met_after_resume, met_in_passes, met_toward, met_after_stop, met_after_search, met_in_delivery}
 use Rattle.stack_steps.proofs.Counted.{rises_up_to, rises_then}
 use Rattle.stack_walks.proofs.TurnCounts.{few_met}
 
@@ -87,27 +87,27 @@ module _ (space : SpaceValue) (c : Context) (exception : ℕ) (resumes : List (�
   pub search_met : (start new : ℕ) → RisesWithin space searched start new → RisesWithin space all start new
   search_met start new rises = rises_up_to space searched all start new search_among rises
 
-  passes_among : (line : Line) (stop : Stop) (pad : ℕ) → pass_of phase.Search space limit c false ≡ Ok line → line.stop ≡ Some stop → pad_of stop.action ≡ Some pad → searched + passed (kept_at stop.context stop.interrupted) ≤ all
+  passes_among : (line : Line) (stop : Stop) (pad : ℕ) → pass_of phase.Search space limit c false ≡ Ok line → line.stop ≡ Some stop → pad_of stop.action ≡ Some pad → searched + passed (mark_at stop.context stop.interrupted) ≤ all
   unfolding met_in_delivery
   passes_among line stop pad at stops named = rw (at, stops, named) (omega arith)
 
   -- the search, and the passes after it
   pub passes_met : (line : Line) (stop : Stop) (pad start middle new : ℕ) → pass_of phase.Search space limit c false ≡ Ok line → line.stop ≡ Some stop → pad_of stop.action ≡ Some pad →
-      RisesWithin space searched start middle → RisesWithin space (passed (kept_at stop.context stop.interrupted)) middle new → RisesWithin space all start new
+      RisesWithin space searched start middle → RisesWithin space (passed (mark_at stop.context stop.interrupted)) middle new → RisesWithin space all start new
   passes_met line stop pad start middle new at stops named search passes =
-      rises_up_to space (searched + passed (kept_at stop.context stop.interrupted)) all start new (passes_among line stop pad at stops named)
-      (rises_then space searched (passed (kept_at stop.context stop.interrupted)) start middle new search passes)
+      rises_up_to space (searched + passed (mark_at stop.context stop.interrupted)) all start new (passes_among line stop pad at stops named)
+      (rises_then space searched (passed (mark_at stop.context stop.interrupted)) start middle new search passes)
 
   toward : (o : Option ℕ) (n : ℕ) → n ≤ (limit + 1) * limit → met_toward o n ≤ (limit + 1) * limit
   toward None n few = omega arith
   toward (Some pad) n few = few
 
-  behind : (o : Option Stop) → met_behind o passed ≤ (limit + 1) * limit
-  behind None = omega arith
-  behind (Some stop) = toward (pad_of stop.action) (passed (kept_at stop.context stop.interrupted)) (few_passes space exception (kept_at stop.context stop.interrupted) resumes limit limit c)
+  with_stop : (o : Option Stop) → met_after_stop o passed ≤ (limit + 1) * limit
+  with_stop None = omega arith
+  with_stop (Some stop) = toward (pad_of stop.action) (passed (mark_at stop.context stop.interrupted)) (few_passes space exception (mark_at stop.context stop.interrupted) resumes limit limit c)
 
   after : (r : Result Line DeliverError) → met_after_search r passed ≤ (limit + 1) * limit
-  after (Ok line) = behind line.stop
+  after (Ok line) = with_stop line.stop
   after (Err e) = omega arith
 
   -- no more than by the search and one pass more than the limit, each of as many contexts as the limit allows

@@ -8,7 +8,7 @@ use Rattle.stack_steps.specs.declared.answers.DeliverError.TheVariants.{NoMemory
 use Rattle.stack_steps.specs.Modules.{SpaceValue}
 use Rattle.stack_deliver.specs.Resumes.{return_of}
 use Rattle.stack_steps.specs.Asking.{action_asked}
-use Rattle.stack_walks.specs.Turns.{Line, Stop, pass_of, kept_at, pad_of, stops}
+use Rattle.stack_walks.specs.Turns.{Line, Stop, pass_of, mark_at, pad_of, stops}
 use Rattle.stack_deliver.specs.Passes.{Elsewhere, cleanup_of}
 use Rattle.unwind_definitions.specs.Caller.{StepFault}
 use Rattle.unwind_definitions.specs.Function.{Action, Terminate}
@@ -92,7 +92,7 @@ GoesOnFrom p space (suc room) c interrupted = (next : Stepped) × GoesTo p space
 
 -- the frame at a context has the kept mark, and asks for a landing pad
 abbrev pub TakesAt : ℕ → SpaceValue → Context → Bool → Type 0
-TakesAt kept space c interrupted = AsksForPad space c interrupted × (kept_at c interrupted ≡ kept)
+TakesAt kept space c interrupted = AsksForPad space c interrupted × (mark_at c interrupted ≡ kept)
 
 -- the program ends at a context, or the stack does
 abbrev pub Fails : SpaceValue → Context → Bool → Type 0
@@ -108,7 +108,7 @@ pub record TakenAt (space : SpaceValue) (limit : ℕ) (c : Context) (kept : ℕ)
   pub stops : line.stop ≡ Some stop
   pub pad : ℕ
   pub takes : pad_of stop.action ≡ Some pad
-  pub mark : kept ≡ kept_at stop.context stop.interrupted
+  pub mark : kept ≡ mark_at stop.context stop.interrupted
 
 module _ (space : SpaceValue) (exception kept : ℕ) (resumes : List (ℕ × ℕ)) (limit : ℕ) where
   -- a cleanup pass enters a landing pad elsewhere than at the kept frame

@@ -13,7 +13,7 @@ use Rattle.stack_steps.specs.declared.answers.DeliverError.TheVariants.{PassLimi
 use Rattle.stack_walks.specs.declared.outward.Phase.TheVariants as phase
 use Rattle.stack_steps.specs.Modules.{SpaceValue}
 use Rattle.stack_deliver.specs.Resumes.{return_of}
-use Rattle.stack_walks.specs.Turns.{Stop, Line, pass_of, kept_at, pad_of, enters}
+use Rattle.stack_walks.specs.Turns.{Stop, Line, pass_of, mark_at, pad_of, enters}
 
 -- ---- the passes of a delivery
 
@@ -32,7 +32,7 @@ pub data PassEnd : Type 0 where
 abbrev pub end_at : ℕ → ℕ → Stop → Option ℕ → PassEnd
 end_at exception kept stop None = Finishes fatal
 end_at exception kept stop (Some pad) =
-    if kept_at stop.context stop.interrupted == kept then Finishes (ending_at (enters stop.past exception pad))
+    if mark_at stop.context stop.interrupted == kept then Finishes (ending_at (enters stop.past exception pad))
     else Elsewhere pad (enters stop.past exception pad)
 
 abbrev pub end_by : ℕ → ℕ → Option Stop → PassEnd

@@ -10,7 +10,7 @@ use Rattle.stack_steps.specs.declared.space.Module.{Module}
 use Rattle.stack_steps.specs.declared.space.ModuleTables.TheVariants.{Elf}
 use Rattle.fde_finders.specs.declared.custom.FrameInfo.{FrameInfo}
 use Rattle.stack_steps.specs.Modules.{SpaceValue}
-use Rattle.stack_walks.specs.Turns.{Line, Stop, kept_at, pad_of, pass_of}
+use Rattle.stack_walks.specs.Turns.{Line, Stop, mark_at, pad_of, pass_of}
 use Rattle.stack_deliver.specs.Passes.{Elsewhere, Finishes, PassEnd, cleanup_of, resume_at}
 use Rattle.stack_deliver.specs.Resumes.{return_of}
 use Rattle.stack_walks.specs.ContextsMet.{contexts_met}
@@ -45,13 +45,13 @@ abbrev pub met_toward : Option ℕ → ℕ → ℕ
 met_toward None passes = 0
 met_toward (Some pad) passes = passes
 
-abbrev pub met_behind : Option Stop → (ℕ → ℕ) → ℕ
-met_behind None passes = 0
-met_behind (Some stop) passes = met_toward (pad_of stop.action) (passes (kept_at stop.context stop.interrupted))
+abbrev pub met_after_stop : Option Stop → (ℕ → ℕ) → ℕ
+met_after_stop None passes = 0
+met_after_stop (Some stop) passes = met_toward (pad_of stop.action) (passes (mark_at stop.context stop.interrupted))
 
 -- after the search: nothing where it found no frame
 abbrev pub met_after_search : Result Line DeliverError → (ℕ → ℕ) → ℕ
-met_after_search (Ok line) passes = met_behind line.stop passes
+met_after_search (Ok line) passes = met_after_stop line.stop passes
 met_after_search (Err e) passes = 0
 
 -- By a delivery: by its search, and by its passes, where it comes to these.

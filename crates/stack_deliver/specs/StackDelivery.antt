@@ -8,7 +8,7 @@ use Rattle.stack_deliver.specs.declared.answers.Outcome.TheVariants.{EndOfStack,
 use Rattle.stack_steps.specs.declared.answers.DeliverError.{DeliverError}
 use Rattle.stack_steps.specs.Modules.{SpaceValue}
 use Rattle.stack_walks.specs.declared.outward.Phase.TheVariants as phase
-use Rattle.stack_walks.specs.Turns.{Stop, Line, pad_of, kept_at, pass_of}
+use Rattle.stack_walks.specs.Turns.{Stop, Line, pad_of, mark_at, pass_of}
 use Rattle.stack_deliver.specs.Passes.{CleanupsRun, passes_of}
 
 -- the states that the search visited, the cleanups that ran, how it ended, and the state at the handler
@@ -33,7 +33,7 @@ delivery_at visited (Some pad) passed = delivery_after visited passed
 -- nothing is delivered at the end of the stack; else the passes go toward the frame for which the search stopped
 abbrev pub delivery_to : List Context → Option Stop → (ℕ → Result CleanupsRun DeliverError) → Result DeliveryValue DeliverError
 delivery_to visited None passes = Ok (no_delivery visited EndOfStack)
-delivery_to visited (Some stop) passes = delivery_at visited (pad_of stop.action) (passes (kept_at stop.context stop.interrupted))
+delivery_to visited (Some stop) passes = delivery_at visited (pad_of stop.action) (passes (mark_at stop.context stop.interrupted))
 
 abbrev pub delivery_by : Result Line DeliverError → (ℕ → Result CleanupsRun DeliverError) → Result DeliveryValue DeliverError
 delivery_by (Ok line) passes = delivery_to line.contexts line.stop passes

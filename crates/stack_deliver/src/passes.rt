@@ -1,8 +1,7 @@
 // The passes over a stack: the search for a frame whose language takes the exception, and then the
 // cleanups on the way to it. Itanium C++ ABI, exception handling, level I, section 1.3.
-ghost use Rattle.std.specs.Prelude.{◌≡◌, ◌≤◌, ◌<◌, ◌+◌, ◌*◌, ◌++◌, ◌∷◌, Err, [], true, false};
-ghost use Rattle.std.specs.Prelude.{length, Some, OnOk, OnErr, IfOk};
-ghost use Rattle.std.specs.Option.{option_map};
+ghost use Rattle.std.specs.Prelude.{◌≡◌, ◌≤◌, ◌<◌, ◌+◌, ◌*◌, ◌++◌, ◌∷◌, Err, [], false};
+ghost use Rattle.std.specs.Prelude.{length, Some, OnOk};
 ghost use Rattle.stack_deliver.specs.Passes.{end_by, cleanup_of};
 ghost use Rattle.stack_deliver.specs.Passes.{cleanup_at, resume_at, passes_of};
 ghost use Rattle.stack_walks.specs.TurnViews.{stop_shown};

@@ -1,5 +1,5 @@
 // Numbers as text.
-ghost use Rattle.std.specs.Prelude.{◌≡◌, ◌<◌, ◌≤◌, ◌^◌, ◌++◌, ◌/◌, ◌%◌, length, take, drop, false, codes, OnOk};
+ghost use Rattle.std.specs.Prelude.{◌≡◌, ◌<◌, ◌≤◌, ◌^◌, ◌++◌, ◌/◌, ◌%◌, take, drop, false, codes, OnOk};
 ghost use Rattle.std.specs.Fmt.{decimal, digits, digit_glyph};
 ghost use Rattle.stack_report.specs.Digits.{digits_of, hexadecimal, word};
 

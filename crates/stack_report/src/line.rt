@@ -1,5 +1,5 @@
 // A line of a report.
-ghost use Rattle.std.specs.Prelude.{◌≡◌, ◌+◌, ◌≤◌, ◌++◌, ◌∷◌, [], length, take, drop};
+ghost use Rattle.std.specs.Prelude.{◌≡◌, ◌+◌, ◌≤◌, ◌++◌, [], length, take, drop};
 ghost use Rattle.std.specs.Fmt.{decimal};
 ghost use Rattle.stack_report.specs.Digits.{hexadecimal};
 

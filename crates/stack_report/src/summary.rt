@@ -1,6 +1,5 @@
 // The summary of a delivery.
 ghost use Rattle.std.specs.Prelude.{◌≡◌, ◌++◌, IfOk, OnOk};
-ghost use Rattle.std.specs.Fmt.{decimal};
 ghost use Rattle.stack_report.specs.Summary.{count_line, summary_in};
 
 use crate::buffer::Report;

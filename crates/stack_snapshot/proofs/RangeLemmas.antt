@@ -1,4 +1,4 @@
--- Ranges that are put in the order of their addresses: each begins behind the end of the one before exactly where no address
+-- Ranges that are put in the order of their addresses: each begins after the end of the one before exactly where no address
 -- lies in two of them.
 use Rattle.std.proofs.Common.{◌≡◌, ℕ, ◌+◌, ◌<◌, ◌≤◌, Bool, true, false, cond, List, [], ◌∷◌, ◌∙◌, inl, inr, refl, arith, ltb, zero-add}
 use Rattle.std.specs.List.{All, count_by}
@@ -9,7 +9,7 @@ use Rattle.std.proofs.lemmas.List.Sorted.{IsNonDecreasingBy-drop, sum_by-IsPermu
 use Rattle.std.proofs.lemmas.List.Sums.{sum_by-cons}
 use Rattle.unwind_laws.proofs.Booleans as lists
 use Rattle.stack_snapshot.specs.declared.ranges.AddressRange.{AddressRange}
-use Rattle.stack_snapshot.specs.Ranges.{lies_in, AreDisjoint, ascend_behind, are_ascending}
+use Rattle.stack_snapshot.specs.Ranges.{lies_in, AreDisjoint, ascend_after, are_ascending}
 
 -- ---- how many pass a test
 
@@ -45,31 +45,31 @@ inside r a low high = grind (arith, nat_tests)
 before : (r : AddressRange) (a : ℕ) → a < r.first → lies_in a r ≡ false
 before r a low = grind (arith, nat_tests)
 
-behind : (r : AddressRange) (a : ℕ) → r.last < a → lies_in a r ≡ false
-behind r a high = grind (arith, nat_tests)
+after : (r : AddressRange) (a : ℕ) → r.last < a → lies_in a r ≡ false
+after r a high = grind (arith, nat_tests)
 
 below_first : (last : ℕ) (r : AddressRange) → ltb last r.first ≡ true → last < r.first
 below_first last r e = grind (arith, nat_tests)
 
--- no address up to the last one lies in what ascends behind it
-none_behind : (last : ℕ) (rs : List AddressRange) → ascend_behind last rs ≡ true → All IsRange rs → (a : ℕ) → a ≤ last → count_by (lies_in a) rs ≡ 0
-none_behind last [] up ranges a le = refl
-none_behind last (r ∷ rs) up ranges a le =
-    let both = lists.both_true (ltb last r.first) (ascend_behind r.last rs) up in
+-- no address up to the last one lies in what ascends after it
+none_after : (last : ℕ) (rs : List AddressRange) → ascend_after last rs ≡ true → All IsRange rs → (a : ℕ) → a ≤ last → count_by (lies_in a) rs ≡ 0
+none_after last [] up ranges a le = refl
+none_after last (r ∷ rs) up ranges a le =
+    let both = lists.both_true (ltb last r.first) (ascend_after r.last rs) up in
     let lt = below_first last r both.0 in
     let some : r.first ≤ r.last = ranges 0 r (omega arith) in
-    no_more (lies_in a) r rs (before r a (omega arith)) ∙ none_behind r.last rs both.1 (All-tail IsRange r rs ranges) a (omega arith)
+    no_more (lies_in a) r rs (before r a (omega arith)) ∙ none_after r.last rs both.1 (All-tail IsRange r rs ranges) a (omega arith)
 
 -- an address lies in one at most of those that ascend
-once : (r : AddressRange) (rs : List AddressRange) → ascend_behind r.last rs ≡ true → All IsRange (r ∷ rs) → (a : ℕ) → count_by (lies_in a) (r ∷ rs) ≤ 1
+once : (r : AddressRange) (rs : List AddressRange) → ascend_after r.last rs ≡ true → All IsRange (r ∷ rs) → (a : ℕ) → count_by (lies_in a) (r ∷ rs) ≤ 1
 once r [] up ranges a = only_one (lies_in a) r [] refl
 once r (s ∷ ss) up ranges a =
     let rest = All-tail IsRange r (s ∷ ss) ranges in
     elim (leb_tells a r.last) [
-      | inl p ↦ only_one (lies_in a) r (s ∷ ss) (none_behind r.last (s ∷ ss) up rest a p.1)
+      | inl p ↦ only_one (lies_in a) r (s ∷ ss) (none_after r.last (s ∷ ss) up rest a p.1)
       | inr p ↦
-          let both = lists.both_true (ltb r.last s.first) (ascend_behind s.last ss) up in
-          let less = no_more (lies_in a) r (s ∷ ss) (behind r a p.1) in
+          let both = lists.both_true (ltb r.last s.first) (ascend_after s.last ss) up in
+          let less = no_more (lies_in a) r (s ∷ ss) (after r a p.1) in
           let later = once s ss both.1 rest a in
           omega arith
     ]
@@ -83,7 +83,7 @@ ascending_disjoint (r ∷ rs) ranges up a = once r rs up ranges a
 abbrev SharesOne : List AddressRange → Type 0
 SharesOne rs = (a : ℕ) × (2 ≤ count_by (lies_in a) rs)
 
-shared : (r : AddressRange) (rs : List AddressRange) → IsNonDecreasingBy (λ (q : AddressRange). q.first) (r ∷ rs) → All IsRange (r ∷ rs) → ascend_behind r.last rs ≡ false → SharesOne (r ∷ rs)
+shared : (r : AddressRange) (rs : List AddressRange) → IsNonDecreasingBy (λ (q : AddressRange). q.first) (r ∷ rs) → All IsRange (r ∷ rs) → ascend_after r.last rs ≡ false → SharesOne (r ∷ rs)
 shared r [] sorted ranges fails = absurd (cc)
 shared r (s ∷ ss) sorted ranges fails =
     let rest = All-tail IsRange r (s ∷ ss) ranges in
@@ -96,7 +96,7 @@ shared r (s ∷ ss) sorted ranges fails =
           (s.first, omega arith)
       | inr p ↦
           let next : ltb r.last s.first ≡ true = grind (arith, nat_tests) in
-          let later : ascend_behind s.last ss ≡ false = rw next at fails in
+          let later : ascend_after s.last ss ≡ false = rw next at fails in
           let found = shared s ss (IsNonDecreasingBy-drop (λ (q : AddressRange). q.first) 1 (r ∷ s ∷ ss) sorted) rest later in
           let both = found.1 in
           let more = at_least (lies_in found.0) r (s ∷ ss) in
@@ -105,9 +105,9 @@ shared r (s ∷ ss) sorted ranges fails =
 
 pub disjoint_ascending : (rs : List AddressRange) → IsNonDecreasingBy (λ (q : AddressRange). q.first) rs → All IsRange rs → AreDisjoint rs → are_ascending rs ≡ true
 disjoint_ascending [] sorted ranges apart = refl
-disjoint_ascending (r ∷ rs) sorted ranges apart = go (ascend_behind r.last rs) refl
+disjoint_ascending (r ∷ rs) sorted ranges apart = go (ascend_after r.last rs) refl
   where
-    go : (b : Bool) → ascend_behind r.last rs ≡ b → ascend_behind r.last rs ≡ true
+    go : (b : Bool) → ascend_after r.last rs ≡ b → ascend_after r.last rs ≡ true
     go true is = is
     go false is = let found = shared r rs sorted ranges is in let two = found.1 in let one = apart found.0 in absurd (omega arith)
 

@@ -14,13 +14,13 @@ abbrev pub AreDisjoint : List AddressRange → Type 0
 AreDisjoint rs = (a : ℕ) → count_by (lies_in a) rs ≤ 1
 
 -- each begins after the end of the one before, the first after an address
-abbrev pub ascend_behind : ℕ → List AddressRange → Bool
-ascend_behind last [] = true
-ascend_behind last (r ∷ rs) = nat_lt last r.first && ascend_behind r.last rs
+abbrev pub ascend_after : ℕ → List AddressRange → Bool
+ascend_after last [] = true
+ascend_after last (r ∷ rs) = nat_lt last r.first && ascend_after r.last rs
 
 abbrev pub are_ascending : List AddressRange → Bool
 are_ascending [] = true
-are_ascending (r ∷ rs) = ascend_behind r.last rs
+are_ascending (r ∷ rs) = ascend_after r.last rs
 
 abbrev pub range_with : ℕ → ℕ → AddressRange
 range_with first last = record { first = first; last = last }

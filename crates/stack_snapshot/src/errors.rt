@@ -1,5 +1,5 @@
 // Why bytes are no snapshot.
-ghost use Rattle.std.specs.Prelude.{◌≡◌, Some};
+ghost use Rattle.std.specs.Prelude.{◌≡◌};
 ghost use Rattle.stack_snapshot.specs.declared.errors.SnapshotError.TheVariants.{NoMemory};
 ghost use Rattle.stack_snapshot.specs.Names.{field_name};
 

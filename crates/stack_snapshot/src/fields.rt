@@ -1,12 +1,12 @@
 // Members of a JSON value that are words, bytes or numbers.
-ghost use Rattle.std.specs.Prelude.{◌≡◌, ◌+◌, ◌*◌, ◌<◌, ◌≤◌, ◌^◌, IfSome, option_map};
+ghost use Rattle.std.specs.Prelude.{◌≡◌, ◌+◌, ◌*◌, ◌<◌, ◌^◌, IfSome, option_map};
 ghost use Rattle.serde_json.specs.Find.{get};
 ghost use Rattle.serde_json.specs.View.{view, items_view, members_view};
 ghost use Rattle.serde_json.specs.Written.{has_float as holds_float, items_have_float};
 ghost use Rattle.serde_json.specs.Written.{members_have_float};
 ghost use Rattle.hex.specs.Hex.{hex_digit_value};
 ghost use Rattle.stack_snapshot.specs.Words.{short_number, word_of};
-ghost use Rattle.stack_snapshot.specs.Fields.{as_word, word_at, word_or_zero_at, bytes_at};
+ghost use Rattle.stack_snapshot.specs.Fields.{as_word, word_at, word_or_zero_at};
 ghost use Rattle.stack_snapshot.specs.Fields.{number_at};
 
 use serde_json::{Map, Value};

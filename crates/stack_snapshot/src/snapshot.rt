@@ -1,6 +1,6 @@
 // A snapshot: memory by regions, the modules in it, and a delivery to make.
 ghost use Rattle.std.specs.Prelude.{◌≡◌, IfOk, MatchOption, map, option_map, true, false, []};
-ghost use Rattle.stack_steps.specs.Modules.{fits, without_index};
+ghost use Rattle.stack_steps.specs.Modules.{without_index};
 ghost use Rattle.stack_snapshot.specs.Answers.{Gives};
 ghost use Rattle.stack_snapshot.specs.Content.{image_of, modules_after, space_of, takes_regions};
 ghost use Rattle.stack_snapshot.specs.Content.{takes_modules};
@@ -11,7 +11,7 @@ ghost use Rattle.stack_snapshot.specs.Snapshot.{needs, if_taken, if_space_takes}
 use crate::errors::{Field, SnapshotError};
 use crate::ranges::{AddressRange, are_disjoint};
 use memory_image::{ImageError, MemoryImage};
-use stack_deliver::{Context, Module, ModuleTables, Resumes, Space, SpaceError};
+use stack_deliver::{Context, Module, Resumes, Space, SpaceError};
 use std::alloc::{AllocError, Global};
 use std::marker::Model;
 
@@ -207,22 +207,12 @@ fn takes_regions(alloc: Global, regions: &[Region]) -> Result<bool, AllocError>
     }
 }
 
-/// Whether a module of a format may have so many bytes.
-fn fits(tables: ModuleTables, size: u64) -> bool
-    ensures { result ≡ fits tables size }
-{
-    match tables {
-        ModuleTables::Elf(_) => true,
-        ModuleTables::Macho(_) | ModuleTables::Pe(_) => size < 0x1_0000_0000,
-    }
-}
-
 /// The addresses of a module, where a space may take it.
 fn module_range(module: Module) -> Option<AddressRange>
     ensures { result ≡ module_range «module» }
 {
     let Module { start, end, tables } = module;
-    if start < end && fits(tables, end - start) {
+    if start < end && tables.fits(end - start) {
         Some(AddressRange {
             first: start,
             last: end - 1,

@@ -190,9 +190,9 @@ with_apart (n ∷ ns) low m apart le some none =
     let s : ShareNone n ns m.start m.end = share_none n ns m.start m.end none in
     elim (leb_tells n.start m.start) [
       | inl p ↦
-          let behind : n.end ≤ m.start = elim (apart_from n m.start m.end s.first) [ inl q ↦ absurd (omega (arith, p.1)) | inr q ↦ q ] in
+          let after : n.end ≤ m.start = elim (apart_from n m.start m.end s.first) [ inl q ↦ absurd (omega (arith, p.1)) | inr q ↦ q ] in
           let test : ltb m.start n.start ≡ false = let at : n.start ≤ m.start = p.1 in grind (arith, nat_tests) in
-          rw test (apart.0, apart.1, with_apart ns n.end m apart.2 behind some s.rest)
+          rw test (apart.0, apart.1, with_apart ns n.end m apart.2 after some s.rest)
       | inr p ↦
           let before : m.end ≤ n.start = elim (apart_from n m.start m.end s.first) [ inl q ↦ q | inr q ↦ absurd (omega (arith, p.1, apart.1)) ] in
           let test : ltb m.start n.start ≡ true = let at : m.start < n.start = p.1 in grind (arith, nat_tests) in
@@ -205,7 +205,7 @@ inserted (e ∷ es) k x low apart some none =
     let s : ShareNone (module_of e) (modules_in es) k x.end = share_none (module_of e) (modules_in es) k x.end none in
     elim (leb_tells e.0 k) [
       | inl p ↦
-          let behind : e.1.end ≤ k = elim (apart_from (module_of e) k x.end s.first) [ inl q ↦ absurd (omega (arith, p.1)) | inr q ↦ q ] in
+          let after : e.1.end ≤ k = elim (apart_from (module_of e) k x.end s.first) [ inl q ↦ absurd (omega (arith, p.1)) | inr q ↦ q ] in
           let below : e.0 < k = omega (arith, apart.1) in
           let test : ltb k e.0 ≡ false = grind (arith, nat_tests) in
           let other : (k == e.0) ≡ false = grind (arith, nat_tests) in

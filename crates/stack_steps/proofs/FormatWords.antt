@@ -35,7 +35,7 @@ use Rattle.pe_unwind_info.specs.Steps.{act, run, epilog_act, epilog_run}
 use Rattle.pe_unwind_info.specs.Info.{Info, parsed_info}
 use Rattle.pe_unwind_info.specs.InfoOperations.{operations_in}
 use Rattle.pe_unwind_info.specs.Header.{frame_register_of}
-use Rattle.pe_unwind_info.specs.EpilogList.{leading_epilogs, behind_epilogs, is_due}
+use Rattle.pe_unwind_info.specs.EpilogList.{leading_epilogs, after_epilogs, is_due}
 use Rattle.pe_unwind_info.specs.Epilog.{sequence_of}
 use Rattle.pe_unwind_info.specs.Frame.{epilog_or_none, info_in, info_or, chained_of, operations_alone, from_place, follow, link_of, at_limit, epilog_in}
 use Rattle.pe_unwind_info.specs.FrameOf.{Image, then_follows, end_of_chain, left_by, epilog_if_tested, by_test, in_record, frame_end_of}
@@ -306,7 +306,7 @@ framed_on memory stack address (Some function) regs = by_info (info_in function.
     by_tested : (info : Info) (due : Bool) (r : Result (Option (List FunctionEpilogInstruction)) FrameFault) → epilog_if_tested due memory (frame_register_of info.header) function.end_address address ≡ r → OnEnd stack (by_test memory stack address function info r regs)
     by_tested info false (Err fault) is = absurd cc
     by_tested info true (Err fault) is = epilog_on (frame_register_of info.header) stack function.end_address address (memory address) regs fault is
-    by_tested info due (Ok epilog) is = by_epilog info (from_place (address - function.begin_address) (behind_epilogs (operations_in info))) epilog
+    by_tested info due (Ok epilog) is = by_epilog info (from_place (address - function.begin_address) (after_epilogs (operations_in info))) epilog
 
     by_info : (r : Result Info FrameFault) → info_in function.unwind_info_address (memory function.unwind_info_address) ≡ r → OnEnd stack (in_record memory stack address function r regs)
     by_info (Err fault) is = info_on stack function.unwind_info_address (memory function.unwind_info_address) regs fault is

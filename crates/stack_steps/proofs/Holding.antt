@@ -190,7 +190,7 @@ inserted_among P (d ∷ es) k x low apart some none =
     let s : ShareNone (module_of d) (modules_in es) k x.end = share_none (module_of d) (modules_in es) k x.end none in
     elim (leb_tells d.0 k) [
       | inl p ↦
-          let behind : d.1.end ≤ k = elim (apart_from (module_of d) k x.end s.first) [ inl q ↦ absurd (omega (arith, p.1)) | inr q ↦ q ] in
+          let after : d.1.end ≤ k = elim (apart_from (module_of d) k x.end s.first) [ inl q ↦ absurd (omega (arith, p.1)) | inr q ↦ q ] in
           let below : d.0 < k = omega (arith, apart.1) in
           let test : ltb k d.0 ≡ false = grind (arith, nat_tests) in
           let other : (k == d.0) ≡ false = grind (arith, nat_tests) in

@@ -258,7 +258,7 @@ stands_before_steps = record {
     keeps = by_register (λ r. distance r (steps_of done_before_steps) ≡ None → value_of r before_steps ≡ value_of r call.caller) (λ e. refl) (λ e. refl) (λ e. refl) (λ e. refl) (λ e. refl) (λ e. refl);
   };
   intact = by_register (λ r. (r ≡ RBP → frame_depth (steps_of done_before_steps) ≡ None) → value_of r before_steps ≡ value_of r call.caller) (λ e. refl) (λ e. refl) (λ e. refl) (λ e. refl) (λ e. refl) (λ e. refl);
-  behind = lit≤ tt;
+  after = lit≤ tt;
   below = lit< tt;
 }
 
@@ -280,7 +280,7 @@ stands_after_push = record {
     keeps = by_register (λ r. distance r (steps_of done_after_push) ≡ None → value_of r after_push ≡ value_of r call.caller) (λ e. refl) (λ e. absurd cc) (λ e. refl) (λ e. refl) (λ e. refl) (λ e. refl);
   };
   intact = by_register (λ r. (r ≡ RBP → frame_depth (steps_of done_after_push) ≡ None) → value_of r after_push ≡ value_of r call.caller) (λ e. refl) (λ e. refl) (λ e. refl) (λ e. refl) (λ e. refl) (λ e. refl);
-  behind = lit≤ tt;
+  after = lit≤ tt;
   below = lit< tt;
 }
 
@@ -302,7 +302,7 @@ stands_after_set = record {
     keeps = by_register (λ r. distance r (steps_of done_after_set) ≡ None → value_of r after_set ≡ value_of r call.caller) (λ e. refl) (λ e. absurd cc) (λ e. refl) (λ e. refl) (λ e. refl) (λ e. refl);
   };
   intact = by_register (λ r. (r ≡ RBP → frame_depth (steps_of done_after_set) ≡ None) → value_of r after_set ≡ value_of r call.caller) (λ e. refl) (λ e. let none = e refl in absurd cc) (λ e. refl) (λ e. refl) (λ e. refl) (λ e. refl);
-  behind = lit≤ tt;
+  after = lit≤ tt;
   below = lit< tt;
 }
 
@@ -324,7 +324,7 @@ stands_after_late_push = record {
     keeps = by_register (λ r. distance r (steps_of done_after_late_push) ≡ None → value_of r after_late_push ≡ value_of r call.caller) (λ e. absurd cc) (λ e. absurd cc) (λ e. refl) (λ e. refl) (λ e. refl) (λ e. refl);
   };
   intact = by_register (λ r. (r ≡ RBP → frame_depth (steps_of done_after_late_push) ≡ None) → value_of r after_late_push ≡ value_of r call.caller) (λ e. refl) (λ e. let none = e refl in absurd cc) (λ e. refl) (λ e. refl) (λ e. refl) (λ e. refl);
-  behind = lit≤ tt;
+  after = lit≤ tt;
   below = lit< tt;
 }
 
@@ -346,7 +346,7 @@ stands_after_allocation = record {
     keeps = by_register (λ r. distance r (steps_of done_after_allocation) ≡ None → value_of r after_allocation ≡ value_of r call.caller) (λ e. absurd cc) (λ e. absurd cc) (λ e. refl) (λ e. refl) (λ e. refl) (λ e. refl);
   };
   intact = by_register (λ r. (r ≡ RBP → frame_depth (steps_of done_after_allocation) ≡ None) → value_of r after_allocation ≡ value_of r call.caller) (λ e. refl) (λ e. let none = e refl in absurd cc) (λ e. refl) (λ e. refl) (λ e. refl) (λ e. refl);
-  behind = lit≤ tt;
+  after = lit≤ tt;
   below = lit< tt;
 }
 
@@ -368,7 +368,7 @@ stands_after_store = record {
     keeps = by_register (λ r. distance r (steps_of done_after_store) ≡ None → value_of r after_store ≡ value_of r call.caller) (λ e. absurd cc) (λ e. absurd cc) (λ e. absurd cc) (λ e. refl) (λ e. refl) (λ e. refl);
   };
   intact = by_register (λ r. (r ≡ RBP → frame_depth (steps_of done_after_store) ≡ None) → value_of r after_store ≡ value_of r call.caller) (λ e. refl) (λ e. let none = e refl in absurd cc) (λ e. refl) (λ e. refl) (λ e. refl) (λ e. refl);
-  behind = lit≤ tt;
+  after = lit≤ tt;
   below = lit< tt;
 }
 
@@ -409,7 +409,7 @@ stands_before_push = record {
   steps = refl;
   entered = record { room = lit≤ tt; returns = λ _. refl; leaves = tt; stack = refl; keeps = by_register (λ r. distance r [] ≡ None → value_of r (pushing.state 0x401000 0x7000 9) ≡ value_of r before_push.caller) (λ e. refl) (λ e. refl) (λ e. refl) (λ e. refl) (λ e. refl) (λ e. refl) };
   intact = by_register (λ r. (r ≡ RBP → frame_depth [] ≡ None) → value_of r (pushing.state 0x401000 0x7000 9) ≡ value_of r before_push.caller) (λ e. refl) (λ e. refl) (λ e. refl) (λ e. refl) (λ e. refl) (λ e. refl);
-  behind = lit≤ tt;
+  after = lit≤ tt;
   below = lit< tt;
 }
 

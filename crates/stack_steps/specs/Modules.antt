@@ -4,6 +4,7 @@ use Rattle.std.specs.List.{AllByRecursion}
 use Rattle.std.specs.Option.{option_map}
 use Rattle.memory_image.specs.Image.{Span, lower}
 use Rattle.eh_frame.specs.Index.{Index}
+use Rattle.fde_finders.specs.declared.custom.FrameInfo.{FrameInfo}
 use Rattle.stack_steps.specs.declared.space.SpaceError.{SpaceError}
 use Rattle.stack_steps.specs.declared.space.SpaceError.TheVariants.{Wraps, Overlap}
 use Rattle.stack_steps.specs.declared.space.Module.{Module}
@@ -29,6 +30,16 @@ pub record SpaceValue : Type 0 where
 -- the address lies in the module
 abbrev pub contains : Module → ℕ → Bool
 contains m a = nat_le m.start a && nat_lt a m.end
+
+-- where frame tables lie that a finder can search: those of an ELF module alone
+abbrev pub elf_tables_of : ModuleTables → Option FrameInfo
+elf_tables_of (Elf info) = Some info
+elf_tables_of (Macho tables) = None
+elf_tables_of (Pe tables) = None
+
+-- the frame tables of a module, for an address of its own
+abbrev pub frame_for : Module → ℕ → Option FrameInfo
+frame_for m a = if contains m a then elf_tables_of m.tables else None
 
 -- the module that contains the address
 abbrev pub module_at : List Module → ℕ → Option Module

@@ -12,7 +12,7 @@ ghost use Rattle.stack_steps.specs.declared.space.ModuleTables.TheVariants.{Elf}
 
 use crate::prepared::{Left, MOST, keep, tables_for};
 use crate::shared_table::SharedTable;
-use fde_finders::FrameInfo;
+use fde_finders::{EhFrameFinder, FrameInfo};
 use memory_image::MemoryImage;
 use std::alloc::{AllocError, Global};
 use std::collections::BTreeMap;
@@ -38,6 +38,25 @@ impl Module {
     }
 }
 
+impl EhFrameFinder for Module {
+    ghost use Rattle.std.specs.Prelude.{◌≡◌};
+    ghost use Rattle.stack_steps.specs.Modules.{frame_for};
+
+    ghost names = { λ m pc info. info ≡ frame_for m pc };
+
+    /// The frame tables of an ELF module, for each of its addresses. A module of another format
+    /// names none.
+    fn find(&self, pc: u64) -> Option<FrameInfo> {
+        if !self.contains(pc) {
+            return None;
+        }
+        match self.tables {
+            ModuleTables::Elf(frame) => Some(frame),
+            ModuleTables::Macho(_) | ModuleTables::Pe(_) => None,
+        }
+    }
+}
+
 /// Where the tables of a module lie, by its format.
 #[derive(Clone, Copy, Debug, PartialEq, Eq)]
 pub enum ModuleTables {
@@ -47,6 +66,20 @@ pub enum ModuleTables {
     Macho(MachoTables),
     /// A PE module, by its function table.
     Pe(PeTables),
+}
+
+impl ModuleTables {
+    /// Whether a module with such tables may have so many bytes: a Mach-O or a PE module has fewer
+    /// than 2^32.
+    pub fn fits(&self, size: u64) -> bool
+        ensures fits { result ≡ fits self.now size }
+        ensures within { result ≡ true → FitsIn self.now size }
+    {
+        match self {
+            ModuleTables::Elf(_) => true,
+            ModuleTables::Macho(_) | ModuleTables::Pe(_) => size < 0x1_0000_0000,
+        }
+    }
 }
 
 /// Where the tables of a Mach-O module lie.
@@ -240,7 +273,7 @@ impl<'a> Space<'a> {
         ensures unchanged { OnErr result (self.new ≡ self.old) }
     {
         let Module { start, end, tables } = module;
-        if !fits(tables, end.saturating_sub(start)) {
+        if !tables.fits(end.saturating_sub(start)) {
             return Err(SpaceError::Wraps);
         }
         self.add(start, end, tables)
@@ -417,17 +450,6 @@ impl<'a> Space<'a> {
         ensures added { AllByRecursion (IsAddedTo self.now) self.now.added }
     {
         &self.image
-    }
-}
-
-/// Whether a module of a format may have so many bytes.
-fn fits(tables: ModuleTables, size: u64) -> bool
-    ensures fits { result ≡ fits tables size }
-    ensures within { result ≡ true → FitsIn tables size }
-{
-    match tables {
-        ModuleTables::Elf(_) => true,
-        ModuleTables::Macho(_) | ModuleTables::Pe(_) => size < 0x1_0000_0000,
     }
 }
 

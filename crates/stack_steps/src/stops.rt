@@ -1,7 +1,7 @@
 //! Stops that steps undo, and from which stacks are walked, as functions with empty bodies: what
 //! stands in a contract here is proved.
 
-ghost use Rattle.std.specs.Prelude.{◌∷◌, [], ◌≡◌};
+ghost use Rattle.std.specs.Prelude.{◌∷◌, []};
 ghost use Rattle.memory_image.specs.Image.{IsLaidOut};
 ghost use Rattle.unwind_laws.specs.Pushing as pushing;
 ghost use Rattle.format_definitions.specs.FormatCalls.{IsFormatCall};

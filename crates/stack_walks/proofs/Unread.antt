@@ -10,7 +10,7 @@ use Rattle.unwind_definitions.specs.Entries.{Fde, Entry, ACie, AFde, Found, entr
 use Rattle.unwind_definitions.specs.Row.{covers_pc}
 use Rattle.unwind_definitions.specs.Scan.{fdes_of, first_covering, found_or, scan_from, scan}
 use Rattle.eh_frame.specs.Search.{Precede}
-use Rattle.eh_frame.specs.Listing.{Listing, upcoming, entry_in, behind}
+use Rattle.eh_frame.specs.Listing.{Listing, upcoming, entry_in, after}
 use Rattle.stack_walks.specs.Fronts.{IsUnreadableAt}
 
 -- ---- an answer is a fault, or none
@@ -143,10 +143,10 @@ module _ (bases : Bases) (table : Input) (a : ℕ) (e : Fault) (unread : e ≢ N
       go (Err f) at_offset h = fails_here turns l.offset f (rw left_is at fails) at_offset
 
   pub listing_goes : (turns left : ℕ) (l m : Listing) (o : Option Entry) → left ≡ suc turns → l.table ≡ table → l.bases ≡ bases → l.is_over ≡ false → Fails bases table a e left l.offset →
-      entry_in (upcoming l) ≡ Ok o → m ≡ behind l (upcoming l) → Goes turns m
+      entry_in (upcoming l) ≡ Ok o → m ≡ after l (upcoming l) → Goes turns m
   listing_goes turns left l m o left_is of_table by more fails is then = go (entry_at bases table l.offset) refl (rw (upcoming_at l of_table by more) at is) (rw (upcoming_at l of_table by more) at then)
     where
-      go : (r : Result (Option Found) Fault) → entry_at bases table l.offset ≡ r → entry_in r ≡ Ok o → m ≡ behind l r → Goes turns m
+      go : (r : Result (Option Found) Fault) → entry_at bases table l.offset ≡ r → entry_in r ≡ Ok o → m ≡ after l r → Goes turns m
       go (Ok None) at_offset h rest = absurd (never_ends turns l.offset (rw left_is at fails) at_offset)
       go (Ok (Some found)) at_offset h rest = rw rest (of_table, by, more, fails_later turns l.offset found (rw left_is at fails) at_offset)
       go (Err f) at_offset h rest = absurd cc

@@ -6,7 +6,7 @@ use Rattle.unwind_definitions.specs.Function.{Action, NoAction, Cleanup, Catch, 
 use Rattle.unwind_definitions.specs.Delivery.{decides}
 use Rattle.unwind_arch.specs.declared.x86_64.Context.{Context}
 use Rattle.unwind_definitions.specs.Columns.{rax, rdx, rsp}
-use Rattle.unwinding_frames.specs.Passes.{less_signal}
+use Rattle.unwinding_frames.specs.Passes.{frame_mark}
 use Rattle.format_frames.specs.declared.machine.Stepped.{Stepped}
 use Rattle.stack_steps.specs.declared.answers.DeliverError.{DeliverError}
 use Rattle.stack_steps.specs.declared.answers.DeliverError.TheVariants.{FrameLimit}
@@ -92,8 +92,8 @@ abbrev pub pass_of : Phase → SpaceValue → ℕ → Context → Bool → Resul
 pass_of p = line_for (Some p)
 
 -- the mark by which a pass knows the frame that the search decided for: its stack pointer, less 1 after a signal's frame
-abbrev pub kept_at : Context → Bool → ℕ
-kept_at c interrupted = less_signal interrupted (slice_index c.registers rsp)
+abbrev pub mark_at : Context → Bool → ℕ
+mark_at c interrupted = frame_mark interrupted (slice_index c.registers rsp)
 
 abbrev pub pad_of : Action → Option ℕ
 pad_of (Cleanup pad) = Some pad

@@ -1,7 +1,6 @@
 // How far a walk comes, and why it ends there.
 ghost use Rattle.std.specs.Prelude.{◌≡◌, ◌≢◌, ◌≤◌, ◌↔◌, ℕ, suc, List, [], Ok, Err, false, None};
 ghost use Rattle.std.specs.Prelude.{length, take};
-ghost use Rattle.memory_image.specs.Image.{table_at};
 ghost use Rattle.unwind_definitions.specs.declared.error.Error.{Error as Fault};
 ghost use Rattle.unwind_definitions.specs.Scan.{scan};
 ghost use Rattle.unwind_arch.specs.declared.x86_64.Context.{Context};
@@ -106,13 +105,6 @@ fn unlisted_front(bytes: &[u8], table: u64, text_base: Option<u64>, address: u64
     }
 }
 
-/// The bytes from an address to the end of its region, none where nothing is mapped.
-fn bytes_at<'a>(image: &MemoryImage<'a>, address: u64) -> &'a [u8]
-    ensures { result.now ≡ table_at image.now address }
-{
-    image.from(address).unwrap_or(&[])
-}
-
 /// Why no description is found for an address by the tables that its module names.
 fn undescribed_front(image: &MemoryImage<'_>, address: u64, tables: FrameInfo) -> Front
     requires { FindsNone image.now tables.text_base tables.kind address }
@@ -121,7 +113,7 @@ fn undescribed_front(image: &MemoryImage<'_>, address: u64, tables: FrameInfo) -
     match tables.kind {
         FrameInfoKind::EhFrameHdr(_) => Front::NoDescription(address),
         FrameInfoKind::EhFrame(table) => {
-            unlisted_front(bytes_at(image, table), table, tables.text_base, address)
+            unlisted_front(image.bytes_from(table), table, tables.text_base, address)
         }
     }
 }

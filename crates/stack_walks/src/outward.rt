@@ -1,11 +1,11 @@
 // The way outwards over a stack, of a walk and of the passes of a delivery. Itanium C++ ABI, exception
 // handling, level I, section 1.3.
-ghost use Rattle.std.specs.Prelude.{◌≡◌, ◌≤◌, ◌<◌, ◌+◌, ◌*◌, ◌++◌, ◌∷◌, Err, [], true, false};
-ghost use Rattle.std.specs.Prelude.{length, Some, OnOk, OnErr, IfOk};
+ghost use Rattle.std.specs.Prelude.{◌≡◌, ◌≤◌, ◌<◌, ◌*◌, Err, [], true, false};
+ghost use Rattle.std.specs.Prelude.{length, Some, OnErr, IfOk};
 ghost use Rattle.std.specs.Option.{option_map};
 ghost use Rattle.unwinding_frames.specs.LanguageViews.{action_of};
 ghost use Rattle.stack_walks.specs.Turns.{stops, stop_of, past_arguments, turn_for, line_for};
-ghost use Rattle.stack_walks.specs.Turns.{kept_at, pad_of, enters};
+ghost use Rattle.stack_walks.specs.Turns.{mark_at, pad_of, enters};
 ghost use Rattle.stack_walks.specs.Fronts.{reached_by, turned_from, IsReached};
 ghost use Rattle.stack_steps.specs.FrameViews.{IsFrameOf};
 ghost use Rattle.stack_steps.specs.Stepping.{FrameAt};
@@ -67,7 +67,7 @@ impl Stop {
 
     /// The mark by which a later pass knows the frame.
     pub fn kept(&self) -> u64
-        ensures { result ≡ kept_at self.now.state.context self.now.state.signal }
+        ensures { result ≡ mark_at self.now.state.context self.now.state.signal }
     {
         frame_mark(self.state.context.registers[RSP], self.state.signal)
     }

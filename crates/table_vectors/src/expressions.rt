@@ -1,7 +1,7 @@
 //! Values and faults that an evaluator written in Python from the standard finds for the same
 //! bytes.
 
-ghost use Rattle.std.specs.Prelude.{◌≡◌, ◌≢◌, ℕ, Some, None, ◌==◌, is_some, OnSome, IfNone};
+ghost use Rattle.std.specs.Prelude.{Some, None, ◌==◌};
 ghost use Rattle.std.specs.Prelude.{if◌then◌else◌};
 
 use frame_expressions::*;

@@ -146,10 +146,10 @@ const FUNCTIONS: &[(u64, u64, Result<(u64, u64), Error>)] = &[
 fn three_functions_take_two_steps(rt: HostRuntime) {
     let frames = THREE;
     let unread = damaged();
-    for (start, offset, behind) in FUNCTIONS {
+    for (start, offset, after) in FUNCTIONS {
         let pc = start.wrapping_add(0x1f);
         assert!(rt; finds_in_three(&frames, pc, Ok((*start, *offset))));
-        assert!(rt; finds_in_three(&unread, pc, *behind));
+        assert!(rt; finds_in_three(&unread, pc, *after));
     }
     assert!(rt; scanned_for(&unread, 0x401020) == Some(Error::UnknownVersion));
 }

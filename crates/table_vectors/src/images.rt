@@ -1,6 +1,6 @@
 // Images of memory, records, counted steps and the two ends: outside values, that calls can succeed,
 // and each type through its trait once.
-ghost use Rattle.std.specs.Prelude.{◌+◌, ◌≤◌, ◌^◌, length};
+ghost use Rattle.std.specs.Prelude.{◌≤◌, length};
 
 use crate::asserting::expect_equal;
 use memory_image::{
@@ -17,7 +17,7 @@ struct Entry {
 }
 
 impl Record for Entry {
-    ghost use Rattle.std.proofs.Common.{ℕ, ◌≡◌, ◌∙◌, ◌+◌, ◌≤◌, List, length, drop, ap, sym, subst};
+    ghost use Rattle.std.proofs.Common.{◌≡◌, ◌∙◌, ◌≤◌, length, drop, ap, sym, subst};
     ghost use Rattle.std.proofs.Common.{lit≤};
     ghost use Rattle.memory_image.specs.Words.{u16_at, u32_at, same_from_u16_at, same_from_u32_at};
     ghost use Rattle.memory_image.specs.Words.{same_end};

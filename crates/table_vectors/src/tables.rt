@@ -46,7 +46,7 @@ fn row_at(table: &'static [u8], scanned_for: u64, pc: u64) -> Result<Row<'static
     fde.unwind_info_for_address(&EhFrame::new(table, 0x500000), &Bases::default(), pc)
 }
 
-fn is_row_behind_push(row: &Row<'_>) -> bool {
+fn is_row_after_push(row: &Row<'_>) -> bool {
     let cfa = CfaRule::RegisterAndOffset {
         register: Register(7),
         offset: 16,
@@ -58,7 +58,7 @@ fn is_row_behind_push(row: &Row<'_>) -> bool {
 
 fn push_has_its_row() -> bool {
     match row_at(PUSH_RBX, 0x401005, 0x401005) {
-        Ok(row) => is_row_behind_push(&row),
+        Ok(row) => is_row_after_push(&row),
         Err(_) => false,
     }
 }

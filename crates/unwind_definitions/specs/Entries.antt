@@ -136,13 +136,13 @@ pub record Found : Type 0 where
   pub next : ℕ
 
 -- a length that four bytes spell, or where they are all set the eight after them
-abbrev pub length_behind : ℕ × Input → Result (ℕ × Input) Fault
-length_behind n = if n.0 == 2 ^ 32 - 1 then number w64 n.1 else Ok n
+abbrev pub length_after : ℕ × Input → Result (ℕ × Input) Fault
+length_after n = if n.0 == 2 ^ 32 - 1 then number w64 n.1 else Ok n
 
 -- The body of an entry, None at the end of the list: at the end of the table, or at a length of 0.
 abbrev pub body : Reads (Option Input)
 body c = if length c.bytes == 0 then Ok (None, c) else (number w32 c >>= λ n.
-    if n.0 == 0 then Ok (None, n.1) else (length_behind n >>= λ len. split len.0 len.1 >>= λ b. Ok (Some b.0, b.1)))
+    if n.0 == 0 then Ok (None, n.1) else (length_after n >>= λ len. split len.0 len.1 >>= λ b. Ok (Some b.0, b.1)))
 
 abbrev pub cie_in : Bases → ℕ → Option Input → Result Cie Fault
 cie_in bases offset None = Err NotCie

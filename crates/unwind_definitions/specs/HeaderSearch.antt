@@ -12,8 +12,8 @@ use Rattle.unwind_definitions.specs.Header.{PairTable, pair_at}
 -- ---- boundaries
 
 -- the pair at an index can be read, and starts after an address
-abbrev pub StartsBehind : PairTable → ℕ → ℕ → Type 0
-StartsBehind t pc i = (p : ℕ × ℕ) × (pair_at t i ≡ Ok p) × (pc < p.0)
+abbrev pub StartsAfter : PairTable → ℕ → ℕ → Type 0
+StartsAfter t pc i = (p : ℕ × ℕ) × (pair_at t i ≡ Ok p) × (pc < p.0)
 
 -- a pair starts at or before an address, and the next one, if there is one, after it
 pub record IsBoundary (t : PairTable) (pc : ℕ) (p : ℕ × ℕ) : Type 0 where
@@ -21,11 +21,11 @@ pub record IsBoundary (t : PairTable) (pc : ℕ) (p : ℕ × ℕ) : Type 0 where
   pub within : index < t.count
   pub reads : pair_at t index ≡ Ok p
   pub at_or_before : p.0 ≤ pc
-  pub next_behind : index + 1 < t.count → StartsBehind t pc (index + 1)
+  pub next_after : index + 1 < t.count → StartsAfter t pc (index + 1)
 
 -- there is no pair, or the first one starts after an address
 abbrev pub StartsAbove : PairTable → ℕ → Type 0
-StartsAbove t pc = 0 < t.count → StartsBehind t pc 0
+StartsAbove t pc = 0 < t.count → StartsAfter t pc 0
 
 -- a pair can't be read
 abbrev pub IsUnreadablePair : PairTable → Fault → Type 0

@@ -8,7 +8,7 @@ use Rattle.unwind_definitions.specs.Faults.{Fault, ◌>>=◌}
 use Rattle.unwind_definitions.specs.Input.{Input}
 use Rattle.unwind_definitions.specs.Pointers.{Bases}
 use Rattle.unwind_definitions.specs.Header.{PairTable, pair_at}
-use Rattle.unwind_definitions.specs.HeaderSearch.{StartsBehind, Finds, halved_or, starts_by, pair_of_place, boundary_in, table_answer, IsTableAnswer}
+use Rattle.unwind_definitions.specs.HeaderSearch.{StartsAfter, Finds, halved_or, starts_by, pair_of_place, boundary_in, table_answer, IsTableAnswer}
 
 -- ---- turns
 
@@ -93,7 +93,7 @@ module _ (t : PairTable) (pc : ℕ) where
   -- search ended there
   abbrev IsPlace : ℕ → ℕ → Result ℕ Fault → Type 0
   IsPlace low high (Err e) = (i : ℕ) × (i < high) × (pair_at t i ≡ Err e)
-  IsPlace low high (Ok place) = (low ≤ place) × (place ≤ high) × (low < place → (p : ℕ × ℕ) × (pair_at t (place - 1) ≡ Ok p) × (p.0 ≤ pc)) × (place < high → StartsBehind t pc place)
+  IsPlace low high (Ok place) = (low ≤ place) × (place ≤ high) × (low < place → (p : ℕ × ℕ) × (pair_at t (place - 1) ≡ Ok p) × (p.0 ≤ pc)) × (place < high → StartsAfter t pc place)
 
   placed : (n low high : ℕ) → low ≤ high → high - low ≤ n → IsPlace low high (halved_or n (starts_by t pc) low high)
   unfolding halved_or
@@ -120,7 +120,7 @@ module _ (t : PairTable) (pc : ℕ) where
           let to = is.1 in
           (is.0, omega arith, is.2, λ h. under (ltb place (low + (high - low) / 2)) refl)
         where
-          under : (b : Bool) → ltb place (low + (high - low) / 2) ≡ b → StartsBehind t pc place
+          under : (b : Bool) → ltb place (low + (high - low) / 2) ≡ b → StartsAfter t pc place
           under true h = is.3 (ltb-true place (low + (high - low) / 2) h)
           under false h =
               let k = ltb-false place (low + (high - low) / 2) h in
@@ -154,7 +154,7 @@ module _ (t : PairTable) (pc : ℕ) where
           let one : suc i - 1 ≡ i = omega arith in
           let here : pair_at t i ≡ Ok p = sym (ap (pair_at t) one) ∙ at in
           let next : suc i ≡ i + 1 = omega arith in
-          rw here (record { index = i; within = omega arith; reads = here; at_or_before = le; next_behind = λ lt. subst (StartsBehind t pc) next (is.3 (omega arith)) })
+          rw here (record { index = i; within = omega arith; reads = here; at_or_before = le; next_after = λ lt. subst (StartsAfter t pc) next (is.3 (omega arith)) })
 
   -- what halving answers is a boundary, none only where the table starts above the address, or the fault of a pair
   pub boundary_in-finds : Finds t pc (boundary_in t pc)

@@ -54,8 +54,8 @@ pad_base image bases start c = do
 abbrev pub head : List Span → Bases → ℕ → Input → Result Head StepFault
 head image bases start c = do
   base ← pad_base image bases start c
-  behind ← table_reading (types base.1)
-  site ← table_reading (encoding behind.1)
+  after ← table_reading (types base.1)
+  site ← table_reading (encoding after.1)
   size ← table_reading (uleb site.1)
   parts ← table_reading (split size.0 size.1)
   Ok (record { pad_base = base.0; site_encoding = site.0; sites = parts.0; actions = parts.1 })
@@ -162,8 +162,8 @@ module _ (image : List Span) (bases : Bases) (start a : ℕ) (h : Head) where
     pub place : Input
     pub precede : Precede c before place
     pub site : CallSite
-    pub behind : Input
-    pub stands : call_site image bases h.site_encoding place ≡ Ok (site, behind)
+    pub after : Input
+    pub stands : call_site image bases h.site_encoding place ≡ Ok (site, after)
     pub says : Says site x
 
   -- all call sites end before the address

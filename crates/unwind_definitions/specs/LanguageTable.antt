@@ -50,8 +50,8 @@ abbrev pub site_bytes : Reads ℕ
 site_bytes c = do
   base ← number w8 c
   _ ← unless (base.0 == DW_EH_PE_omit) UnsupportedPointerEncoding
-  behind ← types base.1
-  site ← number w8 behind.1
+  after ← types base.1
+  site ← number w8 after.1
   _ ← unless (site.0 == DW_EH_PE_uleb128) UnsupportedPointerEncoding
   uleb site.1
 
@@ -60,11 +60,11 @@ site_bytes c = do
 pub record IsLanguageTable (image : List Span) (a start : ℕ) (sites : List Site) : Type 0 where
   pub nonzero : a ≢ 0
   pub size : ℕ
-  pub behind : Input
-  pub header : site_bytes (input_at image a) ≡ Ok (size, behind)
+  pub after : Input
+  pub header : site_bytes (input_at image a) ≡ Ok (size, after)
   pub listed : Input
   pub actions : Input
-  pub parts : split size behind ≡ Ok (listed, actions)
+  pub parts : split size after ≡ Ok (listed, actions)
   pub each : AreSites start actions listed sites
 
 -- a pointer leads to a function's language table; without one the function has none

@@ -30,13 +30,13 @@ location at (i ∷ is) = location at is
 -- without each stretch from a remember to the next restore; and the same of what is after the first restore
 pub record Cut : Type 0 where
   pub kept : List Instruction
-  pub behind : Option (List Instruction)
+  pub after : Option (List Instruction)
 
 abbrev pub cut_of : List Instruction → Cut
-cut_of [] = record { kept = []; behind = None }
-cut_of (Remember ∷ is) = let c = cut_of is in record { kept = unwrap_or c.behind c.kept; behind = c.behind }
-cut_of (Restore ∷ is) = let c = cut_of is in record { kept = Restore ∷ c.kept; behind = Some c.kept }
-cut_of (i ∷ is) = let c = cut_of is in record { kept = i ∷ c.kept; behind = c.behind }
+cut_of [] = record { kept = []; after = None }
+cut_of (Remember ∷ is) = let c = cut_of is in record { kept = unwrap_or c.after c.kept; after = c.after }
+cut_of (Restore ∷ is) = let c = cut_of is in record { kept = Restore ∷ c.kept; after = Some c.kept }
+cut_of (i ∷ is) = let c = cut_of is in record { kept = i ∷ c.kept; after = c.after }
 
 abbrev pub kept_instructions : List Instruction → List Instruction
 kept_instructions is = (cut_of is).kept

@@ -17,5 +17,5 @@ pub record StandsAfter (image : List Span) (f : Function) (done later : List Pro
   pub steps : f.prologue ≡ done ++ later
   pub entered : IsEntered image false (steps_of done) t s
   pub intact : (r : CalleeSaved) → (r ≡ RBP → frame_depth (steps_of done) ≡ None) → value_of r s ≡ value_of r t
-  pub behind : f.start + last_end done ≤ s.ra
+  pub after : f.start + last_end done ≤ s.ra
   pub below : IsBelowNext f s.ra later

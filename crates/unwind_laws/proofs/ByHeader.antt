@@ -34,18 +34,18 @@ of_body bases cie o c fde e =
     let f = bound (fde_data bases cie a.0.0 b.0.1) _ fde d.2 in
     sym (ap (λ (k : Fde). k.offset) (ok_same _ _ f.2))
 
-behind_id : (bases : Bases) (table : Input) (o id : ℕ) (b c : Input) (fde : Fde) (q q' : Bool) (e : Fault) →
+after_id : (bases : Bases) (table : Input) (o id : ℕ) (b c : Input) (fde : Fde) (q q' : Bool) (e : Fault) →
     cond q (cie_body bases o c >>= λ cie. Ok (ACie cie)) (cond q' (Err e) (cie_at bases table (b.offset - id) >>= λ cie. fde_body bases cie o c >>= λ k. Ok (AFde k))) ≡ Ok (AFde fde) → fde.offset ≡ o
-behind_id bases table o id b c fde true q' e h = let a = bound (cie_body bases o c) _ (AFde fde) h in absurd cc
-behind_id bases table o id b c fde false true e h = absurd cc
-behind_id bases table o id b c fde false false e h =
+after_id bases table o id b c fde true q' e h = let a = bound (cie_body bases o c) _ (AFde fde) h in absurd cc
+after_id bases table o id b c fde false true e h = absurd cc
+after_id bases table o id b c fde false false e h =
     let a = bound (cie_at bases table (b.offset - id)) (λ cie. fde_body bases cie o c >>= λ k. Ok (AFde k)) (AFde fde) h in
     let d = bound (fde_body bases a.0 o c) (λ k. Ok (AFde k)) (AFde fde) a.2 in
     let same : d.0 ≡ fde = cc in
     ap (λ (k : Fde). k.offset) (sym same) ∙ of_body bases a.0 o c d.0 d.1
 
 in_entry : (bases : Bases) (table : Input) (o : ℕ) (b : Input) (fde : Fde) → entry_in bases table o b ≡ Ok (AFde fde) → fde.offset ≡ o
-in_entry bases table o b fde e = let a = bound (number w32 b) _ (AFde fde) e in behind_id bases table o a.0.0 b a.0.1 fde (a.0.0 == 0) (ltb b.offset a.0.0) NotCie a.2
+in_entry bases table o b fde e = let a = bound (number w32 b) _ (AFde fde) e in after_id bases table o a.0.0 b a.0.1 fde (a.0.0 == 0) (ltb b.offset a.0.0) NotCie a.2
 
 entry_same : (k k' : Entry) (n n' : ℕ) → ◌≡◌ {A = Result (Option Found) Fault} (Ok (Some (record { entry = k; next = n }))) (Ok (Some (record { entry = k'; next = n' }))) → k ≡ k'
 entry_same k k' n n' e =

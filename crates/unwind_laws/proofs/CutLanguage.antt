@@ -10,8 +10,8 @@ use Rattle.unwind_definitions.specs.Caller.{Table}
 use Rattle.unwind_laws.specs.Three.{cut_image}
 use Rattle.unwind_laws.proofs.OneLanguage.{same_pair}
 
-abbrev behind : Input
-behind = record { base = 0x50200c; offset = 5; bytes = 0x08 ∷ 0x10 ∷ 0x20 ∷ 0x01 ∷ 0x81 ∷ [] }
+abbrev after : Input
+after = record { base = 0x50200c; offset = 5; bytes = 0x08 ∷ 0x10 ∷ 0x20 ∷ 0x01 ∷ 0x81 ∷ [] }
 
 abbrev listed : Input
 listed = record { base = 0x50200c; offset = 5; bytes = 0x08 ∷ 0x10 ∷ 0x20 ∷ 0x01 ∷ [] }
@@ -25,8 +25,8 @@ none (s ∷ ss) are = let reads = are.1 in absurd cc
 
 pub undescribed : (sites : List Site) → IsLanguageTable cut_image 0x50200c 0x401050 sites → ⊥
 undescribed sites is =
-    let header = same_pair 4 is.size behind is.behind is.header in
-    let parts = same_pair listed is.listed actions is.actions (ap (λ n. split n behind) header.value ∙ ap (λ (b : Input). split is.size b) header.rest ∙ is.parts) in
+    let header = same_pair 4 is.size after is.after is.header in
+    let parts = same_pair listed is.listed actions is.actions (ap (λ n. split n after) header.value ∙ ap (λ (b : Input). split is.size b) header.rest ∙ is.parts) in
     none sites (subst (λ (i : Input). AreSites 0x401050 i listed sites) (sym parts.rest) (subst (λ (i : Input). AreSites 0x401050 is.actions i sites) (sym parts.value) is.each))
 
 pub unread : (bases : Bases) → search cut_image bases 0x401050 (0x401060 - 1) (input_at cut_image 0x50200c) ≡ Err (Table UnexpectedEof)

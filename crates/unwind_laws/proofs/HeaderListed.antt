@@ -21,7 +21,7 @@ use Rattle.unwind_definitions.specs.Function.{Function}
 use Rattle.unwind_definitions.specs.LanguageTable.{input_at}
 use Rattle.unwind_definitions.specs.Module.{Module, bases_of, no_bases, header_bases, header_form, ArePairs, pair_of, StartsAscend, IsHeaderTable, CoversNot, DescribesModule}
 use Rattle.unwind_definitions.specs.Header.{FrameHeader, PairTable, bases_in, header, pair_from, pair_at, pair_count, table_by, table_in}
-use Rattle.unwind_definitions.specs.HeaderSearch.{StartsBehind, Finds, IsTableAnswer, boundary_in, containing, found_by, fde_at_address, table_answer}
+use Rattle.unwind_definitions.specs.HeaderSearch.{StartsAfter, Finds, IsTableAnswer, boundary_in, containing, found_by, fde_at_address, table_answer}
 use Rattle.unwind_definitions.specs.HeaderSearchLaws.{boundary_in-finds}
 use Rattle.unwind_definitions.specs.PointerEncodings.{datarel_sdata4, DW_EH_PE_udata4, pcrel_sdata4}
 use Rattle.unwind_laws.specs.Found.{nothing_found}
@@ -50,10 +50,10 @@ pointer_read bases c d a e = go (number w32 c) refl
         let same : ((address_of c + signed_word 32 n.0) % 2 ^ 64, n.1) ≡ (a, d) = ok_same _ _ h in
         rw is (ap (λ (p : ℕ × Input). pointed (Direct p.0) p.1) same)
 
-abbrev behind_head : Bases → ℕ → Pointer × Input → Result FrameHeader Fault
-behind_head bases base frame = pair_count DW_EH_PE_udata4 datarel_sdata4 frame.1 >>= λ count. Ok (record { frame = frame.0; count = count.0; encoding = datarel_sdata4; bases = bases_in base bases; pairs = count.1 })
+abbrev after_head : Bases → ℕ → Pointer × Input → Result FrameHeader Fault
+after_head bases base frame = pair_count DW_EH_PE_udata4 datarel_sdata4 frame.1 >>= λ count. Ok (record { frame = frame.0; count = count.0; encoding = datarel_sdata4; bases = bases_in base bases; pairs = count.1 })
 
-head_read : (bases : Bases) (base : ℕ) (rest : List ℕ) → header bases (input base 0 (0x01 ∷ 0x1b ∷ 0x03 ∷ 0x3b ∷ rest)) ≡ (pointer pcrel_sdata4 (bases_in base bases) (input base 4 rest) >>= behind_head bases base)
+head_read : (bases : Bases) (base : ℕ) (rest : List ℕ) → header bases (input base 0 (0x01 ∷ 0x1b ∷ 0x03 ∷ 0x3b ∷ rest)) ≡ (pointer pcrel_sdata4 (bases_in base bases) (input base 4 rest) >>= after_head bases base)
 head_read bases base rest =
     rw (one_byte base 0 0x01 (0x1b ∷ 0x03 ∷ 0x3b ∷ rest), one_byte base 1 0x1b (0x03 ∷ 0x3b ∷ rest), one_byte base 2 0x03 (0x3b ∷ rest), one_byte base 3 0x3b rest) refl
 
@@ -65,7 +65,7 @@ module _ (image : List Span) (h frame : ℕ) (fdes : List Fde) (bases : Bases) (
   header_read =
       let pointer_is : pointer pcrel_sdata4 (bases_in h bases) (input h 4 (drop 4 (table_at image h))) ≡ Ok (Direct frame, table.counted) = pointer_read (bases_in h bases) (skip 4 (input_at image h)) table.counted frame table.pointer in
       let counts : pair_count DW_EH_PE_udata4 datarel_sdata4 table.counted ≡ Ok (length fdes, table.listed) = table.count in
-      ap (λ (l : List ℕ). header bases (input h 0 l)) bytes_are ∙ head_read bases h (drop 4 (table_at image h)) ∙ ap (λ (r : Result (Pointer × Input) Fault). r >>= behind_head bases h) pointer_is
+      ap (λ (l : List ℕ). header bases (input h 0 l)) bytes_are ∙ head_read bases h (drop 4 (table_at image h)) ∙ ap (λ (r : Result (Pointer × Input) Fault). r >>= after_head bases h) pointer_is
       ∙ ap (λ (r : Result (ℕ × Input) Fault). r >>= λ count. Ok (record { frame = Direct frame; count = count.0; encoding = datarel_sdata4; bases = bases_in h bases; pairs = count.1 })) counts
 
 -- ---- the pairs
@@ -102,9 +102,9 @@ nth_pair h bases c (q ∷ ps) are zero p e =
 nth_pair h bases c (q ∷ ps) are (suc i) p e =
     let middle : are.0 ≡ skip 4 c = four_passed h q.0 c are.0 are.2 in
     let next : are.1 ≡ skip 4 are.0 = four_passed h q.1 are.0 are.1 are.3 in
-    let behind : are.1 ≡ skip 8 c = next ∙ ap (skip 4) middle ∙ skip_more 4 4 8 c refl in
+    let after : are.1 ≡ skip 8 c = next ∙ ap (skip 4) middle ∙ skip_more 4 4 8 c refl in
     let more : suc i * 8 ≡ 8 + i * 8 = omega arith in
-    ap (pair_from datarel_sdata4 (bases_in h bases)) (sym (ap (skip (i * 8)) behind ∙ skip_more (i * 8) 8 (suc i * 8) c more)) ∙ nth_pair h bases are.1 ps are.4 i p e
+    ap (pair_from datarel_sdata4 (bases_in h bases)) (sym (ap (skip (i * 8)) after ∙ skip_more (i * 8) 8 (suc i * 8) c more)) ∙ nth_pair h bases are.1 ps are.4 i p e
 
 -- ---- the boundary
 none_starts : (ps : List (ℕ × ℕ)) (a : ℕ) → StartsAscend ps → ((q : ℕ × ℕ) → slice_get ps 0 ≡ Some q → a < q.0) → boundary ps a ≡ None
@@ -198,8 +198,8 @@ module _ (image : List Span) (m : Module) (functions : List Function) (d : Descr
       ap (λ (q : ℕ × ℕ). fde_at_address (bases_of m d.frame) (input_at image d.frame) q.1) by.names.pair ∙ found_there image (bases_of m d.frame) d.frame by.names.next by.fde laid by.names.placed in
       ap (λ (r : Result Fde Fault). r >>= λ fde. containing pc fde) at ∙ sym by.answer
 
-  behind : (i : ℕ) (p : ℕ × ℕ) → slice_get table.pairs i ≡ Some p → StartsBehind listed pc i → pc < p.0
-  behind i p at later =
+  after : (i : ℕ) (p : ℕ × ℕ) → slice_get table.pairs i ≡ Some p → StartsAfter listed pc i → pc < p.0
+  after i p at later =
       let read : ◌≡◌ {A = Result (ℕ × ℕ) Fault} (Ok later.0) (Ok p) = sym later.1 ∙ pair_is i p at in
       let same : later.0 ≡ p = ok_same later.0 p read in
       subst (λ (q : ℕ × ℕ). pc < q.0) same later.2
@@ -210,7 +210,7 @@ module _ (image : List Span) (m : Module) (functions : List Function) (d : Descr
       let bad : ◌≡◌ {A = Result (ℕ × ℕ) Fault} (Err e) (Ok p.0) = sym finds.2 ∙ pair_is finds.0 p.0 p.1 in
       absurd cc
   answers_at (Ok None) finds laid =
-      let none : boundary table.pairs pc ≡ None = none_starts table.pairs pc table.ascend (λ q at. behind 0 q at (finds (let lt = inside table.pairs 0 q at in let many = as_many in omega arith))) in
+      let none : boundary table.pairs pc ≡ None = none_starts table.pairs pc table.ascend (λ q at. after 0 q at (finds (let lt = inside table.pairs 0 q at in let many = as_many in omega arith))) in
       let by : MatchOption (boundary table.pairs pc) (scanned ≡ nothing_found) (AnswersBy image m d.frame pc) = header_answers image m functions d pc h table in
       sym (subst (λ (o : Option (ℕ × ℕ)). MatchOption o (scanned ≡ nothing_found) (AnswersBy image m d.frame pc)) none by)
   answers_at (Ok (Some p)) finds laid =
@@ -221,7 +221,7 @@ module _ (image : List Span) (m : Module) (functions : List Function) (d : Descr
       let is : boundary table.pairs pc ≡ Some p = boundary_at table.pairs pc finds.index p table.ascend at finds.at_or_before (λ r next.
       let lt = inside table.pairs (suc finds.index) r next in let many = as_many in
       let one : finds.index + 1 ≡ suc finds.index = omega arith in
-      behind (suc finds.index) r next (subst (StartsBehind listed pc) one (finds.next_behind (omega arith)))) in
+      after (suc finds.index) r next (subst (StartsAfter listed pc) one (finds.next_after (omega arith)))) in
       let by : MatchOption (boundary table.pairs pc) (scanned ≡ nothing_found) (AnswersBy image m d.frame pc) = header_answers image m functions d pc h table in
       named p (subst (λ (o : Option (ℕ × ℕ)). MatchOption o (scanned ≡ nothing_found) (AnswersBy image m d.frame pc)) is by) laid
 

@@ -53,8 +53,8 @@ steps_append [] ys = refl
 steps_append (x ∷ xs) ys = ap (λ l. x.step ∷ l) (steps_append xs ys)
 
 -- the first body lies after the prologue
-body_behind : (f : Function) → IsFunction SystemV f → f.start + last_end f.prologue ≤ first_body f
-body_behind f is = go f.bodies is.has_body is.bodies
+body_after : (f : Function) → IsFunction SystemV f → f.start + last_end f.prologue ≤ first_body f
+body_after f is = go f.bodies is.has_body is.bodies
   where
     go : (bodies : List Range) → bodies ≢ [] → AreWithin (f.start + last_end f.prologue) f.end bodies → f.start + last_end f.prologue ≤ first_from f.end bodies
     go [] some within = absurd (some refl)
@@ -73,7 +73,7 @@ at_most_last low x (y ∷ xs) h = let ih = at_most_last x.end y xs h.1 in let a 
 pub stands_inside : (f : Function) (image : List Span) (done later : List PrologueStep) (t s : State) → IsFunction SystemV f → StandsAfter image f done later t s → (f.start ≤ s.ra) × (s.ra < f.end)
 stands_inside f image done later t s is st =
     let ends : Ends 0 (done ++ later) = subst (Ends 0) st.steps (plain_ends f is) in
-    let from = st.behind in
+    let from = st.after in
     (omega arith, below later st.below st.steps (rest_ends 0 done later ends))
   where
     inside_end : (bodies : List Range) → bodies ≢ [] → AreWithin (f.start + last_end f.prologue) f.end bodies → first_from f.end bodies < f.end
@@ -85,35 +85,35 @@ stands_inside f image done later t s is st =
     below (x ∷ xs) lt split h =
         let le = at_most_last h.0 x xs h.1 in
         let last : last_end f.prologue ≡ last_end (x ∷ xs) = ap last_end split ∙ last_of done x xs in
-        let behind = body_behind f is in
+        let after = body_after f is in
         let body : first_body f < f.end = inside_end f.bodies is.has_body is.bodies in
         let lt' : s.ra < f.start + x.end = lt in
-        omega (arith, le, last, behind)
+        omega (arith, le, last, after)
 
 -- a description's rows undo the steps that a stopped state has run
 pub stopped_row : (bases : Bases) (evaluates : Evaluates) (image : List Span) (f : Function) (fde : Fde) (done later : List PrologueStep) (t s : State) (columns : Columns) →
     IsFunction SystemV f → f.outermost ≡ false → DescribesRows bases f fde → StandsAfter image f done later t s → IsState t → Shows columns s → HasRow bases fde s.ra (λ run. Undoes evaluates image run t columns × (argument_size run ≡ 0))
 stopped_row bases evaluates image f fde done later t s columns is inner d st words shows =
     let o : ℕ = s.ra - f.start in
-    let from = st.behind in
+    let from = st.after in
     let ends : Ends 0 (done ++ later) = subst (Ends 0) st.steps (plain_ends f is) in
     let low = up_to_last 0 done (first_ends 0 done later ends) o (omega arith) in
-    let behind = rest_ends 0 done later ends in
-    let steps_are : ended_by o f.prologue ≡ steps_of done = ap (ended_by o) st.steps ∙ kept o done later low (high later st.below behind) in
-    let row = d.prologue inner s.ra (omega arith) (before_body later st.below st.steps behind) in
+    let after = rest_ends 0 done later ends in
+    let steps_are : ended_by o f.prologue ≡ steps_of done = ap (ended_by o) st.steps ∙ kept o done later low (high later st.below after) in
+    let row = d.prologue inner s.ra (omega arith) (before_body later st.below st.steps after) in
     let fits : IsPrologueRow (steps_of done) row.0 = subst (λ l. IsPrologueRow l row.0) steps_are row.2 in
     let may : EachMayFollow SystemV [] (steps_of done) = first_may [] (steps_of done) (steps_of later) (subst (EachMayFollow SystemV []) (ap steps_of st.steps ∙ steps_append done later) is.prologue.each) in
     (row.0, row.1, (prologue_undone evaluates image (steps_of done) s t columns may st.entered words shows row.0 fits st.intact, row.2.arguments))
   where
     high : (later : List PrologueStep) → IsBelowNext f s.ra later → (l : ℕ) × Ends l later → AllByRecursion (λ (x : PrologueStep). s.ra - f.start < x.end) later
     high [] below h = tt
-    high (x ∷ xs) below h = let from = st.behind in let lt : s.ra - f.start < x.end = omega (arith, below) in (lt, all_above (s.ra - f.start) x.end xs (omega arith) h.1.1)
+    high (x ∷ xs) below h = let from = st.after in let lt : s.ra - f.start < x.end = omega (arith, below) in (lt, all_above (s.ra - f.start) x.end xs (omega arith) h.1.1)
 
     before_body : (later : List PrologueStep) → IsBelowNext f s.ra later → f.prologue ≡ done ++ later → (l : ℕ) × Ends l later → s.ra < first_body f
     before_body [] below split h = below
     before_body (x ∷ xs) below split h =
         let le = at_most_last h.0 x xs h.1 in
         let last : last_end f.prologue ≡ last_end (x ∷ xs) = ap last_end split ∙ last_of done x xs in
-        let body = body_behind f is in
+        let body = body_after f is in
         let lt : s.ra < f.start + x.end = below in
         omega (arith, le, last, body, lt)

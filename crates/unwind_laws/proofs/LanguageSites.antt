@@ -98,7 +98,7 @@ pub record Numbers (start : ℕ) (actions c : Input) (s : Site) (next : Input) :
   pub asks : action_of start actions pad.0 index.0 ≡ Ok s.action
   pub begins : s.range.from ≡ start + from.0
   pub ends : s.range.to ≡ start + from.0 + len.0
-  pub behind : next ≡ index.1
+  pub after : next ≡ index.1
 
 module _ (start : ℕ) (actions c : Input) (s : Site) (next : Input) where
   acted : (from len pad index : ℕ × Input) → uleb c ≡ Ok (from.0, from.1) → uleb from.1 ≡ Ok (len.0, len.1) → uleb len.1 ≡ Ok (pad.0, pad.1) → uleb pad.1 ≡ Ok (index.0, index.1) → (r : Result Action Fault) →
@@ -118,7 +118,7 @@ module _ (start : ℕ) (actions c : Input) (s : Site) (next : Input) where
         asks = is ∙ ap (λ (t : Site). some_action t.action) same.value;
         begins = sym (ap (λ (t : Site). t.range.from) same.value);
         ends = sym (ap (λ (t : Site). t.range.to) same.value);
-        behind = sym same.rest;
+        after = sym same.rest;
       }
 
   abbrev by_index : (from len pad index : ℕ × Input) → Result (Site × Input) Fault
@@ -259,7 +259,7 @@ module _ (f : Function) (small : f.end < 2 ^ 64) (listed actions : Input) where
         let three = uleb_takes n.len.1 n.pad.1 n.pad.0 n.pad_reads in
         let four = uleb_takes n.pad.1 n.index.1 n.index.0 n.index_reads in
         let later : tables.search_from turns image bases f.start a table_head n.index.1 ≡ Ok (action_of_sites ss a) =
-        sites_searched turns n.index.1 ss s.range.to (omega arith) (subst (λ (i : Input). AreSites f.start actions i ss) n.behind are.2) within.3 may.1 in
+        sites_searched turns n.index.1 ss s.range.to (omega arith) (subst (λ (i : Input). AreSites f.start actions i ss) n.after are.2) within.3 may.1 in
         rw (nonempty (length c.bytes) (omega arith), site_reads c s are.0 n long inside may.0, decision_is c s are.0 n long inside may.0)
         (go (tables.search_from turns image bases f.start a table_head n.index.1) later (nat_lt a s.range.from) (nat_lt a s.range.to))
       where
@@ -277,7 +277,7 @@ abbrev sized : ℕ → Input → Result (ℕ × Input) Fault
 sized n c = Ok (n, c)
 
 -- the parts of a described head
-pub record HeadParts (c : Input) (size : ℕ) (behind : Input) : Type 0 where
+pub record HeadParts (c : Input) (size : ℕ) (after : Input) : Type 0 where
   pub base : Input
   pub base_reads : number w8 c ≡ Ok (0xff, base)
   pub type : ℕ
@@ -285,13 +285,13 @@ pub record HeadParts (c : Input) (size : ℕ) (behind : Input) : Type 0 where
   pub types_read : types base ≡ Ok (type, typed)
   pub site : Input
   pub site_reads : number w8 typed ≡ Ok (1, site)
-  pub size_reads : uleb site ≡ Ok (size, behind)
+  pub size_reads : uleb site ≡ Ok (size, after)
 
-head_parts : (c : Input) (size : ℕ) (behind : Input) → site_bytes c ≡ Ok (size, behind) → HeadParts c size behind
-head_parts c size behind e = go (number w8 c) refl e
+head_parts : (c : Input) (size : ℕ) (after : Input) → site_bytes c ≡ Ok (size, after) → HeadParts c size after
+head_parts c size after e = go (number w8 c) refl e
   where
     sited : (base typed : ℕ × Input) → number w8 c ≡ Ok (0xff, base.1) → types base.1 ≡ Ok (typed.0, typed.1) → (site : ℕ × Input) → number w8 typed.1 ≡ Ok (site.0, site.1) → (b : Bool) → eqb site.0 1 ≡ b →
-        (unless b UnsupportedPointerEncoding >>= λ u. uleb site.1) ≡ Ok (size, behind) → HeadParts c size behind
+        (unless b UnsupportedPointerEncoding >>= λ u. uleb site.1) ≡ Ok (size, after) → HeadParts c size after
     sited base typed x y site z false is h = absurd cc
     sited base typed x y site z true is h = record {
       base = base.1;
@@ -305,23 +305,23 @@ head_parts c size behind e = go (number w8 c) refl e
     }
 
     by_site : (base typed : ℕ × Input) → number w8 c ≡ Ok (0xff, base.1) → types base.1 ≡ Ok (typed.0, typed.1) → (r : Result (ℕ × Input) Fault) → number w8 typed.1 ≡ r →
-        (r >>= λ site. unless (eqb site.0 1) UnsupportedPointerEncoding >>= λ u. uleb site.1) ≡ Ok (size, behind) → HeadParts c size behind
+        (r >>= λ site. unless (eqb site.0 1) UnsupportedPointerEncoding >>= λ u. uleb site.1) ≡ Ok (size, after) → HeadParts c size after
     by_site base typed x y (Err f) is h = absurd cc
     by_site base typed x y (Ok site) is h = sited base typed x y site is (eqb site.0 1) refl h
 
     by_types : (base : ℕ × Input) → number w8 c ≡ Ok (0xff, base.1) → (r : Result (ℕ × Input) Fault) → types base.1 ≡ r →
-        (r >>= λ typed. number w8 typed.1 >>= λ site. unless (eqb site.0 1) UnsupportedPointerEncoding >>= λ u. uleb site.1) ≡ Ok (size, behind) → HeadParts c size behind
+        (r >>= λ typed. number w8 typed.1 >>= λ site. unless (eqb site.0 1) UnsupportedPointerEncoding >>= λ u. uleb site.1) ≡ Ok (size, after) → HeadParts c size after
     by_types base x (Err f) is h = absurd cc
     by_types base x (Ok typed) is h = by_site base typed x is (number w8 typed.1) refl h
 
     by_base : (base : ℕ × Input) → number w8 c ≡ Ok (base.0, base.1) → (b : Bool) → eqb base.0 0xff ≡ b →
-        (unless b UnsupportedPointerEncoding >>= λ u. types base.1 >>= λ typed. number w8 typed.1 >>= λ site. unless (eqb site.0 1) UnsupportedPointerEncoding >>= λ v. uleb site.1) ≡ Ok (size, behind) → HeadParts c size behind
+        (unless b UnsupportedPointerEncoding >>= λ u. types base.1 >>= λ typed. number w8 typed.1 >>= λ site. unless (eqb site.0 1) UnsupportedPointerEncoding >>= λ v. uleb site.1) ≡ Ok (size, after) → HeadParts c size after
     by_base base x false is h = absurd cc
     by_base base x true is h = by_types base (x ∙ ap (λ (k : ℕ). sized k base.1) (eqb-true base.0 0xff is)) (types base.1) refl h
 
     go : (r : Result (ℕ × Input) Fault) → number w8 c ≡ r →
-        (r >>= λ base. unless (eqb base.0 0xff) UnsupportedPointerEncoding >>= λ u. types base.1 >>= λ typed. number w8 typed.1 >>= λ site. unless (eqb site.0 1) UnsupportedPointerEncoding >>= λ v. uleb site.1) ≡ Ok (size, behind) →
-        HeadParts c size behind
+        (r >>= λ base. unless (eqb base.0 0xff) UnsupportedPointerEncoding >>= λ u. types base.1 >>= λ typed. number w8 typed.1 >>= λ site. unless (eqb site.0 1) UnsupportedPointerEncoding >>= λ v. uleb site.1) ≡ Ok (size, after) →
+        HeadParts c size after
     go (Err f) is h = absurd cc
     go (Ok base) is h = by_base base is (eqb base.0 0xff) refl h
 
@@ -330,7 +330,7 @@ pub described_asks : (image : List Span) (bases : Bases) (f : Function) (table :
     tables.search image bases f.start a (input_at image table) ≡ Ok (action_among sites a)
 unfolding tables.search
 described_asks image bases f table sites a are small is =
-    let p : HeadParts (input_at image table) is.size is.behind = head_parts (input_at image table) is.size is.behind is.header in
+    let p : HeadParts (input_at image table) is.size is.after = head_parts (input_at image table) is.size is.after is.header in
     let reads : tables.head image bases f.start (input_at image table) ≡ Ok (table_head f small is.listed is.actions) =
     rw (p.base_reads, p.types_read, p.site_reads, p.size_reads, is.parts) refl in
     rw reads (sites_searched f small is.listed is.actions image bases a (length is.listed.bytes) is.listed sites f.start (omega arith) is.each are.ranges are.actions

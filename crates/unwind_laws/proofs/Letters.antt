@@ -59,10 +59,10 @@ module _ (bases : Bases) (before after : Letters) (c d : Input) where
 abbrev is_in : List ℕ → ℕ → Bool
 is_in ls n = is_among ls n
 
-behind : (a b c d x : Bool) → x ≡ (b || d) → d ≡ (a || c) → x ≡ ((a || b) || c)
-behind true true c d x e f = e
-behind true false c d x e f = e ∙ f
-behind false b c d x e f = e ∙ ap (λ y. b || y) f
+said_after : (a b c d x : Bool) → x ≡ (b || d) → d ≡ (a || c) → x ≡ ((a || b) || c)
+said_after true true c d x e f = e
+said_after true false c d x e f = e ∙ f
+said_after false b c d x e f = e ∙ ap (λ y. b || y) f
 
 by_letters : (bases : Bases) (ls : List ℕ) (before after : Letters) (c : Input) → letters_from bases ls before c ≡ Ok after → Adds (is_in ls) before after
 by_letters bases [] before after c e = subst (Adds (is_in []) before) (ok_same before after e) (record { personality = refl; language = refl; address = refl; signal = refl })
@@ -70,10 +70,10 @@ by_letters bases (l ∷ ls) before after c e =
     let r = bound (letter bases l before c) _ after e in
     let first = by_letter bases before r.0.0 c r.0.1 l r.1 in
     let rest = by_letters bases ls r.0.0 after r.0.1 r.2 in record {
-      personality = behind (l == 0x50) (is_in ls 0x50) _ _ _ rest.personality first.personality;
-      language = behind (l == 0x4c) (is_in ls 0x4c) _ _ _ rest.language first.language;
-      address = behind (l == 0x52) (is_in ls 0x52) _ _ _ rest.address first.address;
-      signal = behind (l == 0x53) (is_in ls 0x53) _ _ _ rest.signal first.signal;
+      personality = said_after (l == 0x50) (is_in ls 0x50) _ _ _ rest.personality first.personality;
+      language = said_after (l == 0x4c) (is_in ls 0x4c) _ _ _ rest.language first.language;
+      address = said_after (l == 0x52) (is_in ls 0x52) _ _ _ rest.address first.address;
+      signal = said_after (l == 0x53) (is_in ls 0x53) _ _ _ rest.signal first.signal;
     }
 
 or_none : (a x : Bool) → x ≡ (a || false) → x ≡ a

@@ -38,8 +38,8 @@ one_list start actions c (s ∷ ss) (t ∷ ts) a b =
 
 pub one_sites : (image : List Span) (a start : ℕ) (ss ts : List Site) → IsLanguageTable image a start ss → IsLanguageTable image a start ts → ss ≡ ts
 one_sites image a start ss ts x y =
-    let header = same_pair x.size y.size x.behind y.behind (sym x.header ∙ y.header) in
-    let parts = same_pair x.listed y.listed x.actions y.actions (sym x.parts ∙ ap (λ n. split n x.behind) header.value ∙ ap (λ (b : Input). split y.size b) header.rest ∙ y.parts) in
+    let header = same_pair x.size y.size x.after y.after (sym x.header ∙ y.header) in
+    let parts = same_pair x.listed y.listed x.actions y.actions (sym x.parts ∙ ap (λ n. split n x.after) header.value ∙ ap (λ (b : Input). split y.size b) header.rest ∙ y.parts) in
     one_list start x.actions x.listed ss ts x.each (subst (λ (i : Input). AreSites start x.actions i ts) (sym parts.value) (subst (λ (i : Input). AreSites start i y.listed ts) (sym parts.rest) y.each))
 
 same_action : (f g : Function) (a : ℕ) → f.sites ≡ g.sites → action_at f a ≡ action_at g a

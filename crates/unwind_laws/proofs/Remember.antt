@@ -10,9 +10,9 @@ abbrev says : List Instruction → Option Bool
 says is = last_said remembers is
 
 abbrev join : Instruction → Cut → Cut
-join Remember c = record { kept = unwrap_or c.behind c.kept; behind = c.behind }
-join Restore c = record { kept = Restore ∷ c.kept; behind = Some c.kept }
-join i c = record { kept = i ∷ c.kept; behind = c.behind }
+join Remember c = record { kept = unwrap_or c.after c.kept; after = c.after }
+join Restore c = record { kept = Restore ∷ c.kept; after = Some c.kept }
+join i c = record { kept = i ∷ c.kept; after = c.after }
 
 cut_cons : (i : Instruction) (is : List Instruction) → cut_of (i ∷ is) ≡ join i (cut_of is)
 cut_cons Nop is = refl
@@ -34,7 +34,7 @@ under k xs ys e = cut_cons k xs ∙ ap (join k) e ∙ sym (cut_cons k ys)
 
 -- instructions that neither remember nor restore
 abbrev silent_cut : List Instruction → Cut → Cut
-silent_cut is c = record { kept = is ++ c.kept; behind = c.behind }
+silent_cut is c = record { kept = is ++ c.kept; after = c.after }
 
 silent : (is more : List Instruction) → says is ≡ None → cut_of (is ++ more) ≡ silent_cut is (cut_of more)
 silent [] more e = refl

@@ -275,7 +275,7 @@ interrupted_stands = record {
     keeps = by_register (λ r. distance r (steps_of done) ≡ None → value_of r interrupted ≡ value_of r caller) (λ e. absurd cc) (λ e. refl) (λ e. refl) (λ e. refl) (λ e. absurd cc) (λ e. refl);
   };
   intact = by_register (λ r. _ → value_of r interrupted ≡ value_of r caller) (λ e. refl) (λ e. refl) (λ e. refl) (λ e. refl) (λ e. refl) (λ e. refl);
-  behind = lit≤ tt;
+  after = lit≤ tt;
   below = lit< tt;
 }
 

@@ -78,16 +78,16 @@ module _ (machine : Machine) (evaluates : Evaluates) (image : List Span) (old : 
   -- a column's value after low is by the rules, and those below it have one
   pub record IsBy (value : ℕ → Result (Option ℕ) StepFault) (low : ℕ) (rules : List (ℕ × Rule)) : Type 0 where
     pub below : (c : ℕ) → c < low → HasValue (value c)
-    pub behind : (c : ℕ) → low ≤ c → value c ≡ value_by (rule_in rules c) c
+    pub after : (c : ℕ) → low ≤ c → value c ≡ value_by (rule_in rules c) c
 
   rest_by : (value : ℕ → Result (Option ℕ) StepFault) (low : ℕ) (r : ℕ × Rule) (rules : List (ℕ × Rule)) → ColumnsAscend low (r ∷ rules) → IsBy value low (r ∷ rules) → HasValue (value r.0) → IsBy value (r.0 + 1) rules
-  rest_by value low r rules up is here = record { below = below; behind = behind }
+  rest_by value low r rules up is here = record { below = below; after = after }
     where
       early : (c : ℕ) → c < r.0 → (c < low) ⊎ (low ≤ c) → HasValue (value c)
       early c lt (inl before) = is.below c before
       early c lt (inr le) =
           let none : rule_in (r ∷ rules) c ≡ None = nothing_below (r ∷ rules) r.0 c (omega arith, up.1, up.2) lt in
-          (value_without_rule machine old cfa c, is.behind c le ∙ ap (λ o. value_by o c) none)
+          (value_without_rule machine old cfa c, is.after c le ∙ ap (λ o. value_by o c) none)
 
       or_same : (c : ℕ) → (c < r.0) ⊎ (c ≡ r.0) → HasValue (value c)
       or_same c (inl lt) = early c lt (order c low)
@@ -96,11 +96,11 @@ module _ (machine : Machine) (evaluates : Evaluates) (image : List Span) (old : 
       below : (c : ℕ) → c < r.0 + 1 → HasValue (value c)
       below c lt = or_same c (below_or_at c r.0 lt)
 
-      behind : (c : ℕ) → r.0 + 1 ≤ c → value c ≡ value_by (rule_in rules c) c
-      behind c le =
+      after : (c : ℕ) → r.0 + 1 ≤ c → value c ≡ value_by (rule_in rules c) c
+      after c le =
           let le' : low ≤ r.0 = up.0 in
           let other : (r.0 == c) ≡ false = grind (arith, nat_tests) in
-          is.behind c (omega arith) ∙ rw other refl
+          is.after c (omega arith) ∙ rw other refl
 
   -- the first fault of columns by ascending column is that of the rules in their order
   first_is : (value : ℕ → Result (Option ℕ) StepFault) (low : ℕ) (rules : List (ℕ × Rule)) → ColumnsAscend low rules → IsBy value low rules → first_fault_below column_limit value ≡ rules_fault rules
@@ -108,20 +108,20 @@ module _ (machine : Machine) (evaluates : Evaluates) (image : List Span) (old : 
     where
       has : (c : ℕ) → (c < low) ⊎ (low ≤ c) → HasValue (value c)
       has c (inl lt) = is.below c lt
-      has c (inr le) = (value_without_rule machine old cfa c, is.behind c le)
+      has c (inr le) = (value_without_rule machine old cfa c, is.after c le)
   first_is value low (r ∷ rules) up is = go (value_for_column (old r.0) (rule_value evaluates image old cfa r.0 r.1)) refl (first_is value (r.0 + 1) rules up.2)
     where
       self : (r.0 == r.0) ≡ true
       self = grind (arith, nat_tests)
 
       at : value r.0 ≡ value_for_column (old r.0) (rule_value evaluates image old cfa r.0 r.1)
-      at = is.behind r.0 up.0 ∙ rw self refl
+      at = is.after r.0 up.0 ∙ rw self refl
 
       early : (c : ℕ) → c < r.0 → (c < low) ⊎ (low ≤ c) → HasValue (value c)
       early c lt (inl before) = is.below c before
       early c lt (inr le) =
           let none : rule_in (r ∷ rules) c ≡ None = nothing_below (r ∷ rules) r.0 c (omega arith, up.1, up.2) lt in
-          (value_without_rule machine old cfa c, is.behind c le ∙ ap (λ o. value_by o c) none)
+          (value_without_rule machine old cfa c, is.after c le ∙ ap (λ o. value_by o c) none)
 
       go : (p : Result (Option ℕ) StepFault) → value_for_column (old r.0) (rule_value evaluates image old cfa r.0 r.1) ≡ p → (IsBy value (r.0 + 1) rules → first_fault_below column_limit value ≡ rules_fault rules) →
           first_fault_below column_limit value ≡ option_or (fault_in p) (rules_fault rules)
@@ -138,7 +138,7 @@ module _ (machine : Machine) (evaluates : Evaluates) (image : List Span) (old : 
   -- The caller by a row is what its rules give one after another, by ascending column, from the columns without rules.
   pub caller_is_ruled : (run : RowInstructions) (rules : List (ℕ × Rule)) → AreRules run rules → caller_with machine evaluates image old run (Ok cfa) ≡ columns_by_rules evaluates image old cfa rules (value_without_rule machine old cfa)
   caller_is_ruled run rules are =
-      let is : IsBy (column_value machine evaluates image old cfa run) 0 rules = record { below = λ c lt. absurd (omega arith); behind = λ c le. by_each run rules are c } in
+      let is : IsBy (column_value machine evaluates image old cfa run) 0 rules = record { below = λ c lt. absurd (omega arith); after = λ c le. by_each run rules are c } in
       ap (λ o. unless_fault o (λ c. value_in (column_value machine evaluates image old cfa run c))) (first_is (column_value machine evaluates image old cfa run) 0 rules are.ascend is)
       ∙ ap (unless_fault (rules_fault rules)) (λ i c. (ap value_in (by_each run rules are c) ∙ value_in_by (rule_in rules c) c) i)
       ∙ sym (ruled_is rules 0 (value_without_rule machine old cfa) are.ascend)

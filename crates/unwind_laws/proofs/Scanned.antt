@@ -9,7 +9,7 @@ use Rattle.unwind_definitions.specs.declared.error.Error.TheVariants.{Unexpected
 use Rattle.unwind_definitions.specs.Faults.{◌>>=◌}
 use Rattle.unwind_definitions.specs.Input.{Input, skip, split, number}
 use Rattle.unwind_definitions.specs.Pointers.{Bases}
-use Rattle.unwind_definitions.specs.Entries.{Entry, ACie, AFde, Found, body, length_behind, entry_in, found_in, entry_at, AreEntries}
+use Rattle.unwind_definitions.specs.Entries.{Entry, ACie, AFde, Found, body, length_after, entry_in, found_in, entry_at, AreEntries}
 use Rattle.unwind_definitions.specs.Row.{covers_pc}
 use Rattle.unwind_definitions.specs.Scan.{fdes_of, scan_from, scan}
 use Rattle.unwind_laws.specs.Found.{found_among}
@@ -95,7 +95,7 @@ no_part : (b c d : Input) → ◌≡◌ {A = Result (Option Input × Input) Faul
 unfolding has_part
 no_part b c d e = let h : false ≡ true = ap has_part e in absurd cc
 
-length_moves : (n len : ℕ × Input) → length_behind n ≡ Ok len → Moves 0 n.1 len.1
+length_moves : (n len : ℕ × Input) → length_after n ≡ Ok len → Moves 0 n.1 len.1
 length_moves n len e = go (n.0 == 2 ^ 32 - 1) e
   where
     same : (x y : ℕ × Input) → ◌≡◌ {A = Result (ℕ × Input) Fault} (Ok x) (Ok y) → x.1 ≡ y.1
@@ -121,13 +121,13 @@ part_moves len b rest e = go (split len.0 len.1) refl e
     go (Err f) is e = absurd cc
     go (Ok x) is e = subst (Moves 0 len.1) (same_rest _ (Some b) x.1 rest e) (split_moves len.0 len.1 x.0 x.1 is)
 
-abbrev behind_length : ℕ × Input → Result (Option Input × Input) Fault
-behind_length n = if n.0 == 0 then Ok (None, n.1) else (length_behind n >>= λ len. part_of len)
+abbrev after_length : ℕ × Input → Result (Option Input × Input) Fault
+after_length n = if n.0 == 0 then Ok (None, n.1) else (length_after n >>= λ len. part_of len)
 
-behind_moves : (n : ℕ × Input) (b rest : Input) → behind_length n ≡ Ok (Some b, rest) → Moves 0 n.1 rest
-behind_moves n b rest e = go (n.0 == 0) (length_behind n) refl e
+after_moves : (n : ℕ × Input) (b rest : Input) → after_length n ≡ Ok (Some b, rest) → Moves 0 n.1 rest
+after_moves n b rest e = go (n.0 == 0) (length_after n) refl e
   where
-    go : (z : Bool) (r : Result (ℕ × Input) Fault) → length_behind n ≡ r → cond z (Ok (None, n.1)) (r >>= λ len. part_of len) ≡ Ok (Some b, rest) → Moves 0 n.1 rest
+    go : (z : Bool) (r : Result (ℕ × Input) Fault) → length_after n ≡ r → cond z (Ok (None, n.1)) (r >>= λ len. part_of len) ≡ Ok (Some b, rest) → Moves 0 n.1 rest
     go true r is e = absurd (no_part b n.1 rest e)
     go false (Err f) is e = absurd cc
     go false (Ok len) is e = joined n.1 len.1 rest 0 (length_moves n len is) (part_moves len b rest e)
@@ -135,10 +135,10 @@ behind_moves n b rest e = go (n.0 == 0) (length_behind n) refl e
 body_moves : (c b rest : Input) → body c ≡ Ok (Some b, rest) → Moves 4 c rest
 body_moves c b rest e = go (length c.bytes == 0) (number w32 c) refl e
   where
-    go : (z : Bool) (r : Result (ℕ × Input) Fault) → number w32 c ≡ r → cond z (Ok (None, c)) (r >>= λ n. behind_length n) ≡ Ok (Some b, rest) → Moves 4 c rest
+    go : (z : Bool) (r : Result (ℕ × Input) Fault) → number w32 c ≡ r → cond z (Ok (None, c)) (r >>= λ n. after_length n) ≡ Ok (Some b, rest) → Moves 4 c rest
     go true r is e = absurd (no_part b c rest e)
     go false (Err f) is e = absurd cc
-    go false (Ok n) is e = joined c n.1 rest 4 (number_moves c n.0 n.1 is) (behind_moves n b rest e)
+    go false (Ok n) is e = joined c n.1 rest 4 (number_moves c n.0 n.1 is) (after_moves n b rest e)
 
 -- an entry's next offset is where its body ends
 pub record EndsAt (c : Input) (next : ℕ) : Type 0 where

@@ -37,11 +37,11 @@ keeps : (bases : Bases) (l : ℕ) (ls : List ℕ) (before : Letters) (c : Input)
     ((r : Letters × Input) → letters_from bases ls r.0 r.1 ≡ Ok got → got.signal ≡ r.0.signal) → letters_from bases (l ∷ ls) before c ≡ Ok got → got.signal ≡ before.signal
 keeps bases l ls before c got one rest e = let b = bound (letter bases l before c) (λ r. letters_from bases ls r.0 r.1) got e in rest b.0 b.2 ∙ one b.0 b.1
 
-behind_R : (bases : Bases) (before : Letters) (c : Input) (got : Letters) → letters_from bases (0x52 ∷ []) before c ≡ Ok got → got.signal ≡ before.signal
-behind_R bases before c got e = keeps bases 0x52 [] before c got (keeps_R bases before c) (λ r h. ap (λ (q : Letters). q.signal) (sym (ok_same _ _ h))) e
+after_R : (bases : Bases) (before : Letters) (c : Input) (got : Letters) → letters_from bases (0x52 ∷ []) before c ≡ Ok got → got.signal ≡ before.signal
+after_R bases before c got e = keeps bases 0x52 [] before c got (keeps_R bases before c) (λ r h. ap (λ (q : Letters). q.signal) (sym (ok_same _ _ h))) e
 
-behind_LR : (bases : Bases) (before : Letters) (c : Input) (got : Letters) → letters_from bases (0x4c ∷ 0x52 ∷ []) before c ≡ Ok got → got.signal ≡ before.signal
-behind_LR bases before c got e = keeps bases 0x4c (0x52 ∷ []) before c got (keeps_L bases before c) (λ r h. behind_R bases r.0 r.1 got h) e
+after_LR : (bases : Bases) (before : Letters) (c : Input) (got : Letters) → letters_from bases (0x4c ∷ 0x52 ∷ []) before c ≡ Ok got → got.signal ≡ before.signal
+after_LR bases before c got e = keeps bases 0x4c (0x52 ∷ []) before c got (keeps_L bases before c) (λ r h. after_R bases r.0 r.1 got h) e
 
 of_data : (bases : Bases) (ls : List ℕ) (c : Input) (r : Letters × Input) → ((block : Input) (got : Letters) → letters_from bases ls no_letters block ≡ Ok got → got.signal ≡ false) → augmentation_data bases (0x7a ∷ ls) c ≡ Ok r → r.0.signal ≡ false
 of_data bases ls c r h e =
@@ -51,9 +51,9 @@ of_data bases ls c r h e =
     ap (λ (q : Letters × Input). q.0.signal) (sym (ok_same _ _ d.2)) ∙ h _ _ d.1
 
 of_text : (bases : Bases) (letters : List ℕ) (c : Input) (r : Letters × Input) → (letters ≡ 0x7a ∷ 0x52 ∷ []) ⊎ (letters ≡ 0x7a ∷ 0x50 ∷ 0x52 ∷ []) ⊎ (letters ≡ 0x7a ∷ 0x50 ∷ 0x4c ∷ 0x52 ∷ []) → augmentation_data bases letters c ≡ Ok r → r.0.signal ≡ false
-of_text bases letters c r (inl is) e = of_data bases (0x52 ∷ []) c r (λ block got h. behind_R bases no_letters block got h) (subst (λ t. augmentation_data bases t c ≡ Ok r) is e)
-of_text bases letters c r (inr (inl is)) e = of_data bases (0x50 ∷ 0x52 ∷ []) c r (λ block got h. keeps bases 0x50 (0x52 ∷ []) no_letters block got (keeps_P bases no_letters block) (λ q i. behind_R bases q.0 q.1 got i) h) (subst (λ t. augmentation_data bases t c ≡ Ok r) is e)
-of_text bases letters c r (inr (inr is)) e = of_data bases (0x50 ∷ 0x4c ∷ 0x52 ∷ []) c r (λ block got h. keeps bases 0x50 (0x4c ∷ 0x52 ∷ []) no_letters block got (keeps_P bases no_letters block) (λ q i. behind_LR bases q.0 q.1 got i) h) (subst (λ t. augmentation_data bases t c ≡ Ok r) is e)
+of_text bases letters c r (inl is) e = of_data bases (0x52 ∷ []) c r (λ block got h. after_R bases no_letters block got h) (subst (λ t. augmentation_data bases t c ≡ Ok r) is e)
+of_text bases letters c r (inr (inl is)) e = of_data bases (0x50 ∷ 0x52 ∷ []) c r (λ block got h. keeps bases 0x50 (0x52 ∷ []) no_letters block got (keeps_P bases no_letters block) (λ q i. after_R bases q.0 q.1 got i) h) (subst (λ t. augmentation_data bases t c ≡ Ok r) is e)
+of_text bases letters c r (inr (inr is)) e = of_data bases (0x50 ∷ 0x4c ∷ 0x52 ∷ []) c r (λ block got h. keeps bases 0x50 (0x4c ∷ 0x52 ∷ []) no_letters block got (keeps_P bases no_letters block) (λ q i. after_LR bases q.0 q.1 got i) h) (subst (λ t. augmentation_data bases t c ≡ Ok r) is e)
 
 -- what a description says of its augmentation, and of a signal's frame
 augmentation_in : {made : Cie} (cie : Cie) → ◌≡◌ {A = Result Cie Fault} (Ok made) (Ok cie) → made.augmentation ≡ cie.augmentation
@@ -100,11 +100,11 @@ pub cie_read : (bases : Bases) (table : Input) (o : ℕ) (cie : Cie) → cie_at 
 cie_read bases table o cie e = let a = bound (body (skip o table)) _ cie e in cie_read_in bases o a.0.0 cie a.2
 
 -- what an entry that is a frame description says of its common description
-behind_id : (bases : Bases) (table : Input) (o id : ℕ) (b c : Input) (fde : Fde) (q q' : Bool) (e : Fault) →
+after_id : (bases : Bases) (table : Input) (o id : ℕ) (b c : Input) (fde : Fde) (q q' : Bool) (e : Fault) →
     cond q (cie_body bases o c >>= λ cie. Ok (ACie cie)) (cond q' (Err e) (cie_at bases table (b.offset - id) >>= λ cie. fde_body bases cie o c >>= λ k. Ok (AFde k))) ≡ Ok (AFde fde) → FdeRead bases fde
-behind_id bases table o id b c fde true q' e h = let a = bound (cie_body bases o c) _ (AFde fde) h in absurd cc
-behind_id bases table o id b c fde false true e h = absurd cc
-behind_id bases table o id b c fde false false e h =
+after_id bases table o id b c fde true q' e h = let a = bound (cie_body bases o c) _ (AFde fde) h in absurd cc
+after_id bases table o id b c fde false true e h = absurd cc
+after_id bases table o id b c fde false false e h =
     let a = bound (cie_at bases table (b.offset - id)) (λ cie. fde_body bases cie o c >>= λ k. Ok (AFde k)) (AFde fde) h in
     let d = bound (fde_body bases a.0 o c) (λ k. Ok (AFde k)) (AFde fde) a.2 in
     let same : d.0 ≡ fde = cc in
@@ -117,7 +117,7 @@ behind_id bases table o id b c fde false false e h =
     }
 
 fde_read_in : (bases : Bases) (table : Input) (o : ℕ) (b : Input) (fde : Fde) → entry_in bases table o b ≡ Ok (AFde fde) → FdeRead bases fde
-fde_read_in bases table o b fde e = let a = bound (number w32 b) _ (AFde fde) e in behind_id bases table o a.0.0 b a.0.1 fde (a.0.0 == 0) (ltb b.offset a.0.0) NotCie a.2
+fde_read_in bases table o b fde e = let a = bound (number w32 b) _ (AFde fde) e in after_id bases table o a.0.0 b a.0.1 fde (a.0.0 == 0) (ltb b.offset a.0.0) NotCie a.2
 
 entry_same : (k k' : Entry) (n n' : ℕ) → ◌≡◌ {A = Result (Option Found) Fault} (Ok (Some (record { entry = k; next = n }))) (Ok (Some (record { entry = k'; next = n' }))) → k ≡ k'
 entry_same k k' n n' e =

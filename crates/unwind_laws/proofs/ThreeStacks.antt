@@ -52,8 +52,8 @@ holds_deep : HoldsTables deep_image
 unfolding word_at
 holds_deep = record {
   frames = refl;
-  second = record { nonzero = λ e. absurd cc; size = 8; behind = _; header = refl; listed = _; actions = _; parts = refl; each = (_, refl, (_, refl, refl)) };
-  third = record { nonzero = λ e. absurd cc; size = 4; behind = _; header = refl; listed = _; actions = _; parts = refl; each = (_, refl, refl) };
+  second = record { nonzero = λ e. absurd cc; size = 8; after = _; header = refl; listed = _; actions = _; parts = refl; each = (_, refl, (_, refl, refl)) };
+  third = record { nonzero = λ e. absurd cc; size = 4; after = _; header = refl; listed = _; actions = _; parts = refl; each = (_, refl, refl) };
   cie = record { version = refl; code_factor = refl; data_factor = refl; return_column = refl; augmentation = inr (inr refl); address = refl; language = inr refl; personality = inr (refl, λ e. absurd cc); program = (2, refl) };
 }
 

@@ -16,7 +16,7 @@ use Rattle.unwind_definitions.specs.Module.{Module, IsProcess, AreApart, bases_o
 use Rattle.unwind_definitions.specs.Chain.{IsCalled, IsChain}
 use Rattle.unwind_definitions.specs.Valid.{IsValid}
 use Rattle.unwind_laws.specs.Columns.{columns_of}
-use Rattle.unwind_laws.specs.Three.{header, image, table, cie_plain, cie_language, fde_a, fde_b, fde_c, fa, fb, fc, functions, entries, module_of_them, process, start, second, third, last, calls_through, calls, resumes, unlisted_process, unlisted_calls, module_with_header, header_image, header_process, longer_module, longer_process, behind}
+use Rattle.unwind_laws.specs.Three.{header, image, table, cie_plain, cie_language, fde_a, fde_b, fde_c, fa, fb, fc, functions, entries, module_of_them, process, start, second, third, last, calls_through, calls, resumes, unlisted_process, unlisted_calls, module_with_header, header_image, header_process, longer_module, longer_process, after}
 use Rattle.unwind_laws.proofs.Booleans.{here_or_later, none_in_nil, pairs_one, pairs_two}
 use Rattle.unwind_laws.proofs.RowFacts.{by_register, state_fits}
 use Rattle.unwind_laws.proofs.PushingValid.{columns_show}
@@ -85,10 +85,10 @@ each_fde P a b c f h = elim (here_or_later fde_a (fde_b ∷ fde_c ∷ []) f h) [
 
 module _ (b : ℕ) (more : List Span) where
   pub language_b : IsLanguageTable (image b more) 0x502000 0x401020 sites_b
-  language_b = record { nonzero = λ e. absurd cc; size = 8; behind = _; header = refl; listed = _; actions = _; parts = refl; each = (_, refl, (_, refl, refl)) }
+  language_b = record { nonzero = λ e. absurd cc; size = 8; after = _; header = refl; listed = _; actions = _; parts = refl; each = (_, refl, (_, refl, refl)) }
 
   pub language_c : IsLanguageTable (image b more) 0x50200c 0x401050 sites_c
-  language_c = record { nonzero = λ e. absurd cc; size = 4; behind = _; header = refl; listed = _; actions = _; parts = refl; each = (_, refl, refl) }
+  language_c = record { nonzero = λ e. absurd cc; size = 4; after = _; header = refl; listed = _; actions = _; parts = refl; each = (_, refl, refl) }
 
   pub emitted_language : IsEmittedCie (image b more) cie_language
   unfolding word_at
@@ -260,9 +260,9 @@ longer_described = record {
   header = header_lists;
 }
 
-behind_uncovered : IsUncovered longer_process 0x401090
+after_uncovered : IsUncovered longer_process 0x401090
 unfolding longer_described
-behind_uncovered m has inside = elim (here_or_later longer_module [] m has) [
+after_uncovered m has inside = elim (here_or_later longer_module [] m has) [
   | inl same ↦ subst (λ (k : Module). CoversNot header_image k 0x401090) same (record {
     frame = 0x500000;
     address = refl;
@@ -274,13 +274,13 @@ behind_uncovered m has inside = elim (here_or_later longer_module [] m has) [
   | inr none ↦ absurd (none_in_nil m none)
 ]
 
-pub behind_valid : IsValid longer_process (columns_of behind) [] functions behind []
-behind_valid = record {
+pub after_valid : IsValid longer_process (columns_of after) [] functions after []
+after_valid = record {
   are_functions = (function_a, (function_b, (function_c, tt)));
   modules = (longer_described, tt);
   no_others = (refl, (refl, (refl, tt)));
-  shows = columns_show behind;
-  chain = record { state = words behind (lit< tt) (lit< tt) (lit< tt) (lit< tt) (lit< tt) refl refl refl; ends = inr (λ e. absurd cc, behind_uncovered) };
+  shows = columns_show after;
+  chain = record { state = words after (lit< tt) (lit< tt) (lit< tt) (lit< tt) (lit< tt) refl refl refl; ends = inr (λ e. absurd cc, after_uncovered) };
   resumed = λ f found accepted. absurd cc;
 }
 

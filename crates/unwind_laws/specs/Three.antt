@@ -246,8 +246,8 @@ longer_module = record { start = 0x401000; end = 0x401100; text = None; tables =
 abbrev pub longer_process : Process
 longer_process = record { image = header_image; modules = longer_module ∷ [] }
 
-abbrev pub behind : State
-behind = state 0x401091 0x70e0 0x22 0xc 0x2e
+abbrev pub after : State
+after = state 0x401091 0x70e0 0x22 0xc 0x2e
 
 -- ---- the third function's language table with an action table that is cut inside its number
 

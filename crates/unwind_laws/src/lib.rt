@@ -35,5 +35,5 @@ pub use samples::{
 pub use tables::{
     described_function_asks, described_language_table_asks, function_is_found,
     header_search_answers_as_a_scan, header_search_halves, header_table_answers_as_a_scan,
-    letters_are_told, scan_finds_first, site_search_finds_action, uncovered_is_not_found,
+    letters_are_reported, scan_finds_first, site_search_finds_action, uncovered_is_not_found,
 };

@@ -1,6 +1,6 @@
 //! Numbers of variable length, and relative pointers.
 
-ghost use Rattle.std.specs.Prelude.{◌≡◌, ℕ, ◌+◌, List, ◌++◌, length, Ok};
+ghost use Rattle.std.specs.Prelude.{◌≡◌, ℕ, List, Ok};
 ghost use Rattle.unwind_definitions.specs.Input.{Input, uleb, sleb, address_of};
 ghost use Rattle.unwind_definitions.specs.Pointers.{Bases, direct};
 ghost use Rattle.unwind_definitions.specs.Numbers.{SpellsRelative};

@@ -1,6 +1,6 @@
 //! Rows: how they are read, and what they undo.
 
-ghost use Rattle.std.specs.Prelude.{◌≡◌, ℕ, List, [], None, Ok, false, true, OnOk};
+ghost use Rattle.std.specs.Prelude.{◌≡◌, ℕ, List, [], None, Ok, false, true};
 ghost use Rattle.memory_image.specs.Image.{Span};
 ghost use Rattle.unwind_definitions.specs.Input.{Input};
 ghost use Rattle.unwind_definitions.specs.Pointers.{Bases};

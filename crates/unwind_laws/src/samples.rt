@@ -1,6 +1,6 @@
 //! Processes that are valid, byte for byte, and what is delivered there.
 
-ghost use Rattle.std.specs.Prelude.{◌≡◌, ◌≢◌, ◌-◌, ◌<◌, ℕ, List, [], ◌∷◌, Some, Ok, Err, false};
+ghost use Rattle.std.specs.Prelude.{◌≡◌, ◌≢◌, ◌-◌, ◌<◌, List, [], ◌∷◌, Some, Ok, Err, false};
 ghost use Rattle.std.specs.Prelude.{IsTrue};
 ghost use Rattle.unwind_definitions.specs.Prologue.{Windows, steps_of};
 ghost use Rattle.unwind_definitions.specs.Entered.{IsEntered, stack_after};
@@ -89,10 +89,10 @@ pub fn calls_by_a_header_are_caught()
 
 /// A state after these functions, in a module that is longer than they are: none of the
 /// descriptions that its header lists contains the address, and the stack ends there.
-pub fn stack_ends_behind_the_functions()
-    ensures whole { IsValid three.longer_process (columns_of three.behind) [] three.functions
-        three.behind [] }
-    ensures inside { IsTrue (in_module (three.behind.ra - 1) three.longer_module) }
+pub fn stack_ends_after_the_functions()
+    ensures whole { IsValid three.longer_process (columns_of three.after) [] three.functions
+        three.after [] }
+    ensures inside { IsTrue (in_module (three.after.ra - 1) three.longer_module) }
 {}
 
 /// The same where the third function's call is in no site of its language table.

@@ -1,6 +1,6 @@
 //! What is found in a frame table.
 
-ghost use Rattle.std.specs.Prelude.{◌≡◌, ℕ, ◌<◌, ◌≤◌, ◌^◌, List, ◌∷◌, Some, Result, Ok, Err};
+ghost use Rattle.std.specs.Prelude.{◌≡◌, ℕ, ◌<◌, ◌≤◌, ◌^◌, List, ◌∷◌, Some, Result, Ok};
 ghost use Rattle.std.specs.Prelude.{is_some};
 ghost use Rattle.std.specs.List.{Contains};
 ghost use Rattle.memory_image.specs.Image.{Span, IsLaidOut};
@@ -31,7 +31,7 @@ ghost use Rattle.unwind_laws.specs.Found.{found_among, nothing_found, AsksAs, Fi
 /// An augmentation of a `z` and letters names a personality exactly where `P` is among them, how
 /// the pointers to language tables are encoded exactly where `L` is, how addresses are encoded
 /// exactly where `R` is, and a signal's frame exactly where `S` is.
-pub fn letters_are_told()
+pub fn letters_are_reported()
     ensures personality { (bases : Bases) (z : ℕ) (ls : List ℕ) (c d : Input) (found : Letters) →
         augmentation_data bases (z ∷ ls) c ≡ Ok (found, d) →
         is_some found.personality ≡ is_among ls 0x50 }

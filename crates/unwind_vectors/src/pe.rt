@@ -278,7 +278,7 @@ fn trailer_of(bytes: &[u8]) -> (&'static str, [u32; 3]) {
 }
 
 #[test]
-fn trailers_stand_behind_the_slots(rt: HostRuntime) {
+fn trailers_stand_after_the_slots(rt: HostRuntime) {
     for size in 4..18 {
         let wanted = if size < 16 {
             ("nothing", [0; 3])

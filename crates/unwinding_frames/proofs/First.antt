@@ -73,9 +73,9 @@ module _ (image : List Span) (bases : Bases) (start a : ℕ) (h : Head) where
   decision_is s = by_start s (nat_lt (start + s.from) (2 ^ 64))
 
   -- a call site that ends before the address, and what those after it ask
-  behind_it : (c d : Input) (s : CallSite) (x : Action) → call_site image bases h.site_encoding c ≡ Ok (s, d) → start + s.from + s.size ≤ a → SitesAsk image bases start a h d x → SitesAsk image bases start a h c x
-  behind_it c d s x reads ends (inl first) = inl (record { before = s ∷ first.before; place = first.place; precede = (d, reads, ends, first.precede); site = first.site; behind = first.behind; stands = first.stands; says = first.says })
-  behind_it c d s x reads ends (inr none) = inr (record { sites = s ∷ none.0.sites; end = none.0.end; precede = (d, reads, ends, none.0.precede); ends = none.0.ends }, none.1)
+  after_it : (c d : Input) (s : CallSite) (x : Action) → call_site image bases h.site_encoding c ≡ Ok (s, d) → start + s.from + s.size ≤ a → SitesAsk image bases start a h d x → SitesAsk image bases start a h c x
+  after_it c d s x reads ends (inl first) = inl (record { before = s ∷ first.before; place = first.place; precede = (d, reads, ends, first.precede); site = first.site; after = first.after; stands = first.stands; says = first.says })
+  after_it c d s x reads ends (inr none) = inr (record { sites = s ∷ none.0.sites; end = none.0.end; precede = (d, reads, ends, none.0.precede); ends = none.0.ends }, none.1)
 
   at_end : (c : Input) (x : Action) → length c.bytes ≡ 0 → acts Terminate ≡ acts x → SitesAsk image bases start a h c x
   at_end c x none e = inr (record { sites = []; end = c; precede = refl; ends = no_bytes c.bytes none }, sym (same_action Terminate x e))
@@ -85,22 +85,22 @@ module _ (image : List Span) (bases : Bases) (start a : ℕ) (h : Head) where
 
   pub sites_ask : (turns : ℕ) (c : Input) (x : Action) → length c.bytes ≤ turns → search_from turns image bases start a h c ≡ Ok x → SitesAsk image bases start a h c x
   sites_ask zero c x enough e = at_end c x (omega arith) e
-  sites_ask (suc turns) c x enough e = go (eqb (length c.bytes) 0) refl (call_site image bases h.site_encoding c) refl e (λ d few behind. sites_ask turns d x few behind)
+  sites_ask (suc turns) c x enough e = go (eqb (length c.bytes) 0) refl (call_site image bases h.site_encoding c) refl e (λ d few after. sites_ask turns d x few after)
     where
       decided : (s : CallSite) (d : Input) → call_site image bases h.site_encoding c ≡ Ok (s, d) → (r : Result (Option Action) StepFault) → IsDecision s r → (r >>= λ y. decided_or y (search_from turns image bases start a h d)) ≡ Ok x →
           (search_from turns image bases start a h d ≡ Ok x → SitesAsk image bases start a h d x) → SitesAsk image bases start a h c x
-      decided s d reads (Err f) says e behind = absurd cc
-      decided s d reads (Ok None) says e behind = behind_it c d s x reads says (behind e)
-      decided s d reads (Ok (Some y)) says e behind =
-          inl (record { before = []; place = c; precede = refl; site = s; behind = d; stands = reads; says = subst (Says image bases start a h s) (same_action y x e) says })
+      decided s d reads (Err f) says e after = absurd cc
+      decided s d reads (Ok None) says e after = after_it c d s x reads says (after e)
+      decided s d reads (Ok (Some y)) says e after =
+          inl (record { before = []; place = c; precede = refl; site = s; after = d; stands = reads; says = subst (Says image bases start a h s) (same_action y x e) says })
 
       go : (b : Bool) → eqb (length c.bytes) 0 ≡ b → (r : Result (CallSite × Input) StepFault) → call_site image bases h.site_encoding c ≡ r → cond b (acts Terminate) (r >>= later turns) ≡ Ok x →
           ((d : Input) → length d.bytes ≤ turns → search_from turns image bases start a h d ≡ Ok x → SitesAsk image bases start a h d x) → SitesAsk image bases start a h c x
-      go true none r is e behind = at_end c x (eqb-true (length c.bytes) 0 none) e
-      go false some (Err f) is e behind = absurd cc
-      go false some (Ok s) is e behind =
+      go true none r is e after = at_end c x (eqb-true (length c.bytes) 0 none) e
+      go false some (Err f) is e after = absurd cc
+      go false some (Ok s) is e after =
           let less = site_takes image bases h.site_encoding c s.1 s.0 is in
-          decided s.0 s.1 is (decision start a h s.0) (decision_is s.0) e (behind s.1 (omega arith))
+          decided s.0 s.1 is (decision start a h s.0) (decision_is s.0) e (after s.1 (omega arith))
 
 -- What the language of a function asks is what its call sites do.
 pub language_asks : (image : List Span) (bases : Bases) (fde : Fde) (a : ℕ) (x : Action) → language_action image bases fde a ≡ Ok x → LanguageAsks image bases fde a x

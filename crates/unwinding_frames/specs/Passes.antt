@@ -36,11 +36,11 @@ pub record Stepping (C F E : Type 0) : Type 1 where
   pub undoing : Undoing C F E
 
 -- What knows a frame of a stack again: its stack pointer, as a word one less after a signal's frame.
-abbrev pub less_signal : Bool → ℕ → ℕ
-less_signal signal sp = if signal then (sp + (2 ^ 64 - 1)) % 2 ^ 64 else sp
+abbrev pub frame_mark : Bool → ℕ → ℕ
+frame_mark signal sp = if signal then (sp + (2 ^ 64 - 1)) % 2 ^ 64 else sp
 
 abbrev pub mark_of : {C : Type 0} → (C → ℕ) → Marked C → ℕ
-mark_of stack_pointer x = less_signal x.signal (stack_pointer x.context)
+mark_of stack_pointer x = frame_mark x.signal (stack_pointer x.context)
 
 -- ---- a line of contexts
 
@@ -171,7 +171,7 @@ abbrev pub IsRaisedBy : {C F E : Type 0} → Stepping C F E → Answering C F E 
 IsRaisedBy step p limit start (RanOut x) before outcome after = IsNotTaken (Gives END_OF_STACK None) before outcome after
 IsRaisedBy step p limit start (Decides x code left past) before outcome after =
     MatchBool (is_code code HANDLER_FOUND)
-    ((after ≡ Handler (less_signal x.signal (step.undoing.stack_pointer left))) × IsCleanup step p (less_signal x.signal (step.undoing.stack_pointer left)) limit start outcome)
+    ((after ≡ Handler (frame_mark x.signal (step.undoing.stack_pointer left))) × IsCleanup step p (frame_mark x.signal (step.undoing.stack_pointer left)) limit start outcome)
     (IsNotTaken (Gives FATAL_PHASE1_ERROR None) before outcome after)
 IsRaisedBy step p limit start (Fails e) before outcome after = IsNotTaken (outcome_of_cause FATAL_PHASE1_ERROR (Fault e)) before outcome after
 IsRaisedBy step p limit start Crowded before outcome after = IsNotTaken (outcome_of_cause FATAL_PHASE1_ERROR FrameLimit) before outcome after

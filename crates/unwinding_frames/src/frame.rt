@@ -20,7 +20,7 @@ ghost use Rattle.fde_finders.specs.FoundViews.{found_fde_of};
 ghost use Rattle.unwinding_frames.specs.Framed.{GivesFrame, GivesRowOf};
 ghost use Rattle.unwind_definitions.specs.Expressions.{evaluation};
 ghost use Rattle.unwinding_frames.specs.Calling.{machine_of, value_given, columns_given};
-ghost use Rattle.unwinding_frames.specs.Passes.{less_signal};
+ghost use Rattle.unwinding_frames.specs.Passes.{frame_mark};
 ghost use Rattle.unwinding_frames.specs.Calling.{written_in, rules_applied, rule_applied};
 
 use crate::window::Window;
@@ -328,7 +328,7 @@ pub fn address_asked(ra: u64, signal: bool) -> u64
 /// The mark by which a later pass knows a frame: its stack pointer, and where `signal` is true, for
 /// then it stands after a signal's frame, that less one, as words that wrap.
 pub fn frame_mark(stack_pointer: u64, signal: bool) -> u64
-    ensures { result ≡ less_signal signal stack_pointer }
+    ensures { result ≡ frame_mark signal stack_pointer }
 {
     if signal {
         stack_pointer.wrapping_sub(1)

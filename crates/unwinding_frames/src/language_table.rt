@@ -150,7 +150,7 @@ fn action_at(
 fn input_at<'a>(image: &MemoryImage<'a>, address: u64) -> Cursor<'a>
     ensures { at result ≡ input_at image.now address }
 {
-    Cursor::new(image.from(address).unwrap_or(&[]), address)
+    Cursor::new(image.bytes_from(address), address)
 }
 
 impl<'a> LanguageTable<'a> {

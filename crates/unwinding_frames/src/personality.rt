@@ -2,7 +2,7 @@
 //!
 //! Itanium C++ ABI, exception handling, section 2.5.
 
-ghost use Rattle.std.specs.Prelude.{◌≡◌, ℕ, Bool, List, Option, IsSome};
+ghost use Rattle.std.specs.Prelude.{◌≡◌, Bool, List, Option, IsSome};
 ghost use Rattle.std.specs.Option.{option_map, unwrap_or};
 ghost use Rattle.memory_image.specs.Image.{Span};
 ghost use Rattle.unwind_definitions.specs.Caller.{Columns};
@@ -10,7 +10,7 @@ ghost use Rattle.unwind_definitions.specs.LanguageSearch.{address_of_call};
 ghost use Rattle.unwinding_frames.specs.FrameValue.{FrameValue};
 ghost use Rattle.unwinding_frames.specs.Columns.{with_value};
 ghost use Rattle.unwinding_frames.specs.LanguageViews.{action_of, answer_seen};
-ghost use Rattle.unwinding_frames.specs.Personalities.{Asked, Answer, Landing, columns_at_pad, search_answer};
+ghost use Rattle.unwinding_frames.specs.Personalities.{Asked, Answer, columns_at_pad, search_answer};
 ghost use Rattle.unwinding_frames.specs.Personalities.{cleanup_answer, action_of_frame, rust_answers};
 
 use crate::abi::context::UnwindContext;

@@ -32,7 +32,7 @@ impl<'a> Place<'a> {
     {
         Place {
             start: address,
-            bytes: bytes_from(image, address),
+            bytes: image.bytes_from(address),
         }
     }
 
@@ -49,16 +49,5 @@ impl<'a> Place<'a> {
         } else {
             None
         }
-    }
-}
-
-/// The bytes from an address to the end of its region, none where the address isn't mapped.
-pub(crate) fn bytes_from<'a>(image: &MemoryImage<'a>, address: u64) -> &'a [u8]
-    ensures laid_out { IsLaidOut 0 image.now }
-    ensures held { result.now ≡ table_at image.now address }
-{
-    match image.from(address) {
-        Some(bytes) => bytes,
-        None => &[],
     }
 }

@@ -1,11 +1,10 @@
 //! Words that stand near each other.
 
-ghost use Rattle.std.specs.Prelude.{◌≡◌, ◌+◌, ◌≤◌, ◌<◌, [], Some, IfSome, MatchOption, length};
-ghost use Rattle.memory_image.specs.Image.{IsLaidOut, table_at, word_at};
-ghost use Rattle.memory_image.specs.Words.{u64_at};
+ghost use Rattle.std.specs.Prelude.{◌≡◌, ◌<◌, [], Some, IfSome, MatchOption, length};
+ghost use Rattle.memory_image.specs.Image.{table_at, word_at};
 
-use crate::place::{Place, bytes_from};
-use memory_image::MemoryImage;
+use crate::place::Place;
+use memory_image::{MemoryImage, u64_at};
 use std::marker::Model;
 
 /// A place of an image, which was looked up: a word that stands there or after it, in the same
@@ -46,7 +45,7 @@ impl<'i, 'a> Window<'i, 'a> {
     pub fn new(image: &'i MemoryImage<'a>, address: u64) -> Window<'i, 'a>
         ensures { result ≡ image.now }
     {
-        let bytes = bytes_from(image, address);
+        let bytes = image.bytes_from(address);
         Window {
             image,
             start: address,
@@ -70,7 +69,7 @@ impl<'i, 'a> Window<'i, 'a> {
         ensures { self.new ≡ self.old }
     {
         if address.wrapping_sub(self.start) as usize >= self.places {
-            let bytes = bytes_from(self.image, address);
+            let bytes = self.image.bytes_from(address);
             self.start = address;
             self.bytes = bytes;
             self.places = bytes.len().saturating_sub(7);
@@ -157,21 +156,4 @@ fn far_from<'a>(image: &MemoryImage<'a>, address: u64) -> Option<&'a [u8]>
         (λ bytes. (bytes.now ≡ table_at image.now address) × (0 < length bytes.now)) }
 {
     image.from(address)
-}
-
-// The little-endian number of eight bytes.
-fn u64_at(bytes: &[u8], offset: usize) -> u64
-    requires { offset + 8 ≤ length bytes.now }
-    ensures { result ≡ u64_at bytes.now offset }
-{
-    u64::from_le_bytes([
-        bytes[offset],
-        bytes[offset + 1],
-        bytes[offset + 2],
-        bytes[offset + 3],
-        bytes[offset + 4],
-        bytes[offset + 5],
-        bytes[offset + 6],
-        bytes[offset + 7],
-    ])
 }

@@ -106,6 +106,14 @@ struct Pair {
     register: u8,
 }
 
+impl Pair {
+    fn new(saved: bool, register: u8) -> Pair
+        ensures { result ≡ record { saved = saved; register = register } }
+    {
+        Pair { saved, register }
+    }
+}
+
 impl fmt::Display for OpcodeArm64 {
     ghost output = { λ opcode. Some (text_of opcode) };
 
@@ -132,42 +140,15 @@ impl fmt::Display for OpcodeArm64 {
             } => write_frame(
                 f,
                 &[
-                    Pair {
-                        saved: d14_and_d15_saved,
-                        register: 14,
-                    },
-                    Pair {
-                        saved: d12_and_d13_saved,
-                        register: 12,
-                    },
-                    Pair {
-                        saved: d10_and_d11_saved,
-                        register: 10,
-                    },
-                    Pair {
-                        saved: d8_and_d9_saved,
-                        register: 8,
-                    },
-                    Pair {
-                        saved: x27_and_x28_saved,
-                        register: 27,
-                    },
-                    Pair {
-                        saved: x25_and_x26_saved,
-                        register: 25,
-                    },
-                    Pair {
-                        saved: x23_and_x24_saved,
-                        register: 23,
-                    },
-                    Pair {
-                        saved: x21_and_x22_saved,
-                        register: 21,
-                    },
-                    Pair {
-                        saved: x19_and_x20_saved,
-                        register: 19,
-                    },
+                    Pair::new(d14_and_d15_saved, 14),
+                    Pair::new(d12_and_d13_saved, 12),
+                    Pair::new(d10_and_d11_saved, 10),
+                    Pair::new(d8_and_d9_saved, 8),
+                    Pair::new(x27_and_x28_saved, 27),
+                    Pair::new(x25_and_x26_saved, 25),
+                    Pair::new(x23_and_x24_saved, 23),
+                    Pair::new(x21_and_x22_saved, 21),
+                    Pair::new(x19_and_x20_saved, 19),
                 ],
             ),
             OpcodeArm64::UnrecognizedKind(kind) => write!(f, "!! Unrecognized kind {kind}"),

@@ -98,12 +98,8 @@ pub fn write_size<W: fmt::Write>(f: &mut fmt::Formatter<W>, size: u16) -> fmt::R
 }
 
 /// The stack pointer plus a size that lies in the code as CFA.
-pub fn write_indirect<W: fmt::Write>(
-    f: &mut fmt::Formatter<W>,
-    behind: u8,
-    added: u8,
-) -> fmt::Result
-    ensures { WritesOnOk W.write_str_gives f.old result (indirect_text behind added) f.new }
+pub fn write_indirect<W: fmt::Write>(f: &mut fmt::Formatter<W>, after: u8, added: u8) -> fmt::Result
+    ensures { WritesOnOk W.write_str_gives f.old result (indirect_text after added) f.new }
 {
-    write!(f, "CFA=[function_start+{behind}]+{added}")
+    write!(f, "CFA=[function_start+{after}]+{added}")
 }

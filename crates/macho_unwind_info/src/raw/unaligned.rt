@@ -1,5 +1,5 @@
 // Little-endian numbers that lie at any address.
-ghost use Rattle.std.specs.Prelude.{◌≡◌, ◌+◌, ◌≤◌, ℕ, length};
+ghost use Rattle.std.specs.Prelude.{◌≡◌, ◌≤◌};
 ghost use Rattle.macho_unwind_info.specs.Unaligned.{u32_number, u16_number, u32_of_number};
 ghost use Rattle.macho_unwind_info.specs.Unaligned.{u16_of_number};
 

@@ -3,7 +3,7 @@ ghost use Rattle.std.specs.Prelude.{◌≡◌, ◌≤◌, false, [], length, is_
 ghost use Rattle.std.specs.Option.{option_map};
 ghost use Rattle.pe_unwind_info.specs.Epilog.{result_map, word_in, with_word, lea_from, lea_of};
 ghost use Rattle.pe_unwind_info.specs.Epilog.{adjustment_of, pop_of, is_jump, two_bytes_of};
-ghost use Rattle.pe_unwind_info.specs.Epilog.{pop_or_terminator_of, behind_rex, rex_split, parsed_instruction};
+ghost use Rattle.pe_unwind_info.specs.Epilog.{pop_or_terminator_of, after_rex, rex_split, parsed_instruction};
 ghost use Rattle.pe_unwind_info.specs.Epilog.{and_first, sequence_from, sequence_of};
 ghost use Rattle.pe_unwind_info.specs.EpilogGrammar.{IsParsed, IsSequence};
 ghost use Rattle.pe_unwind_info.specs.Numbers.{first_u32};
@@ -214,14 +214,14 @@ fn split_rex(code: &[u8]) -> Option<(u8, &[u8])>
 
 // an instruction after a REX byte
 #[inline(always)]
-fn parse_behind_rex(
+fn parse_after_rex(
     frame: Option<Register>,
     allow_add_sp: bool,
     rex: u8,
     code: &[u8],
 ) -> Result<Option<(FunctionEpilogInstruction, &[u8])>, InstructionParseError>
     ensures { result_map (option_map (λ p. (p.0, p.1.now))) result
-        ≡ behind_rex frame allow_add_sp rex code.now }
+        ≡ after_rex frame allow_add_sp rex code.now }
 {
     if allow_add_sp && rex / 8 == 1 {
         if let Some(adjustment) = parse_adjustment(frame, rex, code) {
@@ -243,7 +243,7 @@ fn parse_instruction(
         ≡ parsed_instruction frame allow_add_sp code.now }
 {
     match split_rex(code) {
-        Some((rex, code)) => parse_behind_rex(frame, allow_add_sp, rex, code),
+        Some((rex, code)) => parse_after_rex(frame, allow_add_sp, rex, code),
         None => Err(InstructionParseError::NotEnoughData),
     }
 }
@@ -271,12 +271,12 @@ fn parse_later(
     let mut instructions = no_instructions();
     instructions.push(first);
     let mut rest = code;
-    while let Some((instruction, behind)) = parse_instruction(frame, false, rest)? {
+    while let Some((instruction, after)) = parse_instruction(frame, false, rest)? {
         if instructions.is_full() {
             return Err(InstructionParseError::TooManyInstructions);
         }
         instructions.push(instruction);
-        rest = behind;
+        rest = after;
     }
     Ok(instructions)
 }
@@ -291,7 +291,7 @@ fn parse_instructions(
     ensures { result_map (λ v. v.items) result ≡ sequence_of frame code.now }
 {
     match parse_instruction(frame, true, code)? {
-        Some((first, behind)) => parse_later(frame, first, behind),
+        Some((first, after)) => parse_later(frame, first, after),
         None => Ok(no_instructions()),
     }
 }

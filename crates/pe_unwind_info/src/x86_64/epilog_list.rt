@@ -1,6 +1,6 @@
 // Where a record's epilog operations say that the function's epilogs are.
 ghost use Rattle.std.specs.Prelude.{◌≡◌, ◌∷◌, ℕ, MatchOption};
-ghost use Rattle.pe_unwind_info.specs.EpilogList.{first_epilog, leading_epilogs, behind_epilogs};
+ghost use Rattle.pe_unwind_info.specs.EpilogList.{first_epilog, leading_epilogs, after_epilogs};
 ghost use Rattle.pe_unwind_info.specs.EpilogList.{is_within, is_due, lists, lists_last, any_lists};
 ghost use Rattle.pe_unwind_info.specs.Operations.{operations_left};
 
@@ -55,7 +55,7 @@ fn lists_last(end: u32, address: u32, first: &EpilogInformation) -> bool
 
 // takes the epilog operations after the first one, and answers whether one of them lists an
 // epilog that holds the address
-#[tactic(auto, using(crate::proofs::EpilogListLemmas::leading_none, crate::proofs::EpilogListLemmas::behind_none, crate::proofs::EpilogListLemmas::behind_some, crate::proofs::EpilogListLemmas::any_none, crate::proofs::EpilogListLemmas::any_listed, crate::proofs::EpilogListLemmas::any_unlisted))]
+#[tactic(auto, using(crate::proofs::EpilogListLemmas::leading_none, crate::proofs::EpilogListLemmas::after_none, crate::proofs::EpilogListLemmas::after_some, crate::proofs::EpilogListLemmas::any_none, crate::proofs::EpilogListLemmas::any_listed, crate::proofs::EpilogListLemmas::any_unlisted))]
 fn take_later_epilogs(
     operations: &mut UnwindOperations<'_>,
     end: u32,
@@ -65,7 +65,7 @@ fn take_later_epilogs(
     ensures listed { result
         ≡ any_lists end size address (leading_epilogs (operations_left operations.old)) }
     ensures rest { operations_left operations.new
-        ≡ behind_epilogs (operations_left operations.old) }
+        ≡ after_epilogs (operations_left operations.old) }
 {
     let mut listed = false;
     while let Some(epilog) = next_epilog(operations) {
@@ -78,11 +78,11 @@ fn take_later_epilogs(
 
 // takes the epilog operations that come first, and answers whether the code at the address has to be
 // tested for an epilog
-#[tactic(auto, using(crate::proofs::EpilogListLemmas::leading_none, crate::proofs::EpilogListLemmas::behind_none, crate::proofs::EpilogListLemmas::leading_some, crate::proofs::EpilogListLemmas::behind_some))]
+#[tactic(auto, using(crate::proofs::EpilogListLemmas::leading_none, crate::proofs::EpilogListLemmas::after_none, crate::proofs::EpilogListLemmas::leading_some, crate::proofs::EpilogListLemmas::after_some))]
 fn take_epilogs(operations: &mut UnwindOperations<'_>, end: u32, address: u32) -> bool
     ensures due { result ≡ is_due end address (leading_epilogs (operations_left operations.old)) }
     ensures rest { operations_left operations.new
-        ≡ behind_epilogs (operations_left operations.old) }
+        ≡ after_epilogs (operations_left operations.old) }
 {
     let Some(first) = next_epilog(operations) else {
         return true;
@@ -94,35 +94,35 @@ fn take_epilogs(operations: &mut UnwindOperations<'_>, end: u32, address: u32) -
 
 // the same, from operations to those that are left
 #[inline(never)]
-fn behind_told<'a>(
+fn after_told<'a>(
     operations: UnwindOperations<'a>,
     end: u32,
     address: u32,
 ) -> (bool, UnwindOperations<'a>)
     ensures due { result.0
         ≡ is_due end address (leading_epilogs (operations_left operations.entry)) }
-    ensures rest { operations_left result.1 ≡ behind_epilogs (operations_left operations.entry) }
+    ensures rest { operations_left result.1 ≡ after_epilogs (operations_left operations.entry) }
 {
-    let mut behind = operations;
-    let due = take_epilogs(&mut behind, end, address);
-    (due, behind)
+    let mut after = operations;
+    let due = take_epilogs(&mut after, end, address);
+    (due, after)
 }
 
 /// Whether the code at the address has to be tested for an epilog: where no epilog operations come
 /// first, and where one of the epilogs that they list holds the address. Beside it, the operations
 /// after them.
-#[tactic(auto, using(crate::proofs::EpilogListLemmas::leading_none, crate::proofs::EpilogListLemmas::behind_none))]
-pub(crate) fn behind_epilogs<'a>(
+#[tactic(auto, using(crate::proofs::EpilogListLemmas::leading_none, crate::proofs::EpilogListLemmas::after_none))]
+pub(crate) fn after_epilogs<'a>(
     operations: UnwindOperations<'a>,
     end: u32,
     address: u32,
 ) -> (bool, UnwindOperations<'a>)
     ensures due { result.0
         ≡ is_due end address (leading_epilogs (operations_left operations.entry)) }
-    ensures rest { operations_left result.1 ≡ behind_epilogs (operations_left operations.entry) }
+    ensures rest { operations_left result.1 ≡ after_epilogs (operations_left operations.entry) }
 {
     if operations.may_tell_of_epilogs() {
-        behind_told(operations, end, address)
+        after_told(operations, end, address)
     } else {
         (true, operations)
     }

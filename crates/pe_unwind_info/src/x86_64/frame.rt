@@ -23,7 +23,7 @@ ghost use Rattle.pe_unwind_info.specs.declared.x86_64.epilog.FunctionEpilogInstr
 ghost use Rattle.pe_unwind_info.specs.declared.x86_64.function_table.RuntimeFunction.{RuntimeFunction};
 
 use crate::x86_64::epilog::{FunctionEpilogInstruction, begins_with_epilog};
-use crate::x86_64::epilog_list::behind_epilogs;
+use crate::x86_64::epilog_list::after_epilogs;
 use crate::x86_64::fault::FrameFault;
 use crate::x86_64::function_table::{FunctionTableEntries, RuntimeFunction};
 use crate::x86_64::operations::UnwindOperations;
@@ -31,7 +31,7 @@ use crate::x86_64::registers::Register;
 use crate::x86_64::sections::Sections;
 use crate::x86_64::state::{UnwindState, pop_return_address};
 use crate::x86_64::steps::{apply_all, apply_from, apply_instructions};
-use crate::x86_64::unwind_info::{UnwindInfo, UnwindInfoTrailer};
+use crate::x86_64::unwind_info::UnwindInfo;
 use std::ops::ControlFlow;
 
 // how many records may be chained to the first one
@@ -57,16 +57,6 @@ fn info_at<'m, M: Fn(u32) -> Option<&'m [u8]>>(
         × (result_map info_of result ≡ info_in rva memory) }
 {
     info_in(rva, memory_at_rva(rva))
-}
-
-// the function whose record goes on after this one
-fn chained_function(info: &UnwindInfo<'_>) -> Option<RuntimeFunction>
-    ensures { result ≡ chained_of (info_of info.now) }
-{
-    match info.trailer() {
-        Some(UnwindInfoTrailer::ChainedUnwindInfo { chained }) => Some(chained),
-        _ => None,
-    }
 }
 
 // the code from an address to the function's end, where it begins with an epilog, from the memory at
@@ -165,7 +155,7 @@ fn unwind_link<S: UnwindState>(
     ensures stack { S.stack state.new ≡ S.stack state.old }
 {
     match apply_record(info, state)? {
-        ControlFlow::Continue(()) => Ok(ControlFlow::Continue(chained_function(info))),
+        ControlFlow::Continue(()) => Ok(ControlFlow::Continue(info.chained_function())),
         ControlFlow::Break(address) => Ok(ControlFlow::Break(address)),
     }
 }
@@ -240,7 +230,7 @@ fn leave_by_operations<'m, S: UnwindState, M: Fn(u32) -> Option<&'m [u8]>>(
     ensures stack { S.stack state.new ≡ S.stack state.old }
 {
     match apply_from(&info.header(), state, operations, offset)? {
-        ControlFlow::Continue(()) => unwind_links(state, memory_at_rva, chained_function(info)),
+        ControlFlow::Continue(()) => unwind_links(state, memory_at_rva, info.chained_function()),
         ControlFlow::Break(address) => Ok(address),
     }
 }
@@ -315,7 +305,7 @@ fn unwind_record<'m, S: UnwindState, M: Fn(u32) -> Option<&'m [u8]>>(
     ensures stack { S.stack state.new ≡ S.stack state.old }
 {
     let end = function.end_address;
-    let (due, operations) = behind_epilogs(info.unwind_operations(), end, address);
+    let (due, operations) = after_epilogs(info.unwind_operations(), end, address);
     let epilog = epilog_at(memory_at_rva, due, info.frame_register(), end, address)?;
     let offset = address - function.begin_address;
     leave(info, state, memory_at_rva, epilog, operations, offset)

@@ -1,11 +1,13 @@
 // Unwind operations, and the slots that spell them.
-ghost use Rattle.std.specs.Prelude.{◌≡◌, ◌*◌, ◌≤◌, None};
+ghost use Rattle.std.specs.Prelude.{◌≡◌, ◌*◌, ◌<◌, ◌≤◌, None};
 ghost use Rattle.std.specs.Bool.{OnFalse};
 ghost use Rattle.std.specs.Option.{option_map};
 ghost use Rattle.pe_unwind_info.specs.Numbers.{first_u16, number_in_units};
 ghost use Rattle.pe_unwind_info.specs.EpilogList.{first_epilog};
 ghost use Rattle.pe_unwind_info.specs.Operations.{code_number, code_information, code_of};
 ghost use Rattle.pe_unwind_info.specs.Operations.{offset_value, head_by, first_of, slots_left};
+ghost use Rattle.pe_unwind_info.specs.Operations.{frame_offset, large_size};
+ghost use Rattle.pe_unwind_info.specs.Registers.{register_of, xmm_register_of};
 ghost use Rattle.pe_unwind_info.specs.Operations.{operations_left, operations_of, first_code};
 ghost use Rattle.pe_unwind_info.specs.Operations.{size_of_epilogs, ends_with_one, offset_of_epilog};
 ghost use Rattle.pe_unwind_info.specs.Operations.{header_information};
@@ -177,6 +179,48 @@ fn split_scaled(slots: &[u8], unit: u32) -> Option<(u32, &[u8])>
     Some((u32::from(number) * unit, rest))
 }
 
+// how many bytes a large allocation has, in units of eight or one by one, with the slots after it
+#[inline(always)]
+fn split_size(info: u8, slots: &[u8]) -> Option<(u32, &[u8])>
+    ensures { option_map (λ p. (p.0, p.1.now)) result ≡ large_size info slots.now }
+{
+    match info {
+        0 => split_scaled(slots, 8),
+        1 => split_u32(slots),
+        _ => None,
+    }
+}
+
+// what an epilog operation tells
+#[inline(always)]
+fn epilog_information(slot: UnwindCode) -> UnwindOperation
+    ensures { result ≡ UnwindOperation.EpilogInformation (record {
+      size_or_offset_low = slot.prolog_offset;
+      single_or_offset_high = code_information slot;
+    }) }
+{
+    UnwindOperation::EpilogInformation(EpilogInformation {
+        size_or_offset_low: slot.prolog_offset,
+        single_or_offset_high: slot.operation_info(),
+    })
+}
+
+#[inline(always)]
+fn saved_register(info: u8, offset: u32) -> UnwindOperation
+    requires { info < 16 }
+    ensures { result ≡ UnwindOperation.ReadNonVolatile (register_of info) (frame_offset offset) }
+{
+    UnwindOperation::ReadNonVolatile(register_at(info), StackFrameOffset(offset))
+}
+
+#[inline(always)]
+fn saved_xmm_register(info: u8, offset: u32) -> UnwindOperation
+    requires { info < 16 }
+    ensures { result ≡ UnwindOperation.ReadXMM (xmm_register_of info) (frame_offset offset) }
+{
+    UnwindOperation::ReadXMM(xmm_register_at(info), StackFrameOffset(offset))
+}
+
 // the operation of a slot, or none where it is spare, with the slots after it
 #[inline(always)]
 fn decode(
@@ -188,58 +232,36 @@ fn decode(
 {
     let info = slot.operation_info();
     let (operation, rest) = match code {
-        UnwindOperationCode::PushNonvol => (
-            UnwindOperation::PopNonVolatile(register_at(info)),
-            rest,
-        ),
+        UnwindOperationCode::PushNonvol => {
+            let register = register_at(info);
+            (UnwindOperation::PopNonVolatile(register), rest)
+        }
         UnwindOperationCode::AllocLarge => {
-            let (size, rest) = match info {
-                0 => split_scaled(rest, 8)?,
-                1 => split_u32(rest)?,
-                _ => return None,
-            };
+            let (size, rest) = split_size(info, rest)?;
             (UnwindOperation::UnStackAlloc(size), rest)
         }
-        UnwindOperationCode::AllocSmall => (
-            UnwindOperation::UnStackAlloc(u32::from(info) * 8 + 8),
-            rest,
-        ),
+        UnwindOperationCode::AllocSmall => {
+            let size = u32::from(info) * 8 + 8;
+            (UnwindOperation::UnStackAlloc(size), rest)
+        }
         UnwindOperationCode::SetFPReg => (UnwindOperation::RestoreSPFromFP, rest),
         UnwindOperationCode::SaveNonvol => {
             let (offset, rest) = split_scaled(rest, 8)?;
-            (
-                UnwindOperation::ReadNonVolatile(register_at(info), StackFrameOffset(offset)),
-                rest,
-            )
+            (saved_register(info, offset), rest)
         }
         UnwindOperationCode::SaveNonvolFar => {
             let (offset, rest) = split_u32(rest)?;
-            (
-                UnwindOperation::ReadNonVolatile(register_at(info), StackFrameOffset(offset)),
-                rest,
-            )
+            (saved_register(info, offset), rest)
         }
-        UnwindOperationCode::Epilog => {
-            let epilog = EpilogInformation {
-                size_or_offset_low: slot.prolog_offset,
-                single_or_offset_high: info,
-            };
-            (UnwindOperation::EpilogInformation(epilog), rest)
-        }
+        UnwindOperationCode::Epilog => (epilog_information(slot), rest),
         UnwindOperationCode::Spare => return Some((None, rest.get(4..)?)),
         UnwindOperationCode::SaveXmm128 => {
             let (offset, rest) = split_scaled(rest, 16)?;
-            (
-                UnwindOperation::ReadXMM(xmm_register_at(info), StackFrameOffset(offset)),
-                rest,
-            )
+            (saved_xmm_register(info, offset), rest)
         }
         UnwindOperationCode::SaveXmm128Far => {
             let (offset, rest) = split_u32(rest)?;
-            (
-                UnwindOperation::ReadXMM(xmm_register_at(info), StackFrameOffset(offset)),
-                rest,
-            )
+            (saved_xmm_register(info, offset), rest)
         }
         UnwindOperationCode::PushMachframe => {
             let error_code = info == 1;

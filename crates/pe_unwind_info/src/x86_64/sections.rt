@@ -1,5 +1,5 @@
 // The section table of an image.
-ghost use Rattle.std.specs.Prelude.{◌≡◌, None, MatchOption};
+ghost use Rattle.std.specs.Prelude.{◌≡◌, None};
 ghost use Rattle.std.specs.Option.{option_map};
 ghost use Rattle.pe_unwind_info.specs.Sections.{image_of, headers_of, section_table, sections_in};
 ghost use Rattle.pe_unwind_info.specs.Sections.{IsMemoryAt, virtual_size, virtual_address};

@@ -6,6 +6,7 @@ ghost use Rattle.pe_unwind_info.specs.Header.{frame_distance, frame_register_of}
 ghost use Rattle.pe_unwind_info.specs.Flags.{flag_bits};
 ghost use Rattle.pe_unwind_info.specs.Operations.{slots_left, operations_left};
 ghost use Rattle.pe_unwind_info.specs.InfoOperations.{operations_in};
+ghost use Rattle.pe_unwind_info.specs.Frame.{chained_of};
 ghost use Rattle.pe_unwind_info.specs.Info.{info_of, parsed_info, trailer_view, trailer_of};
 ghost use Rattle.pe_unwind_info.specs.Info.{chained_in};
 
@@ -161,7 +162,7 @@ pub enum UnwindInfoTrailer<'a> {
 pub struct UnwindInfo<'a> {
     header: UnwindInfoHeader,
     slots: &'a [u8],
-    behind: &'a [u8],
+    after: &'a [u8],
 }
 
 impl<'a> UnwindInfo<'a> {
@@ -194,11 +195,11 @@ impl<'a> UnwindInfo<'a> {
             return None;
         }
         // the trailer stands after an even number of slots
-        let behind = (2 * (count + count % 2)).min(rest.len());
+        let after = (2 * (count + count % 2)).min(rest.len());
         Some(UnwindInfo {
             header,
             slots: &rest[..2 * count],
-            behind: &rest[behind..],
+            after: &rest[after..],
         })
     }
 
@@ -218,22 +219,32 @@ impl<'a> UnwindInfo<'a> {
     {
         let flags = self.header.flags();
         if flags.contains(UnwindInfoFlags::EHANDLER) {
-            let (handler_address, handler_data) = split_u32(self.behind)?;
+            let (handler_address, handler_data) = split_u32(self.after)?;
             Some(UnwindInfoTrailer::ExceptionHandler {
                 handler_address,
                 handler_data,
             })
         } else if flags.contains(UnwindInfoFlags::UHANDLER) {
-            let (handler_address, handler_data) = split_u32(self.behind)?;
+            let (handler_address, handler_data) = split_u32(self.after)?;
             Some(UnwindInfoTrailer::TerminationHandler {
                 handler_address,
                 handler_data,
             })
         } else if flags.contains(UnwindInfoFlags::CHAININFO) {
-            let chained = first_function(self.behind)?;
+            let chained = first_function(self.after)?;
             Some(UnwindInfoTrailer::ChainedUnwindInfo { chained })
         } else {
             None
+        }
+    }
+
+    /// The function whose record goes on where this one ends. `None` where the trailer names none.
+    pub fn chained_function(&self) -> Option<RuntimeFunction>
+        ensures { result ≡ chained_of (info_of self.now) }
+    {
+        match self.trailer() {
+            Some(UnwindInfoTrailer::ChainedUnwindInfo { chained }) => Some(chained),
+            _ => None,
         }
     }
 

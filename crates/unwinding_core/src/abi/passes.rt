@@ -4,12 +4,11 @@
 
 ghost use Rattle.std.specs.Prelude.{◌≡◌, pos, ℕ, List, Option, Result};
 ghost use Rattle.std.specs.Option.{option_map};
-ghost use Rattle.unwind_definitions.specs.Row.{RowInstructions, argument_size};
+ghost use Rattle.unwind_definitions.specs.Row.{RowInstructions};
 ghost use Rattle.unwind_definitions.specs.Caller.{Columns, StepFault};
 ghost use Rattle.frame_rows.specs.Rows.{IsRowOf};
 ghost use Rattle.unwinding_frames.specs.Calling.{machine_of};
-ghost use Rattle.unwinding_frames.specs.Columns.{with_value};
-ghost use Rattle.unwinding_frames.specs.Passes.{Line, IsLine, less_signal, by_force, without_mark};
+ghost use Rattle.unwinding_frames.specs.Passes.{Line, IsLine, frame_mark, by_force, without_mark};
 ghost use Rattle.unwinding_frames.specs.Passes.{turn_asked, turn_seen};
 ghost use Rattle.unwinding_frames.specs.Passes.{answer_of_personality};
 ghost use Rattle.unwinding_frames.specs.Seen.{FrameSeen, SeesFrame, in_column, past_in_column};
@@ -82,7 +81,7 @@ pub(crate) enum LineEnd<C> {
 
 /// By what a later pass knows a frame: its stack pointer, less 1 after a signal's frame.
 pub(crate) fn mark<M: Machine>(context: &M::Context, signal: bool) -> u64
-    ensures { result ≡ less_signal signal (in_column M.SP.0 (M.Context.columns context.now)) }
+    ensures { result ≡ frame_mark signal (in_column M.SP.0 (M.Context.columns context.now)) }
 {
     frame_mark(context.get(M::SP).unwrap_or(0), signal)
 }

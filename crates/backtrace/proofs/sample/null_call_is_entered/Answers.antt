@@ -29,7 +29,7 @@ unfolding word_at
 returns-clause-entered c = record { room = omega arith; returns = λ inner. refl; leaves = tt; stack = refl; keeps = λ r none. kept r }
 
 pub returns-clause-stands : goal.returns-clause-stands
-returns-clause-stands c = record { steps = refl; entered = returns-clause-entered c; intact = λ r free. kept r; behind = omega arith; below = omega arith }
+returns-clause-stands c = record { steps = refl; entered = returns-clause-entered c; intact = λ r free. kept r; after = omega arith; below = omega arith }
 
 pub returns-clause-shows : goal.returns-clause-shows
 returns-clause-shows c = record { ra = refl; sp = refl; saved = shown }

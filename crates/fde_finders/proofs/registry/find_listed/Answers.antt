@@ -1,7 +1,7 @@
 use Rattle.std.proofs.Common.{ℕ, ◌+◌, ◌^◌, ◌<◌, ◌≤◌, sym, subst, arith}
 use Rattle.encoded_pointers.specs.PointerViews.{bases_of}
 use Rattle.fde_finders.specs.FoundViews.{found_fde_of}
-use Rattle.fde_finders.proofs.Listed.{IsPast, begun, passed, found, ends_behind}
+use Rattle.fde_finders.proofs.Listed.{IsPast, begun, passed, found, ends_after}
 use Rattle.fde_finders.proofs.registry.find_listed.Goals as goal
 
 pub loop-table-init : goal.loop-table-init
@@ -16,7 +16,7 @@ returns-in_err-place c =
     let past = passed (bases_of c.args.known.now) c.args.image.now c.args.pc c.args.begin c.loop-table.place c.in_ok-table.table c.loop-table.invariant.0 c.loop-table.invariant.1 (sym c.in_ok-table.ensures) c.if-table-eq0.false (sym c.in_default.ensures) in
     let none = c.from_residual-in_err-place.ensures in
     let much : 2 ^ 64 ≤ c.loop-table.place + 8 = omega (arith, c.in_err-place.ensures) in
-    rw none (ends_behind (bases_of c.args.known.now) c.args.image.now c.args.pc c.args.begin (c.loop-table.place + 8) past much)
+    rw none (ends_after (bases_of c.args.known.now) c.args.image.now c.args.pc c.args.begin (c.loop-table.place + 8) past much)
 
 pub loop-table-preserved : goal.loop-table-preserved
 loop-table-preserved c =

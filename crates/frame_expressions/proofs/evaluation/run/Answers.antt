@@ -29,28 +29,28 @@ returns-in_err-operation g c =
 pub perform-requires-clause-next : goal.perform-requires-clause-next
 perform-requires-clause-next g c =
     let place = operation_within c.args.expression.now (at c.loop-input.input) (at c.read_operation.new.input) (meaning c.in_ok-operation.operation) c.loop-input.invariant.place c.in_ok-operation.ensures in
-    omega (arith, place.within, c.offset-behind.ensures)
+    omega (arith, place.within, c.offset-after.ensures)
 
 pub returns-in_err-next : goal.returns-in_err-next
 returns-in_err-next g c =
     let columns = g.R.RegisterMap.columns c.args.registers.now in
     let x = c.args.expression.now in
     let p = err_from_is_err_and c.from_residual-in_err-next.result c.from_residual-in_err-next.ensures.1 in
-    let goes : GoesOn (Err c.in_err-next.field-0.0) c.perform.new.stack (done c.args.image.now columns x c.offset-behind.result c.loop-input.stack (meaning c.in_ok-operation.operation)) = c.in_err-next.ensures.does x refl in
-    rw (p.1, p.2) (sym (not_done c.args.image.now columns x c.loop-input.left (at c.loop-input.input) (at c.read_operation.new.input) c.loop-input.stack c.perform.new.stack (meaning c.in_ok-operation.operation) c.in_err-next.field-0.0 c.loop-input.invariant.place (sym c.loop-input-test.ensures) c.if-left-eq0.false c.in_ok-operation.ensures (rw c.offset-behind.ensures at goes))
+    let goes : GoesOn (Err c.in_err-next.field-0.0) c.perform.new.stack (done c.args.image.now columns x c.offset-after.result c.loop-input.stack (meaning c.in_ok-operation.operation)) = c.in_err-next.ensures.does x refl in
+    rw (p.1, p.2) (sym (not_done c.args.image.now columns x c.loop-input.left (at c.loop-input.input) (at c.read_operation.new.input) c.loop-input.stack c.perform.new.stack (meaning c.in_ok-operation.operation) c.in_err-next.field-0.0 c.loop-input.invariant.place (sym c.loop-input-test.ensures) c.if-left-eq0.false c.in_ok-operation.ensures (rw c.offset-after.ensures at goes))
     ∙ c.loop-input.invariant.same)
 
-pub loop-input-preserved-then-next-behind : goal.loop-input-preserved-then-next-behind
-loop-input-preserved-then-next-behind g c =
+pub loop-input-preserved-then-next-after : goal.loop-input-preserved-then-next-after
+loop-input-preserved-then-next-after g c =
     let columns = g.R.RegisterMap.columns c.args.registers.now in
     let x = c.args.expression.now in
     let place : IsPlace x (at c.from_offset-input.result) = branched_place x (at c.from_offset-input.result) c.in_ok-next.next c.from_offset-input.ensures c.in_ok-next.ensures.within in
     let there : c.from_offset-input.result.offset ≡ c.in_ok-next.next = ap (λ i. i.offset) c.from_offset-input.ensures ∙ omega arith in
-    let goes : GoesOn (Ok c.in_ok-next.next) c.perform.new.stack (done c.args.image.now columns x c.offset-behind.result c.loop-input.stack (meaning c.in_ok-operation.operation)) = c.in_ok-next.ensures.does x refl in
+    let goes : GoesOn (Ok c.in_ok-next.next) c.perform.new.stack (done c.args.image.now columns x c.offset-after.result c.loop-input.stack (meaning c.in_ok-operation.operation)) = c.in_ok-next.ensures.does x refl in
     record {
       place = place;
       long = refl;
-      same = rw there (sym (is_done c.args.image.now columns x c.loop-input.left c.in_ok-next.next (at c.loop-input.input) (at c.read_operation.new.input) c.loop-input.stack c.perform.new.stack (meaning c.in_ok-operation.operation) c.loop-input.invariant.place (sym c.loop-input-test.ensures) c.if-left-eq0.false c.in_ok-operation.ensures (rw c.offset-behind.ensures at goes))
+      same = rw there (sym (is_done c.args.image.now columns x c.loop-input.left c.in_ok-next.next (at c.loop-input.input) (at c.read_operation.new.input) c.loop-input.stack c.perform.new.stack (meaning c.in_ok-operation.operation) c.loop-input.invariant.place (sym c.loop-input-test.ensures) c.if-left-eq0.false c.in_ok-operation.ensures (rw c.offset-after.ensures at goes))
           ∙ c.loop-input.invariant.same);
     }
 
@@ -59,12 +59,12 @@ loop-input-preserved g c =
     let columns = g.R.RegisterMap.columns c.args.registers.now in
     let x = c.args.expression.now in
     let place : IsPlace x (at c.read_operation.new.input) = operation_within x (at c.loop-input.input) (at c.read_operation.new.input) (meaning c.in_ok-operation.operation) c.loop-input.invariant.place c.in_ok-operation.ensures in
-    let there : c.read_operation.new.input.offset ≡ c.in_ok-next.next = sym c.offset-behind.ensures ∙ sym c.if-next-behind.false in
-    let goes : GoesOn (Ok c.in_ok-next.next) c.perform.new.stack (done c.args.image.now columns x c.offset-behind.result c.loop-input.stack (meaning c.in_ok-operation.operation)) = c.in_ok-next.ensures.does x refl in
+    let there : c.read_operation.new.input.offset ≡ c.in_ok-next.next = sym c.offset-after.ensures ∙ sym c.if-next-after.false in
+    let goes : GoesOn (Ok c.in_ok-next.next) c.perform.new.stack (done c.args.image.now columns x c.offset-after.result c.loop-input.stack (meaning c.in_ok-operation.operation)) = c.in_ok-next.ensures.does x refl in
     record {
       place = place;
       long = refl;
-      same = rw there (sym (is_done c.args.image.now columns x c.loop-input.left c.in_ok-next.next (at c.loop-input.input) (at c.read_operation.new.input) c.loop-input.stack c.perform.new.stack (meaning c.in_ok-operation.operation) c.loop-input.invariant.place (sym c.loop-input-test.ensures) c.if-left-eq0.false c.in_ok-operation.ensures (rw c.offset-behind.ensures at goes))
+      same = rw there (sym (is_done c.args.image.now columns x c.loop-input.left c.in_ok-next.next (at c.loop-input.input) (at c.read_operation.new.input) c.loop-input.stack c.perform.new.stack (meaning c.in_ok-operation.operation) c.loop-input.invariant.place (sym c.loop-input-test.ensures) c.if-left-eq0.false c.in_ok-operation.ensures (rw c.offset-after.ensures at goes))
           ∙ c.loop-input.invariant.same);
     }
 

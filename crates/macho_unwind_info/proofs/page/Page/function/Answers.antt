@@ -9,4 +9,4 @@ returns-in_err-entry c =
 
 pub returns : goal.returns
 returns c =
-    rw (slice_get-functions_of c.args.next_address (entries_of c.args.global.now c.args.self.now) c.args.i, ← c.entry.ensures, c.in_ok-entry.was, ← c.entry-behind.ensures, c.function_of.ensures) refl
+    rw (slice_get-functions_of c.args.next_address (entries_of c.args.global.now c.args.self.now) c.args.i, ← c.entry.ensures, c.in_ok-entry.was, ← c.entry-after.ensures, c.function_of.ensures) refl

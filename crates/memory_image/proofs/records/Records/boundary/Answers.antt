@@ -30,7 +30,7 @@ loop-low-preserved g c =
       ordered = omega arith;
       within = (let a = c.loop-low.invariant.within in let b = c.loop-low-test.true in omega arith);
       same = goes_down (map g.T.Keyed.key c.args.self.now) (length c.args.self.now) c.args.p c.loop-low.low c.loop-low.high _ c.loop-low-test.true c.loop-low.invariant.within
-          (let e = rw half at c.key_at.ensures in let behind = c.if-key_at-p.false in omega (arith, e, behind)) c.loop-low.invariant.same;
+          (let e = rw half at c.key_at.ensures in let after = c.if-key_at-p.false in omega (arith, e, after)) c.loop-low.invariant.same;
     })
 
 pub loop-low-preserved-then-key_at-p : goal.loop-low-preserved-then-key_at-p

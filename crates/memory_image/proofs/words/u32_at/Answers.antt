@@ -1,6 +1,6 @@
 use Rattle.std.proofs.Common.{◌∙◌, arith}
 use Rattle.memory_image.specs.Words.{from_le_bytes-u32_at}
-use Rattle.fde_finders.proofs.phdr.u32_at.Goals as goal
+use Rattle.memory_image.proofs.words.u32_at.Goals as goal
 
 pub returns : goal.returns
 returns c = c.from_le_bytes.ensures ∙ from_le_bytes-u32_at c.args.bytes.now c.args.offset (omega arith)

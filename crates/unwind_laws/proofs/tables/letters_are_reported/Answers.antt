@@ -1,5 +1,5 @@
 use Rattle.unwind_laws.proofs.Letters.{personality_said, language_said, address_said, signal_said}
-use Rattle.unwind_laws.proofs.tables.letters_are_told.Goals as goal
+use Rattle.unwind_laws.proofs.tables.letters_are_reported.Goals as goal
 
 pub returns-clause-personality : goal.returns-clause-personality
 returns-clause-personality c bases z ls i d found e = personality_said bases z ls i d found e
