@@ -7,18 +7,13 @@
 #
 # With FILE, callgrind's counts of the last run are left there, by function (callgrind_annotate tells
 # them). It wants `rt`, `valgrind` and GNU time, and leaves nothing else after.
-set -euo pipefail
+
+# shellcheck source-path=SCRIPTDIR source=common.sh
+. "$(dirname "$0")/common.sh"
 
 counts=${1:-/dev/null}
-top=$(cd "$(dirname "$0")/.." && pwd)
-copy=$(mktemp -d)
-trap 'rm -rf "$copy"' EXIT
-cp -r "$top/crates" "$top/crates.txt" "$copy"
-[ ! -e "$top/HANDLES" ] || cp "$top/HANDLES" "$copy"
 
-echo 'indexes: memory_image eh_frame anyhow' >>"$copy/crates.txt"
-mkdir -p "$copy/crates/indexes/src"
-cat >"$copy/crates/indexes/src/main.rt" <<'RATTLE'
+add_program indexes memory_image eh_frame anyhow <<'RATTLE'
 //! Makes an index of a frame table and looks addresses up: `indexes FUNCTIONS WHAT`, where 0 makes
 //! the table alone, 1 its index too, and 2 looks up an address of each function as well.
 #![tactic(auto)]
@@ -112,24 +107,16 @@ fn main(rt: HostRuntime) -> Result<()> {
     Ok(())
 }
 RATTLE
-(cd "$copy/crates/indexes" && rt run -- 1000 2 >"$copy/run.log" 2>&1) || { cat "$copy/run.log" >&2; exit 1; }
-program=$copy/crates/indexes/out/indexes
 
-# FUNCTIONS WHAT: the instructions of a run.
-count() {
-    valgrind --tool=callgrind --callgrind-out-file="$counts" "$program" "$@" 2>&1 >"$copy/told" |
-        sed -n 's/.*Collected : //p'
-}
-
-peak() {
-    env time -f '%M' "$program" "$@" 2>&1 >"$copy/told" | tail -1
-}
+build_program indexes 1000 2
 
 printf '%10s %14s %9s %13s %14s\n' functions a-description a-look-up table-peak-kB index-peak-kB
 for functions in 1000 10000 100000; do
-    table=$(count "$functions" 0)
-    made=$(count "$functions" 1)
-    found=$(count "$functions" 2)
+    table=$(instructions "$program" "$functions" 0)
+    made=$(instructions "$program" "$functions" 1)
+    found=$(instructions "$program" "$functions" 2)
     printf '%10d %14d %9d %13d %14d\n' "$functions" "$(((made - table) / functions))" \
-        "$(((found - made) / functions))" "$(peak "$functions" 0)" "$(peak "$functions" 1)"
+        "$(((found - made) / functions))" "$(peak "$program" "$functions" 0)" \
+        "$(peak "$program" "$functions" 1)"
 done
+cp "$work/callgrind" "$counts"
