@@ -7,7 +7,7 @@
 #     bench/call_frames.sh [FILE]
 #
 # With FILE, callgrind's counts of the rows are left there, by function (callgrind_annotate tells
-# them). It wants `rt` and `valgrind`, and leaves nothing else after.
+# them). It wants `rt` and `valgrind`, and leaves nothing else behind.
 
 # shellcheck source-path=SCRIPTDIR source=common.sh
 . "$(dirname "$0")/common.sh"

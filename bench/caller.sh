@@ -5,7 +5,7 @@
 #
 #     bench/caller.sh
 #
-# It wants `rt` and `valgrind`, and leaves nothing after. The image has three regions.
+# It wants `rt` and `valgrind`, and leaves nothing behind. The image has three regions.
 
 # shellcheck source-path=SCRIPTDIR source=common.sh
 . "$(dirname "$0")/common.sh"

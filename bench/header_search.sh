@@ -6,7 +6,7 @@
 #
 #     bench/header_search.sh
 #
-# It wants `rt` and `valgrind`, and leaves nothing after.
+# It wants `rt` and `valgrind`, and leaves nothing behind.
 
 # shellcheck source-path=SCRIPTDIR source=common.sh
 . "$(dirname "$0")/common.sh"

@@ -6,7 +6,7 @@
 #     bench/indexes.sh [FILE]
 #
 # With FILE, callgrind's counts of the last run are left there, by function (callgrind_annotate tells
-# them). It wants `rt`, `valgrind` and GNU time, and leaves nothing else after.
+# them). It wants `rt`, `valgrind` and GNU time, and leaves nothing else behind.
 
 # shellcheck source-path=SCRIPTDIR source=common.sh
 . "$(dirname "$0")/common.sh"

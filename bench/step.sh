@@ -6,7 +6,7 @@
 #
 #     bench/step.sh [COUNT]        the chain's calls, 10,000 unless given
 #
-# It wants `rt`, `valgrind` and python3, and leaves nothing after.
+# It wants `rt`, `valgrind` and python3, and leaves nothing behind.
 
 # shellcheck source-path=SCRIPTDIR source=common.sh
 . "$(dirname "$0")/common.sh"

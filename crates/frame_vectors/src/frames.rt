@@ -249,11 +249,28 @@ fn a_frame_tells_what_was_found(rt: HostRuntime) -> Result<(), Fail> {
     let mut adjusted = context;
     frame.adjust_stack_for_args(&mut adjusted);
     expect_equal(&rt, adjusted, context);
-    let at = Frame::<Arch>::from_context(&image, &finder, &context, true, &mut steps);
-    expect_equal(&rt, matches!(at, Ok(None)), true);
-    context.ra = 0;
-    let last = Frame::<Arch>::from_context(&image, &finder, &context, true, &mut steps);
-    expect_equal(&rt, matches!(last, Ok(None)), true);
+    Ok(())
+}
+
+// Whether there is no frame where a context was stopped at an address, by the table at 0x500000.
+fn ends_at(alloc: Global, address: u64) -> Result<bool, Fail> {
+    let frames = table(alloc, &[COMMON, STORE])?;
+    let mut image = MemoryImage::new(alloc);
+    let _ = image.add(0x50_0000, &frames);
+    let mut finder = CustomFinder::new();
+    let _ = finder.set_custom_eh_frame_finder(Named(frame_table()));
+    let mut context = Context::default();
+    context.ra = address;
+    let mut steps = Steps::new(NoLedger);
+    let frame = Frame::<Arch>::from_context(&image, &finder, &context, true, &mut steps);
+    Ok(matches!(frame, Ok(None)))
+}
+
+#[test]
+fn the_stack_ends_where_no_function_is(rt: HostRuntime) -> Result<(), Fail> {
+    expect_equal(&rt, ends_at(rt.alloc(), 0x40_1020)?, true);
+    expect_equal(&rt, ends_at(rt.alloc(), 0)?, true);
+    expect_equal(&rt, ends_at(rt.alloc(), 0x40_1000)?, false);
     Ok(())
 }
 

@@ -280,8 +280,45 @@ fn landing(end: Unwound<Arch>) -> Option<Landing> {
 const STACK: &str =
     "0000000000000000 1100000000000000 0c00000000000000 3010400000000000 2200000000000000 6010400000000000 0000000000000000 0b00000000000000 0e00000000000000 0000000000000000";
 
-// How a raise from the innermost of three frames lands, how it lands once the cleanup resumes at an
-// address, and what the exception keeps in between. With `stop` the resume is by force.
+// How a raise from the innermost of three frames lands.
+fn first_landing(image: &MemoryImage<'_>, exception: &mut UnwindException) -> Option<Landing> {
+    let mut context = start(0x40_1010, 0x70b0);
+    context.registers[RBX] = 0x7;
+    context.registers[RBP] = 0x70c0;
+    landing(_Unwind_RaiseException::<Arch, CustomFinder<Module>, RustPersonality, NoLedger>(
+        image,
+        &finder(0x40_1080),
+        &context,
+        exception,
+        &RustPersonality,
+        8,
+        &mut Steps::new(NoLedger),
+    ))
+}
+
+// How it lands once the cleanup resumes at an address.
+fn next_landing(
+    image: &MemoryImage<'_>,
+    exception: &mut UnwindException,
+    resume: u64,
+) -> Option<Landing> {
+    let mut context = start(resume, 0x70d0);
+    context.registers[RBX] = 0x11;
+    context.registers[RBP] = 0xc;
+    let mut stop = NONE;
+    landing(_Unwind_Resume::<Arch, CustomFinder<Module>, RustPersonality, Visits, NoLedger>(
+        image,
+        &finder(0x40_1080),
+        &context,
+        exception,
+        &RustPersonality,
+        &mut stop,
+        8,
+        &mut Steps::new(NoLedger),
+    ))
+}
+
+// Both, and what the exception keeps in between. With `Stop` kept the resume is by force.
 fn raised(
     alloc: Global,
     kept: Kept,
@@ -296,40 +333,12 @@ fn raised(
     let _ = image.add(0x50_2000, &languages);
     let _ = image.add(0x50_3000, &cell);
     let _ = image.add(0x70b0, &stack);
-    let finder = finder(0x40_1080);
-    let mut steps = Steps::new(NoLedger);
-    let mut context = start(0x40_1010, 0x70b0);
-    context.registers[RBX] = 0x7;
-    context.registers[RBP] = 0x70c0;
     let mut exception = UnwindException::new(0x22, 0x90_0000);
-    let personality = RustPersonality;
-    let cleanup = _Unwind_RaiseException::<Arch, CustomFinder<Module>, RustPersonality, NoLedger>(
-        &image,
-        &finder,
-        &context,
-        &mut exception,
-        &personality,
-        8,
-        &mut steps,
-    );
+    let first = first_landing(&image, &mut exception);
     let found = exception.kept;
-    let first = landing(cleanup);
-    context = start(resume, 0x70d0);
-    context.registers[RBX] = 0x11;
-    context.registers[RBP] = 0xc;
     exception.kept = if kept == Kept::Stop { kept } else { found };
-    let mut stop = NONE;
-    let handler = _Unwind_Resume::<Arch, CustomFinder<Module>, RustPersonality, Visits, NoLedger>(
-        &image,
-        &finder,
-        &context,
-        &mut exception,
-        &personality,
-        &mut stop,
-        8,
-        &mut steps,
-    );
-    Ok((first, found, landing(handler)))
+    let next = next_landing(&image, &mut exception, resume);
+    Ok((first, found, next))
 }
 
 #[test]
@@ -357,16 +366,14 @@ fn a_raise_goes_to_its_handler(rt: HostRuntime) -> Result<(), Fail> {
     Ok(())
 }
 
-#[test]
-fn a_raise_without_handler_keeps_the_exception(rt: HostRuntime) -> Result<(), Fail> {
-    let alloc = rt.alloc();
+// How a raise on a stack without a handler ends, whether the exception stays as it was, and what the
+// stop was asked.
+fn rethrown(alloc: Global) -> Result<(Option<i32>, bool, (u64, u64, u64)), Fail> {
     let frames = bytes_of(alloc, PUSHES)?;
     let stack = bytes_of(alloc, "05000000000000000000000000000000")?;
     let mut image = MemoryImage::new(alloc);
-    expect_equal(&rt, image.add(0x50_0000, &frames), Ok(()));
-    expect_equal(&rt, image.add(0x7000, &stack), Ok(()));
-    let finder = finder(0x40_1010);
-    let mut steps = Steps::new(NoLedger);
+    let _ = image.add(0x50_0000, &frames);
+    let _ = image.add(0x7000, &stack);
     let mut exception = UnwindException::new(0x22, 0x90_0000);
     let mut stop = NONE;
     let end = _Unwind_Resume_or_Rethrow::<
@@ -377,34 +384,47 @@ fn a_raise_without_handler_keeps_the_exception(rt: HostRuntime) -> Result<(), Fa
         NoLedger,
     >(
         &image,
-        &finder,
+        &finder(0x40_1010),
         &start(0x40_1006, 0x7000),
         &mut exception,
         &RustPersonality,
         &mut stop,
         4,
-        &mut steps,
+        &mut Steps::new(NoLedger),
     );
-    match end {
-        Unwound::Code { code, cause } => {
-            expect_equal(&rt, code.0, UnwindReasonCode::END_OF_STACK.0);
-            expect_equal(&rt, cause, None);
-        }
-        Unwound::Install { .. } => assert!(rt; false),
-    }
-    expect_equal(
-        &rt,
-        exception == UnwindException::new(0x22, 0x90_0000),
-        true,
-    );
-    expect_equal(&rt, stop.seen(), (0, 0, 0));
+    let code = match end {
+        Unwound::Code { code, cause: None } => Some(code.0),
+        _ => None,
+    };
+    let stays = exception == UnwindException::new(0x22, 0x90_0000);
+    Ok((code, stays, stop.seen()))
+}
+
+#[test]
+fn a_raise_without_handler_keeps_the_exception(rt: HostRuntime) -> Result<(), Fail> {
+    let end = Some(UnwindReasonCode::END_OF_STACK.0);
+    expect_equal(&rt, rethrown(rt.alloc())?, (end, true, (0, 0, 0)));
+    Ok(())
+}
+
+#[test]
+fn a_function_is_found_by_an_address_in_it(rt: HostRuntime) -> Result<(), Fail> {
+    let alloc = rt.alloc();
+    let frames = bytes_of(alloc, PUSHES)?;
+    let mut image = MemoryImage::new(alloc);
+    expect_equal(&rt, image.add(0x50_0000, &frames), Ok(()));
+    let finder = finder(0x40_1010);
+    let mut steps = Steps::new(NoLedger);
     let enclosing = _Unwind_FindEnclosingFunction(&image, &finder, 0x40_1010, &mut steps);
     expect_equal(&rt, enclosing, 0x40_1000);
-    expect_equal(
-        &rt,
-        _Unwind_FindEnclosingFunction(&image, &finder, 0, &mut steps),
-        0,
-    );
+    let none = _Unwind_FindEnclosingFunction(&image, &finder, 0, &mut steps);
+    expect_equal(&rt, none, 0);
+    Ok(())
+}
+
+#[test]
+fn an_exception_is_deleted_as_caught_elsewhere(rt: HostRuntime) -> Result<(), Fail> {
+    let exception = UnwindException::new(0x22, 0x90_0000);
     let mut reason = 0;
     _Unwind_DeleteException(
         &exception,

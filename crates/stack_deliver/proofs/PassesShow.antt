@@ -161,7 +161,7 @@ module _ (space : SpaceValue) (apart : AreApart 0 space.modules) (laid : IsLaidO
     by_pass zero c = refl
     by_pass (suc n) c = refl
 
-    -- a context that a pass leaves after doesn't count
+    -- a context that a pass goes on from doesn't count
     goes_on : (places : ℕ) (c : Context) (r : Result Line DeliverError) → from_pass places (with_context c r) ≡ from_pass places r
     goes_on zero c (Ok line) = refl
     goes_on zero c (Err e) = refl
@@ -181,7 +181,7 @@ module _ (space : SpaceValue) (apart : AreApart 0 space.modules) (laid : IsLaidO
     by_count zero c = refl
     by_count (suc n) c = refl
 
-    -- a context that a pass leaves after is one more
+    -- a context that a pass goes on from is one more
     one_more : (places met : ℕ) (c : Context) (r : Result Line DeliverError) → met_from places (suc met) (with_context c r) ≡ suc (met_from places met r)
     one_more zero met c (Ok line) = refl
     one_more zero met c (Err e) = refl
