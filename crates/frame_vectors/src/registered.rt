@@ -32,12 +32,8 @@ impl EhFrameFinder for Named {
 
 fn start<F: FDEFinder>(finder: &F, image: &MemoryImage, pc: u64) -> Option<u64> {
     let mut steps = Steps::new(NoLedger);
-    Some(
-        finder
-            .find_fde(image, pc, &mut steps)?
-            .fde
-            .initial_address(),
-    )
+    let found = finder.find_fde(image, pc, &mut steps)?;
+    Some(found.fde.initial_address())
 }
 
 fn object(begin: u64, multiple: bool) -> Object {
