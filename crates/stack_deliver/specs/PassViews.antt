@@ -1,4 +1,4 @@
--- What the code of a pass answers, in the words of the definitions.
+-- What the code of a pass answers, in the words of the definitions. No public clause cites this.
 use Rattle.std.specs.Prelude.{◌≡◌, ◌++◌, List, Result, Ok, Err}
 use Rattle.memory_image.specs.Results.{result_map}
 use Rattle.stack_steps.specs.declared.answers.DeliverError.{DeliverError}

@@ -61,7 +61,7 @@ module _ (space : SpaceValue) (functions : List Function) where
   }
 
   module _ (elf : AreElf space.modules) where
-    uncovered : (a : ℕ) → described.IsUncovered (process_of space) a → IsUncoveredBy space.image (formats_of space) a
+    pub uncovered : (a : ℕ) → described.IsUncovered (process_of space) a → IsUncoveredBy space.image (formats_of space) a
     uncovered a free m has inside =
         let is : IsElf space.modules m = elf_home space.modules elf m has in
         subst (λ (home : FormatModule). IsUncoveredIn space.image home a) (sym is.same) (free is.named is.known (subst (λ (home : FormatModule). IsTrue (in_format a home)) is.same inside))

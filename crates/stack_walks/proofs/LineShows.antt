@@ -117,7 +117,7 @@ module _ (space : SpaceValue) where
       ap (compact_frame (macho_of m t) a) (found ∙ finds_none space.image (macho_of m t) (a - m.start) no_columns (lookup_of u.info (a - m.start)) (sym steps ∙ ends))
 
   -- an address that nothing covers ends the stack
-  by_module : AreApart 0 space.modules → IsLaidOut 0 space.image → (a : ℕ) → IsUncoveredBy space.image (formats_of space) a → (o : Option Module) → module_at space.modules a ≡ o → frame_in space.image a o ≡ Ok None
+  pub by_module : AreApart 0 space.modules → IsLaidOut 0 space.image → (a : ℕ) → IsUncoveredBy space.image (formats_of space) a → (o : Option Module) → module_at space.modules a ≡ o → frame_in space.image a o ≡ Ok None
   by_module apart laid a free None found = refl
   by_module apart laid a free (Some m) found = by_tables m.tables (free (format_of m) (in_formats space.modules m r.0) (inside_format m a (not_empty 0 space.modules m apart r.0) r.1 m.tables))
     where

@@ -9,7 +9,8 @@ mod outward;
 mod room;
 mod walking;
 
+pub use eh_frame::RowRoom;
 pub use front::{Front, each_reason_is_given, walk_front_into};
 pub use outward::{Phase, Stop, outwards};
 pub use room::{Room, Trail};
-pub use walking::{Visited, walk, walk_into};
+pub use walking::{Visited, walk, walk_into, walk_with_rows};

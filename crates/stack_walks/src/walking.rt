@@ -20,17 +20,25 @@ use std::alloc::Global;
 use std::marker::Model;
 use unwind_arch::x86_64::Context;
 
-/// Visits the states from the start outwards, in a room that is emptied first, and after an error
-/// again.
-fn fresh_walk<L: Ledger>(
-    space: &Space<'_>,
+/// Walks as [`walk_into`] does, with a room for rows that is lent.
+///
+/// A room for rows takes some 4 KB, which are cleared where it is made. Who walks many stacks makes one
+/// for all of them. The answer doesn't depend on what was made in it before.
+///
+/// # Errors
+///
+/// Those of `walk_into`.
+pub fn walk_with_rows<'a, L: Ledger>(
+    space: &Space<'a>,
     start: &Context,
     interrupted: bool,
     limit: u32,
     room: &mut Room,
+    rows: &mut RowRoom<'a>,
     steps: &mut Steps<L>,
 ) -> Result<(), DeliverError>
     requires { limit ≤ room.old.limit }
+    // The states are the line of the start, and an error is the line's first fault.
     ensures exact { IsWalked result room.new (line_of space.now limit start.now interrupted) }
     ensures emptied { OnErr result (room.new.visited ≡ []) }
     ensures no_cleanup { room.new.trail ≡ [] }
@@ -42,15 +50,7 @@ fn fresh_walk<L: Ledger>(
         context: *start,
         signal: interrupted,
     };
-    match outwards(
-        None,
-        space,
-        &mut state,
-        limit,
-        room,
-        &mut RowRoom::new(),
-        steps,
-    ) {
+    match outwards(None, space, &mut state, limit, room, rows, steps) {
         Ok(_) => Ok(()),
         Err(error) => {
             room.clear();
@@ -117,7 +117,8 @@ pub fn walk_into<L: Ledger>(
 {
     // No two of its modules share an address, as a space's type says.
     let _ = space.image();
-    fresh_walk(space, start, interrupted, limit, room, steps)
+    let mut rows = RowRoom::new();
+    walk_with_rows(space, start, interrupted, limit, room, &mut rows, steps)
 }
 
 /// The states of a stack that was walked.

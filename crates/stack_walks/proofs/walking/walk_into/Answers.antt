@@ -12,27 +12,27 @@ use Rattle.stack_walks.proofs.walking.walk_into.Goals as goal
 
 pub returns-clause-frame_limit : goal.returns-clause-frame_limit
 returns-clause-frame_limit g c = (
-  λ e. line_limit c.args.space.now c.args.limit c.args.start.now c.args.interrupted (walked_fault c.fresh_walk.result c.fresh_walk.new.room _ FrameLimit c.fresh_walk.ensures.exact e),
-  λ more. fault_walked c.fresh_walk.result c.fresh_walk.new.room _ FrameLimit c.fresh_walk.ensures.exact (limit_line c.args.space.now c.args.limit c.args.start.now c.args.interrupted more),
+  λ e. line_limit c.args.space.now c.args.limit c.args.start.now c.args.interrupted (walked_fault c.walk_with_rows.result c.walk_with_rows.new.room _ FrameLimit c.walk_with_rows.ensures.exact e),
+  λ more. fault_walked c.walk_with_rows.result c.walk_with_rows.new.room _ FrameLimit c.walk_with_rows.ensures.exact (limit_line c.args.space.now c.args.limit c.args.start.now c.args.interrupted more),
 )
 
 pub returns-clause-step_fault : goal.returns-clause-step_fault
 returns-clause-step_fault g c e other = (
-  λ is. line_fault c.args.space.now c.args.limit c.args.start.now c.args.interrupted e other (walked_fault c.fresh_walk.result c.fresh_walk.new.room _ e c.fresh_walk.ensures.exact is),
-  λ fails. fault_walked c.fresh_walk.result c.fresh_walk.new.room _ e c.fresh_walk.ensures.exact (fault_line c.args.space.now c.args.limit c.args.start.now c.args.interrupted e fails),
+  λ is. line_fault c.args.space.now c.args.limit c.args.start.now c.args.interrupted e other (walked_fault c.walk_with_rows.result c.walk_with_rows.new.room _ e c.walk_with_rows.ensures.exact is),
+  λ fails. fault_walked c.walk_with_rows.result c.walk_with_rows.new.room _ e c.walk_with_rows.ensures.exact (fault_line c.args.space.now c.args.limit c.args.start.now c.args.interrupted e fails),
 )
 
 pub returns-clause-unmapped : goal.returns-clause-unmapped
-returns-clause-unmapped g c a e = line_unmapped c.args.space.now c.args.limit c.args.start.now c.args.interrupted a (walked_fault c.fresh_walk.result c.fresh_walk.new.room _ (Unmapped a) c.fresh_walk.ensures.exact e)
+returns-clause-unmapped g c a e = line_unmapped c.args.space.now c.args.limit c.args.start.now c.args.interrupted a (walked_fault c.walk_with_rows.result c.walk_with_rows.new.room _ (Unmapped a) c.walk_with_rows.ensures.exact e)
 
 pub returns-clause-takes_no_memory : goal.returns-clause-takes_no_memory
-returns-clause-takes_no_memory g c e = line_memory c.args.space.now c.args.limit c.args.start.now c.args.interrupted (walked_fault c.fresh_walk.result c.fresh_walk.new.room _ NoMemory c.fresh_walk.ensures.exact e)
+returns-clause-takes_no_memory g c e = line_memory c.args.space.now c.args.limit c.args.start.now c.args.interrupted (walked_fault c.walk_with_rows.result c.walk_with_rows.new.room _ NoMemory c.walk_with_rows.ensures.exact e)
 
 pub returns-clause-chain_in : goal.returns-clause-chain_in
 returns-clause-chain_in g c functions s calls starts called =
     let w = chain_walked c.args.space.now c.args.start.now c.args.limit functions s calls c.image.ensures.apart c.image.ensures.laid_out starts in
-    let exact : IsWalked c.fresh_walk.result c.fresh_walk.new.room (line_of c.args.space.now c.args.limit c.args.start.now false) = rw called at c.fresh_walk.ensures.exact in
-    let r = states_walked c.fresh_walk.result c.fresh_walk.new.room _ w.0 exact w.1 in
+    let exact : IsWalked c.walk_with_rows.result c.walk_with_rows.new.room (line_of c.args.space.now c.args.limit c.args.start.now false) = rw called at c.walk_with_rows.ensures.exact in
+    let r = states_walked c.walk_with_rows.result c.walk_with_rows.new.room _ w.0 exact w.1 in
     (r.0, subst (λ (cs : List Context). ShowChain cs s calls) r.1 w.2)
 
 pub returns-clause-chain : goal.returns-clause-chain
@@ -41,8 +41,8 @@ returns-clause-chain g c functions s calls starts called = returns-clause-chain_
 pub returns-clause-stopped_in : goal.returns-clause-stopped_in
 returns-clause-stopped_in g c functions s call calls starts marked =
     let w = stopped_walked c.args.space.now functions s call calls c.args.start.now c.image.ensures.apart c.image.ensures.laid_out c.args.limit starts in
-    let exact : IsWalked c.fresh_walk.result c.fresh_walk.new.room (line_of c.args.space.now c.args.limit c.args.start.now true) = rw marked at c.fresh_walk.ensures.exact in
-    let r = states_walked c.fresh_walk.result c.fresh_walk.new.room _ w.0 exact w.1 in
+    let exact : IsWalked c.walk_with_rows.result c.walk_with_rows.new.room (line_of c.args.space.now c.args.limit c.args.start.now true) = rw marked at c.walk_with_rows.ensures.exact in
+    let r = states_walked c.walk_with_rows.result c.walk_with_rows.new.room _ w.0 exact w.1 in
     (r.0, subst (λ (cs : List Context). ShowChain cs s (call ∷ calls)) r.1 w.2)
 
 pub returns-clause-stopped : goal.returns-clause-stopped

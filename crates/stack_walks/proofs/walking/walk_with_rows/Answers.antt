@@ -4,7 +4,7 @@ use Rattle.stack_walks.specs.Lines.{line_of}
 use Rattle.stack_steps.proofs.Counted.{rises_up_to}
 use Rattle.stack_walks.proofs.TurnLines.{walk_line, walked_by}
 use Rattle.stack_walks.proofs.TurnCounts.{few_met}
-use Rattle.stack_walks.proofs.walking.fresh_walk.Goals as goal
+use Rattle.stack_walks.proofs.walking.walk_with_rows.Goals as goal
 
 pub returns-in-Ok-clause-exact : goal.returns-in-Ok-clause-exact
 returns-in-Ok-clause-exact g c =
