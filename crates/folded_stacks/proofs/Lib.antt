@@ -1,0 +1,7 @@
+pub mod Orders
+pub mod Counting
+pub mod RunLemmas
+pub mod FoldedLines
+pub mod Kept
+pub mod Walks
+pub mod Witnesses
