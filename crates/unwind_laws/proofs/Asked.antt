@@ -247,3 +247,27 @@ asks_as image bases f fde is read describes =
       silent = λ none. subst (LeadsToLanguage image f) (without_language bases fde read (no_encoding bases fde.cie data_is describes.code.cie.augmentation (n.silent none))) describes.language;
       action = language_asked image bases f fde is.sites describes.code.start (omega arith) describes.language;
     }
+
+-- A description that leads to a language table with a function's sites, and names a personality where the function has any, asks
+-- what the function does.
+pub sites_asked : (image : List Span) (bases : Bases) (f : Function) (fde : Fde) → FdeRead bases fde → fde.start ≡ f.start → fde.start + fde.size ≡ f.end → IfSome f.sites (AreSitesOf f) → LeadsToLanguage image f fde.language →
+    MatchOption fde.cie.letters.personality (f.sites ≡ None) (IsEmittedPersonality image) → AsksAs image bases f fde
+sites_asked image bases f fde read start end are leads names =
+    let data_is = data_read bases fde.cie read.common in
+    let reads = personality_reads bases fde.cie.augmentation data_is.from data_is.rest fde.cie.letters data_is.is in
+    let n : Named image fde = named image bases fde reads (weaker fde.cie.letters.personality names) in
+    let below = ends_below bases fde read in
+    record {
+      routine = n.routine;
+      personality = n.personality;
+      silent = λ none. no_sites fde.cie.letters.personality (n.silent none) names;
+      action = language_asked image bases f fde are start (omega arith) leads;
+    }
+  where
+    weaker : (o : Option (ℕ × Pointer)) → MatchOption o (f.sites ≡ None) (IsEmittedPersonality image) → MatchOption o (Unit {0}) (IsEmittedPersonality image)
+    weaker None h = tt
+    weaker (Some p) h = h
+
+    no_sites : (o : Option (ℕ × Pointer)) → o ≡ None → MatchOption o (f.sites ≡ None) (IsEmittedPersonality image) → f.sites ≡ None
+    no_sites None e h = h
+    no_sites (Some p) e h = absurd cc

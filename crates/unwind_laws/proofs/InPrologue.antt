@@ -90,10 +90,10 @@ stands_inside f image done later t s is st =
         let lt' : s.ra < f.start + x.end = lt in
         omega (arith, le, last, after)
 
--- a description's rows undo the steps that a stopped state has run
-pub stopped_row : (bases : Bases) (evaluates : Evaluates) (image : List Span) (f : Function) (fde : Fde) (done later : List PrologueStep) (t s : State) (columns : Columns) →
-    IsFunction SystemV f → f.outermost ≡ false → DescribesRows bases f fde → StandsAfter image f done later t s → IsState t → Shows columns s → HasRow bases fde s.ra (λ run. Undoes evaluates image run t columns × (argument_size run ≡ 0))
-stopped_row bases evaluates image f fde done later t s columns is inner d st words shows =
+-- Where a state stands in the prologue, a description's row is that of the steps that have run.
+pub inside_row : (bases : Bases) (image : List Span) (f : Function) (fde : Fde) (done later : List PrologueStep) (t s : State) →
+    IsFunction SystemV f → f.outermost ≡ false → DescribesRows bases f fde → StandsAfter image f done later t s → HasRow bases fde s.ra (IsPrologueRow (steps_of done))
+inside_row bases image f fde done later t s is inner d st =
     let o : ℕ = s.ra - f.start in
     let from = st.after in
     let ends : Ends 0 (done ++ later) = subst (Ends 0) st.steps (plain_ends f is) in
@@ -101,9 +101,7 @@ stopped_row bases evaluates image f fde done later t s columns is inner d st wor
     let after = rest_ends 0 done later ends in
     let steps_are : ended_by o f.prologue ≡ steps_of done = ap (ended_by o) st.steps ∙ kept o done later low (high later st.below after) in
     let row = d.prologue inner s.ra (omega arith) (before_body later st.below st.steps after) in
-    let fits : IsPrologueRow (steps_of done) row.0 = subst (λ l. IsPrologueRow l row.0) steps_are row.2 in
-    let may : EachMayFollow SystemV [] (steps_of done) = first_may [] (steps_of done) (steps_of later) (subst (EachMayFollow SystemV []) (ap steps_of st.steps ∙ steps_append done later) is.prologue.each) in
-    (row.0, row.1, (prologue_undone evaluates image (steps_of done) s t columns may st.entered words shows row.0 fits st.intact, row.2.arguments))
+    (row.0, row.1, subst (λ l. IsPrologueRow l row.0) steps_are row.2)
   where
     high : (later : List PrologueStep) → IsBelowNext f s.ra later → (l : ℕ) × Ends l later → AllByRecursion (λ (x : PrologueStep). s.ra - f.start < x.end) later
     high [] below h = tt
@@ -117,3 +115,15 @@ stopped_row bases evaluates image f fde done later t s columns is inner d st wor
         let body = body_after f is in
         let lt : s.ra < f.start + x.end = below in
         omega (arith, le, last, body, lt)
+
+-- the steps that have run make a prologue
+pub done_may : (image : List Span) (f : Function) (done later : List PrologueStep) (t s : State) → IsFunction SystemV f → StandsAfter image f done later t s → EachMayFollow SystemV [] (steps_of done)
+done_may image f done later t s is st = first_may [] (steps_of done) (steps_of later) (subst (EachMayFollow SystemV []) (ap steps_of st.steps ∙ steps_append done later) is.prologue.each)
+
+-- a description's rows undo the steps that a stopped state has run
+pub stopped_row : (bases : Bases) (evaluates : Evaluates) (image : List Span) (f : Function) (fde : Fde) (done later : List PrologueStep) (t s : State) (columns : Columns) →
+    IsFunction SystemV f → f.outermost ≡ false → DescribesRows bases f fde → StandsAfter image f done later t s → IsState t → Shows columns s → HasRow bases fde s.ra (λ run. Undoes evaluates image run t columns × (argument_size run ≡ 0))
+stopped_row bases evaluates image f fde done later t s columns is inner d st words shows =
+    let row = inside_row bases image f fde done later t s is inner d st in
+    let may = done_may image f done later t s is st in
+    (row.0, row.1, (prologue_undone evaluates image (steps_of done) s t columns may st.entered words shows row.0 row.2 st.intact, row.2.arguments))

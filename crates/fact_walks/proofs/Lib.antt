@@ -1,0 +1,3 @@
+pub mod SpaceSteps
+pub mod FactLines
+pub mod SampleStarts

@@ -1,0 +1,17 @@
+use Rattle.fact_walks.proofs.SampleStarts.{laid_out, lie_apart, prologue_starts, epilogue_starts, part_starts}
+use Rattle.fact_walks.proofs.samples.walks_from_stops_begin_fact_chains.Goals as goal
+
+pub returns-clause-laid_out : goal.returns-clause-laid_out
+returns-clause-laid_out c = laid_out
+
+pub returns-clause-apart : goal.returns-clause-apart
+returns-clause-apart c = lie_apart
+
+pub returns-clause-prologue : goal.returns-clause-prologue
+returns-clause-prologue c = prologue_starts
+
+pub returns-clause-epilogue : goal.returns-clause-epilogue
+returns-clause-epilogue c = epilogue_starts
+
+pub returns-clause-part : goal.returns-clause-part
+returns-clause-part c = part_starts

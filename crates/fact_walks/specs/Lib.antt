@@ -1,0 +1,2 @@
+pub mod FactStarts
+pub mod SampleSpace

@@ -1,0 +1,11 @@
+pub mod Lists
+pub mod RowUndone
+pub mod FromSteps
+pub mod FactSteps
+pub mod FactWalked
+pub mod FromFunctions
+pub mod Stretches
+pub mod SampleTests
+pub mod SampleFacts
+pub mod SampleChains
+pub mod FactsAsked

@@ -1,0 +1,2 @@
+pub mod FactWalks
+pub mod SampleProgram
