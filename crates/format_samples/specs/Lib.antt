@@ -1,1 +1,3 @@
 pub mod StopSamples
+pub mod EpilogSamples
+pub mod MachoWhole

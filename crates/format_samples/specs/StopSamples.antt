@@ -7,7 +7,7 @@ use Rattle.unwind_definitions.specs.Function.{Function}
 use Rattle.unwind_definitions.specs.Chain.{Call}
 use Rattle.unwind_laws.specs.Windows as windows
 use Rattle.pe_unwind_info.specs.declared.x86_64.function_table.RuntimeFunction.{RuntimeFunction}
-use Rattle.format_laws.specs.PeSamples.{word, far, table_bytes}
+use Rattle.format_laws.specs.PeSamples.{word, far, table_bytes, leaf_function, room_caller}
 
 -- ---- in the prologue of a function whose first two steps a chained record tells of
 
@@ -68,3 +68,11 @@ at_pop = record returning_caller { ra = 0x14000103e; sp = 0x6ff8; rbx = 7 }
 
 abbrev pub at_return : State
 at_return = record returning_caller { ra = 0x14000103f; sp = 0x7000 }
+
+-- ---- a leaf whose body begins after its first instructions
+
+abbrev pub waiting_leaf : Function
+waiting_leaf = record leaf_function { bodies = record { from = 0x140001108; to = 0x140001110 } ∷ [] }
+
+abbrev pub leaf_call : Call
+leaf_call = record { callee = waiting_leaf; caller = room_caller }

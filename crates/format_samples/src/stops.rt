@@ -12,6 +12,7 @@ ghost use Rattle.format_definitions.specs.PeStep.{pe_step};
 ghost use Rattle.format_laws.specs.FormatSample as mixed;
 ghost use Rattle.format_laws.specs.PeSamples as pe;
 ghost use Rattle.format_laws.specs.PeUndone.{GivesState};
+ghost use Rattle.format_samples.specs.EpilogSamples as epilogs;
 ghost use Rattle.format_samples.specs.StopSamples as samples;
 
 /// A function whose first two steps a chained record tells of, stopped after the first of its own
@@ -54,5 +55,44 @@ pub fn stops_in_an_unlisted_epilog_are_described()
     ensures pop_step { GivesState (pe_step samples.returning_image pe.module_of_one 0x103e
         (columns_of samples.at_pop)) samples.returning_caller }
     ensures returns_step { GivesState (pe_step samples.returning_image pe.module_of_one 0x103f
+        (columns_of samples.at_return)) samples.returning_caller }
+{}
+
+/// A leaf whose body begins after its first instructions, stopped before its body.
+pub fn stop_before_the_body_of_a_leaf_is_described()
+    ensures process { IsFormatProcess pe.room_image mixed.pe_modules }
+    ensures stop { IsFormatStop pe.room_image mixed.pe_modules (samples.waiting_leaf ∷ [])
+        pe.leaf_state samples.leaf_call }
+    ensures chain { IsFormatChain pe.room_image mixed.pe_modules (samples.waiting_leaf ∷ [])
+        pe.room_caller [] }
+    ensures step { GivesState (pe_step pe.room_image pe.module_of_one 0x1104
+        (columns_of pe.leaf_state)) pe.room_caller }
+{}
+
+/// A function that sets RBP above the stack pointer, stopped before the `lea` of its epilog, with
+/// the stack pointer below what its prologue left.
+pub fn stop_before_the_lea_of_an_epilog_is_described()
+    ensures process { IsFormatProcess epilogs.framed_image mixed.pe_modules }
+    ensures stop { IsFormatStop epilogs.framed_image mixed.pe_modules
+        (epilogs.framed_function ∷ []) epilogs.at_lea epilogs.framed_call }
+    ensures chain { IsFormatChain epilogs.framed_image mixed.pe_modules
+        (epilogs.framed_function ∷ []) samples.returning_caller [] }
+    ensures step { GivesState (pe_step epilogs.framed_image pe.module_of_one 0x103a
+        (columns_of epilogs.at_lea)) samples.returning_caller }
+{}
+
+/// A function whose record of version 2 says that an epilog ends with the function, stopped before
+/// the pop of this epilog and before its return.
+pub fn stops_in_an_epilog_that_ends_with_the_function_are_described()
+    ensures process { IsFormatProcess epilogs.listed_image mixed.pe_modules }
+    ensures pop { IsFormatStop epilogs.listed_image mixed.pe_modules
+        (epilogs.listed_function ∷ []) samples.at_pop epilogs.listed_call }
+    ensures returns { IsFormatStop epilogs.listed_image mixed.pe_modules
+        (epilogs.listed_function ∷ []) samples.at_return epilogs.listed_call }
+    ensures chain { IsFormatChain epilogs.listed_image mixed.pe_modules
+        (epilogs.listed_function ∷ []) samples.returning_caller [] }
+    ensures pop_step { GivesState (pe_step epilogs.listed_image pe.module_of_one 0x103e
+        (columns_of samples.at_pop)) samples.returning_caller }
+    ensures returns_step { GivesState (pe_step epilogs.listed_image pe.module_of_one 0x103f
         (columns_of samples.at_return)) samples.returning_caller }
 {}
