@@ -1,6 +1,6 @@
 //! Writes what an unwinder did as lines of text: the states of a walk, the states, cleanups, landing and
-//! outcome of a delivery, why there is neither, or how large a delivery was. docs/FORMATS.md has the
-//! lines.
+//! outcome of a delivery, why there is neither, how large a delivery was, or the folded stacks of
+//! samples. docs/FORMATS.md has the lines.
 //!
 //! The report of the walk of a snapshot:
 //!
@@ -29,6 +29,7 @@
 mod buffer;
 mod delivery;
 mod digits;
+mod folds;
 mod line;
 mod refusal;
 mod states;
@@ -37,6 +38,7 @@ mod walk;
 
 pub use buffer::{Report, labelled_line_of, line_of};
 pub use delivery::report_of;
+pub use folds::fold_report_of;
 pub use refusal::{error_name, refused_line};
 pub use summary::{Summary, summary_of};
 pub use walk::walk_report_of;

@@ -22,8 +22,13 @@ pub struct Summary {
     pub probes: u64,
 }
 
+/// Puts what is counted, and its number.
 #[tactic(auto, unfolding(crate::specs::Summary::count_line))]
-fn put_count_line(report: &mut Report, label: &str, count: usize) -> Result<(), AllocError>
+pub(crate) fn put_count_line(
+    report: &mut Report,
+    label: &str,
+    count: usize,
+) -> Result<(), AllocError>
     ensures { OnOk result (report.new ≡ report.old ++ count_line label.now count) }
 {
     report.put_count(label, count)?;

@@ -70,7 +70,7 @@ laid_after image (s ∷ ss) laid takes =
     let free = free_region image s both.0 in
     laid_after (with_span s image) ss (laid-with_span s image 0 laid (omega arith) free.some free.fits free.apart) both.1
 
-taken : (o : Option (List Span)) (rs : List Span) → option_and_then if_taken o ≡ Some rs → takes_regions [] rs ≡ true
+pub taken : (o : Option (List Span)) (rs : List Span) → option_and_then if_taken o ≡ Some rs → takes_regions [] rs ≡ true
 taken None rs e = absurd cc
 taken (Some ns) rs e = go (takes_regions [] ns) refl e
   where
@@ -81,15 +81,15 @@ taken (Some ns) rs e = go (takes_regions [] ns) refl e
 -- ---- what is read
 
 -- a reading that gave a value began with one
-bound : {A B : Type 0} (r : Result A Field) (f : A → Result B Field) (y : B) → (r >>= f) ≡ Ok y → (x : A) × (r ≡ Ok x) × (f x ≡ Ok y)
+pub bound : {A B E : Type 0} (r : Result A E) (f : A → Result B E) (y : B) → (r >>= f) ≡ Ok y → (x : A) × (r ≡ Ok x) × (f x ≡ Ok y)
 bound (Ok x) f y e = (x, refl, e)
 bound (Err e) f y is = absurd cc
 
-needed : {A : Type 0} (field : Field) (o : Option A) (x : A) → needs field o ≡ Ok x → o ≡ Some x
+pub needed : {A : Type 0} (field : Field) (o : Option A) (x : A) → needs field o ≡ Ok x → o ≡ Some x
 needed field None x e = absurd cc
 needed field (Some y) x e = cc
 
-spaced : (o : Option (List Module)) (ms : List Module) → option_and_then if_space_takes o ≡ Some ms → takes_modules [] ms ≡ true
+pub spaced : (o : Option (List Module)) (ms : List Module) → option_and_then if_space_takes o ≡ Some ms → takes_modules [] ms ≡ true
 spaced None ms e = absurd cc
 spaced (Some ns) ms e = go (takes_modules [] ns) refl e
   where

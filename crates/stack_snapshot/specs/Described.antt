@@ -1,8 +1,9 @@
 -- Snapshots whose tables describe a chain of calls.
-use Rattle.std.specs.Prelude.{List, IsFalse}
+use Rattle.std.specs.Prelude.{List, IsFalse, IsTrue}
 use Rattle.unwind_definitions.specs.State.{State}
 use Rattle.unwind_definitions.specs.Function.{Function}
 use Rattle.unwind_definitions.specs.Chain.{Call}
+use Rattle.stack_steps.specs.Stopped.{StartsFormatStop}
 use Rattle.stack_walks.specs.Walking.{StartsChain, StartsFormatChain}
 use Rattle.stack_deliver.specs.Delivering.{StartsValidChain, StartsValidFormatChain}
 use Rattle.stack_snapshot.specs.Content.{Content, space_of}
@@ -27,3 +28,8 @@ DescribesFormatChain s functions start calls = StartsValidFormatChain (space_of 
 
 abbrev pub DescribesFormatWalk : Content → List Function → State → List Call → Type 0
 DescribesFormatWalk s functions start calls = IsFalse s.interrupted × StartsFormatChain (space_of s) s.start s.limit functions start calls
+
+-- The start was stopped at an instruction, in the body of a described function, in its prologue where it is of an ELF or a PE
+-- module, or in an epilog of a PE function; and its caller's state is the innermost of such a chain, for which the limit has room.
+abbrev pub DescribesFormatStop : Content → List Function → State → Call → List Call → Type 0
+DescribesFormatStop s functions start call calls = IsTrue s.interrupted × StartsFormatStop (space_of s) s.start s.limit functions start call calls

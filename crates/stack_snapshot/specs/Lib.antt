@@ -9,3 +9,5 @@ pub mod Names
 pub mod Origins
 pub mod Parts
 pub mod Described
+pub mod Sampled
+pub mod Cores

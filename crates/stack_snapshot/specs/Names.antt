@@ -5,6 +5,7 @@ use Rattle.stack_snapshot.specs.declared.errors.Field.TheVariants as fields
 
 abbrev pub field_name : Field → List ℕ
 field_name fields.Object = codes "object"
+field_name fields.Core = codes "core"
 field_name fields.Regions = codes "regions"
 field_name fields.Modules = codes "modules"
 field_name fields.Start = codes "start"
@@ -13,3 +14,4 @@ field_name fields.Class = codes "class"
 field_name fields.Resumes = codes "resumes"
 field_name fields.Limit = codes "limit"
 field_name fields.Interrupted = codes "interrupted"
+field_name fields.Samples = codes "samples"

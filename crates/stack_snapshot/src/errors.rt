@@ -11,7 +11,9 @@ use std::fmt;
 pub enum Field {
     /// The whole value: it is no object, or a number in it is no 64-bit integer.
     Object,
-    /// The memory.
+    /// The core file.
+    Core,
+    /// The memory, beside that of a core file.
     Regions,
     /// The modules in it.
     Modules,
@@ -27,6 +29,8 @@ pub enum Field {
     Limit,
     /// Whether the start stands before its instruction and not after a call.
     Interrupted,
+    /// The threads that were stopped.
+    Samples,
 }
 
 impl Field {
@@ -36,6 +40,7 @@ impl Field {
     {
         match self {
             Field::Object => "object",
+            Field::Core => "core",
             Field::Regions => "regions",
             Field::Modules => "modules",
             Field::Start => "start",
@@ -44,6 +49,7 @@ impl Field {
             Field::Resumes => "resumes",
             Field::Limit => "limit",
             Field::Interrupted => "interrupted",
+            Field::Samples => "samples",
         }
     }
 }

@@ -26,16 +26,20 @@
 //! ```
 #![tactic(auto)]
 
+mod cores;
 mod errors;
 mod fields;
 mod origins;
 mod parts;
 mod ranges;
 mod reading;
+mod sampled;
 mod snapshot;
 
+pub use cores::{CoreSnapshot, CoreSnapshotError, read_core_snapshot};
 pub use errors::{Field, SnapshotError};
 pub use origins::{Origin, Origins};
 pub use parts::SnapshotParts;
 pub use reading::{read_named_snapshot, read_snapshot};
+pub use sampled::{SampledSnapshot, read_sampled_snapshot};
 pub use snapshot::{Region, Snapshot};

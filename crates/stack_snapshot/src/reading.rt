@@ -29,7 +29,12 @@ use stack_deliver::{
 use std::alloc::Global;
 
 /// The bytes at a key, or the fault of the field.
-fn bytes_at(alloc: Global, value: &Value, key: &str, field: Field) -> Result<Vec<u8>, SnapshotError>
+pub(crate) fn bytes_at(
+    alloc: Global,
+    value: &Value,
+    key: &str,
+    field: Field,
+) -> Result<Vec<u8>, SnapshotError>
     ensures { Gives (λ bytes. bytes.items) result
         (needs field (bytes_at key.now (view value.now))) }
 {
@@ -66,7 +71,10 @@ fn region_list(alloc: Global, items: Vec<Value>) -> Result<Vec<Region>, Snapshot
 }
 
 /// The regions that a list says, where there is one.
-fn listed_regions(alloc: Global, items: Option<Vec<Value>>) -> Result<Vec<Region>, SnapshotError>
+pub(crate) fn listed_regions(
+    alloc: Global,
+    items: Option<Vec<Value>>,
+) -> Result<Vec<Region>, SnapshotError>
     ensures { Gives (λ regions. spans_of regions.items) result
         (needs Field.Regions (option_and_then region_list (list_view items))) }
 {
@@ -214,7 +222,10 @@ fn module_list(alloc: Global, items: Vec<Value>) -> Result<Vec<Module>, Snapshot
 }
 
 /// The modules that a list says, where there is one.
-fn listed_modules(alloc: Global, items: Option<Vec<Value>>) -> Result<Vec<Module>, SnapshotError>
+pub(crate) fn listed_modules(
+    alloc: Global,
+    items: Option<Vec<Value>>,
+) -> Result<Vec<Module>, SnapshotError>
     ensures { Gives (λ modules. modules.items) result
         (needs Field.Modules (option_and_then module_list (list_view items))) }
 {
@@ -250,7 +261,7 @@ fn registers_of(start: &Value) -> Option<[u64; 16]>
 
 /// The registers at the start.
 #[tactic(auto, unfolding(crate::specs::Snapshot::start_of))]
-fn start_of(value: &Value) -> Option<Context>
+pub(crate) fn start_of(value: &Value) -> Option<Context>
     ensures { result ≡ start_of (view value.now) }
 {
     let start = value.get("start")?;
@@ -312,7 +323,7 @@ fn resumes_of(alloc: Global, value: &Value) -> Result<Resumes, SnapshotError>
 
 /// The most states of a pass.
 #[tactic(auto, unfolding(crate::specs::Snapshot::limit_of))]
-fn limit_of(value: &Value) -> Option<u32>
+pub(crate) fn limit_of(value: &Value) -> Option<u32>
     ensures { result ≡ limit_of (view value.now) }
 {
     let limit = number_at(value, "limit")?;
@@ -325,7 +336,7 @@ fn limit_of(value: &Value) -> Option<u32>
 
 /// Whether the start stands before its instruction, false where the field is missing.
 #[tactic(auto, unfolding(crate::specs::Snapshot::interrupted_of))]
-fn interrupted_of(value: &Value) -> Option<bool>
+pub(crate) fn interrupted_of(value: &Value) -> Option<bool>
     ensures { result ≡ interrupted_of (view value.now) }
 {
     match value.get("interrupted") {
@@ -336,7 +347,7 @@ fn interrupted_of(value: &Value) -> Option<bool>
 
 /// Whether the value is an object in which every number is a 64-bit integer.
 #[tactic(auto, unfolding(crate::specs::Snapshot::whole_numbers))]
-fn is_whole(value: &Value) -> bool
+pub(crate) fn is_whole(value: &Value) -> bool
     ensures { result ≡ is_some (whole_numbers (view value.now)) }
 {
     !has_float(value) && value.is_object()
@@ -344,9 +355,9 @@ fn is_whole(value: &Value) -> bool
 
 /// The items of the two long lists, where they are there.
 #[derive(Drop)]
-struct Lists {
-    regions: Option<Vec<Value>>,
-    modules: Option<Vec<Value>>,
+pub(crate) struct Lists {
+    pub(crate) regions: Option<Vec<Value>>,
+    pub(crate) modules: Option<Vec<Value>>,
 }
 
 /// The items of an array.
@@ -360,7 +371,7 @@ fn items_of(value: Option<Value>) -> Option<Vec<Value>>
 }
 
 /// Takes the long lists out of a value, and lets the rest of it go.
-fn lists_of(value: Value) -> Lists
+pub(crate) fn lists_of(value: Value) -> Lists
     ensures regions { list_view result.regions ≡
         option_and_then as_array (get (codes "regions") (view value)) }
     ensures modules { list_view result.modules ≡
@@ -411,7 +422,7 @@ fn snapshot_of(alloc: Global, value: Value) -> Result<Snapshot, SnapshotError>
 }
 
 /// The value of some bytes as a JSON text.
-fn value_in(alloc: Global, bytes: &[u8]) -> Result<Value, SnapshotError>
+pub(crate) fn value_in(alloc: Global, bytes: &[u8]) -> Result<Value, SnapshotError>
     ensures reads { ReadsValue result bytes.now }
     ensures some { result ≢ Err SnapshotError.NotJson → 0 < length bytes.now }
 {

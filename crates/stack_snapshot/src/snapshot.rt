@@ -2,8 +2,8 @@
 ghost use Rattle.std.specs.Prelude.{◌≡◌, IfOk, MatchOption, map, option_map, true, false, []};
 ghost use Rattle.stack_steps.specs.Modules.{without_index};
 ghost use Rattle.stack_snapshot.specs.Answers.{Gives};
-ghost use Rattle.stack_snapshot.specs.Content.{image_of, modules_after, space_of, takes_regions};
-ghost use Rattle.stack_snapshot.specs.Content.{takes_modules};
+ghost use Rattle.stack_snapshot.specs.Content.{image_of, modules_after, space_of, space_with};
+ghost use Rattle.stack_snapshot.specs.Content.{takes_modules, takes_regions};
 ghost use Rattle.stack_snapshot.specs.Owned.{span_of, spans_of};
 ghost use Rattle.stack_snapshot.specs.Ranges.{each_in, module_range, region_range};
 ghost use Rattle.stack_snapshot.specs.Snapshot.{needs, if_taken, if_space_takes};
@@ -112,17 +112,29 @@ impl Snapshot {
     pub fn space(&self, alloc: Global) -> Result<Space<'_>, AllocError>
         ensures { IfOk result (λ space. space ≡ space_of self.now) }
     {
-        let _modules = &self.modules;
-        let image = match image_of_regions(alloc, &self.regions) {
-            Ok(Some(image)) => image,
-            Ok(None) => unreachable!(),
-            Err(error) => return Err(error),
-        };
-        match space_of_modules(alloc, image, &self.modules) {
-            Ok(Some(space)) => Ok(space),
-            Ok(None) => unreachable!(),
-            Err(error) => Err(error),
-        }
+        space_with(alloc, &self.regions, &self.modules)
+    }
+}
+
+/// The image of regions, with modules in it, each of which is taken.
+pub(crate) fn space_with<'a>(
+    alloc: Global,
+    regions: &'a [Region],
+    modules: &[Module],
+) -> Result<Space<'a>, AllocError>
+    requires regions { takes_regions [] (spans_of regions.now) ≡ true }
+    requires modules { takes_modules [] modules.now ≡ true }
+    ensures { IfOk result (λ space. space ≡ space_with (spans_of regions.now) modules.now) }
+{
+    let image = match image_of_regions(alloc, regions) {
+        Ok(Some(image)) => image,
+        Ok(None) => unreachable!(),
+        Err(error) => return Err(error),
+    };
+    match space_of_modules(alloc, image, modules) {
+        Ok(Some(space)) => Ok(space),
+        Ok(None) => unreachable!(),
+        Err(error) => Err(error),
     }
 }
 
@@ -136,7 +148,20 @@ fn image_of_regions(
         (λ image. (takes_regions [] (spans_of regions.now) ≡ true) ×
         (image ≡ image_of [] (spans_of regions.now)))) }
 {
-    let mut image = MemoryImage::new(alloc);
+    with_regions(MemoryImage::new(alloc), regions)
+}
+
+/// The image with these regions too, if each is taken.
+pub(crate) fn with_regions<'a>(
+    image: MemoryImage<'a>,
+    regions: &'a [Region],
+) -> Result<Option<MemoryImage<'a>>, AllocError>
+    ensures { IfOk result (λ new. MatchOption new
+        (takes_regions image.entry (spans_of regions.now) ≡ false)
+        (λ new. (takes_regions image.entry (spans_of regions.now) ≡ true) ×
+        (new ≡ image_of image.entry (spans_of regions.now)))) }
+{
+    let mut image = image;
     for region in regions {
         match image.add(region.address, &region.bytes) {
             Ok(()) => {}
@@ -148,7 +173,7 @@ fn image_of_regions(
 }
 
 /// The space of the modules, if each is taken.
-fn space_of_modules<'a>(
+pub(crate) fn space_of_modules<'a>(
     alloc: Global,
     image: MemoryImage<'a>,
     modules: &[Module],
