@@ -1,0 +1,8 @@
+//! The walks of a core file's threads as lines of text. docs/FORMATS.md has the lines.
+#![tactic(auto)]
+
+mod lines;
+mod walking;
+
+pub use lines::{core_refused_line, region_refused_line};
+pub use walking::core_report_of;
