@@ -1,17 +1,16 @@
 -- What a run is to answer, and what it is to write.
-use Rattle.std.specs.Prelude.{◌≡◌, ℕ, ◌^◌, ◌≤◌, List, [], length, Option, Some, None, Result, Ok, Err, codes, nat_lt, if◌then◌else◌}
-use Rattle.command_ends.specs.declared.status.Status.TheVariants.{Done, Usage, TooLong, NotJson, BadSnapshot, Memory}
+use Rattle.std.specs.Prelude.{◌≡◌, ℕ, ◌^◌, ◌≤◌, List, length, Option, Some, None, Result, Ok, Err}
+use Rattle.command_ends.specs.declared.status.Status.TheVariants.{Done, Usage}
 use Rattle.command_ends.specs.Verdicts.{Verdict, verdict}
+use Rattle.command_ends.specs.Answers.{fault_due, within_limit}
 use Rattle.stack_snapshot.specs.declared.errors.SnapshotError.{SnapshotError}
-use Rattle.stack_snapshot.specs.declared.errors.SnapshotError.TheVariants as faults
 use Rattle.stack_snapshot.specs.Answers.{content_of, value_of}
 use Rattle.stack_snapshot.specs.Content.{Content, space_of}
 use Rattle.stack_snapshot.specs.Origins.{OriginValue, origins_by}
-use Rattle.stack_report.specs.Report.{line}
 use Rattle.backtrace.specs.declared.words.Options.{Options}
 use Rattle.backtrace.specs.Options.{options_of}
 use Rattle.backtrace.specs.Tracing.{TraceValue, IsTrace}
-use Rattle.backtrace.specs.Lines.{backtrace_text, bad_line, usage_line}
+use Rattle.backtrace.specs.Lines.{backtrace_text, usage_line}
 
 -- the trace of a snapshot
 abbrev pub IsTraceOf : Content → TraceValue → Type 0
@@ -37,13 +36,11 @@ IsBacktrace words bytes text = IsBacktraceBy (options_of words) (content_of byte
 -- what is due by a backtrace of the snapshot, if there is one
 abbrev pub content_due : List ℕ → Result Content SnapshotError → Verdict
 content_due text (Ok s) = verdict Done text
-content_due text (Err (faults.Bad field)) = verdict BadSnapshot (bad_line field)
-content_due text (Err faults.NotJson) = verdict NotJson (line (codes "not json"))
-content_due text (Err faults.NoMemory) = verdict Memory []
+content_due text (Err error) = fault_due error
 
 -- at most 67,108,864 bytes are read as a snapshot
 abbrev pub bytes_due : List ℕ → List ℕ → Verdict
-bytes_due text bytes = if nat_lt (2 ^ 26) (length bytes) then verdict TooLong (line (codes "too long")) else content_due text (content_of bytes)
+bytes_due text bytes = within_limit bytes (content_due text (content_of bytes))
 
 abbrev pub options_due : List ℕ → Option Options → List ℕ → Verdict
 options_due text None bytes = verdict Usage usage_line

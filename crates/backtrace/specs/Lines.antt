@@ -10,8 +10,6 @@ use Rattle.stack_walks.specs.declared.front.Front.{Front}
 use Rattle.stack_walks.specs.declared.front.Front.TheVariants.{Outermost, NoModule, NoDescription, UnreadableTable, Refused, Limit}
 use Rattle.stack_deliver.specs.StateViews.{state_of}
 use Rattle.stack_snapshot.specs.Origins.{OriginValue, origin_at, file_name}
-use Rattle.stack_snapshot.specs.declared.errors.Field.{Field}
-use Rattle.stack_snapshot.specs.Names.{field_name}
 use Rattle.stack_report.specs.Digits.{hexadecimal, word}
 use Rattle.stack_report.specs.Refusals.{error_name, refusal_text}
 use Rattle.stack_report.specs.Report.{line}
@@ -119,9 +117,6 @@ unfoldable pub backtrace_text : Bool → Bool → List OriginValue → TraceValu
 backtrace_text registers interrupted origins t = frame_lines (form_of registers interrupted origins t) 0 (states_of t) ++ end_line origins t.why
 
 -- ---- the lines in its place
-
-abbrev pub bad_line : Field → List ℕ
-bad_line field = line (codes "bad snapshot: " ++ field_name field)
 
 abbrev pub usage_line : List ℕ
 usage_line = line (codes "usage: backtrace [--registers]")

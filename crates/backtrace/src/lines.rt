@@ -1,7 +1,7 @@
 // The lines of a backtrace.
 ghost use Rattle.std.specs.Prelude.{◌≡◌, ◌≤◌, ◌++◌, IfOk, OnOk, Some};
 ghost use Rattle.stack_deliver.specs.StateViews.{state_of};
-ghost use Rattle.backtrace.specs.Lines.{backtrace_text, bad_line, end_line, frame_line};
+ghost use Rattle.backtrace.specs.Lines.{backtrace_text, end_line, frame_line};
 ghost use Rattle.backtrace.specs.Lines.{frame_lines, frame_text, gap_text, guess_text, inside_of};
 ghost use Rattle.backtrace.specs.Lines.{kept_text, limit_text, no_module_text, number_text};
 ghost use Rattle.backtrace.specs.Lines.{origin_text, place_text, registers_text, rest_text};
@@ -10,8 +10,8 @@ ghost use Rattle.backtrace.specs.Lines.{why_text};
 
 use crate::tracing::Trace;
 use stack_deliver::{Context, DeliverError, Error, Front, Stepped};
-use stack_report::{Report, error_name, labelled_line_of, line_of};
-use stack_snapshot::{Field, Origin, Origins};
+use stack_report::{Report, error_name, line_of};
+use stack_snapshot::{Origin, Origins};
 use std::alloc::{AllocError, Global};
 use std::marker::Model;
 use unwind_arch::x86_64::{R12, R13, R14, R15, RBP, RBX, RSP};
@@ -328,13 +328,6 @@ pub fn backtrace_of(
     put_states(&mut report, &form, trace)?;
     put_end(&mut report, origins, trace.why())?;
     Ok(report)
-}
-
-/// Says which field of a snapshot is faulty.
-pub fn bad_line(alloc: Global, field: Field) -> Result<Report, AllocError>
-    ensures { IfOk result (λ report. report ≡ bad_line field) }
-{
-    labelled_line_of(alloc, "bad snapshot: ", field.name())
 }
 
 /// Says which words there are.

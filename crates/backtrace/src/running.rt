@@ -1,10 +1,10 @@
 // One run of the program, from its words and its input to its output.
 ghost use Rattle.std.specs.Prelude.{◌≡◌, ◌≢◌, ◌⊎◌, ◌+◌, ◌^◌, ◌≤◌, ◌<◌, [], ℕ, List, IfOk, IfSome};
-ghost use Rattle.std.specs.Prelude.{IsSome, MatchResult, None, Some, Err, length};
-ghost use Rattle.std.specs.Io.KnownBytes.{Appends, IsAtEnd, Keeps};
+ghost use Rattle.std.specs.Prelude.{IsSome, MatchResult, None, Some, Err, length, ⊤};
+ghost use Rattle.std.specs.Io.KnownBytes.{Appends, Keeps};
 ghost use Rattle.memory_image.specs.Ends.{Rose};
-ghost use Rattle.command_ends.specs.Ends.{ConsumesAtMost};
-ghost use Rattle.command_ends.specs.Verdicts.{Tells, IsReady, IsReadyOrFailed, ReadsWhole, verdict};
+ghost use Rattle.command_ends.specs.Answers.{AnswersBytes, KeepsToEnds, LeavesSource};
+ghost use Rattle.command_ends.specs.Verdicts.{Tells, IsReady, IsReadyOrFailed, verdict};
 ghost use Rattle.command_ends.specs.Verdicts.{ComesExactly};
 ghost use Rattle.stack_snapshot.specs.declared.errors.Field.{Field};
 ghost use Rattle.stack_snapshot.specs.Content.{Content};
@@ -16,42 +16,14 @@ ghost use Rattle.backtrace.specs.Lines.{usage_line};
 ghost use Rattle.backtrace.specs.Due.{Asks, IsBacktrace, IsBacktraceBy, IsBacktraceOf, IsTraceOf};
 ghost use Rattle.backtrace.specs.Due.{bytes_due, content_due, due_of, text_of};
 
-use crate::lines::{backtrace_of, bad_line, usage_line};
+use crate::lines::{backtrace_of, usage_line};
 use crate::tracing::trace_stack;
 use crate::words::{Options, options_of};
-use command_ends::{ReadFailure, Status, Words, read_all, tell};
+use command_ends::{Answer, Status, Words, fault_answer, read_input, tell, text_answer};
 use memory_image::{Sink, Source};
-use stack_report::{Report, line_of};
+use stack_report::Report;
 use stack_snapshot::{Origins, Snapshot, SnapshotError, read_named_snapshot};
 use std::alloc::{AllocError, Global};
-
-/// What is to be written, and the status once it is.
-#[derive(Drop)]
-struct Answer {
-    status: Status,
-    text: Report,
-}
-
-/// An answer without text.
-fn silent_answer(alloc: Global, status: Status) -> Answer
-    ensures { (result.status ≡ status) × (result.text ≡ []) }
-{
-    Answer {
-        status,
-        text: Report::new(alloc),
-    }
-}
-
-/// The answer with the text, unless memory ran out.
-fn text_answer(alloc: Global, status: Status, text: Result<Report, AllocError>) -> Answer
-    ensures { MatchResult text (λ report. (result.status ≡ status) × (result.text ≡ report))
-        (λ _. (result.status ≡ Status.Memory) × (result.text ≡ [])) }
-{
-    match text {
-        Ok(text) => Answer { status, text },
-        Err(AllocError) => silent_answer(alloc, Status::Memory),
-    }
-}
 
 /// The backtrace of a snapshot.
 fn backtrace_text(
@@ -71,14 +43,11 @@ fn backtrace_text(
 
 /// The answer to all bytes of the source. They are let go before anything is traced.
 fn bytes_answer(alloc: Global, options: Options, bytes: Vec<u8>) -> Answer
-    ensures answer { IsReady (content_due result.text (content_of bytes.items)) result.status
+    ensures answer { AnswersBytes (content_due result.text (content_of bytes.items)) result.status
         result.text }
     ensures backtrace { result.status ≡ Status.Done → IsBacktraceBy (Some options)
         (content_of bytes.items) (origins_by (value_of bytes.items)) result.text }
-    ensures kind { (result.status ≢ Status.Usage) × (result.status ≢ Status.ReadFault) ×
-        (result.status ≢ Status.WriteFault) × (result.status ≢ Status.TooLong) ×
-        (result.status ≢ Status.Refused) }
-    ensures silent { result.status ≡ Status.Memory → result.text ≡ [] }
+    ensures kind { (result.status ≢ Status.TooLong) × (result.status ≢ Status.Refused) }
 {
     let named = read_named_snapshot(alloc, &bytes);
     drop(bytes);
@@ -88,17 +57,7 @@ fn bytes_answer(alloc: Global, options: Options, bytes: Vec<u8>) -> Answer
             Status::Done,
             backtrace_text(alloc, options, &snapshot, &origins),
         ),
-        Err(SnapshotError::NoMemory) => silent_answer(alloc, Status::Memory),
-        Err(SnapshotError::NotJson) => text_answer(
-            alloc,
-            Status::NotJson,
-            line_of(alloc, "not json"),
-        ),
-        Err(SnapshotError::Bad(field)) => text_answer(
-            alloc,
-            Status::BadSnapshot,
-            bad_line(alloc, field),
-        ),
+        Err(error) => fault_answer(alloc, error),
     }
 }
 
@@ -110,22 +69,12 @@ fn input_answer<I: Source>(alloc: Global, options: Options, input: &mut I) -> An
         result.text) }
     ensures kind { (result.status ≢ Status.Usage) × (result.status ≢ Status.WriteFault) ×
         (result.status ≢ Status.Refused) }
-    ensures silent { (result.status ≡ Status.Memory) ⊎ (result.status ≡ Status.ReadFault) →
-        result.text ≡ [] }
-    ensures fault { result.status ≡ Status.ReadFault →
-        Rose (I.faults input.old) (I.faults input.new) }
-    ensures ended { ReadsWhole result.status → IsAtEnd (I.left input.new) }
-    ensures bound { ConsumesAtMost (I.left input.old) (I.left input.new) (2 ^ 26 + 1) }
+    ensures leaves { LeavesSource ⊤ result.status result.text
+        (Rose (I.faults input.old) (I.faults input.new)) (I.left input.old) (I.left input.new) }
 {
-    match read_all(alloc, input) {
+    match read_input(alloc, input) {
         Ok(bytes) => bytes_answer(alloc, options, bytes),
-        Err(ReadFailure::Fault) => silent_answer(alloc, Status::ReadFault),
-        Err(ReadFailure::Memory) => silent_answer(alloc, Status::Memory),
-        Err(ReadFailure::TooLong) => text_answer(
-            alloc,
-            Status::TooLong,
-            line_of(alloc, "too long"),
-        ),
+        Err(answer) => answer,
     }
 }
 
@@ -137,15 +86,11 @@ fn decide<I: Source>(alloc: Global, words: &Words, input: &mut I) -> Answer
     ensures usage { options_of words.now ≡ None →
         IsReady (verdict Status.Usage usage_line) result.status result.text }
     ensures no_other { result.status ≡ Status.Usage → options_of words.now ≡ None }
-    ensures silent { (result.status ≡ Status.Memory) ⊎ (result.status ≡ Status.ReadFault) →
-        result.text ≡ [] }
-    ensures fault { result.status ≡ Status.ReadFault →
-        Rose (I.faults input.old) (I.faults input.new) }
+    ensures leaves { LeavesSource (IsSome (options_of words.now)) result.status result.text
+        (Rose (I.faults input.old) (I.faults input.new)) (I.left input.old) (I.left input.new) }
     ensures unread { options_of words.now ≡ None →
         (result.status ≢ Status.ReadFault) × Keeps (I.left input.old) (I.left input.new) }
     ensures kind { (result.status ≢ Status.WriteFault) × (result.status ≢ Status.Refused) }
-    ensures ended { ReadsWhole result.status → IsAtEnd (I.left input.new) }
-    ensures bound { ConsumesAtMost (I.left input.old) (I.left input.new) (2 ^ 26 + 1) }
 {
     match options_of(words) {
         Some(options) => input_answer(alloc, options, input),
@@ -185,9 +130,12 @@ pub fn run<I: Source, O: Sink>(
         Tells (verdict Status.Usage usage_line) result (O.holds output.old) (O.holds output.new) }
     ensures unread { options_of words.now ≡ None →
         (result ≢ Status.ReadFault) × Keeps (I.left input.old) (I.left input.new) }
-    // Without memory, and after a fault of the source, nothing is written.
-    ensures silent { (result ≡ Status.Memory) ⊎ (result ≡ Status.ReadFault) →
-        Appends (O.holds output.old) (O.holds output.new) [] }
+    // Without memory, and after a fault of the source, nothing is written; a fault is answered only
+    // where one rose; and the source is read to its end where the status says so.
+    ensures ends { KeepsToEnds (IsSome (options_of words.now)) result
+        (Rose (I.faults input.old) (I.faults input.new))
+        (Rose (O.faults output.old) (O.faults output.new)) (I.left input.old) (I.left input.new)
+        (O.holds output.old) (O.holds output.new) }
     ensures too_long { IfSome (I.left input.old)
         (λ bytes. ComesExactly result Status.TooLong (IsSome (options_of words.now) ×
         (2 ^ 26 < length bytes))) }
@@ -199,14 +147,6 @@ pub fn run<I: Source, O: Sink>(
         (length bytes ≤ 2 ^ 26) ×
         ((field : Field) × (content_of bytes ≡ Err (SnapshotError.Bad field))))) }
     ensures no_refusal { result ≢ Status.Refused }
-    // A fault is answered only where one rose.
-    ensures read_fault { result ≡ Status.ReadFault →
-        Rose (I.faults input.old) (I.faults input.new) }
-    ensures write_fault { result ≡ Status.WriteFault →
-        Rose (O.faults output.old) (O.faults output.new) }
-    // How much of the source was read.
-    ensures ended { ReadsWhole result → IsAtEnd (I.left input.new) }
-    ensures bound { ConsumesAtMost (I.left input.old) (I.left input.new) (2 ^ 26 + 1) }
 {
     let answer = decide(alloc, words, input);
     tell(output, answer.status, answer.text.bytes())

@@ -1,13 +1,15 @@
-//! The two ends of a command that reads a source whole and writes one answer to a sink: its words, the source's bytes
-//! within a limit, the sink's front where a write fails, and the status of the run.
+//! What the commands share, each of which reads a snapshot whole and writes one answer: the words, the source's bytes within
+//! a limit, what is answered where they are no snapshot, the sink's front where a write fails, and the status of the run.
 #![tactic(auto)]
 
+mod answer;
 mod status;
 mod streams;
 mod telling;
 mod words;
 
+pub use answer::{Answer, bad_line, fault_answer, read_input, silent_answer, text_answer};
 pub use status::Status;
 pub use streams::{ReadFailure, read_all, write_all};
 pub use telling::tell;
-pub use words::Words;
+pub use words::{Words, words_of};

@@ -2,6 +2,8 @@
 ghost use Rattle.std.specs.Prelude.{◌≡◌, ◌++◌, ◌∷◌, [], OnOk, OnErr, map, string_bytes};
 
 use std::alloc::{AllocError, Global};
+use std::env;
+use std::io::ErrorKind;
 use std::marker::Model;
 
 /// The words after the program's name. Contracts see the bytes of each.
@@ -47,5 +49,30 @@ impl Words {
         ensures { map (λ word. string_bytes word) result.now ≡ self.now }
     {
         &self.words
+    }
+}
+
+/// The words after the program's name. For words that aren't all UTF-8 an empty one stands, which no
+/// command names.
+///
+/// # Errors
+///
+/// `AllocError` where memory ran out.
+pub fn words_of(rt: &HostRuntime) -> Result<Words, AllocError> {
+    let mut words = Words::new(rt.alloc());
+    match env::args(rt) {
+        Ok(list) => {
+            for word in list.skip(1) {
+                words.push(word.as_str())?;
+            }
+            Ok(words)
+        }
+        Err(error) => match error.kind() {
+            ErrorKind::OutOfMemory => Err(AllocError),
+            _ => {
+                words.push("")?;
+                Ok(words)
+            }
+        },
     }
 }

@@ -1,6 +1,7 @@
 -- When a status comes.
 use Rattle.std.proofs.Common.{inl, inr, ◌≡◌, ◌≢◌, ℕ, ◌^◌, ◌<◌, ◌≤◌, Bool, true, false, List, length, Option, Some, None, Result, Ok, Err, refl, sym, subst, ◌∙◌, ltb, arith}
 use Rattle.std.specs.Prelude.{◌⊎◌, IsSome, codes, if◌then◌else◌}
+use Rattle.std.specs.Result.{result_err}
 use Rattle.std.proofs.lemmas.Bool.{le-ltb, lt-ltb}
 use Rattle.std.proofs.lemmas.Bool.Decides.{nat_tests}
 use Rattle.unwind_arch.specs.declared.x86_64.Context.{Context}
@@ -13,15 +14,20 @@ use Rattle.stack_snapshot.specs.declared.errors.SnapshotError.TheVariants as fau
 use Rattle.command_ends.specs.declared.status.Status.{Status}
 use Rattle.command_ends.specs.declared.status.Status.TheVariants.{Done, ReadFault, WriteFault, TooLong, NotJson, BadSnapshot, Refused, Memory}
 use Rattle.unwind_cli.specs.declared.words.Task.{Task}
-use Rattle.unwind_cli.specs.declared.words.Task.TheVariants.{Deliver, Walk}
+use Rattle.unwind_cli.specs.declared.words.Task.TheVariants.{Deliver, Walk, Fold, Core}
 use Rattle.unwind_cli.specs.declared.words.Command.{Command}
 use Rattle.unwind_cli.specs.declared.words.Command.TheVariants.{OnSnapshot, Generate}
 use Rattle.unwind_cli.specs.Commands.{task_in}
 use Rattle.stack_snapshot.specs.Answers.{content_of}
 use Rattle.stack_snapshot.specs.Content.{Content}
+use Rattle.stack_snapshot.specs.Sampled.{SampledContent, sampled_in}
 use Rattle.stack_report.specs.Report.{line}
 use Rattle.command_ends.specs.Verdicts.{Verdict, verdict, Tells, Yields, ComesExactly}
-use Rattle.unwind_cli.specs.Due.{delivery_from, walk_from, refused_due, delivery_due, walk_due, snapshot_due, content_due, bytes_due, command_due, Refuses}
+use Rattle.stack_snapshot.specs.Cores.{CoreContent, core_content_of}
+use Rattle.stack_snapshot.specs.declared.cores.CoreSnapshotError.{CoreSnapshotError}
+use Rattle.stack_snapshot.specs.declared.cores.CoreSnapshotError.TheVariants as causes
+use Rattle.command_ends.specs.Answers.{fault_due}
+use Rattle.unwind_cli.specs.Due.{delivery_from, walk_from, refused_due, delivery_due, walk_due, folded_due, fault_of, read_due, core_due, core_fault, task_due, bytes_due, command_due, Refuses, RefusesCore}
 
 -- ---- what is answered
 
@@ -44,47 +50,84 @@ refused_is : (P : Status → Type 0) → P Memory → P Refused → (e : Deliver
 refused_is P memory refused NoMemory = memory
 refused_is P memory refused e = refused
 
-snapshot_is : (P : Status → Type 0) → P Done → P Memory → P Refused → (task : Task) (s : Content) → P (snapshot_due task s).status
-snapshot_is P done memory refused Deliver s = go (delivery_from s)
+delivery_is : (P : Status → Type 0) → P Done → P Memory → P Refused → (r : Result DeliveryValue DeliverError) → P (delivery_due r).status
+delivery_is P done memory refused (Ok d) = done
+delivery_is P done memory refused (Err e) = refused_is P memory refused e
+
+walk_is : (P : Status → Type 0) → P Done → P Memory → P Refused → (r : Result (List Context) DeliverError) → P (walk_due r).status
+walk_is P done memory refused (Ok cs) = done
+walk_is P done memory refused (Err e) = refused_is P memory refused e
+
+-- what is due, by what is read or by why nothing is
+read_is : {A : Type 0} (P : Status → Option SnapshotError → Type 0) (due : A → Verdict) → ((s : A) → P (due s).status None) → ((e : SnapshotError) → P (fault_due e).status (Some e))
+    → (r : Result A SnapshotError) → P (read_due due r).status (result_err r)
+read_is P due good bad (Ok s) = good s
+read_is P due good bad (Err e) = bad e
+
+core_is : (P : Status → Option SnapshotError → Type 0) → P Done None → P Refused None → ((e : SnapshotError) → P (fault_due e).status (Some e)) → (r : Result CoreContent CoreSnapshotError) → P (core_due r).status (core_fault r)
+core_is P done refused bad (Ok c) = done
+core_is P done refused bad (Err (causes.Snapshot e)) = bad e
+core_is P done refused bad (Err (causes.Core e)) = refused
+core_is P done refused bad (Err (causes.Region i)) = refused
+
+task_is : (P : Status → Option SnapshotError → Type 0) → P Done None → P Memory None → P Refused None → ((e : SnapshotError) → P (fault_due e).status (Some e)) → (task : Task) (bytes : List ℕ)
+    → P (task_due task bytes).status (fault_of (Some task) bytes)
+task_is P done memory refused bad Deliver bytes = read_is P (λ s. delivery_due (delivery_from s)) (λ s. delivery_is (λ x. P x None) done memory refused (delivery_from s)) bad (content_of bytes)
+task_is P done memory refused bad Walk bytes = read_is P (λ s. walk_due (walk_from s)) (λ s. walk_is (λ x. P x None) done memory refused (walk_from s)) bad (content_of bytes)
+task_is P done memory refused bad Fold bytes = read_is P folded_due (λ s. done) bad (sampled_in bytes)
+task_is P done memory refused bad Core bytes = core_is P done refused bad (core_content_of bytes)
+
+task_short : (task : Task) (bytes : List ℕ) → (task_due task bytes).status ≢ TooLong
+task_short = task_is (λ x o. x ≢ TooLong) (λ e. cc) (λ e. cc) (λ e. cc) bad
   where
-    go : (r : Result DeliveryValue DeliverError) → P (delivery_due r).status
-    go (Ok d) = done
-    go (Err e) = refused_is P memory refused e
-snapshot_is P done memory refused Walk s = go (walk_from s)
+    bad : (e : SnapshotError) → (fault_due e).status ≢ TooLong
+    bad (faults.Bad field) = λ e. cc
+    bad faults.NotJson = λ e. cc
+    bad faults.NoMemory = λ e. cc
+
+task_unread : (task : Task) (bytes : List ℕ) → (task_due task bytes).status ≡ NotJson → fault_of (Some task) bytes ≡ Some faults.NotJson
+task_unread = task_is (λ x o. x ≡ NotJson → o ≡ Some faults.NotJson) (λ e. absurd cc) (λ e. absurd cc) (λ e. absurd cc) bad
   where
-    go : (r : Result (List Context) DeliverError) → P (walk_due r).status
-    go (Ok cs) = done
-    go (Err e) = refused_is P memory refused e
+    bad : (e : SnapshotError) → (fault_due e).status ≡ NotJson → Some e ≡ Some faults.NotJson
+    bad (faults.Bad field) e = absurd cc
+    bad faults.NotJson e = refl
+    bad faults.NoMemory e = absurd cc
 
-content_short : (task : Task) (r : Result Content SnapshotError) → (content_due task r).status ≢ TooLong
-content_short task (Ok s) = snapshot_is (λ x. x ≢ TooLong) (λ e. cc) (λ e. cc) (λ e. cc) task s
-content_short task (Err (faults.Bad field)) = λ e. cc
-content_short task (Err faults.NotJson) = λ e. cc
-content_short task (Err faults.NoMemory) = λ e. cc
+unread_task : (task : Task) (bytes : List ℕ) → fault_of (Some task) bytes ≡ Some faults.NotJson → (task_due task bytes).status ≡ NotJson
+unread_task = task_is (λ x o. o ≡ Some faults.NotJson → x ≡ NotJson) (λ e. absurd cc) (λ e. absurd cc) (λ e. absurd cc) bad
+  where
+    bad : (e : SnapshotError) → Some e ≡ Some faults.NotJson → (fault_due e).status ≡ NotJson
+    bad (faults.Bad field) e = absurd cc
+    bad faults.NotJson e = refl
+    bad faults.NoMemory e = absurd cc
 
-content_unread : (task : Task) (r : Result Content SnapshotError) → (content_due task r).status ≡ NotJson → r ≡ Err faults.NotJson
-content_unread task (Ok s) is = absurd (snapshot_is (λ x. x ≢ NotJson) (λ e. cc) (λ e. cc) (λ e. cc) task s is)
-content_unread task (Err (faults.Bad field)) is = absurd cc
-content_unread task (Err faults.NotJson) is = refl
-content_unread task (Err faults.NoMemory) is = absurd cc
+task_faulty : (task : Task) (bytes : List ℕ) → (task_due task bytes).status ≡ BadSnapshot → (field : Field) × (fault_of (Some task) bytes ≡ Some (faults.Bad field))
+task_faulty = task_is (λ x o. x ≡ BadSnapshot → (field : Field) × (o ≡ Some (faults.Bad field))) (λ e. absurd cc) (λ e. absurd cc) (λ e. absurd cc) bad
+  where
+    bad : (e : SnapshotError) → (fault_due e).status ≡ BadSnapshot → (field : Field) × (Some e ≡ Some (faults.Bad field))
+    bad (faults.Bad field) e = (field, refl)
+    bad faults.NotJson e = absurd cc
+    bad faults.NoMemory e = absurd cc
 
-content_faulty : (task : Task) (r : Result Content SnapshotError) → (content_due task r).status ≡ BadSnapshot → (field : Field) × (r ≡ Err (faults.Bad field))
-content_faulty task (Ok s) is = absurd (snapshot_is (λ x. x ≢ BadSnapshot) (λ e. cc) (λ e. cc) (λ e. cc) task s is)
-content_faulty task (Err (faults.Bad field)) is = (field, refl)
-content_faulty task (Err faults.NotJson) is = absurd cc
-content_faulty task (Err faults.NoMemory) is = absurd cc
+faulty_task : (field : Field) (task : Task) (bytes : List ℕ) → fault_of (Some task) bytes ≡ Some (faults.Bad field) → (task_due task bytes).status ≡ BadSnapshot
+faulty_task field = task_is (λ x o. o ≡ Some (faults.Bad field) → x ≡ BadSnapshot) (λ e. absurd cc) (λ e. absurd cc) (λ e. absurd cc) bad
+  where
+    bad : (e : SnapshotError) → Some e ≡ Some (faults.Bad field) → (fault_due e).status ≡ BadSnapshot
+    bad (faults.Bad other) e = refl
+    bad faults.NotJson e = absurd cc
+    bad faults.NoMemory e = absurd cc
 
 -- ---- what is due for all bytes
 
 -- either too many bytes, or what they say
-bytes_are : (P : Status → Type 0) (task : Task) (bytes : List ℕ) → (2 ^ 26 < length bytes → P TooLong) → (length bytes ≤ 2 ^ 26 → P (content_due task (content_of bytes)).status) → P (bytes_due task bytes).status
+bytes_are : (P : Status → Type 0) (task : Task) (bytes : List ℕ) → (2 ^ 26 < length bytes → P TooLong) → (length bytes ≤ 2 ^ 26 → P (task_due task bytes).status) → P (bytes_due task bytes).status
 bytes_are P task bytes long short = go (ltb (2 ^ 26) (length bytes)) refl
   where
-    go : (b : Bool) → ltb (2 ^ 26) (length bytes) ≡ b → P (if b then verdict TooLong (line (codes "too long")) else content_due task (content_of bytes)).status
+    go : (b : Bool) → ltb (2 ^ 26) (length bytes) ≡ b → P (if b then verdict TooLong (line (codes "too long")) else task_due task bytes).status
     go true is = long (grind (arith, nat_tests))
     go false is = short (grind (arith, nat_tests))
 
-short_due : (task : Task) (bytes : List ℕ) → length bytes ≤ 2 ^ 26 → bytes_due task bytes ≡ content_due task (content_of bytes)
+short_due : (task : Task) (bytes : List ℕ) → length bytes ≤ 2 ^ 26 → bytes_due task bytes ≡ task_due task bytes
 short_due task bytes short = rw (le-ltb (2 ^ 26) (length bytes) short) refl
 
 -- ---- too many bytes
@@ -95,7 +138,7 @@ IsTooLong task bytes = IsSome task × (2 ^ 26 < length bytes)
 long_cause : (o : Option Command) (bytes : List ℕ) (probes : ℕ) → (command_due o bytes probes).status ≡ TooLong → IsTooLong (task_in o) bytes
 long_cause None bytes probes is = absurd cc
 long_cause (Some (OnSnapshot task)) bytes probes is =
-    (refl, bytes_are (λ x. x ≡ TooLong → 2 ^ 26 < length bytes) task bytes (λ long e. long) (λ short e. absurd (content_short task (content_of bytes) e)) is)
+    (refl, bytes_are (λ x. x ≡ TooLong → 2 ^ 26 < length bytes) task bytes (λ long e. long) (λ short e. absurd (task_short task bytes e)) is)
 long_cause (Some (Generate count seed)) bytes probes is = absurd cc
 
 long_due : (o : Option Command) (bytes : List ℕ) (probes : ℕ) → IsTooLong (task_in o) bytes → (command_due o bytes probes).status ≡ TooLong
@@ -106,40 +149,44 @@ long_due (Some (Generate count seed)) bytes probes is = absurd (let some : IsSom
 -- ---- no JSON text
 
 abbrev pub IsUnread : Option Task → List ℕ → Type 0
-IsUnread task bytes = IsSome task × (length bytes ≤ 2 ^ 26) × (content_of bytes ≡ Err faults.NotJson)
+IsUnread task bytes = IsSome task × (length bytes ≤ 2 ^ 26) × (fault_of task bytes ≡ Some faults.NotJson)
 
 unread_cause : (o : Option Command) (bytes : List ℕ) (probes : ℕ) → (command_due o bytes probes).status ≡ NotJson → IsUnread (task_in o) bytes
 unread_cause None bytes probes is = absurd cc
 unread_cause (Some (OnSnapshot task)) bytes probes is =
-    bytes_are (λ x. x ≡ NotJson → IsUnread (Some task) bytes) task bytes (λ long e. absurd cc) (λ short e. (refl, short, content_unread task (content_of bytes) e)) is
+    bytes_are (λ x. x ≡ NotJson → IsUnread (Some task) bytes) task bytes (λ long e. absurd cc) (λ short e. (refl, short, task_unread task bytes e)) is
 unread_cause (Some (Generate count seed)) bytes probes is = absurd cc
 
 unread_due : (o : Option Command) (bytes : List ℕ) (probes : ℕ) → IsUnread (task_in o) bytes → (command_due o bytes probes).status ≡ NotJson
 unread_due None bytes probes is = absurd (let some : IsSome {T = Task} None = is.0 in cc)
-unread_due (Some (OnSnapshot task)) bytes probes is = rw (le-ltb (2 ^ 26) (length bytes) is.1, is.2) refl
+unread_due (Some (OnSnapshot task)) bytes probes is = rw (le-ltb (2 ^ 26) (length bytes) is.1) (unread_task task bytes is.2)
 unread_due (Some (Generate count seed)) bytes probes is = absurd (let some : IsSome {T = Task} None = is.0 in cc)
 
 -- ---- a faulty field
 
 abbrev pub IsFaulty : Option Task → List ℕ → Type 0
-IsFaulty task bytes = IsSome task × (length bytes ≤ 2 ^ 26) × ((field : Field) × (content_of bytes ≡ Err (faults.Bad field)))
+IsFaulty task bytes = IsSome task × (length bytes ≤ 2 ^ 26) × ((field : Field) × (fault_of task bytes ≡ Some (faults.Bad field)))
 
 faulty_cause : (o : Option Command) (bytes : List ℕ) (probes : ℕ) → (command_due o bytes probes).status ≡ BadSnapshot → IsFaulty (task_in o) bytes
 faulty_cause None bytes probes is = absurd cc
 faulty_cause (Some (OnSnapshot task)) bytes probes is =
-    bytes_are (λ x. x ≡ BadSnapshot → IsFaulty (Some task) bytes) task bytes (λ long e. absurd cc) (λ short e. (refl, short, content_faulty task (content_of bytes) e)) is
+    bytes_are (λ x. x ≡ BadSnapshot → IsFaulty (Some task) bytes) task bytes (λ long e. absurd cc) (λ short e. (refl, short, task_faulty task bytes e)) is
 faulty_cause (Some (Generate count seed)) bytes probes is = absurd cc
 
 faulty_due : (o : Option Command) (bytes : List ℕ) (probes : ℕ) → IsFaulty (task_in o) bytes → (command_due o bytes probes).status ≡ BadSnapshot
 faulty_due None bytes probes is = absurd (let some : IsSome {T = Task} None = is.0 in cc)
-faulty_due (Some (OnSnapshot task)) bytes probes is = let f = is.2 in rw (le-ltb (2 ^ 26) (length bytes) is.1, f.1) refl
+faulty_due (Some (OnSnapshot task)) bytes probes is = let f = is.2 in rw (le-ltb (2 ^ 26) (length bytes) is.1) (faulty_task f.0 task bytes f.1)
 faulty_due (Some (Generate count seed)) bytes probes is = absurd (let some : IsSome {T = Task} None = is.0 in cc)
 
 -- ---- a task that is refused
 
 -- a snapshot was read, and the task on it meets an error other than out of memory
+abbrev pub RefusesSnapshot : Option Task → List ℕ → Type 0
+RefusesSnapshot task bytes = (s : Content) × (content_of bytes ≡ Ok s) × ((error : DeliverError) × (error ≢ NoMemory) × Refuses task s error)
+
+-- so it is, or a core file isn't taken
 abbrev pub IsRefused : Option Task → List ℕ → Type 0
-IsRefused task bytes = IsSome task × (length bytes ≤ 2 ^ 26) × ((s : Content) × (content_of bytes ≡ Ok s) × ((error : DeliverError) × (error ≢ NoMemory) × Refuses task s error))
+IsRefused task bytes = IsSome task × (length bytes ≤ 2 ^ 26) × (RefusesSnapshot task bytes ⊎ RefusesCore task bytes)
 
 some_error : (e : DeliverError) → (refused_due e).status ≡ Refused → e ≢ NoMemory
 some_error e is same = let m : (refused_due NoMemory).status ≡ Refused = subst (λ (x : DeliverError). (refused_due x).status ≡ Refused) same is in absurd cc
@@ -156,27 +203,59 @@ walk_refused : (r : Result (List Context) DeliverError) → (walk_due r).status 
 walk_refused (Ok cs) is = absurd cc
 walk_refused (Err e) is = (e, some_error e is, refl)
 
-content_refused : (task : Task) (r : Result Content SnapshotError) → (content_due task r).status ≡ Refused → (s : Content) × (r ≡ Ok s) × ((error : DeliverError) × (error ≢ NoMemory) × Refuses (Some task) s error)
-content_refused Deliver (Ok s) is = (s, refl, delivery_refused (delivery_from s) is)
-content_refused Walk (Ok s) is = (s, refl, walk_refused (walk_from s) is)
-content_refused task (Err (faults.Bad field)) is = absurd cc
-content_refused task (Err faults.NotJson) is = absurd cc
-content_refused task (Err faults.NoMemory) is = absurd cc
+task_refused : (task : Task) (bytes : List ℕ) → (task_due task bytes).status ≡ Refused → RefusesSnapshot (Some task) bytes ⊎ RefusesCore (Some task) bytes
+task_refused Deliver bytes is = go (content_of bytes) refl is
+  where
+    go : (r : Result Content SnapshotError) → content_of bytes ≡ r → (read_due (λ s. delivery_due (delivery_from s)) r).status ≡ Refused → RefusesSnapshot (Some Deliver) bytes ⊎ ⊥
+    go (Ok s) at is = inl (s, at, delivery_refused (delivery_from s) is)
+    go (Err (faults.Bad field)) at is = absurd cc
+    go (Err faults.NotJson) at is = absurd cc
+    go (Err faults.NoMemory) at is = absurd cc
+task_refused Walk bytes is = go (content_of bytes) refl is
+  where
+    go : (r : Result Content SnapshotError) → content_of bytes ≡ r → (read_due (λ s. walk_due (walk_from s)) r).status ≡ Refused → RefusesSnapshot (Some Walk) bytes ⊎ ⊥
+    go (Ok s) at is = inl (s, at, walk_refused (walk_from s) is)
+    go (Err (faults.Bad field)) at is = absurd cc
+    go (Err faults.NotJson) at is = absurd cc
+    go (Err faults.NoMemory) at is = absurd cc
+task_refused Fold bytes is = absurd (go (sampled_in bytes) is)
+  where
+    go : (r : Result SampledContent SnapshotError) → (read_due folded_due r).status ≡ Refused → ⊥
+    go (Ok s) is = cc
+    go (Err (faults.Bad field)) is = cc
+    go (Err faults.NotJson) is = cc
+    go (Err faults.NoMemory) is = cc
+task_refused Core bytes is = inr (go (core_content_of bytes) refl is)
+  where
+    go : (r : Result CoreContent CoreSnapshotError) → core_content_of bytes ≡ r → (core_due r).status ≡ Refused → RefusesCore (Some Core) bytes
+    go (Ok c) at is = absurd cc
+    go (Err (causes.Snapshot (faults.Bad field))) at is = absurd cc
+    go (Err (causes.Snapshot faults.NotJson)) at is = absurd cc
+    go (Err (causes.Snapshot faults.NoMemory)) at is = absurd cc
+    go (Err (causes.Core error)) at is = inl (error, at)
+    go (Err (causes.Region i)) at is = inr (i, at)
 
 refused_cause : (o : Option Command) (bytes : List ℕ) (probes : ℕ) → (command_due o bytes probes).status ≡ Refused → IsRefused (task_in o) bytes
 refused_cause None bytes probes is = absurd cc
 refused_cause (Some (OnSnapshot task)) bytes probes is =
-    bytes_are (λ x. x ≡ Refused → IsRefused (Some task) bytes) task bytes (λ long e. absurd cc) (λ short e. (refl, short, content_refused task (content_of bytes) e)) is
+    bytes_are (λ x. x ≡ Refused → IsRefused (Some task) bytes) task bytes (λ long e. absurd cc) (λ short e. (refl, short, task_refused task bytes e)) is
 refused_cause (Some (Generate count seed)) bytes probes is = absurd cc
 
-refused_content : (task : Task) (s : Content) (error : DeliverError) → error ≢ NoMemory → Refuses (Some task) s error → (content_due task (Ok s)).status ≡ Refused
-refused_content Deliver s error other is = rw is (error_due error other)
-refused_content Walk s error other is = rw is (error_due error other)
+refused_task : (task : Task) (bytes : List ℕ) → RefusesSnapshot (Some task) bytes ⊎ RefusesCore (Some task) bytes → (task_due task bytes).status ≡ Refused
+refused_task Deliver bytes (inl (s, reads, (error, other, is))) = rw (reads, is) (error_due error other)
+refused_task Deliver bytes (inr is) = absurd is
+refused_task Walk bytes (inl (s, reads, (error, other, is))) = rw (reads, is) (error_due error other)
+refused_task Walk bytes (inr is) = absurd is
+refused_task Fold bytes (inl (s, reads, (error, other, is))) = absurd is
+refused_task Fold bytes (inr is) = absurd is
+refused_task Core bytes (inl (s, reads, (error, other, is))) = absurd is
+refused_task Core bytes (inr (inl (error, is))) = rw is refl
+refused_task Core bytes (inr (inr (i, is))) = rw is refl
 
 refused_for : (o : Option Command) (bytes : List ℕ) (probes : ℕ) → IsRefused (task_in o) bytes → (command_due o bytes probes).status ≡ Refused
-refused_for None bytes probes is = let r = is.2 in absurd r.2.2
-refused_for (Some (OnSnapshot task)) bytes probes is = let r = is.2 in let e = r.2 in rw (le-ltb (2 ^ 26) (length bytes) is.1, r.1) (refused_content task r.0 e.0 e.1 e.2)
-refused_for (Some (Generate count seed)) bytes probes is = let r = is.2 in absurd r.2.2
+refused_for None bytes probes is = absurd (let some : IsSome {T = Task} None = is.0 in cc)
+refused_for (Some (OnSnapshot task)) bytes probes is = rw (le-ltb (2 ^ 26) (length bytes) is.1) (refused_task task bytes is.2)
+refused_for (Some (Generate count seed)) bytes probes is = absurd (let some : IsSome {T = Task} None = is.0 in cc)
 
 -- ---- when each of them is answered
 

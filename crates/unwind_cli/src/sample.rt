@@ -1,6 +1,7 @@
 // Snapshots whose tables describe a chain, that of the stored run and others, and what is due for
 // them.
-ghost use Rattle.std.specs.Prelude.{◌≡◌, [], ◌∷◌, codes};
+ghost use Rattle.std.specs.Prelude.{◌≡◌, [], ◌∷◌, ◌++◌, Some, IsFalse, IsTrue, codes, slice_get};
+ghost use Rattle.std.specs.List.{Contains};
 ghost use Rattle.unwind_definitions.specs.State.{Shows};
 ghost use Rattle.unwind_definitions.specs.Chain.{states_of};
 ghost use Rattle.unwind_definitions.specs.Delivery.{delivery_of};
@@ -20,6 +21,20 @@ ghost use Rattle.stack_snapshot.specs.Answers.{content_of};
 ghost use Rattle.unwind_cli.specs.FramePointer as frame_pointer;
 ghost use Rattle.unwind_cli.specs.Allocated as allocated;
 ghost use Rattle.unwind_cli.specs.Caught as caught;
+ghost use Rattle.core_walks.specs.Lines.{stopped_text, text_before, text_after};
+ghost use Rattle.folded_stacks.specs.Folding.{chain_stack};
+ghost use Rattle.folded_stacks.specs.FoldSample.{sample_at};
+ghost use Rattle.stack_report.specs.Folds.{fold_report_of};
+ghost use Rattle.stack_snapshot.specs.Cores.{core_space_of, threads_of};
+ghost use Rattle.stack_snapshot.specs.Described.{DescribesFormatStop};
+ghost use Rattle.stack_snapshot.specs.Sampled.{sampled_space};
+ghost use Rattle.stack_steps.specs.Stopped.{StartsFormatStop};
+ghost use Rattle.stack_steps.specs.StopSample.{after_the_push, stopped_at};
+ghost use Rattle.stack_walks.specs.Walking.{StartsFormatChain};
+ghost use Rattle.unwind_cli.specs.Due.{AsksCore, AsksFold, fold_from};
+ghost use Rattle.unwind_cli.specs.Stopped.{stopped, stopped_json, core, core_json, core_text};
+ghost use Rattle.unwind_cli.specs.Stopped.{stopped_sample, sampled};
+ghost use Rattle.unwind_cli.specs.Stopped.{sampled_json, sampled_text};
 
 /// The snapshot of the stored run meets what `run` asks of a described chain, and the text that is
 /// then due is this one.
@@ -131,4 +146,38 @@ pub fn listed_call_is_described()
     ensures call { IsDescribedCall (process_of (space_of caught.by_header)) three.functions
         three.start three.first_call }
     ensures shows { Shows (columns_of caught.by_header.start) three.start }
+{}
+
+/// A snapshot that was stopped after the push of a function that pushes RBX meets what `run` asks of
+/// a stop in a described function, from its bytes on.
+pub fn stop_is_described()
+    ensures read { Asks task.Walk (codes "walk" ∷ []) (Some stopped_json) stopped }
+    ensures described { DescribesFormatStop stopped (function ∷ []) start after_the_push [] }
+    ensures written { walk_text (states_of start (after_the_push ∷ [])) ≡ walked }
+{}
+
+/// So does a thread of a core file, and the text that is then due is this one.
+pub fn stopped_thread_is_described()
+    ensures read { AsksCore (codes "core" ∷ []) (Some core_json) core }
+    ensures thread { slice_get (threads_of core.file) 0 ≡ Some (stopped_at 0x401006) }
+    ensures described { StartsFormatStop (core_space_of core) (stopped_at 0x401006) core.limit
+        (function ∷ []) start after_the_push [] }
+    ensures written { text_before core 0 ++ stopped_text 0 start (after_the_push ∷ [])
+        ++ text_after core 0 ≡ core_text }
+{}
+
+/// So does one of three samples; another stands after a call in the body of the function, and meets
+/// what is asked of a described chain. The text that is due is this one.
+pub fn samples_are_described()
+    ensures read { AsksFold (codes "fold" ∷ []) (Some sampled_json) sampled }
+    ensures called { Contains sampled.samples (sample_at 0x401006) ×
+        IsFalse (sample_at 0x401006).interrupted ×
+        StartsFormatChain (sampled_space sampled) (sample_at 0x401006).start sampled.limit
+        (function ∷ []) start (after_the_push ∷ []) }
+    ensures stopped { Contains sampled.samples stopped_sample ×
+        IsTrue stopped_sample.interrupted ×
+        StartsFormatStop (sampled_space sampled) stopped_sample.start sampled.limit
+        (function ∷ []) start after_the_push [] }
+    ensures stack { chain_stack start (after_the_push ∷ []) ≡ 0x401006 ∷ [] }
+    ensures written { fold_report_of (fold_from sampled) ≡ sampled_text }
 {}

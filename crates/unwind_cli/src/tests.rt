@@ -1,14 +1,17 @@
 // Whole runs over memory, with what a reader of the formats expects of them. A case is a table's line;
 // one function runs it.
 use super::*;
+use command_ends::Words;
 use memory_image::{MemorySink, MemorySource};
 use std::alloc::{AllocError, Global};
 use std::process::Abort;
 use std::test::Fail;
 
+mod cores;
 mod damage;
 mod deliveries;
 mod ends;
+mod folds;
 mod formats;
 mod generated;
 mod refusals;

@@ -1,13 +1,15 @@
-// What is delivered and walked of a snapshot, over indexes of its frame tables.
+// What is delivered, walked and folded of a snapshot, over indexes of its frame tables.
 ghost use Rattle.std.specs.Prelude.{◌≡◌, ℕ, Bool, List, IfOk};
 ghost use Rattle.unwind_arch.specs.declared.x86_64.Context.{Context};
 ghost use Rattle.stack_walks.specs.Lines.{GivesUnlessNoMemory, line_of};
 ghost use Rattle.stack_deliver.specs.StackDelivery.{stack_delivery};
 ghost use Rattle.stack_snapshot.specs.Content.{space_of};
-ghost use Rattle.unwind_cli.specs.Due.{delivery_from, walk_from};
+ghost use Rattle.stack_snapshot.specs.Sampled.{sampled_space};
+ghost use Rattle.unwind_cli.specs.Due.{delivery_from, fold_from, walk_from};
 
+use folded_stacks::{FoldError, Folded, fold};
 use stack_deliver::{DeliverError, Delivery, Space, Visited, deliver, walk};
-use stack_snapshot::Snapshot;
+use stack_snapshot::{SampledSnapshot, Snapshot};
 use std::alloc::{AllocError, Global};
 
 /// The space of a snapshot, in which its modules are prepared where they can be. Nothing is
@@ -62,4 +64,35 @@ pub fn walk_snapshot(alloc: Global, snapshot: &Snapshot) -> Result<Visited, Deli
         snapshot.interrupted(),
         snapshot.limit(),
     )
+}
+
+/// The space of samples, in which its modules are prepared where they can be. Nothing is answered
+/// otherwise over it.
+fn prepared_sampled_space(
+    alloc: Global,
+    snapshot: &SampledSnapshot,
+) -> Result<Space<'_>, AllocError>
+    ensures { IfOk result (λ space. (limit : ℕ) (c : Context) (interrupted : Bool) →
+        line_of space limit c interrupted ≡
+        line_of (sampled_space snapshot.now) limit c interrupted) }
+{
+    let mut space = snapshot.space(alloc)?;
+    space.prepare()?;
+    Ok(space)
+}
+
+/// The folded stacks of samples.
+///
+/// # Errors
+///
+/// `AllocError` where memory ran out.
+pub fn fold_snapshot(alloc: Global, snapshot: &SampledSnapshot) -> Result<Folded, AllocError>
+    ensures { IfOk result (λ folded. folded ≡ fold_from snapshot.now) }
+{
+    let space = prepared_sampled_space(alloc, snapshot)?;
+    match fold(alloc, &space, snapshot.samples(), snapshot.limit()) {
+        Ok(folded) => Ok(folded),
+        Err(FoldError::NoMemory) => Err(AllocError),
+        Err(FoldError::Limit) => unreachable!(),
+    }
 }

@@ -18,7 +18,7 @@ returns-clause-told g c =
     if_some_both (g.I.Source.left c.args.input.now) (a.status ≡ Done) P Q R
     (λ bytes ready done text is.
     let held : List ℕ → Type 0 = λ t. IsReadyOrFailed (due_of words bytes text) a.status t in
-    c.tell.ensures.told (due_of words bytes text) (subst held (sym same) (ready_with words bytes a.text text a.status ready done is)) (λ silent. same ∙ c.decide-answer.ensures.silent silent) c.decide-answer.ensures.kind.0)
+    c.tell.ensures.told (due_of words bytes text) (subst held (sym same) (ready_with words bytes a.text text a.status ready done is)) (λ silent. same ∙ c.decide-answer.ensures.leaves.0 silent) c.decide-answer.ensures.kind.0)
     c.decide-answer.ensures.answer c.decide-answer.ensures.backtrace
 
 pub returns-clause-done : goal.returns-clause-done
