@@ -4,6 +4,7 @@
 
 mod call_frames;
 mod compact;
+mod folds;
 mod reports;
 mod runs;
 mod walks;
@@ -15,6 +16,7 @@ fn main(rt: HostRuntime) -> Result<()> {
     call_frames::print_row(&rt)?;
     runs::print_caller(&rt)?;
     walks::print_walk(&rt)?;
+    folds::print_stacks(&rt)?;
     reports::print_report(&rt)?;
     compact::print_opcode(&rt)?;
     windows::print_function(&rt)?;

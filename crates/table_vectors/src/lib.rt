@@ -5,6 +5,8 @@
 #[cfg(test)]
 mod asserting;
 #[cfg(test)]
+mod cores;
+#[cfg(test)]
 mod entries;
 #[cfg(test)]
 mod expressions;

@@ -1,0 +1,134 @@
+//! Core files: a worked one, byte by byte, what isn't one, and notes as programs write them.
+
+use crate::asserting::expect_equal;
+use core_file::{AddError, CoreError, CoreFile};
+use memory_image::MemoryImage;
+use std::alloc::{AllocError, Global};
+use std::test::Fail;
+use unwind_arch::x86_64::{RBX, RSP};
+
+// Two program headers from byte 64 on: notes from byte 176 on, and memory at 0x7000 from byte 532 on.
+const HEADERS: &[u8] = b"\
+    \x7fELF\x02\x01\x01\0\0\0\0\0\0\0\0\0\x04\0\x3e\0\x01\0\0\0\
+    \0\0\0\0\0\0\0\0\x40\0\0\0\0\0\0\0\0\0\0\0\0\0\0\0\
+    \0\0\0\0\x40\0\x38\0\x02\0\0\0\0\0\0\0\
+    \x04\0\0\0\x04\0\0\0\xb0\0\0\0\0\0\0\0\0\0\0\0\0\0\0\0\0\0\0\0\0\0\0\0\
+    \x64\x01\0\0\0\0\0\0\0\0\0\0\0\0\0\0\x04\0\0\0\0\0\0\0\
+    \x01\0\0\0\x06\0\0\0\x14\x02\0\0\0\0\0\0\0\x70\0\0\0\0\0\0\0\0\0\0\0\0\0\0\
+    \x10\0\0\0\0\0\0\0\x10\0\0\0\0\0\0\0\x01\0\0\0\0\0\0\0";
+
+// The head of the note of a thread, whose description has 336 bytes.
+const NOTE: &[u8] = b"\x05\0\0\0\x50\x01\0\0\x01\0\0\0CORE\0\0\0\0";
+
+const STACK: &[u8] = b"\x05\0\0\0\0\0\0\0\0\0\0\0\0\0\0\0";
+
+// The worked file: a thread with RBX 9, RIP 0x401006 and RSP 0x7000.
+fn worked_file(alloc: Global) -> Result<Vec<u8>, AllocError> {
+    let mut file = Vec::from_slice(alloc, HEADERS)?;
+    file.extend_from_slice(NOTE)?;
+    file.extend_from_slice(&[0; 152])?;
+    file.extend_from_slice(&9u64.to_le_bytes())?;
+    file.extend_from_slice(&[0; 80])?;
+    file.extend_from_slice(&0x40_1006u64.to_le_bytes())?;
+    file.extend_from_slice(&[0; 16])?;
+    file.extend_from_slice(&0x7000u64.to_le_bytes())?;
+    file.extend_from_slice(&[0; 64])?;
+    file.extend_from_slice(STACK)?;
+    Ok(file)
+}
+
+// Why a file is no core file.
+fn error_of(file: &[u8]) -> Option<CoreError> {
+    CoreFile::parse(file).err()
+}
+
+// The error of the worked file with another byte at an index.
+fn error_with(alloc: Global, index: usize, byte: u8) -> Result<Option<CoreError>, AllocError> {
+    let mut file = worked_file(alloc)?;
+    if let Some(place) = file.get_mut(index) {
+        *place = byte;
+    }
+    Ok(error_of(&file))
+}
+
+#[test]
+fn the_worked_file_is_read(rt: HostRuntime) -> Result<(), Fail> {
+    let file = worked_file(rt.alloc())?;
+    expect_equal(&rt, file.len(), 548);
+    let core = CoreFile::parse(&file)?;
+    expect_equal(&rt, core.segments_len(), 1);
+    expect_equal(&rt, core.segment(0), Some((0x7000, STACK)));
+    expect_equal(&rt, core.segment(1).is_none(), true);
+    expect_equal(&rt, core.segments().count(), 1);
+    let mut threads = core.threads();
+    let thread = threads.next().ok_or("no thread")?;
+    expect_equal(&rt, thread.ra, 0x40_1006);
+    expect_equal(&rt, thread.registers[RBX], 9);
+    expect_equal(&rt, thread.registers[RSP], 0x7000);
+    expect_equal(&rt, threads.next(), None);
+    let mut image = MemoryImage::new(rt.alloc());
+    expect_equal(&rt, core.add_to(&mut image), Ok(()));
+    expect_equal(&rt, image.read_u64(0x7000), Some(5));
+    expect_equal(&rt, core.add_to(&mut image), Err(AddError::Region(0)));
+    Ok(())
+}
+
+#[test]
+fn what_is_no_core_file_is_refused(rt: HostRuntime) -> Result<(), Fail> {
+    let alloc = rt.alloc();
+    let file = worked_file(alloc)?;
+    for (size, error) in [(547, CoreError::Segments), (63, CoreError::Header)] {
+        let part = file.get(..size).ok_or("the file is short")?;
+        expect_equal(&rt, error_of(part), Some(error));
+    }
+    for (index, byte, error) in [
+        (0, 0, CoreError::Header),
+        (16, 2, CoreError::Header),
+        (18, 0x3f, CoreError::Header),
+        (54, 0x40, CoreError::Header),
+        (33, 4, CoreError::Segments),
+        (56, 9, CoreError::Segments),
+        (176, 0xff, CoreError::Notes),
+        (180, 0x51, CoreError::Notes),
+    ] {
+        expect_equal(&rt, error_with(alloc, index, byte)?, Some(error));
+    }
+    let mut many = worked_file(alloc)?;
+    for place in many.iter_mut().skip(56).take(2) {
+        *place = 0xff;
+    }
+    expect_equal(&rt, error_of(&many), Some(CoreError::ManySegments));
+    for (error, text) in [
+        (AddError::Region(3), "the image refuses segment 3"),
+        (AddError::NoMemory, "no memory"),
+    ] {
+        expect_equal(&rt, format!(in alloc; "{error}")?.as_str(), text);
+    }
+    Ok(())
+}
+
+// Whether the worked file with other bytes at some indexes has a thread.
+fn has_thread_with(alloc: Global, others: &[(usize, u8)]) -> Result<bool, AllocError> {
+    let mut file = worked_file(alloc)?;
+    for (index, byte) in others {
+        if let Some(place) = file.get_mut(*index) {
+            *place = *byte;
+        }
+    }
+    match CoreFile::parse(&file) {
+        Ok(core) => Ok(core.threads().next().is_some()),
+        Err(_) => Ok(false),
+    }
+}
+
+#[test]
+fn notes_of_threads_are_known(rt: HostRuntime) -> Result<(), Fail> {
+    let alloc = rt.alloc();
+    // Another type, another name, and a longer one.
+    for (index, byte) in [(184, 3), (188, b'L'), (192, b'X')] {
+        expect_equal(&rt, has_thread_with(alloc, &[(index, byte)])?, false);
+    }
+    // The name without its zero byte, and four bytes more for the description.
+    expect_equal(&rt, has_thread_with(alloc, &[(176, 4), (180, 0x54)])?, true);
+    Ok(())
+}
