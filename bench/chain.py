@@ -158,4 +158,5 @@ def main():
     print(snapshot(count, seed, "--header" in sys.argv[1:]), end="")
 
 
-main()
+if __name__ == "__main__":
+    main()

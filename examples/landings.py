@@ -1,26 +1,57 @@
-"""Commands of gdb that tell what a C++ program does with an exception, in the form of a delivery's report.
+"""Commands of gdb that show what a program does with an exception, in the form of a delivery's report.
 
     gdb -p PID -batch -x ../tools/frames.py -x landings.py -ex "landings"
+    gdb -p PID -batch -x ../tools/frames.py -x landings.py -ex "landings CATCHER"
+    gdb -p PID -batch -x ../tools/frames.py -x landings.py -ex "landings CATCHER 2"
 
-The process waits in `wait_here` (stopped.h). `raised` lets it go on to the throw and selects the
-frame that threw. `landings` does that and then stops at each landing pad: it prints the frames from
-the one that threw to the one that catches, each pad with the stack pointer there, the registers at
-the handler's pad, and a line `resume PAD RETURN` for each cleanup, which holds what the call of
-_Unwind_Resume after it would return to. Everything is read from the running process.
+The process waits in `wait_here` (stopped.h). `raised [COUNT]` lets it go on to its next throw, or to one after that, and selects
+the frame that threw. `landings [CATCHER [COUNT]]` does that and then stops at each landing pad: it prints the frames from the one
+that threw to the one whose name begins with CATCHER (or to the handler's), each pad with the stack pointer there, the registers
+at the handler's pad, and a line `resume PAD RETURN` for each cleanup, which holds what the call of _Unwind_Resume after it would
+return to. Everything is read from the running process.
+
+It stops at the calls that every language makes (Itanium C++ ABI: Exception Handling, "Base ABI"): _Unwind_RaiseException, to
+which a rethrow by _Unwind_Resume_or_Rethrow leads too, _Unwind_SetIP and _Unwind_Resume. A pad is the handler's where its
+stack pointer is the one that the first phase noted in the exception's second private word, as libgcc and LLVM's libunwind do.
+Where _Unwind_RaiseException returns, nothing took the exception. Where the process terminates before a handler's pad, or the
+same exception is raised again, as std::terminate does, the personality ended it, as it does at a function that is noexcept.
 """
 from __future__ import annotations
 
 import gdb
 
+RAISE, SET_PLACE, RESUME = "_Unwind_RaiseException", "_Unwind_SetIP", "_Unwind_Resume"
+# Where C++ ends a process: in the personality, in a pad, and last of all.
+ENDS = ("__cxa_call_terminate", "_ZSt9terminatev", "abort")
+# What is called between the frame that throws and the search: the frames of these are the runtime's.
+RUNTIME = ("_Unwind_", "__cxa_throw", "__cxa_rethrow")
+# The words of an exception before the language's own part: class, a function, and two that belong to the unwinder.
+NOTED_POINTER = 24
+OUTCOMES = {5: "end of stack", 3: "fatal phase 1", 2: "fatal phase 2"}
+WORDS = 2**64
+
 
 def go_on_to(*places: str) -> str:
-    """Lets the process go on to one of the places, functions or `*ADDRESS`, and answers the name of
-    the function in which it stops. A function's name may stand for several, one in each library."""
-    points = [gdb.Breakpoint(place, internal=True) for place in places]
+    """Lets the process go on to one of the places, functions or `*ADDRESS`, and answers which it is. A function's name may
+    stand for several, one in each library. It is answered with no name where the process ends before or stops elsewhere."""
+    points = {place: gdb.Breakpoint(place, internal=True) for place in places if is_known(place)}
     gdb.execute("continue", to_string=True)
-    for point in points:
-        point.delete()
-    return gdb.newest_frame().name() or ""
+    met = [place for place, point in points.items() if point.is_valid() and point.hit_count > 0]
+    for point in points.values():
+        if point.is_valid():
+            point.delete()
+    return met[0] if met else ""
+
+
+def is_known(place: str) -> bool:
+    """Whether a place is an address, or a function that a loaded file has."""
+    if place.startswith("*"):
+        return True
+    try:
+        gdb.decode_line(place)
+        return True
+    except gdb.error:
+        return False
 
 
 def leave_wait() -> None:
@@ -28,71 +59,121 @@ def leave_wait() -> None:
     gdb.execute("set $orig_rax = -1")
 
 
+def register(name: str) -> int:
+    """A register of the newest frame. (gdb's expressions have other types in other languages.)"""
+    return int(gdb.newest_frame().read_register(name)) % WORDS
+
+
+def word_at(address: int) -> int:
+    """A word of the process's memory."""
+    return int.from_bytes(gdb.selected_inferior().read_memory(address, 8).tobytes(), "little")
+
+
 def frame_that_threw() -> gdb.Frame:
-    """The caller of __cxa_throw, which is the caller of _Unwind_RaiseException."""
-    return gdb.newest_frame().older().older()
+    """The innermost frame that isn't the runtime's."""
+    frame = gdb.newest_frame()
+    while frame.older() is not None and (frame.name() or "").startswith(RUNTIME):
+        frame = frame.older()
+    return frame
 
 
-def number(expression: str) -> int:
-    """An unsigned value of the newest frame."""
-    return int(gdb.parse_and_eval(f"(unsigned long) ({expression})")) % 2**64
+class Throw:
+    """An exception that is being thrown: its word, and the pointer that its handler's frame will be known by."""
 
+    def __init__(self, count: int) -> None:
+        """Goes on to the throw with this number."""
+        leave_wait()
+        for number in range(1, count + 1):
+            if go_on_to(RAISE) != RAISE:
+                raise gdb.GdbError(f"landings: the process ended, or stopped elsewhere, before its throw {number}")
+        self.word = register("rdi")
+        self.kind = word_at(self.word)
+        self.back = gdb.newest_frame().older().pc()
+        frame_that_threw().select()
 
-def stop_at_throw() -> str:
-    """Goes on to the throw, and says which exception it is, as options of `snapshot`."""
-    leave_wait()
-    go_on_to("_Unwind_RaiseException")
-    text = f"--exception {number('$rdi'):#x} --class {number('*(unsigned long *) $rdi'):#x}"
-    frame_that_threw().select()
-    return text
+    def options(self) -> str:
+        """Which exception it is, as options of `snapshot`."""
+        return f"--exception {self.word:#x} --class {self.kind:#x}"
 
+    def next_pad(self) -> str:
+        """Goes on to the next landing pad of this exception, or to where there is none: what it met there."""
+        while True:
+            met = go_on_to(SET_PLACE, RAISE, *ENDS, f"*{self.back:#x}")
+            if met == RAISE and register("rdi") != self.word:
+                continue
+            if met != SET_PLACE:
+                return met
+            pad = register("rsi")
+            if go_on_to(f"*{pad:#x}") and register("rax") == self.word:
+                return SET_PLACE
 
-def next_landing() -> bool:
-    """Goes on to the next landing pad, prints it, and answers whether it was a cleanup's."""
-    go_on_to("_Unwind_SetIP")
-    pad = number("$rsi")
-    go_on_to(f"*{pad:#x}")
-    at_pad = f"pad={pad:#x} sp={number('$rsp'):#x}"
-    registers = frame_line(0, gdb.newest_frame()).removeprefix("frame 0 ")
-    returned = f"rax={number('$rax'):#x} rdx={number('$rdx'):#x}"
-    if go_on_to("_Unwind_Resume", "__cxa_begin_catch") == "_Unwind_Resume":
-        print(f"cleanup {at_pad}")
+    def is_at_handler(self) -> bool:
+        """Whether the pad is that of the frame that the first phase found."""
+        return register("rsp") == word_at(self.word + NOTED_POINTER)
+
+    def next_landing(self) -> bool:
+        """Goes on to the next landing pad, prints it, and answers whether it was a cleanup's. Where there is none it prints
+        the outcome."""
+        met = self.next_pad()
+        if met == RAISE or met in ENDS:
+            print("outcome fatal phase 2\nthe personality ended the process")
+            return False
+        if met != SET_PLACE:
+            print(f"outcome {OUTCOMES.get(register('rax') & 0xFFFFFFFF, 'unknown')}" if met else "outcome unknown: the process stopped")
+            return False
+        pad, pointer, registers = register("rip"), register("rsp"), frame_line(0, gdb.newest_frame())
+        returned = f"rax={register('rax'):#x} rdx={register('rdx'):#x}"
+        if self.is_at_handler():
+            print(f"landing {registers.removeprefix('frame 0 ')} {returned}\noutcome installed")
+            return False
+        print(f"cleanup pad={pad:#x} sp={pointer:#x}")
+        while (met := go_on_to(RESUME, *ENDS)) == RESUME and register("rdi") != self.word:
+            pass
+        if met != RESUME:
+            print("outcome fatal phase 2\nthe cleanup ended the process")
+            return False
         print(f"resume {pad:#x} {gdb.newest_frame().older().pc():#x}")
         return True
-    print(f"landing {registers} {returned}")
-    return False
+
+
+def frames_to(frame: gdb.Frame, catcher: str) -> list[tuple[int, str]]:
+    """The stack pointers and the lines of the frames from one to that whose name begins so, or to the outermost."""
+    found: list[tuple[int, str]] = []
+    while frame is not None:
+        if frame.type() not in MADE_UP_FRAMES:
+            found.append((int(frame.read_register("rsp")) % WORDS, frame_line(len(found), frame)))
+        if catcher and frame.name() is not None and frame.name().startswith(catcher):
+            break
+        frame = frame.older()
+    return found
 
 
 class RaisedCommand(gdb.Command):
-    """Go on to the throw, and select the frame that threw."""
+    """Go on to the next throw, or to the one with a number, and select the frame that threw: raised [COUNT]"""
 
     def __init__(self) -> None:
         super().__init__("raised", gdb.COMMAND_RUNNING)
 
     def invoke(self, argument: str, from_tty: bool) -> None:
         """Runs the command."""
-        print(stop_at_throw())
+        print(Throw(int(argument or 1)).options())
 
 
 class LandingsCommand(gdb.Command):
-    """Go on to the throw and through all landing pads: landings CATCHER"""
+    """Go on to the throw and through all landing pads: landings [CATCHER [COUNT]]"""
 
     def __init__(self) -> None:
         super().__init__("landings", gdb.COMMAND_RUNNING)
 
     def invoke(self, argument: str, from_tty: bool) -> None:
         """Runs the command."""
-        marks = stop_at_throw()
-        level, frame = 0, frame_that_threw()
-        while frame is not None:
-            print(frame_line(level, frame))
-            if frame.name() is not None and frame.name().startswith(argument):
-                break
-            level, frame = level + 1, frame.older()
-        while next_landing():
+        words = argument.split()
+        throw = Throw(int(words[1]) if len(words) > 1 else 1)
+        for _, line in frames_to(frame_that_threw(), words[0] if words else ""):
+            print(line)
+        while throw.next_landing():
             pass
-        print("outcome installed")
-        print(marks)
+        print(throw.options())
 
 
 RaisedCommand()

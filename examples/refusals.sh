@@ -42,6 +42,12 @@ without_process() {
     refused 'no such process' 'a.json --interrupted' -p 4194305
     refused 'no process and no core' 'a.json'
     refused 'a program that does not run' 'a.json' "$programs/nested-gcc-O2"
+    refused 'a program that is not there' 'a.json' "$programs/none" "$programs/core"
+    refused 'a core that is not there' 'a.json' "$programs/nested-gcc-O2" "$scratch/none"
+    : > "$scratch/empty"
+    refused 'an empty core' 'a.json' "$programs/nested-gcc-O2" "$scratch/empty"
+    refused 'a core that is text' 'a.json' "$programs/nested-gcc-O2" "$script"
+    refused 'a core that is a program' 'a.json' "$programs/nested-gcc-O2" "$programs/nested-gcc-O0"
 }
 
 of_words() {
@@ -75,10 +81,25 @@ of_files() {
     refused "a core without the program's file" 'a.json' -c "$scratch/core"
     refused 'a core with another program' 'a.json' "$programs/frame_pointer-gcc-O0" "$scratch/core"
     head -c 3000 "$scratch/core" > "$scratch/cut"
-    refused 'a core that was cut off' 'a.json' "$programs/nested-gcc-O2" "$scratch/cut"
+    refused 'a core that was cut off before its notes' 'a.json' "$programs/nested-gcc-O2" "$scratch/cut"
+    refused 'a core before its program' 'a.json' "$scratch/core" "$programs/nested-gcc-O2"
     start "$scratch/stripped"
     taken 'a stripped program' 'a.json' -p "$started"
     taken 'a core with its program' 'a.json' "$programs/nested-gcc-O2" "$scratch/core"
+}
+
+# A core that the system wrote, where it writes one here, has its notes before its memory.
+of_cores() {
+    mkdir "$scratch/system"
+    cd "$scratch/system"
+    ulimit -c unlimited
+    start "$programs/nested-gcc-O2"
+    kill -SEGV "$started"
+    wait "$started" 2> /dev/null
+    [ -e core* ] || return "$failed"
+    head -c 100000 core* > "$scratch/cut"
+    taken 'a core that was cut off in its memory' 'a.json' "$programs/nested-gcc-O2" "$scratch/cut"
+    return "$failed"
 }
 
 # Where gdb may not trace the process: it runs as another user, or another gdb traces it.
@@ -112,6 +133,7 @@ without_process
 of_words
 of_files
 of_32_bits
+(of_cores) || failed=1
 (without_room; exit "$failed") || failed=1
 of_permission
 exit "$failed"

@@ -1,7 +1,8 @@
-/* Ten threads: the first waits for the others, and each of those in calls of another depth. */
+/* Ten threads, or as many as its argument says: the first waits for the others, and these in calls of nine depths. */
 #define _GNU_SOURCE
 #include <pthread.h>
 #include <stdio.h>
+#include <stdlib.h>
 
 #include "stopped.h"
 
@@ -21,12 +22,13 @@ static void *run(void *depth) {
     return (void *)countdown((long)depth);
 }
 
-int main(void) {
-    pthread_t threads[9];
-    for (long i = 0; i < 9; i++) {
-        pthread_create(&threads[i], NULL, run, (void *)(i + 1));
+int main(int count, char **words) {
+    static pthread_t threads[1000];
+    long others = count > 1 ? strtol(words[1], NULL, 10) - 1 : 9;
+    for (long i = 0; i < others && i < 1000; i++) {
+        pthread_create(&threads[i], NULL, run, (void *)(i % 9 + 1));
     }
-    for (int i = 0; i < 9; i++) {
+    for (long i = 0; i < others && i < 1000; i++) {
         pthread_join(threads[i], NULL);
     }
     return 0;

@@ -1,13 +1,13 @@
 #!/usr/bin/env bash
-# Prints the backtrace of a process or a core: gdb takes the snapshot, backtrace finds its frames, and
-# names.py names them.
+# Prints the backtrace of a process or a core.
 #
 #   backtrace.sh PID [--threads]
 #   backtrace.sh PROGRAM CORE [--threads]
 #
-# BACKTRACE names the built program where it isn't crates/backtrace/out/backtrace. Where that isn't built,
-# unwind_cli (UNWIND_CLI, crates/unwind_cli/out/unwind_cli) walks the snapshot; it prints no frame where a
-# stack can't be walked to its end.
+# Of a process gdb takes the snapshot, backtrace finds its frames, and names.py names them. BACKTRACE names the
+# built program where it isn't crates/backtrace/out/backtrace. Where that isn't built, unwind_cli (UNWIND_CLI,
+# crates/unwind_cli/out/unwind_cli) walks the snapshot; it prints no frame where a stack can't be walked to
+# its end. A core is read without gdb, by core_backtrace.py: all threads in one run of unwind_cli.
 set -uo pipefail
 tools=$(cd "$(dirname "$0")" && pwd)
 backtrace=${BACKTRACE:-$tools/../crates/backtrace/out/backtrace}
@@ -18,8 +18,8 @@ usage() {
     exit 2
 }
 
-# Leaves gdb's words for the process or the core in `asked`, the program's file in `file`, and the option
-# for all threads in `threads`.
+# Leaves gdb's words for the process in `asked`, its program's file in `file`, and the option for all threads
+# in `threads`. A core's backtrace is printed at once.
 read_words() {
     threads=
     if [ "${*: -1}" = --threads ]; then
@@ -29,7 +29,7 @@ read_words() {
     case $#:${1:-} in
         1:*[!0-9]* | 1:) usage ;;
         1:*) asked=(-p "$1") file=/proc/$1/exe ;;
-        2:*) asked=("$1" "$2") file=$1 ;;
+        2:*) exec python3 -S "$tools/core_backtrace.py" "$1" "$2" $threads --unwind-cli "$unwind_cli" ;;
         *) usage ;;
     esac
 }

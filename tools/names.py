@@ -3,11 +3,13 @@
 
     names.py REPORT SNAPSHOT [FILE]...        REPORT may be -, for standard input
 
-REPORT is what `backtrace` or `unwind_cli walk` prints. SNAPSHOT is what it was made of: a snapshot, or
-a thread's file of `snapshot DIR --threads`. Its modules name the files, whose symbols and debug information give the names: by `llvm-symbolizer` or, where
-there is none, by `addr2line` (Debian: llvm, binutils), with debug information that lies apart in
-/usr/lib/debug. A file whose build id isn't that of the snapshot is not asked; a FILE that has it is,
-where the module's own is gone (/proc/PID/exe, while the process lives).
+REPORT is what `backtrace`, `unwind_cli walk` or `unwind_cli core` prints, or several such after one another, each after a line
+that begins with `thread` or `Thread`. SNAPSHOT is what it was made of: a snapshot, a thread's file of `snapshot DIR --threads`,
+for several threads the `tables.json` beside it, samples, or what `tools/core.py` makes. Its modules name the files, whose
+symbols and debug information give the names: by `llvm-symbolizer` or, where there is none, by `addr2line` (Debian: llvm,
+binutils), with debug information that lies apart in /usr/lib/debug; without either by the symbols alone. A file whose build id
+isn't that of the snapshot is not asked; a FILE that has it is, where the module's own is gone (/proc/PID/exe, while the process
+lives).
 
     #0 0x401137 in inner at nested.c:12     a function with debug information
     #1 caller at nested.c:20                one that the function above was inlined into
@@ -15,27 +17,43 @@ where the module's own is gone (/proc/PID/exe, while the process lives).
     #3 0x7f5c01234567 in libplain.so+0x1567    no symbol
     #4 <signal handler called>
 
-The last line is why there are no more frames, unless the last one is the outermost.
+The last line is why there are no more frames, unless the last one is the outermost. Where the snapshot says that code has no
+frame table, a frame that was guessed from it is marked so, and the last line names the file. Other tools ask `names_of`.
 """
 from __future__ import annotations
 
-import bisect
 import os
 import re
-import shutil
 import signal
-import subprocess
 import sys
-from dataclasses import dataclass, field
+from dataclasses import dataclass
+from typing import Iterator
 
-from elf_image import WORD, ElfImage, Function, Refused
+from elf_image import WORD, Refused
 from frame_table import Table, frame_table_of_header, signal_trampolines
-from snapshot_file import Object, Region, read_snapshot, regions_of
+from plain_names import plain_name
+from snapshot_file import TABLES, Object, Region, read_snapshot, regions_of
+from symbols import (
+    SUPPLIED, Module, Place, Symbols, demangled, function_at, has_lines, has_symbolizer, known_line, module_at, names_of,
+    places_of, symbols_at,
+)
 
-DEBUG_FOLDER = "/usr/lib/debug/.build-id"
+# What other tools take from here.
+__all__ = [
+    "Module", "Place", "ReportedFrame", "Symbols", "all_symbols", "backtrace", "demangled", "function_at", "has_lines",
+    "known_line", "last_line", "module_at", "modules_of", "names_of", "parts_of", "places_of", "plain_name", "reported_frames",
+    "texts_of", "trampolines_of",
+]
+
 # A frame of a backtrace, with what is said of it; or of a walk, where that outside of the outermost one returns to 0.
 FRAME_LINE = re.compile(r"^#\d+ +(0x[0-9a-f]+)\b.*?( \(.*\))?$|^frame \d+ ra=(?!0x0 )(0x[0-9a-f]+) ")
+THREAD_LINE = re.compile(r"^[Tt]hread ")
+NO_MODULE = re.compile(r"end: no module holds (0x[0-9a-f]+)$")
 OUTERMOST = ("end: the outermost frame, which returns to 0", "end")
+GUESSED = " (return address on the stack)"
+
+# Before a CIE's augmentation stands its version. Tables without an S there have no signal's frame, and aren't read.
+OF_SIGNALS = re.compile(rb"[\x01\x03\x04][A-Za-z]*S[A-Za-z]*\0")
 
 
 @dataclass(frozen=True)
@@ -49,45 +67,29 @@ class ReportedFrame:
 
 
 @dataclass(frozen=True)
-class Place:
-    """A function and, where debug information tells them, a file and its line."""
+class Part:
+    """What a report says of one thread, and the line before it, where there is one."""
 
-    function: str
-    line: str | None = None
-
-
-@dataclass(frozen=True)
-class Module:
-    """A module of a snapshot."""
-
-    path: str
-    bias: int
-    start: int
-    end: int
-    build_id: str | None
-
-
-@dataclass
-class Symbols:
-    """What is known of a module's addresses: places of debug information, and functions by address."""
-
-    places: dict[int, list[Place]] = field(default_factory=dict)
-    functions: list[Function] = field(default_factory=list)
+    head: str | None
+    text: str
 
 
 # ---- report and snapshot
 
 
+def module_from(entry: Object) -> Module | None:
+    """A module or a piece of code of a snapshot, where it says which file it is of."""
+    if "path" not in entry or "bias" not in entry:
+        return None
+    start = int(entry["start" if "start" in entry else "base"], 16)
+    end = int(entry["end"], 16) if "end" in entry else start + int(entry["size"], 16)
+    return Module(entry["path"], int(entry["bias"], 16), start, end, entry.get("build_id"))
+
+
 def modules_of(found: Object) -> list[Module]:
-    """The modules of a snapshot that say which file they are of."""
-    return [
-        Module(
-            module["path"], int(module["bias"], 16), int(module["start"], 16), int(module["end"], 16),
-            module.get("build_id"),
-        )
-        for module in found["modules"]
-        if "path" in module and "bias" in module
-    ]
+    """The modules of a snapshot that say which file they are of, and then such files without tables."""
+    entries = [*found["modules"], *found.get("code", [])]
+    return [module for entry in entries if (module := module_from(entry)) is not None]
 
 
 def table_from(regions: list[Region], address: int) -> Table | None:
@@ -108,10 +110,31 @@ def trampolines_of(found: Object) -> list[tuple[int, int]]:
             if header is not None:
                 address = frame_table_of_header(header)
             table = None if address is None else table_from(regions, address)
-            trampolines += signal_trampolines(table) if table is not None else []
+            if table is not None and OF_SIGNALS.search(table.content):
+                trampolines += signal_trampolines(table)
         except (KeyError, Refused):
             continue
     return [(place.start, place.end) for place in trampolines]
+
+
+def parts_of(report: str) -> list[Part]:
+    """A report by its threads. One without lines on threads is one part."""
+    parts: list[Part] = []
+    for line in report.splitlines():
+        if THREAD_LINE.match(line):
+            parts.append(Part(line, ""))
+        elif line or parts:
+            last = parts.pop() if parts else Part(None, "")
+            parts.append(Part(last.head, f"{last.text}{line}\n" if line else last.text))
+    return parts
+
+
+def starts_interrupted(found: Object, index: int) -> bool:
+    """Whether a thread of a report begins before its instruction: those of a core, and all where a process was taken whole."""
+    if "samples" in found:
+        samples = found["samples"]
+        return index < len(samples) and bool(samples[index].get("interrupted", False))
+    return bool(found.get("interrupted", "start" not in found))
 
 
 def reported_frames(report: str, interrupted: bool, trampolines: list[tuple[int, int]]) -> list[ReportedFrame]:
@@ -138,155 +161,42 @@ def last_line(report: str) -> str | None:
     return lines[-1] if lines and not lines[-1].startswith(("#", "frame ")) and lines[-1] not in OUTERMOST else None
 
 
-# ---- names
+# ---- code without tables
 
 
-def plain_name(name: str) -> str:
-    """A demangled name without its parameters, its result and Rust's hash, as gdb writes a function."""
-    name = re.sub(r"( const| volatile| &&?| \[clone [^]]*\]|::h[0-9a-f]{16})+$", "", name)
-    name = re.sub(r"\[[0-9a-f]{10,16}\]", "", name)
-    if name.endswith(")"):
-        start = matching_parenthesis(name)
-        if start > 0 and not name.endswith("(anonymous namespace)"):
-            name = name[:start]
-    return without_result(name)
-
-
-def matching_parenthesis(name: str) -> int:
-    """Where the parenthesis begins that the name ends with."""
-    depth = 0
-    for index in range(len(name) - 1, -1, -1):
-        depth += {")": 1, "(": -1}.get(name[index], 0)
-        if depth == 0:
-            return index
-    return 0
-
-
-def without_result(name: str) -> str:
-    """The name behind a template's result, which ends with a space outside of all brackets."""
-    if "operator" in name or " " not in name or name.startswith("<"):
-        return name
-    depth, start = 0, 0
-    for index, letter in enumerate(name):
-        if name[index - 1 : index + 1] != "->":
-            depth += {"<": 1, "(": 1, "{": 1, ">": -1, ")": -1, "}": -1}.get(letter, 0)
-        if letter == " " and depth == 0:
-            start = index + 1
-    return name[start:]
-
-
-def symbolizer(path: str) -> list[str]:
-    """The program that tells places, with its words. Both read addresses and print the same form."""
-    if shutil.which("llvm-symbolizer"):
-        style = ["--output-style=GNU", "--relativenames", "--no-demangle"]
-        return ["llvm-symbolizer", *style, "-a", "-f", "-i", "-e", path]
-    if shutil.which("addr2line"):
-        return ["addr2line", "-a", "-f", "-i", "-e", path]
-    raise Refused("wants llvm-symbolizer or addr2line (Debian: llvm, binutils)")
-
-
-def run_program(words: list[str], text: str) -> str:
-    """What a program prints of a text. One that fails prints nothing."""
-    done = subprocess.run(words, input=text, capture_output=True, text=True, errors="replace", check=False)
-    return done.stdout if done.returncode == 0 else ""
-
-
-def places_of(output: str) -> dict[int, list[Place]]:
-    """The places that a symbolizer tells of each address, the innermost function first.
-
-    An address's line is followed by two for each function: its name, and its file and line.
-    """
-    found: dict[int, list[Place]] = {}
-    here: list[Place] = []
-    function = None
-    for line in output.splitlines():
-        if function is None and re.fullmatch(r"0x[0-9a-f]+", line):
-            here = found.setdefault(int(line, 16), [])
-        elif function is None:
-            function = line
-        else:
-            here.append(Place(plain_name(function), known_line(line)))
-            function = None
-    return found
-
-
-def known_line(text: str) -> str | None:
-    """A file and its line, or nothing where one of them isn't known."""
-    text = re.sub(r" \(discriminator \d+\)$", "", text)
-    return text if re.fullmatch(r"(?!\?\?).+:[1-9]\d*", text) else None
-
-
-def demangled(text: str) -> str:
-    """A text with its symbols as their languages write them. (llvm-symbolizer 14 doesn't know Rust's.)"""
-    return run_program(["c++filt"], text) if shutil.which("c++filt") else text
-
-
-def functions_of(path: str) -> list[Function]:
-    """The functions that a file's symbols name."""
-    try:
-        with open(path, "rb") as stream:
-            return ElfImage(stream).functions()
-    except (OSError, Refused, IndexError):
-        return []
-
-
-def has_build_id(path: str, build_id: str | None) -> bool:
-    """Whether a file is there, and is the one that was loaded as far as it can be told."""
-    try:
-        with open(path, "rb") as stream:
-            return ElfImage(stream).build_id() == build_id
-    except (OSError, Refused, IndexError):
-        return False
-
-
-def symbols_of(files: list[str], build_id: str | None, addresses: list[int]) -> Symbols:
-    """What the first of the files that is the module's tells of addresses."""
-    path = next((file for file in files if has_build_id(file, build_id)), None)
-    if path is None:
-        return Symbols()
-    text = "".join(f"{address:#x}\n" for address in addresses)
-    found = Symbols(places_of(demangled(run_program(symbolizer(path), text))))
-    if not all(has_lines(found, address) for address in addresses):
-        apart = f"{DEBUG_FOLDER}/{build_id[:2]}/{build_id[2:]}.debug" if build_id else ""
-        found.functions = functions_of(apart) or functions_of(path)
-    return found
-
-
-def has_lines(symbols: Symbols, address: int) -> bool:
-    """Whether debug information tells where an address is."""
-    places = symbols.places.get(address, [])
-    return bool(places) and all(place.line is not None for place in places)
-
-
-def function_at(functions: list[Function], address: int) -> str | None:
-    """The name of the function that holds an address. One of unknown size holds those up to the next."""
-    index = bisect.bisect_right(functions, address, key=lambda function: function.start) - 1
-    for function in reversed(functions[max(index - 8, 0) : index + 1]):
-        if address < function.end or function.start == function.end == functions[index].start:
-            return function.name
+def why_without_table(found: Object, address: int) -> str | None:
+    """What a snapshot says of an address in code that none of its modules has."""
+    for entry in found.get("code", []):
+        if int(entry["start"], 16) <= address < int(entry["end"], 16):
+            return f"{os.path.basename(entry['path'])} has no frame table" if "path" in entry else "the code there is of no file"
     return None
+
+
+def with_reason(line: str, found: Object) -> str:
+    """A report's last line, with the reason that no module holds an address, where it is known."""
+    match = NO_MODULE.match(line)
+    reason = why_without_table(found, int(match.group(1), 16)) if match else None
+    return f"{line}: {reason}" if reason else line
+
+
+def marked_guesses(frames: list[ReportedFrame], found: Object) -> list[ReportedFrame]:
+    """The frames, with the second marked as a guess where the first stands in code without a table: the word at the stack
+    pointer is a return address at a function's first instruction, as after a call through a null pointer, and seldom else."""
+    if len(frames) < 2 or frames[1].note != GUESSED:
+        return frames
+    reason = why_without_table(found, frames[0].address)
+    note = f" (a guess, the word at the stack pointer: {reason})" if reason else GUESSED
+    second = ReportedFrame(frames[1].counter, frames[1].address, frames[1].is_signal, note)
+    return [frames[0], second, *frames[2:]]
 
 
 # ---- the backtrace
 
 
-def module_at(modules: list[Module], address: int) -> Module | None:
-    """The module that holds an address."""
-    return next((module for module in modules if module.start <= address < module.end), None)
-
-
 def all_symbols(frames: list[ReportedFrame], modules: list[Module], files: list[str]) -> dict[str, Symbols]:
     """What is known of all frames, by the paths of modules. Each is asked once. Of a module
     without a build id no other file is known to be the same."""
-    addresses: dict[Module, set[int]] = {}
-    for frame in frames:
-        module = module_at(modules, frame.address)
-        if module is not None:
-            addresses.setdefault(module, set()).add((frame.address - module.bias) % WORD)
-    return {
-        module.path: symbols_of([module.path, *(files if module.build_id else [])], module.build_id, sorted(here))
-        for module, here in addresses.items()
-    }
+    return symbols_at([frame.address for frame in frames], modules, files)
 
 
 def texts_of(frame: ReportedFrame, modules: list[Module], symbols: dict[str, Symbols], program: str) -> list[str]:
@@ -300,7 +210,7 @@ def texts_of(frame: ReportedFrame, modules: list[Module], symbols: dict[str, Sym
     if has_lines(known, address):
         texts = [f"{place.function} at {place.line}" for place in known.places[address]]
     else:
-        texts = [text_without_line(frame, module, function_at(known.functions, address), program)]
+        texts = [text_without_line(frame, module, known.named.get(address), program)]
     return [f"{frame.counter:#x} in {texts[0]}{frame.note}", *texts[1:]]
 
 
@@ -308,18 +218,42 @@ def text_without_line(frame: ReportedFrame, module: Module, name: str | None, pr
     """A symbol and its library or, where there is no symbol, the module and the offset in it."""
     if name is None:
         return f"{os.path.basename(module.path)}+{(frame.counter - module.bias) % WORD:#x}"
-    return plain_name(demangled(name).strip()) + ("" if module.path == program else f" from {module.path}")
+    return name + ("" if module.path in (program, SUPPLIED) else f" from {module.path}")
+
+
+def program_of(found: Object, modules: list[Module]) -> str:
+    """The path of the program's own file: that of the first module or, where the program has no table, as the snapshot says."""
+    without_table = [entry["path"] for entry in found.get("code", []) if "program" in entry]
+    return without_table[0] if without_table else modules[0].path if modules else ""
+
+
+def backtraces(report: str, found: Object, files: list[str]) -> Iterator[list[str]]:
+    """The lines of each thread's backtrace. All names are asked for at once."""
+    modules, trampolines, parts = modules_of(found), trampolines_of(found), parts_of(report)
+    framed = [
+        marked_guesses(reported_frames(part.text, starts_interrupted(found, index), trampolines), found)
+        for index, part in enumerate(parts)
+    ]
+    symbols = all_symbols([frame for frames in framed for frame in frames], modules, files)
+    program = program_of(found, modules)
+    for part, frames in zip(parts, framed):
+        texts = [text for frame in frames for text in texts_of(frame, modules, symbols, program)]
+        last = last_line(part.text)
+        head = [] if part.head is None else [part.head]
+        yield head + [f"#{level} {text}" for level, text in enumerate(texts)] + ([with_reason(last, found)] if last else [])
 
 
 def backtrace(report: str, found: Object, files: list[str]) -> list[str]:
-    """The lines of the backtrace."""
-    modules = modules_of(found)
-    frames = reported_frames(report, found.get("interrupted", False), trampolines_of(found))
-    symbols = all_symbols(frames, modules, files)
-    program = modules[0].path if modules else ""
-    texts = [text for frame in frames for text in texts_of(frame, modules, symbols, program)]
-    last = last_line(report)
-    return [f"#{level} {text}" for level, text in enumerate(texts)] + ([last] if last else [])
+    """The lines of a backtrace, and of several with an empty line between."""
+    lines: list[str] = []
+    for part in backtraces(report, found, files):
+        lines += ([""] if lines else []) + part
+    return lines
+
+
+def read_tables(file: str) -> Object:
+    """A snapshot, or what all threads of a folder share."""
+    return read_snapshot(os.path.join(file, TABLES) if os.path.isdir(file) else file)
 
 
 def main() -> None:
@@ -327,10 +261,13 @@ def main() -> None:
     if len(sys.argv) < 3:
         sys.exit("usage: names.py REPORT SNAPSHOT [FILE]...")
     signal.signal(signal.SIGPIPE, signal.SIG_DFL)
+    sys.stdout.reconfigure(errors="surrogateescape")
     try:
-        found = read_snapshot(sys.argv[2])
-        with sys.stdin if sys.argv[1] == "-" else open(sys.argv[1], encoding="ascii") as stream:
+        found = read_tables(sys.argv[2])
+        with open(0 if sys.argv[1] == "-" else sys.argv[1], encoding="utf-8", errors="surrogateescape") as stream:
             report = stream.read()
+        if not has_symbolizer():
+            print("names.py: without lines: there is no llvm-symbolizer and no addr2line (Debian: llvm, binutils)", file=sys.stderr)
         print("\n".join(backtrace(report, found, sys.argv[3:])))
     except (Refused, OSError) as error:
         sys.exit(f"names.py: {error}")

@@ -37,6 +37,7 @@ sys.path.insert(0, os.path.dirname(os.path.abspath(__file__)))
 from elf_image import WORD, ElfImage, Range, Refused  # noqa: E402
 from frame_table import Table, personality_cells  # noqa: E402
 from loaded_module import SUPPLIED, Module, module_objects, places_of, taken_line  # noqa: E402
+from named_files import Named, cut_of, fault_of, fault_of_program, named_by, present_memory  # noqa: E402
 from snapshot_file import (  # noqa: E402
     MOST_STATES, TABLES, Object, Region, region_object, text_of, without_overlaps, write_folder, write_whole,
 )
@@ -68,6 +69,7 @@ class LoadedFiles:
     """What gdb's `info files` says: where sections of files lie, and what a core holds."""
 
     program: str | None = None
+    core: str | None = None
     sections: dict[str, dict[str, int]] = field(default_factory=dict)
     core_ranges: list[Range] = field(default_factory=list)
 
@@ -112,7 +114,9 @@ def loaded_files() -> LoadedFiles:
         if line.startswith("Local "):
             in_core = line.startswith("Local core")
         file, section = FILE_LINE.match(line), SECTION_LINE.match(line)
-        if file and not in_core:
+        if file and in_core:
+            found.core = file.group(1)
+        elif file:
             found.program = file.group(1).removeprefix("target:")
         elif section and in_core:
             add_core_range(found, *section.groups())
@@ -166,22 +170,27 @@ def bytes_at(place: Range, what: str) -> bytes:
         raise Refused(f"{what} ({place}) can't be read from memory")
 
 
-def asked_process() -> int | None:
-    """The process that gdb's own words name (-p PID, --pid=PID)."""
-    with open("/proc/self/cmdline", encoding="utf-8", errors="replace") as stream:
-        words = stream.read().split("\0")
-    for word, following in zip(words, words[1:] + [""]):
-        name, _, value = word.partition("=")
-        if name in ("-p", "-pid", "--pid") and (value or following).isdecimal():
-            return int(value or following)
-    return None
+def asked_of_gdb() -> Named:
+    """What gdb's own words name."""
+    with open("/proc/self/cmdline", encoding="utf-8", errors="surrogateescape") as stream:
+        return named_by(stream.read().split("\0")[:-1])
 
 
 def why_no_thread() -> str:
     """Why there is no thread to take."""
-    process = asked_process()
-    if process is None:
-        return "no thread is selected: attach to a process (-p PID), or give a program and its core"
+    named = asked_of_gdb()
+    if named.process is not None:
+        return why_no_process(named.process)
+    if named.core is not None:
+        return fault_of(named) or f"gdb finds no thread in {named.core}"
+    running = f"{named.program} doesn't run: " if named.program is not None else ""
+    return (named.program is not None and fault_of(named)) or (
+        f"no thread is selected: {running}attach to a process (-p PID), or give a program and its core"
+    )
+
+
+def why_no_process(process: int) -> str:
+    """Why gdb has no thread of a process."""
     try:
         owner = os.stat(f"/proc/{process}").st_uid
     except OSError:
@@ -190,14 +199,32 @@ def why_no_thread() -> str:
         return f"the process {process} may not be traced: the process {tracer_of(process)} traces it"
     if owner != os.geteuid():
         return f"the process {process} may not be traced: it is {user_name(owner)}'s"
+    if state_of(process) in UNTRACED:
+        return f"the process {process} may not be traced: {UNTRACED[state_of(process)]}"
     return f"the process {process} may not be traced"
+
+
+# Why a process may not be traced, by its state in /proc/PID/status, where no memory is its own.
+UNTRACED = {"zombie": "it has ended, and waits for its parent (zombie)", "kernel": "it is a thread of the kernel"}
+
+
+def state_of(process: int) -> str:
+    """Whether a process has ended, or is the kernel's: such a one has no memory."""
+    fields = status_of(process)
+    if fields.get("State", "").startswith("Z"):
+        return "zombie"
+    return "" if "VmSize" in fields else "kernel"
+
+
+def status_of(process: int) -> dict[str, str]:
+    """The fields of /proc/PID/status."""
+    with open(f"/proc/{process}/status", encoding="utf-8", errors="replace") as stream:
+        return dict(line.rstrip("\n").split(":\t", 1) for line in stream if ":\t" in line)
 
 
 def tracer_of(process: int) -> int:
     """The process that traces another one, or 0."""
-    with open(f"/proc/{process}/status", encoding="utf-8", errors="replace") as stream:
-        fields = dict(line.rstrip("\n").split(":\t", 1) for line in stream if ":\t" in line)
-    return int(fields.get("TracerPid", "0"))
+    return int(status_of(process).get("TracerPid", "0"))
 
 
 def user_name(user: int) -> str:
@@ -291,8 +318,21 @@ def frames_from(frame: gdb.Frame) -> tuple[list[StackFrame], int | None]:
     return found, None
 
 
+def present_parts(places: list[Range], process: Process) -> list[Range]:
+    """What a core has of stacks: all, where it wasn't cut off."""
+    cut = cut_of(process.files.core) if process.files.core else None
+    if cut is None:
+        return places
+    present = present_memory(process.files.core)
+    parts = [Range(max(place.start, there.start), min(place.end, there.end)) for place in places for there in present]
+    found = [part for part in parts if part.start < part.end]
+    lost = sum(place.end - place.start for place in places) - sum(part.end - part.start for part in found)
+    print(f"{cut}; of the stack {lost} bytes aren't there")
+    return found
+
+
 def stacks_of(frame: gdb.Frame, process: Process, options: argparse.Namespace) -> list[Range]:
-    """What is taken of the stacks that the frame and its callers stand on. A line tells of each."""
+    """What is taken of the stacks that the frame and its callers stand on. A line says of each what is taken."""
     pointer = int(frame.read_register("rsp")) % WORD
     mapped = process.stacks()
     if options.stack_bytes is not None:
@@ -301,6 +341,8 @@ def stacks_of(frame: gdb.Frame, process: Process, options: argparse.Namespace) -
         with frames_above_main():
             frames, end = frames_from(frame)
         found = stack_ranges(frames or [StackFrame(pointer)], end, mapped)
+    if is_core():
+        found = present_parts(found, process)
     for place in found:
         above = " (rsp lies below it: the stack has overflowed)" if pointer < found[0].start else ""
         print(f"takes the stack {place}{above if place == found[0] else ''}")
@@ -370,7 +412,11 @@ def sources_of(process: Process) -> list[Source]:
     if process.files.program is None:
         program = [source.name for source in unlisted if source.opened.endswith("/exe")]
         if not program:
-            raise Refused("gdb knows no program file, and so no modules: name it before the core, or load it by `file`")
+            named = asked_of_gdb()
+            fault = fault_of_program(named.program) if named.program is not None else None
+            raise Refused(
+                fault or "gdb knows no program file, and so no modules: name it before the core, or load it by `file`"
+            )
         process.files.program = program[0]
     return found + unlisted
 
@@ -394,7 +440,37 @@ def check_same(elf: ElfImage, bias: int) -> None:
 
 
 class WithoutTable(Refused):
-    """A file has no frame table, and so nothing that a walk could read."""
+    """A file has no frame table, and so nothing that a walk could read. Its code can still be named."""
+
+    def __init__(self, code: list[Object]) -> None:
+        super().__init__("it has no .eh_frame")
+        self.code = code
+
+
+def code_objects(source: Source, elf: ElfImage, bias: int) -> list[Object]:
+    """What a snapshot says of the code of a file without a frame table, for names."""
+    names = {"path": source.name, "bias": f"{bias:#x}"}
+    build_id = elf.build_id()
+    if build_id is not None:
+        names["build_id"] = build_id
+    return [range_object(place) | names for place in elf.code_ranges(bias)]
+
+
+def range_object(place: Range) -> Object:
+    """A range of addresses as a snapshot spells it."""
+    return {"start": f"{place.start:#x}", "end": f"{place.end:#x}"}
+
+
+# What a mapping that no file has is called: nothing, or of a compiler at run time that maps its code twice so.
+OF_NO_FILE = re.compile(r"^$|^/memfd:|^\[anon")
+
+
+def code_of_no_file(process: Process) -> list[Object]:
+    """What a snapshot says of executable memory that no file has, as compilers at run time make it."""
+    return [
+        range_object(mapping.place) for mapping in process.mappings
+        if "x" in mapping.permissions and OF_NO_FILE.match(mapping.file)
+    ]
 
 
 def cells_of(table: Range) -> list[Range]:
@@ -422,7 +498,7 @@ def module_of(source: Source, process: Process, options: argparse.Namespace) -> 
         code = elf.code_ranges(bias)
         frame_table = elf.section_range(".eh_frame", bias)
         if frame_table is None:
-            raise WithoutTable("it has no .eh_frame")
+            raise WithoutTable(code_objects(source, elf, bias))
         header = elf.section_range(".eh_frame_hdr", bias) if options.header else None
         tables, build_id = elf.language_tables(bias), elf.build_id()
     cells = cells_of(frame_table) if options.exception is not None else []
@@ -448,11 +524,28 @@ def is_needed(source: Source, process: Process, reason: Refused, names: list[str
     return bool(names) or is_program and not isinstance(reason, WithoutTable)
 
 
-def modules_of(process: Process, options: argparse.Namespace) -> list[Module]:
-    """The modules that are asked for. One line tells of each what becomes of it."""
+@dataclass
+class Loaded:
+    """The modules that are taken, and what a snapshot says of code of which none has a table."""
+
+    modules: list[Module] = field(default_factory=list)
+    code: list[Object] = field(default_factory=list)
+
+    def objects(self) -> Object:
+        """The members of a snapshot."""
+        found: Object = {"modules": [entry for module in self.modules for entry in module_objects(module)]}
+        return found | ({"code": self.code} if self.code else {})
+
+    def places(self) -> list[Range]:
+        """The memory that the tables take."""
+        return [place for module in self.modules for place in places_of(module)]
+
+
+def modules_of(process: Process, options: argparse.Namespace) -> Loaded:
+    """The modules that are asked for. A line says of each what becomes of it."""
     sources = sources_of(process)
     check_names(options.module, sources)
-    found = []
+    found = Loaded(code=[] if options.module else code_of_no_file(process))
     for source in sources:
         deleted = DELETED if source.mapping and source.mapping.file.endswith(DELETED) else ""
         if not is_named(source.name, options.module):
@@ -464,10 +557,13 @@ def modules_of(process: Process, options: argparse.Namespace) -> list[Module]:
             if is_needed(source, process, reason, options.module):
                 raise Refused(f"{source.name}{deleted}: {reason}")
             print(f"leaves out {source.name}{deleted}: {reason}")
+            if isinstance(reason, WithoutTable):
+                is_program = {"program": True} if source.name == process.files.program else {}
+                found.code += [entry | is_program for entry in reason.code]
             continue
         print(taken_line(module, deleted))
-        found.append(module)
-    if not found:
+        found.modules.append(module)
+    if not found.modules:
         raise Refused("there is no module to take")
     return found
 
@@ -502,12 +598,9 @@ def snapshot_object(options: argparse.Namespace) -> Object:
     interrupted = is_interrupted(frame) if options.interrupted is None else options.interrupted
     registers = registers_of(frame)
     process = stopped_process()
-    modules = modules_of(process, options)
+    loaded = modules_of(process, options)
     stacks = stacks_of(frame, process, options)
-    places = stacks + [place for module in modules for place in places_of(module)]
-    found: Object = {
-        "regions": regions_at(places),
-        "modules": [entry for module in modules for entry in module_objects(module)],
+    found: Object = {"regions": regions_at(stacks + loaded.places())} | loaded.objects() | {
         "start": start_object(registers),
         "limit": options.limit,
         "interrupted": interrupted,
@@ -539,13 +632,9 @@ def thread_part(thread: gdb.InferiorThread, process: Process, options: argparse.
     }
 
 
-def tables_object(modules: list[Module], options: argparse.Namespace) -> Object:
+def tables_object(loaded: Loaded, options: argparse.Namespace) -> Object:
     """The file that all threads refer to."""
-    return {
-        "regions": regions_at([place for module in modules for place in places_of(module)]),
-        "modules": [entry for module in modules for entry in module_objects(module)],
-        "limit": options.limit,
-    }
+    return {"regions": regions_at(loaded.places())} | loaded.objects() | {"limit": options.limit}
 
 
 def thread_parts(process: Process, options: argparse.Namespace) -> dict[str, Object]:
@@ -572,8 +661,8 @@ def write_threads(options: argparse.Namespace) -> None:
     """Writes the folder with all threads."""
     selected_frame()
     process = stopped_process()
-    modules = modules_of(process, options)
-    parts = {TABLES: tables_object(modules, options)} | thread_parts(process, options)
+    loaded = modules_of(process, options)
+    parts = {TABLES: tables_object(loaded, options)} | thread_parts(process, options)
     write_folder(options.file, {name: text_of(part) for name, part in parts.items()})
     print(f"wrote {options.file}: {len(parts) - 1} threads")
 

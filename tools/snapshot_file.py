@@ -123,7 +123,12 @@ def joined_snapshot(tables: Object, thread: Object) -> Object:
         "limit": tables["limit"],
         "interrupted": thread["interrupted"],
         "thread": thread["thread"],
-    }
+    } | code_of(tables)
+
+
+def code_of(tables: Object) -> Object:
+    """What tables say of code of which no module has a table, where they say it."""
+    return {"code": tables["code"]} if "code" in tables else {}
 
 
 def joined_samples(tables: Object, threads: list[Object]) -> Object:

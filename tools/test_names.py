@@ -1,8 +1,19 @@
-"""Tests of names.py: names as compilers and demanglers write them, and reports."""
-import unittest
+"""Tests of names.py and symbols.py: names as compilers and demanglers write them, what symbolizers print, and reports."""
+from __future__ import annotations
 
-from elf_image import Function
-from names import Place, ReportedFrame, function_at, known_line, last_line, places_of, plain_name, reported_frames
+import os
+import shutil
+import subprocess
+import tempfile
+import unittest
+from unittest import mock
+
+import symbols
+from elf_image import ElfImage, Function
+from names import (
+    Module, Part, Place, ReportedFrame, backtrace, function_at, known_line, last_line, modules_of, names_of, parts_of,
+    places_of, plain_name, reported_frames,
+)
 
 
 class Names(unittest.TestCase):
@@ -12,15 +23,39 @@ class Names(unittest.TestCase):
             "Noted::~Noted()": "Noted::~Noted",
             "(anonymous namespace)::run(int, char**)": "(anonymous namespace)::run",
             "run(int) [clone .cold]": "run",
+            "run(int) (.cold)": "run",
             "Shape::area(int) const": "Shape::area",
-            "main::{lambda(int)#1}::operator()(int) const": "main::{lambda(int)#1}::operator()",
             "void std::sort<int*, bool (*)(int, int)>(int*, int*, bool (*)(int, int))":
                 "std::sort<int*, bool (*)(int, int)>",
-            "std::ostream& operator<<(std::ostream&, int)": "std::ostream& operator<<",
+            "non-virtual thunk to Circle::area(int) const": "non-virtual thunk to Circle::area",
             "boxes::main::{{closure}}::h16ba92bdf487e9d5": "boxes::main::{{closure}}",
             "<boxes::Square as boxes::Shape>::area::h3eb193de980f1e99": "<boxes::Square as boxes::Shape>::area",
             "std[e28293b1aa0f68bd]::rt::lang_start::<()>": "std::rt::lang_start::<()>",
             "core::ops::FnOnce<fn() -> u8>::call": "core::ops::FnOnce<fn() -> u8>::call",
+        }
+        for name, expected in cases.items():
+            with self.subTest(name):
+                self.assertEqual(plain_name(name), expected)
+
+    def test_operators(self) -> None:
+        """As gdb names them in a backtrace of examples/operators.cpp, or of functions declared so."""
+        cases = {
+            "operator()": "operator()",
+            "main::{lambda(int)#1}::operator()(int) const": "main::{lambda(int)#1}::operator()",
+            "operator<<(std::ostream&, int)": "operator<<",
+            "std::basic_ostream<char>& std::operator<< <std::char_traits<char> >(std::basic_ostream<char>&, char const*)":
+                "std::operator<< <std::char_traits<char> >",
+            "bool operator><long>(Depth const&, long)": "operator><long>",
+            "bool operator< <int>(Box<int> const&, Box<int> const&)": "operator< <int>",
+            "Depth::operator long*() const": "Depth::operator long*",
+            "Text::operator std::vector<int, std::allocator<int> >() const":
+                "Text::operator std::vector<int, std::allocator<int> >",
+            "Depth::operator->*(int) const": "Depth::operator->*",
+            "Depth::operator,(int) const": "Depth::operator,",
+            "Depth::operator[](int) const": "Depth::operator[]",
+            "operator delete[](void*)": "operator delete[]",
+            "void apply<&(Left::operator<(Left const&) const)>(int)": "apply<&(Left::operator<(Left const&) const)>",
+            "cooperators(int)": "cooperators",
         }
         for name, expected in cases.items():
             with self.subTest(name):
@@ -76,6 +111,84 @@ class Reports(unittest.TestCase):
     def test_last_lines(self) -> None:
         self.assertIsNone(last_line(self.REPORT))
         self.assertEqual(last_line("refused: frame limit\n"), "refused: frame limit")
+
+    def test_reports_of_threads(self) -> None:
+        report = "thread 0\nframe 0 ra=0x100 sp=0x1\nend\nthread 1\nrefused: unmapped 0x8\n"
+        expected = [Part("thread 0", "frame 0 ra=0x100 sp=0x1\nend\n"), Part("thread 1", "refused: unmapped 0x8\n")]
+        self.assertEqual(parts_of(report), expected)
+        self.assertEqual(parts_of(self.REPORT), [Part(None, self.REPORT)])
+        self.assertEqual(parts_of("Thread 7 a:\nend\n\nThread 8 b:\nend\n"), [Part("Thread 7 a:", "end\n"), Part("Thread 8 b:", "end\n")])
+        found = {"regions": [], "modules": [], "core": ""}
+        lines = ["thread 0", "#0 0x100 in ??", "", "thread 1", "refused: unmapped 0x8"]
+        self.assertEqual(backtrace(report, found, []), lines)
+
+    def test_code_without_a_table(self) -> None:
+        found = {"regions": [], "modules": [], "interrupted": True, "start": {},
+                 "code": [{"start": "0x100", "end": "0x200", "path": "/none/go", "bias": "0x0"}, {"start": "0x300", "end": "0x400"}]}
+        guess = "#0  0x0000000000000{0}10\n#1  0x00000000000000c3 (return address on the stack)\nend: no module holds 0x0000000000000{0}10\n"
+        note = "(a guess, the word at the stack pointer: {0})"
+        cases = {"1": ("go+0x110", "go has no frame table"), "3": ("??", "the code there is of no file")}
+        for digit, (name, reason) in cases.items():
+            with self.subTest(reason):
+                lines = [f"#0 0x{digit}10 in {name}", f"#1 0xc3 in ?? {note.format(reason)}",
+                         f"end: no module holds 0x0000000000000{digit}10: {reason}"]
+                self.assertEqual(backtrace(guess.format(digit), found, []), lines)
+        lines = ["#0 0x510 in ??", "#1 0xc3 in ?? (return address on the stack)", "end: no module holds 0x0000000000000510"]
+        self.assertEqual(backtrace(guess.format("5"), found, []), lines)
+
+    def test_modules_of_other_kinds(self) -> None:
+        found = {"modules": [{"kind": "pe", "base": "0x1000", "size": "0x20", "path": "a.dll", "bias": "0x0"}]}
+        self.assertEqual(modules_of(found), [Module("a.dll", 0, 0x1000, 0x1020, None)])
+
+
+SOURCE = "int inner(void) { return 1; }\nint outer(void) { return inner() + 1; }\n"
+
+
+@unittest.skipUnless(shutil.which("gcc") and shutil.which("nm"), "wants gcc and nm")
+class Files(unittest.TestCase):
+    """Two files at the same addresses of their own, loaded at different ones. What they have where is by `nm`."""
+
+    @classmethod
+    def setUpClass(cls) -> None:
+        cls.folder = tempfile.TemporaryDirectory()
+        cls.modules, cls.addresses = [], {}
+        for index, options in enumerate((["-g"], [])):
+            path = os.path.join(cls.folder.name, f"lib file{index}.so")
+            words = ["gcc", "-shared", "-fPIC", "-O0", *options, "-o", path, "-x", "c", "-"]
+            subprocess.run(words, input=SOURCE, text=True, check=True)
+            listed = subprocess.run(["nm", path], capture_output=True, text=True, check=True).stdout
+            starts = {line.split()[2]: int(line.split()[0], 16) for line in listed.splitlines() if " T " in line}
+            bias = 0x10000 * (index + 1)
+            with open(path, "rb") as stream:
+                cls.modules.append(Module(path, bias, bias, bias + 0x10000, ElfImage(stream).build_id()))
+            cls.addresses |= {bias + starts[name]: (name, index) for name in ("inner", "outer")}
+
+    @classmethod
+    def tearDownClass(cls) -> None:
+        cls.folder.cleanup()
+
+    def expected(self, with_lines: bool) -> dict[int, list[Place]]:
+        """The names, with lines of the first file alone."""
+        lines = {"inner": "<stdin>:1", "outer": "<stdin>:2"}
+        return {address: [Place(name, lines[name] if with_lines and index == 0 else None)]
+                for address, (name, index) in self.addresses.items()}
+
+    def test_all_are_asked_in_one_run(self) -> None:
+        with mock.patch.object(symbols, "run_program", wraps=symbols.run_program) as run:
+            found = names_of([*self.addresses, 0x9], self.modules)
+        lines = {address: [Place(place.function, place.line and place.line.split("/")[-1]) for place in places]
+                 for address, places in found.items()}
+        self.assertEqual(lines, self.expected(symbols.has_symbolizer()) | {0x9: []})
+        if symbols.program_on_path("llvm-symbolizer"):
+            self.assertEqual(run.call_count, 1)
+
+    def test_without_a_symbolizer(self) -> None:
+        with mock.patch.object(shutil, "which", return_value=None):
+            self.assertEqual(names_of(self.addresses, self.modules), self.expected(False))
+
+    def test_a_file_of_another_build(self) -> None:
+        other = [Module(module.path, module.bias, module.start, module.end, "00") for module in self.modules]
+        self.assertEqual(names_of(self.addresses, other), {address: [] for address in self.addresses})
 
 
 if __name__ == "__main__":

@@ -2,7 +2,7 @@
 import unittest
 from xml.etree import ElementTree
 
-from check_map import crates_of
+from check_docs import crates_of
 from pictures import TOP, layers_of, pictures, steps_down
 
 CRATES = {"low": set(), "other": {"json"}, "middle": {"low"}, "high": {"low", "middle", "other"}}

@@ -1,13 +1,17 @@
 """Tests of docs/snapshot.schema.json: it takes the shipped snapshots, and refuses what the format refuses."""
 import copy
-import importlib.util
 import unittest
 
-from check_schema import faults_of, shipped_files
+from check_schema import SCHEMA, faults_of, nearest, shipped_files
 from snapshot_file import read_object
 
 
-@unittest.skipUnless(importlib.util.find_spec("jsonschema"), "wants jsonschema")
+try:
+    from jsonschema import Draft7Validator
+except ImportError:
+    Draft7Validator = None
+
+
 class Schema(unittest.TestCase):
     def test_the_shipped_snapshots(self) -> None:
         files = shipped_files()
@@ -37,6 +41,41 @@ class Schema(unittest.TestCase):
                 found = copy.deepcopy(whole)
                 change(found)
                 self.assertNotEqual(faults_of(found), [])
+
+    def test_members_that_no_schema_names(self) -> None:
+        whole = read_object(shipped_files()[-1])
+        cases = {
+            "interupted": (lambda found: found.update(interupted=True), "snapshot", "interrupted"),
+            "region": (lambda found: found.update(region=[]), "snapshot", "regions"),
+            "rpi": (lambda found: found["start"].update(rpi="0x1"), "start", "rip"),
+            "ehframe": (lambda found: found["modules"][0].update(ehframe="0x1"), "modules.0", "eh_frame"),
+            "adress": (lambda found: found["regions"][0].update(adress="0x1"), "regions.0", "address"),
+        }
+        for name, (change, place, known) in cases.items():
+            with self.subTest(name):
+                found = copy.deepcopy(whole)
+                change(found)
+                self.assertEqual(faults_of(found), [f'{place}: no member "{name}" is known; the nearest is {known}'])
+        self.assertEqual(nearest("x", []), "")
+
+    def test_what_is_wrong_in_a_module(self) -> None:
+        found = read_object(shipped_files()[-1])
+        module = found["modules"][0]
+        module.update(kind="ELF", end=12)
+        self.assertEqual(faults_of(found), ['modules.0.kind: "ELF" is none of elf, macho, pe', "modules.0.end: 12 is no string"])
+        found["limit"] = 100.0
+        self.assertIn("limit: 100.0 is no integer", faults_of(found))
+
+    @unittest.skipUnless(Draft7Validator, "wants jsonschema")
+    def test_another_reader_of_schemas_takes_and_refuses_the_same(self) -> None:
+        other = Draft7Validator(read_object(SCHEMA))
+        Draft7Validator.check_schema(read_object(SCHEMA))
+        whole = read_object(shipped_files()[-1])
+        for words in ({}, {"limit": 0}, {"limit": True}, {"start": {"rip": "0x1"}}, {"class": "0xg"}, {"resumes": [["0x1"]]},
+                      {"modules": [{"kind": "pe", "base": "0x0"}]}, {"modules": [{"kind": "elf", "start": "0x1", "end": "0x2"}]},
+                      {"thread": {"id": -1}}, {"code": [{"start": "0x1", "end": "0x2", "program": True}]}, {"code": [{}]}):
+            with self.subTest(words):
+                self.assertEqual(faults_of(whole | words) == [], other.is_valid(whole | words))
 
     def test_a_header_and_names_are_taken(self) -> None:
         found = read_object(shipped_files()[-1])

@@ -1,0 +1,98 @@
+#!/usr/bin/env python3
+"""Prints the backtraces of a core: of its first thread, or of all of them.
+
+    core_backtrace.py PROGRAM CORE [--threads] [--unwind-cli PROGRAM] [--root DIR]
+
+It does what core.py, `unwind_cli core` and core_names.py do one by one, with one run of `unwind_cli` and no files. The
+first thread of a core is the one that got the signal. Lines on standard error say what is missing.
+"""
+from __future__ import annotations
+
+import argparse
+import dataclasses
+import json
+import os
+import signal
+import subprocess
+import sys
+
+from core import FAULTS, Source, Taken, check_program, object_of, opened_core, system_image, taken_of
+from core_image import Core
+from core_names import Loaded, ThreadStart, thread_lines, titled
+from elf_image import Refused
+from names import modules_of
+from snapshot_file import MOST_BYTES, MOST_STATES, Object
+
+UNWIND_CLI = os.path.join(os.path.dirname(os.path.abspath(__file__)), "../crates/unwind_cli/out/unwind_cli")
+SYSTEM_PATH = "[vdso]"
+
+
+def short_text(found: Object) -> bytes:
+    """The text in one line. Refuses one that is longer than `unwind_cli` takes."""
+    text = json.dumps(found).encode("ascii")
+    if len(text) > MOST_BYTES:
+        raise Refused(f"its stacks and tables come to {len(text)} bytes of text, and {MOST_BYTES} are taken")
+    return text
+
+
+def report_of(unwind_cli: str, found: Object) -> str:
+    """What `unwind_cli core` prints."""
+    try:
+        done = subprocess.run([unwind_cli, "core"], input=short_text(found), capture_output=True, check=False)
+    except FileNotFoundError:
+        raise Refused(f"{unwind_cli} isn't built: run `rt run < stdin` in crates/unwind_cli")
+    if done.returncode != 0:
+        words = (done.stdout + done.stderr).decode("utf-8", "replace").strip()
+        raise Refused(f"unwind_cli ended with status {done.returncode}: {words}")
+    return done.stdout.decode("ascii")
+
+
+def loaded_of(core: Core, found: Object) -> Loaded:
+    """What names are made of; the core itself has the file that the system maps."""
+    loaded = Loaded(modules_of(found))
+    try:
+        system = system_image(core)
+    except FAULTS:
+        system = None
+    if system is not None:
+        loaded.images[SYSTEM_PATH] = system[0]
+    return loaded
+
+
+def asked_threads(taken: Taken, all_threads: bool) -> Taken:
+    """All threads of a core, or the first one."""
+    if all_threads or len(taken.threads) == 1:
+        return taken
+    first = taken.threads[0]
+    print(f"core: thread 1 of {len(taken.threads)} (LWP {first.number}); --threads prints all", file=sys.stderr)
+    return dataclasses.replace(taken, threads=[first])
+
+
+def printed(options: argparse.Namespace) -> str:
+    """The backtraces."""
+    core = opened_core(options.core)
+    check_program(options.program)
+    taken = asked_threads(taken_of(core, Source(options.program, options.root), None), options.threads)
+    found = object_of(taken, MOST_STATES)
+    starts = [ThreadStart(thread.number, thread.rip) for thread in taken.threads]
+    lines = thread_lines(report_of(options.unwind_cli, found), starts, loaded_of(core, found), core.missing_at)
+    return titled(lines, starts) if options.threads else "\n".join(lines[0])
+
+
+def main() -> None:
+    """Runs the program."""
+    parser = argparse.ArgumentParser(prog="core_backtrace.py", description="Print the backtraces of a core.")
+    parser.add_argument("program", metavar="PROGRAM")
+    parser.add_argument("core", metavar="CORE")
+    parser.add_argument("--threads", action="store_true", help="of all threads, and not of the first alone")
+    parser.add_argument("--unwind-cli", default=os.environ.get("UNWIND_CLI", UNWIND_CLI), metavar="PROGRAM")
+    parser.add_argument("--root", default="", help="the folder of the machine that the core is of")
+    signal.signal(signal.SIGPIPE, signal.SIG_DFL)
+    try:
+        print(printed(parser.parse_args()))
+    except (Refused, OSError) as error:
+        sys.exit(f"core: {error}")
+
+
+if __name__ == "__main__":
+    main()
