@@ -97,9 +97,12 @@ ratio() {
 
 # The most that folding has of the heap. Reading the text takes more, but that is let go before.
 heap() {
-    valgrind --tool=massif --massif-out-file="$work/massif" --max-snapshots=1000 --time-unit=i \
-        "$program" fold <"$work/input" >"$work/told" 2>"$work/log"
-    python3 "$here/heap.py" "$work/massif"
+    local word
+    for word in none fold; do
+        valgrind --tool=massif --massif-out-file="$work/massif-$word" --max-snapshots=1000 --time-unit=i \
+            "$program" "$word" <"$work/input" >"$work/told" 2>"$work/log"
+    done
+    python3 "$here/heap.py" "$work/massif-none" "$work/massif-fold"
 }
 
 # SAMPLES FRAMES [STACKS]: a row of the table.

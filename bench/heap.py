@@ -1,30 +1,32 @@
 #!/usr/bin/env python3
-"""Tells how much the heap rose again after its peak, in a run under massif, by its file.
+"""Tells how much of the heap a part of a program takes at most, by the files of two runs under massif.
 
-    heap.py FILE   the greatest rise, in bytes, between two snapshots after the one with the most bytes
+    heap.py BEFORE WHOLE   BEFORE is a run that ends where the part begins, WHOLE one with the part
 
-A program that reads a text, lets it go and then works on what it read has its peak while it reads; what the work takes is the
-rise after that. massif looks at times of its own, up to --max-snapshots, so what lasts shorter than the time between two of
-them may be missed.
+The two runs are the same up to there (massif with --time-unit=i counts instructions), so what WHOLE has at most after that time,
+less what BEFORE had there, is the part's. massif looks at times of its own, up to --max-snapshots, so what lasts shorter than
+the time between two of them may be missed.
 """
 import re
 import sys
 
 
-def rise(sizes: list[int]) -> int:
-    """The greatest rise after the greatest size."""
-    lowest, most = max(sizes), 0
-    for size in sizes[sizes.index(lowest) :]:
-        lowest = min(lowest, size)
-        most = max(most, size - lowest)
-    return most
+def snapshots(name: str) -> list[tuple[int, int]]:
+    """The time and the size of each snapshot."""
+    with open(name) as lines:
+        text = lines.read()
+    times, sizes = (re.findall(rf"^{word}=(\d+)$", text, re.M) for word in ("time", "mem_heap_B"))
+    return [(int(time), int(size)) for time, size in zip(times, sizes)]
 
 
 def main() -> None:
-    if len(sys.argv) != 2:
+    if len(sys.argv) != 3:
         sys.exit(__doc__)
-    with open(sys.argv[1]) as lines:
-        print(rise([int(size) for size in re.findall(r"^mem_heap_B=(\d+)$", lines.read(), re.M)]))
+    before, whole = (snapshots(name) for name in sys.argv[1:])
+    begin = before[-1][0]
+    # the last snapshots of a run are of its end, where all is let go
+    held = max(size for _, size in before[-4:])
+    print(max(size for time, size in whole if time >= begin) - held)
 
 
 main()
