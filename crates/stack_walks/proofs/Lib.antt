@@ -1,3 +1,4 @@
+pub mod ChainFronts
 pub mod ChainWalked
 pub mod ElfChains
 pub mod FrontAnswers

@@ -93,7 +93,7 @@ finds_none image m rva columns (Ok (Some listed)) ends = absurd (answers (compac
 
 module _ (space : SpaceValue) where
   -- nothing is found for the address by a module's frame table, which doesn't contain it, or by the header that lists it
-  in_no_entry : IsLaidOut 0 space.image → (a : ℕ) (m : Module) (t : FrameInfo) → described.CoversNot space.image (elf_module m.start m.end t) a → (kind : FrameInfoKind) → t.kind ≡ kind → found_by_kind t.text_base kind space.image a ≡ None
+  pub in_no_entry : IsLaidOut 0 space.image → (a : ℕ) (m : Module) (t : FrameInfo) → described.CoversNot space.image (elf_module m.start m.end t) a → (kind : FrameInfoKind) → t.kind ≡ kind → found_by_kind t.text_base kind space.image a ≡ None
   in_no_entry laid a m t u (EhFrameHdr h) named =
       let tables : tables_of t.kind ≡ described.Header h = ap tables_of named in
       let lists : described.IsHeaderTable space.image h u.frame (fdes_of u.entries) = subst (λ (t : described.Tables). described.HeaderLists space.image t u.frame (fdes_of u.entries)) tables u.header in
@@ -109,24 +109,27 @@ module _ (space : SpaceValue) where
       rw (same, none) refl
 
   -- no function of the listing of a Mach-O module covers the address
-  in_no_listing : (a : ℕ) (m : Module) (t : MachoTables) → MachoCoversNot space.image (macho_of m t) a → frame_by_tables space.image a m (Macho t) ≡ Ok None
-  in_no_listing a m t u =
+  pub none_listed : (a : ℕ) (m : Module) (t : MachoTables) → MachoCoversNot space.image (macho_of m t) a → function_at space.image (macho_of m t) (a - m.start) ≡ Ok None
+  none_listed a m t u =
       let ends : macho_step space.image (macho_of m t) (a - m.start) no_columns ≡ Ok None = uncovered_ends space.image (macho_of m t) a no_columns u in
       let found : function_at space.image (macho_of m t) (a - m.start) ≡ lookup_of u.info (a - m.start) = ap (looked_up (a - m.start)) u.parses in
       let steps : macho_step space.image (macho_of m t) (a - m.start) no_columns ≡ stepped_in space.image (macho_of m t) (a - m.start) no_columns (lookup_of u.info (a - m.start)) = ap (found_in space.image (macho_of m t) (a - m.start) no_columns) u.parses in
-      ap (compact_frame (macho_of m t) a) (found ∙ finds_none space.image (macho_of m t) (a - m.start) no_columns (lookup_of u.info (a - m.start)) (sym steps ∙ ends))
+      found ∙ finds_none space.image (macho_of m t) (a - m.start) no_columns (lookup_of u.info (a - m.start)) (sym steps ∙ ends)
+
+  -- nothing covers the address in the module that holds it
+  pub uncovered_there : AreApart 0 space.modules → (a : ℕ) → IsUncoveredBy space.image (formats_of space) a → (m : Module) → module_at space.modules a ≡ Some m → IsUncoveredIn space.image (format_by m m.tables) a
+  uncovered_there apart a free m found =
+      let r = module_at-found space.modules m a found in
+      free (format_of m) (in_formats space.modules m r.0) (inside_format m a (not_empty 0 space.modules m apart r.0) r.1 m.tables)
 
   -- an address that nothing covers ends the stack
   pub by_module : AreApart 0 space.modules → IsLaidOut 0 space.image → (a : ℕ) → IsUncoveredBy space.image (formats_of space) a → (o : Option Module) → module_at space.modules a ≡ o → frame_in space.image a o ≡ Ok None
   by_module apart laid a free None found = refl
-  by_module apart laid a free (Some m) found = by_tables m.tables (free (format_of m) (in_formats space.modules m r.0) (inside_format m a (not_empty 0 space.modules m apart r.0) r.1 m.tables))
+  by_module apart laid a free (Some m) found = by_tables m.tables (uncovered_there apart a free m found)
     where
-      r : Contains space.modules m × IsTrue (contains m a)
-      r = module_at-found space.modules m a found
-
       by_tables : (tables : ModuleTables) → IsUncoveredIn space.image (format_by m tables) a → frame_by_tables space.image a m tables ≡ Ok None
       by_tables (Elf t) u = rw (in_no_entry laid a m t u t.kind refl) refl
-      by_tables (Macho t) u = in_no_listing a m t u
+      by_tables (Macho t) u = ap (compact_frame (macho_of m t) a) (none_listed a m t u)
       by_tables (Pe t) u = absurd u
 
   -- the stack ends where the return address is 0 or no function covers it
@@ -145,7 +148,7 @@ module _ (space : SpaceValue) where
           let asked : address_of_call c.ra false ≡ s.ra - 1 = omega arith in
           rw (nonzero, asked) (by_module apart laid (s.ra - 1) u.1 (module_at space.modules (s.ra - 1)) refl)
 
-  step_ends : AreApart 0 space.modules → IsLaidOut 0 space.image → (functions : List Function) (c : Context) (s : State) → Shows (columns_of c) s → IsEnd space.image (IsUncoveredBy space.image (formats_of space)) functions s → step_of space c false ≡ Ok None
+  pub step_ends : AreApart 0 space.modules → IsLaidOut 0 space.image → (functions : List Function) (c : Context) (s : State) → Shows (columns_of c) s → IsEnd space.image (IsUncoveredBy space.image (formats_of space)) functions s → step_of space c false ≡ Ok None
   step_ends apart laid functions c s shows end = step_is space c false ∙ ap (stepped_by space.image c) (ends apart laid functions c s shows end)
 
   -- a call of a chain is described

@@ -1,11 +1,12 @@
 -- How far a walk comes, and why it ends there.
-use Rattle.std.specs.Prelude.{◌≡◌, ◌≢◌, ◌⊎◌, ℕ, zero, suc, ◌-◌, Bool, List, [], ◌∷◌, Option, Some, None, Result, Ok, Err}
+use Rattle.std.specs.Prelude.{◌≡◌, ◌≢◌, ◌⊎◌, ℕ, zero, suc, ◌-◌, ◌==◌, Bool, List, [], ◌∷◌, Option, Some, None, Result, Ok, Err, if◌then◌else◌}
 use Rattle.memory_image.specs.Image.{Span}
 use Rattle.unwind_definitions.specs.declared.error.Error.{Error as Fault}
 use Rattle.unwind_definitions.specs.Input.{Input}
 use Rattle.unwind_definitions.specs.Pointers.{Bases}
 use Rattle.unwind_definitions.specs.LanguageTable.{input_at}
 use Rattle.unwind_definitions.specs.LanguageSearch.{address_of_call}
+use Rattle.unwind_definitions.specs.State.{State}
 use Rattle.unwind_arch.specs.declared.x86_64.Context.{Context}
 use Rattle.eh_frame.specs.Search.{IsUnreadable, NoneContains}
 use Rattle.fde_finders.specs.declared.custom.FrameInfoKind.{FrameInfoKind}
@@ -153,3 +154,14 @@ Meets space P (suc room) c interrupted =
 abbrev pub ComesTo : Front → SpaceValue → ℕ → Context → Bool → Type 0
 ComesTo Limit space limit c interrupted = NeedsMore space limit c interrupted
 ComesTo why space limit c interrupted = Meets space (EndsFor why space) limit c interrupted
+
+-- ---- why a walk over a described chain ends
+
+-- Nothing covers an address: no module holds it, or the one that does has no description of it.
+abbrev pub front_uncovered : Option Module → ℕ → Front
+front_uncovered None a = NoModule a
+front_uncovered (Some m) a = NoDescription a
+
+-- at the outermost state: it returns to 0, or nothing covers the byte before its return address
+abbrev pub front_of_chain : List Module → State → Front
+front_of_chain modules s = if s.ra == 0 then Outermost else front_uncovered (module_at modules (s.ra - 1)) (s.ra - 1)

@@ -1,8 +1,11 @@
 // How far a walk comes, and why it ends there.
-ghost use Rattle.std.specs.Prelude.{◌≡◌, ◌≢◌, ◌≤◌, ◌↔◌, ℕ, suc, List, [], Ok, Err, false, None};
-ghost use Rattle.std.specs.Prelude.{length, take};
+ghost use Rattle.std.specs.Prelude.{◌≡◌, ◌≢◌, ◌≤◌, ◌↔◌, ◌∷◌, ℕ, suc, List, [], Ok, Err, false, None};
+ghost use Rattle.std.specs.Prelude.{length, take, IsTrue, IsFalse};
 ghost use Rattle.unwind_definitions.specs.declared.error.Error.{Error as Fault};
 ghost use Rattle.unwind_definitions.specs.Scan.{scan};
+ghost use Rattle.unwind_definitions.specs.State.{State};
+ghost use Rattle.unwind_definitions.specs.Function.{Function};
+ghost use Rattle.unwind_definitions.specs.Chain.{Call, last_state};
 ghost use Rattle.unwind_arch.specs.declared.x86_64.Context.{Context};
 ghost use Rattle.eh_frame.specs.Listing.{listing_of};
 ghost use Rattle.fde_finders.specs.Finding.{table_bases};
@@ -10,8 +13,10 @@ ghost use Rattle.stack_walks.specs.Lines.{line_of};
 ghost use Rattle.stack_walks.specs.FrontSample.{after_call, bad_row, cut_entry, held_by};
 ghost use Rattle.stack_walks.specs.FrontSample.{no_entry, nowhere};
 ghost use Rattle.stack_walks.specs.Fronts.{ComesTo, EndsFor, front_of, input_of, IsUndescribed};
-ghost use Rattle.stack_walks.specs.Fronts.{IsUndescribedIn, stopped_by, IsUnknownIn};
+ghost use Rattle.stack_walks.specs.Fronts.{IsUndescribedIn, stopped_by, IsUnknownIn, front_of_chain};
+ghost use Rattle.stack_walks.specs.Walking.{ShowChain, StartsChain, StartsFormatChain};
 ghost use Rattle.stack_steps.specs.Stepping.{FindsNone, step_of, FindsNoneIn};
+ghost use Rattle.stack_steps.specs.Stopped.{StartsStopped, StartsFormatStop};
 ghost use Rattle.stack_steps.specs.Ticking.{RisesWithin};
 
 use crate::outward::outwards;
@@ -220,12 +225,37 @@ pub fn walk_front_into<L: Ledger>(
     // Each reason is given exactly for its cause.
     ensures why { (reason : Front) → (result ≡ reason) ↔
         ComesTo reason space.now limit start.now interrupted }
+    // A described chain that the limit has room for is walked to its end. The reason is there that
+    // the last state returns to 0, or that no module holds the byte before its return address, or
+    // that the module which does has no description of it.
+    ensures chain { (functions : List Function) (s : State) (calls : List Call) →
+        StartsChain space.now start.now limit functions s calls → IsFalse interrupted →
+        ShowChain room.new.visited s calls ×
+        (result ≡ front_of_chain space.now.modules (last_state s calls)) }
+    // So is a function that was stopped at any instruction of its prologue or its body, and then
+    // the described chain that its caller begins.
+    ensures stopped { (functions : List Function) (s : State) (call : Call) (calls : List Call) →
+        StartsStopped space.now start.now limit functions s call calls → IsTrue interrupted →
+        ShowChain room.new.visited s (call ∷ calls) ×
+        (result ≡ front_of_chain space.now.modules (last_state call.caller calls)) }
+    // The same through modules of whatever format.
+    ensures chain_in { (functions : List Function) (s : State) (calls : List Call) →
+        StartsFormatChain space.now start.now limit functions s calls → IsFalse interrupted →
+        ShowChain room.new.visited s calls ×
+        (result ≡ front_of_chain space.now.modules (last_state s calls)) }
+    ensures stopped_in { (functions : List Function) (s : State) (call : Call)
+        (calls : List Call) →
+        StartsFormatStop space.now start.now limit functions s call calls → IsTrue interrupted →
+        ShowChain room.new.visited s (call ∷ calls) ×
+        (result ≡ front_of_chain space.now.modules (last_state call.caller calls)) }
     ensures no_cleanup { room.new.trail ≡ [] }
     ensures places { room.new.limit ≡ room.old.limit }
     // As many searches as the limit allows states; none is counted where each module names a frame
     // table and none is prepared.
     ensures ticks { RisesWithin space.now limit steps.old.number steps.new.number }
 {
+    // No two of its modules share an address, as a space's type says.
+    let _ = space.image();
     walk_front(space, start, interrupted, limit, room, steps)
 }
 
