@@ -103,24 +103,31 @@ module _ (space : SpaceValue) (c : Context) (interrupted : Bool) (old new : ℕ)
 
 -- nothing is searched
 pub rises_none : (space : SpaceValue) (n : ℕ) → RisesWithin space 0 n n
-rises_none space n digits each = omega arith
+rises_none space n = (omega arith, λ digits each. omega arith)
 
 -- one search more
 pub rises_by_one : (space : SpaceValue) (c : Context) (interrupted : Bool) (searches start old new : ℕ) → RisesWithin space searches start old → TicksAt space c interrupted old new → RisesWithin space (searches + 1) start new
-rises_by_one space c interrupted searches start old new before ticks digits each =
+rises_by_one space c interrupted searches start old new before ticks =
     let search = ticks_rise space c interrupted old new ticks in
-    let within : search.0 ≤ digits = search.2 digits (searched_within space c interrupted digits each) in
     let at : new ≡ old + search.0 = search.1 in
-    let low = before digits each in
-    let sum : (searches + 1) * digits ≡ searches * digits + 1 * digits = add-mul searches 1 digits in
-    omega (arith, low)
+    let risen = before.0 in (
+      omega (arith, risen),
+      λ digits each.
+          let within : search.0 ≤ digits = search.2 digits (searched_within space c interrupted digits each) in
+          let low = before.1 digits each in
+          let sum : (searches + 1) * digits ≡ searches * digits + 1 * digits = add-mul searches 1 digits in
+          omega (arith, low),
+    )
 
 -- more searches than there were
 pub rises_up_to : (space : SpaceValue) (few many start new : ℕ) → few ≤ many → RisesWithin space few start new → RisesWithin space many start new
-rises_up_to space few many start new more rises digits each =
-    let low = rises digits each in
-    let most = mul-le few digits many digits more (omega arith) in
-    omega (arith, low)
+rises_up_to space few many start new more rises = (
+  rises.0,
+  λ digits each.
+      let low = rises.1 digits each in
+      let most = mul-le few digits many digits more (omega arith) in
+      omega (arith, low),
+)
 
 -- as many searches
 pub rises_to : (space : SpaceValue) (few many start new : ℕ) → few ≡ many → RisesWithin space few start new → RisesWithin space many start new
@@ -128,8 +135,13 @@ rises_to space few many start new same rises = rises_up_to space few many start 
 
 -- one after the other
 pub rises_then : (space : SpaceValue) (few more start middle new : ℕ) → RisesWithin space few start middle → RisesWithin space more middle new → RisesWithin space (few + more) start new
-rises_then space few more start middle new first second digits each =
-    let a = first digits each in
-    let b = second digits each in
-    let sum : (few + more) * digits ≡ few * digits + more * digits = add-mul few more digits in
-    omega (arith, a, b)
+rises_then space few more start middle new first second =
+    let low = first.0 in
+    let high = second.0 in (
+      omega (arith, low, high),
+      λ digits each.
+          let a = first.1 digits each in
+          let b = second.1 digits each in
+          let sum : (few + more) * digits ≡ few * digits + more * digits = add-mul few more digits in
+          omega (arith, a, b),
+    )

@@ -72,6 +72,6 @@ pub record IsScannedAt (space : SpaceValue) (c : Context) (interrupted : Bool) :
 abbrev pub CountsWithin : SpaceValue → ℕ → Type 0
 CountsWithin space digits = AllByRecursion (λ (m : Module). module_pairs space.image m.tables < 2 ^ digits) space.modules × AllByRecursion (λ (m : Added). len_of (index_of m) < 2 ^ digits) space.added
 
--- A count of steps rises by no more than so many searches take, whichever modules of a space they are in.
+-- A count of steps doesn't fall, and rises by no more than so many searches take, whichever modules of a space they are in.
 abbrev pub RisesWithin : SpaceValue → ℕ → ℕ → ℕ → Type 0
-RisesWithin space searches old new = (digits : ℕ) → CountsWithin space digits → new ≤ old + searches * digits
+RisesWithin space searches old new = (old ≤ new) × ((digits : ℕ) → CountsWithin space digits → new ≤ old + searches * digits)

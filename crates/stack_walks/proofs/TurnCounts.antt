@@ -5,10 +5,10 @@ use Rattle.format_frames.specs.declared.machine.Stepped.{Stepped}
 use Rattle.stack_steps.specs.declared.answers.DeliverError.{DeliverError}
 use Rattle.stack_walks.specs.declared.outward.Phase.{Phase}
 use Rattle.stack_steps.specs.Modules.{SpaceValue}
-use Rattle.stack_walks.specs.Fronts.{Reached, reached_after, reached_by, caller_turned, start_state, turned_from}
+use Rattle.stack_walks.specs.Fronts.{Reached, reached_after, reached_by, caller_from, caller_turned, start_state, turned_from, front_of}
 use Rattle.stack_walks.specs.Turns.{Line, Turn, Ends, Stops, Goes, turn_for, with_context, line_turn, line_for}
 use Rattle.stack_walks.specs.ContextsMet.{contexts_met}
-use Rattle.stack_walks.proofs.Reaching.{reached, met_before}
+use Rattle.stack_walks.proofs.Reaching.{reached, met_before, same_reached, turned_called}
 
 -- ---- on the way outwards
 
@@ -33,6 +33,10 @@ few_reached next (suc room) s = go (next s) (few_reached next room)
 -- no more than there may be
 pub few_met : (p : Option Phase) (space : SpaceValue) (limit : ℕ) (c : Context) (interrupted : Bool) → contexts_met p space limit c interrupted ≤ limit
 few_met p space limit c interrupted = few_reached (turned_from p space) limit (start_state c interrupted)
+
+-- those of a walk
+pub walk_met : (space : SpaceValue) (limit : ℕ) (c : Context) (interrupted : Bool) → contexts_met None space limit c interrupted ≡ length (front_of space limit c interrupted)
+walk_met space limit c interrupted = ap (λ (r : Reached). length r.contexts) (same_reached (turned_from None space) (caller_from space) (turned_called space) limit (start_state c interrupted))
 
 -- the contexts of the line
 pub line_met : (p : Option Phase) (space : SpaceValue) (room : ℕ) (c : Context) (interrupted : Bool) (line : Line) → line_for p space room c interrupted ≡ Ok line → contexts_met p space room c interrupted ≡ length line.contexts

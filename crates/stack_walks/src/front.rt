@@ -175,6 +175,8 @@ fn walk_front<L: Ledger>(
     ensures why { ComesTo result space.now limit start.now interrupted }
     ensures no_cleanup { room.new.trail ≡ [] }
     ensures places { room.new.limit ≡ room.old.limit }
+    ensures searches { RisesWithin space.now (length room.new.visited) steps.old.number
+        steps.new.number }
     ensures ticks { RisesWithin space.now limit steps.old.number steps.new.number }
 {
     room.clear();
@@ -250,6 +252,9 @@ pub fn walk_front_into<L: Ledger>(
         (result ≡ front_of_chain space.now.modules (last_state call.caller calls)) }
     ensures no_cleanup { room.new.trail ≡ [] }
     ensures places { room.new.limit ≡ room.old.limit }
+    // A description is searched once at most at each state.
+    ensures searches { RisesWithin space.now (length room.new.visited) steps.old.number
+        steps.new.number }
     // As many searches as the limit allows states; none is counted where each module names a frame
     // table and none is prepared.
     ensures ticks { RisesWithin space.now limit steps.old.number steps.new.number }

@@ -5,6 +5,7 @@ ghost use Rattle.memory_image.specs.Image.{word_at};
 ghost use Rattle.unwind_definitions.specs.State.{State};
 ghost use Rattle.unwind_definitions.specs.Function.{Function};
 ghost use Rattle.unwind_definitions.specs.Chain.{Call};
+ghost use Rattle.stack_walks.specs.Fronts.{front_of};
 ghost use Rattle.stack_walks.specs.Lines.{GivesUnlessNoMemory, NeedsMore, line_of};
 ghost use Rattle.stack_steps.specs.Ticking.{RisesWithin};
 ghost use Rattle.stack_walks.specs.Walking.{IsWalked, StepFails, ShowChain};
@@ -43,6 +44,11 @@ pub fn walk_with_rows<'a, L: Ledger>(
     ensures emptied { OnErr result (room.new.visited ≡ []) }
     ensures no_cleanup { room.new.trail ≡ [] }
     ensures places { room.new.limit ≡ room.old.limit }
+    // A description is searched once at most at each state from the start outwards, up to the end of
+    // the stack, to the first state whose step has a fault, or to the limit.
+    ensures searches { RisesWithin space.now
+        (length (front_of space.now limit start.now interrupted))
+        steps.old.number steps.new.number }
     ensures ticks { RisesWithin space.now limit steps.old.number steps.new.number }
 {
     room.clear();
@@ -111,6 +117,11 @@ pub fn walk_into<L: Ledger>(
         (calls : List Call) →
         StartsFormatStop space.now start.now limit functions s call calls → IsTrue interrupted →
         IsOk result × ShowChain room.new.visited s (call ∷ calls) }
+    // A description is searched once at most at each state from the start outwards, up to the end of
+    // the stack, to the first state whose step has a fault, or to the limit.
+    ensures searches { RisesWithin space.now
+        (length (front_of space.now limit start.now interrupted))
+        steps.old.number steps.new.number }
     // As many searches as the limit allows states; none is counted where each module names a frame
     // table and none is prepared.
     ensures ticks { RisesWithin space.now limit steps.old.number steps.new.number }

@@ -45,7 +45,7 @@ returns-clause-chain_searches g c functions s calls starts =
 
 pub returns-clause-chain_ticks : goal.returns-clause-chain_ticks
 returns-clause-chain_ticks g c functions s calls digits starts one =
-    returns-clause-chain_searches g c functions s calls starts digits (counts_within c.args.space.now digits one c.image.ensures.added)
+    (returns-clause-chain_searches g c functions s calls starts).1 digits (counts_within c.args.space.now digits one c.image.ensures.added)
 
 pub returns-clause-refused : goal.returns-clause-refused
 returns-clause-refused g c error = (

@@ -1,7 +1,8 @@
-use Rattle.std.proofs.Common.{None}
-use Rattle.stack_steps.proofs.Counted.{rises_up_to}
+use Rattle.std.proofs.Common.{None, List, length, sym, ap, ◌∙◌}
+use Rattle.unwind_arch.specs.declared.x86_64.Context.{Context}
+use Rattle.stack_steps.proofs.Counted.{rises_up_to, rises_to}
 use Rattle.stack_walks.proofs.FrontAnswers.{walk_states, walk_ends, walk_ends_for, walk_stops}
-use Rattle.stack_walks.proofs.TurnCounts.{few_met}
+use Rattle.stack_walks.proofs.TurnCounts.{few_met, walk_met}
 use Rattle.stack_walks.proofs.front.walk_front.Goals as goal
 
 pub unframed_front-requires : goal.unframed_front-requires
@@ -30,3 +31,13 @@ returns-in-Ok-clause-ticks g c = rises_up_to c.args.space.now _ c.args.limit _ _
 
 pub returns-in-Err-clause-ticks : goal.returns-in-Err-clause-ticks
 returns-in-Err-clause-ticks g c = rises_up_to c.args.space.now _ c.args.limit _ _ (few_met None c.args.space.now c.args.limit c.args.start.now c.args.interrupted) c.outwards.ensures.ticks
+
+pub returns-in-Ok-clause-searches : goal.returns-in-Ok-clause-searches
+returns-in-Ok-clause-searches g c =
+    let states = walk_states c.args.space.now c.args.limit c.args.start.now c.args.interrupted c.outwards.new.room c.outwards.new.state c.outwards.ensures.reached in
+    rises_to c.args.space.now _ _ _ _ (walk_met c.args.space.now c.args.limit c.args.start.now c.args.interrupted ∙ ap (λ (cs : List Context). length cs) (sym states)) c.outwards.ensures.ticks
+
+pub returns-in-Err-clause-searches : goal.returns-in-Err-clause-searches
+returns-in-Err-clause-searches g c =
+    let states = walk_states c.args.space.now c.args.limit c.args.start.now c.args.interrupted c.outwards.new.room c.outwards.new.state c.outwards.ensures.reached in
+    rises_to c.args.space.now _ _ _ _ (walk_met c.args.space.now c.args.limit c.args.start.now c.args.interrupted ∙ ap (λ (cs : List Context). length cs) (sym states)) c.outwards.ensures.ticks

@@ -1,9 +1,9 @@
 use Rattle.std.proofs.Common.{None}
 use Rattle.stack_walks.specs.Turns.{line_for}
 use Rattle.stack_walks.specs.Lines.{line_of}
-use Rattle.stack_steps.proofs.Counted.{rises_up_to}
+use Rattle.stack_steps.proofs.Counted.{rises_up_to, rises_to}
 use Rattle.stack_walks.proofs.TurnLines.{walk_line, walked_by}
-use Rattle.stack_walks.proofs.TurnCounts.{few_met}
+use Rattle.stack_walks.proofs.TurnCounts.{few_met, walk_met}
 use Rattle.stack_walks.proofs.walking.walk_with_rows.Goals as goal
 
 pub returns-in-Ok-clause-exact : goal.returns-in-Ok-clause-exact
@@ -23,3 +23,9 @@ returns-in-Ok-clause-ticks g c = rises_up_to c.args.space.now _ c.args.limit _ _
 
 pub returns-in-Err-clause-ticks : goal.returns-in-Err-clause-ticks
 returns-in-Err-clause-ticks g c = rises_up_to c.args.space.now _ c.args.limit _ _ (few_met None c.args.space.now c.args.limit c.args.start.now c.args.interrupted) c.outwards.ensures.ticks
+
+pub returns-in-Ok-clause-searches : goal.returns-in-Ok-clause-searches
+returns-in-Ok-clause-searches g c = rises_to c.args.space.now _ _ _ _ (walk_met c.args.space.now c.args.limit c.args.start.now c.args.interrupted) c.outwards.ensures.ticks
+
+pub returns-in-Err-clause-searches : goal.returns-in-Err-clause-searches
+returns-in-Err-clause-searches g c = rises_to c.args.space.now _ _ _ _ (walk_met c.args.space.now c.args.limit c.args.start.now c.args.interrupted) c.outwards.ensures.ticks
