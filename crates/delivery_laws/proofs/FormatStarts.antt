@@ -16,7 +16,7 @@ use Rattle.stack_steps.specs.FormatStopSample.{space_of_three}
 use Rattle.delivery_laws.specs.StateRegisters.{registers_of}
 
 -- the registers of a state show it
-registers_show : (s : State) → Shows (columns_of (registers_of s)) s
+pub registers_show : (s : State) → Shows (columns_of (registers_of s)) s
 registers_show s = record { ra = refl; sp = refl; saved = each }
   where
     each : (r : CalleeSaved) → columns_of (registers_of s) (column_of r) ≡ Some (value_of r s)

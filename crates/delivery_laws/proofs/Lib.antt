@@ -2,3 +2,4 @@ pub mod AnyPassesAre
 pub mod PersonalityAsks
 pub mod SameAnswers
 pub mod FormatStarts
+pub mod CountedStarts

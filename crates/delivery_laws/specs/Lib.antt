@@ -1,3 +1,4 @@
 pub mod AnyPasses
 pub mod Personality
 pub mod StateRegisters
+pub mod CountedSpaces
