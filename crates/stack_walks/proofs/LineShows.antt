@@ -152,7 +152,7 @@ module _ (space : SpaceValue) where
   step_ends apart laid functions c s shows end = step_is space c false ∙ ap (stepped_by space.image c) (ends apart laid functions c s shows end)
 
   -- a call of a chain is described
-  pub call_in : (functions : List Function) (s : State) (k : Call) (calls : List Call) → IsChain space.image (IsUncoveredBy space.image (formats_of space)) functions s (k ∷ calls) → LiesInFormat space.image (formats_of space) functions k.callee →
+  unfoldable pub call_in : (functions : List Function) (s : State) (k : Call) (calls : List Call) → IsChain space.image (IsUncoveredBy space.image (formats_of space)) functions s (k ∷ calls) → LiesInFormat space.image (formats_of space) functions k.callee →
       IsFormatCall space.image (formats_of space) functions s k
   call_in functions s k calls chain lies =
       let link : IsLink space.image functions s k calls = chain.0 in
