@@ -8,7 +8,7 @@ use Rattle.unwind_definitions.specs.Row.{covers_pc}
 use Rattle.eh_frame.specs.Index.{AreFewSteps, AscendApart, Described, FindsIndex, described_fde, end_of}
 use Rattle.eh_frame.specs.Looking.{Narrows}
 use Rattle.eh_frame.specs.declared.starts.Bounds.{Bounds}
-use Rattle.eh_frame.proofs.Halving.{IsHalved, IsLeft, halved}
+use Rattle.eh_frame.proofs.Halving.{AreLeft, IsLeft}
 
 -- ---- whether a range contains an address
 
@@ -146,22 +146,12 @@ module _ (fs : List Described) (pc : ℕ) where
 
 -- ---- the steps
 
--- so many are left, and one was taken unless some are left
-pub record AreLeft (count before now size : ℕ) : Type 0 where
-  pub halved : IsHalved count before now size
-  pub some : size ≡ 0 → before < now
-
 -- before the first look some are left, and no more than there are
 pub not_begun : (count now size : ℕ) → 0 < size → size ≤ count → AreLeft count now now size
-not_begun count now size some le = record { halved = record { taken = 0; counted = omega arith; digits = λ d lt. record { left = d; both = omega arith; below = omega arith } }; some = λ none. absurd (omega arith) }
-
-pub one_look : (count before now next size new : ℕ) → next ≡ now + 1 → AreLeft count before now size → 0 < size → new ≤ size / 2 → AreLeft count before next new
-one_look count before now next size new step left some le =
-    let counted = left.halved.counted in
-    record { halved = halved count before now next size new step left.halved some le; some = λ none. omega arith }
+not_begun count now size some le = record { halved = record { taken = 0; counted = omega arith; digits = λ d lt. record { left = d; both = omega arith; below = omega arith } }; some = λ listed none. absurd (omega arith) }
 
 pub few : (count before now size : ℕ) → 0 < count → size ≡ 0 → AreLeft count before now size → AreFewSteps count before now
-few count before now size some none left = record { one = left.some (omega arith); digits = λ d lt. go d (left.halved.digits d lt) }
+few count before now size some none left = record { one = left.some some none; digits = λ d lt. go d (left.halved.digits d lt) }
   where
     go : (d : ℕ) → IsLeft d left.halved.taken size → now ≤ before + d
     go d k = let both = k.both in let c = left.halved.counted in omega arith

@@ -4,7 +4,7 @@ use Rattle.std.proofs.Math.Nat.{pow-succ'}
 use Rattle.unwind_definitions.specs.Header.{PairTable, pair_at}
 use Rattle.memory_image.specs.Halving.{place_before}
 use Rattle.unwind_definitions.specs.declared.error.Error.{Error as Fault}
-use Rattle.unwind_definitions.specs.HeaderSearch.{pair_of_place, boundary_in, AreWithinDigits}
+use Rattle.unwind_definitions.specs.HeaderSearch.{pair_of_place, boundary_in, SearchTakes}
 use Rattle.unwind_definitions.specs.HeaderSearchLaws.{GoesOn, goes_up, goes_down, faults, answers}
 
 -- ---- what is known
@@ -64,8 +64,27 @@ halved count before now next size new step h some le =
     fewer : (d : ℕ) → IsLeft d h.taken size → IsLeft d (h.taken + 1) new
     fewer d k = let l = half size new k.left some le k.below in let more = l.1 in let both = k.both in record { left = l.0; both = omega arith; below = l.2 }
 
-pub counts : (count before now size : ℕ) → IsHalved count before now size → (taken : ℕ) × (now ≡ before + taken) × AreWithinDigits count taken
-counts count before now size h = (h.taken, h.counted, λ d lt. few d (h.digits d lt))
+-- so many are left, and one was taken unless some are left
+pub record AreLeft (count before now size : ℕ) : Type 0 where
+  pub halved : IsHalved count before now size
+  pub some : 0 < count → size ≡ 0 → before < now
+
+pub all_left : (count now : ℕ) → AreLeft count now now count
+all_left count now = record { halved = whole count now; some = λ listed none. absurd (omega arith) }
+
+pub one_look : (count before now next size new : ℕ) → next ≡ now + 1 → AreLeft count before now size → 0 < size → new ≤ size / 2 → AreLeft count before next new
+one_look count before now next size new step left some le =
+    let counted = left.halved.counted in
+    record { halved = halved count before now next size new step left.halved some le; some = λ listed none. omega arith }
+
+-- none is left
+pub counts : (count before now size : ℕ) → size ≡ 0 → AreLeft count before now size → (taken : ℕ) × (now ≡ before + taken) × SearchTakes count taken
+counts count before now size none left =
+    let h = left.halved in (
+      h.taken,
+      h.counted,
+      record { some = λ listed. let more = left.some listed none in let counted = h.counted in omega arith; digits = λ d lt. few d (h.digits d lt) },
+    )
   where
-    few : (d : ℕ) → IsLeft d h.taken size → h.taken ≤ d
+    few : (d : ℕ) → IsLeft d left.halved.taken size → left.halved.taken ≤ d
     few d k = let both = k.both in omega arith

@@ -1,7 +1,7 @@
 //! The search of a header's table for an address.
 
 ghost use Rattle.std.specs.Prelude.{◌≡◌, ◌≢◌, ◌+◌, ◌⊎◌, ℕ, IfErr, IfOk};
-ghost use Rattle.unwind_definitions.specs.HeaderSearch.{AreWithinDigits, IsNamed, IsNamedElsewhere};
+ghost use Rattle.unwind_definitions.specs.HeaderSearch.{SearchTakes, IsNamed, IsNamedElsewhere};
 ghost use Rattle.unwind_definitions.specs.HeaderSearch.{IsTableAnswer, IsUnreadableNamed};
 ghost use Rattle.unwind_definitions.specs.HeaderSearch.{IsUnreadablePair};
 ghost use Rattle.unwind_definitions.specs.HeaderSearch.{StartsAbove, boundary_in, containing};
@@ -58,7 +58,7 @@ impl<'a> HdrTable<'a> {
             ⊎ IsUnreadableNamed (bases_of bases.now) (table_of frame.now) (pairs_of self.now) pc
             e) }
         ensures ticks { (taken : ℕ) × (steps.new.number ≡ steps.old.number + taken)
-            × AreWithinDigits (pairs_of self.now).count taken }
+            × SearchTakes (pairs_of self.now).count taken }
     {
         self.search(frame, bases, pc, steps)
     }
@@ -74,7 +74,7 @@ impl<'a> HdrTable<'a> {
         ensures exact { Answers fde_of result
             (table_answer (bases_of bases.now) (table_of frame.now) (pairs_of self.now) pc) }
         ensures ticks { (taken : ℕ) × (steps.new.number ≡ steps.old.number + taken)
-            × AreWithinDigits (pairs_of self.now).count taken }
+            × SearchTakes (pairs_of self.now).count taken }
     {
         let entry = self.boundary(pc, steps)?;
         named_fde(entry, frame, bases, pc)
@@ -88,7 +88,7 @@ impl<'a> HdrTable<'a> {
     ) -> Result<Option<(u64, u64)>, Error>
         ensures exact { Answers (λ x. x) result (boundary_in (pairs_of self.now) pc) }
         ensures ticks { (taken : ℕ) × (steps.new.number ≡ steps.old.number + taken)
-            × AreWithinDigits (pairs_of self.now).count taken }
+            × SearchTakes (pairs_of self.now).count taken }
     {
         let mut low = 0;
         let mut high = self.len();

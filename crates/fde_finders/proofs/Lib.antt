@@ -1,3 +1,4 @@
 pub mod InTurn
 pub mod Lasts
 pub mod Listed
+pub mod Unled

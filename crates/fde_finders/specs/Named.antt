@@ -1,7 +1,7 @@
 -- Finding by a table that is named.
 use Rattle.std.specs.Prelude.{◌≡◌, ℕ, List, Option, Some, None}
 use Rattle.memory_image.specs.Image.{Span}
-use Rattle.unwind_definitions.specs.HeaderSearch.{AreWithinDigits}
+use Rattle.unwind_definitions.specs.HeaderSearch.{SearchTakes}
 use Rattle.fde_finders.specs.declared.custom.FrameInfo.{FrameInfo}
 use Rattle.fde_finders.specs.declared.custom.FrameInfoKind.{FrameInfoKind}
 use Rattle.fde_finders.specs.declared.custom.FrameInfoKind.TheVariants.{EhFrame, EhFrameHdr}
@@ -38,4 +38,4 @@ pairs_named (Some info) image = pairs_by info image
 -- header's table alone.
 abbrev pub FindsBy : {E : Type 0} → (E → ℕ → Option FrameInfo → Type 0) → Option E → List Span → ℕ → Option FoundFde → ℕ → Type 0
 FindsBy names None image pc answer ticks = (answer ≡ None) × (ticks ≡ 0)
-FindsBy names (Some e) image pc answer ticks = (info : Option FrameInfo) × names e pc info × (answer ≡ found_named info image pc) × AreWithinDigits (pairs_named info image) ticks
+FindsBy names (Some e) image pc answer ticks = (info : Option FrameInfo) × names e pc info × (answer ≡ found_named info image pc) × SearchTakes (pairs_named info image) ticks

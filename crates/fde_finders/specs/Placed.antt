@@ -1,7 +1,7 @@
 -- Finding inside one module, whose text and one of whose tables lie at known addresses.
 use Rattle.std.specs.Prelude.{◌≡◌, ℕ, Bool, ◌&&◌, List, Option, Some, None, nat_le, nat_lt, if◌then◌else◌}
 use Rattle.memory_image.specs.Image.{Span}
-use Rattle.unwind_definitions.specs.HeaderSearch.{AreWithinDigits}
+use Rattle.unwind_definitions.specs.HeaderSearch.{SearchTakes}
 use Rattle.fde_finders.specs.Finding.{FoundFde, relative_to, found_in_text}
 use Rattle.fde_finders.specs.HeaderFinding.{found_by_header, pairs_by_header}
 
@@ -29,4 +29,4 @@ abbrev pub FindsPlaced : Placed → List Span → ℕ → Option FoundFde → �
 FindsPlaced p image pc answer ticks = (answer ≡ found_placed p image pc) × (ticks ≡ 0)
 
 abbrev pub FindsByPlacedHeader : Placed → List Span → ℕ → Option FoundFde → ℕ → Type 0
-FindsByPlacedHeader p image pc answer ticks = (answer ≡ found_by_placed_header p image pc) × AreWithinDigits (pairs_by_placed_header p image pc) ticks
+FindsByPlacedHeader p image pc answer ticks = (answer ≡ found_by_placed_header p image pc) × SearchTakes (pairs_by_placed_header p image pc) ticks

@@ -5,7 +5,7 @@ use Rattle.std.specs.Option.{option_or}
 use Rattle.memory_image.specs.Image.{Span, table_at}
 use Rattle.memory_image.specs.Records.{records_in}
 use Rattle.memory_image.specs.Words.{u32_at, u64_at}
-use Rattle.unwind_definitions.specs.HeaderSearch.{AreWithinDigits}
+use Rattle.unwind_definitions.specs.HeaderSearch.{SearchTakes}
 use Rattle.fde_finders.specs.declared.phdr.Phdr.{Phdr}
 use Rattle.fde_finders.specs.declared.phdr.PhdrObject.{PhdrObject}
 use Rattle.fde_finders.specs.declared.phdr.DynamicEntry.{DynamicEntry}
@@ -92,4 +92,4 @@ abbrev pub pairs_in_object : List Span → ℕ → PhdrObject → ℕ
 pairs_in_object image pc o = pairs_by_parts image o (last_such (is_text o.base pc) o.headers) (last_such (is_of_type 0x6474e550) o.headers)
 
 abbrev pub FindsInObject : List Span → ℕ → PhdrObject → Option FoundFde → ℕ → Type 0
-FindsInObject image pc o answer ticks = (answer ≡ found_in_object image pc o) × AreWithinDigits (pairs_in_object image pc o) ticks
+FindsInObject image pc o answer ticks = (answer ≡ found_in_object image pc o) × SearchTakes (pairs_in_object image pc o) ticks

@@ -4,7 +4,7 @@ ghost use Rattle.std.specs.Prelude.{◌≡◌, ◌≢◌, ◌+◌, ℕ, Option, 
 ghost use Rattle.std.specs.Option.{option_map};
 ghost use Rattle.fde_finders.specs.declared.custom.FrameInfo.{FrameInfo};
 ghost use Rattle.fde_finders.specs.FoundViews.{found_fde_of};
-ghost use Rattle.unwind_definitions.specs.HeaderSearch.{AreWithinDigits};
+ghost use Rattle.unwind_definitions.specs.HeaderSearch.{SearchTakes};
 ghost use Rattle.fde_finders.specs.Named.{found_by, pairs_by, FindsBy};
 ghost use Rattle.fde_finders.specs.HeaderCovering.{named_contains};
 
@@ -119,7 +119,7 @@ pub fn find_named<'a, L: Ledger>(
 ) -> Option<FDESearchResult<'a>>
     ensures found { option_map found_fde_of result ≡ found_by info image.now pc }
     ensures ticks { (taken : ℕ) × (steps.new.number ≡ steps.old.number + taken)
-        × AreWithinDigits (pairs_by info image.now) taken }
+        × SearchTakes (pairs_by info image.now) taken }
 {
     let known = relative_to(info.text_base, None);
     match info.kind {

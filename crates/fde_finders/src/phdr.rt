@@ -3,7 +3,7 @@
 ghost use Rattle.std.specs.Prelude.{◌≡◌, ◌+◌, ◌≤◌, ℕ, List, [], ◌∷◌, ◌++◌, OnErr, OnOk};
 ghost use Rattle.std.specs.Prelude.{Option};
 ghost use Rattle.std.specs.Option.{option_map};
-ghost use Rattle.unwind_definitions.specs.HeaderSearch.{AreWithinDigits};
+ghost use Rattle.unwind_definitions.specs.HeaderSearch.{SearchTakes};
 ghost use Rattle.fde_finders.specs.FoundViews.{found_fde_of};
 ghost use Rattle.fde_finders.specs.InTurn.{FindsAmong};
 ghost use Rattle.fde_finders.specs.TurnCovering.{objects_contain};
@@ -210,7 +210,7 @@ fn find_in_object<'a, L: Ledger>(
 ) -> Option<FDESearchResult<'a>>
     ensures found { option_map found_fde_of result ≡ found_in_object image.now pc object.now }
     ensures ticks { (taken : ℕ) × (steps.new.number ≡ steps.old.number + taken)
-        × AreWithinDigits (pairs_in_object image.now pc object.now) taken }
+        × SearchTakes (pairs_in_object image.now pc object.now) taken }
 {
     let base = object.base;
     let text = last_header(&object.headers, Sought::Text { base, pc })?;

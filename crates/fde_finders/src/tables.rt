@@ -2,7 +2,7 @@
 
 ghost use Rattle.std.specs.Prelude.{◌≡◌, ◌+◌, ℕ};
 ghost use Rattle.std.specs.Option.{option_map};
-ghost use Rattle.unwind_definitions.specs.HeaderSearch.{AreWithinDigits};
+ghost use Rattle.unwind_definitions.specs.HeaderSearch.{SearchTakes};
 ghost use Rattle.unwind_definitions.specs.LanguageTable.{input_at};
 ghost use Rattle.encoded_pointers.specs.PointerViews.{bases_of, pointer_of};
 ghost use Rattle.eh_frame.specs.EntryViews.{fde_of, table_of};
@@ -72,7 +72,7 @@ pub(crate) fn search_header<'a, L: Ledger>(
     ensures found { option_map found_fde_of result ≡ found_by_header (bases_of known.now) image.now
         header pc }
     ensures ticks { (taken : ℕ) × (steps.new.number ≡ steps.old.number + taken)
-        × AreWithinDigits (pairs_by_header (bases_of known.now) image.now header) taken }
+        × SearchTakes (pairs_by_header (bases_of known.now) image.now header) taken }
 {
     let named = table_by_header(image, known, header)?;
     search_table(named.pairs, named.frames, named.bases, pc, steps)
@@ -115,7 +115,7 @@ fn search_table<'a, L: Ledger>(
     ensures found { option_map found_fde_of result ≡ by_table (bases_of bases)
         (table_of eh_frame.entry) pc (option_map pairs_of table.entry) }
     ensures ticks { (taken : ℕ) × (steps.new.number ≡ steps.old.number + taken)
-        × AreWithinDigits (pairs_in (option_map pairs_of table.entry)) taken }
+        × SearchTakes (pairs_in (option_map pairs_of table.entry)) taken }
 {
     let fde = match listed_fde(table, &eh_frame, &bases, pc, steps) {
         Some(fde) => fde,
@@ -139,7 +139,7 @@ fn listed_fde<'a, L: Ledger>(
     ensures found { option_map fde_of result ≡ fde_by_table (bases_of bases.now)
         (table_of eh_frame.now) pc (option_map pairs_of table.entry) }
     ensures ticks { (taken : ℕ) × (steps.new.number ≡ steps.old.number + taken)
-        × AreWithinDigits (pairs_in (option_map pairs_of table.entry)) taken }
+        × SearchTakes (pairs_in (option_map pairs_of table.entry)) taken }
 {
     match table {
         None => None,

@@ -51,10 +51,10 @@ searched_within space c interrupted digits each = go (eqb c.ra 0) refl
 few_rise : (count old new : ℕ) → AreFewSteps count old new → RisesBySearch count old new
 few_rise count old new few =
     let one = few.one in
-    (new - old, omega arith, λ digits fits. let most = few.digits digits fits in omega arith)
+    (new - old, omega arith, record { some = λ listed. omega arith; digits = λ digits fits. let most = few.digits digits fits in omega arith })
 
-none_rises : (count old new : ℕ) → new ≡ old → RisesBySearch count old new
-none_rises count old new same = (0, omega arith, λ digits fits. omega arith)
+none_rises : (count old new : ℕ) → count ≡ 0 → new ≡ old → RisesBySearch count old new
+none_rises count old new none same = (0, omega arith, record { some = λ listed. omega arith; digits = λ digits fits. omega arith })
 
 module _ (space : SpaceValue) (c : Context) (interrupted : Bool) (old new : ℕ) (ticks : TicksAt space c interrupted old new) where
   abbrev asked : ℕ
@@ -65,14 +65,16 @@ module _ (space : SpaceValue) (c : Context) (interrupted : Bool) (old new : ℕ)
   by_ticks (Some index) m by = few_rise (length index.functions) old new by
 
   by_module : c.ra ≢ 0 → (o : Option Module) → module_at space.modules asked ≡ o → RisesBySearch (searched_in space.image (index_at space.added asked) o) old new
-  by_module some None is = none_rises (searched_in space.image (index_at space.added asked) None) old new (ticks.nowhere some is).1
+  by_module some None is =
+      let nowhere = ticks.nowhere some is in
+      none_rises (searched_in space.image (index_at space.added asked) None) old new (ap (λ (o : Option Index). searched_in space.image o None) nowhere.0) nowhere.1
   by_module some (Some m) is = by_ticks (index_at space.added asked) m (ticks.somewhere some m is)
 
   pub ticks_rise : RisesBySearch (searched_at space c interrupted) old new
   ticks_rise = go (eqb c.ra 0) refl
     where
       go : (b : Bool) → eqb c.ra 0 ≡ b → RisesBySearch (searched_at space c interrupted) old new
-      go true none = rw none (none_rises 0 old new (ticks.ends (eqb-true c.ra 0 none)))
+      go true none = rw none (none_rises 0 old new refl (ticks.ends (eqb-true c.ra 0 none)))
       go false some = rw some (by_module (eqb-false c.ra 0 some) (module_at space.modules asked) refl)
 
   few_at : c.ra ≢ 0 → (o : Option Index) → index_at space.added asked ≡ o → 0 < len_of o → AreFewSteps (len_of o) old new
@@ -97,7 +99,7 @@ module _ (space : SpaceValue) (c : Context) (interrupted : Bool) (old new : ℕ)
   scan_is_free at =
       let by : TicksBy space.image at.holder None old new = subst (λ (p : Option Index). TicksBy space.image at.holder p old new) at.unprepared (ticks.somewhere at.returns at.holder at.holds) in
       let none : module_pairs space.image at.holder.tables ≡ 0 = none_in at.holder.tables at.unsearched in
-      let few : by.0 ≤ 0 = by.2 0 (omega (arith, none)) in
+      let few : by.0 ≤ 0 = by.2.digits 0 (omega (arith, none)) in
       let is : new ≡ old + by.0 = by.1 in
       omega arith
 
@@ -113,7 +115,7 @@ rises_by_one space c interrupted searches start old new before ticks =
     let risen = before.0 in (
       omega (arith, risen),
       λ digits each.
-          let within : search.0 ≤ digits = search.2 digits (searched_within space c interrupted digits each) in
+          let within : search.0 ≤ digits = search.2.digits digits (searched_within space c interrupted digits each) in
           let low = before.1 digits each in
           let sum : (searches + 1) * digits ≡ searches * digits + 1 * digits = add-mul searches 1 digits in
           omega (arith, low),

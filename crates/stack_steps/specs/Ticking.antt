@@ -2,7 +2,7 @@
 use Rattle.std.specs.Prelude.{◌≡◌, ◌≢◌, ℕ, ◌+◌, ◌*◌, ◌^◌, ◌<◌, ◌≤◌, ◌==◌, Bool, List, Option, Some, None, length, if◌then◌else◌}
 use Rattle.std.specs.List.{AllByRecursion}
 use Rattle.memory_image.specs.Image.{Span}
-use Rattle.unwind_definitions.specs.HeaderSearch.{AreWithinDigits}
+use Rattle.unwind_definitions.specs.HeaderSearch.{SearchTakes}
 use Rattle.unwind_definitions.specs.LanguageSearch.{address_of_call}
 use Rattle.unwind_arch.specs.declared.x86_64.Context.{Context}
 use Rattle.eh_frame.specs.Index.{AreFewSteps, Index}
@@ -37,7 +37,7 @@ searched_at space c interrupted =
 
 -- A count of steps rises by no more than a search of so many takes: as many as their number has binary digits.
 abbrev pub RisesBySearch : ℕ → ℕ → ℕ → Type 0
-RisesBySearch many old new = (taken : ℕ) × (new ≡ old + taken) × AreWithinDigits many taken
+RisesBySearch many old new = (taken : ℕ) × (new ≡ old + taken) × SearchTakes many taken
 
 -- in a module: by its index, where it has one, and else by the table of its header
 abbrev pub TicksBy : List Span → Module → Option Index → ℕ → ℕ → Type 0

@@ -61,9 +61,11 @@ pair_of_place t (Some i) = pair_at t i >>= λ p. Ok (Some p)
 unfoldable pub boundary_in : PairTable → ℕ → Result (Option (ℕ × ℕ)) Fault
 boundary_in t pc = halved_or t.count (starts_by t pc) 0 t.count >>= λ place. pair_of_place t (place_before place)
 
--- each number of digits by which the count can be spelled in base 2 is one up to which so many may go
-abbrev pub AreWithinDigits : ℕ → ℕ → Type 0
-AreWithinDigits count n = (digits : ℕ) → count < 2 ^ digits → n ≤ digits
+-- A search among so many takes so many steps: one at least where there is something to search, and no more than there are binary
+-- digits in their number.
+pub record SearchTakes (count taken : ℕ) : Type 0 where
+  pub some : 0 < count → 0 < taken
+  pub digits : (digits : ℕ) → count < 2 ^ digits → taken ≤ digits
 
 -- ---- descriptions
 
