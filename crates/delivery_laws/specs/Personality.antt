@@ -10,6 +10,7 @@ use Rattle.unwinding_frames.specs.declared.abi.TheConstants.UnwindReasonCode.{IN
 use Rattle.unwinding_frames.specs.declared.abi.TheConstants.UnwindAction.{SEARCH_PHASE, FORCE_UNWIND}
 use Rattle.unwinding_frames.specs.declared.abi.UnwindReasonCode.{UnwindReasonCode}
 use Rattle.unwinding_frames.specs.Actions.{shares}
+use Rattle.unwinding_frames.specs.ContextSeen.{frame_seen}
 use Rattle.unwinding_frames.specs.FrameValue.{FrameValue}
 use Rattle.unwinding_frames.specs.Personalities.{Asked, Answer, Landing, rust_answers}
 use Rattle.stack_steps.specs.Asking.{described_action}
@@ -51,7 +52,7 @@ pub record IsAsked (image : List Span) (c : Context) (interrupted : Bool) (frame
 
 -- what the personality of Rust answers for a frame of x86-64
 abbrev pub answer_for : Asked → List Span → FrameValue → Context → Bool → Answer
-answer_for asked image frame c interrupted = rust_answers landing_columns asked image (Some frame) (columns_of c) interrupted
+answer_for asked image frame c interrupted = rust_answers landing_columns asked (frame_seen image (Some frame) (columns_of c) interrupted)
 
 abbrev pub code_of : Answer → UnwindReasonCode
 code_of answer = answer.0

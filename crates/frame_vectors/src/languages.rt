@@ -2,6 +2,7 @@
 // personality answers.
 use crate::asserting::expect_equal;
 use crate::frames::Named;
+use eh_frame::Bases;
 use memory_image::{MemoryImage, NoLedger, Steps};
 use stack_deliver::{Context, Error, FrameInfo, FrameInfoKind};
 use std::alloc::Global;
@@ -10,8 +11,8 @@ use unwind_arch::x86_64::{Arch, RAX, RDX, RSP};
 use unwinding_core::{
     _Unwind_GetCFA, _Unwind_GetDataRelBase, _Unwind_GetGR, _Unwind_GetIP, _Unwind_GetIPInfo,
     _Unwind_GetLanguageSpecificData, _Unwind_GetRegionStart, _Unwind_GetTextRelBase, _Unwind_SetGR,
-    _Unwind_SetIP, CustomFinder, EhAction, Frame, Personality, RustPersonality, StepError,
-    UnwindAction, UnwindContext, find_eh_action,
+    _Unwind_SetIP, CustomFinder, EhAction, Frame, Personality, Place, RustPersonality, StepError,
+    UnwindAction, UnwindContext, find_eh_action, find_eh_action_at,
 };
 
 // The descriptions of three functions, one after the other: 0x401000 to 0x401020 without a language
@@ -335,6 +336,45 @@ fn answered(
     Ok(Some((code.0, context)))
 }
 
+// The places of the language tables of the three functions.
+fn place_of(held: u64) -> Place {
+    let (start, lsda) = match held {
+        SECOND => (0x40_1020, 0x50_2000),
+        THIRD => (0x40_1050, 0x50_200c),
+        _ => (0x40_1000, 0),
+    };
+    Place {
+        start,
+        lsda,
+        bases: Bases::default(),
+    }
+}
+
+// The same by the place of the language table.
+fn answered_by_place(
+    alloc: Global,
+    held: u64,
+    ra: u64,
+    version: i32,
+    actions: UnwindAction,
+) -> Result<(i32, Context), Fail> {
+    let languages = bytes_of(alloc, LANGUAGES)?;
+    let mut image = MemoryImage::new(alloc);
+    let _ = image.add(0x50_2000, &languages);
+    let place = place_of(held);
+    let mut context = left(ra);
+    let mut unwind_ctx = UnwindContext::<Arch>::with_place(&image, &place, &mut context, false);
+    let code = RustPersonality.call(
+        0x40_4000,
+        version,
+        actions,
+        0x22,
+        0x90_0000,
+        &mut unwind_ctx,
+    );
+    Ok((code.0, context))
+}
+
 // The registers of a frame that returns to `ra`, and those at a landing pad.
 fn left(ra: u64) -> Context {
     let mut context = Context::default();
@@ -383,7 +423,36 @@ fn a_personality_answers(rt: HostRuntime) -> Result<(), Fail> {
         };
         let answer = answered(alloc, held, ra, version, UnwindAction(actions))?;
         expect_equal(&rt, answer, Some((code, registers)));
+        let by_place = answered_by_place(alloc, held, ra, version, UnwindAction(actions))?;
+        expect_equal(&rt, by_place, (code, registers));
     }
+    Ok(())
+}
+
+#[test]
+fn places_are_read(rt: HostRuntime) -> Result<(), Fail> {
+    let image = MemoryImage::new(rt.alloc());
+    let bases = Bases {
+        text: Some(0x40_0000),
+        ..Bases::default()
+    };
+    let place = Place {
+        start: 0x40_1020,
+        lsda: 0x50_2000,
+        bases,
+    };
+    expect_equal(
+        &rt,
+        find_eh_action_at(&image, &place, 0x40_102f),
+        Err(StepError::Table(Error::UnexpectedEof)),
+    );
+    let mut context = left(0x40_1030);
+    let ctx = UnwindContext::<Arch>::with_place(&image, &place, &mut context, false);
+    expect_equal(&rt, _Unwind_GetRegionStart(&ctx), 0x40_1020);
+    expect_equal(&rt, _Unwind_GetLanguageSpecificData(&ctx), Ok(0x50_2000));
+    expect_equal(&rt, _Unwind_GetTextRelBase(&ctx), Some(0x40_0000));
+    expect_equal(&rt, _Unwind_GetDataRelBase(&ctx), None);
+    expect_equal(&rt, _Unwind_GetIP(&ctx), 0x40_1030);
     Ok(())
 }
 

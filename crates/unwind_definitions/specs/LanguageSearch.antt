@@ -139,10 +139,30 @@ address_of_call ra signal = if signal then ra else (ra + (2 ^ 64 - 1)) % 2 ^ 64
 abbrev pub asked_by : List Span → Bases → ℕ → ℕ → ℕ → Result Action StepFault
 asked_by image bases start a table = if table == 0 then Ok NoAction else search image bases start a (input_at image table)
 
--- What the language of a description's function asks at an address: nothing without a language table. Its pointers may be
--- relative to the function's start.
+-- Where the language table of a function stands: the function's start, the table's address, 0 where it has none, and what the
+-- table's pointers may be relative to.
+pub record LanguagePlace : Type 0 where
+  pub start : ℕ
+  pub lsda : ℕ
+  pub bases : Bases
+
+-- What the language table at a place asks at an address. Its pointers may be relative to the function's start.
+abbrev pub place_action : List Span → LanguagePlace → ℕ → Result Action StepFault
+place_action image p a = asked_by image (record p.bases { func = Some p.start }) p.start a p.lsda
+
+-- the place of a description's language table
+abbrev pub language_place : List Span → Bases → Fde → Result LanguagePlace StepFault
+language_place image bases fde = do
+  table ← language_address image fde
+  Ok (record { start = fde.start; lsda = table; bases = bases })
+
+-- what is asked at an address by a language table whose place is read, or can't be
+abbrev pub table_action : List Span → ℕ → Result LanguagePlace StepFault → Result Action StepFault
+table_action image a place = place >>= λ p. place_action image p a
+
+-- What the language of a description's function asks at an address: nothing without a language table.
 abbrev pub language_action : List Span → Bases → Fde → ℕ → Result Action StepFault
-language_action image bases fde a = language_address image fde >>= asked_by image (record bases { func = Some fde.start }) fde.start a
+language_action image bases fde a = table_action image a (language_place image bases fde)
 
 -- ---- which call site decides, in words
 

@@ -11,7 +11,7 @@ use Rattle.unwind_definitions.specs.Entries.{Fde}
 use Rattle.unwind_definitions.specs.Function.{Action, NoAction, Terminate}
 use Rattle.unwind_definitions.specs.LanguageTable.{input_at}
 use Rattle.unwind_definitions.specs.Caller.{StepFault, Table}
-use Rattle.unwind_definitions.specs.LanguageSearch.{Head, CallSite, head, call_site, site_action, sum_below, decision, decided_or, search_from, search, language_address, asked_by, language_action, Says, SitesAsk, LanguageAsks}
+use Rattle.unwind_definitions.specs.LanguageSearch.{Head, CallSite, head, call_site, site_action, sum_below, decision, decided_or, search_from, search, language_address, table_action, language_action, Says, SitesAsk, LanguageAsks}
 use Rattle.unwinding_frames.specs.declared.frame.StepError.{StepError}
 use Rattle.unwinding_frames.specs.declared.language_table.EhAction.{EhAction}
 use Rattle.unwinding_frames.specs.LanguageViews.{action_of, answer_seen}
@@ -116,7 +116,7 @@ language_asks image bases fde a x e = go (language_address image fde) refl e
     tabled table leads true is h = let zero_is : table ≡ 0 = eqb-true table 0 is in inl (leads ∙ ap addressed zero_is, sym (same_action NoAction x h))
     tabled table leads false is h = headed table (eqb-false table 0 is) leads (head image (record bases { func = Some fde.start }) fde.start (input_at image table)) refl h
 
-    go : (r : Result ℕ StepFault) → language_address image fde ≡ r → (r >>= asked_by image (record bases { func = Some fde.start }) fde.start a) ≡ Ok x → LanguageAsks image bases fde a x
+    go : (r : Result ℕ StepFault) → language_address image fde ≡ r → table_action image a (r >>= λ table. Ok (record { start = fde.start; lsda = table; bases = bases })) ≡ Ok x → LanguageAsks image bases fde a x
     go (Err f) is h = absurd cc
     go (Ok table) is h = tabled table is (eqb table 0) refl h
 

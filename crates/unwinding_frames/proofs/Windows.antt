@@ -5,7 +5,7 @@ use Rattle.std.proofs.lemmas.List.{length-drop, take_rest}
 use Rattle.memory_image.specs.Image.{Span, IsLaidOut, table_at, word_at}
 use Rattle.memory_image.specs.ImageLaws.{table_at-add, table_past, word_at-table}
 use Rattle.memory_image.specs.Words.{u64_at}
-use Rattle.unwinding_frames.specs.Windows.{IsWindow, IsPlace}
+use Rattle.unwinding_frames.specs.Windows.{IsWindow, AreKeptBytes}
 
 u64_at-drop : (bytes : List ℕ) (k : ℕ) → u64_at (drop k bytes) 0 ≡ u64_at bytes k
 unfolding u64_at
@@ -46,14 +46,14 @@ module _ (image : List Span) (start : ℕ) (bytes : List ℕ) (places : ℕ) (wi
 -- ---- places
 
 -- what was looked up at an address
-pub place_of : (image : List Span) (start : ℕ) (bytes : List ℕ) → IsLaidOut 0 image → bytes ≡ table_at image start → IsPlace image start bytes
-place_of image start bytes laid held = λ k inside.
+pub kept_from : (image : List Span) (start : ℕ) (bytes : List ℕ) → IsLaidOut 0 image → bytes ≡ table_at image start → AreKeptBytes image start bytes
+kept_from image start bytes laid held = λ k inside.
     let here : k < length (table_at image start) = rw (← held) inside in
     rw held (table_at-add image 0 start k laid here)
 
 -- the bytes from a place's offset on are those at the address so far from its start
-pub place_there : (image : List Span) (start : ℕ) (bytes : List ℕ) → IsLaidOut 0 image → IsPlace image start bytes → (address k : ℕ) → address < 2 ^ 64 → k ≡ (address + (2 ^ 64 - start)) % 2 ^ 64 → k < length bytes → drop k bytes ≡ table_at image address
-place_there image start bytes laid place address k small is inside =
+pub kept_there : (image : List Span) (start : ℕ) (bytes : List ℕ) → IsLaidOut 0 image → AreKeptBytes image start bytes → (address k : ℕ) → address < 2 ^ 64 → k ≡ (address + (2 ^ 64 - start)) % 2 ^ 64 → k < length bytes → drop k bytes ≡ table_at image address
+kept_there image start bytes laid place address k small is inside =
     let there : table_at image (start + k) ≡ drop k bytes = place k inside in
     let end : start + k < 2 ^ 64 = elim (leb_tells (2 ^ 64) (start + k)) [
       | inl past ↦
@@ -67,10 +67,10 @@ place_there image start bytes laid place address k small is inside =
     sym (rw same at there)
 
 -- what is read of a place from an offset on
-pub place_read : (image : List Span) (start : ℕ) (bytes : List ℕ) → IsLaidOut 0 image → IsPlace image start bytes → (address k : ℕ) → address < 2 ^ 64 → k ≡ (address + (2 ^ 64 - start)) % 2 ^ 64 → k < length bytes →
+pub kept_read : (image : List Span) (start : ℕ) (bytes : List ℕ) → IsLaidOut 0 image → AreKeptBytes image start bytes → (address k : ℕ) → address < 2 ^ 64 → k ≡ (address + (2 ^ 64 - start)) % 2 ^ 64 → k < length bytes →
     (rest : List ℕ) → rest ≡ take (length bytes - k) (drop k bytes) → (rest ≡ table_at image address) × (0 < length rest)
-place_read image start bytes laid place address k small is inside rest read =
+kept_read image start bytes laid place address k small is inside rest read =
     let all : take (length bytes - k) (drop k bytes) ≡ drop k bytes = rw take_rest refl in
     let rest_is : rest ≡ drop k bytes = read ∙ all in
     let long : length rest ≡ length bytes - k = ap length rest_is ∙ length-drop k bytes in
-    (rest_is ∙ place_there image start bytes laid place address k small is inside, omega arith)
+    (rest_is ∙ kept_there image start bytes laid place address k small is inside, omega arith)

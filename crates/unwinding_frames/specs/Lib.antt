@@ -1,6 +1,7 @@
 pub mod Actions
 pub mod Calling
 pub mod Columns
+pub mod ContextSeen
 pub mod Dummy
 pub mod FrameValue
 pub mod Framed

@@ -5,13 +5,14 @@ use Rattle.std.specs.Ordering.{int_eq}
 use Rattle.memory_image.specs.Image.{Span}
 use Rattle.unwind_definitions.specs.Function.{Action, NoAction, Cleanup, Catch, Filter, Terminate}
 use Rattle.unwind_definitions.specs.Caller.{Columns, StepFault}
-use Rattle.unwind_definitions.specs.LanguageSearch.{address_of_call, language_action}
+use Rattle.unwind_definitions.specs.LanguageSearch.{LanguagePlace, address_of_call, language_action, place_action}
 use Rattle.unwinding_frames.specs.declared.abi.UnwindReasonCode.{UnwindReasonCode}
 use Rattle.unwinding_frames.specs.declared.abi.UnwindAction.{UnwindAction}
 use Rattle.unwinding_frames.specs.declared.abi.TheConstants.UnwindReasonCode.{HANDLER_FOUND, INSTALL_CONTEXT, CONTINUE_UNWIND, FATAL_PHASE1_ERROR, FATAL_PHASE2_ERROR}
 use Rattle.unwinding_frames.specs.declared.abi.TheConstants.UnwindAction.{SEARCH_PHASE, FORCE_UNWIND}
 use Rattle.unwinding_frames.specs.Actions.{shares}
 use Rattle.unwinding_frames.specs.Columns.{with_value}
+use Rattle.unwinding_frames.specs.ContextSeen.{ContextSeen}
 use Rattle.unwinding_frames.specs.FrameValue.{FrameValue}
 
 -- what a personality is called with
@@ -65,12 +66,14 @@ answered_by machine asked columns (Ok x) =
     if shares asked.actions.0 SEARCH_PHASE.0 then (search_answer x, columns)
     else cleanup_answer machine (shares asked.actions.0 FORCE_UNWIND.0) asked.exception columns x
 
--- what the language of a frame asks, which is nothing without a frame
-abbrev pub action_of_frame : List Span → Option FrameValue → ℕ → Result Action StepFault
-action_of_frame image frame a = option_map_or (λ f. language_action image f.found.bases f.found.fde a) frame (Ok NoAction)
+-- what the language of a function asks, by a frame or else by the place of its language table; nothing without both
+abbrev pub action_seen : List Span → Option FrameValue → Option LanguagePlace → ℕ → Result Action StepFault
+action_seen image frame place a =
+    option_map_or (λ f. language_action image f.found.bases f.found.fde a) frame (option_map_or (λ p. place_action image p a) place (Ok NoAction))
 
 -- The personality of Rust, which knows version 1 alone.
-abbrev pub rust_answers : Landing → Asked → List Span → Option FrameValue → Columns → Bool → Answer
-rust_answers machine asked image frame columns signal =
-    if int_eq asked.version (pos 1) then answered_by machine asked columns (action_of_frame image frame (address_of_call (unwrap_or (columns machine.return_address) 0) signal))
-    else (FATAL_PHASE1_ERROR, columns)
+abbrev pub rust_answers : Landing → Asked → ContextSeen → Answer
+rust_answers machine asked seen =
+    if int_eq asked.version (pos 1) then answered_by machine asked seen.columns
+    (action_seen seen.image seen.frame seen.place (address_of_call (unwrap_or (seen.columns machine.return_address) 0) seen.signal))
+    else (FATAL_PHASE1_ERROR, seen.columns)

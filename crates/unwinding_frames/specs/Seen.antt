@@ -11,6 +11,7 @@ use Rattle.frame_rows.specs.Rows.{IsRowOf}
 use Rattle.unwind_definitions.specs.Expressions.{evaluation}
 use Rattle.unwinding_frames.specs.Columns.{with_value}
 use Rattle.fde_finders.specs.Finding.{FoundFde}
+use Rattle.unwinding_frames.specs.ContextSeen.{ContextSeen, frame_seen}
 use Rattle.unwinding_frames.specs.FrameValue.{FrameValue}
 use Rattle.unwind_definitions.specs.LanguageSearch.{address_of_call}
 use Rattle.unwinding_frames.specs.Personalities.{Asked, Answer}
@@ -71,8 +72,8 @@ pub record Thrown : Type 0 where
   pub word : ℕ
 
 -- Personalities that answer by a function, for an exception and by version 1 of the interface.
-abbrev pub answering : (Asked → List Span → Option FrameValue → Columns → Bool → Answer) → List Span → Thrown → Answering Columns FrameSeen StepFault
+abbrev pub answering : (Asked → ContextSeen → Answer) → List Span → Thrown → Answering Columns FrameSeen StepFault
 answering answers image thrown = record {
   named = λ f. personality_address image f.value.found.fde;
-  answers = λ routine actions f x. answers (record { routine = routine; version = pos 1; actions = actions; class = thrown.class; exception = thrown.word }) image (Some f.value) x.context x.signal;
+  answers = λ routine actions f x. answers (record { routine = routine; version = pos 1; actions = actions; class = thrown.class; exception = thrown.word }) (frame_seen image (Some f.value) x.context x.signal);
 }

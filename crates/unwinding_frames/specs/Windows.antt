@@ -9,5 +9,5 @@ pub record IsWindow (image : List Span) (start : ℕ) (bytes : List ℕ) (places
   pub whole : places ≤ length bytes - 7
 
 -- Bytes from an address on: each of them, with those after it, is what stands there to the end of the region.
-abbrev pub IsPlace : List Span → ℕ → List ℕ → Type 0
-IsPlace image start bytes = (k : ℕ) → k < length bytes → table_at image (start + k) ≡ drop k bytes
+abbrev pub AreKeptBytes : List Span → ℕ → List ℕ → Type 0
+AreKeptBytes image start bytes = (k : ℕ) → k < length bytes → table_at image (start + k) ≡ drop k bytes

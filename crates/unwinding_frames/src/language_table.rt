@@ -3,12 +3,14 @@
 //! Itanium C++ ABI, exception handling tables. A table has a head, the call sites of its function
 //! in ascending order, and the action table.
 
-ghost use Rattle.std.specs.Prelude.{◌≡◌, ℕ, length, Some, IfOk};
+ghost use Rattle.std.specs.Prelude.{◌≡◌, ℕ, length, Some, Ok, IfOk};
 ghost use Rattle.std.specs.Option.{option_map};
 ghost use Rattle.unwind_definitions.specs.LanguageTable.{input_at};
 ghost use Rattle.unwind_definitions.specs.LanguageSearch.{LanguageAsks, address, address_of_call};
 ghost use Rattle.unwind_definitions.specs.LanguageSearch.{call_site, decision, head};
-ghost use Rattle.unwind_definitions.specs.LanguageSearch.{language_action, pad_action, pad_base};
+ghost use Rattle.unwind_definitions.specs.LanguageSearch.{LanguagePlace, language_action};
+ghost use Rattle.unwind_definitions.specs.LanguageSearch.{language_place, pad_action, pad_base};
+ghost use Rattle.unwind_definitions.specs.LanguageSearch.{place_action};
 ghost use Rattle.unwind_definitions.specs.LanguageSearch.{search, search_from, site_action};
 ghost use Rattle.unwind_definitions.specs.LanguageSearch.{sum_below};
 ghost use Rattle.encoded_pointers.specs.PointerViews.{bases_of};
@@ -16,10 +18,12 @@ ghost use Rattle.encoded_pointers.specs.Readers.{GivesOr as Reads};
 ghost use Rattle.encoded_pointers.specs.CursorViews.{at};
 ghost use Rattle.fde_finders.specs.FoundViews.{found_fde_of};
 ghost use Rattle.unwinding_frames.specs.Calling.{value_given};
+ghost use Rattle.unwinding_frames.specs.ContextSeen.{language_place_of};
 ghost use Rattle.unwinding_frames.specs.LanguageViews.{action_of, answer_seen, head_of, site_of};
 ghost use Rattle.unwinding_frames.specs.LanguageViews.{passes_types, GivesOr};
 
 use crate::frame::{Frame, StepError, address_asked, lsda_of, return_address, target};
+use crate::place::Place;
 use eh_frame::{Bases, Error};
 use encoded_pointers::constants::DW_EH_PE_ULEB128;
 use encoded_pointers::{Cursor, DwEhPe, parse_encoded_pointer, parse_pointer_encoding};
@@ -95,6 +99,9 @@ pub fn find_eh_action<M: Machine>(
     ensures action { (ra : ℕ) → M.Context.columns context.now M.RA.0 ≡ Some ra →
         answer_seen action_of result ≡ language_action image.now frame.now.found.bases frame.now.found.fde
         (address_of_call ra signal) }
+    ensures placed { (ra : ℕ) → M.Context.columns context.now M.RA.0 ≡ Some ra →
+        (p : LanguagePlace) → language_place image.now frame.now.found.bases frame.now.found.fde ≡ Ok p →
+        answer_seen action_of result ≡ place_action image.now p (address_of_call ra signal) }
     ensures first { (ra : ℕ) → M.Context.columns context.now M.RA.0 ≡ Some ra →
         IfOk result (λ action. LanguageAsks image.now frame.now.found.bases frame.now.found.fde
         (address_of_call ra signal) (action_of action)) }
@@ -118,16 +125,38 @@ pub fn eh_action_of(
     ensures { answer_seen action_of result ≡ language_action image.now (found_fde_of found.now).bases
         (found_fde_of found.now).fde address }
 {
-    let table = lsda_of(found, image)?;
-    if table == 0 {
+    let place = Place {
+        start: found.fde.initial_address(),
+        lsda: lsda_of(found, image)?,
+        bases: found.bases,
+    };
+    find_eh_action_at(image, &place, address)
+}
+
+/// What a function asks of a frame of it that is stopped in a call at an address, by the language
+/// table at a place: [`find_eh_action`] where no call frame information says where the table is.
+/// `None` where the place has no table.
+///
+/// # Errors
+///
+/// Those of [`find_eh_action`].
+#[inline(always)]
+pub fn find_eh_action_at(
+    image: &MemoryImage<'_>,
+    place: &Place,
+    address: u64,
+) -> Result<EhAction, StepError>
+    ensures { answer_seen action_of result ≡ place_action image.now (language_place_of place.now)
+        address }
+{
+    if place.lsda == 0 {
         return Ok(EhAction::None);
     }
-    let start = found.fde.initial_address();
     let bases = Bases {
-        func: Some(start),
-        ..found.bases
+        func: Some(place.start),
+        ..place.bases
     };
-    action_at(image, &bases, start, table, address)
+    action_at(image, &bases, place.start, place.lsda, address)
 }
 
 /// What the language table at `table` of the function at `start` asks at an address.

@@ -9,6 +9,7 @@
 
 pub mod abi;
 mod frame;
+mod kept_bytes;
 mod language_table;
 mod personality;
 mod personality_dummy;
@@ -26,7 +27,8 @@ pub use abi::{UnwindAction, UnwindReasonCode};
 pub use frame::{
     Frame, StepError, address_asked, frame_mark, lsda_of, personality_of, step_by_row, write_caller,
 };
-pub use language_table::{EhAction, eh_action_of, find_eh_action};
+pub use language_table::{EhAction, eh_action_of, find_eh_action, find_eh_action_at};
 pub use personality::{Personality, RustPersonality};
 pub use personality_dummy::DummyPersonality;
+pub use place::Place;
 pub use window::Window;

@@ -2,30 +2,29 @@
 //!
 //! Itanium C++ ABI, exception handling, section 2.5.
 
-ghost use Rattle.std.specs.Prelude.{◌≡◌, Bool, List, Option, IsSome};
+ghost use Rattle.std.specs.Prelude.{◌≡◌, IsSome};
 ghost use Rattle.std.specs.Option.{option_map, unwrap_or};
-ghost use Rattle.memory_image.specs.Image.{Span};
-ghost use Rattle.unwind_definitions.specs.Caller.{Columns};
 ghost use Rattle.unwind_definitions.specs.LanguageSearch.{address_of_call};
-ghost use Rattle.unwinding_frames.specs.FrameValue.{FrameValue};
+ghost use Rattle.unwinding_frames.specs.ContextSeen.{ContextSeen, language_place_of};
 ghost use Rattle.unwinding_frames.specs.Columns.{with_value};
 ghost use Rattle.unwinding_frames.specs.LanguageViews.{action_of, answer_seen};
 ghost use Rattle.unwinding_frames.specs.Personalities.{Asked, Answer, columns_at_pad, search_answer};
-ghost use Rattle.unwinding_frames.specs.Personalities.{cleanup_answer, action_of_frame, rust_answers};
+ghost use Rattle.unwinding_frames.specs.Personalities.{cleanup_answer, action_seen, rust_answers};
 
 use crate::abi::context::UnwindContext;
 use crate::abi::{UnwindAction, UnwindReasonCode};
-use crate::frame::StepError;
-use crate::language_table::{EhAction, find_eh_action};
+use crate::frame::{StepError, address_asked, return_address};
+use crate::language_table::{EhAction, find_eh_action, find_eh_action_at};
 use unwind_arch::{Machine, Register, RegisterMap};
 
 /// What answers for the personality routines of the functions on a stack.
 ///
-/// Contracts see what it answers: the arguments of the call, the memory, the frame, its registers
-/// and whether it is a signal's decide the answer and the registers that are left.
+/// Contracts see what it answers: the arguments of the call, the memory, the frame, the place of its
+/// language table where there is one, its registers and whether it is a signal's decide the answer
+/// and the registers that are left.
 pub trait Personality<M: Machine> {
     /// The answer, and the registers that are left.
-    ghost answers: { Self → Asked → List Span → Option FrameValue → Columns → Bool → Answer };
+    ghost answers: { Self → Asked → ContextSeen → Answer };
 
     /// Asks what the routine at the address `routine` is to say of a frame. `version` is that of
     /// the interface, 1; `exception_class` tells the language of the exception, and `exception` is
@@ -47,10 +46,16 @@ pub trait Personality<M: Machine> {
               class = exception_class;
               exception = exception;
             })
-            unwind_ctx.old.image.now (option_map (λ f. f.now) unwind_ctx.old.frame)
-            (M.Context.columns unwind_ctx.old.ctx.now) unwind_ctx.old.signal }
+            (record {
+              image = unwind_ctx.old.image.now;
+              frame = option_map (λ f. f.now) unwind_ctx.old.frame;
+              place = option_map (λ p. language_place_of p.now) unwind_ctx.old.place;
+              columns = M.Context.columns unwind_ctx.old.ctx.now;
+              signal = unwind_ctx.old.signal;
+            }) }
         ensures image { unwind_ctx.new.image ≡ unwind_ctx.old.image }
         ensures frame { unwind_ctx.new.frame ≡ unwind_ctx.old.frame }
+        ensures place { unwind_ctx.new.place ≡ unwind_ctx.old.place }
         ensures reference { unwind_ctx.new.ctx.ghost_name ≡ unwind_ctx.old.ctx.ghost_name }
         ensures signal { unwind_ctx.new.signal ≡ unwind_ctx.old.signal };
 }
@@ -70,13 +75,13 @@ pub trait Personality<M: Machine> {
 pub struct RustPersonality;
 
 impl<M: Machine> Personality<M> for RustPersonality {
-    ghost answers = { λ p asked image frame columns signal.
+    ghost answers = { λ p asked seen.
         rust_answers (record {
           return_address = M.RA.0;
           exception = M.UNWIND_DATA_REG.0.0;
           selector = M.UNWIND_DATA_REG.1.0;
         })
-        asked image frame columns signal };
+        asked seen };
 
     fn call(
         &self,
@@ -102,16 +107,23 @@ impl<M: Machine> Personality<M> for RustPersonality {
     }
 }
 
-/// What the language of a frame asks, which is nothing without a frame.
+/// What the language of a frame asks, by the frame or by the place; nothing without both.
 fn action<M: Machine>(unwind_ctx: &UnwindContext<'_, '_, M>) -> Result<EhAction, StepError>
-    ensures { answer_seen action_of result ≡ action_of_frame unwind_ctx.now.image.now (option_map
+    ensures { answer_seen action_of result ≡ action_seen unwind_ctx.now.image.now (option_map
         (λ f. f.now) unwind_ctx.now.frame)
+        (option_map (λ p. language_place_of p.now) unwind_ctx.now.place)
         (address_of_call (unwrap_or (M.Context.columns unwind_ctx.now.ctx.now M.RA.0) 0)
         unwind_ctx.now.signal) }
 {
-    match unwind_ctx.frame {
-        None => Ok(EhAction::None),
-        Some(frame) => find_eh_action(unwind_ctx.image, frame, unwind_ctx.ctx, unwind_ctx.signal),
+    let image = unwind_ctx.image;
+    let signal = unwind_ctx.signal;
+    match (unwind_ctx.frame, unwind_ctx.place) {
+        (Some(frame), _) => find_eh_action(image, frame, unwind_ctx.ctx, signal),
+        (None, Some(place)) => {
+            let address = address_asked(return_address::<M>(unwind_ctx.ctx), signal);
+            find_eh_action_at(image, place, address)
+        }
+        (None, None) => Ok(EhAction::None),
     }
 }
 

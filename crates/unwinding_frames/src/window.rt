@@ -3,7 +3,7 @@
 ghost use Rattle.std.specs.Prelude.{◌≡◌, ◌<◌, [], Some, IfSome, MatchOption, length};
 ghost use Rattle.memory_image.specs.Image.{table_at, word_at};
 
-use crate::place::Place;
+use crate::kept_bytes::KeptBytes;
 use memory_image::{MemoryImage, u64_at};
 use std::marker::Model;
 
@@ -20,24 +20,24 @@ pub struct Window<'i, 'a> {
     bytes: &'a [u8],
     // how many places have a whole word
     places: usize,
-    tables: Place<'a>,
-    records: Place<'a>,
-    code: Place<'a>,
+    tables: KeptBytes<'a>,
+    records: KeptBytes<'a>,
+    code: KeptBytes<'a>,
 }
 
 impl<'i, 'a> Model for Window<'i, 'a> {
     ghost use Rattle.std.specs.Prelude.{List};
     ghost use Rattle.memory_image.specs.Image.{Span};
-    ghost use Rattle.unwinding_frames.specs.Windows.{IsWindow, IsPlace};
+    ghost use Rattle.unwinding_frames.specs.Windows.{IsWindow, AreKeptBytes};
 
     ghost Value = { List Span };
 
     ghost view = { λ w. w.image.now };
 
     ghost invariant = { λ w. IsWindow w.image.now w.start w.bytes.now w.places
-        × IsPlace w.image.now w.tables.start w.tables.bytes.now
-        × IsPlace w.image.now w.records.start w.records.bytes.now
-        × IsPlace w.image.now w.code.start w.code.bytes.now };
+        × AreKeptBytes w.image.now w.tables.start w.tables.bytes.now
+        × AreKeptBytes w.image.now w.records.start w.records.bytes.now
+        × AreKeptBytes w.image.now w.code.start w.code.bytes.now };
 }
 
 impl<'i, 'a> Window<'i, 'a> {
@@ -51,9 +51,9 @@ impl<'i, 'a> Window<'i, 'a> {
             start: address,
             bytes,
             places: bytes.len().saturating_sub(7),
-            tables: Place::empty(),
-            records: Place::empty(),
-            code: Place::empty(),
+            tables: KeptBytes::empty(),
+            records: KeptBytes::empty(),
+            code: KeptBytes::empty(),
         }
     }
 
@@ -95,9 +95,9 @@ impl<'i, 'a> Window<'i, 'a> {
         ensures held { result.now ≡ table_at self.old address }
         ensures same { self.new ≡ self.old }
     {
-        let place = Place::of(self.image, address);
-        self.tables = place;
-        place.bytes
+        let kept = KeptBytes::of(self.image, address);
+        self.tables = kept;
+        kept.bytes
     }
 
     /// Looks the records at an address up, unless they are in the region of those that were looked up
@@ -106,7 +106,7 @@ impl<'i, 'a> Window<'i, 'a> {
         ensures { self.new ≡ self.old }
     {
         if self.records.from(address).is_none() {
-            self.records = Place::of(self.image, address);
+            self.records = KeptBytes::of(self.image, address);
         }
     }
 
@@ -115,7 +115,7 @@ impl<'i, 'a> Window<'i, 'a> {
         ensures { self.new ≡ self.old }
     {
         if self.code.from(address).is_none() {
-            self.code = Place::of(self.image, address);
+            self.code = KeptBytes::of(self.image, address);
         }
     }
 

@@ -7,7 +7,8 @@ ghost use Rattle.memory_image.specs.Image.{Span};
 ghost use Rattle.unwind_definitions.specs.Row.{RowInstructions};
 ghost use Rattle.unwind_definitions.specs.Caller.{Columns, StepFault};
 ghost use Rattle.frame_rows.specs.Rows.{IsRowOf};
-ghost use Rattle.unwinding_frames.specs.FrameValue.{FrameValue};
+ghost use Rattle.unwinding_frames.specs.ContextSeen.{ContextSeen, frame_seen};
+ghost use Rattle.unwinding_frames.specs.ContextSeen.{language_place_of};
 ghost use Rattle.unwinding_frames.specs.Calling.{machine_of};
 ghost use Rattle.unwinding_frames.specs.Passes.{by_trace, run_out, turn_asked, turn_seen, IsTraced};
 ghost use Rattle.unwinding_frames.specs.Seen.{FrameSeen, SeesFrame, in_column, undoing, stepping};
@@ -24,22 +25,27 @@ use unwinding_frames::{Frame, StepError, UnwindContext, UnwindReasonCode};
 
 /// What visits the frames of a stack.
 ///
-/// Contracts see words that the value holds. They, the memory, the frame, its registers and whether
-/// it stands after a signal's decide the answer and the words afterwards.
+/// Contracts see words that the value holds. They, the memory, the frame, the place of its language
+/// table where there is one, its registers and whether it stands after a signal's decide the answer
+/// and the words afterwards.
 pub trait Trace<M: Machine> {
     /// The words that the value holds.
     ghost words: { Self → List ℕ };
 
     /// The answer, and the words afterwards.
-    ghost traces: { List ℕ → List Span → Option FrameValue → Columns → Bool → TraceAnswer };
+    ghost traces: { List ℕ → ContextSeen → TraceAnswer };
 
     /// Visits a frame, or the end of the stack where there is none. `NO_REASON` lets the backtrace
     /// go on.
     fn trace(&mut self, unwind_ctx: &UnwindContext<'_, '_, M>) -> UnwindReasonCode
         ensures { (result, words self.new) ≡
-            traces (words self.old) unwind_ctx.now.image.now (option_map
-            (λ f. f.now) unwind_ctx.now.frame)
-            (M.Context.columns unwind_ctx.now.ctx.now) unwind_ctx.now.signal };
+            traces (words self.old) (record {
+              image = unwind_ctx.now.image.now;
+              frame = option_map (λ f. f.now) unwind_ctx.now.frame;
+              place = option_map (λ p. language_place_of p.now) unwind_ctx.now.place;
+              columns = M.Context.columns unwind_ctx.now.ctx.now;
+              signal = unwind_ctx.now.signal;
+            }) };
 }
 
 /// How a backtrace ends.
@@ -59,8 +65,8 @@ fn trace_answer<'a, M: Machine, T: Trace<M>>(
     context: &M::Context,
     signal: bool,
 ) -> UnwindReasonCode
-    ensures { (result, T.words trace.new) ≡ T.traces (T.words trace.old) image.now (option_map
-        (λ f. f.now) frame.entry) (M.Context.columns context.now) signal }
+    ensures { (result, T.words trace.new) ≡ T.traces (T.words trace.old) (frame_seen image.now
+        (option_map (λ f. f.now) frame.entry) (M.Context.columns context.now) signal) }
 {
     let mut registers = *context;
     let unwind_ctx = UnwindContext::new(image, frame, &mut registers, signal);

@@ -14,6 +14,7 @@ ghost use Rattle.unwinding_frames.specs.Passes.{answer_of_personality};
 ghost use Rattle.unwinding_frames.specs.Seen.{FrameSeen, SeesFrame, in_column, past_in_column};
 ghost use Rattle.unwinding_frames.specs.Seen.{undoing, stepping, answering};
 ghost use Rattle.unwinding_frames.specs.LanguageViews.{answer_seen};
+ghost use Rattle.unwinding_frames.specs.ContextSeen.{frame_seen};
 ghost use Rattle.unwinding_core.specs.Stopping.{stopping};
 ghost use Rattle.unwinding_core.specs.Turns.{IsSeen, thrown_of, actions_in, answer_shown, asks_in};
 ghost use Rattle.unwinding_core.specs.Turns.{turn_shown, end_shown};
@@ -172,8 +173,9 @@ pub(crate) fn stop_answer<'a, M: Machine, T: Stop<M>>(
 ) -> Answer<M::Context>
     ensures { (result.code, M.Context.columns result.left, T.words stop.new) ≡
         T.stops (T.words stop.old)
-        (record { version = pos 1; actions = actions; class = call.exception_class }) image.now
-        (option_map (λ f. f.now) frame.entry) (M.Context.columns context.now) signal }
+        (record { version = pos 1; actions = actions; class = call.exception_class })
+        (frame_seen image.now (option_map (λ f. f.now) frame.entry)
+        (M.Context.columns context.now) signal) }
 {
     let mut left = *context;
     let mut unwind_ctx = UnwindContext::new(image, frame, &mut left, signal);

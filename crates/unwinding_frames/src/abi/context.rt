@@ -2,7 +2,7 @@
 //!
 //! Itanium C++ ABI, exception handling, section 1.5.
 
-ghost use Rattle.std.specs.Prelude.{◌≡◌, ◌≢◌, ℕ, pos, Some, Ok, OnSome, IfNone, is_some};
+ghost use Rattle.std.specs.Prelude.{◌≡◌, ◌≢◌, ℕ, pos, None, Some, Ok, OnSome, IfNone, is_some};
 ghost use Rattle.std.specs.Prelude.{if◌then◌else◌};
 ghost use Rattle.std.specs.Option.{option_map_or};
 ghost use Rattle.unwind_definitions.specs.LanguageSearch.{language_address};
@@ -10,17 +10,19 @@ ghost use Rattle.unwinding_frames.specs.Calling.{value_given};
 ghost use Rattle.unwinding_frames.specs.Columns.{column_at};
 
 use crate::frame::{Frame, StepError};
+use crate::place::Place;
 use memory_image::MemoryImage;
 use unwind_arch::{Machine, Register, RegisterMap};
 
 /// A frame as a personality sees it: the memory, what is known of its function, its registers, and
 /// whether it stands at the instruction of its return address, as after a signal.
 ///
-/// Contracts see these four.
+/// Contracts see these four, and the place of the function's language table where there is one.
 #[derive(Drop)]
 pub struct UnwindContext<'c, 'a, M: Machine> {
     pub(crate) image: &'c MemoryImage<'a>,
     pub(crate) frame: Option<&'c Frame<'a, M>>,
+    pub(crate) place: Option<&'c Place>,
     pub(crate) ctx: &'c mut M::Context,
     pub(crate) signal: bool,
 }
@@ -35,6 +37,7 @@ impl<'c, 'a, M: Machine> UnwindContext<'c, 'a, M> {
     ) -> UnwindContext<'c, 'a, M>
         ensures image { result.image ≡ image.entry }
         ensures frame { result.frame ≡ frame.entry }
+        ensures place { result.place ≡ None }
         ensures context { result.ctx.now ≡ ctx.old }
         ensures reference { result.ctx.ghost_name ≡ ctx.entry.ghost_name }
         ensures signal { result.signal ≡ signal }
@@ -42,6 +45,30 @@ impl<'c, 'a, M: Machine> UnwindContext<'c, 'a, M> {
         UnwindContext {
             image,
             frame,
+            place: None,
+            ctx,
+            signal,
+        }
+    }
+
+    /// A frame of which the place of its function's language table is known, and no description.
+    pub fn with_place(
+        image: &'c MemoryImage<'a>,
+        place: &'c Place,
+        ctx: &'c mut M::Context,
+        signal: bool,
+    ) -> UnwindContext<'c, 'a, M>
+        ensures image { result.image ≡ image.entry }
+        ensures frame { result.frame ≡ None }
+        ensures place { result.place ≡ Some place.entry }
+        ensures context { result.ctx.now ≡ ctx.old }
+        ensures reference { result.ctx.ghost_name ≡ ctx.entry.ghost_name }
+        ensures signal { result.signal ≡ signal }
+    {
+        UnwindContext {
+            image,
+            frame: None,
+            place: Some(place),
             ctx,
             signal,
         }
@@ -79,6 +106,7 @@ pub fn _Unwind_SetGR<M: Machine>(
     ensures unchanged { IfNone result (ctx.new.ctx.now ≡ ctx.old.ctx.now) }
     ensures image { ctx.new.image ≡ ctx.old.image }
     ensures frame { ctx.new.frame ≡ ctx.old.frame }
+    ensures place { ctx.new.place ≡ ctx.old.place }
     ensures reference { ctx.new.ctx.ghost_name ≡ ctx.old.ctx.ghost_name }
     ensures signal { ctx.new.signal ≡ ctx.old.signal }
 {
@@ -107,6 +135,7 @@ pub fn _Unwind_SetIP<M: Machine>(ctx: &mut UnwindContext<'_, '_, M>, value: u64)
         M.Context.columns ctx.new.ctx.now k ≡ M.Context.columns ctx.old.ctx.now k }
     ensures image { ctx.new.image ≡ ctx.old.image }
     ensures frame { ctx.new.frame ≡ ctx.old.frame }
+    ensures place { ctx.new.place ≡ ctx.old.place }
     ensures reference { ctx.new.ctx.ghost_name ≡ ctx.old.ctx.ghost_name }
     ensures signal { ctx.new.signal ≡ ctx.old.signal }
 {
@@ -126,18 +155,21 @@ pub fn _Unwind_GetIPInfo<M: Machine>(
     _Unwind_GetIP(ctx)
 }
 
-/// The address of the first byte of the frame's function, 0 without a frame.
+/// The address of the first byte of the frame's function, by the frame or by the place, 0 without
+/// both.
 pub fn _Unwind_GetRegionStart<M: Machine>(ctx: &UnwindContext<'_, '_, M>) -> u64
-    ensures { result ≡ option_map_or (λ f. f.now.found.fde.start) ctx.now.frame 0 }
+    ensures { result ≡ option_map_or (λ f. f.now.found.fde.start) ctx.now.frame
+        (option_map_or (λ p. p.now.start) ctx.now.place 0) }
 {
-    match ctx.frame {
-        None => 0,
-        Some(frame) => frame.initial_address(),
+    match (ctx.frame, ctx.place) {
+        (Some(frame), _) => frame.initial_address(),
+        (None, Some(place)) => place.start,
+        (None, None) => 0,
     }
 }
 
-/// The address of the language table of the frame's function, 0 where it has none or without a
-/// frame.
+/// The address of the language table of the frame's function, by the frame or by the place, 0 where
+/// it has none or without both.
 ///
 /// # Errors
 ///
@@ -146,32 +178,38 @@ pub fn _Unwind_GetLanguageSpecificData<M: Machine>(
     ctx: &UnwindContext<'_, '_, M>,
 ) -> Result<u64, StepError>
     ensures { value_given result ≡ option_map_or
-        (λ f. language_address ctx.now.image.now f.now.found.fde) ctx.now.frame (Ok 0) }
+        (λ f. language_address ctx.now.image.now f.now.found.fde) ctx.now.frame
+        (option_map_or (λ p. Ok p.now.lsda) ctx.now.place (Ok 0)) }
 {
-    match ctx.frame {
-        None => Ok(0),
-        Some(frame) => frame.lsda(ctx.image),
+    match (ctx.frame, ctx.place) {
+        (Some(frame), _) => frame.lsda(ctx.image),
+        (None, Some(place)) => Ok(place.lsda),
+        (None, None) => Ok(0),
     }
 }
 
-/// What pointers of the frame's description that are relative to the text count from, `None` where
-/// that isn't known; 0 without a frame.
+/// What pointers of the frame's description or of the place's language table that are relative to the
+/// text count from, `None` where that isn't known; 0 without both.
 pub fn _Unwind_GetTextRelBase<M: Machine>(ctx: &UnwindContext<'_, '_, M>) -> Option<u64>
-    ensures { result ≡ option_map_or (λ f. f.now.found.bases.text) ctx.now.frame (Some 0) }
+    ensures { result ≡ option_map_or (λ f. f.now.found.bases.text) ctx.now.frame
+        (option_map_or (λ p. p.now.bases.text) ctx.now.place (Some 0)) }
 {
-    match ctx.frame {
-        None => Some(0),
-        Some(frame) => frame.bases().text,
+    match (ctx.frame, ctx.place) {
+        (Some(frame), _) => frame.bases().text,
+        (None, Some(place)) => place.bases.text,
+        (None, None) => Some(0),
     }
 }
 
-/// What pointers of the frame's description that are relative to the data count from, `None` where
-/// that isn't known; 0 without a frame.
+/// What pointers of the frame's description or of the place's language table that are relative to the
+/// data count from, `None` where that isn't known; 0 without both.
 pub fn _Unwind_GetDataRelBase<M: Machine>(ctx: &UnwindContext<'_, '_, M>) -> Option<u64>
-    ensures { result ≡ option_map_or (λ f. f.now.found.bases.data_base) ctx.now.frame (Some 0) }
+    ensures { result ≡ option_map_or (λ f. f.now.found.bases.data_base) ctx.now.frame
+        (option_map_or (λ p. p.now.bases.data_base) ctx.now.place (Some 0)) }
 {
-    match ctx.frame {
-        None => Some(0),
-        Some(frame) => frame.bases().data_base,
+    match (ctx.frame, ctx.place) {
+        (Some(frame), _) => frame.bases().data_base,
+        (None, Some(place)) => place.bases.data_base,
+        (None, None) => Some(0),
     }
 }

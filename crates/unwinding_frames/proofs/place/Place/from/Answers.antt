@@ -1,6 +1,0 @@
-use Rattle.std.proofs.Common.{refl, arith}
-use Rattle.unwinding_frames.proofs.Windows.{place_read}
-use Rattle.unwinding_frames.proofs.place.Place.from.Goals as goal
-
-pub returns-then-offset-self : goal.returns-then-offset-self
-returns-then-offset-self c = λ image laid place. place_read image c.args.self.now.start c.args.self.now.bytes.now laid place c.args.address _ (omega arith) refl c.if-offset-self.true _ refl
