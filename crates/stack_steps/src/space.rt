@@ -1,6 +1,6 @@
 // An image of memory, and the modules that lie in it.
 ghost use Rattle.std.specs.Prelude.{◌≡◌, ◌<◌, [], None, Some, IfOk, IfSome, MatchOption, ◌-◌, ◌≤◌, true};
-ghost use Rattle.std.specs.Prelude.{IsOkUnless, OnOk, OnErr};
+ghost use Rattle.std.specs.Prelude.{IsOkUnless, OnOk, OnErr, ◌↔◌};
 ghost use Rattle.std.specs.List.{Contains};
 ghost use Rattle.std.specs.Option.{option_map};
 ghost use Rattle.memory_image.specs.Image.{IsLaidOut};
@@ -360,7 +360,8 @@ impl<'a> Space<'a> {
     /// How many descriptions the index of the module has that holds the address. 0 exactly where no
     /// prepared module holds it.
     pub fn prepared_len(&self, address: u64) -> u64
-        ensures { result ≡ prepared_len self.now address }
+        ensures len { result ≡ prepared_len self.now address }
+        ensures none { (result ≡ 0) ↔ (index_at self.now.added address ≡ None) }
     {
         match self.held_at(address) {
             Some(held) => match &held.table {
