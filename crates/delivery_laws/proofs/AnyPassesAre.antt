@@ -7,7 +7,7 @@ use Rattle.std.proofs.Math.ListN.{length-set}
 use Rattle.unwind_definitions.specs.Row.{RowInstructions, argument_size}
 use Rattle.unwind_definitions.specs.Caller.{Columns, StepFault, x86_64, caller_of}
 use Rattle.unwind_definitions.specs.Function.{Action, NoAction, Cleanup, Catch, Filter, Terminate}
-use Rattle.unwind_definitions.specs.LanguageSearch.{personality_address, address_of_call, language_action}
+use Rattle.unwind_definitions.specs.LanguageSearch.{LanguagePlace, personality_address, address_of_call, language_action}
 use Rattle.frame_rows.specs.RowValue.{RowValue}
 use Rattle.unwind_arch.specs.declared.x86_64.Context.{Context}
 use Rattle.unwind_definitions.specs.Columns.{rsp}
@@ -30,7 +30,7 @@ use Rattle.stack_walks.specs.declared.outward.Phase.{Phase}
 use Rattle.stack_walks.specs.declared.outward.Phase.TheVariants as phase
 use Rattle.delivery_laws.specs.AnyPasses.{marked_of, no_routine, undoing_in, sees_in, stepping_in, rust_in, answer_left, Search, TakenBy, Untaken, search_end, search_stop, search_line, search_of, pass_end, FollowedBy, ResumedBy, IsSearchBy, IsPassBy, ArePassesBy, IsDeliveredAfter, IsDeliveredBy, IsDeliveryBy}
 use Rattle.stack_steps.specs.Modules.{SpaceValue}
-use Rattle.stack_steps.specs.Asking.{action_if_named, action_asked, arguments_of, or_terminate, recorded_action, unless_handled}
+use Rattle.stack_steps.specs.Asking.{action_if_named, action_asked, arguments_of, or_terminate, recorded_table, table_if_named, unless_handled}
 use Rattle.stack_walks.specs.Turns.{Line, Stop, Turn, Ends, Stops, Goes, stops, stop_by, turn_at, turn_in, turn_for, line_turn, line_for, pass_of, past_arguments, pad_of, enters, mark_at, with_context}
 use Rattle.stack_deliver.specs.Passes.{PassEnd, Finishes, Elsewhere, end_at, end_by, end_of, cleanup_of, ending_at, cleanup_at, resume_at, CleanupsRun, with_cleanup, cleanup_and_rest, after_pass, passes_of}
 use Rattle.stack_deliver.specs.StackDelivery.{DeliveryValue, delivery_after, delivery_at, delivery_to, delivery_by, stack_delivery}
@@ -184,6 +184,9 @@ module _ (space : SpaceValue) (row : RowInstructions → RowValue) (thrown : Thr
       abbrev Framed : FrameAt → Result Action DeliverError → Result (UnwindReasonCode × Context) DeliverError → Type 0
       Framed f due answer = Turned ph x (result_map (stop_by ph) due >>= turn_at space.image x.context f) (turn_asked (undoing_in space) f x (tt, answer))
 
+      abbrev acted : Result (Option (Result LanguagePlace StepFault)) DeliverError → Result Action DeliverError
+      acted named = result_map (action_if_named space.image (address_of_call x.context.ra x.signal)) named
+
       spoken : (f : FrameAt) (action : Action) (code : UnwindReasonCode) (left : Context) (t : Bool) → stops ph action ≡ t → Answers ph x f action t code left → Framed f (Ok action) (Ok (code, left))
       spoken f wanted code left true is (other, agrees) = rw (is, other) (code, left, past_arguments left (arguments_of f), refl, agrees)
       spoken f wanted code left false is (same, stays) = rw (is, same, stays) (called f)
@@ -200,23 +203,23 @@ module _ (space : SpaceValue) (row : RowInstructions → RowValue) (thrown : Thr
             Framed (Described f) (Ok (or_terminate (language_action space.image f.found.bases f.found.fde (address_of_call x.context.ra x.signal)))) (Ok (p.answers routine (acts x) (Described f) x))
         named routine is =
             let action : Action = or_terminate (language_action space.image f.found.bases f.found.fde (address_of_call x.context.ra x.signal)) in
-            let a = answered x f routine action whole (record { routine = routine; named = is; asks = ap (action_if_named space.image x.context x.signal f.found) is }) in
+            let a = answered x f routine action whole (record { routine = routine; named = is; asks = ap (λ (r : Result (Option ℕ) StepFault). acted (table_if_named space.image f.found r)) is }) in
             subst (λ (r : UnwindReasonCode × Context). Framed (Described f) (Ok action) (Ok r)) (sym a.is) (spoken (Described f) action a.code a.left (stops ph action) refl a.agrees)
 
         described : Framed (Described f) (action_asked space.image x.context x.signal (Described f)) (answer_of_personality p (acts x) (Described f) x)
         described = go (personality_address space.image f.found.fde) refl
           where
             go : (r : Result (Option ℕ) StepFault) → personality_address space.image f.found.fde ≡ r →
-                Framed (Described f) (action_if_named space.image x.context x.signal f.found r) (any.asked_if_named p (acts x) (Described f) x (result_map_both (λ routine. routine) refusal_of r))
+                Framed (Described f) (acted (table_if_named space.image f.found r)) (any.asked_if_named p (acts x) (Described f) x (result_map_both (λ routine. routine) refusal_of r))
             go (Err e) is = refl
             go (Ok None) is = silent (Described f)
             go (Ok (Some routine)) is = named routine is
 
-      handled : (f : FrameAt) (names : Bool) (e : DeliverError) → Framed f (unless_handled names e) (any.asked_if_named p (acts x) f x (no_routine (unless_handled names e)))
+      handled : (f : FrameAt) (names : Bool) (e : DeliverError) → Framed f (acted (unless_handled names e)) (any.asked_if_named p (acts x) f x (no_routine (unless_handled names e)))
       handled f true e = refl
       handled f false e = silent f
 
-      recorded : (f : FrameAt) (r : Result Bool FrameFault) → Framed f (recorded_action r) (any.asked_if_named p (acts x) f x (no_routine (recorded_action r)))
+      recorded : (f : FrameAt) (r : Result Bool FrameFault) → Framed f (acted (recorded_table r)) (any.asked_if_named p (acts x) f x (no_routine (recorded_table r)))
       recorded f (Ok names) = handled f names PeHandler
       recorded f (Err e) = refl
 

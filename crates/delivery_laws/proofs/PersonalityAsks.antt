@@ -1,8 +1,9 @@
 -- What the personality of Rust answers for a frame is what the passes ask of it.
-use Rattle.std.proofs.Common.{inl, inr, ◌≡◌, ◌≢◌, ℕ, Bool, true, false, cond, eqb, List, set, Some, Result, Ok, Err, refl, sym, ap, subst, ◌∙◌, arith}
+use Rattle.std.proofs.Common.{inl, inr, ◌≡◌, ◌≢◌, ℕ, Bool, true, false, cond, eqb, List, set, Option, Some, Result, Ok, Err, refl, sym, ap, subst, ◌∙◌, arith}
 use Rattle.std.specs.Prelude.{pos, IsSome, ◌↔◌}
 use Rattle.std.proofs.lemmas.Bool.Decides.{nat_tests}
 use Rattle.memory_image.specs.Image.{Span}
+use Rattle.memory_image.specs.Results.{result_map}
 use Rattle.unwind_definitions.specs.Caller.{Columns, StepFault}
 use Rattle.unwind_definitions.specs.Function.{Action, NoAction, Cleanup, Catch, Filter, Terminate}
 use Rattle.unwind_definitions.specs.LanguageSearch.{address_of_call, language_action}
@@ -15,7 +16,7 @@ use Rattle.unwinding_frames.specs.declared.abi.TheConstants.UnwindReasonCode.{CO
 use Rattle.unwinding_frames.specs.Personalities.{Asked, Answer, columns_at_pad, search_answer, answered_by}
 use Rattle.stack_steps.specs.declared.answers.DeliverError.{DeliverError}
 use Rattle.stack_walks.specs.declared.outward.Phase.TheVariants as phase
-use Rattle.stack_steps.specs.Asking.{or_terminate, action_if_named}
+use Rattle.stack_steps.specs.Asking.{or_terminate, action_if_named, table_if_named}
 use Rattle.stack_walks.specs.Turns.{enters, stops, pad_of}
 use Rattle.delivery_laws.specs.Personality.{landing_columns, InSearch, InCleanup, IsAsked, AnswersCleanup, answer_for, code_of}
 use Rattle.stack_steps.proofs.ContextLemmas.{IsWhole, Holds, with_column-holds}
@@ -56,7 +57,7 @@ module _ (image : List Span) (c : Context) (interrupted : Bool) (frame : FrameVa
   table = language_action image frame.found.bases frame.found.fde (address_of_call c.ra interrupted)
 
   told : or_terminate table ≡ action
-  told = inner (ap (action_if_named image c interrupted frame.found) (sym is.named) ∙ is.asks)
+  told = inner (ap (λ (r : Result (Option ℕ) StepFault). result_map (action_if_named image (address_of_call c.ra interrupted)) (table_if_named image frame.found r)) (sym is.named) ∙ is.asks)
     where
       inner : ◌≡◌ {A = Result Action DeliverError} (Ok (or_terminate table)) (Ok action) → or_terminate table ≡ action
       inner e = cc

@@ -3,7 +3,7 @@
 use Rattle.std.specs.Prelude.{◌≡◌, ℕ, zero, suc, true, false, List, [], Option, Some, None, Result, Ok, Err, map, slice_index, if◌then◌else◌}
 use Rattle.std.specs.Option.{option_map_or}
 use Rattle.std.specs.Result.{result_map_both}
-use Rattle.unwind_definitions.specs.Function.{Action}
+use Rattle.unwind_definitions.specs.LanguageSearch.{LanguagePlace}
 use Rattle.unwind_definitions.specs.Row.{RowInstructions}
 use Rattle.unwind_definitions.specs.Caller.{Columns, StepFault}
 use Rattle.frame_rows.specs.RowValue.{RowValue}
@@ -22,7 +22,7 @@ use Rattle.stack_walks.specs.declared.room.Trail.{Trail}
 use Rattle.stack_deliver.specs.declared.answers.Outcome.{Outcome}
 use Rattle.stack_deliver.specs.declared.answers.Outcome.TheVariants.{EndOfStack, FatalPhase1}
 use Rattle.stack_steps.specs.declared.answers.DeliverError.{DeliverError}
-use Rattle.stack_steps.specs.declared.answers.DeliverError.TheVariants.{CompactHandler, FrameLimit, PassLimit}
+use Rattle.stack_steps.specs.declared.answers.DeliverError.TheVariants.{FrameLimit, PassLimit}
 use Rattle.stack_walks.specs.declared.outward.Phase.TheVariants as phase
 use Rattle.stack_deliver.specs.StackDelivery.{DeliveryValue, delivery_after, no_delivery}
 use Rattle.stack_steps.specs.Modules.{SpaceValue}
@@ -33,9 +33,7 @@ use Rattle.delivery_laws.specs.Personality.{landing_columns}
 use Rattle.stack_deliver.specs.Resumes.{return_of}
 use Rattle.memory_image.specs.Results.{result_map}
 use Rattle.stack_steps.specs.Stepping.{FrameAt, DescribedFrame, Described, Compact, Recorded, frame_of, caller_by, refusal_of}
-use Rattle.stack_steps.specs.Asking.{arguments_of, recorded_action, unless_handled}
-use Rattle.format_definitions.specs.PeImage.{memory_of}
-use Rattle.format_frames.specs.Handlers.{has_language_table, handler_in}
+use Rattle.stack_steps.specs.Asking.{arguments_of, named_table}
 use Rattle.unwinding_frames.specs.declared.abi.UnwindAction.{UnwindAction}
 
 -- ---- the step of a space
@@ -76,14 +74,14 @@ abbrev pub rust : SpaceValue → Thrown → Answering Columns FrameSeen StepFaul
 rust space thrown = answering (rust_answers landing_columns) space.image thrown
 
 -- a frame of another format names no personality, or one that isn't asked
-abbrev pub no_routine : Result Action DeliverError → Result (Option ℕ) DeliverError
-no_routine asked = result_map (λ action. None) asked
+abbrev pub no_routine : Result (Option (Result LanguagePlace StepFault)) DeliverError → Result (Option ℕ) DeliverError
+no_routine named = result_map (λ place. None) named
 
 module _ (space : SpaceValue) (row : RowInstructions → RowValue) (thrown : Thrown) where
   abbrev pub rust_named : FrameAt → Result (Option ℕ) DeliverError
   rust_named (Described f) = result_map_both (λ routine. routine) refusal_of ((rust space thrown).named (seen_with row f))
-  rust_named (Compact m a listed) = no_routine (unless_handled (has_language_table listed) CompactHandler)
-  rust_named (Recorded m rva function) = no_routine (recorded_action (handler_in (memory_of space.image m.base) function))
+  rust_named (Compact m a listed) = no_routine (named_table space.image (Compact m a listed))
+  rust_named (Recorded m rva function) = no_routine (named_table space.image (Recorded m rva function))
 
   abbrev pub rust_answered : ℕ → UnwindAction → FrameAt → Marked Context → UnwindReasonCode × Context
   rust_answered routine actions (Described f) x = answer_left ((rust space thrown).answers routine actions (seen_with row f) (at_columns x))

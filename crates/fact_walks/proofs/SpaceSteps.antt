@@ -1,15 +1,16 @@
 -- The step of a space where its tables say facts.
-use Rattle.std.proofs.Common.{◌≡◌, ◌≢◌, ℕ, ◌^◌, ◌<◌, Bool, true, false, [], Option, Some, None, Ok, refl, sym, ap, subst, ◌∙◌, arith, eqb, ltb, leb}
+use Rattle.std.proofs.Common.{◌≡◌, ◌≢◌, ℕ, ◌^◌, ◌<◌, Bool, true, false, [], Option, Some, None, Result, Ok, refl, sym, ap, subst, ◌∙◌, arith, eqb, ltb, leb}
 use Rattle.std.specs.Prelude.{IsTrue}
 use Rattle.std.proofs.lemmas.Bool.Decides.{nat_tests}
 use Rattle.std.proofs.lemmas.Bool.{ltb-true, leb-true}
 use Rattle.memory_image.specs.Image.{IsLaidOut}
+use Rattle.memory_image.specs.Results.{result_map}
 use Rattle.unwind_definitions.specs.Pointers.{Bases}
 use Rattle.unwind_definitions.specs.Row.{row_at}
 use Rattle.unwind_definitions.specs.LanguageTable.{input_at}
 use Rattle.unwind_definitions.specs.Function.{Action, NoAction}
 use Rattle.unwind_definitions.specs.LanguageSearch.{address_of_call, personality_address, language_action}
-use Rattle.unwind_definitions.specs.Caller.{Columns}
+use Rattle.unwind_definitions.specs.Caller.{Columns, StepFault}
 use Rattle.unwind_definitions.specs.State.{State, IsState, Shows, KeepsOthers}
 use Rattle.unwind_definitions.specs.Module as described
 use Rattle.unwind_definitions.specs.Expressions.{evaluation}
@@ -28,13 +29,14 @@ use Rattle.fde_finders.specs.declared.custom.FrameInfoKind.TheVariants.{EhFrame,
 use Rattle.fde_finders.specs.Finding.{FoundFde, table_bases, scanned_in}
 use Rattle.fde_finders.specs.Named.{found_by_kind}
 use Rattle.fde_finders.specs.declared.custom.FrameInfo.{FrameInfo}
+use Rattle.stack_steps.specs.declared.answers.DeliverError.{DeliverError}
 use Rattle.stack_steps.specs.declared.space.Module.{Module}
 use Rattle.stack_steps.specs.declared.space.ModuleTables.TheVariants.{Elf}
 use Rattle.format_frames.specs.declared.machine.Stepped.{Stepped}
 use Rattle.stack_steps.specs.Modules.{SpaceValue, AreApart, module_at}
 use Rattle.stack_steps.specs.SpaceViews.{tables_of, elf_module, process_of}
 use Rattle.stack_steps.specs.Stepping.{step_of, FrameAt, Described, frame_of, caller_by}
-use Rattle.stack_steps.specs.Asking.{action_if_named, described_action}
+use Rattle.stack_steps.specs.Asking.{action_if_named, described_action, table_if_named}
 use Rattle.stack_steps.specs.Undoing.{Undone}
 use Rattle.stack_steps.proofs.HeaderFinds.{header_finds}
 use Rattle.stack_steps.proofs.StepParts.{some_next, stepped_by, step_is}
@@ -157,9 +159,12 @@ module _ (space : SpaceValue) (c : Context) (interrupted : Bool) (s t : State) (
   -- What the description asks that says the facts is asked of the frame.
   asked_there : (found : FoundFde) (a : ℕ) (routine : Option ℕ) (x : Action) → address_of_call s.ra interrupted ≡ a → personality_address space.image found.fde ≡ Ok routine → (routine ≡ None → x ≡ NoAction) →
       language_action space.image found.bases found.fde a ≡ Ok x → described_action space.image c interrupted found ≡ Ok x
-  asked_there found a routine x at named silent asks = ap (action_if_named space.image c interrupted found) named ∙ go routine silent
+  asked_there found a routine x at named silent asks = ap asked named ∙ go routine silent
     where
-      go : (o : Option ℕ) → (o ≡ None → x ≡ NoAction) → action_if_named space.image c interrupted found (Ok o) ≡ Ok x
+      asked : Result (Option ℕ) StepFault → Result Action DeliverError
+      asked routine = result_map (action_if_named space.image (address_of_call c.ra interrupted)) (table_if_named space.image found routine)
+
+      go : (o : Option ℕ) → (o ≡ None → x ≡ NoAction) → asked (Ok o) ≡ Ok x
       go None silent = rw (silent refl) refl
       go (Some r) silent = let same : c.ra ≡ s.ra = ra_is in rw (same, at, asks) refl
 

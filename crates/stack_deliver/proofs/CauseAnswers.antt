@@ -2,7 +2,8 @@
 use Rattle.std.proofs.Common.{inl, inr, ◌≡◌, ℕ, zero, suc, Bool, true, false, cond, List, Option, Some, None, Result, Ok, Err, refl, sym, ap, subst, ◌∙◌, arith}
 use Rattle.std.specs.Prelude.{◌⊎◌}
 use Rattle.unwind_definitions.specs.Function.{Action}
-use Rattle.unwind_definitions.specs.LanguageSearch.{personality_address}
+use Rattle.memory_image.specs.Results.{result_map}
+use Rattle.unwind_definitions.specs.LanguageSearch.{LanguagePlace, address_of_call, personality_address}
 use Rattle.unwind_definitions.specs.Caller as calls
 use Rattle.unwind_arch.specs.declared.x86_64.Context.{Context}
 use Rattle.fde_finders.specs.Finding.{FoundFde}
@@ -19,7 +20,7 @@ use Rattle.pe_unwind_info.specs.declared.x86_64.fault.FrameFault.{FrameFault}
 use Rattle.pe_unwind_info.specs.declared.x86_64.fault.FrameFault.TheVariants as pe
 use Rattle.format_definitions.specs.PeImage.{memory_of}
 use Rattle.format_frames.specs.Handlers.{has_language_table, handler_in}
-use Rattle.stack_steps.specs.Asking.{action_if_named, action_asked, recorded_action, unless_handled}
+use Rattle.stack_steps.specs.Asking.{action_if_named, action_asked, named_table, recorded_table, table_if_named, unless_handled}
 use Rattle.stack_walks.specs.Turns.{turn_at, stops, Line, Stop, Turn, Ends, Stops, Goes, turn_of, with_context, line_turn, pass_of, mark_at, pad_of, turn_for}
 use Rattle.stack_deliver.specs.Passes.{PassEnd, Finishes, Elsewhere, end_of, cleanup_of, cleanup_at, resume_at, CleanupsRun, with_cleanup, cleanup_and_rest, after_pass, passes_of}
 use Rattle.stack_deliver.specs.StackDelivery.{delivery_after, delivery_at, delivery_to, delivery_by, stack_delivery}
@@ -132,7 +133,7 @@ module _ (space : SpaceValue) where
       framed_refused (pe.Stack a) = tt
       framed_refused pe.ChainLimit = tt
 
-      described : (found : FoundFde) (r : Result (Option ℕ) calls.StepFault) → OnStepFault (action_if_named space.image c interrupted found r)
+      described : (found : FoundFde) (r : Result (Option ℕ) calls.StepFault) → OnStepFault (table_if_named space.image found r)
       described found (Ok None) = tt
       described found (Ok (Some routine)) = tt
       described found (Err e) = refused e
@@ -141,14 +142,21 @@ module _ (space : SpaceValue) where
       handled true e is = is
       handled false e is = tt
 
-      recorded : (r : Result Bool FrameFault) → OnStepFault (recorded_action r)
+      recorded : (r : Result Bool FrameFault) → OnStepFault (recorded_table r)
       recorded (Ok named) = handled named PeHandler tt
       recorded (Err e) = framed_refused e
 
+      named : (f : FrameAt) → OnStepFault (named_table space.image f)
+      named (Described f) = described f.found (personality_address space.image f.found.fde)
+      named (Compact m a listed) = handled (has_language_table listed) CompactHandler tt
+      named (Recorded m rva function) = recorded (handler_in (memory_of space.image m.base) function)
+
+      by_named : (r : Result (Option (Result LanguagePlace calls.StepFault)) DeliverError) → OnStepFault r → OnStepFault (result_map (action_if_named space.image (address_of_call c.ra interrupted)) r)
+      by_named (Ok place) on = tt
+      by_named (Err e) on = on
+
       asks : (f : FrameAt) → OnStepFault (action_asked space.image c interrupted f)
-      asks (Described f) = described f.found (personality_address space.image f.found.fde)
-      asks (Compact m a listed) = handled (has_language_table listed) CompactHandler tt
-      asks (Recorded m rva function) = recorded (handler_in (memory_of space.image m.base) function)
+      asks f = by_named (named_table space.image f) (named f)
 
       by_frame : (r : Result (Option FrameAt) DeliverError) → frame_of space c interrupted ≡ r → OnStepFault (turn_by p space.image c interrupted r)
       by_frame (Ok None) is = tt

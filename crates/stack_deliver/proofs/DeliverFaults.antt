@@ -2,6 +2,7 @@
 use Rattle.std.proofs.Common.{◌≡◌, ◌≢◌, ℕ, zero, suc, Bool, true, false, cond, List, Option, Some, None, Result, Ok, Err, refl, ap, subst, ◌∙◌}
 use Rattle.std.specs.Option.{option_map, option_map_or}
 use Rattle.memory_image.specs.Image.{Span, word_at}
+use Rattle.memory_image.specs.Results.{result_map}
 use Rattle.unwind_definitions.specs.Pointers.{Pointer, Direct, Indirect}
 use Rattle.unwind_definitions.specs.Function.{Action}
 use Rattle.unwind_definitions.specs.LanguageSearch as tables
@@ -27,7 +28,7 @@ use Rattle.stack_walks.specs.declared.outward.Phase.TheVariants as phase
 use Rattle.stack_steps.specs.Modules.{SpaceValue}
 use Rattle.stack_deliver.specs.Resumes.{return_of}
 use Rattle.stack_steps.specs.Stepping.{step_of, refusal_of, FrameAt, Described, Compact, Recorded, frame_of, caller_by}
-use Rattle.stack_steps.specs.Asking.{action_if_named, action_asked, described_action, recorded_action, unless_handled}
+use Rattle.stack_steps.specs.Asking.{action_if_named, action_asked, described_table, named_table, recorded_table, table_if_named, unless_handled}
 use Rattle.stack_walks.specs.Turns.{turn_at, stops, Turn, Ends, Stops, Goes, turn_of, Line, with_context, line_turn, pass_of, mark_at, pad_of, Stop, turn_for}
 use Rattle.stack_deliver.specs.Passes.{PassEnd, Finishes, Elsewhere, end_of, cleanup_of, cleanup_at, resume_at, CleanupsRun, with_cleanup, cleanup_and_rest, after_pass, passes_of}
 use Rattle.stack_deliver.specs.StackDelivery.{delivery_after, delivery_at, delivery_to, delivery_by, stack_delivery}
@@ -126,14 +127,14 @@ target_cause image (Indirect a) = go (word_at image a) refl
     go None none = none
     go (Some w) some = tt
 
-described_cause : (image : List Span) (c : Context) (interrupted : Bool) (found : FoundFde) → OnCause image (described_action image c interrupted found)
-described_cause image c interrupted found = go found.fde.cie.letters.personality
+described_cause : (image : List Span) (found : FoundFde) → OnCause image (described_table image found)
+described_cause image found = go found.fde.cie.letters.personality
   where
-    by_target : (r : Result ℕ calls.StepFault) → OnTarget image r → OnCause image (action_if_named image c interrupted found (tables.some_address r))
+    by_target : (r : Result ℕ calls.StepFault) → OnTarget image r → OnCause image (table_if_named image found (tables.some_address r))
     by_target (Ok a) on = tt
     by_target (Err e) on = on
 
-    go : (o : Option (ℕ × Pointer)) → OnCause image (action_if_named image c interrupted found (option_map_or (λ p. tables.some_address (tables.target image p)) (option_map (λ p. p.1) o) (Ok None)))
+    go : (o : Option (ℕ × Pointer)) → OnCause image (table_if_named image found (option_map_or (λ p. tables.some_address (tables.target image p)) (option_map (λ p. p.1) o) (Ok None)))
     go None = tt
     go (Some p) = by_target (tables.target image p.1) (target_cause image p.1)
 
@@ -142,10 +143,10 @@ handled_cause image e is true = is
 handled_cause image e is false = tt
 
 -- An unwind record isn't on the stack.
-recorded_cause : (image : List Span) (m : PeModule) (function : Option RuntimeFunction) → OnCause image (recorded_action (handler_in (memory_of image m.base) function))
+recorded_cause : (image : List Span) (m : PeModule) (function : Option RuntimeFunction) → OnCause image (recorded_table (handler_in (memory_of image m.base) function))
 recorded_cause image m function = go (chain_of (memory_of image m.base) 33 function) (chain_faults (memory_of image m.base) 33 function)
   where
-    go : (r : Result (List Info) FrameFault) → OnChain r → OnCause image (recorded_action (result_map_both any_handler (λ fault. fault) r))
+    go : (r : Result (List Info) FrameFault) → OnChain r → OnCause image (recorded_table (result_map_both any_handler (λ fault. fault) r))
     go (Ok infos) on = handled_cause image PeHandler tt (any_handler infos)
     go (Err (pe.Memory rva)) on = tt
     go (Err (pe.Info rva)) on = tt
@@ -153,10 +154,17 @@ recorded_cause image m function = go (chain_of (memory_of image m.base) 33 funct
     go (Err (pe.Stack a)) on = absurd on
     go (Err pe.ChainLimit) on = tt
 
+named_cause : (image : List Span) (f : FrameAt) → OnCause image (named_table image f)
+named_cause image (Described f) = described_cause image f.found
+named_cause image (Compact m a listed) = handled_cause image CompactHandler tt (has_language_table listed)
+named_cause image (Recorded m rva function) = recorded_cause image m function
+
 asked_cause : (image : List Span) (c : Context) (interrupted : Bool) (f : FrameAt) → OnCause image (action_asked image c interrupted f)
-asked_cause image c interrupted (Described f) = described_cause image c interrupted f.found
-asked_cause image c interrupted (Compact m a listed) = handled_cause image CompactHandler tt (has_language_table listed)
-asked_cause image c interrupted (Recorded m rva function) = recorded_cause image m function
+asked_cause image c interrupted f = go (named_table image f) (named_cause image f)
+  where
+    go : (r : Result (Option (Result tables.LanguagePlace calls.StepFault)) DeliverError) → OnCause image r → OnCause image (result_map (action_if_named image (tables.address_of_call c.ra interrupted)) r)
+    go (Ok place) on = tt
+    go (Err e) on = on
 
 -- ---- passes
 

@@ -3,63 +3,38 @@ use Rattle.std.proofs.Common.{inl, inr, ◌≡◌, ℕ, zero, suc, Bool, true, f
 use Rattle.std.specs.Prelude.{◌⊎◌}
 use Rattle.unwind_definitions.specs.Caller as calls
 use Rattle.unwind_definitions.specs.Function.{Action, NoAction, Terminate}
-use Rattle.unwind_definitions.specs.LanguageSearch.{personality_address, address_of_call, language_action}
+use Rattle.unwind_definitions.specs.LanguageSearch.{LanguagePlace, address_of_call, table_action}
 use Rattle.memory_image.specs.Image.{Span}
-use Rattle.pe_unwind_info.specs.declared.x86_64.fault.FrameFault.{FrameFault}
-use Rattle.format_definitions.specs.PeImage.{memory_of}
-use Rattle.format_frames.specs.Handlers.{has_language_table, handler_in}
+use Rattle.memory_image.specs.Results.{result_map}
 use Rattle.unwind_arch.specs.declared.x86_64.Context.{Context}
 use Rattle.format_frames.specs.declared.machine.Stepped.{Stepped}
 use Rattle.stack_steps.specs.declared.answers.DeliverError.{DeliverError}
-use Rattle.stack_steps.specs.declared.answers.DeliverError.TheVariants.{CompactHandler, FrameLimit, PeHandler}
+use Rattle.stack_steps.specs.declared.answers.DeliverError.TheVariants.{FrameLimit}
 use Rattle.stack_walks.specs.declared.outward.Phase.{Phase}
 use Rattle.stack_steps.specs.Modules.{SpaceValue}
-use Rattle.stack_steps.specs.Stepping.{step_of, FrameAt, DescribedFrame, Described, Compact, Recorded, frame_of, caller_by}
-use Rattle.stack_steps.specs.Asking.{or_terminate, action_if_named, action_asked, arguments_of, described_action, recorded_action, unless_handled}
+use Rattle.stack_steps.specs.Stepping.{step_of, FrameAt, frame_of, caller_by}
+use Rattle.stack_steps.specs.Asking.{or_terminate, action_if_named, action_asked, arguments_of, named_table}
 use Rattle.stack_walks.specs.Turns.{turn_at, stops, past_arguments, Line, Stop, Turn, Ends, Stops, Goes, turn_of, with_context, line_turn, pass_of, turn_for}
 use Rattle.stack_walks.proofs.TurnLines.{stop_in}
-use Rattle.stack_deliver.specs.Causes.{Asks, GoesTo, EndsProgram, StackEnds, CantRead, RecordsRefused, HandlerRefused, Meets, GoesOnFrom}
+use Rattle.stack_deliver.specs.Causes.{Asks, GoesTo, EndsProgram, StackEnds, CantRead, Meets, GoesOnFrom}
 use Rattle.stack_steps.proofs.StepParts.{some_next, stepped_by, step_is, none_framed}
 use Rattle.stack_deliver.proofs.TurnParts.{goes, turn_asked, turn_by}
 
--- ---- what names a handler
+-- ---- what names a language table
 
 module _ (image : List Span) (c : Context) (interrupted : Bool) where
-  handled_refused : (e refusal : DeliverError) (named : Bool) → unless_handled named refusal ≡ Err e → (named ≡ true) × (e ≡ refusal)
-  handled_refused e refusal true fails = (refl, cc)
-  handled_refused e refusal false fails = absurd cc
+  abbrev action_by : Option (Result LanguagePlace calls.StepFault) → Action
+  action_by = action_if_named image (address_of_call c.ra interrupted)
 
-  recorded_refused : (e : DeliverError) (r : Result Bool FrameFault) → recorded_action r ≡ Err e → RecordsRefused e r
-  recorded_refused e (Ok named) fails = handled_refused e PeHandler named fails
-  recorded_refused e (Err fault) fails = cc
+  asked_refused : (f : FrameAt) (e : DeliverError) → action_asked image c interrupted f ≡ Err e → named_table image f ≡ Err e
+  asked_refused f e = go (named_table image f)
+    where
+      go : (r : Result (Option (Result LanguagePlace calls.StepFault)) DeliverError) → result_map action_by r ≡ Err e → r ≡ Err e
+      go (Ok named) fails = absurd cc
+      go (Err fault) fails = cc
 
-  refused_recorded : (e : DeliverError) (r : Result Bool FrameFault) → RecordsRefused e r → recorded_action r ≡ Err e
-  refused_recorded e (Ok named) is = rw (is.0, is.1) refl
-  refused_recorded e (Err fault) is = rw is refl
-
-  described_refused : (f : DescribedFrame) (e : DeliverError) (r : Result (Option ℕ) calls.StepFault) → personality_address image f.found.fde ≡ r → action_if_named image c interrupted f.found r ≡ Err e → HandlerRefused e image (Described f)
-  described_refused f e (Ok None) named fails = absurd cc
-  described_refused f e (Ok (Some routine)) named fails = absurd cc
-  described_refused f e (Err fault) named fails = (fault, named, cc)
-
-  asked_refused : (f : FrameAt) (e : DeliverError) → action_asked image c interrupted f ≡ Err e → HandlerRefused e image f
-  asked_refused (Described f) e fails = described_refused f e (personality_address image f.found.fde) refl fails
-  asked_refused (Compact m a listed) e fails = handled_refused e CompactHandler (has_language_table listed) fails
-  asked_refused (Recorded m rva function) e fails = recorded_refused e (handler_in (memory_of image m.base) function) fails
-
-  refused_asked : (f : FrameAt) (e : DeliverError) → HandlerRefused e image f → action_asked image c interrupted f ≡ Err e
-  refused_asked (Described f) e is = let fault : calls.StepFault = is.0 in rw (is.1, is.2) refl
-  refused_asked (Compact m a listed) e is = rw (is.0, is.1) refl
-  refused_asked (Recorded m rva function) e is = refused_recorded e (handler_in (memory_of image m.base) function) is
-
-  -- no other frame ends the program
-  unended : (named : Bool) (e : DeliverError) → unless_handled named e ≡ Ok Terminate → ⊥
-  unended true e is = absurd cc
-  unended false e is = let bad : NoAction ≡ Terminate = cc in absurd cc
-
-  unended_recorded : (r : Result Bool FrameFault) → recorded_action r ≡ Ok Terminate → ⊥
-  unended_recorded (Ok named) is = unended named PeHandler is
-  unended_recorded (Err fault) is = absurd cc
+  refused_asked : (f : FrameAt) (e : DeliverError) → named_table image f ≡ Err e → action_asked image c interrupted f ≡ Err e
+  refused_asked f e is = ap (result_map action_by) is
 
 -- ---- a turn
 
@@ -151,38 +126,30 @@ module _ (p : Phase) (space : SpaceValue) (c : Context) (interrupted : Bool) whe
 -- ---- the language's answer to end the program
 
 module _ (space : SpaceValue) (c : Context) (interrupted : Bool) where
-  pub ends_asks : EndsProgram space c interrupted → Asks space c interrupted Terminate
-  ends_asks ends = record { frame = Described ends.frame; framed = ends.framed; asked = ap (action_if_named space.image c interrupted ends.frame.found) ends.named ∙ fatal ends.fatal }
-    where
-      asked : Result Action calls.StepFault
-      asked = language_action space.image ends.frame.found.bases ends.frame.found.fde (address_of_call c.ra interrupted)
+  abbrev asked_at : Result LanguagePlace calls.StepFault → Result Action calls.StepFault
+  asked_at place = table_action space.image (address_of_call c.ra interrupted) place
 
+  pub ends_asks : EndsProgram space c interrupted → Asks space c interrupted Terminate
+  ends_asks ends = record { frame = ends.frame; framed = ends.framed; asked = ap (result_map (action_by space.image c interrupted)) ends.named ∙ fatal ends.fatal }
+    where
       answer : Result Action calls.StepFault → Result Action DeliverError
       answer r = Ok (or_terminate r)
 
-      fatal : (asked ≡ Ok Terminate) ⊎ ((e : calls.StepFault) × (asked ≡ Err e)) → answer asked ≡ Ok Terminate
+      fatal : (asked_at ends.place ≡ Ok Terminate) ⊎ ((e : calls.StepFault) × (asked_at ends.place ≡ Err e)) → answer (asked_at ends.place) ≡ Ok Terminate
       fatal (inl is) = ap answer is
       fatal (inr fails) = ap answer fails.1
 
   pub asks_ends : Asks space c interrupted Terminate → EndsProgram space c interrupted
-  asks_ends asks = by_kind asks.frame asks.framed asks.asked
+  asks_ends asks = go (named_table space.image asks.frame) refl asks.asked
     where
-      described : (f : DescribedFrame) → frame_of space c interrupted ≡ Ok (Some (Described f)) → described_action space.image c interrupted f.found ≡ Ok Terminate → EndsProgram space c interrupted
-      described f framed asked = go (personality_address space.image f.found.fde) refl asked
-        where
-          by_table : (routine : ℕ) → personality_address space.image f.found.fde ≡ Ok (Some routine) → (r : Result Action calls.StepFault) → language_action space.image f.found.bases f.found.fde (address_of_call c.ra interrupted) ≡ r → or_terminate r ≡ Terminate → EndsProgram space c interrupted
-          by_table routine named (Ok wanted) is e = record { frame = f; framed = framed; routine = routine; named = named; fatal = inl (is ∙ ap Ok e) }
-          by_table routine named (Err fault) is e = record { frame = f; framed = framed; routine = routine; named = named; fatal = inr (fault, is) }
+      by_table : (place : Result LanguagePlace calls.StepFault) → named_table space.image asks.frame ≡ Ok (Some place) → (r : Result Action calls.StepFault) → asked_at place ≡ r → or_terminate r ≡ Terminate → EndsProgram space c interrupted
+      by_table place named (Ok wanted) is e = record { frame = asks.frame; framed = asks.framed; place = place; named = named; fatal = inl (is ∙ ap Ok e) }
+      by_table place named (Err fault) is e = record { frame = asks.frame; framed = asks.framed; place = place; named = named; fatal = inr (fault, is) }
 
-          go : (r : Result (Option ℕ) calls.StepFault) → personality_address space.image f.found.fde ≡ r → action_if_named space.image c interrupted f.found r ≡ Ok Terminate → EndsProgram space c interrupted
-          go (Ok None) named e = let bad : NoAction ≡ Terminate = cc in absurd cc
-          go (Ok (Some routine)) named e = by_table routine named (language_action space.image f.found.bases f.found.fde (address_of_call c.ra interrupted)) refl cc
-          go (Err fault) named e = absurd cc
-
-      by_kind : (f : FrameAt) → frame_of space c interrupted ≡ Ok (Some f) → action_asked space.image c interrupted f ≡ Ok Terminate → EndsProgram space c interrupted
-      by_kind (Described f) framed asked = described f framed asked
-      by_kind (Compact m a listed) framed asked = absurd (unended space.image c interrupted (has_language_table listed) CompactHandler asked)
-      by_kind (Recorded m rva function) framed asked = absurd (unended_recorded space.image c interrupted (handler_in (memory_of space.image m.base) function) asked)
+      go : (r : Result (Option (Result LanguagePlace calls.StepFault)) DeliverError) → named_table space.image asks.frame ≡ r → result_map (action_by space.image c interrupted) r ≡ Ok Terminate → EndsProgram space c interrupted
+      go (Ok None) named e = let bad : NoAction ≡ Terminate = cc in absurd cc
+      go (Ok (Some place)) named e = by_table place named (asked_at place) refl cc
+      go (Err fault) named e = absurd cc
 
 -- ---- a pass
 

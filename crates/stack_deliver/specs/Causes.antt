@@ -7,19 +7,15 @@ use Rattle.stack_steps.specs.declared.answers.DeliverError.{DeliverError}
 use Rattle.stack_steps.specs.declared.answers.DeliverError.TheVariants.{NoMemory, Unmapped, FrameLimit, PassLimit, NoResume, Table, MachO, CompactHandler, CompactForm, PeInfo, PeHandler, ChainLimit}
 use Rattle.stack_steps.specs.Modules.{SpaceValue}
 use Rattle.stack_deliver.specs.Resumes.{return_of}
-use Rattle.stack_steps.specs.Asking.{action_asked}
+use Rattle.stack_steps.specs.Asking.{action_asked, named_table}
 use Rattle.stack_walks.specs.Turns.{Line, Stop, pass_of, mark_at, pad_of, stops}
 use Rattle.stack_deliver.specs.Passes.{Elsewhere, cleanup_of}
 use Rattle.unwind_definitions.specs.Caller.{StepFault}
 use Rattle.unwind_definitions.specs.Function.{Action, Terminate}
-use Rattle.unwind_definitions.specs.LanguageSearch.{personality_address, address_of_call, language_action}
+use Rattle.unwind_definitions.specs.LanguageSearch.{LanguagePlace, address_of_call, table_action}
 use Rattle.format_frames.specs.declared.machine.Stepped.{Stepped}
 use Rattle.stack_walks.specs.declared.outward.Phase.{Phase}
-use Rattle.memory_image.specs.Image.{Span}
-use Rattle.pe_unwind_info.specs.declared.x86_64.fault.FrameFault.{FrameFault}
-use Rattle.format_definitions.specs.PeImage.{memory_of}
-use Rattle.format_frames.specs.Handlers.{has_language_table, handler_in}
-use Rattle.stack_steps.specs.Stepping.{FrameAt, DescribedFrame, Described, Compact, Recorded, frame_of, step_of, refusal_of, frame_refusal}
+use Rattle.stack_steps.specs.Stepping.{FrameAt, frame_of, step_of}
 use Rattle.stack_walks.specs.declared.outward.Phase.TheVariants as phase
 
 -- ---- what a pass comes to: where the stack ends, what is asked of a frame, and what can't be read
@@ -37,15 +33,14 @@ pub record GoesTo (p : Phase) (space : SpaceValue) (c : Context) (interrupted : 
   pub silent : stops p action ≡ false
   pub caller : step_of space c interrupted ≡ Ok (Some next)
 
--- the frame at a context is by a description, which names a personality, and its language table asks to end the program, or can't
--- be read
+-- the frame at a context names a language table, which asks to end the program, or can't be read
 pub record EndsProgram (space : SpaceValue) (c : Context) (interrupted : Bool) : Type 0 where
-  pub frame : DescribedFrame
-  pub framed : frame_of space c interrupted ≡ Ok (Some (Described frame))
-  pub routine : ℕ
-  pub named : personality_address space.image frame.found.fde ≡ Ok (Some routine)
-  pub fatal : (language_action space.image frame.found.bases frame.found.fde (address_of_call c.ra interrupted) ≡ Ok Terminate) ⊎
-      ((e : StepFault) × (language_action space.image frame.found.bases frame.found.fde (address_of_call c.ra interrupted) ≡ Err e))
+  pub frame : FrameAt
+  pub framed : frame_of space c interrupted ≡ Ok (Some frame)
+  pub place : Result LanguagePlace StepFault
+  pub named : named_table space.image frame ≡ Ok (Some place)
+  pub fatal : (table_action space.image (address_of_call c.ra interrupted) place ≡ Ok Terminate) ⊎
+      ((e : StepFault) × (table_action space.image (address_of_call c.ra interrupted) place ≡ Err e))
 
 -- the frame at a context asks for a landing pad
 pub record AsksForPad (space : SpaceValue) (c : Context) (interrupted : Bool) : Type 0 where
@@ -58,24 +53,12 @@ pub record AsksForPad (space : SpaceValue) (c : Context) (interrupted : Bool) : 
 abbrev pub StackEnds : SpaceValue → Context → Bool → Type 0
 StackEnds space c interrupted = step_of space c interrupted ≡ Ok None
 
--- unwind records name a handler, or can't all be read
-abbrev pub RecordsRefused : DeliverError → Result Bool FrameFault → Type 0
-RecordsRefused e (Ok named) = (named ≡ true) × (e ≡ PeHandler)
-RecordsRefused e (Err fault) = e ≡ frame_refusal fault
-
--- What names the personality of a frame can't be read; or the opcode of a Mach-O frame, or an unwind record of a PE frame, names a
--- handler, which isn't asked.
-abbrev pub HandlerRefused : DeliverError → List Span → FrameAt → Type 0
-HandlerRefused e image (Described f) = (fault : StepFault) × (personality_address image f.found.fde ≡ Err fault) × (e ≡ refusal_of fault)
-HandlerRefused e image (Compact m a listed) = (has_language_table listed ≡ true) × (e ≡ CompactHandler)
-HandlerRefused e image (Recorded m rva function) = RecordsRefused e (handler_in (memory_of image m.base) function)
-
--- What can't be read at a context: what is found there, its row among it, what names the handler of the frame, or, where nothing is
--- asked for which the pass stops, the caller.
+-- What can't be read at a context: what is found there, its row among it, what names the language table of the frame, or, where
+-- nothing is asked for which the pass stops, the caller.
 abbrev pub CantRead : Phase → DeliverError → SpaceValue → Context → Bool → Type 0
 CantRead p e space c interrupted =
     (frame_of space c interrupted ≡ Err e) ⊎
-    ((f : FrameAt) × (frame_of space c interrupted ≡ Ok (Some f)) × HandlerRefused e space.image f) ⊎
+    ((f : FrameAt) × (frame_of space c interrupted ≡ Ok (Some f)) × (named_table space.image f ≡ Err e)) ⊎
     ((action : Action) × Asks space c interrupted action × (stops p action ≡ false) × (step_of space c interrupted ≡ Err e))
 
 -- ---- from a context outwards

@@ -4,6 +4,7 @@ use Rattle.std.specs.Prelude.{◌⊎◌}
 use Rattle.std.specs.List.{AllByRecursion, Contains}
 use Rattle.std.specs.Result.{result_map_both}
 use Rattle.memory_image.specs.Image.{Span, word_at}
+use Rattle.memory_image.specs.Results.{result_map}
 use Rattle.unwind_definitions.specs.Caller.{Columns, StepFault}
 use Rattle.unwind_definitions.specs.State.{State, Shows}
 use Rattle.unwind_definitions.specs.Function.{Function, NoAction}
@@ -45,7 +46,7 @@ use Rattle.stack_steps.specs.declared.space.ModuleTables.{ModuleTables}
 use Rattle.stack_steps.specs.declared.space.ModuleTables.TheVariants.{Elf, Macho, Pe}
 use Rattle.stack_steps.specs.declared.space.MachoTables.{MachoTables}
 use Rattle.stack_steps.specs.declared.space.PeTables.{PeTables}
-use Rattle.stack_steps.specs.Asking.{recorded_action, action_asked, arguments_of}
+use Rattle.stack_steps.specs.Asking.{recorded_table, action_if_named, action_asked, arguments_of}
 use Rattle.stack_steps.specs.Modules.{SpaceValue, module_at}
 use Rattle.stack_steps.specs.SpaceViews.{format_by}
 use Rattle.stack_steps.specs.Stepping.{FrameAt, Compact, Recorded, macho_of, pe_of, compact_frame, recorded_frame, frame_by_tables, frame_of, next_with, compact_next, opcode_caller, recorded_columns, pe_refusal, caller_by}
@@ -180,7 +181,7 @@ module _ (space : SpaceValue) (c : Context) (interrupted : Bool) (a : ℕ) (nonz
       record {
         frame = Recorded home rva function;
         framed = held_frame space c interrupted a m (Pe tables) nonzero asked holds is ∙ ap (recorded_frame home rva) d.mapped;
-        asks = ap recorded_action quiet;
+        asks = ap (λ (r : Result Bool FrameFault). result_map (action_if_named space.image (address_of_call c.ra interrupted)) (recorded_table r)) quiet;
         no_arguments = refl;
         next = next_with false u.caller;
         called = ap (λ (r : Result Columns PeFault). result_map_both (next_with false) pe_refusal r) gives;

@@ -1,16 +1,17 @@
 -- The frame at a context that shows a state of a described chain.
-use Rattle.std.proofs.Common.{◌≡◌, ◌≢◌, ℕ, ◌-◌, ◌^◌, ◌<◌, false, List, Option, Some, None, Ok, refl, sym, ap, subst, ◌∙◌, arith, eqb, ltb, leb}
+use Rattle.std.proofs.Common.{◌≡◌, ◌≢◌, ℕ, ◌-◌, ◌^◌, ◌<◌, false, List, Option, Some, None, Result, Ok, refl, sym, ap, subst, ◌∙◌, arith, eqb, ltb, leb}
 use Rattle.std.specs.Prelude.{IsTrue}
 use Rattle.std.proofs.lemmas.Bool.Decides.{nat_tests}
 use Rattle.std.proofs.lemmas.Bool.{ltb-true, leb-true}
 use Rattle.memory_image.specs.Image.{Span, IsLaidOut}
+use Rattle.memory_image.specs.Results.{result_map}
 use Rattle.unwind_definitions.specs.Pointers.{Bases}
 use Rattle.unwind_definitions.specs.Row.{row_at}
 use Rattle.unwind_definitions.specs.LanguageTable.{input_at}
 use Rattle.unwind_definitions.specs.LanguageSearch.{address_of_call}
-use Rattle.unwind_definitions.specs.Caller.{Columns}
+use Rattle.unwind_definitions.specs.Caller.{Columns, StepFault}
 use Rattle.unwind_definitions.specs.State.{State, Shows, KeepsOthers}
-use Rattle.unwind_definitions.specs.Function.{Function, action_at}
+use Rattle.unwind_definitions.specs.Function.{Action, Function, action_at}
 use Rattle.unwind_definitions.specs.Chain.{Call}
 use Rattle.unwind_definitions.specs.Module as described
 use Rattle.unwind_laws.specs.Found.{AsksAs}
@@ -27,6 +28,7 @@ use Rattle.unwind_definitions.specs.Expressions.{evaluation}
 use Rattle.fde_finders.specs.Finding.{FoundFde, table_bases, scanned_in}
 use Rattle.fde_finders.specs.Named.{found_by_kind}
 use Rattle.fde_finders.specs.declared.custom.FrameInfo.{FrameInfo}
+use Rattle.stack_steps.specs.declared.answers.DeliverError.{DeliverError}
 use Rattle.stack_steps.specs.declared.space.Module.{Module}
 use Rattle.stack_steps.specs.declared.space.ModuleTables.TheVariants.{Elf}
 use Rattle.format_frames.specs.declared.machine.Stepped.{Stepped}
@@ -34,7 +36,7 @@ use Rattle.stack_steps.specs.Modules.{SpaceValue, AreApart, module_at}
 use Rattle.stack_steps.specs.SpaceViews.{tables_of, elf_module, process_of}
 use Rattle.stack_steps.specs.Stepping.{step_of, FrameAt, Described, frame_of, caller_by}
 use Rattle.stack_steps.specs.Undoing.{IsDescribedCall, Undone}
-use Rattle.stack_steps.specs.Asking.{action_if_named, action_asked, arguments_of, described_action}
+use Rattle.stack_steps.specs.Asking.{action_if_named, action_asked, arguments_of, described_action, table_if_named}
 use Rattle.stack_steps.proofs.ContextLemmas.{IsWhole}
 use Rattle.stack_steps.proofs.HeaderFinds.{header_finds}
 use Rattle.stack_steps.proofs.StepParts.{some_next, stepped_by, step_is}
@@ -60,9 +62,12 @@ record MetKeeping (space : SpaceValue) (c : Context) (s : State) (call : Call) :
 
 -- what is asked, where a description asks what its function does
 asked_as : (image : List Span) (c : Context) (found : FoundFde) (f : Function) (a : ℕ) → AsksAs image found.bases f found.fde → address_of_call c.ra false ≡ a → described_action image c false found ≡ Ok (action_at f a)
-asked_as image c found f a asks at = ap (action_if_named image c false found) asks.personality ∙ go asks.routine asks.silent
+asked_as image c found f a asks at = ap asked asks.personality ∙ go asks.routine asks.silent
   where
-    go : (o : Option ℕ) → (o ≡ None → f.sites ≡ None) → action_if_named image c false found (Ok o) ≡ Ok (action_at f a)
+    asked : Result (Option ℕ) StepFault → Result Action DeliverError
+    asked routine = result_map (action_if_named image (address_of_call c.ra false)) (table_if_named image found routine)
+
+    go : (o : Option ℕ) → (o ≡ None → f.sites ≡ None) → asked (Ok o) ≡ Ok (action_at f a)
     go None silent = let none : f.sites ≡ None = silent refl in rw none refl
     go (Some routine) silent = rw (at, asks.action a) refl
 

@@ -1,9 +1,10 @@
 -- What the language of a frame asks. Itanium C++ ABI, exception handling, level II.
 use Rattle.std.specs.Prelude.{ℕ, Bool, true, false, Option, Some, None, Result, Ok, Err, List}
 use Rattle.memory_image.specs.Image.{Span}
+use Rattle.memory_image.specs.Results.{result_map}
 use Rattle.unwind_definitions.specs.Caller.{StepFault}
 use Rattle.unwind_definitions.specs.Function.{Action, NoAction, Terminate}
-use Rattle.unwind_definitions.specs.LanguageSearch.{personality_address, address_of_call, language_action}
+use Rattle.unwind_definitions.specs.LanguageSearch.{LanguagePlace, personality_address, address_of_call, language_place, table_action}
 use Rattle.unwind_definitions.specs.Row.{argument_size}
 use Rattle.unwind_arch.specs.declared.x86_64.Context.{Context}
 use Rattle.fde_finders.specs.Finding.{FoundFde}
@@ -19,30 +20,47 @@ abbrev pub or_terminate : Result Action StepFault → Action
 or_terminate (Ok action) = action
 or_terminate (Err e) = Terminate
 
-abbrev pub action_if_named : List Span → Context → Bool → FoundFde → Result (Option ℕ) StepFault → Result Action DeliverError
-action_if_named image c interrupted found (Ok None) = Ok NoAction
-action_if_named image c interrupted found (Ok (Some routine)) = Ok (or_terminate (language_action image found.bases found.fde (address_of_call c.ra interrupted)))
-action_if_named image c interrupted found (Err e) = Err (refusal_of e)
+-- nothing is asked of a frame that names no language table
+abbrev pub action_if_named : List Span → ℕ → Option (Result LanguagePlace StepFault) → Action
+action_if_named image a None = NoAction
+action_if_named image a (Some place) = or_terminate (table_action image a place)
 
--- What is asked by a description: where it names a personality, whichever, what its language table says.
-abbrev pub described_action : List Span → Context → Bool → FoundFde → Result Action DeliverError
-described_action image c interrupted found = action_if_named image c interrupted found (personality_address image found.fde)
+-- ---- what the language table of a frame is: none, or its place, or why that can't be read
+
+abbrev pub table_if_named : List Span → FoundFde → Result (Option ℕ) StepFault → Result (Option (Result LanguagePlace StepFault)) DeliverError
+table_if_named image found (Ok None) = Ok None
+table_if_named image found (Ok (Some routine)) = Ok (Some (language_place image found.bases found.fde))
+table_if_named image found (Err e) = Err (refusal_of e)
+
+-- of a description that names a personality, whichever
+abbrev pub described_table : List Span → FoundFde → Result (Option (Result LanguagePlace StepFault)) DeliverError
+described_table image found = table_if_named image found (personality_address image found.fde)
 
 -- a handler that isn't asked is refused
-abbrev pub unless_handled : Bool → DeliverError → Result Action DeliverError
+abbrev pub unless_handled : Bool → DeliverError → Result (Option (Result LanguagePlace StepFault)) DeliverError
 unless_handled true e = Err e
-unless_handled false e = Ok NoAction
+unless_handled false e = Ok None
 
-abbrev pub recorded_action : Result Bool FrameFault → Result Action DeliverError
-recorded_action (Ok named) = unless_handled named PeHandler
-recorded_action (Err fault) = Err (frame_refusal fault)
+abbrev pub recorded_table : Result Bool FrameFault → Result (Option (Result LanguagePlace StepFault)) DeliverError
+recorded_table (Ok named) = unless_handled named PeHandler
+recorded_table (Err fault) = Err (frame_refusal fault)
 
--- What is asked of the frame at a context. Handlers of Mach-O and PE frames are refused: of an opcode that says that its function
+-- What names the language table of a frame. Handlers of Mach-O and PE frames are refused: of an opcode that says that its function
 -- has a language table, and of an unwind record that names a handler. All records of a PE frame are read.
+abbrev pub named_table : List Span → FrameAt → Result (Option (Result LanguagePlace StepFault)) DeliverError
+named_table image (Described f) = described_table image f.found
+named_table image (Compact m a listed) = unless_handled (has_language_table listed) CompactHandler
+named_table image (Recorded m rva function) = recorded_table (handler_in (memory_of image m.base) function)
+
+-- ---- what is asked
+
+-- by a description
+abbrev pub described_action : List Span → Context → Bool → FoundFde → Result Action DeliverError
+described_action image c interrupted found = result_map (action_if_named image (address_of_call c.ra interrupted)) (described_table image found)
+
+-- What is asked of the frame at a context, by the language table that it names, at the address of its call.
 abbrev pub action_asked : List Span → Context → Bool → FrameAt → Result Action DeliverError
-action_asked image c interrupted (Described f) = described_action image c interrupted f.found
-action_asked image c interrupted (Compact m a listed) = unless_handled (has_language_table listed) CompactHandler
-action_asked image c interrupted (Recorded m rva function) = recorded_action (handler_in (memory_of image m.base) function)
+action_asked image c interrupted f = result_map (action_if_named image (address_of_call c.ra interrupted)) (named_table image f)
 
 -- how many bytes of the stack hold arguments that the callee of a frame removes
 abbrev pub arguments_of : FrameAt → ℕ
