@@ -63,7 +63,8 @@ pub trait FDEFinder {
 
     /// The description of the function that holds the address `pc`, `None` where none is found.
     ///
-    /// A finder ticks where it reads an entry of a header table, and nowhere else.
+    /// The finders of this crate count a step where they read an entry of a header's table, and
+    /// nowhere else.
     fn find_fde<'a, L: Ledger>(
         &self,
         image: &MemoryImage<'a>,

@@ -111,7 +111,7 @@ call_undone image m bytes table function a columns s t mapped reads found shows 
       others = keeps_columns columns t.ra u.after u.scratch;
     }
 
--- an address of a function is column_or_fault by its record
+-- the record of a function holds its addresses
 record_holds : (image : List Span) (m : PeModule) (function : RuntimeFunction) (f : Function) (a : ℕ) → DescribesRecord image m function f → f.start ≤ a → a < f.end → Holds function (a - m.base)
 record_holds image m function f a d low high = let at = d.start in let end = d.end in (omega arith, omega arith)
 

@@ -7,7 +7,8 @@ use std::alloc::{AllocError, Global};
 use std::test::Fail;
 use unwind_arch::x86_64::{Arch, R12, R14, RBP, RBX, RSP};
 use unwinding_core::{
-    CustomFinder, EhFrameFinder, FDEFinder, Frame, SetCustomEhFrameFinderError, StepError,
+    CustomFinder, EhFrameFinder, FDEFinder, Frame, SetCustomEhFrameFinderError, StaticFinder,
+    StepError,
 };
 
 // A common information entry of version 1: code alignment 1, data alignment -8, return address in
@@ -19,6 +20,9 @@ const FRAME_POINTER: &str = "180000001c000000e00ff0ff2000000000410e108602430d064
 
 // Allocates 24 bytes, and stores R12 8 bytes above the stack pointer: 0x401000 to 0x401020.
 const STORE: &str = "140000001c000000e00ff0ff2000000000440e20458c030000000000";
+
+// Pushes RBX: 0x401000 to 0x401010.
+const PUSH: &str = "140000001c000000e00ff0ff1000000000410e108302000000000000";
 
 // A function whose second rule is for a vector register, which the machine's contexts don't have:
 // DW_CFA_offset of column 17.
@@ -271,6 +275,38 @@ fn the_stack_ends_where_no_function_is(rt: HostRuntime) -> Result<(), Fail> {
     expect_equal(&rt, ends_at(rt.alloc(), 0x40_1020)?, true);
     expect_equal(&rt, ends_at(rt.alloc(), 0)?, true);
     expect_equal(&rt, ends_at(rt.alloc(), 0x40_1000)?, false);
+    Ok(())
+}
+
+// A function that pushes RBX: 0x401000 to 0x401010. Stopped after the push, its caller's RBX is on the
+// stack, and its return address above it.
+#[test]
+fn a_frame_is_made_of_its_parts(rt: HostRuntime) -> Result<(), Fail> {
+    let frames = table(rt.alloc(), &[COMMON, PUSH])?;
+    let mut stack = Vec::new(rt.alloc());
+    stack.extend_from_slice(&0x9_u64.to_le_bytes())?;
+    stack.extend_from_slice(&0x5_u64.to_le_bytes())?;
+    let mut image = MemoryImage::new(rt.alloc());
+    expect_equal(&rt, image.add(0x50_0000, &frames), Ok(()));
+    expect_equal(&rt, image.add(0x7000, &stack), Ok(()));
+    let finder = StaticFinder::new(0x40_1000, 0x40_1010, 0x50_0000);
+    let mut steps = Steps::new(NoLedger);
+    let found = finder
+        .find_fde(&image, 0x40_1006, &mut steps)
+        .ok_or("no description")?;
+    let row = found
+        .fde
+        .unwind_info_for_address(&found.eh_frame, &found.bases, 0x40_1006)
+        .map_err(|_| "no row")?;
+    let frame = Frame::<Arch>::from_parts(found, row);
+    let mut context = Context::default();
+    context.ra = 0x40_1006;
+    context.registers[RSP] = 0x7000;
+    let mut caller = Context::default();
+    caller.ra = 0x5;
+    caller.registers[RSP] = 0x7010;
+    caller.registers[RBX] = 0x9;
+    expect_equal(&rt, frame.unwind(&image, &context), Ok(caller));
     Ok(())
 }
 

@@ -3,7 +3,7 @@
 #![tactic(auto)]
 
 use anyhow::{Result, bail};
-use stack_deliver::{deliver, walk};
+use stack_deliver::{Space, deliver, walk};
 use stack_report::{Report, report_of, walk_report_of};
 use stack_snapshot::{Snapshot, read_snapshot};
 use std::alloc::Global;
@@ -52,27 +52,29 @@ const FORMS: [&str; 2] = [".json", "-by-header.json"];
 const OF_DELIVERIES: &str =
     "Deliveries. A landing's rdx is 0 here. In the process it was the number of the catch clause, which C++ puts there.";
 
-/// The report of a snapshot's walk.
-fn walk_report(alloc: Global, snapshot: &Snapshot) -> Result<Report> {
-    let space = snapshot.space(alloc)?;
-    let start = snapshot.start();
-    match walk(
-        alloc,
-        &space,
-        &start,
-        snapshot.interrupted(),
-        snapshot.limit(),
-    ) {
-        Ok(visited) => Ok(walk_report_of(alloc, &visited)?),
-        Err(_) => bail!("the walk is refused"),
+/// The space of a snapshot, with or without indexes of its modules.
+fn space_of<'a>(alloc: Global, snapshot: &'a Snapshot, prepared: bool) -> Result<Space<'a>> {
+    let mut space = snapshot.space(alloc)?;
+    if prepared {
+        space.prepare()?;
     }
+    Ok(space)
+}
+
+/// The report of a snapshot's walk.
+fn walk_report(alloc: Global, snapshot: &Snapshot, prepared: bool) -> Result<Report> {
+    let space = space_of(alloc, snapshot, prepared)?;
+    let start = snapshot.start();
+    let interrupted = snapshot.interrupted();
+    let visited = walk(alloc, &space, &start, interrupted, snapshot.limit())?;
+    Ok(walk_report_of(alloc, &visited)?)
 }
 
 /// The report of a snapshot's delivery.
-fn delivery_report(alloc: Global, snapshot: &Snapshot) -> Result<Report> {
-    let space = snapshot.space(alloc)?;
+fn delivery_report(alloc: Global, snapshot: &Snapshot, prepared: bool) -> Result<Report> {
+    let space = space_of(alloc, snapshot, prepared)?;
     let start = snapshot.start();
-    match deliver(
+    let delivery = deliver(
         alloc,
         &space,
         &start,
@@ -80,23 +82,26 @@ fn delivery_report(alloc: Global, snapshot: &Snapshot) -> Result<Report> {
         snapshot.class(),
         snapshot.resumes(),
         snapshot.limit(),
-    ) {
-        Ok(delivery) => Ok(report_of(alloc, &delivery)?),
-        Err(_) => bail!("the delivery is refused"),
-    }
+    )?;
+    Ok(report_of(alloc, &delivery)?)
 }
 
 /// The snapshot in a file.
 fn snapshot_in(rt: &HostRuntime, name: &str) -> Result<Snapshot> {
     let text = fs::read_to_string(rt, name)?;
-    match read_snapshot(rt.alloc(), text.as_bytes()) {
-        Ok(snapshot) => Ok(snapshot),
-        Err(_) => bail!("no snapshot"),
-    }
+    Ok(read_snapshot(rt.alloc(), text.as_bytes())?)
 }
 
-/// Prints the file's name and its report.
-fn print_report(rt: &HostRuntime, name: &str, report: &Report) -> Result<()> {
+/// Prints the file's name and its report, which has to be the same where the modules are prepared.
+fn print_report(
+    rt: &HostRuntime,
+    name: &str,
+    report: &Report,
+    by_indexes: &Report,
+) -> Result<()> {
+    if report.bytes() != by_indexes.bytes() {
+        bail!("another report where the modules are prepared");
+    }
     let lines = str::from_utf8(report.bytes())?;
     print!(rt; "{name}\n{lines}")?;
     Ok(())
@@ -104,8 +109,10 @@ fn print_report(rt: &HostRuntime, name: &str, report: &Report) -> Result<()> {
 
 /// The walk of a snapshot.
 fn print_walk(rt: &HostRuntime, name: &str) -> Result<()> {
-    let report = walk_report(rt.alloc(), &snapshot_in(rt, name)?)?;
-    print_report(rt, name, &report)
+    let snapshot = snapshot_in(rt, name)?;
+    let report = walk_report(rt.alloc(), &snapshot, false)?;
+    let by_indexes = walk_report(rt.alloc(), &snapshot, true)?;
+    print_report(rt, name, &report, &by_indexes)
 }
 
 /// The walks of a program's snapshots.
@@ -121,8 +128,10 @@ fn print_walks(rt: &HostRuntime, program: &str) -> Result<()> {
 fn print_deliveries(rt: &HostRuntime, program: &str) -> Result<()> {
     for form in FORMS {
         let name = format!(in rt.alloc(); "{program}{form}")?;
-        let report = delivery_report(rt.alloc(), &snapshot_in(rt, &name)?)?;
-        print_report(rt, &name, &report)?;
+        let snapshot = snapshot_in(rt, &name)?;
+        let report = delivery_report(rt.alloc(), &snapshot, false)?;
+        let by_indexes = delivery_report(rt.alloc(), &snapshot, true)?;
+        print_report(rt, &name, &report, &by_indexes)?;
     }
     Ok(())
 }

@@ -130,8 +130,12 @@ fn without_landing(outcome: Outcome) -> Ending
 ///   allowed state comes first.
 /// - `PassLimit` where more than `limit` cleanups would run, `NoResume` where the resume table has
 ///   no entry for a cleanup's pad.
-/// - `Unmapped` and `Table` as in a step, and where the cell that names the personality isn't
-///   wholly mapped.
+/// - `Unmapped` and `Table` as in a step, and `Unmapped` where the cell that names the personality
+///   isn't wholly mapped.
+/// - `MachO`, `CompactForm`, `PeInfo` and `ChainLimit` as in a step, and the last two where not all
+///   records of a PE frame can be read.
+/// - `CompactHandler` where the opcode of a Mach-O frame says that its function has a language
+///   table, and `PeHandler` where an unwind record of a PE frame names a handler.
 pub fn deliver_into<L: Ledger>(
     space: &Space<'_>,
     start: &Context,

@@ -74,7 +74,7 @@ pub record HasDescription (image : List Span) (bases : Bases) (fdes : List Fde) 
   pub one : filter (has_range_of f) fdes ≡ fde ∷ []
   pub describes : DescribesFunction image bases f fde
 
--- a description shares no address with a function
+-- a description's range stands before a function or after it
 abbrev pub MeetsNot : Fde → Function → Type 0
 MeetsNot fde f = (fde.start + fde.size ≤ f.start) ⊎ (f.end ≤ fde.start)
 
