@@ -9,3 +9,4 @@ pub mod PairLemmas
 pub mod PermutationTable
 pub mod PermutationRows
 pub mod LookupLemmas
+pub mod LanguageLemmas

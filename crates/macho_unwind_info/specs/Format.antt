@@ -11,6 +11,7 @@ use Rattle.macho_unwind_info.specs.declared.raw.format.RegularPage.{RegularPage}
 use Rattle.macho_unwind_info.specs.declared.raw.format.CompressedPage.{CompressedPage}
 use Rattle.macho_unwind_info.specs.declared.raw.format.Opcode.{Opcode}
 use Rattle.macho_unwind_info.specs.declared.raw.format.RegularFunctionEntry.{RegularFunctionEntry}
+use Rattle.macho_unwind_info.specs.declared.raw.format.LsdaEntry.{LsdaEntry}
 
 -- a record at an offset of some bytes, in which it must fit
 abbrev pub record_at : {T : Type 0} → ℕ → (List ℕ → T) → List ℕ → ℕ → Option T
@@ -54,6 +55,9 @@ opcode_in bytes = record { 0 = u32_in bytes }
 
 abbrev pub function_entry_in : List ℕ → RegularFunctionEntry
 function_entry_in bytes = record { address = u32_at 0 bytes; opcode = record { 0 = u32_at 4 bytes } }
+
+abbrev pub lsda_entry_in : List ℕ → LsdaEntry
+lsda_entry_in bytes = record { address = u32_at 0 bytes; lsda_offset = u32_at 4 bytes }
 
 -- ---- equal records have equal bytes
 -- bytes that agree on a field and after it agree from the field on
@@ -105,4 +109,10 @@ pub function_entry_keeps_all : (xs ys : List ℕ) → length xs ≡ 8 → length
 function_entry_keeps_all xs ys m n b c e =
     same_from_field xs ys 0 4 (ap (λ (f : RegularFunctionEntry). f.address.0) e)
     (same_from_field xs ys 4 4 (ap (λ (f : RegularFunctionEntry). f.opcode.0.0) e)
+    (same_ends xs ys 8 m n))
+
+pub lsda_entry_keeps_all : (xs ys : List ℕ) → length xs ≡ 8 → length ys ≡ 8 → AreBytes xs → AreBytes ys → lsda_entry_in xs ≡ lsda_entry_in ys → xs ≡ ys
+lsda_entry_keeps_all xs ys m n b c e =
+    same_from_field xs ys 0 4 (ap (λ (l : LsdaEntry). l.address.0) e)
+    (same_from_field xs ys 4 4 (ap (λ (l : LsdaEntry). l.lsda_offset.0) e)
     (same_ends xs ys 8 m n))

@@ -4,6 +4,7 @@ pub mod Parts
 pub mod Compressed
 pub mod Listing
 pub mod Lookup
+pub mod LanguageTables
 pub mod Iteration
 pub mod Described
 pub mod Bits

@@ -11,6 +11,7 @@ use Rattle.macho_unwind_info.specs.declared.error.Error.TheVariants as error
 use Rattle.macho_unwind_info.specs.declared.error.ReadError.{ReadError}
 use Rattle.macho_unwind_info.specs.declared.error.ReadError.TheVariants.{LocalOpcodes}
 use Rattle.macho_unwind_info.specs.declared.raw.unaligned.U32.{U32}
+use Rattle.macho_unwind_info.specs.declared.raw.format.CompactUnwindInfoHeader.{CompactUnwindInfoHeader}
 use Rattle.macho_unwind_info.specs.declared.raw.format.PageEntry.{PageEntry}
 use Rattle.macho_unwind_info.specs.declared.raw.format.Opcode.{Opcode}
 use Rattle.macho_unwind_info.specs.declared.raw.format.RegularFunctionEntry.{RegularFunctionEntry}
@@ -22,6 +23,7 @@ use Rattle.macho_unwind_info.specs.declared.function.Function.{Function}
 -- ---- a section that was parsed
 pub record Section : Type 0 where
   pub bytes : List ℕ
+  pub header : CompactUnwindInfoHeader
   pub global_opcodes : List Opcode
   pub pages : List PageEntry
 
@@ -35,7 +37,7 @@ section_of bytes = do
   header ← part (header_of bytes)
   global_opcodes ← part (global_opcodes_of header bytes)
   pages ← part (pages_of header bytes)
-  Ok (record { bytes = bytes; global_opcodes = global_opcodes; pages = pages })
+  Ok (record { bytes = bytes; header = header; global_opcodes = global_opcodes; pages = pages })
 
 -- ---- a page that is opened: its kind, its header and its entries, in this order
 abbrev pub regular_of : List ℕ → PageEntry → Result Page Error

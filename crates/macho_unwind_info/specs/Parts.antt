@@ -1,11 +1,11 @@
 -- The parts of a section of compact unwinding: where each lies, and the error of its not fitting in the section's bytes.
-use Rattle.std.specs.Prelude.{ℕ, ◌+◌, List, Result, Ok}
+use Rattle.std.specs.Prelude.{ℕ, ◌+◌, ◌-◌, ◌/◌, ◌%◌, List, Result, Ok, Err, nat_le, ◌==◌, ◌&&◌, if◌then◌else◌}
 use Rattle.std.specs.Option.{ok_or}
 use Rattle.memory_image.specs.Results.{◌>>=◌}
 use Rattle.macho_unwind_info.specs.Unaligned.{u32_in, u32_number, u16_number}
-use Rattle.macho_unwind_info.specs.Format.{record_at, records_at, header_in, page_entry_in, regular_page_in, compressed_page_in, opcode_in, function_entry_in}
+use Rattle.macho_unwind_info.specs.Format.{record_at, records_at, header_in, page_entry_in, regular_page_in, compressed_page_in, opcode_in, function_entry_in, lsda_entry_in}
 use Rattle.macho_unwind_info.specs.declared.error.ReadError.{ReadError}
-use Rattle.macho_unwind_info.specs.declared.error.ReadError.TheVariants.{Header, GlobalOpcodes, Pages, RegularPage as NoRegularPage, RegularPageFunctions, CompressedPage as NoCompressedPage, CompressedPageFunctions, LocalOpcodes, PageKind}
+use Rattle.macho_unwind_info.specs.declared.error.ReadError.TheVariants.{Header, GlobalOpcodes, Pages, RegularPage as NoRegularPage, RegularPageFunctions, CompressedPage as NoCompressedPage, CompressedPageFunctions, LocalOpcodes, PageKind, Personalities, Lsda}
 use Rattle.macho_unwind_info.specs.declared.raw.unaligned.U32.{U32}
 use Rattle.macho_unwind_info.specs.declared.raw.format.CompactUnwindInfoHeader.{CompactUnwindInfoHeader}
 use Rattle.macho_unwind_info.specs.declared.raw.format.PageEntry.{PageEntry}
@@ -13,6 +13,7 @@ use Rattle.macho_unwind_info.specs.declared.raw.format.RegularPage.{RegularPage}
 use Rattle.macho_unwind_info.specs.declared.raw.format.CompressedPage.{CompressedPage}
 use Rattle.macho_unwind_info.specs.declared.raw.format.Opcode.{Opcode}
 use Rattle.macho_unwind_info.specs.declared.raw.format.RegularFunctionEntry.{RegularFunctionEntry}
+use Rattle.macho_unwind_info.specs.declared.raw.format.LsdaEntry.{LsdaEntry}
 
 -- ---- from the start of the section
 abbrev pub header_of : List ℕ → Result CompactUnwindInfoHeader ReadError
@@ -23,6 +24,18 @@ global_opcodes_of header bytes = ok_or (records_at 4 opcode_in bytes (u32_number
 
 abbrev pub pages_of : CompactUnwindInfoHeader → List ℕ → Result (List PageEntry) ReadError
 pages_of header bytes = ok_or (records_at 12 page_entry_in bytes (u32_number header.pages_offset) (u32_number header.pages_len)) Pages
+
+abbrev pub personality_array_of : CompactUnwindInfoHeader → List ℕ → Result (List U32) ReadError
+personality_array_of header bytes = ok_or (records_at 4 u32_in bytes (u32_number header.personalities_offset) (u32_number header.personalities_len)) Personalities
+
+-- the entries from one offset up to another, which are whole
+abbrev pub lsda_entries_between : List ℕ → ℕ → ℕ → Result (List LsdaEntry) ReadError
+lsda_entries_between bytes start end =
+    if nat_le start end && (end - start) % 8 == 0 then ok_or (records_at 8 lsda_entry_in bytes start ((end - start) / 8)) Lsda else Err Lsda
+
+-- a page's part of the list of language tables ends where the next page's begins
+abbrev pub lsda_entries_of : PageEntry → PageEntry → List ℕ → Result (List LsdaEntry) ReadError
+lsda_entries_of page next bytes = lsda_entries_between bytes (u32_number page.lsda_index_offset) (u32_number next.lsda_index_offset)
 
 -- ---- from the start of a page
 abbrev pub kind_of : PageEntry → List ℕ → Result ℕ ReadError

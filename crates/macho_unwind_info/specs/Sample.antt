@@ -50,3 +50,21 @@ damaged_bytes = section_bytes 1
 
 abbrev pub damaged_places : List (Result Function Error)
 damaged_places = function 0x1000 0x1100 0x02010000 ∷ Err (ReadError LocalOpcodes) ∷ function 0x2000 0x3000 0x01010001 ∷ []
+
+-- ---- a section of 84 bytes with one function that has a language table
+-- version 1, one global opcode at 0x1c, one personality at 0x20, two pages at 0x24
+abbrev pub tabled_header : List ℕ
+tabled_header = le 1 0 0 0 ++ (le 0x1c 0 0 0 ++ (le 1 0 0 0 ++ (le 0x20 0 0 0 ++ (le 1 0 0 0 ++ (le 0x24 0 0 0 ++ le 2 0 0 0)))))
+
+-- the page at 0x1000, which lies at 0x44, and the sentinel at 0x2000; the page's part of the list of language tables is from 0x3c to 0x44
+abbrev pub tabled_pages : List ℕ
+tabled_pages = le 0 0x10 0 0 ++ (le 0x44 0 0 0 ++ (le 0x3c 0 0 0 ++ (le 0 0x20 0 0 ++ (le 0 0 0 0 ++ le 0x44 0 0 0))))
+
+-- bit 30 of the opcode is set, and its personality is the first one; the table of the function at 0x1000 is at 0x1800
+abbrev pub tabled_bytes : List ℕ
+tabled_bytes =
+    tabled_header ++ (le 0 0 1 0x52 ++ (le 0 0x30 0 0 ++ (tabled_pages ++ (le 0 0x10 0 0 ++ (le 0 0x18 0 0 ++
+    (le 2 0 0 0 ++ (le 8 0 1 0 ++ (le 0 0x10 0 0 ++ le 0 0 1 0x52))))))))
+
+abbrev pub tabled_function : Function
+tabled_function = record { start_address = 0x1000; end_address = 0x2000; opcode = 0x52010000 }

@@ -65,6 +65,14 @@ pub enum ReadError {
     /// The word at a page's start that tells its kind.
     #[error("Could not read page kind")]
     PageKind,
+
+    /// The list of personalities.
+    #[error("Could not read personalities")]
+    Personalities,
+
+    /// A page's part of the list of language tables.
+    #[error("Could not read language tables")]
+    Lsda,
 }
 
 impl From<ReadError> for Error {

@@ -3,8 +3,9 @@ ghost use Rattle.std.specs.Prelude.{◌≡◌, ◌+◌, ◌<◌, ◌^◌, map, I
 ghost use Rattle.memory_image.specs.Halving.{boundary_of};
 ghost use Rattle.macho_unwind_info.specs.Lookup.{Finds, first_address, start_address};
 ghost use Rattle.macho_unwind_info.specs.Lookup.{start_distance};
+ghost use Rattle.macho_unwind_info.specs.LanguageTables.{function_address};
 
-use crate::raw::{CompressedFunctionEntry, PageEntry, RegularFunctionEntry, U32};
+use crate::raw::{CompressedFunctionEntry, LsdaEntry, PageEntry, RegularFunctionEntry, U32};
 use memory_image::{Keyed, Record, Records};
 
 /// A page, by its first address.
@@ -31,6 +32,15 @@ impl Keyed for U32 {
 
     fn read_key(bytes: &[u8]) -> u32 {
         CompressedFunctionEntry::new(U32::read(bytes).into()).relative_address()
+    }
+}
+
+/// An entry of the list of language tables, by its function's address.
+impl Keyed for LsdaEntry {
+    ghost key = { function_address };
+
+    fn read_key(bytes: &[u8]) -> u32 {
+        LsdaEntry::read(bytes).address()
     }
 }
 

@@ -1,16 +1,25 @@
 // A section that was parsed.
-ghost use Rattle.std.specs.Prelude.{◌≡◌, map, slice_index, Ok, None};
+ghost use Rattle.std.specs.Prelude.{◌≡◌, ◌↔◌, map, slice_index, slice_get, Ok, None};
+ghost use Rattle.std.specs.Prelude.{IsErr, IfErr, IsTrue, IsFalse, option_and_then};
 ghost use Rattle.macho_unwind_info.specs.Listing.{section_of, listing};
 ghost use Rattle.macho_unwind_info.specs.Described.{HasDescribedPages, IsInRange, IsOutside};
 ghost use Rattle.macho_unwind_info.specs.Described.{FindsListed, FindsEachListed, LieEndToEnd};
 ghost use Rattle.macho_unwind_info.specs.Lookup.{range_start, range_end, IsLookup, lookup_of};
 ghost use Rattle.macho_unwind_info.specs.Lookup.{first_address};
+ghost use Rattle.macho_unwind_info.specs.LanguageTables.{personalities_of, LacksPersonalities};
+ghost use Rattle.macho_unwind_info.specs.LanguageTables.{has_language_table, offset_for};
+ghost use Rattle.macho_unwind_info.specs.LanguageTables.{offset_among, table_at, lsda_of};
+ghost use Rattle.macho_unwind_info.specs.LanguageTables.{LacksTables, HasDescribedTables};
+ghost use Rattle.macho_unwind_info.specs.LanguageTables.{listed_table};
+ghost use Rattle.macho_unwind_info.specs.declared.error.Error.TheVariants as errors;
+ghost use Rattle.macho_unwind_info.specs.declared.error.ReadError.TheVariants as parts;
 
-use crate::error::Error;
+use crate::error::{Error, ReadError};
 use crate::function::Function;
 use crate::function_iter::FunctionIter;
+use crate::opcodes::OpcodeBitfield;
 use crate::page::Page;
-use crate::raw::{CompactUnwindInfoHeader, Opcode, PageEntry};
+use crate::raw::{CompactUnwindInfoHeader, LsdaEntry, Opcode, PageEntry, U32};
 use crate::search::boundary;
 use memory_image::Records;
 use std::marker::Model;
@@ -21,10 +30,11 @@ use std::ops::Range;
 ///
 /// It borrows the section's bytes, which may lie at any alignment, and copies none of them. To make
 /// one is three bounds checks, so it may be made anew for each sample. Contracts see the bytes, the
-/// global opcodes and the list of pages.
+/// header, the global opcodes and the list of pages.
 #[derive(Drop)]
 pub struct UnwindInfo<'a> {
     bytes: &'a [u8],
+    header: CompactUnwindInfoHeader,
     global_opcodes: Records<'a, Opcode>,
     pages: Records<'a, PageEntry>,
 }
@@ -36,6 +46,7 @@ impl<'a> Model for UnwindInfo<'a> {
 
     ghost view = { λ i. record {
       bytes = i.bytes.now;
+      header = i.header;
       global_opcodes = i.global_opcodes;
       pages = i.pages;
     } };
@@ -54,6 +65,7 @@ impl<'a> UnwindInfo<'a> {
         let pages = header.pages(bytes)?;
         Ok(UnwindInfo {
             bytes,
+            header,
             global_opcodes,
             pages,
         })
@@ -129,6 +141,74 @@ impl<'a> UnwindInfo<'a> {
         };
         let opened = Page::read(self.bytes, &page)?;
         opened.lookup(&self.global_opcodes, next.first_address(), pc)
+    }
+
+    /// The personalities, which the opcodes of functions name by bits 28 and 29
+    /// ([`personality_index`](OpcodeBitfield::personality_index)). Each is the address, relative to
+    /// the module's base, of the pointer to a personality routine.
+    ///
+    /// Errors: `Personalities` where they don't fit in the section's bytes.
+    pub fn personalities(&self) -> Result<Records<'a, U32>, ReadError>
+        ensures same { result ≡ personalities_of self.now }
+        ensures lacks { IsErr result ↔ LacksPersonalities self.now }
+        ensures error { IfErr result (λ e. e ≡ parts.Personalities) }
+    {
+        self.header.personalities(self.bytes)
+    }
+
+    /// Where a function's language table lies, relative to the module's base, or `Ok(None)` where
+    /// its opcode has bit 30 clear or the section lists no language table for its start.
+    ///
+    /// The pages are searched by their first addresses, and the page's part of the list of language
+    /// tables by the addresses of functions. In lists that ascend the table is that of the one entry
+    /// whose address is the function's start.
+    ///
+    /// Errors: `Lsda` where bit 30 is set, and the page's part of the list ends before it begins, has
+    /// a length that is no multiple of 8, or doesn't fit in the section's bytes.
+    pub fn lsda_of(&self, function: &Function) -> Result<Option<u32>, Error>
+        // whatever the section's bytes are
+        ensures same { result ≡ lsda_of self.now function.now }
+        ensures lacks { IsErr result ↔ LacksTables self.now function.now }
+        ensures error { IfErr result (λ e. e ≡ errors.ReadError parts.Lsda) }
+
+        // without bit 30, and on described parts of the list with it
+        ensures none { IsFalse (has_language_table function.now.opcode) → result ≡ Ok None }
+        ensures finds { HasDescribedTables self.now → IsTrue (has_language_table function.now.opcode)
+            → result ≡ Ok (listed_table self.now function.now.start_address) }
+    {
+        if OpcodeBitfield::new(function.opcode).has_lsda() {
+            self.table_at(function.start_address)
+        } else {
+            Ok(None)
+        }
+    }
+
+    /// The language table of the function that starts at an address.
+    #[tactic(auto, unfolding(crate::specs::LanguageTables::table_at))]
+    fn table_at(&self, start: u32) -> Result<Option<u32>, Error>
+        ensures { result ≡ table_at self.now start }
+    {
+        let Some(i) = boundary(&self.pages, start) else {
+            return Ok(None);
+        };
+        let page = self.pages.at(i);
+        let Some(next) = self.pages.get(i + 1) else {
+            return Ok(None);
+        };
+        let entries = page.lsda_entries(self.bytes, &next)?;
+        Ok(offset_among(&entries, start))
+    }
+}
+
+/// What the entry to which the search for a function's start comes gives, if it is the function's.
+fn offset_among(entries: &Records<'_, LsdaEntry>, start: u32) -> Option<u32>
+    ensures { result ≡ offset_among entries.now start }
+{
+    let entry = entries.at(boundary(entries, start)?);
+    if entry.address() == start {
+        Some(entry.lsda_offset())
+    } else {
+        None
     }
 }
 

@@ -48,6 +48,8 @@ part_name parts.CompressedPage = codes "CompressedPage"
 part_name parts.CompressedPageFunctions = codes "CompressedPageFunctions"
 part_name parts.LocalOpcodes = codes "LocalOpcodes"
 part_name parts.PageKind = codes "PageKind"
+part_name parts.Personalities = codes "Personalities"
+part_name parts.Lsda = codes "Lsda"
 
 abbrev pub section_text : MachoError → List ℕ
 section_text (sections.ReadError part) = codes "macho ReadError " ++ part_name part

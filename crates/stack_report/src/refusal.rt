@@ -55,6 +55,8 @@ fn part_name(part: ReadError) -> &'static str
         ReadError::CompressedPageFunctions => "CompressedPageFunctions",
         ReadError::LocalOpcodes => "LocalOpcodes",
         ReadError::PageKind => "PageKind",
+        ReadError::Personalities => "Personalities",
+        ReadError::Lsda => "Lsda",
     }
 }
 

@@ -9,6 +9,8 @@ mod macho_damaged;
 #[cfg(test)]
 mod macho_linked;
 #[cfg(test)]
+mod macho_tables;
+#[cfg(test)]
 mod pe;
 #[cfg(test)]
 mod steps;

@@ -324,6 +324,14 @@ const ERRORS: &[(Error, &str)] = &[
         "Read error: Could not read page kind",
     ),
     (
+        Error::ReadError(ReadError::Personalities),
+        "Read error: Could not read personalities",
+    ),
+    (
+        Error::ReadError(ReadError::Lsda),
+        "Read error: Could not read language tables",
+    ),
+    (
         Error::InvalidPageEntryFirstAddress,
         "The page entry's first_address didn't match the address of its first function",
     ),

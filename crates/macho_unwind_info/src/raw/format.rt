@@ -78,6 +78,15 @@ pub struct RegularFunctionEntry {
     pub opcode: Opcode,
 }
 
+/// An entry of the list of language tables.
+#[derive(Clone, Copy, Debug)]
+pub struct LsdaEntry {
+    /// Where the function begins, relative to the module's base.
+    pub address: U32,
+    /// Where its language table lies, relative to the module's base.
+    pub lsda_offset: U32,
+}
+
 impl fmt::Debug for PageEntry {
     fn fmt<W: fmt::Write>(&self, f: &mut fmt::Formatter<W>) -> fmt::Result {
         f.debug_struct("PageEntry")
@@ -241,4 +250,26 @@ impl Record for RegularFunctionEntry {
     ghost has_size = { lit≤ tt };
 
     ghost keeps_all = { function_entry_keeps_all };
+}
+
+impl Record for LsdaEntry {
+    ghost use Rattle.macho_unwind_info.specs.Format.{lsda_entry_in, lsda_entry_keeps_all};
+    ghost use Rattle.std.proofs.Common.{lit≤};
+
+    const SIZE: usize = 8;
+
+    ghost SIZE = { 8 };
+
+    ghost value_of = { lsda_entry_in };
+
+    fn read(bytes: &[u8]) -> LsdaEntry {
+        LsdaEntry {
+            address: u32_at(bytes, 0),
+            lsda_offset: u32_at(bytes, 4),
+        }
+    }
+
+    ghost has_size = { lit≤ tt };
+
+    ghost keeps_all = { lsda_entry_keeps_all };
 }

@@ -5,9 +5,12 @@ ghost use Rattle.macho_unwind_info.specs.Parts.{header_of, global_opcodes_of, pa
 ghost use Rattle.macho_unwind_info.specs.Parts.{regular_page_of, regular_functions_of};
 ghost use Rattle.macho_unwind_info.specs.Parts.{compressed_page_of, compressed_functions_of};
 ghost use Rattle.macho_unwind_info.specs.Parts.{local_opcodes_of};
+ghost use Rattle.macho_unwind_info.specs.Parts.{personality_array_of, lsda_entries_between};
+ghost use Rattle.macho_unwind_info.specs.Parts.{lsda_entries_of};
 
 use super::format::{
-    CompactUnwindInfoHeader, CompressedPage, Opcode, PageEntry, RegularFunctionEntry, RegularPage,
+    CompactUnwindInfoHeader, CompressedPage, LsdaEntry, Opcode, PageEntry, RegularFunctionEntry,
+    RegularPage,
 };
 use super::unaligned::U32;
 use crate::error::ReadError;
@@ -38,6 +41,20 @@ impl CompactUnwindInfoHeader {
         self.global_opcodes_len.into()
     }
 
+    /// Where the list of personalities lies, in bytes from the start of the section.
+    pub fn personalities_offset(&self) -> u32
+        ensures { result ≡ u32_number self.now.personalities_offset }
+    {
+        self.personalities_offset.into()
+    }
+
+    /// How many personalities there are.
+    pub fn personalities_len(&self) -> u32
+        ensures { result ≡ u32_number self.now.personalities_len }
+    {
+        self.personalities_len.into()
+    }
+
     /// Where the list of pages lies, in bytes from the start of the section.
     pub fn pages_offset(&self) -> u32
         ensures { result ≡ u32_number self.now.pages_offset }
@@ -61,6 +78,19 @@ impl CompactUnwindInfoHeader {
         let count = self.global_opcodes_len() as usize;
         read_slice_at(bytes, u64::from(self.global_opcodes_offset()), count).ok_or(
             ReadError::GlobalOpcodes,
+        )
+    }
+
+    /// The list of personalities: each is the address, relative to the module's base, of the
+    /// pointer to a personality routine.
+    ///
+    /// Errors: `Personalities` where they don't fit in the section's bytes.
+    pub fn personalities<'d>(&self, bytes: &'d [u8]) -> Result<Records<'d, U32>, ReadError>
+        ensures { result ≡ personality_array_of self.now bytes.now }
+    {
+        let count = self.personalities_len() as usize;
+        read_slice_at(bytes, u64::from(self.personalities_offset()), count).ok_or(
+            ReadError::Personalities,
         )
     }
 
@@ -97,6 +127,21 @@ impl PageEntry {
         ensures { result ≡ u32_number self.now.lsda_index_offset }
     {
         self.lsda_index_offset.into()
+    }
+
+    /// The page's part of the list of language tables, which ends where the next page's part
+    /// begins.
+    ///
+    /// Errors: `Lsda` where it ends before it begins, its length is no multiple of 8, or it doesn't
+    /// fit in the section's bytes.
+    pub fn lsda_entries<'d>(
+        &self,
+        bytes: &'d [u8],
+        next: &PageEntry,
+    ) -> Result<Records<'d, LsdaEntry>, ReadError>
+        ensures { result ≡ lsda_entries_of self.now next.now bytes.now }
+    {
+        lsda_entries_between(bytes, self.lsda_index_offset(), next.lsda_index_offset())
     }
 
     /// The word at the page's start, which tells its kind.
@@ -246,4 +291,37 @@ impl RegularFunctionEntry {
     {
         self.opcode.opcode()
     }
+}
+
+impl LsdaEntry {
+    /// Where the function begins, relative to the module's base.
+    pub fn address(&self) -> u32
+        ensures { result ≡ u32_number self.now.address }
+    {
+        self.address.into()
+    }
+
+    /// Where the function's language table lies, relative to the module's base.
+    pub fn lsda_offset(&self) -> u32
+        ensures { result ≡ u32_number self.now.lsda_offset }
+    {
+        self.lsda_offset.into()
+    }
+}
+
+/// The entries of the list of language tables from one offset up to another.
+fn lsda_entries_between(
+    bytes: &[u8],
+    start: u32,
+    end: u32,
+) -> Result<Records<'_, LsdaEntry>, ReadError>
+    ensures { result ≡ lsda_entries_between bytes.now start end }
+{
+    let Some(length) = end.checked_sub(start) else {
+        return Err(ReadError::Lsda);
+    };
+    if length % 8 != 0 {
+        return Err(ReadError::Lsda);
+    }
+    read_slice_at(bytes, u64::from(start), (length / 8) as usize).ok_or(ReadError::Lsda)
 }

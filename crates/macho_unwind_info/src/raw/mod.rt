@@ -7,6 +7,7 @@ mod unaligned;
 pub use crate::num_display::{BinNum, HexNum};
 pub use compressed_function::CompressedFunctionEntry;
 pub use format::{
-    CompactUnwindInfoHeader, CompressedPage, Opcode, PageEntry, RegularFunctionEntry, RegularPage,
+    CompactUnwindInfoHeader, CompressedPage, LsdaEntry, Opcode, PageEntry, RegularFunctionEntry,
+    RegularPage,
 };
 pub use unaligned::{U16, U32};
