@@ -1,7 +1,6 @@
 -- The language table of a function: why it can't be read, and which it is on described parts of the list.
-use Rattle.std.proofs.Common.{◌≡◌, ℕ, zero, suc, ◌+◌, ◌-◌, ◌*◌, ◌/◌, ◌%◌, ◌<◌, ◌≤◌, Bool, true, false, cond, leb, ltb, eqb, List, [], ◌∷◌, length, map, Option, Some, None, Result, Ok, Err, get_or, refl, arith, ap, sym, subst, ◌∙◌, inl, inr}
-use Rattle.std.specs.Prelude.{slice_get, option_map, IsErr, IfErr, IsTrue, ◌⊎◌, ◌&&◌}
-use Rattle.std.specs.List.{find}
+use Rattle.std.proofs.Common.{◌≡◌, ℕ, zero, suc, ◌+◌, ◌-◌, ◌*◌, ◌/◌, ◌%◌, ◌<◌, ◌≤◌, Bool, true, false, cond, leb, eqb, List, [], ◌∷◌, length, map, Option, Some, None, Result, Ok, Err, get_or, refl, arith, ap, sym, subst, ◌∙◌, inl, inr}
+use Rattle.std.specs.Prelude.{slice_get, IsErr, IfErr, IsTrue, ◌&&◌}
 use Rattle.std.proofs.lemmas.Bool.{eqb-true, leb-true, leb-false, lt-ltb, le-ltb, le-leb, lt-leb}
 use Rattle.memory_image.specs.Halving.{boundary_of}
 use Rattle.memory_image.specs.Results.{◌>>=◌}
@@ -10,7 +9,7 @@ use Rattle.macho_unwind_info.specs.Bits.{bits}
 use Rattle.macho_unwind_info.specs.Parts.{lsda_entries_between, lsda_entries_of}
 use Rattle.macho_unwind_info.specs.Listing.{Section, part}
 use Rattle.macho_unwind_info.specs.Lookup.{first_address, page_addresses, IsBoundary, Finds}
-use Rattle.macho_unwind_info.specs.LanguageTables.{has_language_table, function_address, table_offset, offset_for, offset_at, offset_among, table_from, table_by, table_at, IsNoPart, LacksPart, AscendByAddress, ArePartsDescribed, HasDescribedTables, listed_among, listed_in, listed_table}
+use Rattle.macho_unwind_info.specs.LanguageTables.{has_language_table, function_address, offset_at, offset_among, table_from, table_by, table_at, IsNoPart, LacksPart, AscendByAddress, ArePartsDescribed, HasDescribedTables, listed_among, listed_in, listed_table}
 use Rattle.macho_unwind_info.specs.declared.error.Error.{Error}
 use Rattle.macho_unwind_info.specs.declared.error.Error.TheVariants as errors
 use Rattle.macho_unwind_info.specs.declared.error.ReadError.{ReadError}

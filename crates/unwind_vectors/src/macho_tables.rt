@@ -28,11 +28,20 @@ fn a_function_has_its_language_table(rt: HostRuntime) -> Result<(), Fail> {
     let info = UnwindInfo::parse(&SECTION)?;
     assert!(rt; info.lookup(0x100f) == Ok(Some(FUNCTION)));
     assert!(rt; info.lsda_of(&FUNCTION) == Ok(Some(0x1800)));
-    let without = Function { opcode: 0x1201_0000, ..FUNCTION };
+    let without = Function {
+        opcode: 0x1201_0000,
+        ..FUNCTION
+    };
     assert!(rt; info.lsda_of(&without) == Ok(None));
-    let elsewhere = Function { start_address: 0x1004, ..FUNCTION };
+    let elsewhere = Function {
+        start_address: 0x1004,
+        ..FUNCTION
+    };
     assert!(rt; info.lsda_of(&elsewhere) == Ok(None));
-    let outside = Function { start_address: 0x2000, ..FUNCTION };
+    let outside = Function {
+        start_address: 0x2000,
+        ..FUNCTION
+    };
     assert!(rt; info.lsda_of(&outside) == Ok(None));
     Ok(())
 }
@@ -104,7 +113,10 @@ const LINKED: &[u8] = &[
     0xc0, 0x00, 0x00, 0x00, 0x10, 0x01, 0x00, 0x02, 0x70, 0x01, 0x00, 0x01,
 ];
 
-const LISTED: &[(u32, u32, Option<u32>)] = &[
+// A function's start, its encoding and where its language table lies.
+type Listed = (u32, u32, Option<u32>);
+
+const LISTED: &[Listed] = &[
     (0x5a0, 0x0100_0000, None),
     (0x5b0, 0x5101_0001, Some(0x784)),
     (0x600, 0x0100_0000, None),
@@ -115,14 +127,20 @@ const LISTED: &[(u32, u32, Option<u32>)] = &[
     (0x710, 0x0100_0000, None),
 ];
 
+fn listed_at(info: &UnwindInfo<'_>, address: u32) -> Result<Option<Listed>, Error> {
+    let Some(function) = info.lookup(address)? else {
+        return Ok(None);
+    };
+    let table = info.lsda_of(&function)?;
+    Ok(Some((function.start_address, function.opcode, table)))
+}
+
 #[test]
 fn linked_functions_have_their_language_tables(rt: HostRuntime) -> Result<(), Fail> {
     let info = UnwindInfo::parse(LINKED)?;
     assert!(rt; is_only(&info.personalities()?, 0x2008));
-    for (start, opcode, table) in LISTED {
-        let function = info.lookup(*start)?.ok_or(Fail)?;
-        assert!(rt; function.start_address == *start && function.opcode == *opcode);
-        assert!(rt; info.lsda_of(&function)? == *table);
+    for listed in LISTED {
+        assert!(rt; listed_at(&info, listed.0)? == Some(*listed));
     }
     Ok(())
 }
