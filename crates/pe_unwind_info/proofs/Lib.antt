@@ -9,3 +9,4 @@ pub mod LinkLemmas
 pub mod OperationLemmas
 pub mod SearchLemmas
 pub mod TableLemmas
+pub mod HandlerLemmas

@@ -18,3 +18,6 @@ pub mod EpilogList
 pub mod Frame
 pub mod FrameOf
 pub mod Chain
+pub mod HandlerData
+pub mod Handlers
+pub mod HandlerSample

@@ -6,6 +6,8 @@ mod epilog_list;
 mod fault;
 mod frame;
 mod function_table;
+mod handler;
+pub mod handler_laws;
 pub mod laws;
 mod little_endian;
 mod operations;
@@ -23,6 +25,7 @@ pub use function_table::{
     FunctionTableEntries, RuntimeFunction, U32, lookup_finds_the_holder, lookup_is_determined,
     lookup_of_is_a_lookup,
 };
+pub use handler::{Handler, handler_of_function};
 pub use operations::{
     EpilogHeader, EpilogInformation, StackFrameOffset, UnwindCode, UnwindOperation,
     UnwindOperationCode, UnwindOperations,

@@ -13,4 +13,6 @@ mod macho_tables;
 #[cfg(test)]
 mod pe;
 #[cfg(test)]
+mod pe_handlers;
+#[cfg(test)]
 mod steps;

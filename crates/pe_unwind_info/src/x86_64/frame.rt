@@ -47,7 +47,7 @@ fn info_in(rva: u32, memory: Option<&[u8]>) -> Result<UnwindInfo<'_>, FrameFault
 }
 
 // the unwind record at an address
-fn info_at<'m, M: Fn(u32) -> Option<&'m [u8]>>(
+pub fn info_at<'m, M: Fn(u32) -> Option<&'m [u8]>>(
     memory_at_rva: &M,
     rva: u32,
 ) -> Result<UnwindInfo<'m>, FrameFault>

@@ -9,6 +9,8 @@ ghost use Rattle.pe_unwind_info.specs.InfoOperations.{operations_in};
 ghost use Rattle.pe_unwind_info.specs.Frame.{chained_of};
 ghost use Rattle.pe_unwind_info.specs.Info.{info_of, parsed_info, trailer_view, trailer_of};
 ghost use Rattle.pe_unwind_info.specs.Info.{chained_in};
+ghost use Rattle.pe_unwind_info.specs.HandlerData.{names_handler, data_offset};
+ghost use Rattle.pe_unwind_info.specs.HandlerData.{handler_data_offset_of};
 
 use crate::x86_64::function_table::{RuntimeFunction, U32};
 use crate::x86_64::little_endian::split_u32;
@@ -244,6 +246,36 @@ impl<'a> UnwindInfo<'a> {
     {
         match self.trailer() {
             Some(UnwindInfoTrailer::ChainedUnwindInfo { chained }) => Some(chained),
+            _ => None,
+        }
+    }
+
+    /// Whether the flags say that the record names a handler, for exceptions or for termination.
+    #[tactic(auto, using(crate::proofs::FlagLemmas::has_first))]
+    pub fn names_handler(&self) -> bool
+        ensures { result ≡ names_handler (info_of self.now) }
+    {
+        let flags = self.header.flags();
+        flags.contains(UnwindInfoFlags::EHANDLER) || flags.contains(UnwindInfoFlags::UHANDLER)
+    }
+
+    /// How far a handler's data is from the record's start: after the header, an even number of
+    /// slots, and the handler's address.
+    pub(crate) fn data_offset(&self) -> u32
+        ensures { result ≡ data_offset (info_of self.now).header }
+    {
+        let count = u32::from(self.header.unwind_codes_len);
+        8 + 2 * (count + count % 2)
+    }
+
+    /// How far the handler's data is from the record's start, in bytes; `None` where the trailer is
+    /// no handler's.
+    pub fn handler_data_offset(&self) -> Option<u32>
+        ensures { result ≡ handler_data_offset_of (info_of self.now) }
+    {
+        match self.trailer() {
+            Some(UnwindInfoTrailer::ExceptionHandler { .. }) => Some(self.data_offset()),
+            Some(UnwindInfoTrailer::TerminationHandler { .. }) => Some(self.data_offset()),
             _ => None,
         }
     }
