@@ -101,6 +101,13 @@ few bytes other = ne_eqb (header_count bytes) PN_XNUM other
 other : (bytes : List ℕ) → eqb (header_count bytes) PN_XNUM ≡ false → header_count bytes ≢ PN_XNUM
 other bytes differs is = both_ways (eqb (header_count bytes) PN_XNUM) differs (eq-eqb (header_count bytes) PN_XNUM is)
 
+-- what is read is what the program headers say
+pub core-held : (bytes : List ℕ) (core : CoreValue) → core_of bytes ≡ Ok core → core_with bytes (headers_of bytes) ≡ core
+unfolding core_of
+core-held bytes core e =
+    let hs = headers_of bytes in
+    (good (has_core_header bytes) (eqb (header_count bytes) PN_XNUM) (segments_fit bytes) (notes_are_whole bytes hs) (core_with bytes hs) core e).1
+
 pub read-core : (bytes : List ℕ) (core : CoreValue) → core_of bytes ≡ Ok core → IsCore bytes core
 unfolding core_of
 read-core bytes core e =

@@ -6,3 +6,4 @@ pub mod ThreadLemmas
 pub mod CoreLemmas
 pub mod AddingLemmas
 pub mod SampleLemmas
+pub mod CountLemmas

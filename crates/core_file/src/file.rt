@@ -96,6 +96,9 @@ impl<'a> CoreFile<'a> {
             IsTrue (segments_fit bytes.now) ×
             ((notes : List Note) → SpellNotes bytes.now (headers_of bytes.now) notes → ⊥)) }
         ensures exact { result ≡ core_of bytes.now }
+        // There are fewer than 2^64 threads, where the file has at most 2^48 bytes, so that they can be counted. Segments
+        // of notes may share their bytes, and each of them counts.
+        ensures few { length bytes.now ≤ 2 ^ 48 → IfOk result (λ core. length core.threads < 2 ^ 64) }
     {
         core_in(bytes)
     }
@@ -123,7 +126,8 @@ impl<'a> CoreFile<'a> {
         self.segments().nth(i)
     }
 
-    /// The registers of the threads, in the order of the notes.
+    /// The registers of the threads, in the order of the notes. Those of a file of up to 2^48 bytes can be counted, as
+    /// [`parse`](CoreFile::parse) says.
     pub fn threads(&self) -> Threads<'a>
         ensures { threads_left result ≡ self.now.threads }
     {

@@ -1,9 +1,10 @@
-use Rattle.std.proofs.Common.{◌≡◌, ◌∙◌, Result, Ok, Err, sym}
+use Rattle.std.proofs.Common.{◌≡◌, ◌∙◌, ◌≤◌, ◌<◌, ◌^◌, length, Result, Ok, Err, sym, arith}
 use Rattle.std.specs.Prelude.{IfOk}
 use Rattle.core_file.specs.declared.errors.CoreError.{CoreError}
 use Rattle.core_file.specs.CoreValue.{CoreValue, core_of}
 use Rattle.core_file.specs.CoreGrammar.{IsCore}
 use Rattle.core_file.proofs.CoreLemmas.{read-core, core-read, header_cause, many_cause, segments_cause, notes_cause}
+use Rattle.core_file.proofs.CountLemmas.{threads_countable}
 use Rattle.core_file.proofs.file.CoreFile.parse.Goals as goal
 
 pub returns-clause-grammar : goal.returns-clause-grammar
@@ -27,3 +28,10 @@ returns-clause-segments c = rw c.core_in.ensures (segments_cause c.args.bytes.no
 
 pub returns-clause-notes : goal.returns-clause-notes
 returns-clause-notes c = rw c.core_in.ensures (notes_cause c.args.bytes.now)
+
+pub returns-clause-few : goal.returns-clause-few
+returns-clause-few c = go c.core_in.result c.core_in.ensures
+  where
+    go : (r : Result CoreValue CoreError) → r ≡ core_of c.args.bytes.now → length c.args.bytes.now ≤ 2 ^ 48 → IfOk r (λ core. length core.threads < 2 ^ 64)
+    go (Ok core) is = λ fits. threads_countable c.args.bytes.now core (sym is) (λ i. let byte = c.type_inv.bytes i in omega arith) fits
+    go (Err e) is = λ _. tt
