@@ -22,15 +22,13 @@ Wants nothing but Python (tried: 3.11).
 """
 from __future__ import annotations
 
-import argparse
 import array
 import bisect
 import io
 import os
 import struct
 import sys
-from dataclasses import dataclass
-from typing import BinaryIO, Iterable, Iterator
+from typing import BinaryIO, Iterable, Iterator, NamedTuple
 
 from core_image import AT_ENTRY, AT_SYSINFO_EHDR, Core, Mapped, Thread, core_with
 from elf_image import PAGE, SEGMENT_LOADED, WORD, ElfImage, Range, Refused, Segment, build_id_of
@@ -51,24 +49,21 @@ class WithoutTable(Refused):
     """A file has no frame table, and so nothing that a walk could read."""
 
 
-@dataclass(frozen=True)
-class Loaded:
+class Loaded(NamedTuple):
     """A module and the bytes of its frame table."""
 
     module: Module
     table: Region
 
 
-@dataclass(frozen=True)
-class Source:
+class Source(NamedTuple):
     """The files that a core is read with: the program's, where it lies now, and the folder of the others."""
 
     program: str
     root: str = ""
 
 
-@dataclass
-class Taken:
+class Taken(NamedTuple):
     """What is taken of a core: its threads, their stacks, and the modules that these point into."""
 
     threads: list[Thread]
@@ -430,6 +425,8 @@ def check_program(path: str) -> None:
 
 def main() -> None:
     """Reads a core, and writes the file."""
+    import argparse  # which takes long to load, and core_backtrace.py has no need of it
+
     parser = argparse.ArgumentParser(prog="core.py", description="Make of a core what `unwind_cli core` reads.")
     parser.add_argument("program", metavar="PROGRAM")
     parser.add_argument("core", metavar="CORE")

@@ -8,13 +8,12 @@ first thread of a core is the one that got the signal. Lines on standard error s
 """
 from __future__ import annotations
 
-import argparse
-import dataclasses
 import json
 import os
 import signal
 import subprocess
 import sys
+from typing import NamedTuple
 
 from core import FAULTS, Source, Taken, check_program, object_of, opened_core, system_image, taken_of
 from core_image import Core
@@ -25,6 +24,32 @@ from snapshot_file import MOST_BYTES, MOST_STATES, Object
 
 UNWIND_CLI = os.path.join(os.path.dirname(os.path.abspath(__file__)), "../crates/unwind_cli/out/unwind_cli")
 SYSTEM_PATH = "[vdso]"
+USAGE = "usage: core_backtrace.py PROGRAM CORE [--threads] [--unwind-cli PROGRAM] [--root DIR]"
+
+
+class Options(NamedTuple):
+    """What the words ask for."""
+
+    program: str
+    core: str
+    threads: bool
+    unwind_cli: str
+    root: str
+
+
+def read_words(words: list[str]) -> Options:
+    """The words. (`argparse` takes as long to load as all the rest.)"""
+    left = [word for word in words if word != "--threads"]
+    values = {"--unwind-cli": os.environ.get("UNWIND_CLI", UNWIND_CLI), "--root": ""}
+    for option in values.keys() & set(left):
+        index = left.index(option)
+        if index + 1 == len(left):
+            sys.exit(USAGE)
+        values[option] = left[index + 1]
+        del left[index : index + 2]
+    if len(left) != 2 or left[0].startswith("-"):
+        sys.exit(USAGE)
+    return Options(left[0], left[1], "--threads" in words, values["--unwind-cli"], values["--root"])
 
 
 def short_text(found: Object) -> bytes:
@@ -65,10 +90,10 @@ def asked_threads(taken: Taken, all_threads: bool) -> Taken:
         return taken
     first = taken.threads[0]
     print(f"core: thread 1 of {len(taken.threads)} (LWP {first.number}); --threads prints all", file=sys.stderr)
-    return dataclasses.replace(taken, threads=[first])
+    return taken._replace(threads=[first])
 
 
-def printed(options: argparse.Namespace) -> str:
+def printed(options: Options) -> str:
     """The backtraces."""
     core = opened_core(options.core)
     check_program(options.program)
@@ -81,15 +106,9 @@ def printed(options: argparse.Namespace) -> str:
 
 def main() -> None:
     """Runs the program."""
-    parser = argparse.ArgumentParser(prog="core_backtrace.py", description="Print the backtraces of a core.")
-    parser.add_argument("program", metavar="PROGRAM")
-    parser.add_argument("core", metavar="CORE")
-    parser.add_argument("--threads", action="store_true", help="of all threads, and not of the first alone")
-    parser.add_argument("--unwind-cli", default=os.environ.get("UNWIND_CLI", UNWIND_CLI), metavar="PROGRAM")
-    parser.add_argument("--root", default="", help="the folder of the machine that the core is of")
     signal.signal(signal.SIGPIPE, signal.SIG_DFL)
     try:
-        print(printed(parser.parse_args()))
+        print(printed(read_words(sys.argv[1:])))
     except (Refused, OSError) as error:
         sys.exit(f"core: {error}")
 

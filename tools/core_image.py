@@ -8,8 +8,7 @@ from __future__ import annotations
 import bisect
 import os
 import struct
-from dataclasses import dataclass
-from typing import BinaryIO, Iterable, Iterator
+from typing import BinaryIO, Iterable, Iterator, NamedTuple
 
 from elf_image import Range, Refused
 
@@ -32,8 +31,7 @@ KINDS = {1: "an object file", 2: "a program", 3: "a program or a library"}
 MACHINES = {3: "i386", 21: "PowerPC", 22: "S/390", 40: "ARM", 183: "AArch64", 243: "RISC-V"}
 
 
-@dataclass(frozen=True)
-class Note:
+class Note(NamedTuple):
     """A note, and how it stands in the file."""
 
     name: bytes
@@ -42,8 +40,7 @@ class Note:
     text: bytes
 
 
-@dataclass(frozen=True)
-class Thread:
+class Thread(NamedTuple):
     """A thread: its number in the system, and the registers by which its stack and its code are found."""
 
     number: int
@@ -59,8 +56,7 @@ class Thread:
         return [word for (word,) in struct.iter_unpack("<Q", self.note.description[REGISTERS_OFFSET:end])]
 
 
-@dataclass(frozen=True)
-class Mapped:
+class Mapped(NamedTuple):
     """A file's part that was mapped: where, and from which offset of the file on."""
 
     place: Range
@@ -68,8 +64,7 @@ class Mapped:
     name: str
 
 
-@dataclass(frozen=True, order=True)
-class Memory:
+class Memory(NamedTuple):
     """What the file has of a mapping: from which address and offset on how many bytes; `size` bytes were mapped,
     of which `due` should be in the file."""
 

@@ -4,7 +4,7 @@
     core_names.py REPORT FILE
 
 FILE is what tools/core.py made, and REPORT what `unwind_cli core` printed of it. The names come as names.py has them;
-each address is asked once, and the files of modules beside each other.
+each address is asked once, and all files in one run of the symbolizer.
 
     Thread 1 (LWP 29146):
     #0 0x7f31ee3d3eec in __pthread_kill_implementation at ./nptl/pthread_kill.c:44
@@ -19,42 +19,41 @@ import re
 import signal
 import struct
 import sys
-import threading
-from dataclasses import dataclass, field
-from typing import Callable, Iterator
+from typing import Callable, Iterator, NamedTuple
 
 from elf_image import SEGMENT_LOADED, WORD, ElfImage, Refused
 from names import Module, ReportedFrame, Symbols, all_symbols, module_at, modules_of, texts_of
 from snapshot_file import Object, read_object
+from symbols import asked_addresses, name_without_lines
 
-LINE = re.compile(r"^(?:frame \d+ ra=0x([0-9a-f]+) .*|(thread \d+)|(end|refused: .*))$", re.MULTILINE)
+THREAD = "\nthread "
+FRAME = re.compile(r"\nframe \d+ ra=0x([0-9a-f]+) ")
+LAST = re.compile(r"end|refused: .*")
 UNMAPPED = re.compile(r"^refused: unmapped (0x[0-9a-f]+)$")
 # What handlers of signals return to: `mov $15, %rax; syscall`, which is rt_sigreturn(2).
 RESTORER = bytes.fromhex("48c7c00f0000000f05")
 
 
-@dataclass
-class Walk:
+class Walk(NamedTuple):
     """A thread's walk in a report: return addresses from the start outwards, and the line after them."""
 
-    addresses: list[int] = field(default_factory=list)
-    last: str = ""
+    addresses: list[int]
+    last: str
 
 
-@dataclass(frozen=True)
-class ThreadStart:
+class ThreadStart(NamedTuple):
     """A thread's number in the system, and where it stood."""
 
     number: int
     rip: int
 
 
-@dataclass
 class Loaded:
     """What names are made of: the modules, the program's path, and files that aren't on disk by the paths of theirs."""
 
-    modules: list[Module]
-    images: dict[str, ElfImage] = field(default_factory=dict)
+    def __init__(self, modules: list[Module]) -> None:
+        self.modules = modules
+        self.images: dict[str, ElfImage] = {}
 
     @property
     def program(self) -> str:
@@ -65,17 +64,17 @@ class Loaded:
 # ---- report
 
 
+def walk_of(text: str) -> Walk:
+    """The walk of a thread by its lines."""
+    returns = FRAME.findall(text)
+    known = {digits: int(digits, 16) for digits in set(returns)}
+    last = text.rstrip("\n").rpartition("\n")[2]
+    return Walk([known[digits] for digits in returns], last if LAST.fullmatch(last) else "")
+
+
 def walks_of(report: str) -> list[Walk]:
     """The walks of a report, in the order of the threads."""
-    found: list[Walk] = []
-    for address, thread, last in LINE.findall(report):
-        if thread:
-            found.append(Walk())
-        elif address and found:
-            found[-1].addresses.append(int(address, 16))
-        elif found:
-            found[-1].last = last
-    return found
+    return [walk_of(text) for text in f"\n{report}".split(THREAD)[1:]]
 
 
 def start_of(thread: Object) -> ThreadStart:
@@ -117,13 +116,18 @@ def restorers_of(loaded: Loaded, walks: list[Walk]) -> set[int]:
 
 
 def frames_of(walk: Walk, start: ThreadStart, restorers: set[int]) -> Iterator[ReportedFrame]:
-    """The frames of a walk or, where it was refused, the innermost one. That which returns to 0 is no frame's."""
+    """The frames of a walk or, where it was refused, the innermost one. That which returns to 0 is no frame's. Of a function
+    that calls itself the same frame comes again."""
     interrupted = True
+    called: dict[int, ReportedFrame] = {}
     for address in walk.addresses or [start.rip]:
         if address == 0 and walk.addresses[1:]:
             return
         is_signal = address in restorers
-        yield ReportedFrame(address, address if interrupted or is_signal else address - 1, is_signal)
+        if interrupted or is_signal:
+            yield ReportedFrame(address, address, is_signal)
+        else:
+            yield called.get(address) or called.setdefault(address, ReportedFrame(address, address - 1))
         interrupted = is_signal
 
 
@@ -147,31 +151,18 @@ def ending_of(walk: Walk, modules: list[Module], missing: Callable[[int], str] |
 # ---- names
 
 
-def ask(path: str, frames: list[ReportedFrame], loaded: Loaded, found: dict[str, Symbols]) -> None:
-    """Adds what is known of one module's frames, and nothing where no symbolizer is installed."""
-    found[path] = Symbols()
-    try:
-        found.update(all_symbols(frames, loaded.modules, []))
-    except (Refused, OSError) as error:
-        print(f"core: without names of {path}: {error}", file=sys.stderr)
-
-
 def symbols_of(frames: set[ReportedFrame], loaded: Loaded) -> dict[str, Symbols]:
-    """What is known of frames, by the paths of modules; each module is asked beside the others."""
-    by_path: dict[str, list[ReportedFrame]] = {}
-    for frame in frames:
-        module = module_at(loaded.modules, frame.address)
-        if module is not None and not frame.is_signal:
-            by_path.setdefault(module.path, []).append(frame)
-    found: dict[str, Symbols] = {}
-    askers = [threading.Thread(target=ask, args=(path, here, loaded, found)) for path, here in by_path.items()]
-    for asker in askers:
-        asker.start()
-    for asker in askers:
-        asker.join()
-    for path in by_path:
+    """What is known of frames, by the paths of modules: nothing where no symbolizer is installed."""
+    asked = [frame for frame in frames if not frame.is_signal]
+    try:
+        found = all_symbols(asked, loaded.modules, [])
+    except (Refused, OSError) as error:
+        print(f"core: without names: {error}", file=sys.stderr)
+        found = {module.path: Symbols() for module in loaded.modules}
+    for (path, _), addresses in asked_addresses([frame.address for frame in asked], loaded.modules).items():
         if path in loaded.images and not os.path.exists(path):
             found[path].functions = loaded.images[path].functions()
+            name_without_lines(found[path], addresses)
     return found
 
 

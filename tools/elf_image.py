@@ -5,8 +5,7 @@ It reads the files of x86-64 alone (System V ABI, "Object Files"), and nothing o
 from __future__ import annotations
 
 import struct
-from dataclasses import dataclass
-from typing import BinaryIO, Iterator
+from typing import BinaryIO, Iterator, NamedTuple
 
 WORD = 2**64
 
@@ -24,8 +23,7 @@ class Refused(Exception):
     """Why there is no snapshot, or why a module isn't in it."""
 
 
-@dataclass(frozen=True, order=True)
-class Range:
+class Range(NamedTuple):
     """The addresses from `start` to before `end`."""
 
     start: int
@@ -39,8 +37,7 @@ class Range:
         return f"{self.start:#x}-{self.end:#x}"
 
 
-@dataclass(frozen=True)
-class Segment:
+class Segment(NamedTuple):
     """A program header, with the file's own addresses."""
 
     kind: int
@@ -50,8 +47,7 @@ class Segment:
     size: int
 
 
-@dataclass(frozen=True)
-class Section:
+class Section(NamedTuple):
     """A section header, with the file's own addresses."""
 
     name: str
@@ -62,8 +58,7 @@ class Section:
     link: int
 
 
-@dataclass(frozen=True, order=True)
-class Function:
+class Function(NamedTuple):
     """A function of a symbol table, by the file's own addresses."""
 
     start: int

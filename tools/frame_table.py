@@ -7,8 +7,7 @@ a table only the CIEs are read.
 from __future__ import annotations
 
 import struct
-from dataclasses import dataclass
-from typing import Iterator
+from typing import Iterator, NamedTuple
 
 from elf_image import WORD, Range, Refused
 
@@ -22,16 +21,14 @@ OMITTED = 0xFF
 FORMATS = {0x0: "<Q", 0x2: "<H", 0x3: "<I", 0x4: "<Q", 0xA: "<h", 0xB: "<i", 0xC: "<q"}
 
 
-@dataclass(frozen=True)
-class Table:
+class Table(NamedTuple):
     """A frame table's bytes, and the address of the first."""
 
     address: int
     content: bytes
 
 
-@dataclass(frozen=True)
-class Entry:
+class Entry(NamedTuple):
     """Where an entry lies: its length, its identity and the byte after it. A CIE has the identity 0."""
 
     offset: int
@@ -40,8 +37,7 @@ class Entry:
     end: int
 
 
-@dataclass(frozen=True)
-class CommonEntry:
+class CommonEntry(NamedTuple):
     """What is read of a CIE. `personality` is an encoding and the offset of the pointer, and
     `language_table` the encoding of what its entries say of language tables."""
 

@@ -2,7 +2,7 @@
 from __future__ import annotations
 
 import re
-from dataclasses import dataclass
+from typing import NamedTuple
 
 from elf_image import Range
 from snapshot_file import Object
@@ -11,8 +11,7 @@ from snapshot_file import Object
 SUPPLIED = re.compile(r"^system-supplied DSO at (0x[0-9a-f]+)$")
 
 
-@dataclass(frozen=True)
-class Module:
+class Module(NamedTuple):
     """What a snapshot takes of an ELF file, by its addresses in the process."""
 
     name: str

@@ -26,8 +26,7 @@ import os
 import re
 import signal
 import sys
-from dataclasses import dataclass
-from typing import Iterator
+from typing import Iterator, NamedTuple
 
 from elf_image import WORD, Refused
 from frame_table import Table, frame_table_of_header, signal_trampolines
@@ -56,8 +55,7 @@ GUESSED = " (return address on the stack)"
 OF_SIGNALS = re.compile(rb"[\x01\x03\x04][A-Za-z]*S[A-Za-z]*\0")
 
 
-@dataclass(frozen=True)
-class ReportedFrame:
+class ReportedFrame(NamedTuple):
     """A frame of a report. `address` lies in the call where the frame stands after one. `note` is what the report says of it."""
 
     counter: int
@@ -66,8 +64,7 @@ class ReportedFrame:
     note: str = ""
 
 
-@dataclass(frozen=True)
-class Part:
+class Part(NamedTuple):
     """What a report says of one thread, and the line before it, where there is one."""
 
     head: str | None

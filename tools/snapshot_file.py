@@ -8,10 +8,7 @@ from __future__ import annotations
 import functools
 import json
 import os
-import shutil
-import tempfile
-from dataclasses import dataclass
-from typing import Any, Callable, Iterable
+from typing import Any, Callable, Iterable, NamedTuple
 
 from elf_image import Range, Refused
 
@@ -25,8 +22,7 @@ TABLES = "tables.json"
 Object = dict[str, Any]
 
 
-@dataclass(frozen=True)
-class Region:
+class Region(NamedTuple):
     """A piece of memory."""
 
     start: int
@@ -149,6 +145,9 @@ def joined_samples(tables: Object, threads: list[Object]) -> Object:
 
 def place_whole(target: str, make: Callable[[str], None]) -> None:
     """Makes something beside its place, and then renames it, so that no half of it is ever there."""
+    import shutil  # both take long to load, and who reads has no need of them
+    import tempfile
+
     folder = tempfile.mkdtemp(dir=os.path.dirname(target), prefix=".snapshot-")
     try:
         part = os.path.join(folder, "part")

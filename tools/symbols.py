@@ -15,11 +15,9 @@ import functools
 import io
 import os
 import re
-import shutil
 import struct
 import subprocess
-from dataclasses import dataclass, field
-from typing import Iterable, Iterator, Sequence
+from typing import Iterable, Iterator, NamedTuple, Sequence
 
 from elf_image import WORD, ElfImage, Function, Range, Refused
 from plain_names import plain_name
@@ -34,16 +32,14 @@ ADDRESS_OF_SUPPLIED = 33
 NEWEST_LLVM, OLDEST_LLVM = 30, 11
 
 
-@dataclass(frozen=True)
-class Place:
+class Place(NamedTuple):
     """A function and, where debug information says them, a file and its line."""
 
     function: str
     line: str | None = None
 
 
-@dataclass(frozen=True)
-class Module:
+class Module(NamedTuple):
     """A part of a file that is loaded: what is added to the file's addresses, and the part's addresses."""
 
     path: str
@@ -53,18 +49,17 @@ class Module:
     build_id: str | None
 
 
-@dataclass
 class Symbols:
     """What is known of a file's addresses: places of debug information, all functions by address, and the names of the
     functions that hold addresses without lines."""
 
-    places: dict[int, list[Place]] = field(default_factory=dict)
-    functions: list[Function] = field(default_factory=list)
-    named: dict[int, str] = field(default_factory=dict)
+    def __init__(self, places: dict[int, list[Place]] | None = None, functions: list[Function] | None = None) -> None:
+        self.places = places or {}
+        self.functions = functions or []
+        self.named: dict[int, str] = {}
 
 
-@dataclass(frozen=True)
-class Question:
+class Question(NamedTuple):
     """A file, and the addresses in it that are asked for."""
 
     file: str
@@ -74,10 +69,16 @@ class Question:
 # ---- programs
 
 
+def which(name: str) -> str | None:
+    """A program on the PATH. (`shutil.which` is the same; loading shutil takes long.)"""
+    paths = (os.path.join(folder, name) for folder in os.get_exec_path())
+    return next((path for path in paths if os.path.isfile(path) and os.access(path, os.X_OK)), None)
+
+
 def program_on_path(name: str) -> str | None:
     """A program of LLVM, by its plain name or by that of a version."""
     versions = (f"{name}-{version}" for version in range(NEWEST_LLVM, OLDEST_LLVM - 1, -1))
-    return next((found for found in map(shutil.which, (name, *versions)) if found), None)
+    return next((found for found in map(which, (name, *versions)) if found), None)
 
 
 def run_program(words: Sequence[str], text: str) -> str:
@@ -99,13 +100,13 @@ def demangled(text: str) -> str:
     """A text with its symbols as their languages write them. (llvm-symbolizer 14 doesn't know Rust's.)"""
     if not MANGLED.search(text):
         return text
-    program = shutil.which("c++filt") or program_on_path("llvm-cxxfilt")
+    program = which("c++filt") or program_on_path("llvm-cxxfilt")
     return (run_program([program], text) if program else "") or text
 
 
 def has_symbolizer() -> bool:
     """Whether there is a program that reads debug information."""
-    return program_on_path("llvm-symbolizer") is not None or shutil.which("addr2line") is not None
+    return program_on_path("llvm-symbolizer") is not None or which("addr2line") is not None
 
 
 def answers_of(questions: list[Question]) -> list[dict[int, list[Place]]]:
@@ -125,7 +126,7 @@ def output_of_llvm(questions: list[Question]) -> str:
 
 def output_of_addr2line(question: Question) -> str:
     """What `addr2line` prints of a question."""
-    program = shutil.which("addr2line")
+    program = which("addr2line")
     lines = [f"{address:#x}\n" for address in question.addresses]
     return run_program([program, "-a", "-f", "-i", "-e", question.file], "".join(lines)) if program else ""
 
@@ -192,7 +193,7 @@ def has_build_id(path: str, build_id: str | None) -> bool:
 
 def found_file(name: str) -> str:
     """A program's file: gdb finds one without a folder on the PATH too."""
-    return name if "/" in name or os.path.exists(name) else shutil.which(name) or name
+    return name if "/" in name or os.path.exists(name) else which(name) or name
 
 
 def supplied_image() -> bytes:

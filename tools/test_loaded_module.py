@@ -1,6 +1,5 @@
 """Tests of loaded_module.py: a module by its frame table, and by its header."""
 import unittest
-from dataclasses import replace
 
 from elf_image import Range
 from loaded_module import Module, module_objects, places_of, taken_line
@@ -9,7 +8,7 @@ PLAIN = Module(
     "/usr/lib/libone.so", 0x7F0000, "00ff", [Range(0x7F1000, 0x7F2000), Range(0x7F8000, 0x7F9000)],
     Range(0x7F3000, 0x7F3400), None, [Range(0x7F3400, 0x7F3480)], [],
 )
-WITH_HEADER = replace(PLAIN, header=Range(0x7F2F00, 0x7F2F40))
+WITH_HEADER = PLAIN._replace(header=Range(0x7F2F00, 0x7F2F40))
 NAMES = {"path": "/usr/lib/libone.so", "bias": "0x7f0000", "build_id": "00ff"}
 
 
@@ -30,7 +29,7 @@ class Modules(unittest.TestCase):
         self.assertEqual(set(places_of(WITH_HEADER)), {*tables, Range(0x7F2F00, 0x7F2F40)})
 
     def test_what_the_system_maps_has_no_file(self) -> None:
-        supplied = replace(PLAIN, name="system-supplied DSO at 0x7f0000", build_id=None)
+        supplied = PLAIN._replace(name="system-supplied DSO at 0x7f0000", build_id=None)
         self.assertEqual(module_objects(supplied)[0]["path"], "[vdso]")
         self.assertNotIn("build_id", module_objects(supplied)[0])
 

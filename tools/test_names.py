@@ -183,7 +183,7 @@ class Files(unittest.TestCase):
             self.assertEqual(run.call_count, 1)
 
     def test_without_a_symbolizer(self) -> None:
-        with mock.patch.object(shutil, "which", return_value=None):
+        with mock.patch.object(symbols, "which", return_value=None):
             self.assertEqual(names_of(self.addresses, self.modules), self.expected(False))
 
     def test_a_file_of_another_build(self) -> None:
