@@ -101,7 +101,7 @@ fn run_lines(alloc: Global, addresses: &[u64], places: &[Place]) -> Result<Vec<L
     ensures { IfOk result (λ lines.
         lines_at addresses.now lines.items ≡ runs_of (stacks_at addresses.now places.now)) }
 {
-    let mut lines = Vec::new(alloc);
+    let mut lines = Vec::with_capacity(alloc, places.len())?;
     let Some((first, others)) = places.split_first() else {
         return Ok(lines);
     };
@@ -121,6 +121,7 @@ fn run_lines(alloc: Global, addresses: &[u64], places: &[Place]) -> Result<Vec<L
         }
     }
     lines.push(last)?;
+    lines.shrink_to_fit();
     Ok(lines)
 }
 

@@ -104,13 +104,14 @@ fn walk_samples(
 {
     let mut room = Room::new(alloc, limit)?;
     let mut rows = RowRoom::new();
-    let mut stacks = StackList::new(alloc);
+    let mut stacks = StackList::with_places(alloc, samples.len())?;
     let mut refused = 0;
     for sample in samples {
         if !put_sample(space, sample, limit, &mut room, &mut rows, &mut stacks)? {
             refused += 1;
         }
     }
+    stacks.shrink();
     Ok(Walked { stacks, refused })
 }
 
@@ -160,8 +161,8 @@ fn fold_within(
 /// walk is refused has none and is counted apart.
 ///
 /// The addresses of all samples stand in one list, 8 bytes for each, at most 512 MiB, beside 40 bytes
-/// for a sample. Nothing is allocated for a frame but the growth of this list. A space answers the
-/// same whether it is prepared or not, and much sooner where it is.
+/// for a sample. Nothing is allocated for a frame but the growth of this list, by half. A space
+/// answers the same whether it is prepared or not, and much sooner where it is.
 ///
 /// # Errors
 ///

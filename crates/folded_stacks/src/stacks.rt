@@ -1,5 +1,5 @@
 // Stacks by their addresses, which stand one after another in one list.
-ghost use Rattle.std.specs.Prelude.{◌≡◌, ◌++◌, ◌∷◌, [], OnOk, OnErr};
+ghost use Rattle.std.specs.Prelude.{◌≡◌, ◌++◌, ◌∷◌, [], IfOk, OnOk, OnErr};
 ghost use Rattle.std.specs.List.Sorted.{IsPermutation};
 ghost use Rattle.folded_stacks.specs.Places.{Extends, stack_at};
 ghost use Rattle.folded_stacks.specs.Stacks.{NeverFall, outermost_first, stack_of, stack_order};
@@ -30,6 +30,17 @@ pub(crate) fn compare_at(addresses: &[u64], left: Place, right: Place) -> Orderi
     ensures { result ≡ stack_order (stack_at addresses.now left) (stack_at addresses.now right) }
 {
     stack_at(addresses, left).cmp(&stack_at(addresses, right))
+}
+
+/// Makes room for so many more addresses. Where they have none, the list grows by half, or by so many where that is more: never
+/// to twice its size, as it would by itself.
+fn make_room(addresses: &mut Vec<u64>, more: usize) -> Result<(), AllocError>
+    ensures { addresses.new.items ≡ addresses.old.items }
+{
+    if addresses.capacity() - addresses.len() < more {
+        addresses.reserve_exact(more.max(addresses.len() / 2))?;
+    }
+    Ok(())
 }
 
 /// Puts a return address last, unless it is 0.
@@ -77,14 +88,19 @@ impl Model for StackList {
 }
 
 impl StackList {
-    /// No stacks. It takes no memory yet.
-    pub(crate) fn new(alloc: Global) -> StackList
-        ensures { result ≡ [] }
+    /// No stacks, with places for so many.
+    ///
+    /// # Errors
+    ///
+    /// `AllocError` where memory ran out.
+    pub(crate) fn with_places(alloc: Global, count: usize) -> Result<StackList, AllocError>
+        ensures { IfOk result (λ stacks. stacks ≡ []) }
     {
-        StackList {
+        let places = Vec::with_capacity(alloc, count)?;
+        Ok(StackList {
             addresses: Vec::new(alloc),
-            places: Vec::new(alloc),
-        }
+            places,
+        })
     }
 
     /// Puts the stack that the states in a room show last.
@@ -96,10 +112,18 @@ impl StackList {
         ensures { OnOk result (self.new ≡ self.old ++ stack_of room.now.visited ∷ []) }
     {
         let start = self.addresses.len();
+        make_room(&mut self.addresses, room.visited_len())?;
         put_returns(&mut self.addresses, room)?;
         let len = self.addresses.len() - start;
         self.places.push(Place { start, len })?;
         Ok(())
+    }
+
+    /// Lets go of the memory after the last address.
+    pub(crate) fn shrink(&mut self)
+        ensures { self.new ≡ self.old }
+    {
+        self.addresses.shrink_to_fit();
     }
 
     /// Puts the stacks in order.
