@@ -47,7 +47,7 @@ def read_words(words: list[str]) -> Options:
             sys.exit(USAGE)
         values[option] = left[index + 1]
         del left[index : index + 2]
-    if len(left) != 2 or left[0].startswith("-"):
+    if len(left) != 2 or any(word.startswith("--") for word in left):
         sys.exit(USAGE)
     return Options(left[0], left[1], "--threads" in words, values["--unwind-cli"], values["--root"])
 

@@ -1,4 +1,4 @@
-"""Tests of tools/core.py, core_image.py and core_names.py.
+"""Tests of tools/core.py, core_image.py, core_names.py and core_backtrace.py.
 
 The core of `HAND` is written byte by byte by the ELF standard (System V gABI, "ELF Header", "Program Header", "Note
 Section") and Linux's `struct elf_prstatus`; `readelf -hln` reads it as the comments say. Where a file of a compiler is
@@ -8,6 +8,7 @@ from __future__ import annotations
 
 import contextlib
 import io
+import os
 import pathlib
 import re
 import shutil
@@ -15,11 +16,13 @@ import struct
 import subprocess
 import tempfile
 import unittest
+from unittest import mock
 
 from core import (
     Source, apart, biases_of, bounded, common_size, file_modules, frame_table, interrupted_pointers, points_into,
     program_name, stacks_of, words_of,
 )
+from core_backtrace import Options, read_words
 from core_image import Core, Mapped, Memory, core_with, mapped_of, notes_of
 from core_names import Loaded, ThreadStart, Walk, ending_of, frames_of, walks_of
 from elf_image import ElfImage, Range, Refused
@@ -229,6 +232,21 @@ class ModulesTest(unittest.TestCase):
         self.assertEqual(program_name(core, core.mapped()), "/nonexistent/program")
         (found,) = file_modules(core, Source(self.file), [entry])
         self.assertEqual((found.module.bias, found.table.start), (bias, bias + self.table[0]))
+
+
+class WordsTest(unittest.TestCase):
+    """The words of core_backtrace.py."""
+
+    def test_words(self) -> None:
+        with mock.patch.dict(os.environ, {"UNWIND_CLI": "/opt/unwind_cli"}):
+            self.assertEqual(read_words(["p", "c"]), Options("p", "c", False, "/opt/unwind_cli", ""))
+            words = ["--root", "/r", "p", "--threads", "c", "--unwind-cli", "u"]
+            self.assertEqual(read_words(words), Options("p", "c", True, "u", "/r"))
+
+    def test_other_words_are_refused(self) -> None:
+        for words in ([], ["p"], ["p", "c", "d"], ["p", "c", "--root"], ["p", "--thread"]):
+            with self.subTest(words), self.assertRaises(SystemExit):
+                read_words(words)
 
 
 class NamesTest(unittest.TestCase):
