@@ -8,5 +8,6 @@ returns c =
     let start : c.len-start.result ≡ length c.self.inside.addresses.items = search rules in
     let len : c.len.result - c.len-start.result ≡ length c.put_returns.new.addresses.items - length c.self.inside.addresses.items = search rules in
     let stack = stack_of c.args.room.now.visited in
-    walk_put c.self.inside.addresses.items c.put_returns.new.addresses.items c.self.inside.places.items c.push.new.self.items _ stack c.self.invariant c.in_ok-put_returns.ensures.put c.in_ok-push.ensures.items start len
+    let put = c.in_ok-put_returns.ensures.put ∙ ap (λ a. a ++ stack) c.make_room.ensures in
+    walk_put c.self.inside.addresses.items c.put_returns.new.addresses.items c.self.inside.places.items c.push.new.self.items _ stack c.self.invariant put c.in_ok-push.ensures.items start len
     ∙ ap (λ s. s ++ stack ∷ []) c.self.view_is
