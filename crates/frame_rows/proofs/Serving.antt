@@ -1,5 +1,5 @@
 -- The rows of a program that was run to its end serve other descriptions whose programs have the same bytes.
-use Rattle.std.proofs.Common.{◌≡◌, ℕ, zero, suc, ◌+◌, ◌-◌, ◌^◌, ◌<◌, ◌≤◌, Bool, true, false, List, [], ◌∷◌, length, map, get_or, set, Option, Some, None, Result, Ok, refl, sym, ap, ◌∙◌, subst, inl, inr, arith, length-append}
+use Rattle.std.proofs.Common.{◌≡◌, ℕ, zero, suc, ◌+◌, ◌-◌, ◌^◌, ◌<◌, ◌≤◌, ◌⊎◌, Bool, true, false, List, [], ◌∷◌, length, map, get_or, set, Option, Some, None, Result, Ok, refl, sym, ap, ◌∙◌, subst, inl, inr, arith, length-append}
 use Rattle.std.specs.Prelude.{slice_range}
 use Rattle.std.specs.List.{AllByRecursion}
 use Rattle.std.proofs.lemmas.List.{length-map}
@@ -9,7 +9,7 @@ use Rattle.unwind_definitions.specs.Instructions.{Coding, Program, program}
 use Rattle.unwind_definitions.specs.Row.{RowInstructions, location, row}
 use Rattle.frame_rows.specs.KeptRows.{Adds, Kept, KeptRows, AreKeptOf, AreRows, IsLonger, kept_rule_count, location_of, kept_at_distance, reached_locations, rows_from, rule_count_at}
 use Rattle.frame_rows.specs.Movable.{IsMovable}
-use Rattle.frame_rows.specs.KnownRows.{Serves, IsKnown, IsKnownSlot, AreKnown, AreBlank, Notes, NotesUnless, Finds}
+use Rattle.frame_rows.specs.KnownRows.{Serves, IsKnown, IsKnownSlot, AreKnown, AreBlank, StayOrGo, Notes, NotesUnless, Finds}
 use Rattle.frame_rows.specs.Again.{CountsAgain}
 use Rattle.frame_rows.specs.BegunPrograms.{before_last, last}
 use Rattle.frame_rows.specs.declared.begun.BegunProgram.{BegunProgram}
@@ -122,8 +122,16 @@ module _ (common : Program) (rows : List Kept) where
   set_known (s ∷ ss) zero known all one = (one, all.1)
   set_known (s ∷ ss) (suc i) known all one = (all.0, set_known ss i known all.1 one)
 
+  stayed_known : (old new : List (Option KnownProgram)) → StayOrGo old new → AllByRecursion (IsKnownSlot common rows) old → AllByRecursion (IsKnownSlot common rows) new
+  stayed_known old new (inl same) all = subst (AllByRecursion (IsKnownSlot common rows)) (sym same) all
+  stayed_known old new (inr blank) all = blank_known new blank
+
+  noted_beside : (old new : List (Option KnownProgram)) (i : ℕ) (known : KnownProgram) → (new ≡ old) ⊎ (new ≡ set old i (Some known)) → AllByRecursion (IsKnownSlot common rows) old → IsKnown common rows known → AllByRecursion (IsKnownSlot common rows) new
+  noted_beside old new i known (inl same) all one = subst (AllByRecursion (IsKnownSlot common rows)) (sym same) all
+  noted_beside old new i known (inr set) all one = subst (AllByRecursion (IsKnownSlot common rows)) (sym set) (set_known old i known all one)
+
   pub noted_known : (old new : List (Option KnownProgram)) (known : KnownProgram) → Notes old known new → AllByRecursion (IsKnownSlot common rows) old → IsKnown common rows known → AllByRecursion (IsKnownSlot common rows) new
-  noted_known old new known n all one = subst (AllByRecursion (IsKnownSlot common rows)) (sym n.noted) (set_known old n.index known all one)
+  noted_known old new known n all one = noted_beside n.beside new n.index known n.noted (stayed_known old n.beside n.stays all) one
 
   pub noted_unless : (old new : List (Option KnownProgram)) (known : KnownProgram) (flag : Bool) → NotesUnless flag old known new → AllByRecursion (IsKnownSlot common rows) old → (flag ≡ false → IsKnown common rows known) → AllByRecursion (IsKnownSlot common rows) new
   noted_unless old new known true n all one = subst (AllByRecursion (IsKnownSlot common rows)) (sym n) all
@@ -177,10 +185,10 @@ module _ (s e : ℕ) (common : Program) (k : Coding) (c : Input) (old new : Kept
 
 module _ (common : Program) (old new : RowTableBuilder) (longer : IsLonger old.table.rows new.table.rows) where
   pub still_known : new.begun ≡ old.begun → AreKnown common old.table.rows (last old.begun).known → AreKnown common new.table.rows (last new.begun).known
-  still_known same known = subst (λ (b : BegunPrograms). AreKnown common new.table.rows (last b).known) (sym same) (slots_on common old.table.rows new.table.rows longer (last old.begun).known.slots known)
+  still_known same known = subst (λ (b : BegunPrograms). AreKnown common new.table.rows (last b).known) (sym same) (slots_on common old.table.rows new.table.rows longer (last old.begun).known known)
 
   pub still_known_before : before_last new.begun ≡ before_last old.begun → AreKnown common old.table.rows (before_last old.begun).known → AreKnown common new.table.rows (before_last new.begun).known
-  still_known_before same known = subst (λ (b : BegunProgram). AreKnown common new.table.rows b.known) (sym same) (slots_on common old.table.rows new.table.rows longer (before_last old.begun).known.slots known)
+  still_known_before same known = subst (λ (b : BegunProgram). AreKnown common new.table.rows b.known) (sym same) (slots_on common old.table.rows new.table.rows longer (before_last old.begun).known known)
 
 -- ---- a program that is known serves
 

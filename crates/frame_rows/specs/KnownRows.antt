@@ -1,11 +1,10 @@
 -- Rows that descriptions share whose programs have the same bytes, by their distances from the start. No public clause cites this.
-use Rattle.std.specs.Prelude.{◌≡◌, ℕ, ◌+◌, ◌^◌, ◌<◌, ◌≤◌, Bool, true, false, List, length, map, slice_range, slice_index_or, slice_set, Option, Some, None, IfSome}
+use Rattle.std.specs.Prelude.{◌≡◌, ℕ, ◌+◌, ◌^◌, ◌<◌, ◌≤◌, ◌⊎◌, Bool, true, false, List, length, map, slice_range, slice_index_or, slice_set, Option, Some, None, IfSome}
 use Rattle.std.specs.List.{AllByRecursion}
 use Rattle.unwind_definitions.specs.Input.{Input}
 use Rattle.unwind_definitions.specs.Instructions.{Coding, Program, program}
 use Rattle.frame_rows.specs.KeptRows.{Kept, AreKeptOf, kept_rule_count, kept_at_distance}
 use Rattle.frame_rows.specs.declared.known_programs.KnownProgram.{KnownProgram}
-use Rattle.frame_rows.specs.declared.known_programs.KnownPrograms.{KnownPrograms}
 
 -- These are kept, from any start, of a description whose program has these bytes, read by these factors, and whose range holds the program's last location.
 pub record Serves (common : Program) (code units : ℕ) (bytes : List ℕ) (reach count : ℕ) (by : List Kept) : Type 0 where
@@ -21,8 +20,8 @@ pub record IsKnown (common : Program) (rows : List Kept) (known : KnownProgram) 
 abbrev pub IsKnownSlot : Program → List Kept → Option KnownProgram → Type 0
 IsKnownSlot common rows slot = IfSome slot (IsKnown common rows)
 
-abbrev pub AreKnown : Program → List Kept → KnownPrograms → Type 0
-AreKnown common rows known = AllByRecursion (IsKnownSlot common rows) known.slots
+abbrev pub AreKnown : Program → List Kept → List (Option KnownProgram) → Type 0
+AreKnown common rows known = AllByRecursion (IsKnownSlot common rows) known
 
 -- no program is known
 abbrev pub IsBlank : Option KnownProgram → Type 0
@@ -31,10 +30,16 @@ IsBlank slot = slot ≡ None
 abbrev pub AreBlank : List (Option KnownProgram) → Type 0
 AreBlank slots = AllByRecursion IsBlank slots
 
--- one more is known
+-- all stay known, or none
+abbrev pub StayOrGo : List (Option KnownProgram) → List (Option KnownProgram) → Type 0
+StayOrGo old new = (new ≡ old) ⊎ AreBlank new
+
+-- One more is known, beside those before or alone. Where memory runs out it may not be.
 pub record Notes (old : List (Option KnownProgram)) (known : KnownProgram) (new : List (Option KnownProgram)) : Type 0 where
+  pub beside : List (Option KnownProgram)
+  pub stays : StayOrGo old beside
   pub index : ℕ
-  pub noted : new ≡ slice_set old index (Some known)
+  pub noted : (new ≡ beside) ⊎ (new ≡ slice_set beside index (Some known))
 
 -- the same, unless a location was set
 abbrev pub NotesUnless : Bool → List (Option KnownProgram) → KnownProgram → List (Option KnownProgram) → Type 0

@@ -1,11 +1,12 @@
 //! What the programs of common information entries ended with. DWARF 5 section 6.4.1.
 
-ghost use Rattle.std.specs.Prelude.{◌≡◌};
+ghost use Rattle.std.specs.Prelude.{[], ◌≡◌};
 ghost use Rattle.frame_rows.specs.BegunPrograms.{before_last, last};
-ghost use Rattle.frame_rows.specs.KnownRows.{AreBlank, Notes};
+ghost use Rattle.frame_rows.specs.KnownRows.{Notes};
 
 use crate::known_programs::{KnownProgram, KnownPrograms};
 use crate::machine::{Machine, RowState};
+use std::alloc::{AllocError, Global};
 use unwind_definitions::Error;
 
 /// What the program of a common information entry ended with: a row, or a fault. And which programs
@@ -19,11 +20,11 @@ pub(crate) struct BegunProgram<'a> {
 
 impl<'a> BegunProgram<'a> {
     // The row of no instructions.
-    fn new() -> BegunProgram<'a> {
+    fn new(alloc: Global) -> BegunProgram<'a> {
         BegunProgram {
             state: RowState::new(),
             fault: None,
-            known: KnownPrograms::new(),
+            known: KnownPrograms::new(alloc),
         }
     }
 
@@ -31,7 +32,7 @@ impl<'a> BegunProgram<'a> {
     fn put(&mut self, machine: &Machine<'a>, fault: Option<Error>)
         ensures state { self.new.state ≡ machine.now.state }
         ensures fault { self.new.fault ≡ fault }
-        ensures blank { AreBlank self.new.known.slots }
+        ensures blank { self.new.known ≡ [] }
     {
         machine.put_state(&mut self.state);
         self.fault = fault;
@@ -51,10 +52,10 @@ pub(crate) struct BegunPrograms<'a> {
 
 impl<'a> BegunPrograms<'a> {
     /// Two programs without instructions.
-    pub(crate) fn new() -> BegunPrograms<'a> {
+    pub(crate) fn new(alloc: Global) -> BegunPrograms<'a> {
         BegunPrograms {
-            first: BegunProgram::new(),
-            second: BegunProgram::new(),
+            first: BegunProgram::new(alloc),
+            second: BegunProgram::new(alloc),
             is_turned: false,
         }
     }
@@ -82,7 +83,7 @@ impl<'a> BegunPrograms<'a> {
     pub(crate) fn put(&mut self, machine: &Machine<'a>, fault: Option<Error>)
         ensures state { (last self.new).state ≡ machine.now.state }
         ensures fault { (last self.new).fault ≡ fault }
-        ensures blank { AreBlank (last self.new).known.slots }
+        ensures blank { (last self.new).known ≡ [] }
         ensures before { before_last self.new ≡ before_last self.old }
     {
         if self.is_turned {
@@ -93,16 +94,20 @@ impl<'a> BegunPrograms<'a> {
     }
 
     /// Notes a program of a description that names the last one.
-    pub(crate) fn note(&mut self, known: KnownProgram<'a>)
+    ///
+    /// # Errors
+    ///
+    /// Where memory runs out.
+    pub(crate) fn note(&mut self, known: KnownProgram<'a>) -> Result<(), AllocError>
         ensures state { (last self.new).state ≡ (last self.old).state }
         ensures fault { (last self.new).fault ≡ (last self.old).fault }
-        ensures notes { Notes (last self.old).known.slots known.entry (last self.new).known.slots }
+        ensures notes { Notes (last self.old).known known.entry (last self.new).known }
         ensures before { before_last self.new ≡ before_last self.old }
     {
         if self.is_turned {
-            self.second.known.note(known);
+            self.second.known.note(known)
         } else {
-            self.first.known.note(known);
+            self.first.known.note(known)
         }
     }
 }

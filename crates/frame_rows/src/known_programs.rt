@@ -1,17 +1,22 @@
 //! Programs of descriptions that were run, and which rows they made. DWARF 5 section 6.4.3.
 
-ghost use Rattle.std.specs.Prelude.{◌≡◌, ◌+◌, ◌<◌, ◌≤◌, ◌↔◌, IfSome, length, slice_range, true};
+ghost use Rattle.std.specs.Prelude.{[], ◌≡◌, ◌+◌, ◌<◌, ◌≤◌, ◌↔◌, IfSome, length, slice_range, true};
 ghost use Rattle.std.specs.Int.{from_le_bytes, to_le_bytes, w64};
 ghost use Rattle.encoded_pointers.specs.CursorViews.{at};
 ghost use Rattle.frame_rows.specs.InstructionViews.{coding_in};
-ghost use Rattle.frame_rows.specs.KnownRows.{AreBlank, Finds, Notes};
+ghost use Rattle.frame_rows.specs.KnownRows.{Finds, Notes, StayOrGo};
 
 use crate::coding::Coding;
 use crate::row_table::RowRange;
 use encoded_pointers::Cursor;
+use std::alloc::{AllocError, Global};
+use std::marker::Model;
 
-// How many programs of a common information entry's descriptions are known at a time.
-const KNOWN: usize = 16;
+// How many programs of a common information entry's descriptions are known at a time, at first and
+// at most.
+const FIRST: usize = 16;
+
+const MOST: usize = 16384;
 
 // 2^64 by the golden ratio: each bit of a word has its part in the high bits of its product with this.
 const SPREAD: u64 = 0x9e37_79b9_7f4a_7c15;
@@ -35,32 +40,67 @@ pub(crate) struct KnownProgram<'a> {
 /// Most functions of a table have one of few programs, whose rows need not be made anew.
 #[derive(Drop)]
 pub(crate) struct KnownPrograms<'a> {
-    slots: [Option<KnownProgram<'a>>; KNOWN],
+    slots: Vec<Option<KnownProgram<'a>>>,
+    // how many were noted in these
+    noted: usize,
+}
+
+impl<'a> Model for KnownPrograms<'a> {
+    ghost use Rattle.std.specs.Prelude.{List, Option};
+    ghost use Rattle.frame_rows.specs.declared.known_programs.KnownProgram.{KnownProgram};
+
+    ghost Value = { List (Option KnownProgram) };
+
+    ghost view = { λ k. k.slots.items };
 }
 
 impl<'a> KnownPrograms<'a> {
     /// None is known.
-    pub(crate) fn new() -> KnownPrograms<'a>
-        ensures { AreBlank result.slots }
+    pub(crate) fn new(alloc: Global) -> KnownPrograms<'a>
+        ensures { result ≡ [] }
     {
         KnownPrograms {
-            slots: [None; KNOWN],
+            slots: Vec::new(alloc),
+            noted: 0,
         }
     }
 
     /// Forgets all.
     pub(crate) fn clear(&mut self)
-        ensures { AreBlank self.new.slots }
+        ensures { self.new ≡ [] }
     {
-        self.slots = [None; KNOWN];
+        self.slots.clear();
+        self.noted = 0;
     }
 
-    /// Notes a program.
-    pub(crate) fn note(&mut self, known: KnownProgram<'a>)
-        ensures { Notes self.old.slots known.entry self.new.slots }
+    /// Notes a program. Where there were as many as there are numbers, there are more from now on,
+    /// and those before are forgotten.
+    ///
+    /// # Errors
+    ///
+    /// Where memory runs out.
+    pub(crate) fn note(&mut self, known: KnownProgram<'a>) -> Result<(), AllocError>
+        ensures { Notes self.old known.entry self.new }
     {
-        let number = number_of(known.bytes);
-        self.slots[number] = Some(known);
+        self.make_room()?;
+        let count = self.slots.len();
+        if count > 0 {
+            self.slots[number_of(known.bytes) % count] = Some(known);
+            self.noted = self.noted.saturating_add(1);
+        }
+        Ok(())
+    }
+
+    // Makes room for four times as many where as many were noted as there is room for.
+    fn make_room(&mut self) -> Result<(), AllocError>
+        ensures { StayOrGo self.old self.new }
+    {
+        let count = self.slots.len();
+        if self.noted < count || count >= MOST {
+            return Ok(());
+        }
+        self.clear();
+        self.slots.resize(count.saturating_mul(4).max(FIRST), None)
     }
 
     /// The program of a description whose function has so many bytes, lent, where it is known and
@@ -72,10 +112,11 @@ impl<'a> KnownPrograms<'a> {
         coding: Coding,
         size: u64,
     ) -> Option<&KnownProgram<'a>>
-        ensures { IfSome result (λ known. Finds self.now.slots (at own.entry).bytes
+        ensures { IfSome result (λ known. Finds self.now (at own.entry).bytes
             (coding_in coding.entry) size known.now) }
     {
-        match &self.slots[number_of(own.bytes())] {
+        let index = number_of(own.bytes()).checked_rem(self.slots.len())?;
+        match &self.slots[index] {
             Some(known) if is_for(known, own, coding, size) => Some(known),
             _ => None,
         }
@@ -112,14 +153,15 @@ fn are_same(a: &[u8], b: &[u8]) -> bool
     word_at(a, 0) == word_at(b, 0) && word_at(a, count - 8) == word_at(b, count - 8)
 }
 
-// A number below `KNOWN` by which programs are told apart, mostly: by their ends.
+// A number by which programs are told apart, mostly.
 #[inline(always)]
-fn number_of(bytes: &[u8]) -> usize
-    ensures { result < 16 }
-{
+fn number_of(bytes: &[u8]) -> usize {
     let (first, last) = ends_of(bytes);
-    let sum = (first ^ last.rotate_left(32)).wrapping_mul(SPREAD);
-    (sum >> 60) as usize
+    let mut sum = first ^ last.rotate_left(32);
+    for i in 1..bytes.len() / 8 {
+        sum = sum.wrapping_mul(SPREAD).rotate_left(32) ^ word_at(bytes, 8 * i);
+    }
+    (sum.wrapping_mul(SPREAD) >> 40) as usize
 }
 
 // The first bytes of a program and its last: eight, or four where there are fewer.

@@ -11,6 +11,7 @@ use crate::row::Row;
 use crate::row_ref::RowRef;
 use crate::rule::{CfaRule, RegisterRule};
 use crate::rules::RegisterRules;
+use std::marker::Model;
 use unwind_arch::Register;
 use unwind_definitions::Error;
 
@@ -44,23 +45,79 @@ impl<'a> RowState<'a> {
         self.rules.assign(&other.rules);
         self.saved_args_size = other.saved_args_size;
     }
+}
 
-    fn copy(&self) -> RowState<'a>
-        ensures { result ≡ self.now }
+/// The state that a restore leads back to, if there is one. Its room is there in any case, so that
+/// only the rules that there are get written, and contracts see an `Option`.
+#[derive(Drop)]
+pub(crate) struct RememberedState<'a> {
+    is_some: bool,
+    state: RowState<'a>,
+}
+
+impl<'a> Model for RememberedState<'a> {
+    ghost use Rattle.std.specs.Prelude.{Option, Some, None, if◌then◌else◌};
+    ghost use Rattle.frame_rows.specs.declared.machine.RowState.{RowState};
+
+    ghost Value = { Option RowState };
+
+    ghost view = { λ r. if r.is_some then Some r.state else None };
+}
+
+impl<'a> RememberedState<'a> {
+    ghost use Rattle.std.specs.Prelude.{None, is_some, true, false};
+
+    /// None.
+    fn new() -> RememberedState<'a>
+        ensures { result ≡ None }
     {
-        RowState {
-            cfa: self.cfa,
-            rules: self.rules.copy(),
-            saved_args_size: self.saved_args_size,
+        RememberedState {
+            is_some: false,
+            state: RowState::new(),
         }
+    }
+
+    /// Whether there is one.
+    fn is_some(&self) -> bool
+        ensures some { result ≡ is_some self.now }
+        ensures none { result ≡ false → self.now ≡ None }
+    {
+        self.is_some
+    }
+
+    /// Makes it none.
+    fn forget(&mut self)
+        ensures { self.new ≡ None }
+    {
+        self.is_some = false;
+    }
+
+    /// Makes it a state.
+    fn put(&mut self, state: &RowState<'a>)
+        ensures { self.new ≡ Some state.now }
+    {
+        self.is_some = true;
+        self.state.assign(state);
+    }
+
+    /// Puts it in place of a state, where there is one: then there is none any more.
+    fn take_into(&mut self, state: &mut RowState<'a>) -> bool
+        ensures some { result ≡ true → (self.old ≡ Some state.new) × (self.new ≡ None) }
+        ensures none { result ≡ false → self.old ≡ None }
+    {
+        if !self.is_some {
+            return false;
+        }
+        state.assign(&self.state);
+        self.is_some = false;
+        true
     }
 }
 
 /// The virtual machine that runs frame programs.
 #[derive(Drop)]
 pub(crate) struct Machine<'a> {
-    // the state that a restore leads back to
-    remembered: Option<RowState<'a>>,
+    remembered: RememberedState<'a>,
     location: u64,
     state: RowState<'a>,
     // the rules that the CIE's program ended with; none while that one runs, which has no rules
@@ -90,7 +147,7 @@ impl<'a> Machine<'a> {
         Machine {
             location: 0,
             state: RowState::new(),
-            remembered: None,
+            remembered: RememberedState::new(),
             initial: RegisterRules::new(),
         }
     }
@@ -104,18 +161,8 @@ impl<'a> Machine<'a> {
         self.state.cfa = None;
         self.state.rules.clear();
         self.state.saved_args_size = 0;
-        self.forget();
+        self.remembered.forget();
         self.initial.clear();
-    }
-
-    // Forgets the state that is remembered, if one is. It is asked first, as `None` is written over
-    // the room of a whole state.
-    fn forget(&mut self)
-        ensures { self.new ≡ record self.old { remembered = None } }
-    {
-        if self.remembered.is_some() {
-            self.remembered = None;
-        }
     }
 
     /// Makes what the entry's program said the beginning of a description's program, which starts
@@ -126,7 +173,7 @@ impl<'a> Machine<'a> {
             Represents location self.new (from_common common) }
     {
         self.location = location;
-        self.forget();
+        self.remembered.forget();
         self.initial.assign(&self.state.rules);
     }
 
@@ -146,7 +193,7 @@ impl<'a> Machine<'a> {
     {
         self.location = location;
         self.state.assign(common);
-        self.forget();
+        self.remembered.forget();
         self.initial.assign(&common.rules);
     }
 
@@ -246,33 +293,25 @@ impl<'a> Machine<'a> {
         }
     }
 
-    // Not inlined: a function clears the room of its locals, and a state would be cleared for each
-    // instruction.
-    #[inline(never)]
     fn remember_state(&mut self) -> Result<(), Error>
         ensures { (start : ℕ) (run : RowInstructions) → Represents start self.old run →
             Follows start run Remember result self.new }
     {
-        match self.remembered {
-            Some(_) => Err(Error::StackFull),
-            None => {
-                self.remembered = Some(self.state.copy());
-                Ok(())
-            }
+        if self.remembered.is_some() {
+            return Err(Error::StackFull);
         }
+        self.remembered.put(&self.state);
+        Ok(())
     }
 
-    #[inline(never)]
     fn restore_state(&mut self) -> Result<(), Error>
         ensures { (start : ℕ) (run : RowInstructions) → Represents start self.old run →
             Follows start run Restore result self.new }
     {
-        match self.remembered.take() {
-            Some(state) => {
-                self.state = state;
-                Ok(())
-            }
-            None => Err(Error::PopWithEmptyStack),
+        if self.remembered.take_into(&mut self.state) {
+            Ok(())
+        } else {
+            Err(Error::PopWithEmptyStack)
         }
     }
 

@@ -15,8 +15,13 @@ use std::marker::Model;
 use unwind_arch::Register;
 use unwind_definitions::Error;
 
-// Of how many bodies the place is known by what they say.
-const KNOWN: usize = 64;
+// For how many bodies there is a place to be known by, at first and at most.
+const FEWEST: usize = 16;
+
+const MOST: usize = 4096;
+
+// 2^64 by the golden ratio: each bit of a word has its part in the high bits of its product with this.
+const SPREAD: u64 = 0x9e37_79b9_7f4a_7c15;
 
 /// What a row says beside the location from which on it holds, or a fault.
 #[derive(Clone, Copy)]
@@ -41,13 +46,36 @@ pub(crate) struct RowBodies<'a> {
 /// It serves while bodies are kept, and isn't part of them.
 #[derive(Drop)]
 pub(crate) struct KnownBodies {
-    places: [usize; KNOWN],
+    places: Vec<usize>,
 }
 
 impl KnownBodies {
     /// None is known.
-    pub(crate) fn new() -> KnownBodies {
-        KnownBodies { places: [0; KNOWN] }
+    pub(crate) fn new(alloc: Global) -> KnownBodies {
+        KnownBodies {
+            places: Vec::new(alloc),
+        }
+    }
+
+    // Where a body of a number stands that may say what is sought.
+    fn get(&self, number: usize) -> Option<usize> {
+        let index = number.checked_rem(self.places.len())?;
+        self.places.get(index).copied()
+    }
+
+    // Notes the place of a body of a number. There are at least twice as many numbers as bodies, up
+    // to some thousands: where they become more, those so far are forgotten.
+    fn note(&mut self, number: usize, place: usize) -> Result<(), AllocError> {
+        let count = self.places.len();
+        if count < MOST && count / 2 <= place {
+            self.places.clear();
+            self.places.resize(count.saturating_mul(4).max(FEWEST), 0)?;
+        }
+        let count = self.places.len();
+        if count > 0 {
+            self.places[number % count] = place;
+        }
+        Ok(())
     }
 }
 
@@ -100,13 +128,14 @@ impl<'a> RowBodies<'a> {
             (kept_answer cfa.entry (map entry_of rules.now) saved_args_size)) }
     {
         let number = number_of(cfa, rules);
-        let last = known.places[number];
-        if self.says(last, cfa, rules, saved_args_size) {
-            return Ok(last);
+        if let Some(last) = known.get(number) {
+            if self.says(last, cfa, rules, saved_args_size) {
+                return Ok(last);
+            }
         }
         let place = self.bodies.len();
         self.add(cfa, rules, saved_args_size)?;
-        known.places[number] = place;
+        known.note(number, place)?;
         Ok(place)
     }
 
@@ -176,22 +205,18 @@ fn kept_body<'r, 'a>(
     }
 }
 
-// A number below `KNOWN` by which bodies are told apart, mostly.
-fn number_of(cfa: Result<CfaRule<'_>, Error>, rules: &[(Register, RegisterRule<'_>)]) -> usize
-    ensures { result < 64 }
-{
+// A number by which bodies are told apart, mostly.
+fn number_of(cfa: Result<CfaRule<'_>, Error>, rules: &[(Register, RegisterRule<'_>)]) -> usize {
     let offset = match cfa {
-        Ok(CfaRule::RegisterAndOffset { register, offset }) => {
-            (offset >> 3) ^ (register.0 as u64)
-        }
+        Ok(CfaRule::RegisterAndOffset { register, offset }) => offset ^ ((register.0 as u64) << 32),
         _ => 0,
     };
     let first = match rules.first() {
-        Some((register, RegisterRule::Offset(offset))) => (offset >> 3) ^ (register.0 as u64),
+        Some((register, RegisterRule::Offset(offset))) => offset ^ ((register.0 as u64) << 40),
         _ => 0,
     };
-    let sum = (offset << 2) ^ first ^ ((rules.len() as u64) << 4);
-    (sum % 64) as usize
+    let sum = offset.wrapping_mul(SPREAD) ^ first ^ ((rules.len() as u64) << 48);
+    (sum.wrapping_mul(SPREAD) >> 40) as usize
 }
 
 // Whether two CFAs are found by the same register and the same offset.

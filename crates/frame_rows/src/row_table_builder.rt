@@ -45,9 +45,9 @@ impl<'a> RowTableBuilder<'a> {
         RowTableBuilder {
             table: RowTable::new(alloc),
             limits,
-            known: KnownBodies::new(),
+            known: KnownBodies::new(alloc),
             machine: Machine::new(),
-            begun: BegunPrograms::new(),
+            begun: BegunPrograms::new(alloc),
         }
     }
 
@@ -243,7 +243,7 @@ impl<'a> RowTableBuilder<'a> {
                         rows,
                         rule_count: self.table.rule_count().saturating_sub(first_rule),
                     };
-                    self.note(known, instructions.sets_location());
+                    self.note(known, instructions.sets_location())?;
                     return Ok(Some(rows));
                 }
                 Err(_) => return Ok(Some(rows)),
@@ -252,18 +252,19 @@ impl<'a> RowTableBuilder<'a> {
     }
 
     // Notes a program that was run to its end, unless it sets the location.
-    fn note(&mut self, known: KnownProgram<'a>, sets_location: bool)
+    fn note(&mut self, known: KnownProgram<'a>, sets_location: bool) -> Result<(), AllocError>
         ensures state { (last self.new.begun).state ≡ (last self.old.begun).state }
         ensures fault { (last self.new.begun).fault ≡ (last self.old.begun).fault }
-        ensures notes { NotesUnless sets_location (last self.old.begun).known.slots known.entry
-            (last self.new.begun).known.slots }
+        ensures notes { NotesUnless sets_location (last self.old.begun).known known.entry
+            (last self.new.begun).known }
         ensures before { before_last self.new.begun ≡ before_last self.old.begun }
         ensures table { self.new.table ≡ self.old.table }
         ensures limits { self.new.limits ≡ self.old.limits }
     {
-        if !sets_location {
-            self.begun.note(known);
+        if sets_location {
+            return Ok(());
         }
+        self.begun.note(known)
     }
 
     // Keeps what a stretch ends with that begins so far after the start: its row, or its fault.

@@ -143,13 +143,4 @@ impl<'a> RegisterRules<'a> {
         self.entries.clear();
         let _fits = self.entries.try_extend_from_slice(&other.entries);
     }
-
-    /// The same rules.
-    pub(crate) fn copy(&self) -> RegisterRules<'a>
-        ensures { result ≡ self.now }
-    {
-        let mut copy = RegisterRules::new();
-        let _fits = copy.entries.try_extend_from_slice(&self.entries);
-        copy
-    }
 }

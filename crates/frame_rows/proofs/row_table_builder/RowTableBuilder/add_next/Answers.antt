@@ -30,7 +30,7 @@ pub returns-in-Some-clause-before : goal.returns-in-Some-clause-before
 returns-in-Some-clause-before c before begun = record {
   ended = subst (λ (b : BegunPrograms). ended before (before_last b)) (sym c.add_fault.ensures.begun) begun.ended;
   known = subst (λ (b : BegunPrograms). AreKnown before c.add_fault.new.self.table.rows (before_last b).known) (sym c.add_fault.ensures.begun)
-      (slots_on before c.args.self.now.table.rows c.add_fault.new.self.table.rows c.add_fault.ensures.grows (before_last c.args.self.now.begun).known.slots begun.known);
+      (slots_on before c.args.self.now.table.rows c.add_fault.new.self.table.rows c.add_fault.ensures.grows (before_last c.args.self.now.begun).known begun.known);
 }
 
 pub returns-in-Some-find-clause-rows : goal.returns-in-Some-find-clause-rows
@@ -38,8 +38,8 @@ returns-in-Some-find-clause-rows c common begun =
     let coding : Coding = coding_in c.args.coding in
     let own : Input = at c.args.own in
     let known = c.in-Some-find.known.now in
-    let slots = (last c.args.self.now.begun).known.slots in
-    let finds = subst (λ (b : BegunProgram). Finds b.known.slots own.bytes coding (c.args.end - c.args.start) known) c.last-common.ensures c.in-Some-find.ensures in
+    let slots = (last c.args.self.now.begun).known in
+    let finds = subst (λ (b : BegunProgram). Finds b.known own.bytes coding (c.args.end - c.args.start) known) c.last-common.ensures c.in-Some-find.ensures in
     let is = found_known common c.args.self.now.table.rows slots own.bytes coding (c.args.end - c.args.start) known finds begun.known in
     adds_again c.args.self.now.limits common coding own known slots c.args.start c.args.end c.args.self.now.table c.count_again.new.self c.requires (omega arith) is finds c.count_again.result c.count_again.ensures.counts c.count_again.ensures.rows
 
@@ -69,5 +69,5 @@ pub returns-in-None-find-clause-before : goal.returns-in-None-find-clause-before
 returns-in-None-find-clause-before c before begun = record {
   ended = subst (ended before) (sym c.add_unknown.ensures.before) begun.ended;
   known = subst (λ (b : BegunProgram). AreKnown before c.add_unknown.new.self.table.rows b.known) (sym c.add_unknown.ensures.before)
-      (slots_on before c.args.self.now.table.rows c.add_unknown.new.self.table.rows c.add_unknown.ensures.grows (before_last c.args.self.now.begun).known.slots begun.known);
+      (slots_on before c.args.self.now.table.rows c.add_unknown.new.self.table.rows c.add_unknown.ensures.grows (before_last c.args.self.now.begun).known begun.known);
 }

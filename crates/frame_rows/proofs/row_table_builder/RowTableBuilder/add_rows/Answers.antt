@@ -155,7 +155,29 @@ returns-in-Ok-None-clause-known c common run ran rep known =
     c.keep.new.self.table st kept in
     let moves = rw (c.in-Ok-None.is, none) at c.run_stretch-next.ensures.moves in
     subst (λ (t : KeptRows). AreKnown common t.rows (last c.note.new.self.begun).known) (sym c.note.ensures.table)
-    (noted_unless common c.keep.new.self.table.rows (last c.keep.new.self.begun).known.slots (last c.note.new.self.begun).known.slots _ c.sets_location.result c.note.ensures.notes before
+    (noted_unless common c.keep.new.self.table.rows (last c.keep.new.self.begun).known (last c.note.new.self.begun).known _ c.sets_location.result c.note.ensures.notes before
+    (λ free.
+    let ends = moves (sym c.sets_location.ensures ∙ free) in
+    let movable = c.loop-rows.invariant.4 ends.0 ends.1 in
+    is_known c.args.start c.args.end common coding (at c.args.own) c.args.self.now.table c.keep.new.self.table c.loop-rows.location whole movable now.2.below (omega arith) _ c.bytes.ensures refl refl c.saturating_sub-distance.ensures c.end-first.ensures c.end.ensures (omega arith)))
+
+pub returns-in_err-note-in-Ok-None-clause-known : goal.returns-in_err-note-in-Ok-None-clause-known
+returns-in_err-note-in-Ok-None-clause-known c common run ran rep known =
+    let coding : Coding = coding_in c.args.coding in
+    let own : Program = program coding (at c.args.own) in
+    let now = c.loop-rows.invariant.1 common run ran rep in
+    let m = c.run_stretch-next.new.machine in
+    let none : c.in-Ok-None.field-0 ≡ None = rw c.in-Ok-None.is at c.in-Ok-None.field-0-is in
+    let st = rw (c.in-Ok-None.is, none) at (c.run_stretch-next.ensures.ends c.args.start now.0 now.1) in
+    let kept = rw c.in-Ok-None.is at (kept_so c.loop-rows.self.limits _ _ c.run_stretch-next.result m c.loop-rows.self.table c.keep.new.self.table _ _ c.saturating_sub-distance.ensures c.if-not-branch.false c.in_ok-keep.ensures.rows) in
+    let begun = c.in_ok-keep.ensures.begun ∙ c.loop-rows.invariant.2 in
+    let longer = longer_still c.args.self.now.table.rows c.loop-rows.self.table.rows c.keep.new.self.table.rows c.loop-rows.invariant.3 c.in_ok-keep.ensures.grows in
+    let before = still_known common c.args.self.now c.keep.new.self longer begun known in
+    let whole = kept_whole c.args.start c.args.end common own c.args.self.now.table run ran c.loop-rows.location now.0 (left_of coding c.loop-rows.instructions) c.loop-rows.self.table now.2 c.loop-rows.self.limits m (left_of coding c.run_stretch-next.new.instructions)
+    c.keep.new.self.table st kept in
+    let moves = rw (c.in-Ok-None.is, none) at c.run_stretch-next.ensures.moves in
+    subst (λ (t : KeptRows). AreKnown common t.rows (last c.note.new.self.begun).known) (sym c.note.ensures.table)
+    (noted_unless common c.keep.new.self.table.rows (last c.keep.new.self.begun).known (last c.note.new.self.begun).known _ c.sets_location.result c.note.ensures.notes before
     (λ free.
     let ends = moves (sym c.sets_location.ensures ∙ free) in
     let movable = c.loop-rows.invariant.4 ends.0 ends.1 in

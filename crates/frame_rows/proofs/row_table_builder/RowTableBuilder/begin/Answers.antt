@@ -15,7 +15,7 @@ returns-clause-begun c =
     let common : Program = program coding (at c.args.common) in
     record {
       ended = rw (c.put.ensures.state, c.put.ensures.fault, c.err-fault.ensures.value) (common_ended common c.run_common.result c.run_common.new.machine c.run_common.ensures);
-      known = blank_known common c.args.self.now.table.rows _ c.put.ensures.blank;
+      known = rw c.put.ensures.blank tt;
     }
 
 pub returns-clause-before : goal.returns-clause-before
