@@ -47,6 +47,7 @@ mod laws;
 mod listed_fde;
 mod listing;
 mod prepared;
+mod sorting;
 mod starts;
 
 pub use cie::Cie;

@@ -97,9 +97,9 @@ impl Starts {
     }
 }
 
-// How many binary digits a place in a stretch has, so that a span of addresses has at most as many
-// stretches as there are starts.
-fn stretch_digits(span: u64, count: u64) -> u32
+/// How many binary digits a place in a stretch has, so that a span of addresses has at most as many
+/// stretches as there are starts.
+pub(crate) fn stretch_digits(span: u64, count: u64) -> u32
     ensures { result < 64 }
 {
     let digits = (count.leading_zeros() + 1).saturating_sub(span.leading_zeros());

@@ -105,6 +105,14 @@ impl<'a> RowBodies<'a> {
         }
     }
 
+    /// Gives back what memory isn't used.
+    pub(crate) fn shrink_to_fit(&mut self)
+        ensures { self.new ≡ self.old }
+    {
+        self.bodies.shrink_to_fit();
+        self.rules.shrink_to_fit();
+    }
+
     /// The body at a place, lent.
     pub(crate) fn get(&self, place: usize) -> Result<RowRef<'_, 'a>, Error>
         requires { place < length self.now }

@@ -109,6 +109,14 @@ impl<'a> RowTable<'a> {
         self.rule_count
     }
 
+    /// Gives back what memory isn't used.
+    pub(crate) fn shrink_to_fit(&mut self)
+        ensures { self.new ≡ self.old }
+    {
+        self.rows.shrink_to_fit();
+        self.bodies.shrink_to_fit();
+    }
+
     /// The index after that of the last row.
     pub(crate) fn end(&self) -> u32
         ensures { result ≡ length self.now.rows }
@@ -138,6 +146,7 @@ impl<'a> RowTable<'a> {
 
     /// Keeps a row or a fault for a distance from a function's start. `false` where it would be too
     /// much. `known` is where bodies stand that may say the same.
+    #[inline(always)]
     pub(crate) fn push(
         &mut self,
         known: &mut KnownBodies,
@@ -188,7 +197,8 @@ impl<'a> RowTable<'a> {
         Some(rows)
     }
 
-    // Keeps a row by its parts, or a fault.
+    // Keeps a row by its parts, or a fault. Inlined, as it has so many.
+    #[inline(always)]
     fn push_entry(
         &mut self,
         known: &mut KnownBodies,

@@ -137,7 +137,9 @@ impl<'a> RowTableBuilder<'a> {
     pub fn finish(self) -> RowTable<'a>
         ensures { result ≡ self.entry.table }
     {
-        self.table
+        let mut table = self.table;
+        table.shrink_to_fit();
+        table
     }
 
     // Adds the one fault of a description whose common information entry's program can't be run.
