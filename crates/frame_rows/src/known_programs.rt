@@ -73,8 +73,8 @@ impl<'a> KnownPrograms<'a> {
         self.noted = 0;
     }
 
-    /// Notes a program. Where there were as many as there are numbers, there are more from now on,
-    /// and those before are forgotten.
+    /// Notes a program. Where there were twice as many as there are numbers, there are more numbers
+    /// from now on, and those before are forgotten.
     ///
     /// # Errors
     ///
@@ -91,12 +91,12 @@ impl<'a> KnownPrograms<'a> {
         Ok(())
     }
 
-    // Makes room for four times as many where as many were noted as there is room for.
+    // Makes room for four times as many where twice as many were noted as there is room for.
     fn make_room(&mut self) -> Result<(), AllocError>
         ensures { StayOrGo self.old self.new }
     {
         let count = self.slots.len();
-        if self.noted < count || count >= MOST {
+        if self.noted / 2 < count || count >= MOST {
             return Ok(());
         }
         self.clear();

@@ -65,6 +65,7 @@ impl KnownBodies {
 
     // Notes the place of a body of a number. There are at least twice as many numbers as bodies, up
     // to some thousands: where they become more, those so far are forgotten.
+    #[inline(never)]
     fn note(&mut self, number: usize, place: usize) -> Result<(), AllocError> {
         let count = self.places.len();
         if count < MOST && count / 2 <= place {
@@ -122,6 +123,7 @@ impl<'a> RowBodies<'a> {
     }
 
     /// Where a body stands. One that isn't found by what it says is added, and known from then on.
+    #[inline(always)]
     pub(crate) fn keep(
         &mut self,
         known: &mut KnownBodies,
@@ -169,7 +171,8 @@ impl<'a> RowBodies<'a> {
         }
     }
 
-    // Adds a body.
+    // Adds a body. Not inlined, as it is for few rows of a large table.
+    #[inline(never)]
     fn add(
         &mut self,
         cfa: Result<CfaRule<'a>, Error>,
@@ -265,8 +268,11 @@ fn are_same_rules(a: &[(Register, RegisterRule<'_>)], b: &[(Register, RegisterRu
 fn is_same_rule(a: RegisterRule<'_>, b: RegisterRule<'_>) -> bool
     ensures { result ≡ true → rule_meaning a.entry ≡ rule_meaning b.entry }
 {
+    // nearly all are offsets
+    if let (RegisterRule::Offset(a), RegisterRule::Offset(b)) = (a, b) {
+        return a == b;
+    }
     match (a, b) {
-        (RegisterRule::Offset(a), RegisterRule::Offset(b)) => a == b,
         (RegisterRule::ValOffset(a), RegisterRule::ValOffset(b)) => a == b,
         (RegisterRule::Register(a), RegisterRule::Register(b)) => a.0 == b.0,
         (RegisterRule::Undefined, RegisterRule::Undefined) => true,
