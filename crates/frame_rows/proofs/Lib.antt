@@ -1,4 +1,5 @@
 mod RuleLists
+mod Shifted
 mod Pushed
 mod Columns
 mod Steps

@@ -1,6 +1,7 @@
 //! The registers that have a rule, by ascending column.
 
-ghost use Rattle.std.specs.Prelude.{◌≡◌, ◌<◌, ℕ, List, length, IfErr};
+ghost use Rattle.std.specs.Prelude.{◌≡◌, ◌<◌, ◌≤◌, ◌++◌, ◌∷◌, [], ℕ, List, length, IfErr};
+ghost use Rattle.std.specs.List.{insert};
 
 use crate::rule::RegisterRule;
 use arrayvec::ArrayVec;
@@ -111,7 +112,8 @@ impl<'a> RegisterRules<'a> {
                 if self.entries.is_full() {
                     return Err(Error::TooManyRegisterRules);
                 }
-                self.entries.insert(i, (register, rule));
+                let last = shift_in(self.entries.as_mut_slice(), i, (register, rule));
+                self.entries.push(last);
             }
         }
         Ok(())
@@ -143,4 +145,23 @@ impl<'a> RegisterRules<'a> {
         self.entries.clear();
         let _fits = self.entries.try_extend_from_slice(&other.entries);
     }
+}
+
+// Puts an entry at an index, moves those from there on one place on, and answers the last, for which
+// there is no place. There are few, so that this takes less than a rotation.
+fn shift_in<'a>(
+    entries: &mut [(Register, RegisterRule<'a>)],
+    index: usize,
+    entry: (Register, RegisterRule<'a>),
+) -> (Register, RegisterRule<'a>)
+    requires { index ≤ length entries.old }
+    ensures { insert entries.old index entry.entry ≡ entries.new ++ result ∷ [] }
+{
+    let mut carried = entry;
+    for i in index..entries.len() {
+        let next = entries[i];
+        entries[i] = carried;
+        carried = next;
+    }
+    carried
 }
