@@ -161,7 +161,7 @@ fn number_of(bytes: &[u8]) -> usize {
     for i in 1..bytes.len() / 8 {
         sum = sum.wrapping_mul(SPREAD).rotate_left(32) ^ word_at(bytes, 8 * i);
     }
-    (sum.wrapping_mul(SPREAD) >> 40) as usize
+    ((sum ^ (sum >> 32)).wrapping_mul(SPREAD) >> 40) as usize
 }
 
 // The first bytes of a program and its last: eight, or four where there are fewer.

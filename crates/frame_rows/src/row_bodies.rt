@@ -227,7 +227,7 @@ fn number_of(cfa: Result<CfaRule<'_>, Error>, rules: &[(Register, RegisterRule<'
         _ => 0,
     };
     let sum = offset.wrapping_mul(SPREAD) ^ first ^ ((rules.len() as u64) << 48);
-    (sum.wrapping_mul(SPREAD) >> 40) as usize
+    ((sum ^ (sum >> 32)).wrapping_mul(SPREAD) >> 40) as usize
 }
 
 // Whether two CFAs are found by the same register and the same offset.
