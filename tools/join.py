@@ -19,7 +19,9 @@ import sys
 from elf_image import Refused
 from snapshot_file import Object, joined_samples, read_object, read_snapshot, text_of
 
-NAMES = ("path", "bias", "build_id")
+# What only tells names: of a module, and of a snapshot.
+NAMES_OF_MODULES = ("path", "bias", "build_id")
+NAMES_OF_SNAPSHOTS = ("thread", "code")
 
 
 def samples_of(files: list[str]) -> Object:
@@ -36,8 +38,10 @@ def samples_of(files: list[str]) -> Object:
 
 def without_names(found: Object) -> Object:
     """A snapshot without the members that only tell names."""
-    modules = [{key: value for key, value in module.items() if key not in NAMES} for module in found["modules"]]
-    return {key: value for key, value in found.items() if key != "thread"} | {"modules": modules}
+    modules = [
+        {key: value for key, value in module.items() if key not in NAMES_OF_MODULES} for module in found["modules"]
+    ]
+    return {key: value for key, value in found.items() if key not in NAMES_OF_SNAPSHOTS} | {"modules": modules}
 
 
 def joined(options: argparse.Namespace) -> Object:

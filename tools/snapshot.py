@@ -24,7 +24,6 @@ import bisect
 import contextlib
 import io
 import os
-import pwd
 import re
 import sys
 from dataclasses import dataclass, field
@@ -38,6 +37,7 @@ from elf_image import WORD, ElfImage, Range, Refused  # noqa: E402
 from frame_table import Table, personality_cells  # noqa: E402
 from loaded_module import SUPPLIED, Module, module_objects, places_of, taken_line  # noqa: E402
 from named_files import Named, cut_of, fault_of, fault_of_program, named_by, present_memory  # noqa: E402
+from process_status import why_no_process  # noqa: E402
 from snapshot_file import (  # noqa: E402
     MOST_STATES, TABLES, Object, Region, region_object, text_of, without_overlaps, write_folder, write_whole,
 )
@@ -187,52 +187,6 @@ def why_no_thread() -> str:
     return (named.program is not None and fault_of(named)) or (
         f"no thread is selected: {running}attach to a process (-p PID), or give a program and its core"
     )
-
-
-def why_no_process(process: int) -> str:
-    """Why gdb has no thread of a process."""
-    try:
-        owner = os.stat(f"/proc/{process}").st_uid
-    except OSError:
-        return f"there is no process {process}"
-    if tracer_of(process) != 0:
-        return f"the process {process} may not be traced: the process {tracer_of(process)} traces it"
-    if owner != os.geteuid():
-        return f"the process {process} may not be traced: it is {user_name(owner)}'s"
-    if state_of(process) in UNTRACED:
-        return f"the process {process} may not be traced: {UNTRACED[state_of(process)]}"
-    return f"the process {process} may not be traced"
-
-
-# Why a process may not be traced, by its state in /proc/PID/status, where no memory is its own.
-UNTRACED = {"zombie": "it has ended, and waits for its parent (zombie)", "kernel": "it is a thread of the kernel"}
-
-
-def state_of(process: int) -> str:
-    """Whether a process has ended, or is the kernel's: such a one has no memory."""
-    fields = status_of(process)
-    if fields.get("State", "").startswith("Z"):
-        return "zombie"
-    return "" if "VmSize" in fields else "kernel"
-
-
-def status_of(process: int) -> dict[str, str]:
-    """The fields of /proc/PID/status."""
-    with open(f"/proc/{process}/status", encoding="utf-8", errors="replace") as stream:
-        return dict(line.rstrip("\n").split(":\t", 1) for line in stream if ":\t" in line)
-
-
-def tracer_of(process: int) -> int:
-    """The process that traces another one, or 0."""
-    return int(status_of(process).get("TracerPid", "0"))
-
-
-def user_name(user: int) -> str:
-    """A user's name, or the number where it has none."""
-    try:
-        return pwd.getpwuid(user).pw_name
-    except KeyError:
-        return str(user)
 
 
 def selected_frame() -> gdb.Frame:

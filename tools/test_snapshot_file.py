@@ -69,9 +69,10 @@ class Threads(unittest.TestCase):
         self.assertNotIn("start", found)
 
     def test_names_are_left_out(self) -> None:
-        found = without_names(read_snapshot(self.path("thread-8.json")))
+        code = [{"start": "0x9000", "end": "0xa000", "path": "/bin/b", "bias": "0x0"}]
+        found = without_names(read_snapshot(self.path("thread-8.json")) | {"code": code})
         self.assertEqual(set(found["modules"][0]), {"kind", "start", "end", "eh_frame"})
-        self.assertNotIn("thread", found)
+        self.assertEqual(set(found), {"regions", "modules", "start", "limit", "interrupted"})
 
     def test_a_snapshot_is_no_sample(self) -> None:
         with self.assertRaises(Refused):

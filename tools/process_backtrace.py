@@ -1,0 +1,275 @@
+#!/usr/bin/env python3
+"""Prints the backtraces of a process: of one thread, or of all of them.
+
+    process_backtrace.py PID [--threads] [--backtrace PROGRAM] [--unwind-cli PROGRAM]
+
+The process is stopped (process_image.py) while its stacks are read, and goes on while they are walked and named. All threads
+are walked in one run of `unwind_cli core`, over a core file that is made of them. A thread whose walk doesn't come to the
+outermost frame is walked once more by `backtrace`, which has the frames up to there and says why there are no more. All
+frames are named at once. Where one of the two programs isn't built, the other does all.
+
+PID is a process, or one of its threads. Lines on standard error say what is missing.
+"""
+from __future__ import annotations
+
+import argparse
+import json
+import os
+import re
+import signal
+import subprocess
+import sys
+from dataclasses import dataclass, field
+from typing import Iterator
+
+from core import (
+    FAULTS, Loaded, Taken, WithoutTable, biases_of, modules_at, object_of, points_into, program_name, stacks_of,
+    system_modules, text_path, words_of,
+)
+from core_image import Mapped, Thread
+from elf_image import ElfImage, Range, Refused
+from loaded_module import module_objects
+from names import backtrace
+from process_image import DELETED, Process, registers_of, stopped, thread_name
+from snapshot_file import MOST_BYTES, MOST_STATES, Object, region_object
+from symbols import has_symbolizer
+
+HERE = os.path.dirname(os.path.realpath(__file__))
+CRATES = os.path.join(HERE, "..", "crates")
+
+# What a mapping that no file has is called: nothing, or of a compiler at run time that maps its code twice so.
+OF_NO_FILE = re.compile(r"^$|^/memfd:|^\[anon")
+
+
+@dataclass(frozen=True)
+class Programs:
+    """The built programs, those that there are."""
+
+    backtrace: str | None
+    unwind_cli: str | None
+
+
+@dataclass
+class Modules:
+    """What is taken of the files that are mapped, and what is said of code of which none has a table."""
+
+    loaded: list[Loaded] = field(default_factory=list)
+    code: list[Object] = field(default_factory=list)
+
+
+def say(line: str) -> None:
+    """A line for the reader."""
+    print(f"backtrace: {line}", file=sys.stderr)
+
+
+# ---- files
+
+
+def opened_path(process: Process, part: Mapped) -> str:
+    """Where a mapped file can be read: as the process sees it or, where it was deleted, where the kernel keeps it."""
+    if part.name.endswith(DELETED):
+        return f"/proc/{process.number}/map_files/{part.place.start:x}-{part.place.end:x}"
+    return f"/proc/{process.number}/root{part.name}"
+
+
+def by_file(mapped: list[Mapped], program: str | None) -> dict[str, list[Mapped]]:
+    """The mapped parts by their files, the program's first."""
+    found: dict[str, list[Mapped]] = {program: []} if program is not None else {}
+    for part in mapped:
+        found.setdefault(part.name, []).append(part)
+    return found
+
+
+def modules_of(process: Process, wanted: list[int]) -> Modules:
+    """The modules into which an address points, the program's first. A line says of each what is left out."""
+    mapped = process.mapped()
+    program = program_name(process, mapped)
+    found = Modules(code=code_of_no_file(process))
+    for name, parts in by_file(mapped, program).items():
+        if not points_into(wanted, [part.place for part in parts]):
+            continue
+        path = f"/proc/{process.number}/exe" if name == program else opened_path(process, parts[0])
+        shown = name.removesuffix(DELETED)
+        try:
+            found.loaded += modules_at(process, path, shown, parts, wanted)
+        except WithoutTable:
+            is_program = {"program": True} if name == program else {}
+            found.code += [entry | is_program for entry in code_of_file(path, shown, parts)]
+        except FAULTS as error:
+            say(f"leaves out {name}: {error.strerror if isinstance(error, OSError) else error}")
+    found.loaded += system_modules(process, wanted)
+    return found
+
+
+def range_object(place: Range) -> Object:
+    """A range of addresses as a snapshot spells it."""
+    return {"start": f"{place.start:#x}", "end": f"{place.end:#x}"}
+
+
+def code_of_file(path: str, name: str, parts: list[Mapped]) -> Iterator[Object]:
+    """What is said of the code of a file without a frame table."""
+    with open(path, "rb") as stream:
+        image = ElfImage(stream)
+        build_id = image.build_id()
+        for bias in biases_of(image, parts):
+            names = {"path": text_path(name), "bias": f"{bias:#x}"} | ({"build_id": build_id} if build_id else {})
+            yield from (range_object(place) | names for place in image.code_ranges(bias))
+
+
+def code_of_no_file(process: Process) -> list[Object]:
+    """What is said of executable memory that no file has, as compilers at run time make it."""
+    return [
+        range_object(mapping.place) for mapping in process.mappings if mapping.executable and OF_NO_FILE.match(mapping.file)
+    ]
+
+
+# ---- what the programs read
+
+
+def short_text(found: Object) -> bytes:
+    """The text in one line. Refuses one that is longer than the programs take."""
+    text = json.dumps(found).encode("ascii")
+    if len(text) > MOST_BYTES:
+        raise Refused(f"its stacks and tables come to {len(text)} bytes of text, and {MOST_BYTES} are taken")
+    return text
+
+
+def snapshot_of(taken: Taken, thread: Thread) -> Object:
+    """What `backtrace` reads of one thread."""
+    return {
+        "regions": [
+            *(region_object(one.table) for one in taken.loaded), *(region_object(stack) for stack in taken.stacks),
+        ],
+        "modules": module_entries(taken),
+        "start": {name: f"{value:#x}" for name, value in registers_of(thread).items()},
+        "limit": MOST_STATES,
+        "interrupted": True,
+    }
+
+
+def module_entries(taken: Taken) -> list[Object]:
+    """The modules as a snapshot has them."""
+    entries = [entry for one in taken.loaded for entry in module_objects(one.module)]
+    return [entry | {"path": text_path(entry["path"])} for entry in entries]
+
+
+def named_object(taken: Taken, code: list[Object]) -> Object:
+    """What the frames are named by."""
+    tables = [region_object(one.table) for one in taken.loaded]
+    return {"regions": tables, "modules": module_entries(taken), "code": code}
+
+
+# ---- walks
+
+
+def run(words: list[str], text: bytes) -> str | None:
+    """What a program prints of a text, or nothing where it refuses the text."""
+    try:
+        done = subprocess.run(words, input=text, capture_output=True, check=False)
+    except OSError as error:
+        raise Refused(f"{words[0]} can't be run: {error.strerror}")
+    if done.returncode < 0:
+        raise Refused(f"{words[0]} was ended by the signal {-done.returncode}")
+    return done.stdout.decode("ascii", "replace") if done.returncode == 0 else None
+
+
+THREAD_LINE = re.compile(r"^thread \d+\n", re.MULTILINE)
+WHOLE_WALK = re.compile(r"^frame \d+ ra=0x0 .*\nend\n\Z", re.MULTILINE)
+
+
+def walks_of(taken: Taken, programs: Programs) -> list[str]:
+    """The walks of all threads in one run of `unwind_cli core`; none where it can't."""
+    if programs.unwind_cli is None:
+        return []
+    report = run([programs.unwind_cli, "core"], short_text(object_of(taken, MOST_STATES)))
+    walks = THREAD_LINE.split(report)[1:] if report is not None else []
+    return walks if len(walks) == len(taken.threads) else []
+
+
+def reports_of(taken: Taken, programs: Programs) -> list[str]:
+    """The report of each thread. One thread alone, and one whose walk isn't whole, is `backtrace`'s to report."""
+    alone = len(taken.threads) == 1 and programs.backtrace is not None
+    walks = [] if alone else walks_of(taken, programs)
+    found = []
+    for index, thread in enumerate(taken.threads):
+        walk = walks[index] if walks else None
+        if programs.backtrace is not None and (walk is None or not WHOLE_WALK.search(walk)):
+            walk = run([programs.backtrace], short_text(snapshot_of(taken, thread))) or walk
+        found.append(walk if walk is not None else "the walk was refused\n")
+    return found
+
+
+# ---- the backtraces
+
+
+def asked_threads(process: Process, number: int, all_threads: bool) -> list[Thread]:
+    """All threads, or the one that is named."""
+    threads = process.threads()
+    if all_threads or len(threads) == 1:
+        return threads
+    chosen = next((thread for thread in threads if thread.number == number), threads[0])
+    index = threads.index(chosen) + 1
+    say(f"thread {index} of {len(threads)} ({chosen.number} {thread_name(process.number, chosen.number)}); --threads prints all")
+    return [chosen]
+
+
+def taken_of(process: Process, threads: list[Thread]) -> tuple[Taken, list[Object]]:
+    """What is taken of a process that stands still, and what is said of its other code."""
+    stacks = stacks_of(process, threads, None)
+    modules = modules_of(process, words_of(threads, stacks))
+    if not modules.loaded and not modules.code:
+        raise Refused("none of its files can be read")
+    return Taken(threads, stacks, modules.loaded), modules.code
+
+
+def process_of(number: int) -> int:
+    """The process that a number names, by itself or by one of its threads."""
+    try:
+        with open(f"/proc/{number}/status", encoding="utf-8", errors="replace") as stream:
+            return next(int(line.split()[1]) for line in stream if line.startswith("Tgid:"))
+    except (OSError, StopIteration):
+        return number
+
+
+def printed(number: int, all_threads: bool, programs: Programs) -> str:
+    """The backtraces."""
+    with stopped(process_of(number)) as process:
+        threads = asked_threads(process, number, all_threads)
+        heads = [f"Thread {thread.number} {thread_name(process.number, thread.number)}:" for thread in threads]
+        taken, code = taken_of(process, threads)
+    reports = reports_of(taken, programs)
+    if all_threads:
+        reports = [f"{head}\n{report}" for head, report in zip(heads, reports)]
+    if not has_symbolizer():
+        say("without lines: there is no llvm-symbolizer and no addr2line (Debian: llvm, binutils)")
+    return "\n".join(backtrace("".join(reports), named_object(taken, code), [f"/proc/{process.number}/exe"]))
+
+
+def built_programs(options: argparse.Namespace) -> Programs:
+    """The programs that are there, those of this tree unless others are named."""
+    found = Programs(*(path if os.access(path, os.X_OK) else None for path in (options.backtrace, options.unwind_cli)))
+    if found.backtrace is None and found.unwind_cli is None:
+        raise Refused(f"{options.backtrace} isn't built: run `rt run < stdin` in crates/backtrace")
+    return found
+
+
+def main() -> None:
+    """Runs the program."""
+    parser = argparse.ArgumentParser(prog="process_backtrace.py", description="Print the backtraces of a process.")
+    parser.add_argument("process", type=int, metavar="PID")
+    parser.add_argument("--threads", action="store_true", help="of all threads, and not of one alone")
+    for name in ("backtrace", "unwind_cli"):
+        built = os.path.normpath(os.path.join(CRATES, name, "out", name))
+        default = os.environ.get(name.upper(), built)
+        parser.add_argument(f"--{name.replace('_', '-')}", default=default, metavar="PROGRAM")
+    signal.signal(signal.SIGPIPE, signal.SIG_DFL)
+    sys.stdout.reconfigure(errors="surrogateescape")
+    try:
+        options = parser.parse_args()
+        print(printed(options.process, options.threads, built_programs(options)))
+    except (Refused, OSError) as error:
+        sys.exit(f"backtrace: {error}")
+
+
+if __name__ == "__main__":
+    main()
