@@ -14,7 +14,9 @@ It stops at the calls that every language makes (Itanium C++ ABI: Exception Hand
 which a rethrow by _Unwind_Resume_or_Rethrow leads too, _Unwind_SetIP and _Unwind_Resume. A pad is the handler's where its
 stack pointer is the one that the first phase noted in the exception's second private word, as libgcc and LLVM's libunwind do.
 Where _Unwind_RaiseException returns, nothing took the exception. Where the process terminates before a handler's pad, or the
-same exception is raised again, as std::terminate does, the personality ended it, as it does at a function that is noexcept.
+same exception is raised again, as std::terminate does, the personality ended it, as gcc's tables ask at a function that is
+noexcept. clang's tables have a handler there, whose pad ends the process: that is a landing, and a line after it says so, as
+far as the symbol __clang_call_terminate is there.
 """
 from __future__ import annotations
 
@@ -23,6 +25,9 @@ import gdb
 RAISE, SET_PLACE, RESUME = "_Unwind_RaiseException", "_Unwind_SetIP", "_Unwind_Resume"
 # Where C++ ends a process: in the personality, in a pad, and last of all.
 ENDS = ("__cxa_call_terminate", "_ZSt9terminatev", "abort")
+# What pads of C++ call first: those of handlers, and clang's at a function that is noexcept. The classes of such exceptions.
+BEGIN_CATCH, CALL_TERMINATE = "__cxa_begin_catch", "__clang_call_terminate"
+CLASSES_OF_CXX = (0x474E5543432B2B00, 0x434C4E47432B2B00)
 # What is called between the frame that throws and the search: the frames of these are the runtime's.
 RUNTIME = ("_Unwind_", "__cxa_throw", "__cxa_rethrow")
 # The words of an exception before the language's own part: class, a function, and two that belong to the unwinder.
@@ -35,6 +40,8 @@ def go_on_to(*places: str) -> str:
     """Lets the process go on to one of the places, functions or `*ADDRESS`, and answers which it is. A function's name may
     stand for several, one in each library. It is answered with no name where the process ends before or stops elsewhere."""
     points = {place: gdb.Breakpoint(place, internal=True) for place in places if is_known(place)}
+    for point in points.values():
+        point.silent = True
     gdb.execute("continue", to_string=True)
     met = [place for place, point in points.items() if point.is_valid() and point.hit_count > 0]
     for point in points.values():
@@ -111,6 +118,12 @@ class Throw:
         """Whether the pad is that of the frame that the first phase found."""
         return register("rsp") == word_at(self.word + NOTED_POINTER)
 
+    def ends_in_handler(self) -> bool:
+        """Whether the handler's pad ends the process, in place of catching the exception."""
+        if self.kind not in CLASSES_OF_CXX or not is_known(CALL_TERMINATE):
+            return False
+        return go_on_to(BEGIN_CATCH, CALL_TERMINATE, *ENDS) in (CALL_TERMINATE, *ENDS)
+
     def next_landing(self) -> bool:
         """Goes on to the next landing pad, prints it, and answers whether it was a cleanup's. Where there is none it prints
         the outcome."""
@@ -125,6 +138,8 @@ class Throw:
         returned = f"rax={register('rax'):#x} rdx={register('rdx'):#x}"
         if self.is_at_handler():
             print(f"landing {registers.removeprefix('frame 0 ')} {returned}\noutcome installed")
+            if self.ends_in_handler():
+                print("the handler ended the process")
             return False
         print(f"cleanup pad={pad:#x} sp={pointer:#x}")
         while (met := go_on_to(RESUME, *ENDS)) == RESUME and register("rdi") != self.word:

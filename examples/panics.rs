@@ -1,4 +1,5 @@
-//! A panic that passes frames with values to drop and comes to a `catch_unwind`.
+//! A panic that passes frames with values to drop and comes to a `catch_unwind`: once with no word after the program's name, with
+//! one word it is resumed there and comes to a second, and with two it meets a function that may not unwind, and ends the process.
 use std::arch::asm;
 use std::hint::black_box;
 use std::panic::{catch_unwind, resume_unwind};
@@ -37,9 +38,15 @@ fn inner(number: u64) -> u64 {
 }
 
 #[inline(never)]
+extern "C" fn quiet(number: u64) -> u64 {
+    let kept = Noted(30);
+    inner(number) + kept.0
+}
+
+#[inline(never)]
 fn catcher(number: u64) -> u64 {
     let kept = Noted(20);
-    match catch_unwind(|| inner(number)) {
+    match catch_unwind(|| if number > 2 { quiet(number) } else { inner(number) }) {
         Ok(found) => found + kept.0,
         Err(cause) if number > 1 => resume_unwind(cause),
         Err(_) => kept.0,

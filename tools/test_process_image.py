@@ -6,6 +6,7 @@ import pathlib
 import subprocess
 import sys
 import tempfile
+import time
 import unittest
 from unittest import mock
 
@@ -73,8 +74,8 @@ class StoppedTest(unittest.TestCase):
 
     def test_registers_are_those_that_the_system_says(self) -> None:
         with Waiting() as (number, _address):
-            with open(f"/proc/{number}/syscall", encoding="ascii") as stream:
-                words = stream.read().split()
+            while (words := pathlib.Path(f"/proc/{number}/syscall").read_text("ascii").split()) == ["running"]:
+                time.sleep(0.01)
             with stopped(number) as process:
                 registers = registers_of(process.threads()[0])
             self.assertEqual([f"{registers['rsp']:#x}", f"{registers['rip']:#x}"], words[-2:])
