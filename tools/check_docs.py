@@ -11,7 +11,8 @@
                  public call that has a `requires` stands in the table of those
     examples     the examples of the README and at the heads of libraries are lines of library_examples, and the runs
                  of `backtrace` that documents show are what the gate's run writes
-    readme       the README is short, and so are its sentences
+    readme       the README is short
+    sentences    the sentences of the documents are short, in tables too
     links        what documents link to is there
     specs        a file of definitions that no public clause cites says so in its first line, and no other does
 
@@ -446,25 +447,34 @@ def check_examples() -> list[str]:
 # ---- the README
 
 
+def check_readme() -> list[str]:
+    """The README's size."""
+    size = len((TOP / "README.md").read_bytes())
+    return [f"README.md has {size} bytes, and not fewer than {README_BYTES}"] if size >= README_BYTES else []
+
+
+# ---- sentences
+
+
 def sentences_of(text: str) -> Iterator[str]:
-    """The sentences of a document, each line of a table and of a list for itself."""
-    for paragraph in without_blocks(text).splitlines():
-        if not paragraph.startswith(("|", "#", "![")):
-            yield from re.split(r"(?<=[.!?:;])\s+", paragraph)
+    """The sentences of a document without blocks, those of each line of a list and of each cell of a table for themselves."""
+    for line in text.splitlines():
+        if not line.startswith(("#", "![")):
+            for part in cells_of(line) if line.startswith("|") else [line]:
+                yield from re.split(r"(?<=[.!?])\s+", part)
 
 
 def long_sentences(text: str, most: int = SENTENCE_WORDS) -> list[str]:
-    """The sentences of more words than that, by their beginnings. A link counts as its text."""
-    plain = re.sub(r"\]\([^()]*\)", "]", text)
+    """The sentences of more words than that, by their beginnings. A link counts as its text, and what stands in backquotes as
+    one word: it may be a line of output."""
+    plain = re.sub(r"`[^`\n]+`", "`..`", re.sub(r"\]\([^()]*\)", "]", without_blocks(text)))
     return [f"{len(s.split())} words: {' '.join(s.split()[:8])} .." for s in sentences_of(plain) if len(s.split()) > most]
 
 
-def check_readme() -> list[str]:
-    """The README's size and sentences."""
-    text = (TOP / "README.md").read_text()
-    size = len(text.encode())
-    found = [f"README.md has {size} bytes, and not fewer than {README_BYTES}"] if size >= README_BYTES else []
-    return found + [f"README.md, {line}" for line in long_sentences(text)]
+def check_sentences() -> list[str]:
+    """The sentences of the documents and of the page on the examples."""
+    pages = [*documents(), TOP / "examples" / "README.md"]
+    return [f"{page.relative_to(TOP)}, {line}" for page in pages for line in long_sentences(page.read_text())]
 
 
 # ---- links
@@ -569,6 +579,7 @@ CHECKS: dict[str, Callable[[], list[str]]] = {
     "clauses": check_clauses,
     "examples": check_examples,
     "readme": check_readme,
+    "sentences": check_sentences,
     "links": check_links,
     "specs": check_specs,
 }

@@ -202,10 +202,12 @@ class Examples(unittest.TestCase):
 
 class Readme(unittest.TestCase):
     def test_long_sentences(self) -> None:
-        unread = "| a table | of many words here |\n\n```\na block of many words\n```\n"
-        text = f"One two three. Four [five six](seven.md).\n\n{unread}"
+        unread = "# A heading of many words\n\n```\na block of many words\n```\n"
+        text = f"One two three. Four [five six](seven.md).\n\n{unread}\n| in a table | `one word of output` |\n"
         self.assertEqual(long_sentences(text, 3), [])
-        self.assertEqual(long_sentences(text, 2), ["3 words: One two three. ..", "3 words: Four [five six]. .."])
+        self.assertEqual(
+            long_sentences(text, 2), ["3 words: One two three. ..", "3 words: Four [five six]. ..", "3 words: in a table .."]
+        )
 
     def test_links(self) -> None:
         self.assertEqual(slug_of("## Stops at every instruction"), "stops-at-every-instruction")
