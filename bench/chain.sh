@@ -5,7 +5,7 @@
 #     bench/chain.sh [COUNT..]
 #
 # Wants valgrind, GNU time, cargo and python3, the crates gimli 0.27, serde_json and hex, and the
-# program as `rt run` or `rt ci` left it in crates/unwind_cli/out. Where no network is at hand,
+# program as `rt run` left it in crates/unwind_cli/out. Where no network is at hand,
 # REGISTRY names a folder with the sources of the crates and what they stand on (Debian's packages
 # librust-gimli-dev, librust-serde-json-dev and librust-hex-dev put them into
 # /usr/share/cargo/registry). `bench/chain.py` makes the snapshots, and `bench/gimli` is the program

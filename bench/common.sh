@@ -8,7 +8,7 @@ top=$(dirname "$here")
 work=$(mktemp -d)
 trap 'rm -rf "$work"' EXIT
 
-# The program, as `rt run` or `rt ci` leaves it.
+# The program, as `rt run` leaves it.
 # shellcheck disable=SC2034  # the scripts use it
 proved=${UNWIND_CLI:-$top/crates/unwind_cli/out/unwind_cli}
 

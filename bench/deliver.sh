@@ -3,7 +3,7 @@
 #
 #     bench/deliver.sh
 #
-# Wants valgrind and python3, and the program as `rt run` or `rt ci` left it in
+# Wants valgrind and python3, and the program as `rt run` left it in
 # crates/unwind_cli/out. The stack is that of calls of a function with a cleanup, each of which asks
 # for it, below a function with a handler. Everything is the difference of two lengths, so that the
 # start of the process isn't in it. Three runs of one stack tell what the parts of a delivery cost:

@@ -3,7 +3,7 @@
 #
 #     bench/generate.sh
 #
-# Wants valgrind, GNU time and python3, and the program as `rt run` or `rt ci` left it in
+# Wants valgrind, GNU time and python3, and the program as `rt run` left it in
 # crates/unwind_cli/out. A run makes a chain of so many functions with its tables and its stack,
 # indexes its frame table, delivers an exception over it and sums that up. What a function costs is
 # the difference of two counts, so that the start of the process isn't in it. What is summed up is

@@ -6,7 +6,7 @@
 #
 #     bench/limits.sh [KIND..]        the kinds are those of bench/large.py
 #
-# Wants GNU time and python3, the program as `rt run` or `rt ci` left it in crates/unwind_cli/out (or
+# Wants GNU time and python3, the program as `rt run` left it in crates/unwind_cli/out (or
 # UNWIND_CLI=PROGRAM), and bench/plain as `cargo build --release` leaves it (or PLAIN=PROGRAM, which
 # bench/program.sh says how to build).
 

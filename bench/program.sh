@@ -3,7 +3,7 @@
 #
 #     bench/program.sh
 #
-# Wants valgrind, GNU time, cargo and python3, and the program as `rt run` or `rt ci` left it in
+# Wants valgrind, GNU time, cargo and python3, and the program as `rt run` left it in
 # crates/unwind_cli/out. Where no network is at hand, REGISTRY names a folder with the sources of
 # the crates serde_json and hex and what they stand on.
 

@@ -3,7 +3,7 @@
 #
 #     bench/walk.sh
 #
-# Wants valgrind, GNU time and python3, and the program as `rt run` or `rt ci` left it in
+# Wants valgrind, GNU time and python3, and the program as `rt run` left it in
 # crates/unwind_cli/out. The stack is that of calls of one function that pushes RBX, with addresses
 # and registers of few digits. What a frame costs is the difference of two lengths, so that the start
 # of the process isn't in it: from the text of the snapshot to the report, and without its report

@@ -411,7 +411,7 @@ def main() -> None:
         show_one(options)
         return
     if not os.access(options.program, os.X_OK):
-        sys.exit(f"damage.py: {options.program} isn't there; `rt run` in crates/unwind_cli makes it")
+        sys.exit(f"damage.py: {options.program} isn't there; `rt run < stdin` in crates/unwind_cli makes it")
     if options.keep:
         os.makedirs(options.keep, exist_ok=True)
     kinds: collections.Counter[str] = collections.Counter()

@@ -11,7 +11,7 @@ and all later ones; then the same with reads and writes. docs/FORMATS.md says wh
 and nothing written after a failed read, 4 and a prefix of what was due after a failed write. A run in which a
 failing call changes nothing has to write all that is due. Reports what came otherwise, with status 1.
 
-Wants gcc, and the program linked against the C library (`rt run` in crates/unwind_cli makes it).
+Wants gcc, and the program linked against the C library (`rt run < stdin` in crates/unwind_cli makes it).
 """
 from __future__ import annotations
 

@@ -47,7 +47,7 @@ take_moment() {
 }
 
 read_words "$@"
-[ -x "$unwind_cli" ] || fail "$unwind_cli isn't built: run \`rt run\` in crates/unwind_cli"
+[ -x "$unwind_cli" ] || fail "$unwind_cli isn't built: run \`rt run < stdin\` in crates/unwind_cli"
 scratch=$(mktemp -d)
 trap 'rm -rf "$scratch"' EXIT
 pairs=()
