@@ -1,9 +1,9 @@
-"""Compares the backtraces of a core's threads: those of tools/backtrace.sh with those of gdb or of eu-stack.
+"""Compares the backtraces of the threads of a core or a process: those of tools/backtrace.sh with those of gdb or of eu-stack.
 
     core_frames.py OURS THEIRS
 
-OURS is what `tools/backtrace.sh PROGRAM CORE --threads` printed. THEIRS is what gdb printed by `thread apply all frames`
-(tools/frames.py), or what `eu-stack -n 0 --core` printed. Each thread's return addresses have to be the same, in order; where
+OURS is what `tools/backtrace.sh PROGRAM CORE --threads` or `PID --threads` printed. THEIRS is what gdb printed by `thread apply all frames`
+(tools/frames.py), or what `eu-stack -n 0` printed. Each thread's return addresses have to be the same, in order; where
 ours is a signal's frame, which has no address, each is the same. Prints how many threads and frames are, and the first
 thread that differs; the status is then 1.
 """
@@ -13,9 +13,9 @@ import pathlib
 import re
 import sys
 
-# A head of ours or gdb's, or of eu-stack's; an address of ours or eu-stack's, of gdb's, and a signal's frame.
+# A head of gdb's or ours of a core, or of eu-stack's or ours of a process; an address of ours or eu-stack's, of gdb's, and a signal's frame.
 LINE = re.compile(
-    r"^(?:Thread \d+ .*\(LWP (\d+)\)|TID (\d+):|#\d+ +0x([0-9a-f]+)\b.*|frame \d+ ra=0x([0-9a-f]+) .*"
+    r"^(?:Thread \d+ .*\(LWP (\d+)\)|(?:TID|Thread) (\d+)[: ].*|#\d+ +0x([0-9a-f]+)\b.*|frame \d+ ra=0x([0-9a-f]+) .*"
     r"|#\d+ (<signal handler called>))", re.MULTILINE,
 )
 SIGNAL = -1

@@ -1,14 +1,19 @@
 #!/usr/bin/env bash
-# Prints how long the backtraces of all threads of a core take, by backtrace.sh, gdb and eu-stack, and
-# whether their frames are the same.
+# Prints how long the backtraces of all threads of a core or a process take, by backtrace.sh, gdb and
+# eu-stack, and whether their frames are the same.
 #
 #   cores.sh PROGRAM CORE
+#   cores.sh PID                   a process whose threads wait, or that is stopped (kill -STOP)
 #
 # Seconds are those of the clock and, after the comma, of the processor. Each runs once before, so that
 # files are in memory. SECONDS_MOST (120) is how long each may take. Wants gdb, eu-stack (Debian: elfutils) and
-# the built program (UNWIND_CLI, crates/unwind_cli/out/unwind_cli).
+# the built programs (UNWIND_CLI, crates/unwind_cli/out/unwind_cli; for processes BACKTRACE too).
 set -uo pipefail
-[ $# -eq 2 ] || { echo 'usage: cores.sh PROGRAM CORE' >&2; exit 2; }
+case $# in
+    1) of_gdb=(-p "$1") of_eu=(-p "$1") ;;
+    2) of_gdb=("$1" "$2") of_eu=(--core "$2" -e "$1") ;;
+    *) echo 'usage: cores.sh PROGRAM CORE | PID' >&2; exit 2 ;;
+esac
 here=$(cd "$(dirname "$0")" && pwd)
 tools=$here/../tools
 most=${SECONDS_MOST:-120}
@@ -30,10 +35,10 @@ line() {
 }
 
 past=(-ex 'set backtrace past-main on' -ex 'set backtrace past-entry on')
-timed ours "$tools/backtrace.sh" "$1" "$2" --threads
-timed gdb gdb -nx -batch "${past[@]}" -ex 'thread apply all bt' "$1" "$2"
-timed eu-stack eu-stack -n 0 --core "$2" -e "$1"
-timeout "$most" gdb -nx -batch -x "$tools/frames.py" -ex 'thread apply all frames' "$1" "$2" \
+timed ours "$tools/backtrace.sh" "$@" --threads
+timed gdb gdb -nx -batch "${past[@]}" -ex 'thread apply all bt' "${of_gdb[@]}"
+timed eu-stack eu-stack -n 0 "${of_eu[@]}"
+timeout "$most" gdb -nx -batch -x "$tools/frames.py" -ex 'thread apply all frames' "${of_gdb[@]}" \
     > "$scratch/frames" 2> /dev/null < /dev/null
 line ours "$(grep -c '^Thread ' "$scratch/ours") threads, $(grep -c '^#' "$scratch/ours") lines"
 line gdb "$(python3 "$here/core_frames.py" "$scratch/ours" "$scratch/frames")"

@@ -162,41 +162,66 @@ def named_object(taken: Taken, code: list[Object]) -> Object:
 # ---- walks
 
 
-def run(words: list[str], text: bytes) -> str | None:
-    """What a program prints of a text, or nothing where it refuses the text."""
+@dataclass(frozen=True)
+class Answer:
+    """What a program prints, and why that is no report, where it is none."""
+
+    text: str
+    fault: str | None = None
+
+
+def run(words: list[str], text: bytes) -> Answer:
+    """What a program says of a text."""
     try:
         done = subprocess.run(words, input=text, capture_output=True, check=False)
     except OSError as error:
-        raise Refused(f"{words[0]} can't be run: {error.strerror}")
+        return Answer("", f"{words[0]} can't be run: {error.strerror}")
+    said = done.stdout.decode("ascii", "replace")
     if done.returncode < 0:
-        raise Refused(f"{words[0]} was ended by the signal {-done.returncode}")
-    return done.stdout.decode("ascii", "replace") if done.returncode == 0 else None
+        return Answer(said, f"{words[0]} was ended by the signal {-done.returncode}")
+    last = (said + done.stderr.decode("utf-8", "replace")).strip().rpartition("\n")[2]
+    return Answer(said, f"{words[0]} ended with status {done.returncode}: {last}".rstrip(": ") if done.returncode else None)
 
 
 THREAD_LINE = re.compile(r"^thread \d+\n", re.MULTILINE)
 WHOLE_WALK = re.compile(r"^frame \d+ ra=0x0 .*\nend\n\Z", re.MULTILINE)
 
 
-def walks_of(taken: Taken, programs: Programs) -> list[str]:
-    """The walks of all threads in one run of `unwind_cli core`; none where it can't."""
-    if programs.unwind_cli is None:
-        return []
-    report = run([programs.unwind_cli, "core"], short_text(object_of(taken, MOST_STATES)))
-    walks = THREAD_LINE.split(report)[1:] if report is not None else []
-    return walks if len(walks) == len(taken.threads) else []
+def walks_of(taken: Taken, program: str) -> list[Answer]:
+    """The walks of all threads in one run of `unwind_cli core`."""
+    answer = run([program, "core"], short_text(object_of(taken, MOST_STATES)))
+    walks = THREAD_LINE.split(answer.text)[1:]
+    if answer.fault is None and len(walks) != len(taken.threads):
+        answer = Answer("", f"{program} printed {len(walks)} walks of {len(taken.threads)} threads")
+    return [Answer(walk) for walk in walks] if answer.fault is None else [answer] * len(taken.threads)
+
+
+def is_whole(answer: Answer) -> bool:
+    """Whether a walk comes to the outermost frame."""
+    return answer.fault is None and WHOLE_WALK.search(answer.text) is not None
+
+
+def answers_of(taken: Taken, programs: Programs) -> list[Answer]:
+    """What is found of each thread. One thread alone, and one whose walk isn't whole, is `backtrace`'s to report."""
+    alone = len(taken.threads) == 1 and programs.backtrace is not None
+    walks = [] if alone or programs.unwind_cli is None else walks_of(taken, programs.unwind_cli)
+    found = []
+    for index, thread in enumerate(taken.threads):
+        answer = walks[index] if walks else Answer("", "no walk")
+        if programs.backtrace is not None and not is_whole(answer):
+            again = run([programs.backtrace], short_text(snapshot_of(taken, thread)))
+            answer = again if again.fault is None or answer.fault is not None else answer
+        found.append(answer)
+    return found
 
 
 def reports_of(taken: Taken, programs: Programs) -> list[str]:
-    """The report of each thread. One thread alone, and one whose walk isn't whole, is `backtrace`'s to report."""
-    alone = len(taken.threads) == 1 and programs.backtrace is not None
-    walks = [] if alone else walks_of(taken, programs)
-    found = []
-    for index, thread in enumerate(taken.threads):
-        walk = walks[index] if walks else None
-        if programs.backtrace is not None and (walk is None or not WHOLE_WALK.search(walk)):
-            walk = run([programs.backtrace], short_text(snapshot_of(taken, thread))) or walk
-        found.append(walk if walk is not None else "the walk was refused\n")
-    return found
+    """The report of each thread, or the line that says why there is none. Refuses where there is none of any thread."""
+    answers = answers_of(taken, programs)
+    faults = [answer.fault for answer in answers if answer.fault is not None]
+    if faults and len(faults) == len(answers):
+        raise Refused(faults[0])
+    return [answer.text if answer.fault is None else f"{answer.fault}\n" for answer in answers]
 
 
 # ---- the backtraces
@@ -262,13 +287,15 @@ def main() -> None:
         built = os.path.normpath(os.path.join(CRATES, name, "out", name))
         default = os.environ.get(name.upper(), built)
         parser.add_argument(f"--{name.replace('_', '-')}", default=default, metavar="PROGRAM")
-    signal.signal(signal.SIGPIPE, signal.SIG_DFL)
     sys.stdout.reconfigure(errors="surrogateescape")
+    options = parser.parse_args()
     try:
-        options = parser.parse_args()
-        print(printed(options.process, options.threads, built_programs(options)))
+        lines = printed(options.process, options.threads, built_programs(options))
     except (Refused, OSError) as error:
         sys.exit(f"backtrace: {error}")
+    # A program that is run may end before it has read its text: only here may a closed pipe end this one.
+    signal.signal(signal.SIGPIPE, signal.SIG_DFL)
+    print(lines)
 
 
 if __name__ == "__main__":

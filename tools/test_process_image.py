@@ -13,7 +13,7 @@ from unittest import mock
 import process_backtrace
 import process_status
 from elf_image import Range, Refused
-from process_backtrace import Programs, Taken, by_file, process_of, reports_of
+from process_backtrace import Answer, Programs, Taken, by_file, process_of, reports_of, run
 from core_image import Mapped, thread_of
 from process_image import Mapping, mapping_of, registers_of, status_note, stopped
 from process_status import why_no_process, why_untraced
@@ -173,8 +173,8 @@ class PartsTest(unittest.TestCase):
         walks = ["frame 0 ra=0x1 sp=0x2\nframe 1 ra=0x0 sp=0x3\nend\n", "refused: unmapped 0x8\n", "frame 0 ra=0x5 sp=0x6\nend\n"]
         core = "".join(f"thread {index}\n{walk}" for index, walk in enumerate(walks))
 
-        def answer(words: list[str], _text: bytes) -> str:
-            return core if words[1:] == ["core"] else "#0  0x9\nend: a reason\n"
+        def answer(words: list[str], _text: bytes) -> Answer:
+            return Answer(core) if words[1:] == ["core"] else Answer("#0  0x9\nend: a reason\n")
 
         with mock.patch.object(process_backtrace, "run", answer):
             taken = Taken(threads, [], [])
@@ -183,6 +183,20 @@ class PartsTest(unittest.TestCase):
             self.assertEqual(reports_of(taken, Programs(None, "unwind_cli")), walks)
             self.assertEqual(reports_of(taken, Programs("backtrace", None)), [again] * 3)
             self.assertEqual(reports_of(Taken(threads[:1], [], []), Programs("backtrace", "unwind_cli")), [again])
+
+    def test_programs_that_fail(self) -> None:
+        """What a program says stands in the line, also where it ends before it has read anything."""
+        thread = thread_of(status_note(1, bytes(27 * 8)))
+        with tempfile.TemporaryDirectory() as folder:
+            program = pathlib.Path(folder) / "program"
+            program.write_text("#!/bin/sh\necho bad snapshot: modules\nexit 7\n")
+            program.chmod(0o755)
+            said = f"{program} ended with status 7: bad snapshot: modules"
+            self.assertEqual(run([str(program)], bytes(2**20)).fault, said)
+            for programs in (Programs(str(program), None), Programs(None, str(program)), Programs(str(program), str(program))):
+                with self.assertRaisesRegex(Refused, f"^{said}$"):
+                    reports_of(Taken([thread], [], []), programs)
+            self.assertIn("can't be run: No such file", run([f"{folder}/none"], b"").fault or "")
 
 
 class CommandTest(unittest.TestCase):
