@@ -21,6 +21,7 @@ from core_names import Loaded, ThreadStart, thread_lines, titled
 from elf_image import Refused
 from names import modules_of
 from snapshot_file import MOST_BYTES, MOST_STATES, Object
+from symbols import has_symbolizer
 
 UNWIND_CLI = os.path.join(os.path.dirname(os.path.abspath(__file__)), "../crates/unwind_cli/out/unwind_cli")
 SYSTEM_PATH = "[vdso]"
@@ -61,14 +62,17 @@ def short_text(found: Object) -> bytes:
 
 
 def report_of(unwind_cli: str, found: Object) -> str:
-    """What `unwind_cli core` prints."""
+    """What `unwind_cli core` prints. It may end before it has read its text, which says why."""
+    before = signal.signal(signal.SIGPIPE, signal.SIG_IGN)
     try:
         done = subprocess.run([unwind_cli, "core"], input=short_text(found), capture_output=True, check=False)
     except FileNotFoundError:
         raise Refused(f"{unwind_cli} isn't built: run `rt run < stdin` in crates/unwind_cli")
+    finally:
+        signal.signal(signal.SIGPIPE, before)
     if done.returncode != 0:
         words = (done.stdout + done.stderr).decode("utf-8", "replace").strip()
-        raise Refused(f"unwind_cli ended with status {done.returncode}: {words}")
+        raise Refused(f"{unwind_cli} ended with status {done.returncode}: {words}".rstrip(": "))
     return done.stdout.decode("ascii")
 
 
@@ -100,6 +104,8 @@ def printed(options: Options) -> str:
     taken = asked_threads(taken_of(core, Source(options.program, options.root), None), options.threads)
     found = object_of(taken, MOST_STATES)
     starts = [ThreadStart(thread.number, thread.rip) for thread in taken.threads]
+    if not has_symbolizer():
+        print("core: without lines: there is no llvm-symbolizer and no addr2line (Debian: llvm, binutils)", file=sys.stderr)
     lines = thread_lines(report_of(options.unwind_cli, found), starts, loaded_of(core, found), core.missing_at)
     return titled(lines, starts) if options.threads else "\n".join(lines[0])
 

@@ -268,6 +268,8 @@ def main() -> None:
         print("\n".join(backtrace(report, found, sys.argv[3:])))
     except (Refused, OSError) as error:
         sys.exit(f"names.py: {error}")
+    except (KeyError, TypeError, ValueError) as error:
+        sys.exit(f"names.py: {sys.argv[2]} isn't what a snapshot has to be ({error}); tools/check_schema.py FILE says where")
 
 
 if __name__ == "__main__":

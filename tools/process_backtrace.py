@@ -12,15 +12,13 @@ PID is a process, or one of its threads. Lines on standard error say what is mis
 """
 from __future__ import annotations
 
-import argparse
 import json
 import os
 import re
 import signal
 import subprocess
 import sys
-from dataclasses import dataclass, field
-from typing import Iterator
+from typing import Iterator, NamedTuple
 
 from core import (
     FAULTS, Loaded, Taken, WithoutTable, biases_of, modules_at, object_of, points_into, program_name, stacks_of,
@@ -34,27 +32,25 @@ from process_image import DELETED, Process, registers_of, stopped, thread_name
 from snapshot_file import MOST_BYTES, MOST_STATES, Object, region_object
 from symbols import has_symbolizer
 
-HERE = os.path.dirname(os.path.realpath(__file__))
-CRATES = os.path.join(HERE, "..", "crates")
+CRATES = os.path.join(os.path.dirname(os.path.realpath(__file__)), "..", "crates")
+USAGE = "usage: process_backtrace.py PID [--threads] [--backtrace PROGRAM] [--unwind-cli PROGRAM]"
 
 # What a mapping that no file has is called: nothing, or of a compiler at run time that maps its code twice so.
 OF_NO_FILE = re.compile(r"^$|^/memfd:|^\[anon")
 
 
-@dataclass(frozen=True)
-class Programs:
+class Programs(NamedTuple):
     """The built programs, those that there are."""
 
     backtrace: str | None
     unwind_cli: str | None
 
 
-@dataclass
-class Modules:
+class Modules(NamedTuple):
     """What is taken of the files that are mapped, and what is said of code of which none has a table."""
 
-    loaded: list[Loaded] = field(default_factory=list)
-    code: list[Object] = field(default_factory=list)
+    loaded: list[Loaded]
+    code: list[Object]
 
 
 def say(line: str) -> None:
@@ -84,20 +80,20 @@ def modules_of(process: Process, wanted: list[int]) -> Modules:
     """The modules into which an address points, the program's first. A line says of each what is left out."""
     mapped = process.mapped()
     program = program_name(process, mapped)
-    found = Modules(code=code_of_no_file(process))
+    found = Modules([], code_of_no_file(process))
     for name, parts in by_file(mapped, program).items():
         if not points_into(wanted, [part.place for part in parts]):
             continue
         path = f"/proc/{process.number}/exe" if name == program else opened_path(process, parts[0])
         shown = name.removesuffix(DELETED)
         try:
-            found.loaded += modules_at(process, path, shown, parts, wanted)
+            found.loaded.extend(modules_at(process, path, shown, parts, wanted))
         except WithoutTable:
             is_program = {"program": True} if name == program else {}
-            found.code += [entry | is_program for entry in code_of_file(path, shown, parts)]
+            found.code.extend(entry | is_program for entry in code_of_file(path, shown, parts))
         except FAULTS as error:
             say(f"leaves out {name}: {error.strerror if isinstance(error, OSError) else error}")
-    found.loaded += system_modules(process, wanted)
+    found.loaded.extend(system_modules(process, wanted))
     return found
 
 
@@ -162,8 +158,7 @@ def named_object(taken: Taken, code: list[Object]) -> Object:
 # ---- walks
 
 
-@dataclass(frozen=True)
-class Answer:
+class Answer(NamedTuple):
     """What a program prints, and why that is no report, where it is none."""
 
     text: str
@@ -270,27 +265,42 @@ def printed(number: int, all_threads: bool, programs: Programs) -> str:
     return "\n".join(backtrace("".join(reports), named_object(taken, code), [f"/proc/{process.number}/exe"]))
 
 
-def built_programs(options: argparse.Namespace) -> Programs:
-    """The programs that are there, those of this tree unless others are named."""
-    found = Programs(*(path if os.access(path, os.X_OK) else None for path in (options.backtrace, options.unwind_cli)))
-    if found.backtrace is None and found.unwind_cli is None:
-        raise Refused(f"{options.backtrace} isn't built: run `rt run < stdin` in crates/backtrace")
-    return found
+class Options(NamedTuple):
+    """What the words ask for: a process or a thread, whether all threads, and which programs."""
+
+    number: int
+    all_threads: bool
+    programs: Programs
+
+
+def read_words(words: list[str]) -> Options:
+    """The words. (`argparse` takes as long to load as all the rest.)"""
+    left = [word for word in words if word != "--threads"]
+    paths = {name: os.environ.get(name.upper()) or built_path(name) for name in Programs._fields}
+    for name in Programs._fields:
+        option = f"--{name.replace('_', '-')}"
+        if option in left[:-1]:
+            index = left.index(option)
+            paths[name] = left[index + 1]
+            del left[index : index + 2]
+    if len(left) != 1 or not left[0].isdecimal():
+        sys.exit(USAGE)
+    there = Programs(*(path if os.access(path, os.X_OK) else None for path in paths.values()))
+    if there == Programs(None, None):
+        raise Refused(f"{paths['backtrace']} isn't built: run `rt run < stdin` in crates/backtrace")
+    return Options(int(left[0]), "--threads" in words, there)
+
+
+def built_path(name: str) -> str:
+    """Where a program is built."""
+    return os.path.normpath(os.path.join(CRATES, name, "out", name))
 
 
 def main() -> None:
     """Runs the program."""
-    parser = argparse.ArgumentParser(prog="process_backtrace.py", description="Print the backtraces of a process.")
-    parser.add_argument("process", type=int, metavar="PID")
-    parser.add_argument("--threads", action="store_true", help="of all threads, and not of one alone")
-    for name in ("backtrace", "unwind_cli"):
-        built = os.path.normpath(os.path.join(CRATES, name, "out", name))
-        default = os.environ.get(name.upper(), built)
-        parser.add_argument(f"--{name.replace('_', '-')}", default=default, metavar="PROGRAM")
     sys.stdout.reconfigure(errors="surrogateescape")
-    options = parser.parse_args()
     try:
-        lines = printed(options.process, options.threads, built_programs(options))
+        lines = printed(*read_words(sys.argv[1:]))
     except (Refused, OSError) as error:
         sys.exit(f"backtrace: {error}")
     # A program that is run may end before it has read its text: only here may a closed pipe end this one.

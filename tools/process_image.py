@@ -16,8 +16,7 @@ import os
 import re
 import struct
 import time
-from dataclasses import dataclass
-from typing import Iterator
+from typing import Iterator, NamedTuple
 
 from core_image import NT_AUXV, NT_PRSTATUS, NUMBER_OFFSET, REGISTERS_OFFSET, Core, Mapped, Memory, Note, Thread, thread_of
 from elf_image import Range, Refused
@@ -41,8 +40,7 @@ DELETED = " (deleted)"
 OF_SYSTEM = ("[vvar]", "[vvar_vclock]", "[vsyscall]")
 
 
-@dataclass(frozen=True)
-class Mapping:
+class Mapping(NamedTuple):
     """A mapping: its addresses, whether it can be read and run, and its file's part."""
 
     place: Range

@@ -5,11 +5,12 @@
 #   profile.sh PID [MOMENTS] [--svg FILE]        10 moments unless given; with --svg the same as a picture
 #
 # gdb takes the snapshots (snapshot.py), `unwind_cli fold` finds the stacks, and flamegraph.py names and draws them.
-# UNWIND_CLI names the built program where it isn't crates/unwind_cli/out/unwind_cli. All threads count, also those
+# UNWIND_CLI names the built program where it is neither crates/unwind_cli/out/unwind_cli nor on the PATH. All threads count, also those
 # that wait. The process stands still while gdb attaches and reads, at each moment once.
 set -uo pipefail
-tools=$(cd "$(dirname "$0")" && pwd)
-unwind_cli=${UNWIND_CLI:-$tools/../crates/unwind_cli/out/unwind_cli}
+tools=$(dirname "$(readlink -f "${BASH_SOURCE[0]}")")
+unwind_cli=${UNWIND_CLI:-$(readlink -f "$tools/..")/crates/unwind_cli/out/unwind_cli}
+[ -x "$unwind_cli" ] || unwind_cli=$(type -P unwind_cli || echo "$unwind_cli")
 
 usage() {
     echo 'usage: profile.sh PID [MOMENTS] [--svg FILE]' >&2
@@ -42,12 +43,14 @@ take_moment() {
     fi
     "$tools/join.py" --samples "$scratch/$1"/thread-*.json > "$scratch/$1.json" || return 1
     rm -r "${scratch:?}/$1"
-    "$unwind_cli" fold < "$scratch/$1.json" > "$scratch/$1.folded" || fail "$(tail -1 "$scratch/$1.folded")"
+    "$unwind_cli" fold < "$scratch/$1.json" > "$scratch/$1.folded" \
+        || fail "$unwind_cli ended with status $?: $(tail -1 "$scratch/$1.folded")"
     pairs+=("$scratch/$1.folded" "$scratch/$1.json")
 }
 
 read_words "$@"
 [ -x "$unwind_cli" ] || fail "$unwind_cli isn't built: run \`rt run < stdin\` in crates/unwind_cli"
+type -P gdb > /dev/null || fail "gdb isn't installed (Debian: gdb)"
 scratch=$(mktemp -d)
 trap 'rm -rf "$scratch"' EXIT
 pairs=()
