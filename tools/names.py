@@ -18,7 +18,7 @@ lives).
     #4 <signal handler called>
 
 The last line is why there are no more frames, unless the last one is the outermost. Where the snapshot says that code has no
-frame table, a frame that was guessed from it is marked so, and the last line names the file. Other tools ask `names_of`.
+frame table, the frames end there, and the last line names the file. Other tools ask `names_of`.
 """
 from __future__ import annotations
 
@@ -176,15 +176,16 @@ def with_reason(line: str, found: Object) -> str:
     return f"{line}: {reason}" if reason else line
 
 
-def marked_guesses(frames: list[ReportedFrame], found: Object) -> list[ReportedFrame]:
-    """The frames, with the second marked as a guess where the first stands in code without a table: the word at the stack
-    pointer is a return address at a function's first instruction, as after a call through a null pointer, and seldom else."""
-    if len(frames) < 2 or frames[1].note != GUESSED:
-        return frames
-    reason = why_without_table(found, frames[0].address)
-    note = f" (a guess, the word at the stack pointer: {reason})" if reason else GUESSED
-    second = ReportedFrame(frames[1].counter, frames[1].address, frames[1].is_signal, note)
-    return [frames[0], second, *frames[2:]]
+def without_guess(report: str, found: Object, interrupted: bool) -> str:
+    """A report that ends with its first frame where that stands in code without a table. The second was guessed: the word at
+    the stack pointer is a return address after a call through a null pointer, and in code it is one at a function's first
+    instruction alone."""
+    lines = report.splitlines(keepends=True)
+    if len(lines) < 2 or not lines[1].rstrip("\n").endswith(GUESSED):
+        return report
+    (first,) = reported_frames(lines[0], interrupted, [])
+    reason = why_without_table(found, first.address)
+    return f"{lines[0]}end: no module holds {first.address:#018x}\n" if reason else report
 
 
 # ---- the backtrace
@@ -226,10 +227,13 @@ def program_of(found: Object, modules: list[Module]) -> str:
 
 def backtraces(report: str, found: Object, files: list[str]) -> Iterator[list[str]]:
     """The lines of each thread's backtrace. All names are asked for at once."""
-    modules, trampolines, parts = modules_of(found), trampolines_of(found), parts_of(report)
+    modules, trampolines = modules_of(found), trampolines_of(found)
+    parts = [
+        Part(part.head, without_guess(part.text, found, starts_interrupted(found, index)))
+        for index, part in enumerate(parts_of(report))
+    ]
     framed = [
-        marked_guesses(reported_frames(part.text, starts_interrupted(found, index), trampolines), found)
-        for index, part in enumerate(parts)
+        reported_frames(part.text, starts_interrupted(found, index), trampolines) for index, part in enumerate(parts)
     ]
     symbols = all_symbols([frame for frames in framed for frame in frames], modules, files)
     program = program_of(found, modules)

@@ -21,15 +21,15 @@ import sys
 from typing import Iterator, NamedTuple
 
 from core import (
-    FAULTS, Loaded, Taken, WithoutTable, biases_of, modules_at, object_of, points_into, program_name, stacks_of,
-    system_modules, text_path, words_of,
+    FAULTS, Loaded, Taken, WithoutTable, biases_of, interrupted_pointers, modules_at, object_of, points_into, program_name,
+    stacks_of, system_modules, text_path, words_of,
 )
 from core_image import Mapped, Thread
 from elf_image import ElfImage, Range, Refused
 from loaded_module import module_objects
 from names import backtrace
 from process_image import DELETED, Process, registers_of, stopped, thread_name
-from snapshot_file import MOST_BYTES, MOST_STATES, Object, region_object
+from snapshot_file import MOST_BYTES, MOST_STATES, Object, Region, region_object
 from symbols import has_symbolizer
 
 CRATES = os.path.join(os.path.dirname(os.path.realpath(__file__)), "..", "crates")
@@ -132,15 +132,27 @@ def short_text(found: Object) -> bytes:
 
 def snapshot_of(taken: Taken, thread: Thread) -> Object:
     """What `backtrace` reads of one thread."""
+    stacks = stacks_under(taken.stacks, thread.rsp)
     return {
-        "regions": [
-            *(region_object(one.table) for one in taken.loaded), *(region_object(stack) for stack in taken.stacks),
-        ],
+        "regions": [*(region_object(one.table) for one in taken.loaded), *map(region_object, stacks)],
         "modules": module_entries(taken),
         "start": {name: f"{value:#x}" for name, value in registers_of(thread).items()},
         "limit": MOST_STATES,
         "interrupted": True,
     }
+
+
+def stacks_under(stacks: list[Region], pointer: int) -> list[Region]:
+    """Of the stacks that on which a pointer stands, and those on which the code stood that signals interrupted there."""
+    found: list[Region] = []
+    pointers = [pointer]
+    while pointers:
+        here = pointers.pop()
+        stack = next((stack for stack in stacks if here < stack.end), None)
+        if stack is not None and stack not in found:
+            found.append(stack)
+            pointers += interrupted_pointers(stack.content)
+    return found
 
 
 def module_entries(taken: Taken) -> list[Object]:

@@ -34,6 +34,11 @@ REGISTERS = "r15 r14 r13 r12 rbp rbx r11 r10 r9 r8 rax rcx rdx rsi rdi orig_rax 
 # So long a thread is waited for: one that waits in the kernel for a device, or for its vfork's child, doesn't stop before.
 SECONDS_TO_STOP = 2.0
 
+# A stack may be a small part of a mapping, as those that a runtime puts into its heap. So much is taken of one then, from its
+# pointer on: of a mapping that is neither the first thread's stack nor has a thread's own block.
+MOST_OF_A_HEAP = 2**18
+FIRST_STACK = "[stack]"
+
 MAPPING_LINE = re.compile(r"([0-9a-f]+)-([0-9a-f]+) ([-r])([-w])([-x])[ps] ([0-9a-f]+) \S+ \d+ *(.*)")
 # How /proc/PID/maps ends the name of a deleted file; and mappings of the system whose memory isn't the process's to read.
 DELETED = " (deleted)"
@@ -197,6 +202,11 @@ def mapping_of(line: str) -> Mapping | None:
     return Mapping(place, readable == "r", executable == "x", int(offset, 16), file.replace("\\012", "\n"))
 
 
+def is_file(name: str) -> bool:
+    """Whether a mapping's name is that of a file on a disk."""
+    return name.startswith("/") and not name.startswith("/memfd:")
+
+
 def mappings_of(process: int) -> list[Mapping]:
     """What is mapped in a process."""
     with open(f"/proc/{process}/maps", encoding="utf-8", errors="surrogateescape") as stream:
@@ -219,6 +229,10 @@ class Process(Core):
         self.note_ranges: list[Range] = []
         self.notes = [auxiliary_note(number)]
         self.notes += [status_note(thread, tracer.registers(thread)) for thread in sorted_threads(number, tracer)]
+        self.stack_starts = {
+            mapping.place.start for mapping in self.mappings
+            if mapping.file == FIRST_STACK or any(mapping.place.contains(thread.fs_base or 0) for thread in self.threads())
+        }
         self.size = self.end = 0
         self.memory = os.open(f"/proc/{number}/mem", os.O_RDONLY | os.O_CLOEXEC)
 
@@ -236,11 +250,19 @@ class Process(Core):
             left -= len(part)
         return b"".join(parts)
 
+    def memory_from(self, address: int) -> Memory | None:
+        """The memory above a stack pointer: no more than a part of what may be a heap."""
+        found = super().memory_from(address)
+        if found is None or found.address in self.stack_starts:
+            return found
+        size = min(found.present, max(address - found.address, 0) + MOST_OF_A_HEAP)
+        return Memory(found.address, found.offset, size, size, size)
+
     def mapped(self) -> list[Mapped]:
-        """The parts of files that are mapped."""
+        """The parts of files that are mapped, of those with code."""
+        with_code = {mapping.file for mapping in self.mappings if mapping.executable and is_file(mapping.file)}
         return [
-            Mapped(mapping.place, mapping.offset, mapping.file)
-            for mapping in self.mappings if mapping.file.startswith("/") and not mapping.file.startswith("/memfd:")
+            Mapped(mapping.place, mapping.offset, mapping.file) for mapping in self.mappings if mapping.file in with_code
         ]
 
     def threads(self) -> list[Thread]:

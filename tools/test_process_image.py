@@ -12,11 +12,12 @@ from unittest import mock
 
 import process_backtrace
 import process_status
+from core_image import Mapped, Memory, thread_of
 from elf_image import Range, Refused
-from process_backtrace import Answer, Programs, Taken, by_file, process_of, reports_of, run
-from core_image import Mapped, thread_of
-from process_image import Mapping, mapping_of, registers_of, status_note, stopped
+from process_backtrace import Answer, Programs, Taken, by_file, process_of, reports_of, run, stacks_under
+from process_image import Mapping, Process, mapping_of, registers_of, status_note, stopped
 from process_status import why_no_process, why_untraced
+from snapshot_file import Region
 
 # A program that waits, with two threads and a word that is known in its memory.
 WAITING = """
@@ -162,6 +163,24 @@ class PartsTest(unittest.TestCase):
         self.assertEqual((thread.number, thread.rip, thread.rsp, thread.fs_base), (77, 0x401006, 0x7004, 0x7008))
         self.assertEqual(registers_of(thread)["rbx"], 0xB)
         self.assertEqual((len(note.description), len(note.text)), (336, 12 + 8 + 336))
+
+    def test_stacks_of_one_thread(self) -> None:
+        """By `struct sigcontext_64`: the interrupted RSP, 24 bytes before the segments of user space."""
+        signal_frame = bytes(8) + (0x9010).to_bytes(8, "little") + bytes(16) + bytes.fromhex("3300000000002b00")
+        first, other, third = Region(0x7000, bytes(8) + signal_frame), Region(0x8000, bytes(64)), Region(0x9000, bytes(64))
+        self.assertEqual(stacks_under([first, other, third], 0x7008), [first, third])
+        self.assertEqual(stacks_under([first, other, third], 0x7FF0), [other])
+        self.assertEqual(stacks_under([first], 0x9000), [])
+
+    def test_a_part_of_a_heap(self) -> None:
+        """A stack pointer in a mapping that may be a heap: so much above it, and no more."""
+        process = object.__new__(Process)
+        process.memories = [Memory(0x10000, 0x10000, 2**24, 2**24, 2**24), Memory(2**32, 2**32, 2**24, 2**24, 2**24)]
+        process.starts, process.stack_starts = [0x10000, 2**32], {2**32}
+        found = process.memory_from(0x20000)
+        self.assertEqual(found and found.place, Range(0x10000, 0x20000 + 2**18))
+        found = process.memory_from(2**32 + 5)
+        self.assertEqual(found and found.place, Range(2**32, 2**32 + 2**24))
 
     def test_the_programs_parts_come_first(self) -> None:
         parts = [Mapped(Range(0, 1), 0, "/lib/a"), Mapped(Range(1, 2), 0, "/bin/b"), Mapped(Range(2, 3), 1, "/lib/a")]
