@@ -1,7 +1,7 @@
 #!/usr/bin/env bash
 # Prints the backtrace of a process or a core.
 #
-#   backtrace.sh PID [--threads]
+#   backtrace.sh PID [--threads] [--frame-pointers]
 #   backtrace.sh PROGRAM CORE [--threads]
 #
 # No debugger is asked. process_backtrace.py stops the process and reads its stacks, core_backtrace.py reads a core; the
@@ -11,7 +11,7 @@ set -uo pipefail
 tools=$(dirname "$(readlink -f "${BASH_SOURCE[0]}")")
 
 usage() {
-    echo 'usage: backtrace.sh PID [--threads] | PROGRAM CORE [--threads]' >&2
+    echo 'usage: backtrace.sh PID [--threads] [--frame-pointers] | PROGRAM CORE [--threads]' >&2
     exit 2
 }
 
@@ -28,14 +28,14 @@ python=/usr/bin/python3
 [ -x "$python" ] || python=python3
 export BACKTRACE=${BACKTRACE:-$(built backtrace)} UNWIND_CLI=${UNWIND_CLI:-$(built unwind_cli)}
 
-threads=
-if [ $# -gt 1 ] && [ "${*: -1}" = --threads ]; then
-    threads=--threads
+options=()
+while [ $# -gt 1 ] && [[ ${*: -1} == --threads || ${*: -1} == --frame-pointers ]]; do
+    options+=("${*: -1}")
     set -- "${@:1:$#-1}"
-fi
-case $#:${1:-} in
-    1:*[!0-9]* | 1:) usage ;;
-    1:*) exec "$python" -S "$tools/process_backtrace.py" "$1" $threads ;;
-    2:*) exec "$python" -S "$tools/core_backtrace.py" "$1" "$2" $threads --unwind-cli "$UNWIND_CLI" ;;
+done
+case $#:${1:-}:${options[*]} in
+    1:*[!0-9]*:* | 1::* | 2:*frame-pointers*) usage ;;
+    1:*) exec "$python" -S "$tools/process_backtrace.py" "$1" "${options[@]}" ;;
+    2:*) exec "$python" -S "$tools/core_backtrace.py" "$1" "$2" "${options[@]}" --unwind-cli "$UNWIND_CLI" ;;
     *) usage ;;
 esac

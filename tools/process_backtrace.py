@@ -1,12 +1,16 @@
 #!/usr/bin/env python3
 """Prints the backtraces of a process: of one thread, or of all of them.
 
-    process_backtrace.py PID [--threads] [--backtrace PROGRAM] [--unwind-cli PROGRAM]
+    process_backtrace.py PID [--threads] [--frame-pointers] [--backtrace PROGRAM] [--unwind-cli PROGRAM]
 
 The process is stopped (process_image.py) while its stacks are read, and goes on while they are walked and named. All threads
 are walked in one run of `unwind_cli core`, over a core file that is made of them. A thread whose walk doesn't come to the
 outermost frame is walked once more by `backtrace`, which has the frames up to there and says why there are no more. All
 frames are named at once. Where one of the two programs isn't built, the other does all.
+
+With --frame-pointers a backtrace that ends in code without a table, or in a function that its file's table doesn't describe,
+goes on from there by RBP: where that is kept as a frame pointer, the word above it is the return address. Such a frame is
+marked as a guess, and from it on tables count again.
 
 PID is a process, or one of its threads. Lines on standard error say what is missing.
 """
@@ -33,7 +37,7 @@ from snapshot_file import MOST_BYTES, MOST_STATES, Object, Region, region_object
 from symbols import has_symbolizer
 
 CRATES = os.path.join(os.path.dirname(os.path.realpath(__file__)), "..", "crates")
-USAGE = "usage: process_backtrace.py PID [--threads] [--backtrace PROGRAM] [--unwind-cli PROGRAM]"
+USAGE = "usage: process_backtrace.py PID [--threads] [--frame-pointers] [--backtrace PROGRAM] [--unwind-cli PROGRAM]"
 
 # What a mapping that no file has is called: nothing, or of a compiler at run time that maps its code twice so.
 OF_NO_FILE = re.compile(r"^$|^/memfd:|^\[anon")
@@ -130,15 +134,15 @@ def short_text(found: Object) -> bytes:
     return text
 
 
-def snapshot_of(taken: Taken, thread: Thread) -> Object:
-    """What `backtrace` reads of one thread."""
-    stacks = stacks_under(taken.stacks, thread.rsp)
+def snapshot_of(taken: Taken, registers: dict[str, int], interrupted: bool = True) -> Object:
+    """What `backtrace` reads of one thread, by the registers of its innermost frame or of an outer one."""
+    stacks = stacks_under(taken.stacks, registers["rsp"])
     return {
         "regions": [*(region_object(one.table) for one in taken.loaded), *map(region_object, stacks)],
         "modules": module_entries(taken),
-        "start": {name: f"{value:#x}" for name, value in registers_of(thread).items()},
+        "start": {name: f"{value:#x}" for name, value in registers.items()},
         "limit": MOST_STATES,
-        "interrupted": True,
+        "interrupted": interrupted,
     }
 
 
@@ -216,15 +220,94 @@ def answers_of(taken: Taken, programs: Programs) -> list[Answer]:
     for index, thread in enumerate(taken.threads):
         answer = walks[index] if walks else Answer("", "no walk")
         if programs.backtrace is not None and not is_whole(answer):
-            again = run([programs.backtrace], short_text(snapshot_of(taken, thread)))
+            again = run([programs.backtrace], short_text(snapshot_of(taken, registers_of(thread))))
             answer = again if again.fault is None or answer.fault is not None else answer
         found.append(answer)
     return found
 
 
-def reports_of(taken: Taken, programs: Programs) -> list[str]:
-    """The report of each thread, or the line that says why there is none. Refuses where there is none of any thread."""
+# ---- frame pointers
+
+# A frame of `backtrace --registers`, and why there are no more.
+REGISTERS_LINE = re.compile(r"^#\d+ +(0x[0-9a-f]+)\b(.*?) sp=(0x[0-9a-f]+)((?: \w+=0x[0-9a-f]+)+)$", re.MULTILINE)
+NO_TABLE = re.compile(r"end: no module holds (0x[0-9a-f]+)|end: no description of 0x[0-9a-f]+ in \S+")
+BY_POINTER = " (a guess, by the frame pointer)"
+
+
+def word_at(stacks: list[Region], address: int) -> int | None:
+    """A word of a stack."""
+    for stack in stacks:
+        if stack.start <= address and address + 8 <= stack.end:
+            return int.from_bytes(stack.content[address - stack.start :][:8], "little")
+    return None
+
+
+def caller_by_pointer(stacks: list[Region], registers: dict[str, int]) -> dict[str, int] | None:
+    """The registers of a frame's caller, where RBP points to the caller's RBP and the return address above it."""
+    pointer = registers["rbp"]
+    outer, back = word_at(stacks, pointer), word_at(stacks, pointer + 8)
+    if outer is None or not back or pointer < registers["rsp"] or pointer % 8 != 0:
+        return None
+    return registers | {"rip": back, "rsp": pointer + 16, "rbp": outer}
+
+
+def frames_of(report: str) -> list[tuple[dict[str, int], str]]:
+    """The frames of a report with registers: these, and what is said of each."""
+    found = []
+    for address, said, pointer, kept in REGISTERS_LINE.findall(report):
+        words = {name: int(value, 16) for name, value in (field.split("=") for field in kept.split())}
+        note = re.search(r" \([^()]*\)$", said)
+        found.append((words | {"rip": int(address, 16), "rsp": int(pointer, 16)}, note[0] if note else ""))
+    return found
+
+
+def is_code(code: list[Object], address: int) -> bool:
+    """Whether an address lies in code without a table."""
+    return any(int(entry["start"], 16) <= address < int(entry["end"], 16) for entry in code)
+
+
+def frame_lines(frames: list[tuple[dict[str, int], str]], first: int, note: str) -> list[str]:
+    """The lines of frames without registers, of which the first has this number and this note."""
+    return [
+        f"#{first + index}  {here['rip']:#018x}{said if index else note}\n" for index, (here, said) in enumerate(frames)
+    ]
+
+
+def by_pointers(taken: Taken, thread: Thread, program: str, code: list[Object]) -> Answer:
+    """The report of a thread by tables and, in code without a table, by frame pointers."""
+    registers, interrupted, lines = registers_of(thread), True, []
+    stacks = stacks_under(taken.stacks, thread.rsp)
+    while True:
+        answer = run([program, "--registers"], short_text(snapshot_of(taken, registers, interrupted)))
+        frames = frames_of(answer.text)
+        if answer.fault is not None or not frames:
+            return Answer("".join([*lines, f"{answer.fault}\n"]), None if lines else answer.fault)
+        last = answer.text.splitlines()[-1]
+        if interrupted and is_code(code, registers["rip"]):
+            frames, last = frames[:1], f"end: no module holds {registers['rip']:#018x}"
+        lines += frame_lines(frames, len(lines), "" if interrupted else BY_POINTER)
+        match = NO_TABLE.fullmatch(last)
+        in_code = match is not None and (match[1] is None or is_code(code, int(match[1], 16)))
+        caller = caller_by_pointer(stacks, frames[-1][0]) if in_code else None
+        if caller is None or not is_known_code(taken, code, caller["rip"] - 1):
+            return Answer("".join([*lines, f"{last}\n"]))
+        registers, interrupted = caller, False
+
+
+def is_known_code(taken: Taken, code: list[Object], address: int) -> bool:
+    """Whether an address lies in code at all."""
+    return is_code(code, address) or any(place.contains(address) for one in taken.loaded for place in one.module.code)
+
+
+def reports_of(taken: Taken, programs: Programs, code: list[Object] | None = None) -> list[str]:
+    """The report of each thread, or the line that says why there is none. Refuses where there is none of any thread. With
+    `code`, frame pointers count there."""
     answers = answers_of(taken, programs)
+    if code is not None and programs.backtrace is not None:
+        answers = [
+            answer if is_whole(answer) else by_pointers(taken, thread, programs.backtrace, code)
+            for thread, answer in zip(taken.threads, answers)
+        ]
     faults = [answer.fault for answer in answers if answer.fault is not None]
     if faults and len(faults) == len(answers):
         raise Refused(faults[0])
@@ -263,13 +346,13 @@ def process_of(number: int) -> int:
         return number
 
 
-def printed(number: int, all_threads: bool, programs: Programs) -> str:
+def printed(number: int, all_threads: bool, frame_pointers: bool, programs: Programs) -> str:
     """The backtraces."""
     with stopped(process_of(number)) as process:
         threads = asked_threads(process, number, all_threads)
         heads = [f"Thread {thread.number} {thread_name(process.number, thread.number)}:" for thread in threads]
         taken, code = taken_of(process, threads)
-    reports = reports_of(taken, programs)
+    reports = reports_of(taken, programs, code if frame_pointers else None)
     if all_threads:
         reports = [f"{head}\n{report}" for head, report in zip(heads, reports)]
     if not has_symbolizer():
@@ -278,16 +361,17 @@ def printed(number: int, all_threads: bool, programs: Programs) -> str:
 
 
 class Options(NamedTuple):
-    """What the words ask for: a process or a thread, whether all threads, and which programs."""
+    """What the words ask for: a process or a thread, whether all threads, whether frame pointers count, and which programs."""
 
     number: int
     all_threads: bool
+    frame_pointers: bool
     programs: Programs
 
 
 def read_words(words: list[str]) -> Options:
     """The words. (`argparse` takes as long to load as all the rest.)"""
-    left = [word for word in words if word != "--threads"]
+    left = [word for word in words if word not in ("--threads", "--frame-pointers")]
     paths = {name: os.environ.get(name.upper()) or built_path(name) for name in Programs._fields}
     for name in Programs._fields:
         option = f"--{name.replace('_', '-')}"
@@ -300,7 +384,7 @@ def read_words(words: list[str]) -> Options:
     there = Programs(*(path if os.access(path, os.X_OK) else None for path in paths.values()))
     if there == Programs(None, None):
         raise Refused(f"{paths['backtrace']} isn't built: run `rt run < stdin` in crates/backtrace")
-    return Options(int(left[0]), "--threads" in words, there)
+    return Options(int(left[0]), "--threads" in words, "--frame-pointers" in words, there)
 
 
 def built_path(name: str) -> str:

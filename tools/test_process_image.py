@@ -1,6 +1,7 @@
 """Tests of process_image.py, process_status.py and process_backtrace.py: processes that are started here."""
 from __future__ import annotations
 
+import json
 import os
 import pathlib
 import subprocess
@@ -12,12 +13,14 @@ from unittest import mock
 
 import process_backtrace
 import process_status
+from core import Loaded
 from core_image import Mapped, Memory, thread_of
 from elf_image import Range, Refused
+from loaded_module import Module
 from process_backtrace import Answer, Programs, Taken, by_file, process_of, reports_of, run, stacks_under
 from process_image import Mapping, Process, mapping_of, registers_of, status_note, stopped
 from process_status import why_no_process, why_untraced
-from snapshot_file import Region
+from snapshot_file import Object, Region
 
 # A program that waits, with two threads and a word that is known in its memory.
 WAITING = """
@@ -202,6 +205,34 @@ class PartsTest(unittest.TestCase):
             self.assertEqual(reports_of(taken, Programs(None, "unwind_cli")), walks)
             self.assertEqual(reports_of(taken, Programs("backtrace", None)), [again] * 3)
             self.assertEqual(reports_of(Taken(threads[:1], [], []), Programs("backtrace", "unwind_cli")), [again])
+
+    def test_frame_pointers(self) -> None:
+        """A stop in code without a table, whose caller is found by RBP, and that one's by its table."""
+        words = {0x7010: 0x7030, 0x7018: 0x401006, 0x7030: 0x7050, 0x7038: 0x9999}
+        content = b"".join(words.get(address, 0).to_bytes(8, "little") for address in range(0x7000, 0x7080, 8))
+        registers = {16: 0x900010, 19: 0x7008, 4: 0x7010}
+        thread = thread_of(status_note(1, b"".join(registers.get(index, 0).to_bytes(8, "little") for index in range(27))))
+        module = Module("/bin/a", 0, None, [Range(0x401000, 0x402000)], Range(0, 0), None, [], [])
+        taken = Taken([thread], [Region(0x7000, content)], [Loaded(module, Region(0x500000, bytes(4)))])
+        code: list[Object] = [{"start": "0x900000", "end": "0x901000"}]
+        texts: list[Object] = []
+
+        def answer(_words: list[str], text: bytes) -> Answer:
+            texts.append(json.loads(text))
+            kept = "rbx=0x0 rbp={} r12=0x0 r13=0x0 r14=0x0 r15=0x0"
+            if len(texts) <= 2:
+                return Answer(f"#0  0x0000000000900010 sp=0x7008 {kept.format('0x7010')}\n"
+                              f"#1  0x0000000000000007 (return address on the stack) sp=0x7010 {kept.format('0x0')}\n"
+                              "end: no module holds 0x0000000000000006\n")
+            return Answer(f"#0  0x0000000000401006 in a+0x401006 sp=0x7020 {kept.format('0x7030')}\n"
+                          f"#1  0x0000000000900020 sp=0x7028 {kept.format('0x7030')}\nend: no module holds 0x000000000090001f\n")
+
+        with mock.patch.object(process_backtrace, "run", answer):
+            (report,) = reports_of(taken, Programs("backtrace", None), code)
+        self.assertEqual(report, "#0  0x0000000000900010\n#1  0x0000000000401006 (a guess, by the frame pointer)\n"
+                                 "#2  0x0000000000900020\nend: no module holds 0x000000000090001f\n")
+        self.assertEqual([text["interrupted"] for text in texts[1:]], [True, False])
+        self.assertEqual([texts[2]["start"][name] for name in ("rip", "rsp", "rbp")], ["0x401006", "0x7020", "0x7030"])
 
     def test_programs_that_fail(self) -> None:
         """What a program says stands in the line, also where it ends before it has read anything."""
