@@ -217,8 +217,10 @@ class Process(Core):
     """A stopped process, with all that a core says. Its memory is that of the process, read where it is asked."""
 
     def __init__(self, number: int, tracer: Tracer) -> None:
-        """Reads what is mapped, and the registers. (There is no file, and so no header to read.)"""
-        self.number = number
+        """Reads what is mapped, and the registers. (There is no file, and so no header to read.) The system says it by the
+        number of a thread that is there: the first may have ended."""
+        numbers = sorted_threads(number, tracer)
+        number = self.number = numbers[0]
         self.mappings = mappings_of(number)
         self.memories = [
             Memory(place.start, place.start, size, size, size)
@@ -228,7 +230,7 @@ class Process(Core):
         self.starts = [memory.address for memory in self.memories]
         self.note_ranges: list[Range] = []
         self.notes = [auxiliary_note(number)]
-        self.notes += [status_note(thread, tracer.registers(thread)) for thread in sorted_threads(number, tracer)]
+        self.notes += [status_note(thread, tracer.registers(thread)) for thread in numbers]
         self.stack_starts = {
             mapping.place.start for mapping in self.mappings
             if mapping.file == FIRST_STACK or any(mapping.place.contains(thread.fs_base or 0) for thread in self.threads())
@@ -303,5 +305,7 @@ def stopped(number: int) -> Iterator[Process]:
             process.close()
     except PermissionError:
         raise Refused(why_no_process(number))
+    except ProcessLookupError:
+        raise Refused(f"the process {number} has ended meanwhile")
     finally:
         tracer.let_go()

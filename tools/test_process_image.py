@@ -94,6 +94,22 @@ class StoppedTest(unittest.TestCase):
                     pass
             self.assertEqual(process_of(number), number)
 
+    def test_the_first_thread_may_have_ended(self) -> None:
+        program = WAITING.replace("daemon=True", "daemon=False").replace(
+            "sys.stdin.read()", "ctypes.CDLL(None).pthread_exit(None)"
+        )
+        child = subprocess.Popen([sys.executable, "-c", program], stdout=subprocess.PIPE)
+        try:
+            while "Z (zombie)" not in pathlib.Path(f"/proc/{child.pid}/status").read_text("ascii"):
+                time.sleep(0.01)
+            with stopped(child.pid) as process:
+                (thread,) = process.threads()
+                self.assertNotEqual(thread.number, child.pid)
+                self.assertIsNotNone(process.memory_at(thread.rsp))
+        finally:
+            child.kill()
+            child.communicate()
+
     def test_one_tracer_at_a_time(self) -> None:
         with Waiting() as (number, _address), stopped(number), self.assertRaises(Refused) as refused:
             with stopped(number):
