@@ -5,7 +5,6 @@ use Rattle.frame_rows.specs.InstructionViews.{coding_in}
 use Rattle.frame_rows.specs.KnownRows.{AreKnown}
 use Rattle.frame_rows.specs.Running.{IsEndOf}
 use Rattle.frame_rows.specs.declared.begun.BegunProgram.{BegunProgram}
-use Rattle.frame_rows.proofs.Serving.{blank_known}
 use Rattle.frame_rows.proofs.Together.{common_ended}
 use Rattle.frame_rows.proofs.row_table_builder.RowTableBuilder.begin.Goals as goal
 
