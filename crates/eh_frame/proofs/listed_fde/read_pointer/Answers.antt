@@ -1,6 +1,6 @@
 use Rattle.std.proofs.Common.{◌≡◌, Some, arith}
 use Rattle.std.proofs.lemmas.Result.{err_from_is_err_and}
-use Rattle.unwind_definitions.specs.Pointers.{Bases, pointer}
+use Rattle.unwind_definitions.specs.Pointers.{Bases}
 use Rattle.encoded_pointers.specs.PointerViews.{bases_of}
 use Rattle.eh_frame.proofs.listed_fde.read_pointer.Goals as goal
 
