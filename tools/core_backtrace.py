@@ -13,7 +13,7 @@ import os
 import signal
 import subprocess
 import sys
-from typing import NamedTuple
+from typing import NamedTuple, NoReturn
 
 from core import FAULTS, Source, Taken, check_program, object_of, opened_core, system_image, taken_of
 from core_image import Core
@@ -38,18 +38,24 @@ class Options(NamedTuple):
     root: str
 
 
+def usage() -> NoReturn:
+    """Ends the program with its words."""
+    print(USAGE, file=sys.stderr)
+    sys.exit(2)
+
+
 def read_words(words: list[str]) -> Options:
-    """The words. (`argparse` takes as long to load as all the rest.)"""
+    """The words. (`argparse` would do, and takes a quarter of the time in which all else is loaded.)"""
     left = [word for word in words if word != "--threads"]
     values = {"--unwind-cli": os.environ.get("UNWIND_CLI", UNWIND_CLI), "--root": ""}
     for option in values.keys() & set(left):
         index = left.index(option)
         if index + 1 == len(left):
-            sys.exit(USAGE)
+            usage()
         values[option] = left[index + 1]
         del left[index : index + 2]
     if len(left) != 2 or any(word.startswith("--") for word in left):
-        sys.exit(USAGE)
+        usage()
     return Options(left[0], left[1], "--threads" in words, values["--unwind-cli"], values["--root"])
 
 
