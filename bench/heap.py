@@ -23,9 +23,8 @@ def main() -> None:
     if len(sys.argv) != 3:
         sys.exit(__doc__)
     before, whole = (snapshots(name) for name in sys.argv[1:])
-    begin = before[-1][0]
-    # the last snapshots of a run are of its end, where all is let go
-    held = max(size for _, size in before[-4:])
+    # the last snapshot of a run is of its end
+    begin, held = before[-1]
     print(max(size for time, size in whole if time >= begin) - held)
 
 
