@@ -1,14 +1,14 @@
 // A section that was parsed.
-ghost use Rattle.std.specs.Prelude.{◌≡◌, ◌↔◌, map, slice_index, slice_get, Ok, None};
-ghost use Rattle.std.specs.Prelude.{IsErr, IfErr, IsTrue, IsFalse, option_and_then};
+ghost use Rattle.std.specs.Prelude.{◌≡◌, ◌↔◌, map, slice_index, Ok, None};
+ghost use Rattle.std.specs.Prelude.{IsErr, IfErr, IsTrue, IsFalse};
 ghost use Rattle.macho_unwind_info.specs.Listing.{section_of, listing};
 ghost use Rattle.macho_unwind_info.specs.Described.{HasDescribedPages, IsInRange, IsOutside};
 ghost use Rattle.macho_unwind_info.specs.Described.{FindsListed, FindsEachListed, LieEndToEnd};
 ghost use Rattle.macho_unwind_info.specs.Lookup.{range_start, range_end, IsLookup, lookup_of};
 ghost use Rattle.macho_unwind_info.specs.Lookup.{first_address};
 ghost use Rattle.macho_unwind_info.specs.LanguageTables.{personalities_of, LacksPersonalities};
-ghost use Rattle.macho_unwind_info.specs.LanguageTables.{has_language_table, offset_for};
-ghost use Rattle.macho_unwind_info.specs.LanguageTables.{offset_among, table_at, lsda_of};
+ghost use Rattle.macho_unwind_info.specs.LanguageTables.{has_language_table, offset_among};
+ghost use Rattle.macho_unwind_info.specs.LanguageTables.{table_at, lsda_of};
 ghost use Rattle.macho_unwind_info.specs.LanguageTables.{LacksTables, HasDescribedTables};
 ghost use Rattle.macho_unwind_info.specs.LanguageTables.{listed_table};
 ghost use Rattle.macho_unwind_info.specs.declared.error.Error.TheVariants as errors;

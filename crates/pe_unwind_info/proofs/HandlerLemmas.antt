@@ -1,5 +1,5 @@
 -- The handler that a record of a function names: record by record, and where the memory of the image is a function.
-use Rattle.std.proofs.Common.{◌≡◌, ℕ, zero, suc, ◌+◌, ◌-◌, ◌*◌, ◌%◌, ◌<◌, Bool, true, false, cond, ltb, List, [], ◌∷◌, length, take, drop, map, Option, Some, None, Result, Ok, Err, refl, sym, ap, subst, ◌∙◌, arith, inl, inr}
+use Rattle.std.proofs.Common.{◌≡◌, ℕ, zero, suc, ◌+◌, ◌-◌, ◌*◌, ◌%◌, ◌<◌, Bool, true, false, cond, ltb, List, [], ◌∷◌, length, take, drop, Option, Some, None, Result, Ok, Err, refl, sym, ap, subst, ◌∙◌, arith, inl, inr}
 use Rattle.std.specs.Prelude.{◌||◌, ◌⊎◌, ◌==◌}
 use Rattle.std.proofs.lemmas.List.{drop-drop}
 use Rattle.pe_unwind_info.specs.declared.x86_64.fault.FrameFault.{FrameFault}
@@ -15,7 +15,7 @@ use Rattle.pe_unwind_info.specs.FrameOf.{Image}
 use Rattle.pe_unwind_info.specs.Chain.{with_first, then_chain, chain_of}
 use Rattle.pe_unwind_info.specs.Epilog.{result_map}
 use Rattle.pe_unwind_info.specs.HandlerData.{names_handler, data_offset}
-use Rattle.pe_unwind_info.specs.Handlers.{OwnRecord, handler_if_named, with_own, then_records, records_of, handler_among, handler_of, Naming, Answers, GoesOn, naming_of, ByNaming, IsNamed, IsHandler, first_naming, infos_of, handler_named, handler_or_fault, IsNamedBy, NamesNone, HasHandler, HasFault}
+use Rattle.pe_unwind_info.specs.Handlers.{OwnRecord, handler_if_named, with_own, then_records, records_of, handler_among, handler_of, Naming, Answers, GoesOn, naming_of, ByNaming, IsNamed, IsHandler, first_naming, infos_of, handler_named, handler_or_fault, NamesNone, HasHandler, HasFault}
 
 -- ---- record by record
 module _ (gives : ℕ → Option (List ℕ) → Type 0) where

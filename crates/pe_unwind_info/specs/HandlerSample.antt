@@ -1,5 +1,5 @@
 -- Unwind data of two functions, of which the first names a handler, and the second goes on with the first one's record.
-use Rattle.std.specs.Prelude.{ℕ, List, [], ◌∷◌, ◌++◌, take, Option, Some, None, ◌==◌, if◌then◌else◌}
+use Rattle.std.specs.Prelude.{ℕ, List, [], ◌∷◌, take, Some, None, ◌==◌, if◌then◌else◌}
 use Rattle.pe_unwind_info.specs.declared.x86_64.function_table.RuntimeFunction.{RuntimeFunction}
 use Rattle.pe_unwind_info.specs.declared.x86_64.handler.Handler.{Handler}
 use Rattle.pe_unwind_info.specs.FrameOf.{Image}

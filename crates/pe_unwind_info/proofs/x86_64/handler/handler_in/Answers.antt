@@ -1,4 +1,4 @@
-use Rattle.std.proofs.Common.{rules, ◌≡◌, ◌-◌, ◌+◌, ◌<◌, Ok, Err, Some, refl, sym, ◌∙◌, arith}
+use Rattle.std.proofs.Common.{rules, ◌≡◌, ◌-◌, ◌+◌, ◌<◌, Ok, Some, refl, sym, ◌∙◌, arith}
 use Rattle.pe_unwind_info.specs.Handlers.{Answers, GoesOn, naming_end}
 use Rattle.pe_unwind_info.proofs.HandlerLemmas.{named_none, named_limit, named_goes, named_answers, read_as}
 use Rattle.pe_unwind_info.proofs.x86_64.handler.handler_in.Goals as goal

@@ -1,4 +1,4 @@
-use Rattle.std.proofs.Common.{◌≡◌, ◌-◌, Option, Result}
+use Rattle.std.proofs.Common.{◌-◌, Option, Result}
 use Rattle.std.specs.Option.{option_map}
 use Rattle.pe_unwind_info.specs.declared.x86_64.fault.FrameFault.{FrameFault}
 use Rattle.pe_unwind_info.specs.declared.x86_64.handler.Handler.{Handler}
