@@ -25,19 +25,47 @@ const CHAINED: &[u8] = &[
 // It names nothing.
 const PLAIN: &[u8] = &[0x01, 0x00, 0x00, 0x00];
 
-// The record at an address, the first one with so many of its bytes.
-fn record_at(size: usize, rva: u32) -> Option<&'static [u8]> {
-    match rva {
-        0x2010 => Some(&NAMING[..size.min(NAMING.len())]),
-        0x2028 => Some(CHAINED),
-        0x2038 => Some(PLAIN),
-        _ => None,
-    }
+/// The memory of the first function's record, and that of the second one's.
+#[derive(Drop)]
+struct Mapped {
+    first: Option<&'static [u8]>,
+    second: Option<&'static [u8]>,
 }
 
-fn handler_at(size: usize, address: u32) -> Result<Option<Handler>, FrameFault> {
-    FunctionTableEntries::parse(TABLE).handler(|rva: u32| record_at(size, rva), address)
+fn handler_in(mapped: &Mapped, address: u32) -> Result<Option<Handler>, FrameFault> {
+    let memory_at_rva = |rva: u32| -> Option<&[u8]> {
+        if rva == 0x2010 {
+            mapped.first
+        } else if rva == 0x2028 {
+            mapped.second
+        } else {
+            Some(PLAIN)
+        }
+    };
+    FunctionTableEntries::parse(TABLE).handler(memory_at_rva, address)
 }
+
+// The same by the record that a look-up answers.
+fn handler_by(mapped: &Mapped, address: u32) -> Result<Option<Handler>, FrameFault> {
+    let memory_at_rva = |rva: u32| -> Option<&[u8]> {
+        if rva == 0x2010 {
+            mapped.first
+        } else if rva == 0x2028 {
+            mapped.second
+        } else {
+            Some(PLAIN)
+        }
+    };
+    handler_of_function(
+        FunctionTableEntries::parse(TABLE).lookup(address),
+        memory_at_rva,
+    )
+}
+
+const WHOLE: Mapped = Mapped {
+    first: Some(NAMING),
+    second: Some(CHAINED),
+};
 
 const HANDLER: Handler = Handler {
     begin: 0x1000,
@@ -47,31 +75,47 @@ const HANDLER: Handler = Handler {
 
 #[test]
 fn handlers_are_found(rt: HostRuntime) {
-    assert!(rt; handler_at(17, 0x100f) == Ok(Some(HANDLER)));
-    assert!(rt; handler_at(17, 0x1100) == Ok(Some(HANDLER)));
-    assert!(rt; handler_at(17, 0x1200) == Ok(None));
-    assert!(rt; handler_at(17, 0x1300) == Ok(None));
-    assert!(rt; handler_at(17, 0x0fff) == Ok(None));
+    assert!(rt; handler_in(&WHOLE, 0x100f) == Ok(Some(HANDLER)));
+    assert!(rt; handler_in(&WHOLE, 0x1100) == Ok(Some(HANDLER)));
+    assert!(rt; handler_in(&WHOLE, 0x1200) == Ok(None));
+    assert!(rt; handler_in(&WHOLE, 0x1300) == Ok(None));
+    assert!(rt; handler_in(&WHOLE, 0x0fff) == Ok(None));
+    assert!(rt; handler_by(&WHOLE, 0x100f) == Ok(Some(HANDLER)));
+}
+
+// The first record with so many of its bytes.
+fn cut_to(size: usize) -> Mapped {
+    Mapped {
+        first: Some(&NAMING[..size.min(NAMING.len())]),
+        second: Some(CHAINED),
+    }
 }
 
 #[test]
 fn cut_records_have_no_handler(rt: HostRuntime) {
     // The handler's address is cut, all after the header is, and the header is.
-    assert!(rt; handler_at(7, 0x100f) == Err(FrameFault::Info(0x2010)));
-    assert!(rt; handler_at(4, 0x1100) == Err(FrameFault::Info(0x2010)));
-    assert!(rt; handler_at(3, 0x100f) == Err(FrameFault::Info(0x2010)));
-    assert!(rt; handler_at(8, 0x100f) == Ok(Some(HANDLER)));
+    assert!(rt; handler_in(&cut_to(7), 0x100f) == Err(FrameFault::Info(0x2010)));
+    assert!(rt; handler_in(&cut_to(4), 0x1100) == Err(FrameFault::Info(0x2010)));
+    assert!(rt; handler_in(&cut_to(3), 0x100f) == Err(FrameFault::Info(0x2010)));
+    assert!(rt; handler_in(&cut_to(8), 0x100f) == Ok(Some(HANDLER)));
 }
+
+// No record is mapped.
+const UNMAPPED: Mapped = Mapped {
+    first: None,
+    second: None,
+};
+
+// The first function's record goes on with itself.
+const ENDLESS: Mapped = Mapped {
+    first: Some(CHAINED),
+    second: Some(CHAINED),
+};
 
 #[test]
 fn faults_of_handlers(rt: HostRuntime) {
-    let table = FunctionTableEntries::parse(TABLE);
-    let nothing = |_rva: u32| -> Option<&[u8]> { None };
-    assert!(rt; table.handler(nothing, 0x1100) == Err(FrameFault::Memory(0x2028)));
-    let endless = |_rva: u32| -> Option<&[u8]> { Some(CHAINED) };
-    assert!(rt; table.handler(endless, 0x1100) == Err(FrameFault::ChainLimit));
-    let memory = |rva: u32| -> Option<&[u8]> { record_at(17, rva) };
-    assert!(rt; handler_of_function(table.lookup(0x100f), memory) == Ok(Some(HANDLER)));
+    assert!(rt; handler_in(&UNMAPPED, 0x1100) == Err(FrameFault::Memory(0x2028)));
+    assert!(rt; handler_in(&ENDLESS, 0x1100) == Err(FrameFault::ChainLimit));
 }
 
 // What clang makes of a function with a handler: two slots, and then the handler and its data.
