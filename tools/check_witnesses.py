@@ -52,26 +52,14 @@ REASONS = {
         generated_chains.Outlines.AreNumbered""",
     "notes of a core file, as core_of_one_thread_is_read has them": "core_file.NoteGrammar.AreNotes",
     "one of the ends of a chain, as call_from_outside_is_described has it": """
-        unwind_definitions.Module.CoversNot unwind_definitions.Module.IsUncovered""",
+        unwind_definitions.Module.CoversNot""",
     "what a pointer leads to, as the samples with language tables have it": """
         unwind_definitions.LanguageTable.IsLanguageTable""",
 }
 EXCEPTIONS = {name: reason for reason, names in REASONS.items() for name in names.split()}
 
 # Premises that still want a witness. A line says so where one of these has come.
-OPEN = set("""
-    backtrace.Due.IsBacktrace
-    format_definitions.PeModules.DescribesLeaf
-    frame_facts.FactDeliveries.AsksAt
-    pe_unwind_info.Search.IsAscending
-    stack_deliver.Searches.HasOneHeader
-    stack_snapshot.Described.DescribesFormatChain
-    stack_snapshot.Described.DescribesFormatWalk
-    stack_steps.Ticking.IsScannedAt
-    unwind_definitions.HeaderSearchLaws.AreStarts
-    unwind_laws.Running.HasNoFault
-    unwind_laws.Undoes.AreRules
-""".split())
+OPEN = {"stack_snapshot.Described.DescribesFormatChain"}
 
 
 def segments(text: str) -> list[str]:

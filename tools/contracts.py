@@ -64,7 +64,8 @@ class Definition:
     @property
     def type_of(self) -> str:
         """What stands between its name and its first equation or field."""
-        head = re.split(r"\n(?=\S|  (?:pub )?\w)", self.text, maxsplit=1)[0]
+        margin = re.match(" *", self.text)[0]
+        head = re.split(rf"\n(?={margin}(?:\S|  (?:pub )?\w))", self.text, maxsplit=1)[0]
         return head.strip()
 
     @property

@@ -22,13 +22,19 @@ IsLost n = n ≡ 9
 
 abbrev pub IsEither : ℕ → Type 0
 IsEither n = IsLost n ⊎ IsSmall n
+
+module _ (k : ℕ) where
+  pub record IsNear (n : ℕ) : Type 0 where
+    pub odd : IsOdd n
+    pub above : k < n
 """
 
-SOURCE = """ghost use Rattle.low.specs.Numbers.{IsOdd, Meets, IsSmall, IsLost, IsEither};
+SOURCE = """ghost use Rattle.low.specs.Numbers.{IsOdd, Meets, IsSmall, IsLost, IsEither, IsNear};
 pub fn count(n: u64) -> u64
     ensures odd { IsOdd n → result ≡ 1 }
     ensures small { (m : ℕ) → m ≡ n → IsSmall m → result ≡ m }
     ensures lost { IsLost n → IsEither n → result ≡ 9 }
+    ensures near { IsNear 5 n → result ≡ 7 }
 { 1 }
 
 pub fn seven_meets() ensures met { Meets 7 } {}
@@ -58,6 +64,7 @@ class Witnesses(unittest.TestCase):
             "IsSmall": [],
             "IsLost": [],
             "IsEither": ["low.either"],
+            "IsNear": [],
         })
         self.assertEqual(lacking(uses)["low.Numbers.IsLost"], "low.Numbers.IsLost: premise of low.count.lost")
 

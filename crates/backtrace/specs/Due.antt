@@ -1,16 +1,24 @@
 -- What a run is to answer, and what it is to write.
-use Rattle.std.specs.Prelude.{◌≡◌, ℕ, ◌^◌, ◌≤◌, List, length, Option, Some, None, Result, Ok, Err}
+use Rattle.std.specs.Prelude.{◌≡◌, ◌≢◌, ℕ, ◌+◌, ◌^◌, ◌<◌, ◌≤◌, true, false, List, [], ◌∷◌, length, Option, Some, None, Result, Ok, Err}
+use Rattle.unwind_definitions.specs.State.{State, Shows}
+use Rattle.unwind_definitions.specs.Entered.{IsEntered}
+use Rattle.unwind_definitions.specs.Function.{Function}
+use Rattle.unwind_definitions.specs.Chain.{Call, states_of, last_state}
+use Rattle.format_definitions.specs.FormatModules.{IsFormatChain}
+use Rattle.unwind_arch.specs.ContextViews.{columns_of}
+use Rattle.stack_steps.specs.SpaceViews.{formats_of}
 use Rattle.command_ends.specs.declared.status.Status.TheVariants.{Done, Usage}
 use Rattle.command_ends.specs.Verdicts.{Verdict, verdict}
 use Rattle.command_ends.specs.Answers.{fault_due, within_limit}
+use Rattle.stack_walks.specs.Fronts.{front_of_chain}
 use Rattle.stack_snapshot.specs.declared.errors.SnapshotError.{SnapshotError}
 use Rattle.stack_snapshot.specs.Answers.{content_of, value_of}
 use Rattle.stack_snapshot.specs.Content.{Content, space_of}
 use Rattle.stack_snapshot.specs.Origins.{OriginValue, origins_by}
 use Rattle.backtrace.specs.declared.words.Options.{Options}
 use Rattle.backtrace.specs.Options.{options_of}
-use Rattle.backtrace.specs.Tracing.{TraceValue, IsTrace}
-use Rattle.backtrace.specs.Lines.{backtrace_text, usage_line}
+use Rattle.backtrace.specs.Tracing.{TraceValue, IsNowhere, IsTrace}
+use Rattle.backtrace.specs.Lines.{backtrace_text, form_with, states_text, usage_line}
 
 -- the trace of a snapshot
 abbrev pub IsTraceOf : Content → TraceValue → Type 0
@@ -19,6 +27,27 @@ IsTraceOf s t = IsTrace (space_of s) s.start s.interrupted s.limit t
 -- the lines of a snapshot's trace
 abbrev pub text_of : Options → Content → List OriginValue → TraceValue → List ℕ
 text_of o s origins t = backtrace_text o.registers s.interrupted origins t
+
+-- The lines of a chain of calls whose innermost state is the snapshot's start: of the frame of each state, and last that the
+-- outermost one returns to 0, or that nothing covers the byte before its return address.
+abbrev pub chain_text : Options → Content → List OriginValue → State → List Call → List ℕ
+chain_text o s origins start calls =
+    states_text (form_with o.registers s.interrupted origins false) (states_of start calls) (front_of_chain (space_of s).modules (last_state start calls))
+
+-- The snapshot was taken after a call to the address 0 or into no module, before anything else was done. The caller's state is the
+-- innermost of a chain of calls that the modules describe, and the limit has room for the start beside it.
+pub record DescribesCallToNowhere (s : Content) (functions : List Function) (start caller : State) (calls : List Call) : Type 0 where
+  pub nowhere : IsNowhere (space_of s) s.start s.interrupted
+  pub entered : IsEntered (space_of s).image false [] caller start
+  pub returns : caller.ra ≢ 0
+  pub shows : Shows (columns_of s.start) start
+  pub described : IsFormatChain (space_of s).image (formats_of (space_of s)) functions caller calls
+  pub shorter : length calls + 1 < s.limit
+
+-- the lines of the start and of that chain, where it is said that the return address was read from the stack
+abbrev pub called_text : Options → Content → List OriginValue → State → State → List Call → List ℕ
+called_text o s origins start caller calls =
+    states_text (form_with o.registers s.interrupted origins true) (start ∷ states_of caller calls) (front_of_chain (space_of s).modules (last_state caller calls))
 
 -- a text is the backtrace of a snapshot
 abbrev pub IsBacktraceOf : Options → Content → List OriginValue → List ℕ → Type 0

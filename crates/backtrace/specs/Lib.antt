@@ -3,3 +3,4 @@ pub mod Tracing
 pub mod Lines
 pub mod Due
 pub mod Sample
+pub mod ChainSample

@@ -1,5 +1,5 @@
 -- The lines of a backtrace.
-use Rattle.std.specs.Prelude.{ℕ, ◌+◌, ◌-◌, ◌%◌, ◌^◌, ◌==◌, ◌&&◌, Bool, List, [], ◌∷◌, ◌++◌, Option, Some, None, codes, nat_lt, is_some, if◌then◌else◌}
+use Rattle.std.specs.Prelude.{ℕ, ◌+◌, ◌-◌, ◌%◌, ◌^◌, ◌==◌, ◌&&◌, Bool, List, [], ◌∷◌, ◌++◌, map, Option, Some, None, codes, nat_lt, is_some, if◌then◌else◌}
 use Rattle.std.specs.Option.{option_to_list}
 use Rattle.std.specs.Fmt.{decimal}
 use Rattle.unwind_definitions.specs.State.{State}
@@ -52,29 +52,29 @@ kept_text s = codes " sp=" ++ hexadecimal s.sp ++ codes " rbx=" ++ hexadecimal s
     ++ codes " r12=" ++ hexadecimal s.r12 ++ codes " r13=" ++ hexadecimal s.r13 ++ codes " r14=" ++ hexadecimal s.r14 ++ codes " r15=" ++ hexadecimal s.r15
 
 -- an address of the frame's instruction: its own where the thread was interrupted there, else a byte of the call before it
-abbrev pub inside_of : FormValue → ℕ → Context → ℕ
-inside_of form i c = address_of_call c.ra (form.interrupted && (i == 0))
+abbrev pub inside_of : FormValue → ℕ → State → ℕ
+inside_of form i s = address_of_call s.ra (form.interrupted && (i == 0))
 
 abbrev pub guess_text : FormValue → ℕ → List ℕ
 guess_text form i = if form.called && (i == 1) then codes " (return address on the stack)" else []
 
-abbrev pub registers_text : FormValue → Context → List ℕ
-registers_text form c = if form.registers then kept_text (state_of c) else []
+abbrev pub registers_text : FormValue → State → List ℕ
+registers_text form s = if form.registers then kept_text s else []
 
-unfoldable pub rest_text : FormValue → ℕ → Context → List ℕ
-rest_text form i c = guess_text form i ++ registers_text form c
+unfoldable pub rest_text : FormValue → ℕ → State → List ℕ
+rest_text form i s = guess_text form i ++ registers_text form s
 
-unfoldable pub frame_line : FormValue → ℕ → Context → List ℕ
-frame_line form i c = line (number_text i ++ place_text form.origins c.ra (inside_of form i c) ++ rest_text form i c)
+unfoldable pub frame_line : FormValue → ℕ → State → List ℕ
+frame_line form i s = line (number_text i ++ place_text form.origins s.ra (inside_of form i s) ++ rest_text form i s)
 
 -- the state outside of the outermost frame, whose return address is 0, is no frame
-abbrev pub frame_text : FormValue → ℕ → Context → List ℕ
-frame_text form i c = if (c.ra == 0) && nat_lt 0 i then [] else frame_line form i c
+abbrev pub frame_text : FormValue → ℕ → State → List ℕ
+frame_text form i s = if (s.ra == 0) && nat_lt 0 i then [] else frame_line form i s
 
 -- a line for each frame, with its number from i on
-abbrev pub frame_lines : FormValue → ℕ → List Context → List ℕ
+abbrev pub frame_lines : FormValue → ℕ → List State → List ℕ
 frame_lines form i [] = []
-frame_lines form i (c ∷ cs) = frame_text form i c ++ frame_lines form (i + 1) cs
+frame_lines form i (s ∷ ss) = frame_text form i s ++ frame_lines form (i + 1) ss
 
 -- ---- why there are no more
 
@@ -105,16 +105,27 @@ end_line origins why = line (codes "end: " ++ why_text origins why)
 
 -- ---- the whole text
 
--- all states, from the start outwards
-abbrev pub states_of : TraceValue → List Context
-states_of t = option_to_list t.first ++ t.states
+-- What is written of states from the innermost outwards: a line for each frame, and last why there are no more.
+unfoldable pub states_text : FormValue → List State → Front → List ℕ
+states_text form states why = frame_lines form 0 states ++ end_line form.origins why
+
+-- all contexts of a trace, from the start outwards
+abbrev pub contexts_of : TraceValue → List Context
+contexts_of t = option_to_list t.first ++ t.states
+
+-- what they show of states
+abbrev pub shown_states : List Context → List State
+shown_states cs = map state_of cs
+
+abbrev pub form_with : Bool → Bool → List OriginValue → Bool → FormValue
+form_with registers interrupted origins called = record { registers = registers; interrupted = interrupted; called = called; origins = origins }
 
 abbrev pub form_of : Bool → Bool → List OriginValue → TraceValue → FormValue
-form_of registers interrupted origins t = record { registers = registers; interrupted = interrupted; called = is_some t.first; origins = origins }
+form_of registers interrupted origins t = form_with registers interrupted origins (is_some t.first)
 
 -- What is written of a trace: by whether registers are asked for, whether its start was interrupted, and the modules' files.
 unfoldable pub backtrace_text : Bool → Bool → List OriginValue → TraceValue → List ℕ
-backtrace_text registers interrupted origins t = frame_lines (form_of registers interrupted origins t) 0 (states_of t) ++ end_line origins t.why
+backtrace_text registers interrupted origins t = states_text (form_of registers interrupted origins t) (shown_states (contexts_of t)) t.why
 
 -- ---- the lines in its place
 

@@ -5,7 +5,8 @@ ghost use Rattle.backtrace.specs.Lines.{backtrace_text, end_line, frame_line};
 ghost use Rattle.backtrace.specs.Lines.{frame_lines, frame_text, gap_text, guess_text, inside_of};
 ghost use Rattle.backtrace.specs.Lines.{kept_text, limit_text, no_module_text, number_text};
 ghost use Rattle.backtrace.specs.Lines.{origin_text, place_text, registers_text, rest_text};
-ghost use Rattle.backtrace.specs.Lines.{states_of, undescribed_text, unread_text, usage_line};
+ghost use Rattle.backtrace.specs.Lines.{contexts_of, shown_states, states_text};
+ghost use Rattle.backtrace.specs.Lines.{undescribed_text, unread_text, usage_line};
 ghost use Rattle.backtrace.specs.Lines.{why_text};
 
 use crate::tracing::Trace;
@@ -110,7 +111,7 @@ fn put_guess(report: &mut Report, form: &Form<'_>, index: usize) -> Result<(), A
 
 /// Puts the frame's registers, where they are asked for.
 fn put_registers(report: &mut Report, form: &Form<'_>, state: &Context) -> Result<(), AllocError>
-    ensures { OnOk result (report.new ≡ report.old ++ registers_text form.now state.now) }
+    ensures { OnOk result (report.new ≡ report.old ++ registers_text form.now (state_of state.now)) }
 {
     if form.registers {
         put_kept(report, state)
@@ -122,7 +123,7 @@ fn put_registers(report: &mut Report, form: &Form<'_>, state: &Context) -> Resul
 /// An address of the frame's instruction: its own where the thread was interrupted there, else a
 /// byte of the call before it.
 fn inside_of(form: &Form<'_>, index: usize, state: &Context) -> u64
-    ensures { result ≡ inside_of form.now index state.now }
+    ensures { result ≡ inside_of form.now index (state_of state.now) }
 {
     let signal = form.interrupted && index == 0;
     let context = *state;
@@ -137,7 +138,8 @@ fn put_instruction(
     state: &Context,
 ) -> Result<(), AllocError>
     ensures { OnOk result (report.new ≡ report.old ++
-        place_text form.now.origins state.now.ra (inside_of form.now index state.now)) }
+        place_text form.now.origins state.now.ra
+        (inside_of form.now index (state_of state.now))) }
 {
     let inside = inside_of(form, index, state);
     put_place(report, form.origins, state.ra, inside)
@@ -151,7 +153,7 @@ fn put_rest(
     index: usize,
     state: &Context,
 ) -> Result<(), AllocError>
-    ensures { OnOk result (report.new ≡ report.old ++ rest_text form.now index state.now) }
+    ensures { OnOk result (report.new ≡ report.old ++ rest_text form.now index (state_of state.now)) }
 {
     put_guess(report, form, index)?;
     put_registers(report, form, state)
@@ -165,7 +167,8 @@ fn put_frame(
     index: usize,
     state: &Context,
 ) -> Result<(), AllocError>
-    ensures { OnOk result (report.new ≡ report.old ++ frame_line form.now index state.now) }
+    ensures { OnOk result (report.new ≡ report.old ++
+        frame_line form.now index (state_of state.now)) }
 {
     put_number(report, index)?;
     put_instruction(report, form, index, state)?;
@@ -180,7 +183,8 @@ fn put_state(
     index: usize,
     state: &Context,
 ) -> Result<(), AllocError>
-    ensures { OnOk result (report.new ≡ report.old ++ frame_text form.now index state.now) }
+    ensures { OnOk result (report.new ≡ report.old ++
+        frame_text form.now index (state_of state.now)) }
 {
     if state.ra == 0 && 0 < index {
         Ok(())
@@ -197,7 +201,8 @@ fn put_walked(
     trace: &Trace,
 ) -> Result<(), AllocError>
     requires { first ≤ 1 }
-    ensures { OnOk result (report.new ≡ report.old ++ frame_lines form.now first trace.now.states) }
+    ensures { OnOk result (report.new ≡ report.old ++
+        frame_lines form.now first (shown_states trace.now.states)) }
 {
     for place in 0..trace.walked_len() {
         let state = trace.walked(place).unwrap();
@@ -209,7 +214,7 @@ fn put_walked(
 /// Puts the lines of all states.
 fn put_states(report: &mut Report, form: &Form<'_>, trace: &Trace) -> Result<(), AllocError>
     ensures { OnOk result (report.new ≡ report.old ++ frame_lines form.now 0
-        (states_of trace.now)) }
+        (shown_states (contexts_of trace.now))) }
 {
     match trace.first() {
         Some(start) => {
@@ -307,7 +312,7 @@ fn put_end(report: &mut Report, origins: &Origins, why: Front) -> Result<(), All
 /// # Errors
 ///
 /// `AllocError` where memory ran out.
-#[tactic(auto, unfolding(crate::specs::Lines::backtrace_text))]
+#[tactic(auto, unfolding(crate::specs::Lines::backtrace_text, crate::specs::Lines::states_text))]
 pub fn backtrace_of(
     alloc: Global,
     registers: bool,

@@ -1,5 +1,5 @@
 // One run of the program, from its words and its input to its output.
-ghost use Rattle.std.specs.Prelude.{◌≡◌, ◌≢◌, ◌⊎◌, ◌+◌, ◌^◌, ◌≤◌, ◌<◌, [], ℕ, List, IfOk, IfSome};
+ghost use Rattle.std.specs.Prelude.{◌≡◌, ◌≢◌, ◌⊎◌, ◌+◌, ◌^◌, ◌≤◌, ◌<◌, [], ◌∷◌, ℕ, List, IfOk, IfSome};
 ghost use Rattle.std.specs.Prelude.{IsSome, MatchResult, None, Some, Err, length, ⊤};
 ghost use Rattle.std.specs.Io.KnownBytes.{Appends, Keeps};
 ghost use Rattle.memory_image.specs.Ends.{Rose};
@@ -9,12 +9,17 @@ ghost use Rattle.command_ends.specs.Verdicts.{ComesExactly};
 ghost use Rattle.stack_snapshot.specs.declared.errors.Field.{Field};
 ghost use Rattle.stack_snapshot.specs.Content.{Content};
 ghost use Rattle.stack_snapshot.specs.Answers.{content_of, value_of};
+ghost use Rattle.stack_snapshot.specs.Described.{DescribesFormatStop, DescribesFormatWalk};
 ghost use Rattle.stack_snapshot.specs.Origins.{OriginValue, origins_by};
+ghost use Rattle.unwind_definitions.specs.State.{State};
+ghost use Rattle.unwind_definitions.specs.Function.{Function};
+ghost use Rattle.unwind_definitions.specs.Chain.{Call};
 ghost use Rattle.backtrace.specs.Options.{options_of};
 ghost use Rattle.backtrace.specs.Tracing.{TraceValue};
 ghost use Rattle.backtrace.specs.Lines.{usage_line};
 ghost use Rattle.backtrace.specs.Due.{Asks, IsBacktrace, IsBacktraceBy, IsBacktraceOf, IsTraceOf};
-ghost use Rattle.backtrace.specs.Due.{bytes_due, content_due, due_of, text_of};
+ghost use Rattle.backtrace.specs.Due.{DescribesCallToNowhere, called_text, chain_text, text_of};
+ghost use Rattle.backtrace.specs.Due.{bytes_due, content_due, due_of};
 
 use crate::lines::{backtrace_of, usage_line};
 use crate::tracing::trace_stack;
@@ -124,6 +129,30 @@ pub fn run<I: Source, O: Sink>(
         Asks o words.now (I.left input.old) s origins → IsTraceOf s t →
         Tells (verdict Status.Done (text_of o s origins t)) result (O.holds output.old)
         (O.holds output.new) }
+    // Where its tables describe a chain of calls, in modules of whatever format, these are the
+    // lines of the chain's states, and the last says why its outermost state has no caller.
+    ensures chain { (o : Options) (s : Content) (origins : List OriginValue)
+        (functions : List Function) (start : State) (calls : List Call) →
+        Asks o words.now (I.left input.old) s origins →
+        DescribesFormatWalk s functions start calls →
+        Tells (verdict Status.Done (chain_text o s origins start calls)) result
+        (O.holds output.old) (O.holds output.new) }
+    // So they are where it was stopped at an instruction of a described function, of its state and
+    // of those of the chain that begins with its caller's.
+    ensures stop { (o : Options) (s : Content) (origins : List OriginValue)
+        (functions : List Function) (start : State) (call : Call) (calls : List Call) →
+        Asks o words.now (I.left input.old) s origins →
+        DescribesFormatStop s functions start call calls →
+        Tells (verdict Status.Done (chain_text o s origins start (call ∷ calls))) result
+        (O.holds output.old) (O.holds output.new) }
+    // And where it was interrupted right after a call to 0 or into no module, of its state and of
+    // those of the chain that begins with its caller's, whose return address the stack names.
+    ensures called { (o : Options) (s : Content) (origins : List OriginValue)
+        (functions : List Function) (start caller : State) (calls : List Call) →
+        Asks o words.now (I.left input.old) s origins →
+        DescribesCallToNowhere s functions start caller calls →
+        Tells (verdict Status.Done (called_text o s origins start caller calls)) result
+        (O.holds output.old) (O.holds output.new) }
     // Whatever the source tells, words that name no options are answered so, and no others.
     ensures usage { ComesExactly result Status.Usage (options_of words.now ≡ None) }
     ensures usage_told { options_of words.now ≡ None →

@@ -3,7 +3,7 @@ mod FdeParts
 mod EntryParts
 mod Scanning
 mod Ahead
-mod Searching
+pub mod Searching
 mod Faults
 mod Answered
 mod Described

@@ -7,7 +7,8 @@ use Rattle.unwind_laws.proofs.RowFacts.{state_fits}
 use Rattle.unwind_laws.proofs.ThreeValid.{function_c, words}
 use Rattle.format_definitions.specs.FormatModules.{Elf, Macho, Pe, IsUncoveredBy, LiesInFormat, IsFormatChain}
 use Rattle.format_laws.specs.FormatSample.{modules, functions, calls}
-use Rattle.format_laws.specs.MachoSamples.{sample_module, frameless_function, frameless_state}
+use Rattle.format_laws.specs.FormatUndone.{CanUndo}
+use Rattle.format_laws.specs.MachoSamples.{sample_module, frameless_function, frameless_state, frameless_caller}
 use Rattle.format_laws.specs.PeSamples.{module_of_one, room_image, room_function, room_state}
 use Rattle.format_laws.proofs.MachoValid.{frameless_is_function, described_in, frameless_entered}
 use Rattle.format_laws.proofs.ElfThree as elf
@@ -43,3 +44,14 @@ chain = (
 
 pub is_chain : IsFormatChain room_image modules functions frameless_state calls
 is_chain = record { chain = chain; described = (frameless_lies, (room_lies, (third_lies, tt))); ends = inl refl }
+
+-- the step of its innermost call may be taken
+pub innermost : CanUndo room_image modules functions 0x10000100f frameless_state (record { callee = frameless_function; caller = frameless_caller })
+innermost = record {
+  listed = (2, lit< tt, refl);
+  lies = frameless_lies;
+  inside = refl;
+  entered = frameless_entered room_image return_at;
+  caller = state_fits room_state (lit< tt) (lit< tt) (lit< tt) (lit< tt) (lit< tt) (lit< tt) (lit< tt) (lit< tt);
+  ends = λ outer. absurd cc;
+}

@@ -30,6 +30,7 @@ ghost use Rattle.format_definitions.specs.PeEpilogs.{StandsInEpilog};
 ghost use Rattle.format_laws.specs.CompactUndone as compact;
 ghost use Rattle.format_laws.specs.ElfSample as elf;
 ghost use Rattle.format_laws.specs.FormatSample as mixed;
+ghost use Rattle.format_laws.specs.FormatUndone.{CanUndo};
 ghost use Rattle.format_laws.specs.MachoSamples as macho;
 ghost use Rattle.format_laws.specs.PeSamples as pe;
 ghost use Rattle.format_laws.specs.PeUndone.{GivesState};
@@ -164,6 +165,9 @@ pub fn calls_through_formats_are_a_chain()
     ensures memory { IsLaidOut 0 pe.room_image }
     ensures chain { IsFormatChain pe.room_image mixed.modules mixed.functions
         macho.frameless_state mixed.calls }
+    ensures step { CanUndo pe.room_image mixed.modules mixed.functions
+        (macho.frameless_state.ra - 1) macho.frameless_state
+        (record { callee = macho.frameless_function; caller = macho.frameless_caller }) }
 {}
 
 /// Deeper calls through the same modules, from a function of the Mach-O module by way of one of the

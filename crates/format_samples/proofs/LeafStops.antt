@@ -41,6 +41,10 @@ leaf_described = record { inside = (lit≤ tt, lit≤ tt); apart = (inl (lit≤ 
 unfoldable module_described : DescribesPe room_image module_of_one (waiting_leaf ∷ [])
 module_described = record { bytes = table_bytes 0x00 0x11; mapped = refl; table = loop_record ∷ []; reads = refl; ordered = (lit≤ tt, lit< tt, lit≤ tt, tt); each = (inr leaf_described, tt) }
 
+pub leaf : (d : DescribesPe room_image module_of_one (waiting_leaf ∷ [])) × DescribesLeaf module_of_one d.table waiting_leaf
+unfolding module_described
+leaf = (module_described, leaf_described)
+
 lies : LiesInFormat room_image pe_modules (waiting_leaf ∷ []) waiting_leaf
 lies = record { home = Pe module_of_one; known = (0, lit< tt, refl); inside = refl; is_function = is_function; describes = module_described }
 

@@ -8,6 +8,7 @@ ghost use Rattle.unwind_laws.specs.Windows as windows;
 ghost use Rattle.format_definitions.specs.FormatModules.{IsFormatChain};
 ghost use Rattle.format_definitions.specs.FormatProcess.{IsFormatProcess};
 ghost use Rattle.format_definitions.specs.FormatStops.{IsFormatStop};
+ghost use Rattle.format_definitions.specs.PeModules.{DescribesLeaf, DescribesPe};
 ghost use Rattle.format_definitions.specs.PeStep.{pe_step};
 ghost use Rattle.format_laws.specs.FormatSample as mixed;
 ghost use Rattle.format_laws.specs.PeSamples as pe;
@@ -61,6 +62,8 @@ pub fn stops_in_an_unlisted_epilog_are_described()
 /// A leaf whose body begins after its first instructions, stopped before its body.
 pub fn stop_before_the_body_of_a_leaf_is_described()
     ensures process { IsFormatProcess pe.room_image mixed.pe_modules }
+    ensures leaf { (d : DescribesPe pe.room_image pe.module_of_one (samples.waiting_leaf ∷ []))
+        × DescribesLeaf pe.module_of_one d.table samples.waiting_leaf }
     ensures stop { IsFormatStop pe.room_image mixed.pe_modules (samples.waiting_leaf ∷ [])
         pe.leaf_state samples.leaf_call }
     ensures chain { IsFormatChain pe.room_image mixed.pe_modules (samples.waiting_leaf ∷ [])

@@ -21,3 +21,4 @@ pub mod Chain
 pub mod HandlerData
 pub mod Handlers
 pub mod HandlerSample
+pub mod TableSample

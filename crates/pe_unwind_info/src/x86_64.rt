@@ -23,7 +23,7 @@ pub use fault::FrameFault;
 pub use frame::try_unwind_function;
 pub use function_table::{
     FunctionTableEntries, RuntimeFunction, U32, lookup_finds_the_holder, lookup_is_determined,
-    lookup_of_is_a_lookup,
+    lookup_of_is_a_lookup, table_of_two_is_in_order,
 };
 pub use handler::{Handler, handler_of_function};
 pub use operations::{

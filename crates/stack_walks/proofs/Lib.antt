@@ -2,6 +2,7 @@ pub mod ChainFronts
 pub mod ChainWalked
 pub mod ElfChains
 pub mod FrontAnswers
+pub mod FrontThere
 pub mod LineAnswers
 pub mod LineShows
 pub mod Reaching

@@ -1,6 +1,6 @@
 // How far a walk comes, and why it ends there.
 ghost use Rattle.std.specs.Prelude.{◌≡◌, ◌≢◌, ◌≤◌, ◌↔◌, ◌∷◌, ℕ, suc, List, [], Ok, Err, false, None};
-ghost use Rattle.std.specs.Prelude.{length, take, IsTrue, IsFalse};
+ghost use Rattle.std.specs.Prelude.{Bool, length, take, IsTrue, IsFalse};
 ghost use Rattle.unwind_definitions.specs.declared.error.Error.{Error as Fault};
 ghost use Rattle.unwind_definitions.specs.Scan.{scan};
 ghost use Rattle.unwind_definitions.specs.State.{State};
@@ -15,6 +15,7 @@ ghost use Rattle.stack_walks.specs.FrontSample.{no_entry, nowhere};
 ghost use Rattle.stack_walks.specs.Fronts.{ComesTo, EndsFor, front_of, input_of, IsUndescribed};
 ghost use Rattle.stack_walks.specs.Fronts.{IsUndescribedIn, stopped_by, IsUnknownIn, front_of_chain};
 ghost use Rattle.stack_walks.specs.Walking.{ShowChain, StartsChain, StartsFormatChain};
+ghost use Rattle.stack_steps.specs.Modules.{SpaceValue};
 ghost use Rattle.stack_steps.specs.Stepping.{FindsNone, step_of, FindsNoneIn};
 ghost use Rattle.stack_steps.specs.Stopped.{StartsStopped, StartsFormatStop};
 ghost use Rattle.stack_steps.specs.Ticking.{RisesWithin};
@@ -278,4 +279,13 @@ pub fn each_reason_is_given()
     ensures refused { ComesTo (Front.Refused 0x1004 (DeliverError.Table Error.UnknownInstruction))
         (held_by bad_row) 1 (after_call 0x1005) false }
     ensures limit { ComesTo Front.Limit nowhere 0 (after_call 0x1005) false }
+{}
+
+/// Each walk goes no further for a reason, and for no second one. The function does nothing.
+pub fn a_walk_ends_for_one_reason()
+    ensures some { (space : SpaceValue) (limit : ℕ) (start : Context) (interrupted : Bool) →
+        (why : Front) × ComesTo why space limit start interrupted }
+    ensures one { (space : SpaceValue) (limit : ℕ) (start : Context) (interrupted : Bool)
+        (x y : Front) → ComesTo x space limit start interrupted →
+        ComesTo y space limit start interrupted → x ≡ y }
 {}

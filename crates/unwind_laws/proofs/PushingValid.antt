@@ -1,5 +1,5 @@
 -- One function that pushes RBX: a call of it, and three, are valid.
-use Rattle.std.proofs.Common.{◌≡◌, ℕ, ◌-◌, ◌^◌, ◌<◌, ◌≤◌, true, false, leb, ltb, List, [], ◌∷◌, Some, None, Ok, refl, subst, ◌∙◌, arith, inl, inr, lit<, lit≤}
+use Rattle.std.proofs.Common.{◌≡◌, ℕ, ◌-◌, ◌^◌, ◌<◌, ◌≤◌, Bool, true, false, eqb, leb, ltb, List, [], ◌∷◌, Some, None, Ok, refl, subst, ◌∙◌, arith, inl, inr, lit<, lit≤}
 use Rattle.std.specs.Prelude.{IsTrue, ◌≢◌}
 use Rattle.std.proofs.lemmas.Bool.{leb-true, ltb-true}
 use Rattle.memory_image.specs.Image.{Span, word_at}
@@ -16,7 +16,10 @@ use Rattle.unwind_definitions.specs.Module.{IsProcess, AreApart, DescriptionsApa
 use Rattle.unwind_definitions.specs.Chain.{Call, IsCalled, IsLink}
 use Rattle.unwind_definitions.specs.Valid.{IsValid}
 use Rattle.unwind_laws.specs.Columns.{columns_of}
-use Rattle.unwind_laws.specs.Pushing.{image, image_of_three, module_of_it, table, bases, fde, entries, start_run, body_run, function, state, process, process_of_three, start, caller, calls, calls_of_three}
+use Rattle.unwind_laws.specs.Running.{HasNoFault}
+use Rattle.unwind_laws.specs.Undoes.{AreRules, rule_in}
+use Rattle.unwind_laws.specs.Walked.{CanStep}
+use Rattle.unwind_laws.specs.Pushing.{image, image_of_three, module_of_it, table, bases, fde, entries, common, start_run, body_run, body_rules, function, state, process, process_of_three, start, caller, calls, calls_of_three}
 use Rattle.unwind_laws.proofs.Booleans.{both_true, either_false, here_or_later, none_in_nil, pairs_one}
 use Rattle.unwind_laws.proofs.RowFacts.{by_register, state_fits, unnamed}
 use Rattle.unwind_laws.proofs.Steady.{is_steady, same_row_at}
@@ -176,6 +179,34 @@ one_valid = record {
   chain = (link image 0x7000 9 caller [] (lit< tt) (lit< tt) entered_one, record { state = words 0 0x7010 5 (lit< tt) (lit< tt) (lit< tt); ends = inl refl });
   resumed = λ f found accepted. absurd cc;
 }
+
+-- the step of that call may be taken
+pub one_step : CanStep process (function ∷ []) 0x401005 start (record { callee = function; caller = caller })
+one_step = record {
+  is_function = is_function;
+  listed = (0, lit< tt, refl);
+  lies = record { home = module_of_it; known = (0, lit< tt, refl); inside = refl; describes = module_described };
+  inside = refl;
+  entered = entered_one;
+  caller = words 0 0x7010 5 (lit< tt) (lit< tt) (lit< tt);
+  ends = λ outer. absurd cc;
+}
+
+-- ---- the programs of its frame
+
+pub no_fault : HasNoFault 0x401000 common body_run.own
+no_fault = record { common_runs = refl; own_runs = refl }
+
+pub are_rules : AreRules body_run body_rules
+are_rules = record { ascend = (lit≤ tt, lit< tt, (lit≤ tt, lit< tt, tt)); each = each }
+  where
+    each : (c : ℕ) → rule_in body_rules c ≡ rule_of body_run c
+    each c = go (eqb 3 c) refl (eqb 16 c) refl
+      where
+        go : (a : Bool) → eqb 3 c ≡ a → (b : Bool) → eqb 16 c ≡ b → rule_in body_rules c ≡ rule_of body_run c
+        go true e b f = rw e refl
+        go false e true f = rw (e, f) refl
+        go false e false f = rw (e, f) refl
 
 -- three calls
 pub three_valid : IsValid process_of_three (columns_of start) [] (function ∷ []) start calls_of_three

@@ -17,6 +17,7 @@ use Rattle.unwind_definitions.specs.Module.{IsProcess, AreApart, DescriptionsApa
 use Rattle.unwind_definitions.specs.Valid.{IsValid}
 use Rattle.unwind_definitions.specs.Stopped.{StandsAfter}
 use Rattle.unwind_laws.specs.Columns.{columns_of}
+use Rattle.unwind_laws.specs.Walked.{CanStepInside}
 use Rattle.unwind_laws.specs.Returning.{image, table, module_of_them, bases, cie, callee_fde, outermost_fde, foreign_fde, entries, run_of, pushed_one, pushed_two, in_first_body, in_second_body, in_outermost, callee, outermost, functions, process, state, start, caller, last, calls, interrupted, done, later}
 use Rattle.unwind_laws.proofs.Booleans.{both_true, either_true, either_false, here_or_later, none_in_nil, pairs_one, pairs_two}
 use Rattle.unwind_laws.proofs.RowFacts.{by_register, state_fits, unnamed, same_ended}
@@ -277,6 +278,17 @@ interrupted_stands = record {
   intact = by_register (λ r. _ → value_of r interrupted ≡ value_of r caller) (λ e. refl) (λ e. refl) (λ e. refl) (λ e. refl) (λ e. refl) (λ e. refl);
   after = lit≤ tt;
   below = lit< tt;
+}
+
+-- the step from there may be taken
+pub interrupted_step : CanStepInside process functions done later interrupted (record { callee = callee; caller = caller })
+interrupted_step = record {
+  is_function = callee_function;
+  inner = refl;
+  listed = (0, lit< tt, refl);
+  lies = record { home = module_of_them; known = (0, lit< tt, refl); inside = refl; describes = module_described };
+  stands = interrupted_stands;
+  caller = words 0x402045 0x7020 0x11 0x22 (lit< tt) (lit< tt) (lit< tt) (lit< tt);
 }
 
 pub late_process : IsProcess process

@@ -1,9 +1,12 @@
 -- Three functions with language tables: calls of them are valid, by their frame table alone, and by a header table.
 use Rattle.std.proofs.Common.{◌≡◌, ℕ, zero, suc, ◌^◌, ◌<◌, false, List, [], ◌∷◌, map, Some, None, refl, subst, arith, inl, inr, lit<, lit≤}
-use Rattle.std.specs.Prelude.{IsFalse, ◌≢◌}
+use Rattle.std.specs.Prelude.{IsFalse, ◌≢◌, Ok, slice_index}
 use Rattle.std.specs.List.{Contains, AllPairs, AllByRecursion, list_any}
 use Rattle.std.proofs.lemmas.List.Sorted.{IsPermutation-refl}
 use Rattle.memory_image.specs.Image.{Span, word_at}
+use Rattle.unwind_definitions.specs.Header.{pair_at}
+use Rattle.unwind_definitions.specs.HeaderSearch.{IsTableAnswer}
+use Rattle.unwind_definitions.specs.HeaderSearchLaws.{AreStarts}
 use Rattle.unwind_definitions.specs.Pointers.{Bases}
 use Rattle.unwind_definitions.specs.Entries.{Fde, entry_at}
 use Rattle.unwind_definitions.specs.State.{State, value_of, IsState}
@@ -16,7 +19,7 @@ use Rattle.unwind_definitions.specs.Module.{Module, IsProcess, AreApart, bases_o
 use Rattle.unwind_definitions.specs.Chain.{IsCalled, IsChain}
 use Rattle.unwind_definitions.specs.Valid.{IsValid}
 use Rattle.unwind_laws.specs.Columns.{columns_of}
-use Rattle.unwind_laws.specs.Three.{header, image, table, cie_plain, cie_language, fde_a, fde_b, fde_c, fa, fb, fc, functions, entries, module_of_them, process, start, second, third, last, calls_through, calls, resumes, unlisted_process, unlisted_calls, module_with_header, header_image, header_process, longer_module, longer_process, after}
+use Rattle.unwind_laws.specs.Three.{header, image, table, cie_plain, cie_language, fde_a, fde_b, fde_c, fa, fb, fc, functions, entries, module_of_them, process, start, second, third, last, calls_through, calls, resumes, unlisted_process, unlisted_calls, pairs, starts, module_with_header, header_image, header_process, longer_module, longer_process, after}
 use Rattle.unwind_laws.proofs.Booleans.{here_or_later, none_in_nil, pairs_one, pairs_two}
 use Rattle.unwind_laws.proofs.RowFacts.{by_register, state_fits}
 use Rattle.unwind_laws.proofs.PushingValid.{columns_show}
@@ -223,6 +226,23 @@ header_lists = record {
   reads = (_, _, refl, refl, (_, _, refl, refl, (_, _, refl, refl, tt)));
   each = IsPermutation-refl places;
   ascend = (lit< tt, (lit< tt, tt));
+}
+
+pub starts_listed : AreStarts pairs starts
+starts_listed = record { all = refl; each = each }
+  where
+    each : (i : ℕ) → i < 3 → (p : ℕ × ℕ) × (pair_at pairs i ≡ Ok p) × (p.0 ≡ slice_index starts i)
+    each zero lt = ((0x401000, 0x500018), refl, refl)
+    each (suc zero) lt = ((0x401020, 0x500054), refl, refl)
+    each (suc (suc zero)) lt = ((0x401050, 0x500070), refl, refl)
+    each (suc (suc (suc i))) lt = absurd (omega arith)
+
+pub first_answered : IsTableAnswer (bases_of module_with_header 0x500000) table pairs 0x40100f (Ok fde_a)
+unfolding entry_at
+first_answered = record {
+  place = Ok (Some (0x401000, 0x500018));
+  finds = record { index = 0; within = lit< tt; reads = refl; at_or_before = lit≤ tt; next_after = λ lt. ((0x401020, 0x500054), refl, lit< tt) };
+  is = refl;
 }
 
 header_described : DescribesModule header_image module_with_header functions

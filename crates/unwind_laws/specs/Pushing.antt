@@ -3,7 +3,7 @@ use Rattle.std.specs.Prelude.{ℕ, ◌-◌, ◌^◌, false, List, [], ◌∷◌,
 use Rattle.memory_image.specs.Image.{Span}
 use Rattle.unwind_definitions.specs.Input.{Input}
 use Rattle.unwind_definitions.specs.Pointers.{Bases}
-use Rattle.unwind_definitions.specs.Instructions.{Instruction, Nop, Advance, Write, Cfa, CfaOffset, Offset}
+use Rattle.unwind_definitions.specs.Instructions.{Instruction, Rule, Nop, Advance, Write, Cfa, CfaOffset, Offset}
 use Rattle.unwind_definitions.specs.Entries.{Cie, Fde, Entry, ACie, AFde}
 use Rattle.unwind_definitions.specs.Row.{RowInstructions}
 use Rattle.unwind_definitions.specs.State.{State, RBX}
@@ -63,6 +63,10 @@ start_run = record { common = common; own = [] }
 
 abbrev pub body_run : RowInstructions
 body_run = record { common = common; own = Advance 1 ∷ CfaOffset 16 ∷ Write column.rbx (Offset (2 ^ 64 - 16)) ∷ Nop ∷ Nop ∷ [] }
+
+-- the rules of that row
+abbrev pub body_rules : List (ℕ × Rule)
+body_rules = (column.rbx, Offset (2 ^ 64 - 16)) ∷ (column.ra, Offset (2 ^ 64 - 8)) ∷ []
 
 abbrev pub function : Function
 function = record { start = 0x401000; end = 0x401010; prologue = record { step = Push (Followed RBX); end = 1 } ∷ []; bodies = record { from = 0x401001; to = 0x401010 } ∷ []; sites = None; outermost = false }

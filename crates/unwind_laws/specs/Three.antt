@@ -1,8 +1,9 @@
 -- Three functions that call one another, two of them with language tables, and a stack.
-use Rattle.std.specs.Prelude.{ℕ, ◌-◌, ◌^◌, false, List, [], ◌∷◌, Some, None}
+use Rattle.std.specs.Prelude.{ℕ, ◌-◌, ◌^◌, false, List, [], ◌∷◌, drop, Some, None}
 use Rattle.memory_image.specs.Image.{Span}
 use Rattle.unwind_definitions.specs.Input.{Input}
 use Rattle.unwind_definitions.specs.Pointers.{Direct, Indirect}
+use Rattle.unwind_definitions.specs.Header.{PairTable}
 use Rattle.unwind_definitions.specs.Entries.{Cie, Fde, Entry, ACie, AFde}
 use Rattle.unwind_definitions.specs.State.{State, RBX, RBP, R14}
 use Rattle.unwind_definitions.specs.Prologue.{Followed, Push, Allocate, SetFrame}
@@ -10,7 +11,7 @@ use Rattle.unwind_definitions.specs.Function.{Function, NoAction, Cleanup, Catch
 use Rattle.unwind_definitions.specs.Module.{Module, Process, Frames, Header}
 use Rattle.unwind_definitions.specs.Chain.{Call}
 use Rattle.unwind_definitions.specs.Delivery.{Delivery, Installed, EndOfStack, FatalPhase1}
-use Rattle.unwind_definitions.specs.PointerEncodings.{pcrel_sdata4, indirect_pcrel_sdata4}
+use Rattle.unwind_definitions.specs.PointerEncodings.{pcrel_sdata4, datarel_sdata4, indirect_pcrel_sdata4}
 
 abbrev pub frames : List ℕ
 frames = 0x14 ∷ 0x00 ∷ 0x00 ∷ 0x00 ∷ 0x00 ∷ 0x00 ∷ 0x00 ∷ 0x00 ∷ 0x01 ∷ 0x7a ∷ 0x52 ∷ 0x00 ∷ 0x01 ∷ 0x78 ∷ 0x10 ∷ 0x01 ∷ 0x1b ∷ 0x0c ∷ 0x07 ∷ 0x08 ∷ 0x90 ∷ 0x01 ∷ 0x00 ∷ 0x00 ∷
@@ -228,6 +229,13 @@ abbrev pub header : List ℕ
 header = 0x01 ∷ 0x1b ∷ 0x03 ∷ 0x3b ∷ 0xfc ∷ 0xbf ∷ 0xff ∷ 0xff ∷ 0x03 ∷ 0x00 ∷ 0x00 ∷ 0x00 ∷
     0x00 ∷ 0xd0 ∷ 0xef ∷ 0xff ∷ 0x18 ∷ 0xc0 ∷ 0xff ∷ 0xff ∷ 0x20 ∷ 0xd0 ∷ 0xef ∷ 0xff ∷
     0x54 ∷ 0xc0 ∷ 0xff ∷ 0xff ∷ 0x50 ∷ 0xd0 ∷ 0xef ∷ 0xff ∷ 0x70 ∷ 0xc0 ∷ 0xff ∷ 0xff ∷ []
+
+-- its three pairs, which begin after twelve bytes, and where their functions begin
+abbrev pub pairs : PairTable
+pairs = record { count = 3; width = 4; encoding = datarel_sdata4; bases = record { text = None; data_base = Some 0x504000; func = None; hdr = None; frame = None }; pairs = record { base = 0x504000; offset = 12; bytes = drop 12 header } }
+
+abbrev pub starts : List ℕ
+starts = 0x401000 ∷ 0x401020 ∷ 0x401050 ∷ []
 
 abbrev pub module_with_header : Module
 module_with_header = record { start = 0x401000; end = 0x401080; text = None; tables = Header 0x504000 }

@@ -28,7 +28,8 @@ pub use samples::{
     call_from_outside_is_valid, calls_are_caught, calls_by_a_header_are_caught,
     calls_of_an_outermost_function_are_valid, calls_through_a_frame_pointer_are_valid,
     calls_through_two_modules_are_caught, cut_language_table_describes_nothing,
-    each_call_is_cleaned, language_tables_ask, one_call_is_valid, other_slot_is_no_entering,
+    each_call_is_cleaned, header_table_lists_starts, language_tables_ask, one_call_is_valid,
+    other_slot_is_no_entering, programs_run_without_fault, stack_ends_after_the_functions,
     state_stands_inside_a_prologue, three_calls_are_valid, unlisted_call_ends_the_program,
     windows_function_is_entered,
 };

@@ -12,7 +12,9 @@ ghost use Rattle.unwind_definitions.specs.LanguageTable.{input_at, IsLanguageTab
 ghost use Rattle.unwind_definitions.specs.LanguageTable.{LeadsToLanguage};
 ghost use Rattle.unwind_definitions.specs.LanguageSearch.{search};
 ghost use Rattle.unwind_definitions.specs.Caller.{Table};
-ghost use Rattle.unwind_definitions.specs.Module.{IsProcess, in_module};
+ghost use Rattle.unwind_definitions.specs.HeaderSearch.{IsTableAnswer};
+ghost use Rattle.unwind_definitions.specs.HeaderSearchLaws.{AreStarts};
+ghost use Rattle.unwind_definitions.specs.Module.{IsProcess, bases_of, in_module};
 ghost use Rattle.unwind_definitions.specs.Delivery.{delivery_of};
 ghost use Rattle.unwind_definitions.specs.Valid.{IsValid};
 ghost use Rattle.unwind_definitions.specs.Stopped.{StandsAfter};
@@ -21,6 +23,9 @@ ghost use Rattle.unwind_laws.specs.Pushing as pushing;
 ghost use Rattle.unwind_laws.specs.Three as three;
 ghost use Rattle.unwind_laws.specs.Returning as returning;
 ghost use Rattle.unwind_laws.specs.Storing as storing;
+ghost use Rattle.unwind_laws.specs.Running.{HasNoFault};
+ghost use Rattle.unwind_laws.specs.Undoes.{AreRules};
+ghost use Rattle.unwind_laws.specs.Walked.{CanStep, CanStepInside};
 ghost use Rattle.unwind_laws.specs.Windows as windows;
 
 /// A call of a function that pushes RBX, from a caller that returns to 0.
@@ -29,6 +34,14 @@ pub fn one_call_is_valid()
     ensures valid { IsValid pushing.process (columns_of pushing.start) [] (pushing.function ∷ [])
         pushing.start pushing.calls }
     ensures delivery { delivery_of 0 pushing.start pushing.calls ≡ pushing.delivery }
+    ensures step { CanStep pushing.process (pushing.function ∷ []) (pushing.start.ra - 1)
+        pushing.start (record { callee = pushing.function; caller = pushing.caller }) }
+{}
+
+/// The programs of that function's frame meet no fault, and the row in its body has these rules.
+pub fn programs_run_without_fault()
+    ensures runs { HasNoFault 0x401000 pushing.common pushing.body_run.own }
+    ensures rules { AreRules pushing.body_run pushing.body_rules }
 {}
 
 /// The same where the pushed register's slot holds another value: it is not so entered.
@@ -57,8 +70,11 @@ pub fn calls_of_an_outermost_function_are_valid()
 
 /// That function stopped inside its prologue, after two of its three steps.
 pub fn state_stands_inside_a_prologue()
-    ensures { StandsAfter returning.image returning.callee returning.done returning.later
+    ensures stands { StandsAfter returning.image returning.callee returning.done returning.later
         returning.caller returning.interrupted }
+    ensures step { CanStepInside returning.process returning.functions returning.done
+        returning.later returning.interrupted
+        (record { callee = returning.callee; caller = returning.caller }) }
 {}
 
 /// A function that stores R12 into its frame, called by one that sets RBP as its frame pointer and
@@ -85,6 +101,14 @@ pub fn calls_by_a_header_are_caught()
     ensures process { IsProcess three.header_process }
     ensures valid { IsValid three.header_process (columns_of three.start) three.resumes
         three.functions three.start three.calls }
+{}
+
+/// The pairs of that header's table begin at the starts of the three functions, and by the first of
+/// them the table may answer for an address in the first function.
+pub fn header_table_lists_starts()
+    ensures starts { AreStarts three.pairs three.starts }
+    ensures answer { IsTableAnswer (bases_of three.module_with_header 0x500000) three.table
+        three.pairs 0x40100f (Ok three.fde_a) }
 {}
 
 /// A state after these functions, in a module that is longer than they are: none of the

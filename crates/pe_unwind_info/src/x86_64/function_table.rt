@@ -4,6 +4,7 @@ ghost use Rattle.std.specs.Prelude.{Contains};
 ghost use Rattle.pe_unwind_info.specs.FunctionTable.{table_bytes, functions_of, IsLookup};
 ghost use Rattle.pe_unwind_info.specs.FunctionTable.{lookup_of, AreOrdered, Holds};
 ghost use Rattle.pe_unwind_info.specs.Search.{IsAscending};
+ghost use Rattle.pe_unwind_info.specs.TableSample as two;
 ghost use Rattle.pe_unwind_info.specs.declared.x86_64.function_table.RuntimeFunction.{RuntimeFunction};
 
 use crate::x86_64::little_endian::u32_at;
@@ -65,6 +66,14 @@ pub fn lookup_is_determined()
         → IsLookup (Some functions) address a
         → IsLookup (Some functions) address b
         → a ≡ b }
+{}
+
+/// A table of two functions is in order, and a look-up of an address in the second answers its
+/// record.
+pub fn table_of_two_is_in_order()
+    ensures ascends { IsAscending (λ (f : RuntimeFunction). f.begin_address) two.functions }
+    ensures ordered { AreOrdered 0 0x2000 two.functions }
+    ensures answer { IsLookup (Some two.functions) 0x1024 (Some two.second) }
 {}
 
 /// In a table whose functions are nonempty, ascend and share no address, a look-up answers the

@@ -1,7 +1,7 @@
 use Rattle.std.proofs.Common.{◌≡◌, ◌+◌, ◌++◌, drop}
-use Rattle.backtrace.specs.Lines.{frame_lines}
+use Rattle.backtrace.specs.Lines.{frame_lines, shown_states}
 use Rattle.backtrace.proofs.lines.put_walked.Given as goal
 
 abbrev pub invariant-loop-place : goal.invariant-loop-place
 invariant-loop-place l =
-    l.report ++ frame_lines l.form (l.first + l.place) (drop l.place l.trace.states) ≡ l.initial.report ++ frame_lines l.form l.first l.trace.states
+    l.report ++ frame_lines l.form (l.first + l.place) (shown_states (drop l.place l.trace.states)) ≡ l.initial.report ++ frame_lines l.form l.first (shown_states l.trace.states)

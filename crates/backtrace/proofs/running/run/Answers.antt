@@ -5,6 +5,9 @@ use Rattle.command_ends.specs.Verdicts.{Verdict, IsReadyOrFailed, Tells}
 use Rattle.command_ends.proofs.VerdictLemmas.{if_some_weaker, of_some}
 use Rattle.backtrace.specs.Due.{IsBacktrace, due_of, text_of}
 use Rattle.backtrace.proofs.Backtraces.{ready_with, if_some_both, asked_due, asked_backtrace}
+use Rattle.stack_snapshot.proofs.Taken.{content_apart, content_laid_out, content_whole}
+use Rattle.command_ends.specs.Verdicts.{verdict}
+use Rattle.backtrace.proofs.Chains.{called_traced, chain_traced, stop_traced}
 use Rattle.backtrace.proofs.running.run.Goals as goal
 
 pub returns-clause-told : goal.returns-clause-told
@@ -43,3 +46,21 @@ returns-clause-traced g c = λ o s origins t asks is.
     let text = text_of o s origins t in
     subst P (asked_due o words (g.I.Source.left c.args.input.now) s origins text asks)
     (of_some (g.I.Source.left c.args.input.now) asks.bytes R asks.source_is (returns-clause-told g c) text (asked_backtrace o words (g.I.Source.left c.args.input.now) s origins t asks is))
+
+pub returns-clause-chain : goal.returns-clause-chain
+returns-clause-chain g c = λ o s origins functions start calls asks described.
+    let t = chain_traced s (content_apart asks.bytes s asks.reads) (content_laid_out asks.bytes s asks.reads) o origins functions start calls described in
+    let P : List ℕ → Type 0 = λ text. Tells (verdict Done text) c.tell.result (g.O.Sink.holds c.args.output.now) (g.O.Sink.holds c.tell.new.output) in
+    subst P t.2 (returns-clause-traced g c o s origins t.0 asks t.1)
+
+pub returns-clause-stop : goal.returns-clause-stop
+returns-clause-stop g c = λ o s origins functions start call calls asks described.
+    let t = stop_traced s (content_apart asks.bytes s asks.reads) (content_laid_out asks.bytes s asks.reads) o origins functions start call calls described in
+    let P : List ℕ → Type 0 = λ text. Tells (verdict Done text) c.tell.result (g.O.Sink.holds c.args.output.now) (g.O.Sink.holds c.tell.new.output) in
+    subst P t.2 (returns-clause-traced g c o s origins t.0 asks t.1)
+
+pub returns-clause-called : goal.returns-clause-called
+returns-clause-called g c = λ o s origins functions start caller calls asks described.
+    let t = called_traced s (content_apart asks.bytes s asks.reads) (content_laid_out asks.bytes s asks.reads) (content_whole asks.bytes s asks.reads) o origins functions start caller calls described in
+    let P : List ℕ → Type 0 = λ text. Tells (verdict Done text) c.tell.result (g.O.Sink.holds c.args.output.now) (g.O.Sink.holds c.tell.new.output) in
+    subst P t.2 (returns-clause-traced g c o s origins t.0 asks t.1)

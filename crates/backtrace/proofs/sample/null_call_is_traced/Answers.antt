@@ -1,4 +1,4 @@
-use Rattle.std.proofs.Common.{inl, inr, ◌≢◌, ℕ, false, refl, lit≤}
+use Rattle.std.proofs.Common.{inl, inr, ◌≢◌, ℕ, false, refl, sym, lit≤}
 use Rattle.std.specs.Char.{encode_utf8}
 use Rattle.std.specs.Str.{is_utf8, chars}
 use Rattle.std.specs.Fmt.{digits}
@@ -12,8 +12,8 @@ use Rattle.stack_snapshot.specs.Content.{space_of}
 use Rattle.stack_snapshot.specs.Origins.{origins_of}
 use Rattle.stack_snapshot.specs.Snapshot.{regions_of, modules_of, start_of, resumes_of, limit_of, interrupted_of, whole_numbers, snapshot_of}
 use Rattle.stack_report.specs.Digits.{hexadecimal, word}
-use Rattle.backtrace.specs.Lines.{backtrace_text, frame_line, no_module_text, place_text, rest_text}
-use Rattle.backtrace.specs.Sample.{context, json, snapshot}
+use Rattle.backtrace.specs.Lines.{backtrace_text, states_text, frame_line, no_module_text, place_text, rest_text}
+use Rattle.backtrace.specs.Sample.{context, json, snapshot, trace}
 use Rattle.backtrace.proofs.sample.null_call_is_traced.Goals as goal
 
 pub returns-clause-asked : goal.returns-clause-asked
@@ -34,5 +34,9 @@ returns-clause-traced c = (
 )
 
 pub returns-clause-written : goal.returns-clause-written
-unfolding digits hexadecimal word backtrace_text frame_line no_module_text place_text rest_text
+unfolding digits hexadecimal word backtrace_text states_text frame_line no_module_text place_text rest_text
 returns-clause-written c = refl
+
+pub returns-clause-backtrace : goal.returns-clause-backtrace
+unfolding is_utf8 chars encode_utf8 decode_pairs serde_json_on_literals value_of regions_of modules_of start_of resumes_of limit_of interrupted_of whole_numbers snapshot_of origins_of
+returns-clause-backtrace c = (trace, returns-clause-traced c, sym (returns-clause-written c))
