@@ -11,7 +11,7 @@ it says of the record's fields, and of an abbreviation of what that stands for.
 What it doesn't know: whether a witness's arguments are those of a worked example or variables, whether several
 premises of one clause are met together, premises that a clause's own definitions hold, comparisons of numbers,
 and statements of the kit. So what it lists wants a look, and what it doesn't list may still lack a witness.
-Each premise without one has a line, and the status is then 1, unless EXCEPTIONS or OPEN names it.
+Each premise without one has a line, and the status is then 1, unless EXCEPTIONS names it.
 """
 from __future__ import annotations
 
@@ -57,9 +57,6 @@ REASONS = {
         unwind_definitions.LanguageTable.IsLanguageTable""",
 }
 EXCEPTIONS = {name: reason for reason, names in REASONS.items() for name in names.split()}
-
-# Premises that still want a witness. A line says so where one of these has come.
-OPEN = {"stack_snapshot.Described.DescribesFormatChain"}
 
 
 def segments(text: str) -> list[str]:
@@ -205,16 +202,14 @@ def main() -> None:
     """Runs the program."""
     uses = Finder(contracts.specs(), contracts.functions()).find()
     found = lacking(uses)
-    new = [line for name, line in found.items() if name not in EXCEPTIONS and name not in OPEN]
+    new = [line for name, line in found.items() if name not in EXCEPTIONS]
     if "--all" in sys.argv[1:]:
         for place, use in sorted(uses.items()):
             print(f"{'.'.join(place)}: {', '.join(use.witnesses[:3]) or EXCEPTIONS.get('.'.join(place), 'none yet')}")
-    for name in sorted({*OPEN, *EXCEPTIONS} - found.keys()):
+    for name in sorted(EXCEPTIONS.keys() - found.keys()):
         print(f"{name}: a witness meets it, or no clause has it, so no list has to name it")
     print("".join(f"{line}\n" for line in new), end="")
-    known = len(OPEN & found.keys())
-    rest = len(found) - len(new) - known
-    print(f"{len(uses)} premises: {len(new)} without a witness, {known} known to lack one, {rest} want none")
+    print(f"{len(uses)} premises: {len(new)} without a witness, {len(found) - len(new)} want none")
     sys.exit(1 if new else 0)
 
 

@@ -4,7 +4,7 @@ import tempfile
 import unittest
 
 import contracts
-from check_witnesses import EXCEPTIONS, OPEN, Finder, lacking, premises_of, said_by, segments
+from check_witnesses import EXCEPTIONS, Finder, lacking, premises_of, said_by, segments
 
 SPECS = """-- Relations.
 abbrev pub IsOdd : ℕ → Type 0
@@ -70,7 +70,7 @@ class Witnesses(unittest.TestCase):
 
     def test_the_premises_of_this_repository(self) -> None:
         found = lacking(Finder(contracts.specs(), contracts.functions()).find())
-        self.assertEqual([line for name, line in found.items() if name not in EXCEPTIONS and name not in OPEN], [])
+        self.assertEqual([line for name, line in found.items() if name not in EXCEPTIONS], [])
 
 
 if __name__ == "__main__":

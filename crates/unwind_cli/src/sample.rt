@@ -21,12 +21,15 @@ ghost use Rattle.stack_snapshot.specs.Answers.{content_of};
 ghost use Rattle.unwind_cli.specs.FramePointer as frame_pointer;
 ghost use Rattle.unwind_cli.specs.Allocated as allocated;
 ghost use Rattle.unwind_cli.specs.Caught as caught;
+ghost use Rattle.unwind_cli.specs.Formats as formats;
+ghost use Rattle.format_laws.specs.FormatSample as mixed;
 ghost use Rattle.core_walks.specs.Lines.{stopped_text, text_before, text_after};
 ghost use Rattle.folded_stacks.specs.Folding.{chain_stack};
 ghost use Rattle.folded_stacks.specs.FoldSample.{sample_at};
 ghost use Rattle.stack_report.specs.Folds.{fold_report_of};
 ghost use Rattle.stack_snapshot.specs.Cores.{core_space_of, threads_of};
-ghost use Rattle.stack_snapshot.specs.Described.{DescribesFormatStop};
+ghost use Rattle.stack_snapshot.specs.Described.{DescribesFormatChain, DescribesFormatStop};
+ghost use Rattle.stack_snapshot.specs.Described.{DescribesFormatWalk};
 ghost use Rattle.stack_snapshot.specs.Sampled.{sampled_space};
 ghost use Rattle.stack_steps.specs.Stopped.{StartsFormatStop};
 ghost use Rattle.stack_steps.specs.StopSample.{after_the_push, stopped_at};
@@ -115,6 +118,23 @@ pub fn call_from_outside_is_described()
         (three.first_call ∷ []) }
     ensures written { delivery_text
         (delivery_of three.exception three.start (three.first_call ∷ [])) ≡ caught.first_text }
+{}
+
+/// A snapshot of modules of three formats meets what `run` asks of one whose modules describe a
+/// chain, from its bytes on: of a delivery and of a walk. These texts are then due.
+pub fn calls_through_formats_are_described()
+    ensures read { content_of formats.json ≡ Ok formats.snapshot }
+    ensures delivered { Asks task.Deliver (codes "deliver" ∷ []) (Some formats.json)
+        formats.snapshot }
+    ensures walked { Asks task.Walk (codes "walk" ∷ []) (Some formats.json) formats.snapshot }
+    ensures described { DescribesFormatChain formats.snapshot mixed.functions mixed.caught_start
+        mixed.caught_calls }
+    ensures walk_described { DescribesFormatWalk formats.snapshot mixed.functions
+        mixed.caught_start mixed.caught_calls }
+    ensures delivery_text { delivery_text
+        (delivery_of three.exception mixed.caught_start mixed.caught_calls) ≡ formats.text }
+    ensures walk_text { walk_text (states_of mixed.caught_start mixed.caught_calls) ≡
+        formats.walked }
 {}
 
 /// What a step asks of a call that it undoes is met by that function, which pushes, sets a frame
