@@ -93,12 +93,7 @@ fn snapshot_in(rt: &HostRuntime, name: &str) -> Result<Snapshot> {
 }
 
 /// Prints the file's name and its report, which has to be the same where the modules are prepared.
-fn print_report(
-    rt: &HostRuntime,
-    name: &str,
-    report: &Report,
-    by_indexes: &Report,
-) -> Result<()> {
+fn print_report(rt: &HostRuntime, name: &str, report: &Report, by_indexes: &Report) -> Result<()> {
     if report.bytes() != by_indexes.bytes() {
         bail!("another report where the modules are prepared");
     }

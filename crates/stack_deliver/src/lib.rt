@@ -48,7 +48,7 @@ pub use stack_steps::{
     DeliverError, MachoTables, Module, ModuleTables, PeTables, Space, SpaceError, Stepped, step,
 };
 pub use stack_walks::{
-    Front, Room, RowRoom, Trail, Visited, each_reason_is_given, walk, walk_front_into,
-    walk_into, walk_with_rows,
+    Front, Room, RowRoom, Trail, Visited, each_reason_is_given, walk, walk_front_into, walk_into,
+    walk_with_rows,
 };
 pub use unwind_arch::x86_64::Context;
