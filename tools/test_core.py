@@ -238,8 +238,8 @@ class WordsTest(unittest.TestCase):
     """The words of core_backtrace.py."""
 
     def test_words(self) -> None:
-        with mock.patch.dict(os.environ, {"UNWIND_CLI": "/opt/unwind_cli"}):
-            self.assertEqual(read_words(["p", "c"]), Options("p", "c", False, "/opt/unwind_cli", ""))
+        with mock.patch.dict(os.environ, {"UNWIND_CLI": "built/unwind_cli"}):
+            self.assertEqual(read_words(["p", "c"]), Options("p", "c", False, "built/unwind_cli", ""))
             words = ["--root", "/r", "p", "--threads", "c", "--unwind-cli", "u"]
             self.assertEqual(read_words(words), Options("p", "c", True, "u", "/r"))
 

@@ -1,5 +1,6 @@
-//! What the commands share, each of which reads a snapshot whole and writes one answer: the words, the source's bytes within
-//! a limit, what is answered where they are no snapshot, the sink's front where a write fails, and the status of the run.
+//! What the commands share, each of which reads a snapshot whole and writes one answer: the words,
+//! the source's bytes within a limit, what is answered where they are no snapshot, the sink's front
+//! where a write fails, and the status of the run.
 #![tactic(auto)]
 
 mod answer;

@@ -32,8 +32,8 @@ pub(crate) fn compare_at(addresses: &[u64], left: Place, right: Place) -> Orderi
     stack_at(addresses, left).cmp(&stack_at(addresses, right))
 }
 
-/// Makes room for so many more addresses. Where they have none, the list grows by half, or by so many where that is more: never
-/// to twice its size, as it would by itself.
+/// Makes room for so many more addresses. Where they have none, the list grows by half, or by so
+/// many where that is more: never to twice its size, as it would by itself.
 fn make_room(addresses: &mut Vec<u64>, more: usize) -> Result<(), AllocError>
     ensures { addresses.new.items ≡ addresses.old.items }
 {
