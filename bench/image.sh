@@ -1,5 +1,6 @@
 #!/usr/bin/env bash
-# Measures an image of memory: instructions (callgrind) of adding regions and of reading.
+# Measures an image of memory: instructions (callgrind) of adding regions and of reading, and of
+# laying a region over an image.
 #
 #     bench/image.sh
 #
@@ -106,5 +107,86 @@ for regions in 1 100 10000; do
         adds=$(instructions "$program" ascending "$regions" 0 "$bytes")
         all=$(instructions "$program" ascending "$regions" "$passes" "$bytes")
         echo "$regions regions of $bytes bytes: a read $(((all - adds) / (regions * passes)))"
+    done
+done
+
+add_program over memory_image <<'PROGRAM'
+//! Reads words in an image of regions, and in one with a region more: `over WHAT REGIONS COUNT`.
+#![tactic(auto)]
+
+use memory_image::MemoryImage;
+use std::env;
+use std::process::ExitCode;
+
+const STACK: u64 = 0x7fff_0000_0000;
+
+fn filled(rt: &HostRuntime, regions: u64) -> MemoryImage<'static> {
+    let mut image: MemoryImage<'static> = MemoryImage::new(rt.alloc());
+    for number in 0..regions {
+        let _ = image.add(number.wrapping_mul(4096).wrapping_add(0x1000), &[7; 64]);
+    }
+    image
+}
+
+fn reads(image: &MemoryImage<'_>, place: u64, count: u64) -> u64 {
+    let mut total = 0u64;
+    for _ in 0..count {
+        total = total.wrapping_add(image.read_u64(place).unwrap_or(0));
+    }
+    total
+}
+
+fn reads_over(image: &MemoryImage<'_>, stack: &[u8], place: u64, count: u64) -> u64 {
+    match MemoryImage::over(&*image, STACK, stack) {
+        Ok(over) => reads(&over, place, count),
+        Err(_) => 0,
+    }
+}
+
+/// Lays a stack over the image for each read.
+fn samples(image: &MemoryImage<'_>, stack: &[u8], count: u64) -> u64 {
+    let mut total = 0u64;
+    for _ in 0..count {
+        total = total.wrapping_add(reads_over(&*image, stack, STACK + 8, 1));
+    }
+    total
+}
+
+fn main(rt: HostRuntime) -> ExitCode {
+    let mut numbers = [0u64; 3];
+    let mut place = 0usize;
+    let Ok(words) = env::args(&rt) else {
+        return ExitCode::from(2);
+    };
+    for word in words {
+        if let Ok(number) = word.as_str().parse::<u64>() {
+            if place < 3 {
+                numbers[place] = number;
+                place += 1;
+            }
+        }
+    }
+    let image = filled(&rt, numbers[1]);
+    let stack = [9u8; 64];
+    let total = match numbers[0] {
+        0 => reads(&image, 0x1000, numbers[2]),
+        1 => reads_over(&image, &stack, 0x1000, numbers[2]),
+        2 => reads_over(&image, &stack, STACK + 8, numbers[2]),
+        _ => samples(&image, &stack, numbers[2]),
+    };
+    match println!(rt; "total {total}") {
+        Ok(()) => ExitCode::from(0),
+        Err(_) => ExitCode::from(1),
+    }
+}
+PROGRAM
+build_program over 0 1 1
+
+names=("a read" "below a region" "in the region" "laid over for each read")
+for regions in 10 1000; do
+    for what in 0 1 2 3; do
+        few=$(instructions "$program" "$what" "$regions" 1000)
+        many=$(instructions "$program" "$what" "$regions" 11000)
+        echo "$regions regions, ${names[$what]}: $(((many - few) / 10000))"
     done
 done

@@ -1,6 +1,6 @@
 -- The entries of the map of regions: what a search by key finds, and what one more entry changes.
 use denote.Ref.{Bor}
-use Rattle.std.proofs.Common.{◌≡◌, ℕ, ◌+◌, ◌^◌, ◌<◌, ◌≤◌, Bool, true, false, List, [], ◌∷◌, ◌++◌, Option, Some, None, unwrap_or, refl, sym, ap, ◌∙◌, arith, ltb, inl, inr, length}
+use Rattle.std.proofs.Common.{◌≡◌, ℕ, zero, suc, ◌+◌, ◌^◌, ◌<◌, ◌≤◌, Bool, true, false, List, [], ◌∷◌, ◌++◌, Option, Some, None, unwrap_or, refl, sym, ap, ◌∙◌, subst, arith, ltb, inl, inr, length}
 use Rattle.std.proofs.lemmas.Bool.Decides.{nat_tests, leb_tells}
 use Rattle.std.specs.declared.cmp.Ordering.TheVariants.{Less, Equal, Greater}
 use Rattle.std.specs.declared.ops.Bound.TheVariants.{Included, Excluded, Unbounded}
@@ -11,12 +11,16 @@ use Rattle.std.specs.List.{filter}
 use Rattle.std.specs.Option.{option_map}
 use Rattle.std.specs.Ordering.{nat_cmp}
 use Rattle.memory_image.specs.Image.{Span, end_of, IsLaidOut, lowest_overlap, with_span, AddsRegion}
-use Rattle.memory_image.specs.Regions.{span_of, spans_of, span_below, start_above}
+use Rattle.memory_image.specs.Regions.{span_of, bytes_at, span_at, spans_of, span_below, start_above}
 use Rattle.memory_image.proofs.SpanAdds.{apart, laid-with_span, adds-with_span}
 
--- a first address and the bytes from there
+-- a first address and the place of the bytes from there
 abbrev pub Entry : Type 0
-Entry = ℕ × Bor (List ℕ)
+Entry = ℕ × ℕ
+
+-- the bytes at their places
+abbrev pub Lent : Type 0
+Lent = List (Bor (List ℕ))
 
 cmp_less : (a b : ℕ) → a < b → nat_cmp a b ≡ Less
 cmp_less a b h = sym (nat_cmp_is a b Less h)
@@ -42,20 +46,20 @@ record PassesUpTo (a : ℕ) (p : ℕ → Bool) : Type 0 where
   below : (k : ℕ) → k ≤ a → p k ≡ true
   above : (k : ℕ) → a < k → p k ≡ false
 
-filter_none : (a : ℕ) (p : ℕ → Bool) → PassesUpTo a p → (es : List Entry) (low : ℕ) → IsLaidOut low (spans_of es) → a < low → filter (λ e. p e.0) es ≡ []
-filter_none a p t [] low laid h = refl
-filter_none a p t (e ∷ es) low laid h = rw (t.above e.0 (omega (arith, laid.0))) (filter_none a p t es (end_of (span_of e)) laid.3 (omega (arith, laid.0)))
+filter_none : (a : ℕ) (p : ℕ → Bool) → PassesUpTo a p → (rs : Lent) (es : List Entry) (low : ℕ) → IsLaidOut low (spans_of rs es) → a < low → filter (λ e. p e.0) es ≡ []
+filter_none a p t rs [] low laid h = refl
+filter_none a p t rs (e ∷ es) low laid h = rw (t.above e.0 (omega (arith, laid.0))) (filter_none a p t rs es (end_of (span_at rs e)) laid.3 (omega (arith, laid.0)))
 
-map_last : (o : Option Entry) (e : Entry) → option_map span_of (Some (unwrap_or o e)) ≡ Some (unwrap_or (option_map span_of o) (span_of e))
-map_last None e = refl
-map_last (Some f) e = refl
+map_last : (rs : Lent) (o : Option Entry) (e : Entry) → option_map (span_at rs) (Some (unwrap_or o e)) ≡ Some (unwrap_or (option_map (span_at rs) o) (span_at rs e))
+map_last rs None e = refl
+map_last rs (Some f) e = refl
 
-last_of-filter : (a : ℕ) (p : ℕ → Bool) → PassesUpTo a p → (es : List Entry) (low : ℕ) → IsLaidOut low (spans_of es) → option_map span_of (last_of (filter (λ e. p e.0) es)) ≡ span_below (spans_of es) a
-last_of-filter a p t [] low laid = refl
-last_of-filter a p t (e ∷ es) low laid =
+last_of-filter : (a : ℕ) (p : ℕ → Bool) → PassesUpTo a p → (rs : Lent) (es : List Entry) (low : ℕ) → IsLaidOut low (spans_of rs es) → option_map (span_at rs) (last_of (filter (λ e. p e.0) es)) ≡ span_below (spans_of rs es) a
+last_of-filter a p t rs [] low laid = refl
+last_of-filter a p t rs (e ∷ es) low laid =
     elim (leb_tells e.0 a) [
-      | inl q ↦ rw (t.below e.0 q.1, q.0) (map_last (last_of (filter (λ f. p f.0) es)) e ∙ rw (last_of-filter a p t es (end_of (span_of e)) laid.3) refl)
-      | inr q ↦ rw (t.above e.0 q.1, q.0, filter_none a p t es (end_of (span_of e)) laid.3 (omega (arith, q.1))) refl
+      | inl q ↦ rw (t.below e.0 q.1, q.0) (map_last rs (last_of (filter (λ f. p f.0) es)) e ∙ rw (last_of-filter a p t rs es (end_of (span_at rs e)) laid.3) refl)
+      | inr q ↦ rw (t.above e.0 q.1, q.0, filter_none a p t rs es (end_of (span_at rs e)) laid.3 (omega (arith, q.1))) refl
     ]
 
 up_to : (a : ℕ) → PassesUpTo a (range_contains nat_cmp Unbounded (Included a))
@@ -68,11 +72,11 @@ up_to a =
       above = λ k h. rw (cmp_less a k h) refl;
     }
 
-pub below-found : (es t : List Entry) (a : ℕ) (e : Entry) → IsLaidOut 0 (spans_of es) → entries_between nat_cmp Unbounded (Included a) es ≡ t ++ e ∷ [] → span_below (spans_of es) a ≡ Some (span_of e)
-below-found es t a e laid is = sym (last_of-filter a _ (up_to a) es 0 laid) ∙ rw (is, last_of-append t e) refl
+pub below-found : (rs : Lent) (es t : List Entry) (a : ℕ) (e : Entry) → IsLaidOut 0 (spans_of rs es) → entries_between nat_cmp Unbounded (Included a) es ≡ t ++ e ∷ [] → span_below (spans_of rs es) a ≡ Some (span_at rs e)
+below-found rs es t a e laid is = sym (last_of-filter a _ (up_to a) rs es 0 laid) ∙ rw (is, last_of-append t e) refl
 
-pub below-none : (es : List Entry) (a : ℕ) → IsLaidOut 0 (spans_of es) → entries_between nat_cmp Unbounded (Included a) es ≡ [] → span_below (spans_of es) a ≡ None
-below-none es a laid is = sym (last_of-filter a _ (up_to a) es 0 laid) ∙ rw is refl
+pub below-none : (rs : Lent) (es : List Entry) (a : ℕ) → IsLaidOut 0 (spans_of rs es) → entries_between nat_cmp Unbounded (Included a) es ≡ [] → span_below (spans_of rs es) a ≡ None
+below-none rs es a laid is = sym (last_of-filter a _ (up_to a) rs es 0 laid) ∙ rw is refl
 
 -- ---- the entries above an address
 
@@ -84,12 +88,12 @@ record PassesAbove (a : ℕ) (p : ℕ → Bool) : Type 0 where
   below : (k : ℕ) → k ≤ a → p k ≡ false
   above : (k : ℕ) → a < k → p k ≡ true
 
-first_start-filter : (a : ℕ) (p : ℕ → Bool) → PassesAbove a p → (es : List Entry) → first_start (filter (λ e. p e.0) es) ≡ start_above (spans_of es) a
+first_start-filter : (a : ℕ) (p : ℕ → Bool) → PassesAbove a p → (rs : Lent) (es : List Entry) → first_start (filter (λ e. p e.0) es) ≡ start_above (spans_of rs es) a
 unfolding first_start
-first_start-filter a p t [] = refl
-first_start-filter a p t (e ∷ es) =
+first_start-filter a p t rs [] = refl
+first_start-filter a p t rs (e ∷ es) =
     elim (leb_tells e.0 a) [
-      | inl q ↦ let no : ltb a e.0 ≡ false = grind (arith, nat_tests) in rw (t.below e.0 q.1, no) (first_start-filter a p t es)
+      | inl q ↦ let no : ltb a e.0 ≡ false = grind (arith, nat_tests) in rw (t.below e.0 q.1, no) (first_start-filter a p t rs es)
       | inr q ↦ let yes : ltb a e.0 ≡ true = grind (arith, nat_tests) in rw (t.above e.0 q.1, yes) refl
     ]
 
@@ -103,40 +107,67 @@ from_above a =
       above = λ k h. rw (cmp_less a k h) refl;
     }
 
-pub above-found : (es t : List Entry) (a : ℕ) (e : Entry) → entries_between nat_cmp (Excluded a) Unbounded es ≡ e ∷ t → start_above (spans_of es) a ≡ Some e.0
+pub above-found : (rs : Lent) (es t : List Entry) (a : ℕ) (e : Entry) → entries_between nat_cmp (Excluded a) Unbounded es ≡ e ∷ t → start_above (spans_of rs es) a ≡ Some e.0
 unfolding first_start
-above-found es t a e is = sym (first_start-filter a _ (from_above a) es) ∙ rw is refl
+above-found rs es t a e is = sym (first_start-filter a _ (from_above a) rs es) ∙ rw is refl
 
-pub above-none : (es : List Entry) (a : ℕ) → entries_between nat_cmp (Excluded a) Unbounded es ≡ [] → start_above (spans_of es) a ≡ None
+pub above-none : (rs : Lent) (es : List Entry) (a : ℕ) → entries_between nat_cmp (Excluded a) Unbounded es ≡ [] → start_above (spans_of rs es) a ≡ None
 unfolding first_start
-above-none es a is = sym (first_start-filter a _ (from_above a) es) ∙ rw is refl
+above-none rs es a is = sym (first_start-filter a _ (from_above a) rs es) ∙ rw is refl
 
 -- ---- one more entry
 
-pub spans_of-insert_entry : (es : List Entry) (low a : ℕ) (bytes : Bor (List ℕ)) → IsLaidOut low (spans_of es) → 0 < length bytes.now → lowest_overlap (spans_of es) a (length bytes.now) ≡ None
-    → spans_of (insert_entry nat_cmp es a bytes) ≡ with_span (span_of (a, bytes)) (spans_of es)
-spans_of-insert_entry [] low a bytes laid some none = refl
-spans_of-insert_entry (e ∷ es) low a bytes laid some none =
-    let apart_from = apart (span_of (a, bytes)) (span_of e) (spans_of es) none in
-    elim (leb_tells e.0 a) [
+spans_of-insert_entry : (rs : Lent) (es : List Entry) (low : ℕ) (e : Entry) → IsLaidOut low (spans_of rs es) → 0 < length (bytes_at rs e.1) → lowest_overlap (spans_of rs es) e.0 (length (bytes_at rs e.1)) ≡ None
+    → spans_of rs (insert_entry nat_cmp es e.0 e.1) ≡ with_span (span_at rs e) (spans_of rs es)
+spans_of-insert_entry rs [] low n laid some none = refl
+spans_of-insert_entry rs (e ∷ es) low n laid some none =
+    let apart_from = apart (span_at rs n) (span_at rs e) (spans_of rs es) none in
+    elim (leb_tells e.0 n.0) [
       | inl q ↦
-          let no : ltb a e.0 ≡ false = grind (arith, nat_tests) in
-          let after : end_of (span_of e) ≤ a = elim apart_from.here [ inl h ↦ h | inr h ↦ absurd (omega (arith, q.1)) ] in
-          rw (cmp_greater a e.0 (omega (arith, laid.1)), no) (ap (λ (us : List Span). span_of e ∷ us) (spans_of-insert_entry es (end_of (span_of e)) a bytes laid.3 some apart_from.rest))
-      | inr q ↦ let yes : ltb a e.0 ≡ true = grind (arith, nat_tests) in rw (cmp_less a e.0 q.1, yes) refl
+          let no : ltb n.0 e.0 ≡ false = grind (arith, nat_tests) in
+          let after : end_of (span_at rs e) ≤ n.0 = elim apart_from.here [ inl h ↦ h | inr h ↦ absurd (omega (arith, q.1)) ] in
+          rw (cmp_greater n.0 e.0 (omega (arith, laid.1)), no) (ap (λ (us : List Span). span_at rs e ∷ us) (spans_of-insert_entry rs es (end_of (span_at rs e)) n laid.3 some apart_from.rest))
+      | inr q ↦ let yes : ltb n.0 e.0 ≡ true = grind (arith, nat_tests) in rw (cmp_less n.0 e.0 q.1, yes) refl
     ]
 
-pub record IsAdded (old new : List Entry) (a : ℕ) (bytes : Bor (List ℕ)) : Type 0 where
-  pub laid_out : IsLaidOut 0 (spans_of new)
-  pub adds : AddsRegion (spans_of old) (spans_of new) a bytes.now
+-- ---- one more list of bytes
 
-pub added : (old new : List Entry) (a : ℕ) (bytes : Bor (List ℕ)) → IsLaidOut 0 (spans_of old) → 0 < length bytes.now → a + length bytes.now ≤ 2 ^ 64 → lowest_overlap (spans_of old) a (length bytes.now) ≡ None
-    → new ≡ insert_entry nat_cmp old a bytes → IsAdded old new a bytes
-added old new a bytes laid some below none is =
-    let spans : spans_of new ≡ with_span (span_of (a, bytes)) (spans_of old) = ap spans_of is ∙ spans_of-insert_entry old 0 a bytes laid some none in
+bytes_at-more : (rs : Lent) (b : Bor (List ℕ)) (i : ℕ) → 0 < length (bytes_at rs i) → bytes_at (rs ++ b ∷ []) i ≡ bytes_at rs i
+bytes_at-more [] b i some = absurd (omega arith)
+bytes_at-more (r ∷ rs) b zero some = refl
+bytes_at-more (r ∷ rs) b (suc i) some = bytes_at-more rs b i some
+
+bytes_at-last : (rs : Lent) (b : Bor (List ℕ)) → bytes_at (rs ++ b ∷ []) (length rs) ≡ b.now
+bytes_at-last [] b = refl
+bytes_at-last (r ∷ rs) b = bytes_at-last rs b
+
+pub spans_of-more : (rs : Lent) (b : Bor (List ℕ)) (es : List Entry) (low : ℕ) → IsLaidOut low (spans_of rs es) → spans_of (rs ++ b ∷ []) es ≡ spans_of rs es
+spans_of-more rs b [] low laid = refl
+spans_of-more rs b (e ∷ es) low laid =
+    let here : span_at (rs ++ b ∷ []) e ≡ span_at rs e = ap (λ (bytes : List ℕ). let s : Span = record { start = e.0; bytes = bytes } in s) (bytes_at-more rs b e.1 laid.1) in
+    let rest : spans_of (rs ++ b ∷ []) es ≡ spans_of rs es = spans_of-more rs b es (end_of (span_at rs e)) laid.3 in
+    rw (here, rest) refl
+
+pub record IsAdded (old new : List Span) (a : ℕ) (bytes : Bor (List ℕ)) : Type 0 where
+  pub laid_out : IsLaidOut 0 new
+  pub adds : AddsRegion old new a bytes.now
+
+pub added : (rs : Lent) (old new : List Entry) (a : ℕ) (bytes : Bor (List ℕ)) → IsLaidOut 0 (spans_of rs old) → 0 < length bytes.now → a + length bytes.now ≤ 2 ^ 64 → lowest_overlap (spans_of rs old) a (length bytes.now) ≡ None
+    → new ≡ insert_entry nat_cmp old a (length rs) → IsAdded (spans_of rs old) (spans_of (rs ++ bytes ∷ []) new) a bytes
+added rs old new a bytes laid some fits none is =
+    let more : Lent = rs ++ bytes ∷ [] in
+    let last : bytes_at more (length rs) ≡ bytes.now = bytes_at-last rs bytes in
+    let same : spans_of more old ≡ spans_of rs old = spans_of-more rs bytes old 0 laid in
+    let region : Span = record { start = a; bytes = bytes.now } in
+    let laid_more : IsLaidOut 0 (spans_of more old) = subst (IsLaidOut 0) (sym same) laid in
+    let some_more : 0 < length (bytes_at more (length rs)) = rw last some in
+    let none_more : lowest_overlap (spans_of more old) a (length (bytes_at more (length rs))) ≡ None = rw (same, last) none in
+    let spans : spans_of more new ≡ with_span region (spans_of rs old) =
+    ap (spans_of more) is ∙ spans_of-insert_entry more old 0 (a, length rs) laid_more some_more none_more
+    ∙ ap (λ (t : List ℕ). with_span (record { start = a; bytes = t }) (spans_of more old)) last ∙ ap (with_span region) same in
     record {
-      laid_out = rw spans (laid-with_span (span_of (a, bytes)) (spans_of old) 0 laid (omega arith) some below none);
-      adds = adds-with_span (span_of (a, bytes)) (spans_of old) (spans_of new) laid some none spans;
+      laid_out = rw spans (laid-with_span region (spans_of rs old) 0 laid (omega arith) some fits none);
+      adds = adds-with_span region (spans_of rs old) (spans_of more new) laid some none spans;
     }
 
 -- ---- the span below an address x ends at or below a

@@ -8,7 +8,7 @@ use Rattle.memory_image.proofs.image.MemoryImage.read_u64.Goals as goal
 pub returns-in-Some : goal.returns-in-Some
 unfolding word_at
 returns-in-Some c =
-    let laid : IsLaidOut 0 c.args.self.now = subst (IsLaidOut 0) c.self.view_is c.self.invariant in
+    let laid : IsLaidOut 0 c.args.self.now = subst (IsLaidOut 0) c.self.view_is c.self.invariant.0 in
     let table = c.in_ok-table.ensures.held.0 in
     let chunk = c.in-Some.ensures.cases in
     let fits : 8 ≤ length (table_at c.args.self.now c.args.address) = rw table at chunk.enough in
