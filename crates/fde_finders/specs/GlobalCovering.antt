@@ -1,4 +1,4 @@
--- A description that any of a program's finders finds contains the address.
+-- A description that any of a program's finders finds contains the address. No public clause cites this.
 use Rattle.std.proofs.Common.{ℕ, List, Option}
 use Rattle.memory_image.specs.Image.{Span}
 use Rattle.fde_finders.specs.declared.custom.FrameInfo.{FrameInfo}

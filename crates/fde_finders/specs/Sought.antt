@@ -1,4 +1,4 @@
--- Which program header is looked for.
+-- Which program header is looked for. No public clause cites this.
 use Rattle.std.specs.Prelude.{Bool}
 use Rattle.fde_finders.specs.declared.phdr.Phdr.{Phdr}
 use Rattle.fde_finders.specs.declared.phdr.Sought.{Sought}

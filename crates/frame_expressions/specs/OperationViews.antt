@@ -1,4 +1,4 @@
--- The code's operations as those of the definitions.
+-- The code's operations as those of the definitions. No public clause cites this.
 use Rattle.std.specs.Prelude.{ℕ, bit_and, bit_or, bit_xor}
 use Rattle.std.specs.Int.{w64, bit_not}
 use Rattle.unwind_definitions.specs.Caller.{◌+w◌}

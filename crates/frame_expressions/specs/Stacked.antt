@@ -1,4 +1,4 @@
--- The words of a stack by the places that hold them.
+-- The words of a stack by the places that hold them. No public clause cites this.
 use Rattle.std.specs.Prelude.{ℕ, zero, suc, List, [], ◌∷◌, slice_index}
 
 -- the first n words, the last of them first

@@ -1,4 +1,4 @@
--- Where an expression reads memory that isn't mapped, no word is mapped: an operation reads 8 bytes at most.
+-- Where an expression reads memory that isn't mapped, no word is mapped: an operation reads 8 bytes at most. No public clause cites this.
 use Rattle.std.proofs.Common.{◌≡◌, ℕ, zero, suc, ◌+◌, ◌-◌, ◌*◌, ◌^◌, ◌≤◌, Bool, true, false, List, [], ◌∷◌, length, Option, Some, None, Result, Ok, Err, nat_lt, nat_le, ◌==◌, refl, arith}
 use Rattle.std.specs.Prelude.{if◌then◌else◌}
 use Rattle.std.specs.Int.{w8}

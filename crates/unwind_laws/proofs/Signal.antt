@@ -133,7 +133,7 @@ fde_read_at bases table o (Some b) n next fde e =
     let same : a.0 ≡ AFde fde = entry_same a.0 (AFde fde) n next a.2 in
     fde_read_in bases table o b fde (a.1 ∙ ap (λ (k : Entry). Ok k) same)
 
-one_read : (bases : Bases) (table : Input) (o next : ℕ) (fde : Fde) → entry_at bases table o ≡ Ok (Some (record { entry = AFde fde; next = next })) → FdeRead bases fde
+pub one_read : (bases : Bases) (table : Input) (o next : ℕ) (fde : Fde) → entry_at bases table o ≡ Ok (Some (record { entry = AFde fde; next = next })) → FdeRead bases fde
 unfolding entry_at
 one_read bases table o next fde e = let a = bound (body (skip o table)) _ (Some (record { entry = AFde fde; next = next })) e in fde_read_at bases table o a.0.0 _ next fde a.2
 
