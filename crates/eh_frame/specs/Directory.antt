@@ -1,4 +1,4 @@
--- A directory of ascending addresses: which of them a search looks at, for each stretch of addresses.
+-- A directory of ascending addresses: which of them a search looks at, for each stretch of addresses. No public clause cites this.
 use Rattle.std.specs.Prelude.{ℕ, ◌+◌, ◌*◌, ◌^◌, ◌<◌, ◌≤◌, List, length, slice_index, slice_index_or}
 use Rattle.eh_frame.specs.declared.starts.Bounds.{Bounds}
 

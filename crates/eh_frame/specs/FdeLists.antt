@@ -1,4 +1,4 @@
--- Descriptions whose common information entries stand in a list, as they stand in the code.
+-- Descriptions whose common information entries stand in a list, as they stand in the code. No public clause cites this.
 use Rattle.std.specs.Prelude.{◌≡◌, ℕ, ◌+◌, ◌<◌, ◌≤◌, Bool, true, false, List, [], ◌∷◌, ◌++◌, length, map, slice_index_or, Option, Some, None, Result, Ok, Err, is_some, nat_lt, if◌then◌else◌}
 use Rattle.std.specs.Option.{option_map}
 use Rattle.std.specs.List.{AllByRecursion}

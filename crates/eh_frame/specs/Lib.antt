@@ -12,3 +12,4 @@ pub mod Turns
 pub mod Directory
 pub mod Looking
 pub mod PreparedSample
+pub mod Walked

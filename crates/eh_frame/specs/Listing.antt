@@ -1,5 +1,5 @@
 -- What is left of a frame table's entries, which are read one by one.
-use Rattle.std.specs.Prelude.{ℕ, Bool, true, Option, Some, None, Result, Ok, Err, if◌then◌else◌}
+use Rattle.std.specs.Prelude.{ℕ, ◌<◌, ◌≤◌, length, Bool, true, Option, Some, None, Result, Ok, Err, if◌then◌else◌}
 use Rattle.std.specs.Option.{option_map}
 use Rattle.memory_image.specs.Results.{result_map}
 use Rattle.unwind_definitions.specs.declared.error.Error.{Error as Fault}
@@ -32,3 +32,7 @@ abbrev pub after : Listing → Result (Option Found) Fault → Listing
 after l (Ok (Some found)) = record l { offset = found.next }
 after l (Ok None) = record l { is_over = true }
 after l (Err e) = record l { is_over = true }
+
+-- unless it is past the table's end already, the next entry of the same table stands further on, and not past the end
+abbrev pub MovesAhead : Listing → Listing → Type 0
+MovesAhead old new = old.offset ≤ length old.table.bytes → (old.offset < new.offset) × (new.offset ≤ length old.table.bytes)

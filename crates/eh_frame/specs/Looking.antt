@@ -1,4 +1,4 @@
--- Which functions of an index a search for an address looks at.
+-- Which functions of an index a search for an address looks at. No public clause cites this.
 use Rattle.std.specs.Prelude.{ℕ, ◌<◌, ◌≤◌, List, length, slice_index_or}
 use Rattle.eh_frame.specs.Index.{Described}
 use Rattle.eh_frame.specs.declared.starts.Bounds.{Bounds}

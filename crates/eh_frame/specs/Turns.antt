@@ -1,4 +1,4 @@
--- Which programs of common information entries a builder of rows has begun, while descriptions are kept.
+-- Which programs of common information entries a builder of rows has begun, while descriptions are kept. No public clause cites this.
 use Rattle.std.specs.Prelude.{◌≡◌, ℕ, Some, IfSome}
 use Rattle.unwind_definitions.specs.Instructions.{Program}
 use Rattle.frame_rows.specs.Begun.{HasBegun, HasBegunBefore}

@@ -1,6 +1,6 @@
 //! Frame description entries: where a function's code lies, and how its frame is undone.
 
-ghost use Rattle.std.specs.Prelude.{◌≡◌, ◌+◌, ◌<◌, ◌^◌, is_some};
+ghost use Rattle.std.specs.Prelude.{◌≡◌, ◌+◌, ◌<◌, ◌^◌, ℕ, Result, Some, is_some};
 ghost use Rattle.std.specs.Option.{option_map};
 ghost use Rattle.unwind_definitions.specs.Entries.{is_pointing};
 ghost use Rattle.encoded_pointers.specs.Readers.{Answers};
@@ -12,7 +12,7 @@ use crate::cie::Cie;
 use crate::entries::EhFrame;
 use crate::listed_fde::ListedFde;
 use encoded_pointers::{Bases, Cursor, Pointer};
-use frame_rows::{Row, RowRoom};
+use frame_rows::{Row, RowRoom, RowWalk};
 use unwind_definitions::Error;
 
 /// A frame description entry (FDE): the addresses of a function, and the program of its rows.
@@ -34,8 +34,10 @@ impl<'a> Fde<'a> {
     ghost use Rattle.std.specs.Prelude.{◌&&◌};
     ghost use Rattle.unwind_definitions.specs.Augmentation.{has_letter, language_letter};
     ghost use Rattle.unwind_definitions.specs.Augmentation.{personality_letter};
-    ghost use Rattle.unwind_definitions.specs.Entries.{fde_body};
-    ghost use Rattle.unwind_definitions.specs.Row.{covers_pc, row_at};
+    ghost use Rattle.unwind_definitions.specs.Entries.{coding_of, fde_body};
+    ghost use Rattle.unwind_definitions.specs.Row.{RowInstructions, covers_pc, row_at};
+    ghost use Rattle.frame_rows.specs.Walks.{IsWalking, end_of};
+    ghost use Rattle.eh_frame.specs.Walked.{due_row};
     ghost use Rattle.eh_frame.specs.EntryViews.{cie_of, fde_of};
     ghost use Rattle.frame_rows.specs.Rows.{GivesRow, row_in_place};
     ghost use Rattle.eh_frame.specs.FdeLists.{IsTold, fde_with};
@@ -219,5 +221,29 @@ impl<'a> Fde<'a> {
             self.initial_address,
             pc,
         )
+    }
+
+    /// Goes to the first row of the function, from which [`Fde::go_on`] goes to the others.
+    /// `bases` is what the table's pointers may be relative to.
+    pub fn begin_rows(&self, bases: &Bases, walk: &mut RowWalk<'a>)
+        ensures { IsWalking walk.new (coding_of (bases_of bases.now) (fde_of self.now).cie)
+            (fde_of self.now).start (due_row (bases_of bases.now) (fde_of self.now)) }
+    {
+        walk.begin(
+            self.cie.instructions(),
+            self.instructions(),
+            self.cie.coding(bases),
+            self.initial_address,
+        );
+    }
+
+    /// Goes to the function's next row, if there is one.
+    pub fn go_on(&self, bases: &Bases, walk: &mut RowWalk<'a>)
+        ensures { let coding = coding_of (bases_of bases.now) (fde_of self.now).cie in
+            (from end : ℕ) (due : ℕ → Result RowInstructions Error) →
+            IsWalking walk.old coding from due → end_of walk.old ≡ Some end →
+            IsWalking walk.new coding end due }
+    {
+        walk.go_on(self.cie.coding(bases));
     }
 }

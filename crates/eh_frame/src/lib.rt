@@ -58,7 +58,7 @@ pub use entries::{EhFrame, Entry};
 pub use fde::Fde;
 pub use frame_expressions::{EvalError, evaluate};
 pub use frame_rows::{
-    CfaRule, Register, RegisterMap, RegisterRule, Registers, Row, RowRef, RowRoom,
+    CfaRule, Register, RegisterMap, RegisterRule, Registers, Row, RowRef, RowRoom, RowWalk,
 };
 pub use header::{EhFrameHdr, HdrTable};
 pub use laws::{index_answers_as_a_scan, table_of_a_push_is_prepared};

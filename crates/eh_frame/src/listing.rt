@@ -32,11 +32,11 @@ pub struct Entries<'a> {
 }
 
 impl<'a> Entries<'a> {
-    ghost use Rattle.std.specs.Prelude.{◌≡◌, false};
+    ghost use Rattle.std.specs.Prelude.{◌≡◌, IfOk, false};
     ghost use Rattle.std.specs.Option.{option_map};
     ghost use Rattle.encoded_pointers.specs.Readers.{Answers};
     ghost use Rattle.eh_frame.specs.EntryViews.{entry_of};
-    ghost use Rattle.eh_frame.specs.Listing.{listing_of, upcoming, entry_in, after};
+    ghost use Rattle.eh_frame.specs.Listing.{MovesAhead, listing_of, upcoming, entry_in, after};
 
     /// The entries of a table from its first byte on.
     pub(crate) fn new(table: EhFrame<'a>, bases: Bases) -> Entries<'a>
@@ -71,6 +71,8 @@ impl<'a> Entries<'a> {
             (entry_in (upcoming (listing_of self.old))) }
         ensures rest { listing_of self.new ≡ after (listing_of self.old)
             (upcoming (listing_of self.old)) }
+        ensures ahead { IfOk result (λ entry. IfSome entry (λ _.
+            MovesAhead (listing_of self.old) (listing_of self.new))) }
     {
         if self.is_over {
             return Ok(None);

@@ -17,3 +17,4 @@ mod ByBytes
 mod Moved
 mod Serving
 mod Moving
+mod Walking

@@ -1,4 +1,4 @@
--- What the last two programs of common information entries ended with. No public clause cites this.
+-- What the last two programs of common information entries ended with.
 use Rattle.std.specs.Prelude.{if◌then◌else◌}
 use Rattle.frame_rows.specs.declared.begun.BegunProgram.{BegunProgram}
 use Rattle.frame_rows.specs.declared.begun.BegunPrograms.{BegunPrograms as Programs}

@@ -1,4 +1,4 @@
--- Rows that descriptions share whose programs have the same bytes, by their distances from the start. No public clause cites this.
+-- Rows that descriptions share whose programs have the same bytes, by their distances from the start.
 use Rattle.std.specs.Prelude.{◌≡◌, ℕ, ◌+◌, ◌^◌, ◌<◌, ◌≤◌, ◌⊎◌, Bool, true, false, List, length, map, slice_range, slice_index_or, slice_set, Option, Some, None, IfSome}
 use Rattle.std.specs.List.{AllByRecursion}
 use Rattle.unwind_definitions.specs.Input.{Input}

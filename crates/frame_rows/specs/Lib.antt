@@ -14,3 +14,4 @@ pub mod Begun
 pub mod Movable
 pub mod KnownRows
 pub mod Again
+pub mod Walks

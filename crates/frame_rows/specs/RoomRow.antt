@@ -1,4 +1,4 @@
--- The row in a room.
+-- The row in a room. No public clause cites this.
 use Rattle.std.specs.Prelude.{Option, Some, None, []}
 use Rattle.unwind_definitions.specs.Row.{ColumnAndOffset}
 use Rattle.frame_rows.specs.RowValue.{RowValue}

@@ -1,4 +1,4 @@
--- The running state of a frame program: what the instructions that ran so far have said. No public clause cites this.
+-- The running state of a frame program: what the instructions that ran so far have said.
 use Rattle.std.specs.Prelude.{◌≡◌, ℕ, ◌+◌, ◌^◌, Bool, false, ◌&&◌, List, [], ◌∷◌, ◌++◌, length, Option, Some, None, Result, Ok, Err, is_some, nat_lt, nat_le, ◌==◌, if◌then◌else◌}
 use Rattle.std.specs.Option.{option_or, option_map}
 use Rattle.unwind_definitions.specs.declared.error.Error.{Error as Fault}

@@ -1,4 +1,4 @@
--- A stretch of addresses that share a row: from a location up to where the next instruction leads. No public clause cites this.
+-- A stretch of addresses that share a row: from a location up to where the next instruction leads.
 use Rattle.std.specs.Prelude.{◌≡◌, Bool, false, ℕ, ◌+◌, ◌^◌, ◌<◌, ◌≤◌, ◌⊎◌, [], ◌∷◌, Option, Some, None, Result, Ok, Err}
 use Rattle.unwind_definitions.specs.declared.error.Error.{Error as Fault}
 use Rattle.unwind_definitions.specs.Instructions.{Instruction, Advance, SetLocation, Coding, Program, program_from}
