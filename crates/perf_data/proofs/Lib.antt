@@ -1,0 +1,6 @@
+pub mod LayoutLemmas
+pub mod RecordLemmas
+pub mod RegisterLemmas
+pub mod MappingLemmas
+pub mod FileLemmas
+pub mod SampleLemmas
