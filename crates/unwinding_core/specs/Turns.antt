@@ -1,4 +1,4 @@
--- What the code of a pass answers, in the words of the definitions.
+-- What the code of a pass answers, in the words of the definitions. No public clause cites this.
 use Rattle.std.specs.Prelude.{◌≡◌, ◌==◌, if◌then◌else◌, ℕ, List, Option, Some, None, Result, Ok, Err}
 use Rattle.unwind_definitions.specs.Row.{RowInstructions}
 use Rattle.unwind_definitions.specs.Caller.{Columns, StepFault}

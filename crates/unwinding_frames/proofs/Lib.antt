@@ -1,6 +1,12 @@
 pub mod Begun
 pub mod Bits
 pub mod Callers
+pub mod CxxAsked
+pub mod CxxChains
+pub mod CxxLists
+pub mod CxxRecords
+pub mod CxxSearches
+pub mod CxxSites
 pub mod Faults
 pub mod First
 pub mod Heads

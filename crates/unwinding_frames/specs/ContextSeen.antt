@@ -1,5 +1,5 @@
 -- What personalities, stops and traces see. Itanium C++ ABI, exception handling, section 1.5.
-use Rattle.std.specs.Prelude.{ℕ, Bool, List, Option, None}
+use Rattle.std.specs.Prelude.{Bool, List, Option, None}
 use Rattle.memory_image.specs.Image.{Span}
 use Rattle.unwind_definitions.specs.Caller.{Columns}
 use Rattle.unwind_definitions.specs.LanguageSearch.{LanguagePlace}

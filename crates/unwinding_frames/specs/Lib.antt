@@ -2,6 +2,10 @@ pub mod Actions
 pub mod Calling
 pub mod Columns
 pub mod ContextSeen
+pub mod CxxPersonalities
+pub mod CxxRecords
+pub mod CxxTables
+pub mod CxxViews
 pub mod Dummy
 pub mod FrameValue
 pub mod Framed

@@ -1,4 +1,4 @@
--- A place of an image that was looked up.
+-- A place of an image that was looked up. No public clause cites this.
 use Rattle.std.specs.Prelude.{◌≡◌, ℕ, ◌+◌, ◌-◌, ◌<◌, ◌≤◌, List, length, drop}
 use Rattle.memory_image.specs.Image.{Span, IsLaidOut, table_at}
 

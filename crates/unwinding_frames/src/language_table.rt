@@ -50,14 +50,14 @@ pub enum EhAction {
 
 /// A call site: which calls it holds, and what is asked of a frame that is stopped in one.
 #[derive(Clone, Copy)]
-struct CallSite {
+pub(crate) struct CallSite {
     // how far from the function's start it begins
-    from: u64,
-    len: u64,
+    pub(crate) from: u64,
+    pub(crate) len: u64,
     // how far from the landing pads' base its own is, 0 where it has none
-    pad: u64,
+    pub(crate) pad: u64,
     // its place in the action table, counted from 1; 0 for a cleanup
-    index: u64,
+    pub(crate) index: u64,
 }
 
 /// A language table whose head is read.
@@ -176,7 +176,7 @@ fn action_at(
 }
 
 /// The bytes from an address to the end of its region.
-fn input_at<'a>(image: &MemoryImage<'a>, address: u64) -> Cursor<'a>
+pub(crate) fn input_at<'a>(image: &MemoryImage<'a>, address: u64) -> Cursor<'a>
     ensures { at result ≡ input_at image.now address }
 {
     Cursor::new(image.bytes_from(address), address)
@@ -281,7 +281,7 @@ fn pad_action(actions: Cursor<'_>, pad: u64, index: u64) -> Result<EhAction, Ste
 }
 
 /// A sum of addresses, which must be one.
-fn sum(address: u64, distance: u64) -> Result<u64, StepError>
+pub(crate) fn sum(address: u64, distance: u64) -> Result<u64, StepError>
     ensures { value_given result ≡ sum_below address distance }
 {
     address.checked_add(distance).ok_or(OVERFLOW)
@@ -289,7 +289,7 @@ fn sum(address: u64, distance: u64) -> Result<u64, StepError>
 
 /// An address by an encoding. After a fault the cursor is unspecified.
 #[inline(always)]
-fn read_address(
+pub(crate) fn read_address(
     image: &MemoryImage<'_>,
     bases: &Bases,
     encoding: DwEhPe,
@@ -322,7 +322,7 @@ fn read_pointed_address(
 
 /// What landing pads count from: the function's start, unless the table says another address.
 /// After a fault the cursor is unspecified.
-fn read_pad_base(
+pub(crate) fn read_pad_base(
     image: &MemoryImage<'_>,
     bases: &Bases,
     start: u64,
@@ -351,7 +351,7 @@ fn skip_types(input: &mut Cursor<'_>) -> Result<(), Error>
 }
 
 /// A call site. After a fault the cursor is unspecified.
-fn read_call_site(
+pub(crate) fn read_call_site(
     image: &MemoryImage<'_>,
     bases: &Bases,
     encoding: DwEhPe,

@@ -8,6 +8,7 @@
 #![tactic(auto)]
 
 pub mod abi;
+mod cxx;
 mod frame;
 mod kept_bytes;
 mod language_table;
@@ -24,6 +25,11 @@ pub use abi::context::{
 pub use abi::exception::{_Unwind_DeleteException, Kept, UnwindException};
 pub use abi::laws::lines_are_one;
 pub use abi::{UnwindAction, UnwindReasonCode};
+pub use cxx::actions::{CxxAction, find_cxx_action_at};
+pub use cxx::error::CxxError;
+pub use cxx::laws::{cxx_actions_have_causes, first_record_that_takes_decides};
+pub use cxx::personality::{CxxPersonality, find_cxx_action};
+pub use cxx::types::Exception;
 pub use frame::{
     Frame, StepError, address_asked, frame_mark, lsda_of, personality_of, step_by_row, write_caller,
 };

@@ -181,7 +181,7 @@ fn land<M: Machine>(exception: u64, pad: u64, context: &mut M::Context)
 }
 
 /// Writes a column that the machine has.
-fn put<M: Machine>(register: Register, value: u64, context: &mut M::Context)
+pub(crate) fn put<M: Machine>(register: Register, value: u64, context: &mut M::Context)
     requires held { IsSome (M.Context.columns context.old register.0) }
     ensures { M.Context.columns context.new ≡ with_value (M.Context.columns context.old) register.0
         value }
