@@ -116,18 +116,23 @@ module _ (image : List Span) where
   by_description frames a columns (Ok fde) = by_row fde.cie.letters.signal columns (row_at (frame_bases frames) fde a)
   by_description frames a columns (Err e) = Err (Table e)
 
-  -- The caller from the columns of a frame at an address, whose function begins at another. None where the opcode gives none:
-  -- it is null, invalid or of an unknown kind, or asks for frame data that there is not. Of a description that stands at an
-  -- offset of the frame data the personality isn't asked.
-  abbrev pub compact_step : Option ℕ → ℕ → ℕ → Columns → OpcodeX86_64 → Option (Result Stepped StepFault)
-  compact_step frames start a columns (FrameBased offset fields) = Some (stepped_with false (column_or_fault (columns column.rbp) >>= by_frame image offset (fields_up fields) columns))
-  compact_step frames start a columns (FramelessImmediate size registers) = Some (stepped_with false (column_or_fault (columns column.rsp) >>= (λ sp. by_cfa image (registers_back registers) columns (sp +w size))))
-  compact_step frames start a columns (FramelessIndirect at adjust registers) =
+  -- The caller from the columns of a frame whose function begins at an address, by an opcode alone. None where the opcode gives
+  -- none: it points to frame data, or is null, invalid or of an unknown kind.
+  abbrev pub opcode_step : ℕ → Columns → OpcodeX86_64 → Option (Result Stepped StepFault)
+  opcode_step start columns (FrameBased offset fields) = Some (stepped_with false (column_or_fault (columns column.rbp) >>= by_frame image offset (fields_up fields) columns))
+  opcode_step start columns (FramelessImmediate size registers) = Some (stepped_with false (column_or_fault (columns column.rsp) >>= (λ sp. by_cfa image (registers_back registers) columns (sp +w size))))
+  opcode_step start columns (FramelessIndirect at adjust registers) =
       Some (stepped_with false (half_or_fault image (start +w at) >>= (λ size. column_or_fault (columns column.rsp) >>= (λ sp. by_cfa image (registers_back registers) columns (sp +w (adjust + size))))))
+  opcode_step start columns (Dwarf offset) = None
+  opcode_step start columns Null = None
+  opcode_step start columns InvalidFrameless = None
+  opcode_step start columns (UnrecognizedKind k) = None
+
+  -- The same at an address, where frame data may have been handed in: by the description at the offset to which the opcode
+  -- points.
+  abbrev pub compact_step : Option ℕ → ℕ → ℕ → Columns → OpcodeX86_64 → Option (Result Stepped StepFault)
   compact_step frames start a columns (Dwarf offset) = option_map (λ table. by_description table a columns (fde_at (frame_bases table) (input_at image table) offset)) frames
-  compact_step frames start a columns Null = None
-  compact_step frames start a columns InvalidFrameless = None
-  compact_step frames start a columns (UnrecognizedKind k) = None
+  compact_step frames start a columns o = opcode_step start columns o
 
 -- ---- the step
 

@@ -10,8 +10,7 @@ use Rattle.unwind_definitions.specs.Chain.{Call, IsChain}
 use Rattle.unwind_definitions.specs.Delivery.{Frame, action_of_frame, accepts, deciding_frame, inner_frames, Resumes}
 use Rattle.format_definitions.specs.FormatModules.{FormatModule, in_format, convention_of, part_of, DescribesFormat, IsUncoveredBy}
 
--- A module describes its part of a list, which are functions under the rules of the module's platform. Those of Mach-O and PE
--- modules are described without language tables.
+-- A module describes its part of a list, which are functions under the rules of the module's platform.
 pub record DescribesItsPart (image : List Span) (functions : List Function) (m : FormatModule) : Type 0 where
   pub are_functions : AllByRecursion (IsFunction (convention_of m)) (part_of m functions)
   pub describes : DescribesFormat image m (part_of m functions)

@@ -1,20 +1,25 @@
 -- When the compact unwinding of a Mach-O module describes functions. Apple's compact unwinding,
--- mach-o/compact_unwind_encoding.h; the frame data of DWARF that it may point to is of the form that compilers emit.
-use Rattle.std.specs.Prelude.{◌≡◌, ◌≢◌, ℕ, ◌+◌, ◌*◌, ◌≤◌, List, [], ◌∷◌, Option, Some, None, Ok, MatchOption, IsTrue, IsFalse, slice_get}
+-- mach-o/compact_unwind_encoding.h; the frame data of DWARF that it may point to, and language tables, are of the form that
+-- compilers emit.
+use Rattle.std.specs.Prelude.{◌≡◌, ◌≢◌, ℕ, ◌+◌, ◌*◌, ◌^◌, ◌<◌, ◌≤◌, List, [], ◌∷◌, length, Option, Some, None, Ok, IfSome, MatchOption, IsTrue, IsFalse, slice_get, ◌==◌, if◌then◌else◌}
 use Rattle.std.specs.List.{AllByRecursion, Contains, list_any}
+use Rattle.std.specs.Option.{option_map}
 use Rattle.memory_image.specs.Image.{Span, table_at, half_at}
+use Rattle.unwind_definitions.specs.Pointers.{Pointer, Direct}
 use Rattle.unwind_definitions.specs.Entries.{Fde, AFde, entry_at}
 use Rattle.unwind_definitions.specs.Caller.{◌+w◌}
 use Rattle.unwind_definitions.specs.State.{CalleeSaved, RBP, is_same}
 use Rattle.unwind_definitions.specs.Prologue.{Followed, Step, Push, SetFrame, steps_of, depth, frame_depth, distance}
-use Rattle.unwind_definitions.specs.Function.{Function}
-use Rattle.unwind_definitions.specs.FrameTable.{DescribesCode}
-use Rattle.unwind_definitions.specs.LanguageTable.{input_at}
+use Rattle.unwind_definitions.specs.Function.{Function, Site}
+use Rattle.unwind_definitions.specs.FrameTable.{DescribesFunction}
+use Rattle.unwind_definitions.specs.LanguageTable.{input_at, LeadsToLanguage}
 use Rattle.macho_unwind_info.specs.declared.function.Function.{Function as Listed}
 use Rattle.macho_unwind_info.specs.declared.opcodes.x86_64.OpcodeX86_64.{OpcodeX86_64}
 use Rattle.macho_unwind_info.specs.declared.opcodes.x86_64.OpcodeX86_64.TheVariants.{Null, FrameBased, FramelessImmediate, FramelessIndirect, Dwarf, InvalidFrameless, UnrecognizedKind}
+use Rattle.macho_unwind_info.specs.declared.raw.unaligned.U32.{U32}
 use Rattle.macho_unwind_info.specs.Bits.{bits}
 use Rattle.macho_unwind_info.specs.Described.{HasDescribedPages}
+use Rattle.macho_unwind_info.specs.LanguageTables.{personalities_of, has_language_table, listed_table, HasDescribedTables}
 use Rattle.macho_unwind_info.specs.Listing.{Section, section_of, listing}
 use Rattle.macho_unwind_info.specs.X86_64.{opcode_of}
 use Rattle.format_definitions.specs.CompactStep.{fields_up, registers_back, frame_bases, MachoModule}
@@ -56,13 +61,30 @@ pub record IsIndirect (image : List Span) (f : Function) (at adjust : ℕ) (rs :
   pub mapped : half_at image (f.start +w at) ≡ Some size
   pub frameless : IsFrameless (steps_of f.prologue) (adjust + size) rs
 
+-- ---- where a section has the language table of a function
+
+-- bits 28 and 29 of an opcode: the place of the function's personality in the section's list, counted from 1, 0 for none
+abbrev pub personality_index : ℕ → ℕ
+personality_index opcode = bits opcode 28 2
+
+-- The function has a language table exactly where its opcode names a personality, has bit 30 set, and the section lists a table
+-- for its start.
+abbrev pub table_offset_of : Section → Listed → Option ℕ
+table_offset_of info listed =
+    if personality_index listed.opcode == 0 then None
+    else (if has_language_table listed.opcode then listed_table info listed.start_address else None)
+
+-- so far from the module's base
+abbrev pub language_pointer : Section → ℕ → Listed → Option Pointer
+language_pointer info base listed = option_map (λ (offset : ℕ). Direct (base +w offset)) (table_offset_of info listed)
+
 module _ (image : List Span) where
-  -- the entry at an offset of the frame data describes the function's code; a language table that it names is passed over
+  -- the entry at an offset of the frame data describes the function, with the language table that it names
   pub record IsDwarf (f : Function) (frames offset : ℕ) : Type 0 where
     pub fde : Fde
     pub next : ℕ
     pub reads : entry_at (frame_bases frames) (input_at image frames) offset ≡ Ok (Some (record { entry = AFde fde; next = next }))
-    pub describes : DescribesCode image (frame_bases frames) f fde
+    pub describes : DescribesFunction image (frame_bases frames) f fde
 
   -- an opcode says what a function's prologue has done; only frame data tells of an outermost function
   abbrev pub IsOpcodeOf : Option ℕ → Function → OpcodeX86_64 → Type 0
@@ -74,27 +96,42 @@ module _ (image : List Span) where
   IsOpcodeOf frames f InvalidFrameless = ⊥
   IsOpcodeOf frames f (UnrecognizedKind k) = ⊥
 
+  -- ---- what a section says of a function's language
+
+  -- The opcode names no personality, or one of those that the section lists; and the language table that the section has for the
+  -- function is the function's. A function with a language table ends below 2^64, as every module in memory does.
+  pub record NamesLanguage (info : Section) (personalities : List U32) (base : ℕ) (listed : Listed) (f : Function) : Type 0 where
+    pub index : personality_index listed.opcode ≤ length personalities
+    pub leads : LeadsToLanguage image f (language_pointer info base listed)
+    pub words : IfSome f.sites (λ (sites : List Site). f.end < 2 ^ 64)
+
+  -- a description in frame data says of itself what the function's language is
+  abbrev pub NamesUnlessDwarf : Section → List U32 → ℕ → Listed → Function → OpcodeX86_64 → Type 0
+  NamesUnlessDwarf info personalities base listed f (Dwarf offset) = Unit {0}
+  NamesUnlessDwarf info personalities base listed f _ = NamesLanguage info personalities base listed f
+
   -- ---- modules
 
   -- a function of the listing is a function, moved by the module's base
-  pub record DescribesListed (m : MachoModule) (listed : Listed) (f : Function) : Type 0 where
+  pub record DescribesListed (info : Section) (personalities : List U32) (m : MachoModule) (listed : Listed) (f : Function) : Type 0 where
     pub start : f.start ≡ m.base + listed.start_address
     pub end : f.end ≡ m.base + listed.end_address
     pub inside : listed.end_address ≤ m.size
-    -- the mark of a language table is clear
-    pub no_language : bits listed.opcode 30 1 ≡ 0
-    pub no_sites : f.sites ≡ None
     pub opcode : IsOpcodeOf m.frames f (opcode_of listed.opcode)
+    pub language : NamesUnlessDwarf info personalities m.base listed f (opcode_of listed.opcode)
 
-  pub record HasListed (info : Section) (m : MachoModule) (f : Function) : Type 0 where
+  pub record HasListed (info : Section) (personalities : List U32) (m : MachoModule) (f : Function) : Type 0 where
     pub listed : Listed
     pub among : Contains (listing info) (Ok listed)
-    pub describes : DescribesListed m listed f
+    pub describes : DescribesListed info personalities m listed f
 
-  -- A Mach-O module describes functions: its section can be parsed, its pages are as a linker writes them, and each function is
-  -- one of its listing.
+  -- A Mach-O module describes functions: its section can be parsed, its personalities read, its pages and their parts of the
+  -- list of language tables are as a linker writes them, and each function is one of its listing.
   pub record DescribesMacho (m : MachoModule) (functions : List Function) : Type 0 where
     pub info : Section
     pub parses : section_of (table_at image m.unwind_info) ≡ Ok info
+    pub personalities : List U32
+    pub named : personalities_of info ≡ Ok personalities
     pub pages : HasDescribedPages info
-    pub each : AllByRecursion (HasListed info m) functions
+    pub tables : HasDescribedTables info
+    pub each : AllByRecursion (HasListed info personalities m) functions

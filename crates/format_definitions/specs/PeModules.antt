@@ -1,9 +1,13 @@
 -- When the unwind data of a PE module describes functions. Microsoft x64 exception handling; PE format, section .pdata.
-use Rattle.std.specs.Prelude.{◌≡◌, ◌⊎◌, ℕ, zero, suc, ◌+◌, ◌-◌, ◌%◌, ◌≤◌, false, List, [], ◌∷◌, ◌++◌, length, take, map, reverse, Option, Some, None, Ok, IsTrue, IsFalse}
+use Rattle.std.specs.Prelude.{◌≡◌, ◌≢◌, ◌⊎◌, ℕ, zero, suc, ◌+◌, ◌-◌, ◌^◌, ◌<◌, ◌≤◌, false, List, [], ◌∷◌, ◌++◌, length, take, map, reverse, Option, Some, None, Ok, IfSome, IsTrue, IsFalse}
 use Rattle.std.specs.List.{AllByRecursion, Contains, flat_map}
+use Rattle.std.specs.Option.{option_map}
 use Rattle.memory_image.specs.Image.{Span}
 use Rattle.unwind_definitions.specs.Prologue.{PrologueStep, steps_of, ends_of, Ascend}
-use Rattle.unwind_definitions.specs.Function.{Function, in_body}
+use Rattle.unwind_definitions.specs.Pointers.{Pointer, Direct}
+use Rattle.unwind_definitions.specs.Caller.{◌+w◌}
+use Rattle.unwind_definitions.specs.Function.{Function, Site, in_body}
+use Rattle.unwind_definitions.specs.LanguageTable.{LeadsToLanguage}
 use Rattle.pe_unwind_info.specs.declared.x86_64.function_table.RuntimeFunction.{RuntimeFunction}
 use Rattle.pe_unwind_info.specs.declared.x86_64.epilog.FunctionEpilogInstruction.{FunctionEpilogInstruction}
 use Rattle.pe_unwind_info.specs.declared.x86_64.operations.UnwindOperation.{UnwindOperation}
@@ -14,7 +18,8 @@ use Rattle.pe_unwind_info.specs.EpilogList.{leading_epilogs, after_epilogs, is_d
 use Rattle.pe_unwind_info.specs.Frame.{info_in, chained_of, operations_alone}
 use Rattle.pe_unwind_info.specs.FrameOf.{Image}
 use Rattle.pe_unwind_info.specs.FunctionTable.{functions_of, AreOrdered}
-use Rattle.pe_unwind_info.specs.Header.{version_of, flags_of, frame_register_of}
+use Rattle.pe_unwind_info.specs.HandlerData.{names_handler, handler_data_offset_of}
+use Rattle.pe_unwind_info.specs.Header.{version_of, frame_register_of}
 use Rattle.pe_unwind_info.specs.Info.{Info}
 use Rattle.pe_unwind_info.specs.InfoOperations.{operations_in}
 use Rattle.pe_unwind_info.specs.Operations.{First, first_of}
@@ -38,7 +43,23 @@ HasWholeSlots info = AreWholeFrom (length info.slots) (version_of info.header) i
 
 -- the flags for exceptions and for termination are clear
 abbrev pub NamesNoHandler : Info → Type 0
-NamesNoHandler info = flags_of info.header % 4 ≡ 0
+NamesNoHandler info = IsFalse (names_handler info)
+
+-- ---- where a function's records have its language table
+
+-- the data of the handler that a function's record names, by the record's trailer, so far from the module's base
+abbrev pub handler_pointer : ℕ → RuntimeFunction → Info → Option Pointer
+handler_pointer base function info = option_map (λ (offset : ℕ). Direct (base +w (function.unwind_info_address + offset))) (handler_data_offset_of info)
+
+-- Only the first record may name a handler, whose trailer is then there, and no other record follows. The handler's data are the
+-- function's language table; without a handler the function has none. A function with a language table ends below 2^64, as every
+-- module in memory does.
+pub record NamesLanguage (image : List Span) (base : ℕ) (function : RuntimeFunction) (first : Info) (chained : List Info) (f : Function) : Type 0 where
+  pub trailer : IsTrue (names_handler first) → handler_data_offset_of first ≢ None
+  pub alone : IsTrue (names_handler first) → chained ≡ []
+  pub quiet : AllByRecursion NamesNoHandler chained
+  pub leads : LeadsToLanguage image f (handler_pointer base function first)
+  pub words : IfSome f.sites (λ (sites : List Site). f.end < 2 ^ 64)
 
 abbrev pub all_operations : List Info → List UnwindOperation
 all_operations infos = flat_map (λ (info : Info). operations_alone (operations_in info)) infos
@@ -60,7 +81,7 @@ IsInNoEpilog memory function first a =
 
 -- ---- functions
 
--- a function of a PE module is not outermost, and has no language table
+-- a leaf of a PE module is not outermost, and has no language table
 pub record IsPlain (f : Function) : Type 0 where
   pub not_outermost : f.outermost ≡ false
   pub no_sites : f.sites ≡ None
@@ -70,13 +91,13 @@ pub record IsPlain (f : Function) : Type 0 where
 pub record DescribesRecord (image : List Span) (m : PeModule) (function : RuntimeFunction) (f : Function) : Type 0 where
   pub start : f.start ≡ m.base + function.begin_address
   pub end : f.end ≡ m.base + function.end_address
-  pub plain : IsPlain f
+  pub not_outermost : f.outermost ≡ false
   -- the unwind record, and those that it goes on with, at most 32
   pub first : Info
   pub chained : List Info
   pub reads : info_in function.unwind_info_address (memory_of image m.base function.unwind_info_address) ≡ Ok first
   pub chain : chain_of (memory_of image m.base) 32 (chained_of first) ≡ Ok chained
-  pub quiet : AllByRecursion NamesNoHandler (first ∷ chained)
+  pub language : NamesLanguage image m.base function first chained f
   pub whole : AllByRecursion HasWholeSlots (first ∷ chained)
   -- the steps that the chained records tell of, and those that the first one does
   pub inherited : List PrologueStep

@@ -3,4 +3,3 @@ pub mod Fields
 pub mod MachoSteps
 pub mod PeRegisters
 pub mod PeCaller
-pub mod HandlerLemmas

@@ -4,7 +4,6 @@ use Rattle.std.specs.Result.{result_map_both}
 use Rattle.memory_image.specs.Image.{Span}
 use Rattle.memory_image.specs.Results.{◌>>=◌}
 use Rattle.unwind_definitions.specs.declared.error.Error.{Error as Fault}
-use Rattle.unwind_definitions.specs.Entries.{Fde}
 use Rattle.unwind_definitions.specs.Row.{RowInstructions}
 use Rattle.unwind_definitions.specs.Expressions.{evaluation}
 use Rattle.unwind_definitions.specs.Caller.{◌+w◌, Columns, StepFault, Table, x86_64, word_or_fault, caller_of}
@@ -13,8 +12,9 @@ use Rattle.unwind_definitions.specs.State.{CalleeSaved, column_of}
 use Rattle.unwind_definitions.specs.DescribedRows.{negative}
 use Rattle.unwind_arch.specs.declared.x86_64.Context.{Context}
 use Rattle.unwind_arch.specs.ContextViews.{columns_of}
-use Rattle.eh_frame.specs.declared.fde.Fde.{Fde as CodeFde}
-use Rattle.eh_frame.specs.EntryViews.{fde_of}
+use Rattle.fde_finders.specs.declared.find_fde.FDESearchResult.{FDESearchResult}
+use Rattle.fde_finders.specs.Finding.{FoundFde}
+use Rattle.fde_finders.specs.FoundViews.{found_fde_of}
 use Rattle.unwinding_frames.specs.declared.frame.StepError.{StepError}
 use Rattle.unwinding_frames.specs.Calling.{fault_of}
 use Rattle.format_definitions.specs.CompactStep.{Stepped, half_or_fault, with_column}
@@ -34,8 +34,8 @@ opcode_given (Ok (Some s)) = Some (Ok (stepped_of s))
 opcode_given (Err e) = Some (Err (fault_of e))
 
 -- a description, or why it can't be read
-abbrev pub description_given : Result CodeFde StepError → Result Fde StepFault
-description_given = result_map_both fde_of fault_of
+abbrev pub description_given : Result FDESearchResult StepError → Result FoundFde StepFault
+description_given = result_map_both found_fde_of fault_of
 
 abbrev pub faulting : {A : Type 0} → Result A Fault → Result A StepFault
 faulting = result_map_both (λ x. x) Table

@@ -2,5 +2,5 @@ pub mod Callers
 pub mod Refusals
 pub mod Modules
 pub mod Handlers
-pub mod HandlerViews
 pub mod Xmm
+pub mod FrameData

@@ -1,11 +1,12 @@
 -- Why a frame has no caller, as the code names it.
-use Rattle.std.specs.Prelude.{ℕ, ◌+◌, ◌%◌, ◌^◌, Bool, List, Option, Some, None, Result, Ok, Err}
+use Rattle.std.specs.Prelude.{ℕ, ◌+◌, ◌%◌, ◌^◌, List, Option, Some, None, Result, Ok, Err}
 use Rattle.std.specs.Option.{option_map}
 use Rattle.std.specs.Result.{result_map_both}
 use Rattle.memory_image.specs.Image.{Span, table_at}
 use Rattle.memory_image.specs.Results.{◌>>=◌, result_map}
 use Rattle.unwind_definitions.specs.Caller.{Columns, StepFault}
 use Rattle.unwind_definitions.specs.Caller as calls
+use Rattle.unwind_definitions.specs.LanguageSearch.{LanguagePlace}
 use Rattle.unwind_arch.specs.declared.x86_64.Context.{Context}
 use Rattle.unwind_arch.specs.ContextViews.{columns_of}
 use Rattle.macho_unwind_info.specs.declared.error.Error.{Error}
@@ -16,7 +17,7 @@ use Rattle.pe_unwind_info.specs.declared.x86_64.fault.FrameFault.{FrameFault}
 use Rattle.pe_unwind_info.specs.declared.x86_64.fault.FrameFault.TheVariants as frame
 use Rattle.pe_unwind_info.specs.declared.x86_64.function_table.FunctionTableEntries.{FunctionTableEntries}
 use Rattle.pe_unwind_info.specs.FunctionTable.{table_bytes}
-use Rattle.format_definitions.specs.CompactStep.{Stepped, MachoModule, MachoFault, InSection, NoForm, InStep, answered_by, compact_step}
+use Rattle.format_definitions.specs.CompactStep.{Stepped, MachoModule, MachoFault, InSection, NoForm, InStep, answered_by, opcode_step, compact_step}
 use Rattle.macho_unwind_info.specs.X86_64.{opcode_of}
 use Rattle.format_definitions.specs.PeImage.{PeModule}
 use Rattle.format_definitions.specs.PeStep.{PeFault, NoTable, InFrame}
@@ -50,9 +51,13 @@ looked_up rva section = section >>= (λ info. lookup_of info rva)
 abbrev pub function_at : List Span → MachoModule → ℕ → Result (Option Listed) Error
 function_at image m rva = looked_up rva (section_of (table_at image m.unwind_info))
 
--- what the opcode of a listed function is due to give at an address
-abbrev pub caller_due : List Span → MachoModule → ℕ → Columns → Listed → Result (Option Stepped) FrameError
-caller_due image m a columns listed = macho_due (answered_by (compact_step image m.frames (m.base + listed.start_address) a columns (opcode_of listed.opcode)))
+-- what the opcode of a listed function alone is due to give
+abbrev pub caller_due : List Span → MachoModule → Columns → Listed → Result (Option Stepped) FrameError
+caller_due image m columns listed = macho_due (answered_by (opcode_step image (m.base + listed.start_address) columns (opcode_of listed.opcode)))
+
+-- the same at an address, where frame data may have been handed in
+abbrev pub caller_due_at : List Span → MachoModule → ℕ → Columns → Listed → Result (Option Stepped) FrameError
+caller_due_at image m a columns listed = macho_due (answered_by (compact_step image m.frames (m.base + listed.start_address) a columns (opcode_of listed.opcode)))
 
 -- the same of a caller that there is
 abbrev pub caller_given : Result CodeStepped FrameError → Result (Option Stepped) FrameError
@@ -84,9 +89,9 @@ abbrev pub functions_due : PeModule → Option (List ℕ) → Result (List ℕ) 
 functions_due m None = Err (PeInfo (address_in m m.table_rva))
 functions_due m (Some bytes) = Ok bytes
 
--- whether a handler is named, or the fault of a frame that stands so far from its module's base
-abbrev pub handler_due : PeModule → ℕ → Result Bool FrameFault → Result Bool FrameError
-handler_due m rva named = result_map_both (λ names. names) (frame_refusal m rva) named
+-- the place of a language table, or the fault of a frame that stands so far from its module's base
+abbrev pub place_due : PeModule → ℕ → Result (Option LanguagePlace) FrameFault → Result (Option LanguagePlace) FrameError
+place_due m rva = result_map_both (λ place. place) (frame_refusal m rva)
 
 -- a caller's columns, or the fault of a frame
 abbrev pub frame_given : Result Context FrameFault → Result Columns PeFault

@@ -10,20 +10,23 @@ ghost use Rattle.unwind_definitions.specs.LanguageTable.{input_at};
 ghost use Rattle.unwind_definitions.specs.Row.{row_at};
 ghost use Rattle.unwind_definitions.specs.State.{column_of};
 ghost use Rattle.unwind_arch.specs.ContextViews.{columns_of};
-ghost use Rattle.encoded_pointers.specs.PointerViews.{bases_of};
-ghost use Rattle.eh_frame.specs.EntryViews.{fde_of, table_of};
+ghost use Rattle.fde_finders.specs.FoundViews.{found_fde_of};
+ghost use Rattle.memory_image.specs.Results.{result_map};
 ghost use Rattle.unwinding_frames.specs.Calling.{value_given, columns_given, written_in};
 ghost use Rattle.format_definitions.specs.CompactStep.{saved_as, saved_in, fields_up};
 ghost use Rattle.format_definitions.specs.CompactStep.{registers_back, with_column, half_or_fault};
 ghost use Rattle.format_definitions.specs.CompactStep.{read_up, read_down, by_frame, by_cfa};
-ghost use Rattle.format_definitions.specs.CompactStep.{by_description, frame_bases, compact_step};
+ghost use Rattle.format_definitions.specs.CompactStep.{by_description, frame_bases, opcode_step};
+ghost use Rattle.format_definitions.specs.CompactStep.{compact_step};
 ghost use Rattle.format_frames.specs.Callers.{frame_left, field_read, size_in_code};
 ghost use Rattle.format_frames.specs.Callers.{faulting, caller_by_row, description_given};
 ghost use Rattle.format_frames.specs.Callers.{stepped_given, opcode_given, listed_read};
 ghost use Rattle.format_frames.specs.Callers.{listed_given};
+ghost use Rattle.format_frames.specs.FrameData.{description_in};
 
 use crate::machine::Stepped;
-use eh_frame::{Bases, EhFrame, Fde, RowRoom};
+use eh_frame::{Bases, EhFrame, Error, RowRoom};
+use fde_finders::FDESearchResult;
 use macho_unwind_info::opcodes::{OpcodeX86_64, RegisterNameX86_64};
 use memory_image::MemoryImage;
 use unwind_arch::x86_64::{Arch, Context, R12, R13, R14, R15, RBP, RBX, RSP};
@@ -287,28 +290,54 @@ fn by_cfa(
     )
 }
 
-// the description at an offset of the frame data, which lies at an address
-fn description_at<'a>(table: &EhFrame<'a>, bases: &Bases, offset: u32) -> Result<Fde<'a>, StepError>
-    ensures { description_given result ≡ faulting (fde_at (bases_of bases.now)
-        (table_of table.now) offset) }
+/// The description at an offset of the frame data at an address, whose pointers are relative to their
+/// place or to the frame data.
+pub(crate) fn description_in<'a>(
+    image: &MemoryImage<'a>,
+    frames: u64,
+    offset: u32,
+) -> Result<FDESearchResult<'a>, Error>
+    ensures { result_map found_fde_of result ≡ description_in image.now frames offset }
 {
-    Ok(table.fde_at(bases, u64::from(offset))?)
+    let eh_frame = EhFrame::new(image.bytes_from(frames), frames);
+    let bases = Bases {
+        text: None,
+        data_base: None,
+        func: None,
+        hdr: None,
+        frame: Some(frames),
+    };
+    let fde = eh_frame.fde_at(&bases, u64::from(offset))?;
+    Ok(FDESearchResult {
+        fde,
+        bases,
+        eh_frame,
+    })
+}
+
+// the same, where its fault is a step's
+fn found_in<'a>(
+    image: &MemoryImage<'a>,
+    frames: u64,
+    offset: u32,
+) -> Result<FDESearchResult<'a>, StepError>
+    ensures { description_given result ≡ faulting (description_in image.now frames offset) }
+{
+    Ok(description_in(image, frames, offset)?)
 }
 
 // the caller of a frame at an address, by a description's row there, which is made in `rows`
 fn by_row<'a>(
     image: &MemoryImage<'a>,
-    table: &EhFrame<'a>,
-    bases: &Bases,
-    description: &Fde<'a>,
+    found: &FDESearchResult<'a>,
     address: u64,
     context: &Context,
     rows: &mut RowRoom<'a>,
 ) -> Result<Context, StepError>
     ensures { columns_given columns_of result ≡ caller_by_row image.now (columns_of context.now)
-        (row_at (bases_of bases.now) (fde_of description.now) address) }
+        (row_at (found_fde_of found.now).bases (found_fde_of found.now).fde address) }
 {
-    description.make_row(table, bases, address, rows)?;
+    found.make_row(address, rows)?;
     let mut caller = context.copied();
     step_by_row::<Arch>(image, &mut caller, &rows.row())?;
     Ok(caller)
@@ -327,19 +356,11 @@ fn by_frame_data<'a>(
         ≡ by_description image.now frames address (columns_of context.now)
         (fde_at (frame_bases frames) (input_at image.now frames) offset) }
 {
-    let table = EhFrame::new(image.bytes_from(frames), frames);
-    let bases = Bases {
-        text: None,
-        data_base: None,
-        func: None,
-        hdr: None,
-        frame: Some(frames),
-    };
-    let description = description_at(&table, &bases, offset)?;
-    let context = by_row(image, &table, &bases, &description, address, context, rows)?;
+    let found = found_in(image, frames, offset)?;
+    let context = by_row(image, &found, address, context, rows)?;
     Ok(Stepped {
         context,
-        signal: description.is_signal_trampoline(),
+        signal: found.fde.is_signal_trampoline(),
     })
 }
 
@@ -383,12 +404,10 @@ fn after_call(context: Context) -> Stepped
     }
 }
 
-/// The caller of the frame whose registers `context` holds, by the opcode of its function.
+/// The caller of the frame whose registers `context` holds, by the opcode of its function alone.
 ///
-/// The frame stands at `address`, its function begins at `start`, and `frames` is the address of
-/// the frame data that the opcode may point to, where it was handed in. A row that it asks for is
-/// made in `rows`. `None` where the opcode gives no caller: it is null, invalid or of an unknown
-/// kind, or asks for frame data that there is not.
+/// The function begins at `start`. `None` where the opcode gives no caller: it points to frame data,
+/// or is null, invalid or of an unknown kind.
 ///
 /// `stack` is a window over the image. It is moved to the frame unless it is there, so who goes from
 /// frame to frame keeps it, and looks up the stack's region once.
@@ -396,19 +415,15 @@ fn after_call(context: Context) -> Stepped
 /// # Errors
 ///
 /// The first fault: `Unmapped` with the address of a slot of the stack, or of the size in the
-/// function's code, that isn't wholly mapped; `Table` where the description can't be read, its row
-/// can't be made, or a register isn't the machine's.
-pub fn compact_step<'a>(
-    stack: &mut Window<'_, 'a>,
-    frames: Option<u64>,
+/// function's code, that isn't wholly mapped.
+pub fn opcode_step(
+    stack: &mut Window<'_, '_>,
     start: u64,
-    address: u64,
     context: &Context,
     opcode: &OpcodeX86_64,
-    rows: &mut RowRoom<'a>,
 ) -> Result<Option<Stepped>, StepError>
     ensures step { opcode_given result
-        ≡ compact_step stack.old frames start address (columns_of context.now) opcode.now }
+        ≡ opcode_step stack.old start (columns_of context.now) opcode.now }
     ensures same { stack.new ≡ stack.old }
 {
     // What a frame saves stands at its stack pointer or above.
@@ -435,16 +450,54 @@ pub fn compact_step<'a>(
             let size = indirect_size(stack.image(), start, offset, *stack_adjust_in_bytes)?;
             by_size(stack, saved_regs, &mut caller, size)?;
         }
+        OpcodeX86_64::Dwarf { .. }
+        | OpcodeX86_64::Null
+        | OpcodeX86_64::InvalidFrameless
+        | OpcodeX86_64::UnrecognizedKind(_) => return Ok(None),
+    }
+    Ok(Some(after_call(caller)))
+}
+
+/// The caller of the frame whose registers `context` holds, by the opcode of its function.
+///
+/// The frame stands at `address`, its function begins at `start`, and `frames` is the address of
+/// the frame data that the opcode may point to, where it was handed in. A row that it asks for is
+/// made in `rows`. `None` where the opcode gives no caller: it is null, invalid or of an unknown
+/// kind, or asks for frame data that there is not. `stack` is a window over the image, as
+/// [`opcode_step`] has it.
+///
+/// # Errors
+///
+/// The first fault: those of [`opcode_step`]; of an opcode that points to frame data `Table` where
+/// the description can't be read, its row can't be made, or a register isn't the machine's, and
+/// `Unmapped` where what the row reads isn't wholly mapped.
+pub fn compact_step<'a>(
+    stack: &mut Window<'_, 'a>,
+    frames: Option<u64>,
+    start: u64,
+    address: u64,
+    context: &Context,
+    opcode: &OpcodeX86_64,
+    rows: &mut RowRoom<'a>,
+) -> Result<Option<Stepped>, StepError>
+    ensures step { opcode_given result
+        ≡ compact_step stack.old frames start address (columns_of context.now) opcode.now }
+    ensures same { stack.new ≡ stack.old }
+{
+    match opcode {
         OpcodeX86_64::Dwarf { eh_frame_fde } => {
             let Some(frames) = frames else {
                 return Ok(None);
             };
             let offset = *eh_frame_fde;
             let stepped = by_frame_data(stack.image(), frames, offset, address, context, rows)?;
-            return Ok(Some(stepped));
+            Ok(Some(stepped))
         }
-        OpcodeX86_64::Null | OpcodeX86_64::InvalidFrameless | OpcodeX86_64::UnrecognizedKind(_) =>
-            return Ok(None),
+        OpcodeX86_64::Null
+        | OpcodeX86_64::FrameBased { .. }
+        | OpcodeX86_64::FramelessImmediate { .. }
+        | OpcodeX86_64::FramelessIndirect { .. }
+        | OpcodeX86_64::InvalidFrameless
+        | OpcodeX86_64::UnrecognizedKind(_) => opcode_step(stack, start, context, opcode),
     }
-    Ok(Some(after_call(caller)))
 }

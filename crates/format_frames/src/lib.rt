@@ -3,9 +3,9 @@
 //!
 //! [`macho_step`] looks an address up in a section of compact unwinding and follows the opcode of
 //! its function, [`pe_step`] leaves a frame by the unwind records of a PE module. The calls beside
-//! them do the same in parts, for who asks between them whether the frame has a handler. Nothing is
-//! allocated, no table is copied, and an opcode is read once. Contracts say that both are the steps
-//! that `format_definitions` defines, on every input.
+//! them do the same in parts, for who asks between them where a frame's language table is. Nothing
+//! is allocated, and no table is copied. Contracts say that both are the steps that
+//! `format_definitions` defines, on every input.
 #![tactic(auto)]
 
 mod compact;
@@ -16,9 +16,11 @@ mod macho;
 mod pe;
 mod xmm;
 
-pub use compact::compact_step;
+pub use compact::{compact_step, opcode_step};
 pub use error::FrameError;
-pub use handlers::pe_names_handler;
+pub use handlers::pe_place;
 pub use machine::Stepped;
-pub use macho::{MachoModule, has_language_table, macho_caller, macho_function, macho_step};
+pub use macho::{
+    MachoModule, macho_caller, macho_description, macho_function, macho_place, macho_step,
+};
 pub use pe::{PeModule, pe_caller, pe_functions, pe_step};

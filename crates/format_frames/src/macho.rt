@@ -3,19 +3,24 @@ ghost use Rattle.std.specs.Prelude.{◌≡◌, ◌-◌, ◌<◌, ◌≤◌, ◌^
 ghost use Rattle.unwind_arch.specs.ContextViews.{columns_of};
 ghost use Rattle.format_definitions.specs.CompactStep.{macho_step};
 ghost use Rattle.macho_unwind_info.specs.Listing.{section_of};
-ghost use Rattle.format_frames.specs.Handlers.{has_language_table};
+ghost use Rattle.format_frames.specs.FrameData.{description_of, description_seen};
+ghost use Rattle.format_definitions.specs.MachoModules.{personality_index};
+ghost use Rattle.format_frames.specs.Handlers.{offset_in, macho_place, place_seen};
 ghost use Rattle.format_frames.specs.Modules.{macho_module};
 ghost use Rattle.format_frames.specs.Refusals.{looked_up, function_at, caller_given, caller_due};
+ghost use Rattle.format_frames.specs.Refusals.{caller_due_at};
 ghost use Rattle.format_frames.specs.Refusals.{macho_given, macho_due};
 
-use crate::compact::compact_step;
+use crate::compact::{compact_step, description_in, opcode_step};
 use crate::error::FrameError;
 use crate::machine::Stepped;
-use eh_frame::RowRoom;
+use eh_frame::{Bases, Error, RowRoom};
+use fde_finders::FDESearchResult;
 use macho_unwind_info::opcodes::{OpcodeBitfield, OpcodeX86_64};
-use macho_unwind_info::{Function, UnwindInfo};
+use macho_unwind_info::{Function, ReadError, UnwindInfo};
+use memory_image::MemoryImage;
 use unwind_arch::x86_64::Context;
-use unwinding_frames::Window;
+use unwinding_frames::{Place, Window};
 
 /// A Mach-O module of a process, by addresses in its memory.
 #[derive(Clone, Copy, Debug, PartialEq, Eq)]
@@ -56,22 +61,118 @@ pub fn macho_function(
     function_in(stack.tables(module.unwind_info), rva)
 }
 
-/// Whether the opcode of a function says that it has a language table, which a personality reads.
-pub fn has_language_table(function: &Function) -> bool
-    ensures { result ≡ has_language_table function.now }
-{
-    OpcodeBitfield::new(function.opcode).has_lsda()
-}
-
-/// The caller of the frame at `address`, in a function of a Mach-O module, whose registers
-/// `context` holds. A row that the function's opcode asks for is made in `rows`, and `stack` is a
-/// window over the image, as [`compact_step`] has it.
+/// The description in the frame data of a Mach-O module to which the opcode of a function points.
+/// `None` where the opcode points to none, or the module's frame data wasn't handed in. Whether the
+/// description contains an address is for who asks to find out, by its row.
 ///
 /// # Errors
 ///
-/// `CompactForm` where the opcode gives no caller; `Unmapped` and `Table` as [`compact_step`] has
-/// them.
-pub fn macho_caller<'a>(
+/// Why the description can't be read.
+pub fn macho_description<'a>(
+    image: &MemoryImage<'a>,
+    module: &MachoModule,
+    function: &Function,
+) -> Result<Option<FDESearchResult<'a>>, Error>
+    ensures { description_seen result ≡ description_of image.now (macho_module module.now)
+        function.now }
+{
+    let Some(frames) = module.frames else {
+        return Ok(None);
+    };
+    match OpcodeX86_64::parse(function.opcode) {
+        OpcodeX86_64::Dwarf { eh_frame_fde } => Ok(Some(description_in(
+            image,
+            frames,
+            eh_frame_fde,
+        )?)),
+        _ => Ok(None),
+    }
+}
+
+/// Where the language table of a function of a Mach-O module stands: the function's start and the
+/// table's address, both moved by the module's base, and nothing that the table's pointers may be
+/// relative to but the function. `None` where the function's opcode names no personality, and then
+/// nothing is read; and where it has no language table, since bit 30 of the opcode is clear or the
+/// section lists none for its start. The routine of the personality isn't looked at.
+///
+/// # Errors
+///
+/// `Personalities` where the section's personalities can't be read, or don't have the one that the
+/// opcode names; `Lsda` as [`UnwindInfo::lsda_of`] has it. Where the section itself can't be read,
+/// those of [`UnwindInfo::parse`].
+pub fn macho_place(
+    image: &MemoryImage<'_>,
+    module: &MachoModule,
+    function: &Function,
+) -> Result<Option<Place>, macho_unwind_info::Error>
+    ensures { place_seen result ≡ macho_place image.now (macho_module module.now) function.now }
+{
+    let index = OpcodeBitfield::new(function.opcode).personality_index();
+    if index == 0 {
+        return Ok(None);
+    }
+    match language_offset(image.bytes_from(module.unwind_info), function, index)? {
+        Some(offset) => Ok(Some(Place {
+            start: module.base.wrapping_add(u64::from(function.start_address)),
+            lsda: module.base.wrapping_add(u64::from(offset)),
+            bases: NO_BASES,
+        })),
+        None => Ok(None),
+    }
+}
+
+// the offset of the language table of a function whose opcode names a personality, by a section
+fn language_offset(
+    section: &[u8],
+    function: &Function,
+    index: u8,
+) -> Result<Option<u32>, macho_unwind_info::Error>
+    requires { index ≡ personality_index function.now.opcode }
+    ensures { result ≡ offset_in function.now section.now }
+{
+    let info = UnwindInfo::parse(section)?;
+    if usize::from(index) > info.personalities()?.len() {
+        return Err(macho_unwind_info::Error::ReadError(ReadError::Personalities));
+    }
+    info.lsda_of(function)
+}
+
+// what a table's pointers may be relative to, where nothing but its function is known
+pub(crate) const NO_BASES: Bases = Bases {
+    text: None,
+    data_base: None,
+    func: None,
+    hdr: None,
+    frame: None,
+};
+
+/// The caller of a frame in a function of a Mach-O module, whose registers `context` holds, by the
+/// opcode of the function alone. `stack` is a window over the image, as [`opcode_step`] has it.
+///
+/// # Errors
+///
+/// `CompactForm` where the opcode gives no caller, also where it points to frame data; `Unmapped` as
+/// [`opcode_step`] has it.
+pub fn macho_caller(
+    stack: &mut Window<'_, '_>,
+    module: &MachoModule,
+    function: &Function,
+    context: &Context,
+) -> Result<Stepped, FrameError>
+    ensures caller { caller_given result ≡ caller_due stack.old (macho_module module.now)
+        (columns_of context.now) function.now }
+    ensures same { stack.new ≡ stack.old }
+{
+    let start = module.base.wrapping_add(u64::from(function.start_address));
+    let opcode = OpcodeX86_64::parse(function.opcode);
+    match opcode_step(stack, start, context, &opcode)? {
+        Some(stepped) => Ok(stepped),
+        None => Err(FrameError::CompactForm),
+    }
+}
+
+// the same at an address, where the opcode may point to frame data
+fn caller_at<'a>(
     stack: &mut Window<'_, 'a>,
     module: &MachoModule,
     function: &Function,
@@ -79,7 +180,7 @@ pub fn macho_caller<'a>(
     context: &Context,
     rows: &mut RowRoom<'a>,
 ) -> Result<Stepped, FrameError>
-    ensures caller { caller_given result ≡ caller_due stack.old (macho_module module.now) address
+    ensures caller { caller_given result ≡ caller_due_at stack.old (macho_module module.now) address
         (columns_of context.now) function.now }
     ensures same { stack.new ≡ stack.old }
 {
@@ -117,7 +218,7 @@ pub fn macho_step<'a>(
 {
     match macho_function(stack, module, (address - module.base) as u32)? {
         Some(function) => {
-            let stepped = macho_caller(stack, module, &function, address, context, rows)?;
+            let stepped = caller_at(stack, module, &function, address, context, rows)?;
             Ok(Some(stepped))
         }
         None => Ok(None),

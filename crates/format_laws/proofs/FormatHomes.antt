@@ -74,7 +74,7 @@ ordered_end low limit (f ∷ table) g ordered has = elim (lists.here_or_later f 
   | inr later ↦ ordered_end f.end_address limit table g ordered.3 later
 ]
 
-listed_end : (image : List Span) (m : MachoModule) (part : List Function) (d : DescribesMacho image m part) (f : Function) → HasListed image d.info m f → f.end ≤ m.base + m.size
+listed_end : (image : List Span) (m : MachoModule) (part : List Function) (d : DescribesMacho image m part) (f : Function) → HasListed image d.info d.personalities m f → f.end ≤ m.base + m.size
 listed_end image m part d f h = let e = h.describes.end in let i = h.describes.inside in omega arith
 
 recorded_end : (image : List Span) (m : PeModule) (part : List Function) (d : DescribesPe image m part) (f : Function) → HasRecord image m d.table f ⊎ DescribesLeaf m d.table f → f.end ≤ m.base + m.size
@@ -83,7 +83,7 @@ recorded_end image m part d f (inr leaf) = leaf.inside.1
 
 ends_inside : (image : List Span) (home : FormatModule) (part : List Function) (f : Function) → DescribesFormat image home part → Contains part f → f.end ≤ end_of home
 ends_inside image (Elf m) part f d has = (lists.all_contains (λ (g : Function). (m.start ≤ g.start) × (g.end ≤ m.end)) part f d.inside has).1
-ends_inside image (Macho m) part f d has = listed_end image m part d f (lists.all_contains (HasListed image d.info m) part f d.each has)
+ends_inside image (Macho m) part f d has = listed_end image m part d f (lists.all_contains (HasListed image d.info d.personalities m) part f d.each has)
 ends_inside image (Pe m) part f d has = recorded_end image m part d f (lists.all_contains (λ (g : Function). HasRecord image m d.table g ⊎ DescribesLeaf m d.table g) part f d.each has)
 
 -- a listed function is one of the part of the module that it lies in

@@ -1,15 +1,14 @@
 -- Two described chains of one start through modules of three formats go through the same states, and what is delivered to them
 -- is one.
-use Rattle.std.proofs.Common.{◌≡◌, ◌≢◌, ℕ, ◌-◌, ◌<◌, ◌≤◌, false, List, [], ◌∷◌, Option, Some, None, Result, Ok, Err, refl, sym, ap, subst, ◌∙◌, arith, inl, inr}
+use Rattle.std.proofs.Common.{◌≡◌, ℕ, ◌-◌, ◌<◌, ◌≤◌, false, List, [], ◌∷◌, Option, Some, None, Result, Ok, Err, refl, sym, ap, subst, ◌∙◌, arith, inl, inr}
 use Rattle.std.specs.Prelude.{◌⊎◌}
 use Rattle.std.specs.List.{AllPairs, AllByRecursion, Contains}
-use Rattle.std.specs.Option.{option_map_or}
 use Rattle.memory_image.specs.Image.{Span}
 use Rattle.unwind_definitions.specs.Caller.{Columns}
 use Rattle.unwind_definitions.specs.Expressions.{evaluation}
 use Rattle.unwind_definitions.specs.State.{State, Shows}
 use Rattle.unwind_definitions.specs.Entries.{Fde}
-use Rattle.unwind_definitions.specs.Function.{Function, Site, NoAction, action_among, action_at}
+use Rattle.unwind_definitions.specs.Function.{Function, action_at}
 use Rattle.unwind_definitions.specs.LanguageTable.{LeadsToLanguage}
 use Rattle.unwind_definitions.specs.Module.{Module, Process, AreApart}
 use Rattle.unwind_definitions.specs.Chain.{Call, IsChain}
@@ -21,44 +20,20 @@ use Rattle.unwind_laws.proofs.OneModule.{Same, one_found}
 use Rattle.unwind_laws.proofs.OneLanguage.{one_action}
 use Rattle.unwind_laws.proofs.OneChain.{one_state, Alike}
 use Rattle.unwind_laws.proofs.PushingValid.{columns_show}
-use Rattle.format_definitions.specs.CompactStep.{Stepped, MachoModule}
-use Rattle.format_definitions.specs.MachoModules.{HasListed}
-use Rattle.format_definitions.specs.PeImage.{PeModule}
-use Rattle.format_definitions.specs.PeModules.{HasRecord, DescribesLeaf}
+use Rattle.format_definitions.specs.CompactStep.{Stepped}
 use Rattle.format_definitions.specs.FormatModules.{FormatModule, Elf, Macho, Pe, convention_of, part_of, DescribesFormat, IsUncoveredBy, LiesInFormat, IsFormatChain}
 use Rattle.format_definitions.specs.FormatProcess.{FormatsApart}
 use Rattle.format_definitions.specs.FormatStep.{FormatFault, format_step}
 use Rattle.format_laws.specs.FormatUndone.{FormatUndone, CanUndo}
 use Rattle.format_laws.specs.FormatStepped.{StepUndone}
 use Rattle.format_laws.proofs.FormatSteps.{call_undone}
+use Rattle.format_laws.proofs.MachoLanguage.{one_listed_action}
+use Rattle.format_laws.proofs.PeLanguage.{one_recorded_action}
 use Rattle.format_laws.proofs.FormatHomes.{one_home, in_home, in_part, body_lies}
 use Rattle.format_laws.proofs.FormatStepped.{answered, step_ends}
 use Rattle.format_laws.proofs.FormatLines.{can_undo, link_undone}
 
 -- ---- what functions ask
-
--- a function of a Mach-O or PE module has no language table
-pub listed_silent : (image : List Span) (m : MachoModule) (part : List Function) (d : DescribesFormat image (Macho m) part) (f : Function) → Contains part f → f.sites ≡ None
-listed_silent image m part d f has = (lists.all_contains (HasListed image d.info m) part f d.each has).describes.no_sites
-
-pub recorded_silent : (image : List Span) (m : PeModule) (part : List Function) (d : DescribesFormat image (Pe m) part) (f : Function) → Contains part f → f.sites ≡ None
-recorded_silent image m part d f has = go (lists.all_contains (λ (g : Function). HasRecord image m d.table g ⊎ DescribesLeaf m d.table g) part f d.each has)
-  where
-    go : HasRecord image m d.table f ⊎ DescribesLeaf m d.table f → f.sites ≡ None
-    go (inl r) = r.describes.plain.no_sites
-    go (inr leaf) = leaf.plain.no_sites
-
--- a described function with a language table lies in an ELF module
-elf_alone : (image : List Span) (home : FormatModule) (part : List Function) (f : Function) → DescribesFormat image home part → Contains part f → f.sites ≢ None → (m : Module) × (home ≡ Elf m)
-elf_alone image (Elf m) part f d has some = (m, refl)
-elf_alone image (Macho m) part f d has some = absurd (some (listed_silent image m part d f has))
-elf_alone image (Pe m) part f d has some = absurd (some (recorded_silent image m part d f has))
-
-pub table_in_elf : (image : List Span) (modules : List FormatModule) (functions : List Function) (f : Function) (lies : LiesInFormat image modules functions f) → Contains functions f → f.sites ≢ None → (m : Module) × (lies.home ≡ Elf m)
-table_in_elf image modules functions f lies has some = elf_alone image lies.home (part_of lies.home functions) f lies.describes (in_part functions f lies.home has lies.inside) some
-
-pub silent_action : (f : Function) (a : ℕ) → f.sites ≡ None → action_at f a ≡ NoAction
-silent_action f a e = ap (λ (o : Option (List Site)). option_map_or (λ sites. action_among sites a) o NoAction) e
 
 -- two calls that one ELF module undoes at one address ask the same there
 elf_actions : (image : List Span) (m : Module) (columns : Columns) (a : ℕ) (c d : Call) → Steps (record { image = image; modules = m ∷ [] }) (evaluation image) columns a c →
@@ -75,14 +50,14 @@ pub record IsUndoneIn (image : List Span) (home : FormatModule) (columns : Colum
   pub part : List Function
   pub describes : DescribesFormat image home part
   pub listed : Contains part c.callee
+  pub low : c.callee.start ≤ a
+  pub high : a < c.callee.end
   pub undone : FormatUndone image home columns a c
 
 same_actions : (image : List Span) (home : FormatModule) (columns : Columns) (a : ℕ) (c d : Call) → IsUndoneIn image home columns a c → IsUndoneIn image home columns a d → action_at c.callee a ≡ action_at d.callee a
 same_actions image (Elf m) columns a c d x y = elf_actions image m columns a c d x.undone y.undone
-same_actions image (Macho m) columns a c d x y =
-    silent_action c.callee a (listed_silent image m x.part x.describes c.callee x.listed) ∙ sym (silent_action d.callee a (listed_silent image m y.part y.describes d.callee y.listed))
-same_actions image (Pe m) columns a c d x y =
-    silent_action c.callee a (recorded_silent image m x.part x.describes c.callee x.listed) ∙ sym (silent_action d.callee a (recorded_silent image m y.part y.describes d.callee y.listed))
+same_actions image (Macho m) columns a c d x y = one_listed_action image m x.part y.part x.describes y.describes c.callee d.callee a x.listed y.listed (x.low, x.high) (y.low, y.high)
+same_actions image (Pe m) columns a c d x y = one_recorded_action image m x.part y.part x.describes y.describes c.callee d.callee a x.listed y.listed (x.low, x.high) (y.low, y.high)
 
 -- ---- chains
 some_columns : (x y : Columns) → answered x ≡ answered y → x ≡ y
@@ -98,12 +73,16 @@ not_none x e = absurd cc
 
 module _ (image : List Span) (modules : List FormatModule) (apart : AllPairs FormatsApart modules) where
   undone_in_home : (functions : List Function) (s : State) (c : Call) (columns : Columns) → (can : CanUndo image modules functions (s.ra - 1) s c) → Shows columns s → IsUndoneIn image can.lies.home columns (s.ra - 1) c
-  undone_in_home functions s c columns can shows = record {
-    part = part_of can.lies.home functions;
-    describes = can.lies.describes;
-    listed = in_part functions c.callee can.lies.home can.listed can.lies.inside;
-    undone = call_undone image modules functions (s.ra - 1) s c columns can shows;
-  }
+  undone_in_home functions s c columns can shows =
+      let lies = body_lies (convention_of can.lies.home) c.callee (s.ra - 1) can.lies.is_function can.inside in
+      record {
+        part = part_of can.lies.home functions;
+        describes = can.lies.describes;
+        listed = in_part functions c.callee can.lies.home can.listed can.lies.inside;
+        low = lies.0;
+        high = lies.1;
+        undone = call_undone image modules functions (s.ra - 1) s c columns can shows;
+      }
 
   same_home : (functions more : List Function) (s : State) (c d : Call) → (x : CanUndo image modules functions (s.ra - 1) s c) → (y : CanUndo image modules more (s.ra - 1) s d) → x.lies.home ≡ y.lies.home
   same_home functions more s c d x y =

@@ -1,13 +1,13 @@
 -- States that were stopped where they stand, in functions of Mach-O and PE modules, and the chains that their callers begin.
 use Rattle.std.proofs.Common.{◌≡◌, false, List, [], ◌∷◌, refl, inl, lit<, lit≤}
 use Rattle.memory_image.specs.Image.{word_at}
-use Rattle.unwind_definitions.specs.State.{RBX, IsState, value_of}
+use Rattle.unwind_definitions.specs.State.{RBX, value_of}
 use Rattle.unwind_definitions.specs.Prologue.{Followed, Push, Allocate, PrologueStep, steps_of}
 use Rattle.unwind_definitions.specs.Entered.{IsEntered}
 use Rattle.unwind_definitions.specs.Stopped.{StandsAfter}
 use Rattle.unwind_laws.specs.Three as three
 use Rattle.unwind_laws.proofs.Booleans.{pairs_one}
-use Rattle.unwind_laws.proofs.RowFacts.{by_register, state_fits}
+use Rattle.unwind_laws.proofs.RowFacts.{by_register}
 use Rattle.unwind_laws.proofs.ThreeValid.{function_b}
 use Rattle.pe_unwind_info.specs.Epilog.{parsed_instruction, sequence_from}
 use Rattle.pe_unwind_info.specs.EpilogList.{leading_epilogs}
@@ -24,7 +24,7 @@ use Rattle.format_laws.proofs.PeQuiet.{quiet_at}
 use Rattle.format_laws.proofs.PeRoom as room
 use Rattle.format_laws.proofs.PeListed as listed
 use Rattle.format_laws.proofs.FormatValid.{frameless_lies, room_lies, third_lies}
-use Rattle.format_laws.proofs.FormatCaught.{frameless_entered, room_entered, start_fits, room_fits, second_fits, outer_chain, room_chain}
+use Rattle.format_laws.proofs.FormatCaught.{frameless_entered, room_entered, room_fits, second_fits, outer_chain, room_chain}
 
 -- ---- the chains
 second_lies : LiesInFormat room_image modules functions three.fb

@@ -8,6 +8,9 @@ pub mod PeFew
 pub mod PeEpilogs
 pub mod CompactUndo
 pub mod MachoSteps
+pub mod MachoLanguage
+pub mod Silent
+pub mod PeLanguage
 pub mod PeQuiet
 pub mod PePushes
 pub mod PeListed

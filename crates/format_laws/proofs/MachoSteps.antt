@@ -78,7 +78,7 @@ past_end bases image table offset lt =
     let none : drop offset (table_at image table) ≡ [] = drop_all offset (table_at image table) (omega arith) in
     rw none refl
 
-found_at : (image : List Span) (f : Function) (table offset : ℕ) (d : IsDwarf image f table offset) → fde_at (frame_bases table) (input_at image table) offset ≡ Ok d.fde
+pub found_at : (image : List Span) (f : Function) (table offset : ℕ) (d : IsDwarf image f table offset) → fde_at (frame_bases table) (input_at image table) offset ≡ Ok d.fde
 found_at image f table offset d = go (ltb (length (table_at image table)) offset) refl
   where
     go : (b : Bool) → ltb (length (table_at image table)) offset ≡ b → fde_at (frame_bases table) (input_at image table) offset ≡ Ok d.fde
@@ -88,7 +88,7 @@ found_at image f table offset d = go (ltb (length (table_at image table)) offset
 -- ---- what a listing finds
 
 -- the function of a listing that describes a function is found for each address of that
-pub listed_found : (image : List Span) (m : MachoModule) (functions : List Function) (d : DescribesMacho image m functions) (f : Function) (h : HasListed image d.info m f) (a : ℕ) → f.start ≤ a → a < f.end →
+pub listed_found : (image : List Span) (m : MachoModule) (functions : List Function) (d : DescribesMacho image m functions) (f : Function) (h : HasListed image d.info d.personalities m f) (a : ℕ) → f.start ≤ a → a < f.end →
     lookup_of d.info (a - m.base) ≡ Ok (Some h.listed)
 listed_found image m functions d f h a low high =
     let start = h.describes.start in
@@ -112,17 +112,17 @@ module _ (image : List Span) (f : Function) (is : IsFunction SystemV f) (s t : S
         answered = ap (λ (r : Result Fde Fault). Some (by_description image table a columns r)) (found_at image f table offset d)
             ∙ ap (λ (r : Result RowInstructions Fault). Some (by_row image d.fde.cie.letters.signal columns r)) has
             ∙ ap (λ (r : Result Columns StepFault). Some (stepped_with d.fde.cie.letters.signal r)) u.is_caller
-            ∙ ap (λ (b : Bool). Some (Ok (record { columns = u.caller; signal = b }))) (no_signal_at (frame_bases table) (input_at image table) offset d.next d.fde image d.reads d.describes.cie);
+            ∙ ap (λ (b : Bool). Some (Ok (record { columns = u.caller; signal = b }))) (no_signal_at (frame_bases table) (input_at image table) offset d.next d.fde image d.reads d.describes.code.cie);
         shows = u.shows;
         others = u.others;
       }
 
       go : (b : Bool) → f.outermost ≡ b → OpcodeUndoes (compact_step image (Some table) f.start a columns (Dwarf offset)) columns t
       go false e =
-          let row = d.describes.rows.bodies e a inside in
+          let row = d.describes.code.rows.bodies e a inside in
           answer row.0 row.1 (body_undone (evaluation image) image (steps_of f.prologue) s t columns is.prologue.each (subst (λ b. IsEntered image b (steps_of f.prologue) t s) e entered) words shows row.0 row.2)
       go true e =
-          let row = d.describes.rows.outermost e a inside in
+          let row = d.describes.code.rows.outermost e a inside in
           let none = is.outermost e in
           let bare : IsEntered image true [] t s = subst (λ p. IsEntered image true (steps_of p) t s) none.0 (subst (λ b. IsEntered image b (steps_of f.prologue) t s) e entered) in
           answer row.0 row.1 (outermost_undone (evaluation image) image row.0 s t columns row.2 bare words shows (ends e))
@@ -148,7 +148,7 @@ module _ (image : List Span) (f : Function) (is : IsFunction SystemV f) (s t : S
 
   -- ---- the step in a module
 
-  macho_undone_by : (m : MachoModule) (functions : List Function) (d : DescribesMacho image m functions) → HasListed image d.info m f → MachoUndone (macho_step image m (a - m.base) columns) columns t
+  macho_undone_by : (m : MachoModule) (functions : List Function) (d : DescribesMacho image m functions) → HasListed image d.info d.personalities m f → MachoUndone (macho_step image m (a - m.base) columns) columns t
   macho_undone_by m functions d h =
       let lies = body_inside f a is inside in
       let start = h.describes.start in
@@ -167,4 +167,4 @@ module _ (image : List Span) (f : Function) (is : IsFunction SystemV f) (s t : S
       }
 
   pub macho_undone : (m : MachoModule) (functions : List Function) → DescribesMacho image m functions → Contains functions f → MachoUndone (macho_step image m (a - m.base) columns) columns t
-  macho_undone m functions d has = macho_undone_by m functions d (all_contains (HasListed image d.info m) functions f d.each has)
+  macho_undone m functions d has = macho_undone_by m functions d (all_contains (HasListed image d.info d.personalities m) functions f d.each has)

@@ -65,7 +65,7 @@ none_saved R13 h = h refl
 none_saved R14 h = h refl
 none_saved R15 h = h refl
 
-frameless : IsFrameless [] 8 []
+pub frameless : IsFrameless [] 8 []
 frameless = record { no_set = refl; is_depth = refl; saved = tt; all = λ r h. absurd (none_saved r h) }
 
 abbrev framed_fields : List (Option CalleeSaved)
@@ -99,6 +99,8 @@ pub described_in : (memory : List Span) → table_at memory 0x600000 ≡ describ
 described_in memory at = record {
   info = _;
   parses = ap section_of at ∙ refl;
+  personalities = [];
+  named = refl;
   pages = (
     lit< tt,
     record {
@@ -121,17 +123,18 @@ described_in memory at = record {
       tt,
     ),
   );
+  tables = (lit< tt, record { entries = []; reads = refl; ascend = tt }, (lit< tt, record { entries = []; reads = refl; ascend = tt }, tt));
   each = (
     record {
       listed = record { start_address = 0x1000; end_address = 0x1100; opcode = 0x02010000 };
       among = (0, lit< tt, refl);
-      describes = record { start = refl; end = refl; inside = lit≤ tt; no_language = refl; no_sites = refl; opcode = (refl, frameless) };
+      describes = record { start = refl; end = refl; inside = lit≤ tt; opcode = (refl, frameless); language = record { index = lit≤ tt; leads = refl; words = tt } };
     },
     (
       record {
         listed = record { start_address = 0x2000; end_address = 0x3000; opcode = 0x01010001 };
         among = (2, lit< tt, refl);
-        describes = record { start = refl; end = refl; inside = lit≤ tt; no_language = refl; no_sites = refl; opcode = (refl, framed) };
+        describes = record { start = refl; end = refl; inside = lit≤ tt; opcode = (refl, framed); language = record { index = lit≤ tt; leads = refl; words = tt } };
       },
       tt,
     ),
@@ -276,7 +279,7 @@ unfolding entry_at
 dwarf_reads = refl
 
 pub dwarf_described : IsOpcodeOf pushing.image (Some 0x500000) pushing.function (opcode_of dwarf_word)
-dwarf_described = record { fde = pushing.fde; next = 48; reads = dwarf_reads; describes = (pushed.describes pushing.image).code }
+dwarf_described = record { fde = pushing.fde; next = 48; reads = dwarf_reads; describes = pushed.describes pushing.image }
 
 pub dwarf_entered : IsEntered pushing.image false (steps_of pushing.function.prologue) pushing.caller pushing.start
 unfolding word_at

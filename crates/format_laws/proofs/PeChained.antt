@@ -80,12 +80,12 @@ unfolding chain_of operations_of after_epilogs
 described = record {
   start = refl;
   end = refl;
-  plain = record { not_outermost = refl; no_sites = refl };
+  not_outermost = refl;
   first = chained_info;
   chained = inherited_info ∷ [];
   reads = refl;
   chain = refl;
-  quiet = (refl, (refl, tt));
+  language = record { trailer = λ e. absurd cc; alone = λ e. absurd cc; quiet = (refl, tt); leads = refl; words = tt };
   whole = (tt, (tt, tt));
   inherited = inherited_steps;
   own = own_steps;

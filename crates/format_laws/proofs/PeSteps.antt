@@ -180,7 +180,7 @@ module _ (image : List Span) (m : PeModule) (functions : List Function) (d : Des
       let lies = ranges_inside f.bodies (f.start + last_end f.prologue) f.end a is.bodies inside in
       call_undone image m d.bytes d.table (Some r.function) (a - m.base) columns s t d.mapped d.reads (found_by_record image m functions d f r a (omega (arith, lies.0)) lies.1) shows
       (in_body_undone image m r.function f r.describes t s words (registers_in columns) (shows_registers columns s shows) is a inside
-      (false_outermost image f.outermost f.prologue t s r.describes.plain.not_outermost entered))
+      (false_outermost image f.outermost f.prologue t s r.describes.not_outermost entered))
   body_call_undone_by (inr leaf) a inside entered =
       let lies = ranges_inside f.bodies (f.start + last_end f.prologue) f.end a is.bodies inside in
       leaf_call_undone leaf a (omega (arith, lies.0)) lies.1

@@ -34,5 +34,5 @@ pub use samples::{
 pub use stops::{chain_after_a_stop_is_the_line, described_stop_is_undone};
 pub use validity::{
     address_lies_in_one_module, format_chain_is_one, format_delivery_is_one,
-    language_tables_lie_in_elf_modules, valid_format_chain_is_described,
+    valid_format_chain_is_described,
 };

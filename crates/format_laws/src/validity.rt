@@ -1,16 +1,15 @@
 //! What a chain through modules of three formats determines.
 
-ghost use Rattle.std.specs.Prelude.{◌≡◌, ◌≢◌, ◌<◌, ◌≤◌, ℕ, List, None, IsTrue};
+ghost use Rattle.std.specs.Prelude.{◌≡◌, ◌<◌, ◌≤◌, ℕ, List, IsTrue};
 ghost use Rattle.std.specs.List.{AllPairs, Contains};
 ghost use Rattle.memory_image.specs.Image.{Span};
 ghost use Rattle.unwind_definitions.specs.Caller.{Columns};
 ghost use Rattle.unwind_definitions.specs.State.{State};
 ghost use Rattle.unwind_definitions.specs.Function.{Function};
-ghost use Rattle.unwind_definitions.specs.Module.{Module};
 ghost use Rattle.unwind_definitions.specs.Chain.{Call, states_of};
 ghost use Rattle.unwind_definitions.specs.Delivery.{delivery_of};
 ghost use Rattle.unwind_laws.specs.Apart.{FunctionsApart};
-ghost use Rattle.format_definitions.specs.FormatModules.{FormatModule, Elf, in_format};
+ghost use Rattle.format_definitions.specs.FormatModules.{FormatModule, in_format};
 ghost use Rattle.format_definitions.specs.FormatModules.{LiesInFormat, IsFormatChain};
 ghost use Rattle.format_definitions.specs.FormatProcess.{IsFormatProcess};
 ghost use Rattle.format_definitions.specs.FormatValid.{IsFormatValid};
@@ -68,14 +67,4 @@ pub fn format_chain_is_one()
         → IsFormatChain image modules functions s calls
         → IsFormatChain image modules functions s more
         → calls ≡ more }
-{}
-
-/// A described function that has a language table lies in an ELF module.
-pub fn language_tables_lie_in_elf_modules()
-    ensures { (image : List Span) (modules : List FormatModule) (functions : List Function)
-        (f : Function)
-        → (lies : LiesInFormat image modules functions f)
-        → Contains functions f
-        → f.sites ≢ None
-        → (m : Module) × (lies.home ≡ Elf m) }
 {}

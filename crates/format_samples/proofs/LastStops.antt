@@ -74,12 +74,12 @@ unfolding chain_of operations_of after_epilogs
 described = record {
   start = refl;
   end = refl;
-  plain = record { not_outermost = refl; no_sites = refl };
+  not_outermost = refl;
   first = listed_info;
   chained = [];
   reads = refl;
   chain = refl;
-  quiet = (refl, tt);
+  language = record { trailer = λ e. absurd cc; alone = λ e. refl; quiet = tt; leads = refl; words = tt };
   whole = (tt, tt);
   inherited = [];
   own = listed_function.prologue;

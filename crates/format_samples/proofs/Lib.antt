@@ -6,3 +6,5 @@ pub mod LeaStops
 pub mod LastStops
 pub mod MachoEnds
 pub mod MachoWhole
+pub mod MachoHandler
+pub mod PeHandler

@@ -48,7 +48,7 @@ unfolding entry_at row_at instruction_of
 reads = record { callee_at = refl; outermost_at = refl; row = refl; stays = refl }
 
 callee_opcode : IsOpcodeOf image (Some 0x500000) callee (opcode_of 0x04000018)
-callee_opcode = record { fde = callee_fde; next = 68; reads = reads.callee_at; describes = record { cie = emitted; earlier = lit< tt; start = refl; end = refl; rows = callee_rows } }
+callee_opcode = record { fde = callee_fde; next = 68; reads = reads.callee_at; describes = record { code = record { cie = emitted; earlier = lit< tt; start = refl; end = refl; rows = callee_rows }; language = refl } }
 
 outermost_row : IsOutermostRow (run_of in_outermost)
 outermost_row = record {
@@ -69,7 +69,7 @@ outermost_rows = record {
 }
 
 outermost_opcode : IsOpcodeOf image (Some 0x500000) outermost (opcode_of 0x04000044)
-outermost_opcode = record { fde = outermost_fde; next = 88; reads = reads.outermost_at; describes = record { cie = emitted; earlier = lit< tt; start = refl; end = refl; rows = outermost_rows } }
+outermost_opcode = record { fde = outermost_fde; next = 88; reads = reads.outermost_at; describes = record { code = record { cie = emitted; earlier = lit< tt; start = refl; end = refl; rows = outermost_rows }; language = refl } }
 
 -- ---- a function whose size stands in its code
 
@@ -95,6 +95,8 @@ pub described : DescribesMacho image module_of_them functions
 described = record {
   info = _;
   parses = refl;
+  personalities = [];
+  named = refl;
   pages = (
     lit< tt,
     record {
@@ -117,23 +119,24 @@ described = record {
     },
     tt,
   );
+  tables = (lit< tt, record { entries = []; reads = refl; ascend = tt }, tt);
   each = (
     record {
       listed = record { start_address = 0x2000; end_address = 0x2040; opcode = 0x04000018 };
       among = (0, lit< tt, refl);
-      describes = record { start = refl; end = refl; inside = lit≤ tt; no_language = refl; no_sites = refl; opcode = callee_opcode };
+      describes = record { start = refl; end = refl; inside = lit≤ tt; opcode = callee_opcode; language = tt };
     },
     (
       record {
         listed = record { start_address = 0x2040; end_address = 0x2050; opcode = 0x04000044 };
         among = (1, lit< tt, refl);
-        describes = record { start = refl; end = refl; inside = lit≤ tt; no_language = refl; no_sites = refl; opcode = outermost_opcode };
+        describes = record { start = refl; end = refl; inside = lit≤ tt; opcode = outermost_opcode; language = tt };
       },
       (
         record {
           listed = record { start_address = 0x3000; end_address = 0x3020; opcode = 0x030df800 };
           among = (3, lit< tt, refl);
-          describes = record { start = refl; end = refl; inside = lit≤ tt; no_language = refl; no_sites = refl; opcode = indirect_opcode };
+          describes = record { start = refl; end = refl; inside = lit≤ tt; opcode = indirect_opcode; language = record { index = lit≤ tt; leads = refl; words = tt } };
         },
         tt,
       ),

@@ -1,3 +1,5 @@
 pub mod StopSamples
 pub mod EpilogSamples
 pub mod MachoWhole
+pub mod MachoHandler
+pub mod PeHandler

@@ -1,4 +1,4 @@
--- The first registers of a list, with zeros in place of the others.
+-- The first registers of a list, with zeros in place of the others. No public clause cites this.
 use Rattle.std.specs.Prelude.{ℕ, suc, List, [], ◌∷◌, nat_lt, if◌then◌else◌}
 
 -- a register at a place, which a list of so many keeps
