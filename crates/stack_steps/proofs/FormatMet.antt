@@ -1,5 +1,5 @@
 -- Frames and callers of described calls and stops, in modules of whatever format.
-use Rattle.std.proofs.Common.{◌≡◌, ◌≢◌, ℕ, ◌-◌, ◌^◌, ◌<◌, ◌≤◌, Bool, true, false, eqb, List, Some, None, Ok, sym, ap, ◌∙◌, arith}
+use Rattle.std.proofs.Common.{◌≡◌, ◌≢◌, ℕ, ◌-◌, ◌^◌, ◌<◌, ◌≤◌, Bool, true, false, eqb, List, Some, ap, ◌∙◌, arith}
 use Rattle.std.specs.Prelude.{IsTrue}
 use Rattle.std.specs.List.{Contains}
 use Rattle.std.proofs.lemmas.Bool.Decides.{nat_tests}
@@ -17,7 +17,6 @@ use Rattle.format_definitions.specs.FormatModules.{FormatModule, Elf, Macho, Pe,
 use Rattle.format_definitions.specs.FormatStops.{StandsIn, IsFormatStop}
 use Rattle.format_laws.specs.FormatUndone.{FormatUndone, CanUndo}
 use Rattle.format_laws.proofs.FormatHomes.{in_home, in_part, body_lies}
-use Rattle.format_laws.proofs.FormatOne.{listed_silent, recorded_silent, silent_action}
 use Rattle.format_laws.proofs.FormatSteps.{undone_in}
 use Rattle.format_laws.proofs.FormatStopped.{stop_lies, undone_at}
 use Rattle.stack_steps.specs.Modules.{SpaceValue, AreApart}
@@ -96,8 +95,8 @@ module _ (space : SpaceValue) (c : Context) (functions : List Function) (s : Sta
 
   -- ---- what a frame gives
 
-  undone_by : (home : FormatModule) (interrupted : Bool) → FormatFrame space c interrupted home call.caller → UndoneIn home (step_of space c interrupted) (columns_of c) call.caller
-  undone_by home interrupted f = record {
+  undone_by : (home : FormatModule) (interrupted : Bool) (a : ℕ) → FormatFrame space c interrupted home call.callee a call.caller → UndoneIn home (step_of space c interrupted) (columns_of c) call.caller
+  undone_by home interrupted a f = record {
     next = f.next;
     answered = step_is space c interrupted ∙ ap (stepped_by space.image c) f.framed ∙ ap some_next f.called;
     unmarked = f.unmarked;
@@ -105,12 +104,12 @@ module _ (space : SpaceValue) (c : Context) (functions : List Function) (s : Sta
     others = f.others;
   }
 
-  -- one that asks nothing, as its function does
-  met_by : (home : FormatModule) → FormatFrame space c false home call.caller → call.callee.sites ≡ None → s.ra < 2 ^ 64 → Met space c s call
-  met_by home f silent low = record {
+  -- one that asks what its function does
+  met_by : (home : FormatModule) → FormatFrame space c false home call.callee (s.ra - 1) call.caller → s.ra < 2 ^ 64 → Met space c s call
+  met_by home f low = record {
     frame = f.frame;
     framed = f.framed;
-    asks = f.asks ∙ ap (λ action. Ok action) (sym (silent_action call.callee (s.ra - 1) silent));
+    asks = f.asks (omega arith);
     no_arguments = f.no_arguments;
     next = f.next;
     called = f.called;
@@ -129,29 +128,29 @@ module _ (space : SpaceValue) (c : Context) (functions : List Function) (s : Sta
     stepped : (home : FormatModule) → Lies home → DescribesFormat space.image home (part_of home functions) → FormatUndone space.image home (columns_of c) (s.ra - 1) call
     stepped home lies d = undone_in space.image (formats_of space) functions (s.ra - 1) s call (columns_of c) can shows home lies.1 lies.2 d
 
-    macho_call : (m : Rattle.format_definitions.specs.CompactStep.MachoModule) → Lies (Macho m) → DescribesFormat space.image (Macho m) (part_of (Macho m) functions) → FormatFrame space c false (Macho m) call.caller
+    macho_call : (m : Rattle.format_definitions.specs.CompactStep.MachoModule) → Lies (Macho m) → DescribesFormat space.image (Macho m) (part_of (Macho m) functions) → FormatFrame space c false (Macho m) call.callee (s.ra - 1) call.caller
     macho_call m lies d =
         let at = body_lies SystemV call.callee (s.ra - 1) lies.2 is.called.inside in
         macho_framed space c false (s.ra - 1) (not_zero shows is.called.returns) (call_asked shows is.called.returns low) call.callee at.0 at.1 call.caller m
-        (held (Macho m) lies d is.listed (s.ra - 1) at.0 at.1) (part_of (Macho m) functions) d (in_part functions call.callee (Macho m) is.listed lies.1) (stepped (Macho m) lies d)
+        (held (Macho m) lies d is.listed (s.ra - 1) at.0 at.1) lies.2 is.called.inside (part_of (Macho m) functions) d (in_part functions call.callee (Macho m) is.listed lies.1) (stepped (Macho m) lies d)
 
-    pe_call : (m : Rattle.format_definitions.specs.PeImage.PeModule) → Lies (Pe m) → DescribesFormat space.image (Pe m) (part_of (Pe m) functions) → FormatFrame space c false (Pe m) call.caller
+    pe_call : (m : Rattle.format_definitions.specs.PeImage.PeModule) → Lies (Pe m) → DescribesFormat space.image (Pe m) (part_of (Pe m) functions) → FormatFrame space c false (Pe m) call.callee (s.ra - 1) call.caller
     pe_call m lies d =
         let at = body_lies Windows call.callee (s.ra - 1) lies.2 is.called.inside in
         pe_framed space c false (s.ra - 1) (not_zero shows is.called.returns) (call_asked shows is.called.returns low) call.callee at.0 at.1 call.caller m
-        (held (Pe m) lies d is.listed (s.ra - 1) at.0 at.1) (part_of (Pe m) functions) d (in_part functions call.callee (Pe m) is.listed lies.1) (stepped (Pe m) lies d)
+        (held (Pe m) lies d is.listed (s.ra - 1) at.0 at.1) lies.2 (part_of (Pe m) functions) d (in_part functions call.callee (Pe m) is.listed lies.1) (stepped (Pe m) lies d)
 
     met_in : (home : FormatModule) → Lies home → DescribesFormat space.image home (part_of home functions) → Met space c s call
     met_in (Elf m) lies d = met space c functions s call apart laid (call_in_elf m lies d is) shows
-    met_in (Macho m) lies d = met_by (Macho m) (macho_call m lies d) (listed_silent space.image m (part_of (Macho m) functions) d call.callee (in_part functions call.callee (Macho m) is.listed lies.1)) low
-    met_in (Pe m) lies d = met_by (Pe m) (pe_call m lies d) (recorded_silent space.image m (part_of (Pe m) functions) d call.callee (in_part functions call.callee (Pe m) is.listed lies.1)) low
+    met_in (Macho m) lies d = met_by (Macho m) (macho_call m lies d) low
+    met_in (Pe m) lies d = met_by (Pe m) (pe_call m lies d) low
 
     undone_at_call : (home : FormatModule) → Lies home → DescribesFormat space.image home (part_of home functions) → UndoneIn home (step_of space c false) (columns_of c) call.caller
     undone_at_call (Elf m) lies d =
         let u : Undone (step_of space c false) (columns_of c) call.caller = step_undone space c functions s call apart laid (call_in_elf m lies d is) shows in
         record { next = u.next; answered = u.answered; unmarked = u.unmarked; shows = u.shows; others = u.others }
-    undone_at_call (Macho m) lies d = undone_by (Macho m) false (macho_call m lies d)
-    undone_at_call (Pe m) lies d = undone_by (Pe m) false (pe_call m lies d)
+    undone_at_call (Macho m) lies d = undone_by (Macho m) false (s.ra - 1) (macho_call m lies d)
+    undone_at_call (Pe m) lies d = undone_by (Pe m) false (s.ra - 1) (pe_call m lies d)
 
   -- The frame of a call.
   pub format_met : IsFormatCall space.image (formats_of space) functions s call → Shows (columns_of c) s → s.ra < 2 ^ 64 → Met space c s call
@@ -171,13 +170,13 @@ module _ (space : SpaceValue) (c : Context) (functions : List Function) (s : Sta
         record { next = u.next; answered = u.answered; unmarked = u.unmarked; shows = u.shows; others = u.others }
     undone_at_stop (Macho m) lies d stands =
         let at = stop_lies space.image s call (Macho m) (part_of (Macho m) functions) d lies.2 stands in
-        undone_by (Macho m) true (macho_framed space c true s.ra (not_zero shows is.returns) (ra_is shows is.returns) call.callee at.0 at.1 call.caller m
-        (held (Macho m) lies d is.listed s.ra at.0 at.1) (part_of (Macho m) functions) d (in_part functions call.callee (Macho m) is.listed lies.1)
+        undone_by (Macho m) true s.ra (macho_framed space c true s.ra (not_zero shows is.returns) (ra_is shows is.returns) call.callee at.0 at.1 call.caller m
+        (held (Macho m) lies d is.listed s.ra at.0 at.1) lies.2 stands.inside (part_of (Macho m) functions) d (in_part functions call.callee (Macho m) is.listed lies.1)
         (undone_at space.image (formats_of space) functions s call is (columns_of c) shows (Macho m) lies.1 lies.2 d stands))
     undone_at_stop (Pe m) lies d stands =
         let at = stop_lies space.image s call (Pe m) (part_of (Pe m) functions) d lies.2 stands in
-        undone_by (Pe m) true (pe_framed space c true s.ra (not_zero shows is.returns) (ra_is shows is.returns) call.callee at.0 at.1 call.caller m
-        (held (Pe m) lies d is.listed s.ra at.0 at.1) (part_of (Pe m) functions) d (in_part functions call.callee (Pe m) is.listed lies.1)
+        undone_by (Pe m) true s.ra (pe_framed space c true s.ra (not_zero shows is.returns) (ra_is shows is.returns) call.callee at.0 at.1 call.caller m
+        (held (Pe m) lies d is.listed s.ra at.0 at.1) lies.2 (part_of (Pe m) functions) d (in_part functions call.callee (Pe m) is.listed lies.1)
         (undone_at space.image (formats_of space) functions s call is (columns_of c) shows (Pe m) lies.1 lies.2 d stands))
 
   -- The step from a stopped state answers its caller.

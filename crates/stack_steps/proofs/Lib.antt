@@ -8,11 +8,14 @@ pub mod FormatHolders
 pub mod FormatMet
 pub mod FormatStopSamples
 pub mod FormatWords
+pub mod Growing
 pub mod HeaderFinds
 pub mod Holding
 pub mod IndexFinds
 pub mod Making
 pub mod MetFrames
+pub mod MachoFrames
+pub mod PeFrames
 pub mod RowReads
 pub mod Sharing
 pub mod StepAnswers
@@ -21,3 +24,4 @@ pub mod StepUndone
 pub mod StopSamples
 pub mod StoppedUndone
 pub mod PreparedSamples
+pub mod FactSteps

@@ -1,5 +1,5 @@
 -- The frame at a context that shows a state of a described chain.
-use Rattle.std.proofs.Common.{◌≡◌, ◌≢◌, ℕ, ◌-◌, ◌^◌, ◌<◌, false, List, Option, Some, None, Result, Ok, refl, sym, ap, subst, ◌∙◌, arith, eqb, ltb, leb}
+use Rattle.std.proofs.Common.{◌≡◌, ◌≢◌, ℕ, ◌-◌, ◌^◌, ◌<◌, Bool, false, List, Option, Some, None, Result, Ok, refl, sym, ap, subst, ◌∙◌, arith, eqb, ltb, leb}
 use Rattle.std.specs.Prelude.{IsTrue}
 use Rattle.std.proofs.lemmas.Bool.Decides.{nat_tests}
 use Rattle.std.proofs.lemmas.Bool.{ltb-true, leb-true}
@@ -61,11 +61,11 @@ record MetKeeping (space : SpaceValue) (c : Context) (s : State) (call : Call) :
   others : KeepsOthers (columns_of c) (columns_of met.next.context)
 
 -- what is asked, where a description asks what its function does
-asked_as : (image : List Span) (c : Context) (found : FoundFde) (f : Function) (a : ℕ) → AsksAs image found.bases f found.fde → address_of_call c.ra false ≡ a → described_action image c false found ≡ Ok (action_at f a)
-asked_as image c found f a asks at = ap asked asks.personality ∙ go asks.routine asks.silent
+pub asked_as : (image : List Span) (c : Context) (interrupted : Bool) (found : FoundFde) (f : Function) (a : ℕ) → AsksAs image found.bases f found.fde → address_of_call c.ra interrupted ≡ a → described_action image c interrupted found ≡ Ok (action_at f a)
+asked_as image c interrupted found f a asks at = ap asked asks.personality ∙ go asks.routine asks.silent
   where
     asked : Result (Option ℕ) StepFault → Result Action DeliverError
-    asked routine = result_map (action_if_named image (address_of_call c.ra false)) (table_if_named image found routine)
+    asked routine = result_map (action_if_named image (address_of_call c.ra interrupted)) (table_if_named image found routine)
 
     go : (o : Option ℕ) → (o ≡ None → f.sites ≡ None) → asked (Ok o) ≡ Ok (action_at f a)
     go None silent = let none : f.sites ≡ None = silent refl in rw none refl
@@ -117,7 +117,7 @@ module _ (space : SpaceValue) (c : Context) (functions : List Function) (s : Sta
         met = record {
           frame = frame_at;
           framed = framed;
-          asks = asked_as space.image c found_there call.callee (s.ra - 1) asks asked_at;
+          asks = asked_as space.image c false found_there call.callee (s.ra - 1) asks asked_at;
           no_arguments = step.finds.no_arguments;
           next = next;
           called = called;

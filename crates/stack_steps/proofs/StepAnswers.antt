@@ -6,11 +6,13 @@ use Rattle.std.specs.Result.{result_map_both}
 use Rattle.std.proofs.lemmas.Bool.{leb-true}
 use Rattle.std.proofs.lemmas.Bool.Decides.{nat_tests, eqb_tells}
 use Rattle.memory_image.specs.Image.{Span, table_at, word_at}
+use Rattle.memory_image.specs.Results.{result_map}
 use Rattle.unwind_definitions.specs.declared.error.Error.{Error as Fault}
 use Rattle.unwind_definitions.specs.Input.{Input}
 use Rattle.unwind_definitions.specs.Pointers as pointers
 use Rattle.unwind_definitions.specs.Row.{RowInstructions, row_at}
 use Rattle.unwind_definitions.specs.Entries.{Fde}
+use Rattle.unwind_definitions.specs.HeaderSearch.{fde_at}
 use Rattle.unwind_definitions.specs.Scan.{scan}
 use Rattle.unwind_definitions.specs.LanguageTable.{input_at}
 use Rattle.unwind_definitions.specs.LanguageSearch.{address_of_call}
@@ -29,16 +31,19 @@ use Rattle.macho_unwind_info.specs.declared.function.Function.{Function as Liste
 use Rattle.macho_unwind_info.specs.Listing.{Section, section_of}
 use Rattle.macho_unwind_info.specs.Lookup.{lookup_of as lookup_of_section}
 use Rattle.macho_unwind_info.specs.X86_64.{opcode_of}
+use Rattle.macho_unwind_info.specs.declared.opcodes.x86_64.OpcodeX86_64.{OpcodeX86_64}
+use Rattle.macho_unwind_info.specs.declared.opcodes.x86_64.OpcodeX86_64.TheVariants.{Null, FrameBased, FramelessImmediate, FramelessIndirect, Dwarf, InvalidFrameless, UnrecognizedKind}
 use Rattle.pe_unwind_info.specs.declared.x86_64.fault.FrameFault.TheVariants as pe
 use Rattle.pe_unwind_info.specs.FunctionTable.{functions_of, lookup_of}
-use Rattle.format_definitions.specs.CompactStep.{MachoModule, MachoFault, InSection, NoForm, InStep, answered_by, compact_step}
+use Rattle.format_definitions.specs.CompactStep.{MachoModule, MachoFault, InSection, NoForm, InStep, answered_by, opcode_step, compact_step}
 use Rattle.format_definitions.specs.CompactStep as compact
 use Rattle.format_definitions.specs.PeImage.{PeModule, table_of}
 use Rattle.format_definitions.specs.PeStep.{PeFault, NoTable, InFrame}
 use Rattle.format_definitions.specs.PeStep as pe_steps
+use Rattle.format_frames.specs.FrameData.{found_in as found_in_data, some_found, description_by, description_of}
 use Rattle.format_frames.specs.Refusals.{function_at, looked_up}
 use Rattle.stack_steps.specs.declared.answers.DeliverError.{DeliverError}
-use Rattle.stack_steps.specs.declared.answers.DeliverError.TheVariants.{NoMemory, Unmapped, FrameLimit, PassLimit, NoResume, Table, MachO, CompactHandler, CompactForm, PeInfo, PeHandler, ChainLimit}
+use Rattle.stack_steps.specs.declared.answers.DeliverError.TheVariants.{NoMemory, Unmapped, FrameLimit, PassLimit, NoResume, Table, MachO, CompactForm, PeInfo, ChainLimit}
 use Rattle.format_frames.specs.declared.machine.Stepped.{Stepped}
 use Rattle.stack_steps.specs.declared.space.MachoTables.{MachoTables}
 use Rattle.stack_steps.specs.declared.space.Module.{Module}
@@ -46,8 +51,8 @@ use Rattle.stack_steps.specs.declared.space.ModuleTables.{ModuleTables}
 use Rattle.stack_steps.specs.declared.space.ModuleTables.TheVariants.{Elf, Macho, Pe}
 use Rattle.stack_steps.specs.declared.space.PeTables.{PeTables}
 use Rattle.stack_steps.specs.Modules.{SpaceValue, contains, module_at}
-use Rattle.stack_steps.specs.Stepping.{FrameAt, DescribedFrame, Described, frame_with, frame_by, compact_frame, recorded_frame, frame_by_tables, frame_in, frame_of, macho_of, pe_of}
-use Rattle.stack_steps.specs.Stepping.{next_with, described_caller, compact_next, opcode_caller, recorded_columns, caller_by, step_of, refusal_of, macho_refusal, pe_refusal, macho_stepped, pe_stepped}
+use Rattle.stack_steps.specs.Stepping.{FrameAt, DescribedFrame, Described, frame_with, frame_by, opcode_frame, compact_frame, recorded_frame, frame_by_tables, frame_in, frame_of, macho_of, pe_of}
+use Rattle.stack_steps.specs.Stepping.{next_with, described_caller, compact_next, opcode_caller, compact_caller, recorded_columns, caller_by, step_of, refusal_of, macho_refusal, pe_refusal, macho_stepped, pe_stepped}
 use Rattle.stack_steps.specs.Stepping.{FindsNone, FindsNoneIn, HasNoDescription, EndsAt, IsHeldBy, RowFaults, DescriptionFaults, TablesFault, FaultsAt, SectionFaults, IsUnreadSection, HasNoForm, IsWithoutForm}
 use Rattle.stack_steps.specs.Stepping.{SaysUnread, RecordsUnread, IsUnreadInfo, ChainsTooMany, IsChainedTooLong, DescriptionReads, TablesRead, ReadIsUnmapped, DescriptionGives, TablesGive, GivesCaller}
 use Rattle.stack_steps.proofs.RowReads.{unmapped_caller, caller_is_unmapped, reads_no_word}
@@ -86,10 +91,16 @@ by_kind_none : (image : List Span) (text : Option ℕ) (kind : FrameInfoKind) (a
 by_kind_none image text (EhFrame frame) a free = rw free.1 refl
 by_kind_none image text (EhFrameHdr header) a free = free
 
-none_listed : (m : MachoModule) (a : ℕ) (r : Result (Option Listed) macho.Error) → compact_frame m a r ≡ Ok None → r ≡ Ok None
-none_listed m a (Ok None) e = refl
-none_listed m a (Ok (Some listed)) e = absurd cc
-none_listed m a (Err x) e = absurd cc
+-- a listed function has a frame
+always_listed : (m : MachoModule) (a : ℕ) (listed : Listed) (r : Result (Option FoundFde) Fault) → opcode_frame m a listed r ≡ Ok None → ⊥
+always_listed m a listed (Ok None) e = absurd cc
+always_listed m a listed (Ok (Some found)) e = let none : Some found ≡ None = none_found a (Some found) e in absurd cc
+always_listed m a listed (Err x) e = absurd cc
+
+none_listed : (image : List Span) (m : MachoModule) (a : ℕ) (r : Result (Option Listed) macho.Error) → compact_frame image m a r ≡ Ok None → r ≡ Ok None
+none_listed image m a (Ok None) e = refl
+none_listed image m a (Ok (Some listed)) e = absurd (always_listed m a listed (description_of image m listed) e)
+none_listed image m a (Err x) e = absurd cc
 
 always_recorded : (m : PeModule) (rva : ℕ) (o : Option (List ℕ)) → recorded_frame m rva o ≡ Ok None → ⊥
 always_recorded m rva None e = absurd cc
@@ -97,12 +108,12 @@ always_recorded m rva (Some table) e = absurd cc
 
 none_by_tables : (image : List Span) (a : ℕ) (m : Module) (tables : ModuleTables) → frame_by_tables image a m tables ≡ Ok None → FindsNoneIn image m tables a
 none_by_tables image a m (Elf tables) e = none_by_kind image tables.text_base tables.kind a (none_found a (found_by tables image a) e)
-none_by_tables image a m (Macho tables) e = none_listed (macho_of m tables) a (function_at image (macho_of m tables) (a - m.start)) e
+none_by_tables image a m (Macho tables) e = none_listed image (macho_of m tables) a (function_at image (macho_of m tables) (a - m.start)) e
 none_by_tables image a m (Pe tables) e = always_recorded (pe_of m tables) (a - m.start) (table_of image (pe_of m tables)) e
 
 by_tables_none : (image : List Span) (a : ℕ) (m : Module) (tables : ModuleTables) → FindsNoneIn image m tables a → frame_by_tables image a m tables ≡ Ok None
 by_tables_none image a m (Elf tables) free = rw (by_kind_none image tables.text_base tables.kind a free) refl
-by_tables_none image a m (Macho tables) free = ap (compact_frame (macho_of m tables) a) free
+by_tables_none image a m (Macho tables) free = ap (compact_frame image (macho_of m tables) a) free
 by_tables_none image a m (Pe tables) free = absurd free
 
 none_in_module : (image : List Span) (a : ℕ) (o : Option Module) → frame_in image a o ≡ Ok None → HasNoDescription image o a
@@ -303,6 +314,40 @@ opcode_is None = refl
 opcode_is (Some (Ok caller)) = refl
 opcode_is (Some (Err e)) = refl
 
+-- the caller of a listed function's frame, by the description to which its opcode points, or by the opcode
+abbrev caller_of_listed : List Span → Context → ℕ → Result Stepped DeliverError → Result (Option FoundFde) Fault → Result (Option Stepped) DeliverError
+caller_of_listed image c a next (Ok None) = some_next next
+caller_of_listed image c a next (Ok (Some found)) = stepped_by image c (frame_by a (Some found))
+caller_of_listed image c a next (Err e) = Err (Table e)
+
+framed_is : (image : List Span) (c : Context) (a : ℕ) (m : MachoModule) (listed : Listed) (r : Result (Option FoundFde) Fault) → stepped_by image c (opcode_frame m a listed r) ≡ caller_of_listed image c a (compact_caller image c m listed) r
+framed_is image c a m listed (Ok None) = refl
+framed_is image c a m listed (Ok (Some found)) = refl
+framed_is image c a m listed (Err e) = refl
+
+module _ (image : List Span) (c : Context) (a start : ℕ) where
+  by_data : (table : ℕ) (r : Result Fde Fault) → caller_of_listed image c a (Err CompactForm) (some_found (result_map (found_in_data image table) r)) ≡ macho_answer (answered_by (Some (compact.by_description image table a (columns_of c) r)))
+  by_data table (Err e) = refl
+  by_data table (Ok fde) = by_row_of (row_at (compact.frame_bases table) fde a)
+    where
+      left : (run : RowInstructions) (r : Result calls.Columns calls.StepFault) → some_next (result_map_both (next_with fde.cie.letters.signal) refusal_of r) ≡ macho_answer (answered_by (Some (compact.stepped_with fde.cie.letters.signal r)))
+      left run (Ok columns) = refl
+      left run (Err e) = refl
+
+      by_row_of : (r : Result RowInstructions Fault) → stepped_by image c (result_map_both (frame_with (found_in_data image table fde)) Table r) ≡ macho_answer (answered_by (Some (compact.by_row image fde.cie.letters.signal (columns_of c) r)))
+      by_row_of (Err e) = refl
+      by_row_of (Ok run) = left run (calls.caller_of calls.x86_64 (evaluation image) image (columns_of c) run)
+
+  by_opcode : (frames : Option ℕ) (o : OpcodeX86_64) → caller_of_listed image c a (opcode_caller (opcode_step image start (columns_of c) o)) (description_by image frames o) ≡ macho_answer (answered_by (compact_step image frames start a (columns_of c) o))
+  by_opcode frames Null = refl
+  by_opcode frames (FrameBased offset fields) = opcode_is (opcode_step image start (columns_of c) (FrameBased offset fields))
+  by_opcode frames (FramelessImmediate size registers) = opcode_is (opcode_step image start (columns_of c) (FramelessImmediate size registers))
+  by_opcode frames (FramelessIndirect at adjust registers) = opcode_is (opcode_step image start (columns_of c) (FramelessIndirect at adjust registers))
+  by_opcode None (Dwarf offset) = refl
+  by_opcode (Some table) (Dwarf offset) = by_data table (fde_at (compact.frame_bases table) (input_at image table) offset)
+  by_opcode frames InvalidFrameless = refl
+  by_opcode frames (UnrecognizedKind k) = refl
+
 -- it is the step that is defined for the format
 pub macho_is : (image : List Span) (c : Context) (m : Module) (tables : MachoTables) (a : ℕ) → m.start ≤ a → stepped_by image c (frame_by_tables image a m (Macho tables)) ≡ macho_answer (macho_stepped image c m tables a)
 macho_is image c m tables a from = by_section (section_of (table_at image tables.unwind_info))
@@ -316,12 +361,15 @@ macho_is image c m tables a from = by_section (section_of (table_at image tables
     opcode_at : Listed → ℕ → Option (Result compact.Stepped calls.StepFault)
     opcode_at listed b = compact_step image tables.frames (m.start + listed.start_address) b (columns_of c) (opcode_of listed.opcode)
 
-    by_listed : (r : Result (Option Listed) macho.Error) → stepped_by image c (compact_frame (macho_of m tables) a r) ≡ macho_answer (compact.stepped_by image (macho_of m tables) (a - m.start) (columns_of c) r)
+    by_listed : (r : Result (Option Listed) macho.Error) → stepped_by image c (compact_frame image (macho_of m tables) a r) ≡ macho_answer (compact.stepped_by image (macho_of m tables) (a - m.start) (columns_of c) r)
     by_listed (Err e) = refl
     by_listed (Ok None) = refl
-    by_listed (Ok (Some listed)) = opcode_is (opcode_at listed a) ∙ ap (λ (b : ℕ). macho_answer (answered_by (opcode_at listed b))) (sym at)
+    by_listed (Ok (Some listed)) =
+        framed_is image c a (macho_of m tables) listed (description_of image (macho_of m tables) listed) ∙
+        by_opcode image c a (m.start + listed.start_address) tables.frames (opcode_of listed.opcode) ∙
+        ap (λ (b : ℕ). macho_answer (answered_by (opcode_at listed b))) (sym at)
 
-    by_section : (r : Result Section macho.Error) → stepped_by image c (compact_frame (macho_of m tables) a (looked_up (a - m.start) r)) ≡ macho_answer (compact.found_in image (macho_of m tables) (a - m.start) (columns_of c) r)
+    by_section : (r : Result Section macho.Error) → stepped_by image c (compact_frame image (macho_of m tables) a (looked_up (a - m.start) r)) ≡ macho_answer (compact.found_in image (macho_of m tables) (a - m.start) (columns_of c) r)
     by_section (Err e) = refl
     by_section (Ok info) = by_listed (lookup_of_section info (a - m.start))
 
@@ -564,10 +612,8 @@ module _ (image : List Span) (c : Context) (m : Module) (a : ℕ) (from : m.star
       of_elf PassLimit of = absurd of
       of_elf (NoResume pad) of = absurd of
       of_elf (MachO e) of = absurd of
-      of_elf CompactHandler of = absurd of
       of_elf CompactForm of = absurd of
       of_elf PeInfo of = absurd of
-      of_elf PeHandler of = absurd of
       of_elf ChainLimit of = absurd of
   tables_only e (Macho tables) is = let f = macho_error tables e is in of_macho f.0 f.2
     where
@@ -588,9 +634,7 @@ module _ (image : List Span) (c : Context) (m : Module) (a : ℕ) (from : m.star
       of_pe (NoResume pad) of = absurd of
       of_pe (Table e) of = absurd of
       of_pe (MachO e) of = absurd of
-      of_pe CompactHandler of = absurd of
       of_pe CompactForm of = absurd of
-      of_pe PeHandler of = absurd of
 
 -- ---- in a space
 

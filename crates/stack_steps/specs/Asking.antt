@@ -1,5 +1,7 @@
 -- What the language of a frame asks. Itanium C++ ABI, exception handling, level II.
-use Rattle.std.specs.Prelude.{ℕ, Bool, true, false, Option, Some, None, Result, Ok, Err, List}
+use Rattle.std.specs.Prelude.{ℕ, Bool, Option, Some, None, Result, Ok, Err, List}
+use Rattle.std.specs.Option.{option_map}
+use Rattle.std.specs.Result.{result_map_both}
 use Rattle.memory_image.specs.Image.{Span}
 use Rattle.memory_image.specs.Results.{result_map}
 use Rattle.unwind_definitions.specs.Caller.{StepFault}
@@ -8,11 +10,11 @@ use Rattle.unwind_definitions.specs.LanguageSearch.{LanguagePlace, personality_a
 use Rattle.unwind_definitions.specs.Row.{argument_size}
 use Rattle.unwind_arch.specs.declared.x86_64.Context.{Context}
 use Rattle.fde_finders.specs.Finding.{FoundFde}
+use Rattle.macho_unwind_info.specs.declared.error.Error.{Error}
 use Rattle.pe_unwind_info.specs.declared.x86_64.fault.FrameFault.{FrameFault}
-use Rattle.format_definitions.specs.PeImage.{memory_of}
-use Rattle.format_frames.specs.Handlers.{has_language_table, handler_in}
+use Rattle.format_frames.specs.Handlers.{macho_place, pe_place}
 use Rattle.stack_steps.specs.declared.answers.DeliverError.{DeliverError}
-use Rattle.stack_steps.specs.declared.answers.DeliverError.TheVariants.{CompactHandler, PeHandler}
+use Rattle.stack_steps.specs.declared.answers.DeliverError.TheVariants.{MachO}
 use Rattle.stack_steps.specs.Stepping.{FrameAt, Described, Compact, Recorded, refusal_of, frame_refusal}
 
 -- the program ends at a table that can't be read
@@ -36,21 +38,20 @@ table_if_named image found (Err e) = Err (refusal_of e)
 abbrev pub described_table : List Span → FoundFde → Result (Option (Result LanguagePlace StepFault)) DeliverError
 described_table image found = table_if_named image found (personality_address image found.fde)
 
--- a handler that isn't asked is refused
-abbrev pub unless_handled : Bool → DeliverError → Result (Option (Result LanguagePlace StepFault)) DeliverError
-unless_handled true e = Err e
-unless_handled false e = Ok None
+-- of a function of a Mach-O module, whose place is always read
+abbrev pub compact_table : Result (Option LanguagePlace) Error → Result (Option (Result LanguagePlace StepFault)) DeliverError
+compact_table = result_map_both (option_map Ok) MachO
 
-abbrev pub recorded_table : Result Bool FrameFault → Result (Option (Result LanguagePlace StepFault)) DeliverError
-recorded_table (Ok named) = unless_handled named PeHandler
-recorded_table (Err fault) = Err (frame_refusal fault)
+-- of a function of a PE module
+abbrev pub recorded_table : Result (Option LanguagePlace) FrameFault → Result (Option (Result LanguagePlace StepFault)) DeliverError
+recorded_table = result_map_both (option_map Ok) frame_refusal
 
--- What names the language table of a frame. Handlers of Mach-O and PE frames are refused: of an opcode that says that its function
--- has a language table, and of an unwind record that names a handler. All records of a PE frame are read.
+-- What names the language table of a frame: a description, the section of a Mach-O module, or the unwind record of a PE function that
+-- names a handler. All records of a PE frame are read, of which one that names a handler is the last.
 abbrev pub named_table : List Span → FrameAt → Result (Option (Result LanguagePlace StepFault)) DeliverError
 named_table image (Described f) = described_table image f.found
-named_table image (Compact m a listed) = unless_handled (has_language_table listed) CompactHandler
-named_table image (Recorded m rva function) = recorded_table (handler_in (memory_of image m.base) function)
+named_table image (Compact m listed) = compact_table (macho_place image m listed)
+named_table image (Recorded m rva function) = recorded_table (pe_place image m function)
 
 -- ---- what is asked
 
@@ -65,5 +66,5 @@ action_asked image c interrupted f = result_map (action_if_named image (address_
 -- how many bytes of the stack hold arguments that the callee of a frame removes
 abbrev pub arguments_of : FrameAt → ℕ
 arguments_of (Described f) = argument_size f.run
-arguments_of (Compact m a listed) = 0
+arguments_of (Compact m listed) = 0
 arguments_of (Recorded m rva function) = 0

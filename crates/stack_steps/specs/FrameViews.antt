@@ -34,7 +34,7 @@ IsDescribedBy found IsRow (Described f) = (found ≡ f.found) × IsRow f.run
 IsDescribedBy found IsRow _ = ⊥
 
 abbrev pub compact_frame_of : CompactFrame → FrameAt
-compact_frame_of f = Compact (macho_module f.container) f.address f.function
+compact_frame_of f = Compact (macho_module f.container) f.function
 
 abbrev pub recorded_frame_of : RecordedFrame → FrameAt
 recorded_frame_of f = Recorded (pe_module f.container) f.rva (lookup_of (functions_of (table_bytes f.functions)) f.rva)

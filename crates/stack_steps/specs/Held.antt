@@ -1,4 +1,4 @@
--- How a space keeps its modules: by start, each with its place in the order of adding, and in that order, each with its index.
+-- How a space keeps its modules: by start, each with its place in the order of adding, and in that order, each with its index. No public clause cites this.
 use Rattle.std.specs.Prelude.{◌≡◌, ℕ, ◌-◌, ◌<◌, ◌≤◌, List, [], ◌∷◌, map, slice_get, Option, Some, None}
 use Rattle.std.specs.List.{AllByRecursion, Contains}
 use Rattle.std.specs.Option.{option_map}

@@ -1,5 +1,7 @@
 pub mod Asking
 pub mod FrameViews
+pub mod Growing
+pub mod GrownSample
 pub mod Held
 pub mod Modules
 pub mod Preparing
@@ -12,3 +14,5 @@ pub mod Ticking
 pub mod Undoing
 pub mod FormatViews
 pub mod FormatStopSample
+pub mod KnownStacks
+pub mod KnownFrames

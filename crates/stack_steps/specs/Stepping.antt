@@ -35,11 +35,12 @@ use Rattle.pe_unwind_info.specs.declared.x86_64.fault.FrameFault.TheVariants as 
 use Rattle.pe_unwind_info.specs.declared.x86_64.function_table.RuntimeFunction.{RuntimeFunction}
 use Rattle.pe_unwind_info.specs.FunctionTable.{functions_of, lookup_of}
 use Rattle.pe_unwind_info.specs.FrameOf.{frame_end_of}
-use Rattle.format_definitions.specs.CompactStep.{MachoModule, MachoFault, InSection, NoForm, InStep, compact_step, macho_step}
+use Rattle.format_definitions.specs.CompactStep.{MachoModule, MachoFault, InSection, NoForm, InStep, opcode_step, macho_step}
 use Rattle.format_definitions.specs.CompactStep as compact
 use Rattle.format_definitions.specs.PeImage.{PeModule, memory_of, table_of}
 use Rattle.format_definitions.specs.PeRegisters.{registers_in}
 use Rattle.format_definitions.specs.PeStep.{PeFault, NoTable, InFrame, columns_at, pe_step}
+use Rattle.format_frames.specs.FrameData.{description_of}
 use Rattle.format_frames.specs.Refusals.{function_at}
 use Rattle.stack_steps.specs.Modules.{SpaceValue, module_at}
 use Rattle.memory_image.specs.Results.{◌>>=◌, result_map}
@@ -84,10 +85,11 @@ pub record DescribedFrame : Type 0 where
 
 -- what is found for the address asked
 pub data FrameAt : Type 0 where
-  -- in an ELF module, by call frame information
+  -- by call frame information: in an ELF module, or in the frame data of a Mach-O module, where the opcode of the function that is
+  -- listed there points to it
   Described : DescribedFrame → FrameAt
-  -- at an address of a Mach-O module, by compact unwinding: the function that is listed there
-  Compact : MachoModule → ℕ → Listed → FrameAt
+  -- in a Mach-O module, by compact unwinding alone: the function that is listed there
+  Compact : MachoModule → Listed → FrameAt
   -- so far from the base of a PE module, by its unwind records: the function whose record covers the address, None at a leaf
   Recorded : PeModule → ℕ → Option RuntimeFunction → FrameAt
 
@@ -99,11 +101,17 @@ abbrev pub frame_by : ℕ → Option FoundFde → Result (Option FrameAt) Delive
 frame_by a None = Ok None
 frame_by a (Some found) = result_map_both (frame_with found) Table (row_at found.bases found.fde a)
 
+-- of a listed function, by the description to which its opcode points, or by the opcode where it points to none
+abbrev pub opcode_frame : MachoModule → ℕ → Listed → Result (Option FoundFde) Fault → Result (Option FrameAt) DeliverError
+opcode_frame m a listed (Ok None) = Ok (Some (Compact m listed))
+opcode_frame m a listed (Ok (Some found)) = frame_by a (Some found)
+opcode_frame m a listed (Err e) = Err (Table e)
+
 -- by what a look-up in a section of compact unwinding answers
-abbrev pub compact_frame : MachoModule → ℕ → Result (Option Listed) macho.Error → Result (Option FrameAt) DeliverError
-compact_frame m a (Ok None) = Ok None
-compact_frame m a (Ok (Some listed)) = Ok (Some (Compact m a listed))
-compact_frame m a (Err e) = Err (MachO e)
+abbrev pub compact_frame : List Span → MachoModule → ℕ → Result (Option Listed) macho.Error → Result (Option FrameAt) DeliverError
+compact_frame image m a (Ok None) = Ok None
+compact_frame image m a (Ok (Some listed)) = opcode_frame m a listed (description_of image m listed)
+compact_frame image m a (Err e) = Err (MachO e)
 
 -- by the bytes of a function table, which one region has to have whole
 abbrev pub recorded_frame : PeModule → ℕ → Option (List ℕ) → Result (Option FrameAt) DeliverError
@@ -113,7 +121,7 @@ recorded_frame m rva (Some table) = Ok (Some (Recorded m rva (lookup_of (functio
 -- by the tables of a module that holds an address
 abbrev pub frame_by_tables : List Span → ℕ → Module → ModuleTables → Result (Option FrameAt) DeliverError
 frame_by_tables image a m (Elf tables) = frame_by a (found_by tables image a)
-frame_by_tables image a m (Macho tables) = compact_frame (macho_of m tables) a (function_at image (macho_of m tables) (a - m.start))
+frame_by_tables image a m (Macho tables) = compact_frame image (macho_of m tables) a (function_at image (macho_of m tables) (a - m.start))
 frame_by_tables image a m (Pe tables) = recorded_frame (pe_of m tables) (a - m.start) (table_of image (pe_of m tables))
 
 abbrev pub frame_in : List Span → ℕ → Option Module → Result (Option FrameAt) DeliverError
@@ -144,8 +152,8 @@ abbrev pub opcode_caller : Option (Result compact.Stepped StepFault) → Result 
 opcode_caller None = Err CompactForm
 opcode_caller (Some caller) = result_map_both compact_next refusal_of caller
 
-abbrev pub compact_caller : List Span → Context → MachoModule → ℕ → Listed → Result Stepped DeliverError
-compact_caller image c m a listed = opcode_caller (compact_step image m.frames (m.base + listed.start_address) a (columns_of c) (opcode_of listed.opcode))
+abbrev pub compact_caller : List Span → Context → MachoModule → Listed → Result Stepped DeliverError
+compact_caller image c m listed = opcode_caller (opcode_step image (m.base + listed.start_address) (columns_of c) (opcode_of listed.opcode))
 
 -- by what unwind records give, and those of them that are read
 abbrev pub recorded_columns : List Span → Context → PeModule → ℕ → Option RuntimeFunction → Result Columns PeFault
@@ -156,7 +164,7 @@ recorded_caller image c m rva function = result_map_both (next_with false) pe_re
 
 abbrev pub caller_by : List Span → Context → FrameAt → Result Stepped DeliverError
 caller_by image c (Described f) = described_caller image c f
-caller_by image c (Compact m a listed) = compact_caller image c m a listed
+caller_by image c (Compact m listed) = compact_caller image c m listed
 caller_by image c (Recorded m rva function) = recorded_caller image c m rva function
 
 abbrev pub caller_at : List Span → Context → Option FrameAt → Result (Option Stepped) DeliverError

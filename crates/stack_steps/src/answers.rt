@@ -30,12 +30,9 @@ pub enum DeliverError {
     #[error("call frame information: {0}")]
     Table(Error),
     /// The section of compact unwinding of a Mach-O module, or what a look-up in it comes to, can't
-    /// be read.
+    /// be read; or in a delivery its personalities or its list of language tables.
     #[error("compact unwinding: {0}")]
     MachO(macho_unwind_info::Error),
-    /// In a delivery the opcode of a function says that it has a language table.
-    #[error("the function's opcode has a language table")]
-    CompactHandler,
     /// The opcode of a function gives no caller: it is null, invalid or of an unknown kind, or asks
     /// for frame data that wasn't handed in.
     #[error("the function's opcode gives no caller")]
@@ -44,9 +41,6 @@ pub enum DeliverError {
     /// may be an epilog's can't be read.
     #[error("the module's unwind data can't be read")]
     PeInfo,
-    /// In a delivery an unwind record of a PE module names a handler.
-    #[error("the function's unwind record names a handler")]
-    PeHandler,
     /// More than 32 unwind records are chained to the first one.
     #[error("more than 32 chained unwind records")]
     ChainLimit,

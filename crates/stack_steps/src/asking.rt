@@ -64,13 +64,14 @@ fn copied_asked(
 }
 
 /// What the language of a frame asks. A language table that can't be read ends the program, but
-/// what names the personality has to be read.
+/// what names it has to be read.
 ///
 /// # Errors
 ///
-/// `Unmapped` where the cell that names the personality isn't wholly mapped; `CompactHandler` where
-/// the opcode of a function says that it has a language table; `PeHandler` where an unwind record of
-/// a PE frame names a handler, and `PeInfo` and `ChainLimit` where its records can't all be read.
+/// `Unmapped` where the cell that names the personality isn't wholly mapped; `MachO` where the
+/// personality that an opcode names isn't listed in its section, or the language tables of its page
+/// can't be read; `PeInfo` and `ChainLimit` where the records of a PE frame can't be read up to one that
+/// names a handler, `PeInfo` also where the bytes of that handler are missing.
 pub fn action_asked(
     image: &MemoryImage<'_>,
     state: &Stepped,
@@ -83,7 +84,7 @@ pub fn action_asked(
     match frame {
         FoundFrame::Searched(frame) => described_asked(image, state, frame.found),
         FoundFrame::Prepared(table, frame) => prepared_asked(image, state, table, frame),
-        FoundFrame::Compact(frame) => frame.action_asked(),
-        FoundFrame::Recorded(frame) => frame.action_asked(image),
+        FoundFrame::Compact(frame) => frame.action_asked(image, state.address()),
+        FoundFrame::Recorded(frame) => frame.action_asked(image, state.address()),
     }
 }

@@ -3,74 +3,87 @@ ghost use Rattle.std.specs.Prelude.{◌≡◌, ◌-◌, ◌<◌, ◌≤◌, ◌^
 ghost use Rattle.memory_image.specs.Image.{Span};
 ghost use Rattle.unwind_arch.specs.declared.x86_64.Context.{Context as Registers};
 ghost use Rattle.unwinding_frames.specs.LanguageViews.{action_of};
-ghost use Rattle.stack_steps.specs.Asking.{action_asked};
+ghost use Rattle.unwinding_frames.specs.ContextSeen.{language_place_of};
+ghost use Rattle.unwind_definitions.specs.LanguageSearch.{address_of_call, place_action};
+ghost use Rattle.format_frames.specs.FrameData.{description_of};
+ghost use Rattle.format_frames.specs.Modules.{macho_module};
+ghost use Rattle.stack_steps.specs.Asking.{action_asked, or_terminate};
 ghost use Rattle.stack_steps.specs.FrameViews.{GivesFrameAt, compact_frame_of, recorded_frame_of};
 ghost use Rattle.memory_image.specs.Results.{result_map};
-ghost use Rattle.stack_steps.specs.Stepping.{caller_by, frame_by_tables};
+ghost use Rattle.stack_steps.specs.Stepping.{caller_by, frame_by_tables, opcode_frame};
 ghost use Rattle.stack_steps.specs.declared.space.ModuleTables.TheVariants.{Macho, Pe};
 
 use crate::answers::DeliverError;
 use crate::space::{MachoTables, Module, PeTables};
-use crate::stepping::FoundFrame;
+use crate::stepping::{FoundFrame, described_frame};
 use eh_frame::RowRoom;
+use fde_finders::FDESearchResult;
 use format_frames::{
-    MachoModule, PeModule, Stepped, has_language_table, macho_caller, macho_function, pe_caller,
-    pe_functions, pe_names_handler,
+    MachoModule, PeModule, Stepped, macho_caller, macho_description, macho_function, macho_place,
+    pe_caller, pe_functions, pe_place,
 };
 use macho_unwind_info::Function;
 use memory_image::MemoryImage;
 use pe_unwind_info::x86_64::FunctionTableEntries;
 use unwind_arch::x86_64::RSP;
-use unwinding_frames::{EhAction, Window};
+use unwinding_frames::{EhAction, Place, Window, find_eh_action_at};
 
-/// A frame of a Mach-O module: the function that its section of compact unwinding has there.
-#[derive(Drop)]
-pub struct CompactFrame<'f, 'a> {
+/// A frame of a Mach-O module by compact unwinding: the function that its section has there, whose
+/// opcode points to no frame data.
+#[derive(Debug, Drop)]
+pub struct CompactFrame {
     container: MachoModule,
     function: Function,
-    // of the frame
-    address: u64,
-    // where a row is made that the function's opcode may ask for
-    rows: &'f mut RowRoom<'a>,
 }
 
-impl<'f, 'a> CompactFrame<'f, 'a> {
-    /// What the function asks. A function with a language table is refused.
-    pub(crate) fn action_asked(&self) -> Result<EhAction, DeliverError>
-        ensures { (image : List Span) (c : Registers) (interrupted : Bool) →
-            result_map action_of result
-            ≡ action_asked image c interrupted (compact_frame_of self.now) }
+impl CompactFrame {
+    /// What the function asks at an address: what its language table says, or nothing where it has
+    /// none. A table that can't be read ends the program.
+    #[inline(never)]
+    pub(crate) fn action_asked(
+        &self,
+        image: &MemoryImage<'_>,
+        address: u64,
+    ) -> Result<EhAction, DeliverError>
+        ensures { (c : Registers) (interrupted : Bool) →
+            address_of_call c.ra interrupted ≡ address → result_map action_of result
+            ≡ action_asked image.now c interrupted (compact_frame_of self.now) }
     {
-        if has_language_table(&self.function) {
-            Err(DeliverError::CompactHandler)
-        } else {
-            Ok(EhAction::None)
+        match macho_place(image, &self.container, &self.function) {
+            Ok(Some(place)) => Ok(place_action(image, &place, address)),
+            Ok(None) => Ok(EhAction::None),
+            Err(error) => Err(DeliverError::MachO(error)),
         }
     }
 
     /// Puts its caller, by the opcode of the function, in the place of its state. After a fault the
-    /// state is as before. The frame stays what it is. `stack` is a window over the image.
+    /// state is as before. `stack` is a window over the image.
     #[inline(never)]
     pub(crate) fn leave(
-        &mut self,
-        stack: &mut Window<'_, 'a>,
+        &self,
+        stack: &mut Window<'_, '_>,
         state: &mut Stepped,
     ) -> Result<(), DeliverError>
         ensures caller { result_map (λ done. state.new) result ≡
-            caller_by stack.old state.old.context (compact_frame_of self.old) }
+            caller_by stack.old state.old.context (compact_frame_of self.now) }
         ensures stays { OnErr result (state.new ≡ state.old) }
-        ensures kept { compact_frame_of self.new ≡ compact_frame_of self.old }
         ensures same { stack.new ≡ stack.old }
     {
-        let (container, address) = (&self.container, self.address);
         let context = &state.context;
-        let rows = &mut *self.rows;
-        let caller = macho_caller(stack, container, &self.function, address, context, rows)?;
+        let caller = macho_caller(stack, &self.container, &self.function, context)?;
         // A look at them tells the proof that there are sixteen registers.
         let _ = caller.context.registers[RSP];
         *state = caller;
         Ok(())
     }
+}
+
+/// What the language table at a place asks at an address. One that can't be read ends the program.
+fn place_action(image: &MemoryImage<'_>, place: &Place, address: u64) -> EhAction
+    ensures { action_of result
+        ≡ or_terminate (place_action image.now (language_place_of place.now) address) }
+{
+    find_eh_action_at(image, place, address).unwrap_or(EhAction::Terminate)
 }
 
 /// A frame of a PE module: the function table in which its function is looked up.
@@ -83,17 +96,21 @@ pub struct RecordedFrame<'a> {
 }
 
 impl<'a> RecordedFrame<'a> {
-    /// What the function asks. A function whose unwind records name a handler is refused; all of
-    /// them are read.
+    /// What the function asks at an address: what the language table of the handler that a record of it
+    /// names says, or nothing where none does. A table that can't be read ends the program.
     #[inline(never)]
-    pub(crate) fn action_asked(&self, image: &MemoryImage<'_>) -> Result<EhAction, DeliverError>
-        ensures { (c : Registers) (interrupted : Bool) → result_map action_of result
+    pub(crate) fn action_asked(
+        &self,
+        image: &MemoryImage<'_>,
+        address: u64,
+    ) -> Result<EhAction, DeliverError>
+        ensures { (c : Registers) (interrupted : Bool) →
+            address_of_call c.ra interrupted ≡ address → result_map action_of result
             ≡ action_asked image.now c interrupted (recorded_frame_of self.now) }
     {
-        if pe_names_handler(image, &self.container, &self.functions, self.rva)? {
-            Err(DeliverError::PeHandler)
-        } else {
-            Ok(EhAction::None)
+        match pe_place(image, &self.container, &self.functions, self.rva)? {
+            Some(place) => Ok(place_action(image, &place, address)),
+            None => Ok(EhAction::None),
         }
     }
 
@@ -120,14 +137,15 @@ impl<'a> RecordedFrame<'a> {
     }
 }
 
-/// The frame at an address of a Mach-O module. A row that its opcode may ask for is made in `rows`.
-/// `stack` is a window over the image.
+/// The frame at an address of a Mach-O module. Where the opcode of its function points to frame data,
+/// it lends the description from `place`, and its row from `rows`. `stack` is a window over the image.
 #[inline(never)]
 pub(crate) fn compact_frame<'f, 'a>(
     stack: &mut Window<'_, 'a>,
     address: u64,
     holder: &Module,
     tables: MachoTables,
+    place: &'f mut Option<FDESearchResult<'a>>,
     rows: &'f mut RowRoom<'a>,
 ) -> Result<Option<FoundFrame<'f, 'a>>, DeliverError>
     requires from { holder.now.start ≤ address }
@@ -144,14 +162,33 @@ pub(crate) fn compact_frame<'f, 'a>(
         frames: tables.frames,
     };
     match macho_function(stack, &container, (address - holder.start) as u32) {
-        Ok(Some(function)) => Ok(Some(FoundFrame::Compact(CompactFrame {
-            container,
-            function,
-            address,
-            rows,
-        }))),
+        Ok(Some(function)) => {
+            listed_frame(stack.image(), address, container, function, place, rows)
+        }
         Ok(None) => Ok(None),
         Err(error) => Err(DeliverError::MachO(error)),
+    }
+}
+
+/// The frame at an address of a function of a Mach-O module.
+fn listed_frame<'f, 'a>(
+    image: &MemoryImage<'a>,
+    address: u64,
+    container: MachoModule,
+    function: Function,
+    place: &'f mut Option<FDESearchResult<'a>>,
+    rows: &'f mut RowRoom<'a>,
+) -> Result<Option<FoundFrame<'f, 'a>>, DeliverError>
+    ensures { GivesFrameAt result (opcode_frame (macho_module container) address function
+        (description_of image.now (macho_module container) function)) }
+{
+    match macho_description(image, &container, &function) {
+        Ok(Some(found)) => described_frame(address, found, place, rows),
+        Ok(None) => Ok(Some(FoundFrame::Compact(CompactFrame {
+            container,
+            function,
+        }))),
+        Err(fault) => Err(DeliverError::Table(fault)),
     }
 }
 

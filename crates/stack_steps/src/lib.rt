@@ -5,6 +5,7 @@
 mod answers;
 mod asking;
 mod frames;
+mod grown;
 mod laws;
 mod prepared;
 mod shared_table;
@@ -16,6 +17,7 @@ pub use answers::DeliverError;
 pub use asking::action_asked;
 pub use format_frames::Stepped;
 pub use frames::{CompactFrame, RecordedFrame};
+pub use grown::{GrownSpace, an_image_grows};
 pub use laws::a_module_is_prepared;
 pub use prepared::PreparedTable;
 pub use space::{MachoTables, Module, ModuleTables, PeTables, Space, SpaceError};

@@ -1,10 +1,11 @@
 // Frame tables of modules with their indexes.
-ghost use Rattle.std.specs.Prelude.{◌≡◌, ◌<◌, ◌≤◌, ◌^◌, IfOk, false, is_some, length, true};
+ghost use Rattle.std.specs.Prelude.{◌≡◌, ◌<◌, ◌≤◌, ◌^◌, IfOk, false, is_some, length, map, true};
 ghost use Rattle.std.specs.List.{count_by};
 ghost use Rattle.fde_finders.specs.FoundViews.{found_fde_of};
 ghost use Rattle.fde_finders.specs.NamedTables.{named_of};
 ghost use Rattle.stack_steps.specs.FrameViews.{prepared_fde};
-ghost use Rattle.stack_steps.specs.Held.{AreMade, IsTried, LeavesAfter, LeavesBy, MakesTable};
+ghost use Rattle.stack_steps.specs.Growing.{all_prepared};
+ghost use Rattle.stack_steps.specs.Held.{added_of, AreMade, IsTried, LeavesAfter, LeavesBy, MakesTable};
 ghost use Rattle.stack_steps.specs.Held.{PreparesTable, with_tables};
 ghost use Rattle.stack_steps.specs.Preparing.{Lists, fdes_in};
 
@@ -185,4 +186,16 @@ pub(crate) fn keep<'a>(added: &mut [Held<'a>], made: Vec<Option<SharedTable<'a>>
         place += 1;
     }
     count
+}
+
+/// Whether each of these modules is prepared.
+pub(crate) fn are_prepared(added: &[Held<'_>]) -> bool
+    ensures { result ≡ all_prepared (map added_of added.now) }
+{
+    for held in added {
+        if held.table.is_none() {
+            return false;
+        }
+    }
+    true
 }

@@ -4,13 +4,14 @@ ghost use Rattle.std.specs.Prelude.{IsOkUnless, OnOk, OnErr, ◌↔◌};
 ghost use Rattle.std.specs.List.{Contains};
 ghost use Rattle.std.specs.Option.{option_map};
 ghost use Rattle.memory_image.specs.Image.{IsLaidOut};
+ghost use Rattle.stack_steps.specs.Growing.{all_prepared};
 ghost use Rattle.stack_steps.specs.Modules.{module_refusal, lowest_shared, module_at, module_of};
 ghost use Rattle.stack_steps.specs.Modules.{modules_in, AreApart, last_below, first_between};
 ghost use Rattle.stack_steps.specs.Modules.{with_added, FitsIn, module_of_size, sized_refusal, macho_sized};
 ghost use Rattle.stack_steps.specs.Modules.{pe_sized, fits, given_refusal, contains};
 ghost use Rattle.stack_steps.specs.declared.space.ModuleTables.TheVariants.{Elf};
 
-use crate::prepared::{Left, MOST, keep, tables_for};
+use crate::prepared::{Left, MOST, are_prepared, keep, tables_for};
 use crate::shared_table::SharedTable;
 use fde_finders::{EhFrameFinder, FrameInfo};
 use memory_image::MemoryImage;
@@ -370,6 +371,13 @@ impl<'a> Space<'a> {
             },
             None => 0,
         }
+    }
+
+    /// Whether each module is prepared. It costs a look at each.
+    pub fn is_prepared(&self) -> bool
+        ensures { result ≡ all_prepared self.now.added }
+    {
+        are_prepared(&self.added)
     }
 
     /// The module that contains the address.

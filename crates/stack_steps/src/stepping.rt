@@ -1,15 +1,17 @@
 // From a frame to its caller, by the tables of the module that holds it.
 ghost use Rattle.std.specs.Prelude.{◌≡◌, ◌≢◌, ◌↔◌, ◌<◌, ◌≤◌, ◌^◌, ℕ, List, length, Option, Some, None, Ok};
-ghost use Rattle.std.specs.Prelude.{Err, IfSome, IsNone, IsTrue, IsFalse, MatchOption, OnErr, Result};
+ghost use Rattle.std.specs.Prelude.{Err, IfSome, IsNone, IsTrue, IsFalse, MatchOption, OnErr, Result, true};
 ghost use Rattle.memory_image.specs.Image.{Span, word_at, IsLaidOut};
 ghost use Rattle.unwind_definitions.specs.declared.error.Error.{Error as Fault};
-ghost use Rattle.unwind_definitions.specs.State.{State, Shows};
+ghost use Rattle.unwind_definitions.specs.State.{State, IsState, Shows};
 ghost use Rattle.unwind_definitions.specs.Function.{Function};
 ghost use Rattle.unwind_definitions.specs.Chain.{Call};
 ghost use Rattle.unwind_definitions.specs.LanguageSearch.{address_of_call};
+ghost use Rattle.frame_facts.specs.FactChains.{FactFrame, IsFactLink};
 ghost use Rattle.unwind_arch.specs.ContextViews.{columns_of};
 ghost use Rattle.eh_frame.specs.Index.{AreFewSteps};
 ghost use Rattle.fde_finders.specs.declared.custom.FrameInfo.{FrameInfo as Tables};
+ghost use Rattle.fde_finders.specs.FoundViews.{found_fde_of};
 ghost use Rattle.fde_finders.specs.Named.{found_by, pairs_by};
 ghost use Rattle.frame_rows.specs.Rows.{IsRowOf};
 ghost use Rattle.macho_unwind_info.specs.declared.error.Error.{Error as MachoFault};
@@ -24,6 +26,7 @@ ghost use Rattle.stack_steps.specs.FrameViews.{IsFrameOf, GivesFrameAt};
 ghost use Rattle.stack_steps.specs.Ticking.{IsScannedAt, RisesBySearch, TicksAt, TicksIn};
 ghost use Rattle.stack_steps.specs.Ticking.{searched_at, module_pairs};
 ghost use Rattle.memory_image.specs.Results.{result_map};
+ghost use Rattle.stack_steps.specs.Growing.{advanced_to};
 ghost use Rattle.stack_steps.specs.Stepping.{FrameAt, frame_by, frame_in, frame_of, caller_by};
 ghost use Rattle.stack_steps.specs.Stepping.{step_of, GivesCaller, EndsAt, FaultsAt};
 ghost use Rattle.stack_steps.specs.Stepping.{ReadIsUnmapped, DescribedFrame, described_caller};
@@ -34,6 +37,7 @@ ghost use Rattle.stack_steps.specs.Stopped.{IsDescribedStop};
 
 use crate::answers::DeliverError;
 use crate::frames::{CompactFrame, RecordedFrame, compact_frame, recorded_frame};
+use crate::grown::GrownSpace;
 use crate::prepared::PreparedTable;
 use crate::space::{Held, Module, ModuleTables, Space};
 use eh_frame::{PreparedFrame, RowRef, RowRoom};
@@ -47,17 +51,18 @@ use unwinding_frames::{Window, address_asked, write_caller};
 /// A frame of the stack: what was found for the address asked of it.
 #[derive(Drop)]
 pub enum FoundFrame<'f, 'a> {
-    /// In an ELF module, by a search of its tables.
+    /// By a description: that which a search of an ELF module's tables finds, or to which the opcode
+    /// of a Mach-O module's function points.
     Searched(SearchedFrame<'f, 'a>),
     /// By the index of a prepared module, which lends its row.
     Prepared(&'f PreparedTable<'a>, PreparedFrame<'f, 'a>),
-    /// In a Mach-O module.
-    Compact(CompactFrame<'f, 'a>),
+    /// In a Mach-O module, by the opcode of its function alone.
+    Compact(CompactFrame),
     /// In a PE module.
     Recorded(RecordedFrame<'a>),
 }
 
-/// A frame of an ELF module that a search of its tables found.
+/// A frame by a description that was found for it.
 #[derive(Drop)]
 pub struct SearchedFrame<'f, 'a> {
     /// What was found, lent from the place for it, as it is large.
@@ -109,9 +114,21 @@ fn searched_frame<'f, 'a, L: Ledger>(
     ensures frame { GivesFrameAt result (frame_by address (found_by tables image.now address)) }
     ensures ticks { RisesBySearch (pairs_by tables image.now) steps.old.number steps.new.number }
 {
-    let Some(found) = find_named(image, address, tables, steps) else {
-        return Ok(None);
-    };
+    match find_named(image, address, tables, steps) {
+        Some(found) => described_frame(address, found, place, rows),
+        None => Ok(None),
+    }
+}
+
+/// The frame at an address by a description. It lends that from `place`, and its row from `rows`.
+pub(crate) fn described_frame<'f, 'a>(
+    address: u64,
+    found: FDESearchResult<'a>,
+    place: &'f mut Option<FDESearchResult<'a>>,
+    rows: &'f mut RowRoom<'a>,
+) -> Result<Option<FoundFrame<'f, 'a>>, DeliverError>
+    ensures { GivesFrameAt result (frame_by address (Some (found_fde_of found.entry))) }
+{
     match found.make_row(address, rows) {
         Ok(()) => Ok(Some(FoundFrame::Searched(SearchedFrame {
             found: lent_place(place, found),
@@ -122,6 +139,7 @@ fn searched_frame<'f, 'a, L: Ledger>(
 }
 
 /// The frame at an address of a prepared module, by the index of its frame table.
+#[inline(always)]
 fn prepared_frame<'f, 'a, L: Ledger>(
     table: &'f PreparedTable<'a>,
     address: u64,
@@ -165,7 +183,9 @@ fn unprepared_frame<'f, 'a, L: Ledger>(
         ModuleTables::Elf(tables) => {
             searched_frame(stack.image(), address, tables, place, rows, steps)
         }
-        ModuleTables::Macho(tables) => compact_frame(stack, address, holder, tables, rows),
+        ModuleTables::Macho(tables) => {
+            compact_frame(stack, address, holder, tables, place, rows)
+        }
         ModuleTables::Pe(tables) => recorded_frame(stack, address, holder, tables),
     }
 }
@@ -200,52 +220,57 @@ fn write_described(
     }
 }
 
-/// What goes from frame to frame over a space: beside the space a window over its image, and where
-/// the module of the frame before stands in the order of adding, which is tried first. Neither
-/// changes an answer.
+/// What goes from frame to frame over a space: beside the space a window over the image that it is
+/// seen over, and where the module of the frame before stands in the order of adding, which is tried
+/// first. Neither changes an answer.
 ///
-/// Contracts see the space.
+/// Contracts see the space with that image.
 #[derive(Drop)]
-pub struct Stepper<'s, 'a> {
-    space: &'s Space<'a>,
+pub struct Stepper<'s, 't, 'a> {
+    space: &'s Space<'t>,
     stack: Window<'s, 'a>,
     near: usize,
 }
 
-impl<'s, 'a> Model for Stepper<'s, 'a> {
-    ghost use Rattle.std.specs.Prelude.{◌≡◌};
+impl<'s, 't, 'a> Model for Stepper<'s, 't, 'a> {
+    ghost use Rattle.stack_steps.specs.Growing.{Grows, over_image};
     ghost use Rattle.stack_steps.specs.Modules.{SpaceValue};
 
     ghost Value = { SpaceValue };
 
-    ghost view = { λ s. s.space.now };
+    ghost view = { λ s. over_image s.space.now s.stack };
 
-    ghost invariant = { λ s. s.stack ≡ s.space.now.image };
+    ghost invariant = { λ s. Grows s.space.now.image s.stack };
 }
 
-impl<'s, 'a> Stepper<'s, 'a> {
+impl<'s, 't, 'a> Stepper<'s, 't, 'a>
+where
+    't: 'a,
+{
     /// Over a space, with a window at a stack pointer.
-    pub fn new(space: &'s Space<'a>, stack_pointer: u64) -> Stepper<'s, 'a>
+    pub fn over(space: &GrownSpace<'s, 't, 'a>, stack_pointer: u64) -> Stepper<'s, 't, 'a>
         ensures { result ≡ space.now }
     {
         Stepper {
-            space,
-            stack: Window::new(space.image(), stack_pointer),
+            space: space.space,
+            stack: Window::new(space.image, stack_pointer),
             near: 0,
         }
     }
 
-    /// The image of the space.
+    /// The image that the space is seen over.
     pub fn image(&self) -> &'s MemoryImage<'a>
         ensures image { result.now ≡ self.now.image }
         ensures laid_out { IsLaidOut 0 self.now.image }
     {
-        self.space.image()
+        let image = self.stack.image();
+        image.laid_out();
+        image
     }
 
     /// The module whose tables are asked for the frame at a state, `None` at the end of the stack.
     #[tactic(auto, unfolding(crate::specs::Stepping::frame_of))]
-    fn holder_at(&mut self, context: &Context, interrupted: bool) -> Option<&'s Held<'a>>
+    fn holder_at(&mut self, context: &Context, interrupted: bool) -> Option<&'s Held<'t>>
         ensures ends { IsNone result → frame_of self.old context.now interrupted ≡ Ok None }
         ensures frame { IfSome result (λ held.
             frame_of self.old context.now interrupted ≡ frame_in self.old.image
@@ -292,23 +317,25 @@ impl<'s, 'a> Stepper<'s, 'a> {
         };
         let address = state.address();
         match &held.table {
-            Some(shared) => prepared_frame(shared.table(), address, steps),
+            Some(shared) => {
+                let table: &'s PreparedTable<'a> = shared.table();
+                prepared_frame(table, address, steps)
+            }
             None => unprepared_frame(&mut self.stack, address, &held.holder, place, rows, steps),
         }
     }
 
     /// Puts the caller of the frame at a state in the state's place. After a fault the state is as
-    /// before. The frame stays what it is.
+    /// before.
     #[inline(always)]
     pub fn leave(
         &mut self,
         state: &mut Stepped,
-        frame: &mut FoundFrame<'_, 'a>,
+        frame: &FoundFrame<'_, 'a>,
     ) -> Result<(), DeliverError>
-        ensures caller { (f : FrameAt) → IsFrameOf frame.old f →
+        ensures caller { (f : FrameAt) → IsFrameOf frame.now f →
             result_map (λ done. state.new) result ≡ caller_by self.old.image state.old.context f }
         ensures stays { OnErr result (state.new ≡ state.old) }
-        ensures kept { (f : FrameAt) → IsFrameOf frame.old f → IsFrameOf frame.new f }
         ensures same { self.new ≡ self.old }
     {
         let callee = state.context.copied();
@@ -320,19 +347,18 @@ impl<'s, 'a> Stepper<'s, 'a> {
     }
 
     /// Makes a copy of the state at a frame its caller's. After a fault the copy's registers are
-    /// unspecified. The frame stays what it is.
+    /// unspecified.
     #[inline(always)]
     fn write_next(
         &mut self,
         callee: &Context,
-        frame: &mut FoundFrame<'_, 'a>,
+        frame: &FoundFrame<'_, 'a>,
         next: &mut Stepped,
     ) -> Result<(), DeliverError>
         requires { next.old.context ≡ callee.now }
-        ensures caller { (f : FrameAt) → IsFrameOf frame.old f →
+        ensures caller { (f : FrameAt) → IsFrameOf frame.now f →
             result_map (λ done. next.new) result ≡ caller_by self.old.image callee.now f }
         ensures mark { OnErr result (next.new.signal ≡ next.old.signal) }
-        ensures kept { (f : FrameAt) → IsFrameOf frame.old f → IsFrameOf frame.new f }
         ensures same { self.new ≡ self.old }
     {
         let stack = &mut self.stack;
@@ -354,16 +380,87 @@ impl<'s, 'a> Stepper<'s, 'a> {
     }
 }
 
+impl<'s, 't, 'a> Stepper<'s, 't, 'a>
+where
+    't: 'a,
+{
+    /// Puts the caller of the frame at a state in the state's place, and answers whether there is one.
+    /// At the end of the stack and after a fault the state is as before. No room for rows is lent: one
+    /// is made for the frame of a module that isn't prepared.
+    #[inline(always)]
+    #[tactic(auto, unfolding(crate::specs::Stepping::step_of))]
+    pub fn advance<L: Ledger>(
+        &mut self,
+        state: &mut Stepped,
+        steps: &mut Steps<L>,
+    ) -> Result<bool, DeliverError>
+        ensures step { result_map (advanced_to state.new) result ≡
+            step_of self.old state.old.context state.old.signal }
+        ensures stays { (result ≢ Ok true) → state.new ≡ state.old }
+        ensures ticks { TicksAt self.old state.old.context state.old.signal steps.old.number
+            steps.new.number }
+        ensures same { self.new ≡ self.old }
+    {
+        // Its regions are laid out, as the image's type says.
+        let _ = self.image();
+        let Some(held) = self.holder_at(&state.context, state.signal) else {
+            return Ok(false);
+        };
+        let Some(shared) = &held.table else {
+            return self.advance_in_room(state, steps);
+        };
+        let table: &'s PreparedTable<'a> = shared.table();
+        match prepared_frame(table, state.address(), steps) {
+            Ok(Some(frame)) => {
+                self.leave(state, &frame)?;
+                Ok(true)
+            }
+            Ok(None) => Ok(false),
+            Err(error) => Err(error),
+        }
+    }
+
+    /// The same of a frame of any module, with a room for its row.
+    #[inline(never)]
+    #[tactic(auto, unfolding(crate::specs::Stepping::step_of))]
+    fn advance_in_room<L: Ledger>(
+        &mut self,
+        state: &mut Stepped,
+        steps: &mut Steps<L>,
+    ) -> Result<bool, DeliverError>
+        ensures step { result_map (advanced_to state.new) result ≡
+            step_of self.old state.old.context state.old.signal }
+        ensures stays { (result ≢ Ok true) → state.new ≡ state.old }
+        ensures ticks { TicksAt self.old state.old.context state.old.signal steps.old.number
+            steps.new.number }
+        ensures same { self.new ≡ self.old }
+    {
+        let mut place = None;
+        let mut rows = RowRoom::new();
+        let found = self.frame_at(state, &mut place, &mut rows, steps);
+        match &found {
+            Ok(Some(frame)) => {
+                self.leave(state, frame)?;
+                Ok(true)
+            }
+            Ok(None) => Ok(false),
+            Err(error) => Err(*error),
+        }
+    }
+}
+
 /// The step from a frame of a module that isn't prepared. A room for its row is made here, as a
 /// function clears the places of its locals whenever it is called.
 #[inline(never)]
 #[tactic(auto, unfolding(crate::specs::Stepping::step_of))]
-fn step_in_room<L: Ledger>(
-    stepper: &mut Stepper<'_, '_>,
+fn step_in_room<'t, 'a, L: Ledger>(
+    stepper: &mut Stepper<'_, 't, 'a>,
     context: &Context,
     interrupted: bool,
     steps: &mut Steps<L>,
 ) -> Result<Option<Stepped>, DeliverError>
+where
+    't: 'a,
     ensures exact { result ≡ step_of stepper.old context.now interrupted }
     ensures ticks { TicksAt stepper.old context.now interrupted steps.old.number
         steps.new.number }
@@ -374,8 +471,8 @@ fn step_in_room<L: Ledger>(
     };
     let mut place = None;
     let mut rows = RowRoom::new();
-    let mut found = stepper.frame_at(&next, &mut place, &mut rows, steps);
-    let frame = match &mut found {
+    let found = stepper.frame_at(&next, &mut place, &mut rows, steps);
+    let frame = match &found {
         Ok(Some(frame)) => frame,
         Ok(None) => return Ok(None),
         Err(error) => return Err(*error),
@@ -399,7 +496,8 @@ fn exact_step<L: Ledger>(
 {
     // No two of its modules share an address, as a space's type says.
     let _ = space.image();
-    let mut stepper = Stepper::new(space, context.registers[RSP]);
+    let own = space.over_own_image();
+    let mut stepper = Stepper::over(&own, context.registers[RSP]);
     let Some(held) = stepper.holder_at(context, interrupted) else {
         return Ok(None);
     };
@@ -410,8 +508,8 @@ fn exact_step<L: Ledger>(
         context: context.copied(),
         signal: interrupted,
     };
-    let mut found = prepared_frame(shared.table(), next.address(), steps);
-    let frame = match &mut found {
+    let found = prepared_frame(shared.table(), next.address(), steps);
+    let frame = match &found {
         Ok(Some(frame)) => frame,
         Ok(None) => return Ok(None),
         Err(error) => return Err(*error),
@@ -426,8 +524,8 @@ fn exact_step<L: Ledger>(
 /// instruction that called is the one before, which may be the last of its function. The module
 /// that holds the address is asked by its format: an ELF module for a description, by which the
 /// caller is found; a Mach-O module for a function in its section of compact unwinding, by the
-/// function's opcode; a PE module by the unwind record that covers the address, and as a leaf where
-/// none does. The stack ends where `ra` is 0, or where the address is in no module, or no
+/// function's opcode, or by the description to which that points; a PE module by the unwind record
+/// that covers the address, and as a leaf where none does. The stack ends where `ra` is 0, or where the address is in no module, or no
 /// description is found for it in an ELF module, since none contains it or an entry before can't be
 /// read, or no function in a Mach-O module. A prepared module is asked by its index, and answers the
 /// same. Steps are counted in the search of an index, one at least, and in that of a
@@ -488,6 +586,12 @@ pub fn step<L: Ledger>(
         (stop : IsFormatStop space.now.image (formats_of space.now) functions s call) →
         Shows (columns_of context.now) s → IsTrue interrupted →
         UndoneIn stop.lies.home result (columns_of context.now) call.caller }
+    // At any address of an ELF module, asked after a call or where the state was interrupted, that
+    // of the caller from whose state it stands with facts, where the module's tables say them there.
+    ensures known { (s : State) (frame : FactFrame) →
+        IsFactLink (process_of space.now) interrupted s frame → IsState frame.caller →
+        Shows (columns_of context.now) s →
+        Undone result (columns_of context.now) frame.caller }
     // A search takes as many steps at most as there are binary digits in the length of what is
     // searched: the index of a prepared module, or else the table of a header.
     ensures ticks { RisesBySearch (searched_at space.now context.now interrupted) steps.old.number

@@ -5,6 +5,7 @@ use Rattle.unwind_arch.specs.ContextViews.{columns_of}
 use Rattle.stack_steps.specs.Undoing.{Undone, UndoneIn}
 use Rattle.stack_steps.specs.Stepping.{step_of}
 use Rattle.stack_steps.proofs.Counted.{index_is_searched, scan_is_free, ticks_rise}
+use Rattle.stack_steps.proofs.FactSteps.{asked_at, facts_undone}
 use Rattle.stack_steps.proofs.FormatMet.{format_undone, format_stopped}
 use Rattle.stack_steps.proofs.MetFrames.{step_undone}
 use Rattle.stack_steps.proofs.StoppedUndone.{stopped_undone}
@@ -36,6 +37,13 @@ returns-clause-stopped_in g c functions s call stop shows marked =
     let at : step_of c.args.space.now c.args.context.now true ≡ c.exact_step.result = sym (rw marked at c.exact_step.ensures.exact) in
     subst (λ (r : Result (Option Stepped) DeliverError). UndoneIn stop.lies.home r (columns_of c.args.context.now) call.caller) at
     (format_stopped c.args.space.now c.args.context.now functions s call c.exact_step.ensures.apart c.exact_step.ensures.laid_out stop shows)
+
+pub returns-clause-known : goal.returns-clause-known
+returns-clause-known g c s frame link fits shows =
+    let at : step_of c.args.space.now c.args.context.now c.args.interrupted ≡ c.exact_step.result = sym c.exact_step.ensures.exact in
+    subst (λ (r : Result (Option Stepped) DeliverError). Undone r (columns_of c.args.context.now) frame.caller) at
+    (facts_undone c.args.space.now c.args.context.now c.args.interrupted s frame.caller c.exact_step.ensures.apart c.exact_step.ensures.laid_out link.returns
+    (asked_at c.args.interrupted s link.returns link.state.ra) shows frame.facts fits link.said link.stands)
 
 pub returns-clause-ends : goal.returns-clause-ends
 returns-clause-ends g c = (λ e. step_ends c.args.space.now c.args.context.now c.args.interrupted (sym c.exact_step.ensures.exact ∙ e), λ ends. c.exact_step.ensures.exact ∙ ends_step c.args.space.now c.args.context.now c.args.interrupted ends)

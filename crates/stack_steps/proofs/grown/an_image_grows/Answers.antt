@@ -1,0 +1,11 @@
+use Rattle.std.proofs.Common.{◌≡◌, ◌≢◌, ℕ, Bool, true, false, List, [], refl, sym, ◌∙◌}
+use Rattle.memory_image.specs.Image.{Span, holds, table_at}
+use Rattle.stack_steps.specs.GrownSample.{grown_image, table_image, table_span}
+use Rattle.stack_steps.proofs.grown.an_image_grows.Goals as goal
+
+pub returns-clause-grows : goal.returns-clause-grows
+returns-clause-grows c a some = go (holds table_span a) refl
+  where
+    go : (b : Bool) → holds table_span a ≡ b → table_at grown_image a ≡ table_at table_image a
+    go true held = rw held refl
+    go false held = absurd (some (rw held refl))

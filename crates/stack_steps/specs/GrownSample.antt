@@ -1,0 +1,15 @@
+-- An image of a table, and the same with a stack beside it.
+use Rattle.std.specs.Prelude.{ℕ, List, [], ◌∷◌}
+use Rattle.memory_image.specs.Image.{Span}
+
+abbrev pub table_span : Span
+table_span = record { start = 0x1000; bytes = 7 ∷ [] }
+
+abbrev pub stack_span : Span
+stack_span = record { start = 0x7000; bytes = 9 ∷ [] }
+
+abbrev pub table_image : List Span
+table_image = table_span ∷ []
+
+abbrev pub grown_image : List Span
+grown_image = table_span ∷ stack_span ∷ []
