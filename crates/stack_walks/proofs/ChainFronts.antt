@@ -1,5 +1,5 @@
 -- Why a walk over a described chain ends at its outermost state.
-use Rattle.std.proofs.Common.{inl, inr, ◌≡◌, ◌≢◌, ℕ, zero, suc, ◌-◌, ◌<◌, true, false, List, [], ◌∷◌, length, Option, Some, None, Result, Ok, Err, ◌^◌, refl, sym, ap, ◌∙◌, subst, arith, eqb}
+use Rattle.std.proofs.Common.{inl, inr, ◌≡◌, ◌≢◌, ℕ, zero, suc, ◌-◌, ◌<◌, true, false, List, [], ◌∷◌, length, Option, Some, None, Result, Ok, Err, ◌^◌, refl, sym, ◌∙◌, subst, arith, eqb}
 use Rattle.std.specs.Prelude.{◌⊎◌}
 use Rattle.std.specs.List.{AllByRecursion}
 use Rattle.std.proofs.lemmas.Bool.Decides.{nat_tests}
@@ -48,7 +48,7 @@ chain_end space functions s [] chain = chain
 chain_end space functions s (k ∷ calls) chain = chain_end space functions k.caller calls chain.1
 
 -- a line isn't refused
-not_refused : (r : Result (List Context) DeliverError) (cs : List Context) → r ≡ Ok cs → r ≢ Err FrameLimit
+pub not_refused : (r : Result (List Context) DeliverError) (cs : List Context) → r ≡ Ok cs → r ≢ Err FrameLimit
 not_refused (Ok ds) cs is = λ h. cc
 not_refused (Err e) cs is = λ h. cc
 
@@ -66,7 +66,7 @@ module _ (space : SpaceValue) (apart : AreApart 0 space.modules) (laid : IsLaidO
       let there : NoneContains (described.bases_of (elf_module m.start m.end t) u.frame) (input_at space.image u.frame) a 0 = record { entries = u.entries; are = u.reads; none = none_first (fdes_of u.entries) a u.uncovered } in
       (refl, rw same (subst (λ (g : ℕ). NoneContains (described.bases_of (elf_module m.start m.end t) g) (input_at space.image g) a 0) (sym place) there))
 
-  unknown : (a : ℕ) → IsUncoveredBy space.image (formats_of space) a → (o : Option Module) → module_at space.modules a ≡ o → IsUnknown space.image o a (front_uncovered o a)
+  pub unknown : (a : ℕ) → IsUncoveredBy space.image (formats_of space) a → (o : Option Module) → module_at space.modules a ≡ o → IsUnknown space.image o a (front_uncovered o a)
   unknown a free None found = refl
   unknown a free (Some m) found = by_tables m.tables (uncovered_there space apart a free m found)
     where

@@ -14,7 +14,7 @@ use Rattle.fde_finders.specs.declared.custom.FrameInfoKind.TheVariants.{EhFrame,
 use Rattle.fde_finders.specs.Finding.{table_bases, relative_to}
 use Rattle.format_frames.specs.declared.machine.Stepped.{Stepped}
 use Rattle.stack_steps.specs.declared.answers.DeliverError.{DeliverError}
-use Rattle.stack_steps.specs.declared.answers.DeliverError.TheVariants.{NoMemory, Unmapped, FrameLimit, PassLimit, NoResume, Table, MachO, CompactHandler, CompactForm, PeInfo, PeHandler, ChainLimit}
+use Rattle.stack_steps.specs.declared.answers.DeliverError.TheVariants.{NoMemory, Unmapped, FrameLimit, PassLimit, NoResume, Table, MachO, CompactForm, PeInfo, ChainLimit}
 use Rattle.stack_walks.specs.declared.front.Front.{Front}
 use Rattle.stack_walks.specs.declared.front.Front.TheVariants.{Outermost, NoModule, NoDescription, UnreadableTable, Refused, Limit}
 use Rattle.stack_steps.specs.declared.space.Module.{Module}
@@ -388,8 +388,6 @@ module _ (space : SpaceValue) (limit : ℕ) (c : Context) (interrupted : Bool) (
     walk_stops (NoResume pad) is a at_call = walk_fails (NoResume pad) is (λ h. cc) a at_call
     walk_stops (Table f) is a at_call = walk_fails (Table f) is (λ h. cc) a at_call
     walk_stops (MachO f) is a at_call = walk_fails (MachO f) is (λ h. cc) a at_call
-    walk_stops CompactHandler is a at_call = walk_fails CompactHandler is (λ h. cc) a at_call
     walk_stops CompactForm is a at_call = walk_fails CompactForm is (λ h. cc) a at_call
     walk_stops PeInfo is a at_call = walk_fails PeInfo is (λ h. cc) a at_call
-    walk_stops PeHandler is a at_call = walk_fails PeHandler is (λ h. cc) a at_call
     walk_stops ChainLimit is a at_call = walk_fails ChainLimit is (λ h. cc) a at_call

@@ -1,7 +1,6 @@
 -- Each walk goes no further for some reason.
 use Rattle.std.proofs.Common.{inl, inr, ◌≡◌, ◌≢◌, ℕ, Bool, List, Option, Some, None, Result, Ok, Err, refl, sym, ◌∙◌, subst}
 use Rattle.std.specs.Prelude.{◌⊎◌}
-use Rattle.memory_image.specs.Image.{Span}
 use Rattle.unwind_definitions.specs.declared.error.Error.{Error as Fault}
 use Rattle.unwind_definitions.specs.Input.{Input}
 use Rattle.unwind_definitions.specs.Pointers.{Bases}
@@ -15,7 +14,7 @@ use Rattle.fde_finders.specs.declared.custom.FrameInfoKind.TheVariants.{EhFrame,
 use Rattle.fde_finders.specs.Finding.{table_bases}
 use Rattle.format_frames.specs.declared.machine.Stepped.{Stepped}
 use Rattle.stack_steps.specs.declared.answers.DeliverError.{DeliverError}
-use Rattle.stack_steps.specs.declared.answers.DeliverError.TheVariants.{NoMemory, Unmapped, FrameLimit, PassLimit, NoResume, Table, MachO, CompactHandler, CompactForm, PeInfo, PeHandler, ChainLimit}
+use Rattle.stack_steps.specs.declared.answers.DeliverError.TheVariants.{NoMemory, Unmapped, FrameLimit, PassLimit, NoResume, Table, MachO, CompactForm, PeInfo, ChainLimit}
 use Rattle.stack_steps.specs.declared.space.Module.{Module}
 use Rattle.stack_steps.specs.declared.space.ModuleTables.{ModuleTables}
 use Rattle.stack_steps.specs.declared.space.ModuleTables.TheVariants.{Elf, Macho, Pe}
@@ -79,10 +78,8 @@ limit_or_not PassLimit = inr (λ h. cc)
 limit_or_not (NoResume pad) = inr (λ h. cc)
 limit_or_not (Table e) = inr (λ h. cc)
 limit_or_not (MachO e) = inr (λ h. cc)
-limit_or_not CompactHandler = inr (λ h. cc)
 limit_or_not CompactForm = inr (λ h. cc)
 limit_or_not PeInfo = inr (λ h. cc)
-limit_or_not PeHandler = inr (λ h. cc)
 limit_or_not ChainLimit = inr (λ h. cc)
 
 module _ (space : SpaceValue) (limit : ℕ) (c : Context) (interrupted : Bool) where

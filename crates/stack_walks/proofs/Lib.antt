@@ -11,3 +11,4 @@ pub mod StoppedWalk
 pub mod TurnCounts
 pub mod TurnLines
 pub mod Unread
+pub mod KnownLines

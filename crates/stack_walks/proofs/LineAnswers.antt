@@ -4,7 +4,7 @@ use Rattle.memory_image.specs.Image.{word_at}
 use Rattle.unwind_arch.specs.declared.x86_64.Context.{Context}
 use Rattle.format_frames.specs.declared.machine.Stepped.{Stepped}
 use Rattle.stack_steps.specs.declared.answers.DeliverError.{DeliverError}
-use Rattle.stack_steps.specs.declared.answers.DeliverError.TheVariants.{NoMemory, Unmapped, FrameLimit, PassLimit, NoResume, Table, MachO, CompactHandler, CompactForm, PeInfo, PeHandler, ChainLimit}
+use Rattle.stack_steps.specs.declared.answers.DeliverError.TheVariants.{NoMemory, Unmapped, FrameLimit, PassLimit, NoResume, Table, MachO, CompactForm, PeInfo, ChainLimit}
 use Rattle.stack_steps.specs.Modules.{SpaceValue}
 use Rattle.stack_steps.specs.Stepping.{step_of}
 use Rattle.stack_walks.specs.Lines.{with_first, line_after, line_of, NeedsMore}
@@ -16,10 +16,8 @@ abbrev pub IsStepFault : DeliverError → Type 0
 IsStepFault (Table e) = Unit {0}
 IsStepFault (Unmapped a) = Unit {0}
 IsStepFault (MachO e) = Unit {0}
-IsStepFault CompactHandler = Unit {0}
 IsStepFault CompactForm = Unit {0}
 IsStepFault PeInfo = Unit {0}
-IsStepFault PeHandler = Unit {0}
 IsStepFault ChainLimit = Unit {0}
 IsStepFault _ = ⊥
 
@@ -38,8 +36,6 @@ of_step NoMemory is = absurd is
 of_step FrameLimit is = absurd is
 of_step PassLimit is = absurd is
 of_step (NoResume pad) is = absurd is
-of_step CompactHandler is = absurd is
-of_step PeHandler is = absurd is
 
 -- a step answers no other
 pub step_faults : (space : SpaceValue) (c : Context) (interrupted : Bool) → OnStepFault (step_of space c interrupted)

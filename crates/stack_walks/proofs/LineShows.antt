@@ -129,7 +129,7 @@ module _ (space : SpaceValue) where
     where
       by_tables : (tables : ModuleTables) → IsUncoveredIn space.image (format_by m tables) a → frame_by_tables space.image a m tables ≡ Ok None
       by_tables (Elf t) u = rw (in_no_entry laid a m t u t.kind refl) refl
-      by_tables (Macho t) u = ap (compact_frame (macho_of m t) a) (none_listed a m t u)
+      by_tables (Macho t) u = ap (compact_frame space.image (macho_of m t) a) (none_listed a m t u)
       by_tables (Pe t) u = absurd u
 
   -- the stack ends where the return address is 0 or no function covers it

@@ -5,11 +5,12 @@ use Rattle.unwind_arch.specs.declared.x86_64.Context.{Context}
 use Rattle.format_frames.specs.declared.machine.Stepped.{Stepped}
 use Rattle.stack_steps.specs.declared.answers.DeliverError.{DeliverError}
 use Rattle.stack_walks.specs.declared.outward.Phase.{Phase}
+use Rattle.stack_steps.specs.Growing.{advanced_to}
 use Rattle.stack_steps.specs.Modules.{SpaceValue}
 use Rattle.memory_image.specs.Results.{◌>>=◌, result_map}
 use Rattle.stack_steps.specs.Stepping.{FrameAt, frame_of, caller_by, caller_at, step_of}
 use Rattle.stack_walks.specs.Walking.{RoomValue}
-use Rattle.stack_walks.specs.Turns.{Ends, Stops, Goes, turn_in, turn_for}
+use Rattle.stack_walks.specs.Turns.{Turn, Ends, Stops, Goes, turn_in, turn_for}
 use Rattle.stack_walks.specs.TurnViews.{AreVisited}
 use Rattle.stack_walks.specs.Fronts.{Reached, reached_after, reached_by, caller_in, caller_from, caller_turned, turned_from, IsReached}
 
@@ -83,6 +84,30 @@ turned_called space s = go (frame_of space s.context s.signal)
     go (Ok None) = refl
     go (Ok (Some f)) = called (caller_by space.image s.context f)
     go (Err e) = refl
+
+-- what a walk meets, by a step
+abbrev pub turn_to : Option Stepped → Turn
+turn_to None = Ends
+turn_to (Some s) = Goes s
+
+turn_steps : (space : SpaceValue) (c : Context) (interrupted : Bool) → turn_for None space c interrupted ≡ result_map turn_to (step_of space c interrupted)
+unfolding turn_for step_of
+turn_steps space c interrupted = go (frame_of space c interrupted)
+  where
+    called : (r : Result Stepped DeliverError) → result_map Goes r ≡ result_map turn_to (result_map Some r)
+    called (Ok t) = refl
+    called (Err e) = refl
+
+    go : (r : Result (Option FrameAt) DeliverError) → (r >>= turn_in None space.image c interrupted) ≡ result_map turn_to (r >>= caller_at space.image c)
+    go (Ok None) = refl
+    go (Ok (Some f)) = called (caller_by space.image c f)
+    go (Err e) = refl
+
+-- and by what a step in place answers
+pub turn_advanced : (space stepper : SpaceValue) (s next : Stepped) (r : Result Bool DeliverError) → stepper ≡ space → result_map (advanced_to next) r ≡ step_of stepper s.context s.signal →
+    turn_for None space s.context s.signal ≡ result_map turn_to (result_map (advanced_to next) r)
+turn_advanced space stepper s next r same steps =
+    turn_steps space s.context s.signal ∙ ap (result_map turn_to) (ap (λ (sp : SpaceValue). step_of sp s.context s.signal) (sym same) ∙ sym steps)
 
 -- the same next states lead as far
 pub same_reached : (f g : Stepped → Option Stepped) → ((s : Stepped) → f s ≡ g s) → (room : ℕ) (s : Stepped) → reached_by f room s ≡ reached_by g room s

@@ -5,3 +5,4 @@ pub mod Lines
 pub mod TurnViews
 pub mod Turns
 pub mod Walking
+pub mod KnownWalks

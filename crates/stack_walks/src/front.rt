@@ -1,6 +1,6 @@
 // How far a walk comes, and why it ends there.
 ghost use Rattle.std.specs.Prelude.{◌≡◌, ◌≢◌, ◌≤◌, ◌↔◌, ◌∷◌, ℕ, suc, List, [], Ok, Err, false, None};
-ghost use Rattle.std.specs.Prelude.{Bool, length, take, IsTrue, IsFalse};
+ghost use Rattle.std.specs.Prelude.{Bool, length, take, IsTrue, IsFalse, true};
 ghost use Rattle.unwind_definitions.specs.declared.error.Error.{Error as Fault};
 ghost use Rattle.unwind_definitions.specs.Scan.{scan};
 ghost use Rattle.unwind_definitions.specs.State.{State};
@@ -12,20 +12,25 @@ ghost use Rattle.fde_finders.specs.Finding.{table_bases};
 ghost use Rattle.stack_walks.specs.Lines.{line_of};
 ghost use Rattle.stack_walks.specs.FrontSample.{after_call, bad_row, cut_entry, held_by};
 ghost use Rattle.stack_walks.specs.FrontSample.{no_entry, nowhere};
+ghost use Rattle.stack_walks.specs.ContextsMet.{contexts_met};
+ghost use Rattle.stack_walks.specs.Fronts.{IsReached, reached_by, turned_from};
+ghost use Rattle.stack_walks.specs.Turns.{line_for};
+ghost use Rattle.stack_walks.specs.TurnViews.{IsOutward};
 ghost use Rattle.stack_walks.specs.Fronts.{ComesTo, EndsFor, front_of, input_of, IsUndescribed};
 ghost use Rattle.stack_walks.specs.Fronts.{IsUndescribedIn, stopped_by, IsUnknownIn, front_of_chain};
+ghost use Rattle.stack_walks.specs.KnownWalks.{StartsKnownStack, ShowStack, front_of_stack};
 ghost use Rattle.stack_walks.specs.Walking.{ShowChain, StartsChain, StartsFormatChain};
 ghost use Rattle.stack_steps.specs.Modules.{SpaceValue};
 ghost use Rattle.stack_steps.specs.Stepping.{FindsNone, step_of, FindsNoneIn};
 ghost use Rattle.stack_steps.specs.Stopped.{StartsStopped, StartsFormatStop};
 ghost use Rattle.stack_steps.specs.Ticking.{RisesWithin};
 
-use crate::outward::outwards;
+use crate::outward::{Stop, outwards_alone, outwards_over};
 use crate::room::Room;
 use eh_frame::{Bases, EhFrame, Entries, Error, RowRoom};
 use fde_finders::{FrameInfo, FrameInfoKind};
 use memory_image::{Ledger, MemoryImage, Steps};
-use stack_steps::{DeliverError, Module, ModuleTables, Space, Stepped};
+use stack_steps::{DeliverError, GrownSpace, Module, ModuleTables, Space, Stepped};
 use unwind_arch::x86_64::Context;
 
 /// Why a walk goes no further than its last state.
@@ -138,7 +143,7 @@ fn unknown_front(image: &MemoryImage<'_>, address: u64, holder: &Module) -> Fron
 }
 
 /// Why there is no frame at a state.
-fn unframed_front(space: &Space<'_>, state: &Stepped) -> Front
+fn unframed_front(space: &GrownSpace<'_, '_, '_>, state: &Stepped) -> Front
     requires { step_of space.now state.now.context state.now.signal ≡ Ok None }
     ensures { EndsFor result space.now state.now.context state.now.signal }
 {
@@ -163,14 +168,16 @@ fn stopped_front(address: u64, error: DeliverError) -> Front
 }
 
 /// Visits the states from the start outwards, in a room that is emptied first.
-fn walk_front<L: Ledger>(
-    space: &Space<'_>,
+fn walk_front<'t, 'a, L: Ledger>(
+    space: &GrownSpace<'_, 't, 'a>,
     start: &Context,
     interrupted: bool,
     limit: u32,
     room: &mut Room,
     steps: &mut Steps<L>,
 ) -> Front
+where
+    't: 'a,
     requires { limit ≤ room.old.limit }
     ensures states { room.new.visited ≡ front_of space.now limit start.now interrupted }
     ensures why { ComesTo result space.now limit start.now interrupted }
@@ -185,18 +192,101 @@ fn walk_front<L: Ledger>(
         context: *start,
         signal: interrupted,
     };
-    match outwards(
-        None,
-        space,
-        &mut state,
-        limit,
-        room,
-        &mut RowRoom::new(),
-        steps,
-    ) {
+    match outwards_from(space, &mut state, limit, room, steps) {
         Ok(_) => unframed_front(space, &state),
         Err(error) => stopped_front(state.address(), error),
     }
+}
+
+/// Goes from a state outwards as a walk does.
+fn outwards_from<'t, 'a, L: Ledger>(
+    space: &GrownSpace<'_, 't, 'a>,
+    state: &mut Stepped,
+    limit: u32,
+    room: &mut Room,
+    steps: &mut Steps<L>,
+) -> Result<Option<Stop>, DeliverError>
+where
+    't: 'a,
+    requires within { limit ≤ room.old.limit }
+    requires empty { room.old.visited ≡ [] }
+    ensures exact { IsOutward true result room.new
+        (line_for None space.now limit state.old.context state.old.signal) }
+    ensures reached { IsReached true room.new state.new
+        (reached_by (turned_from None space.now) limit state.old) }
+    ensures kept { (room.new.trail ≡ room.old.trail) × (room.new.limit ≡ room.old.limit) }
+    ensures ticks { RisesWithin space.now
+        (contexts_met None space.now limit state.old.context state.old.signal)
+        steps.old.number steps.new.number }
+{
+    if space.is_prepared() {
+        return outwards_alone(space, state, limit, room, steps);
+    }
+    outwards_with_rows(space, state, limit, room, steps)
+}
+
+/// The same with a room for rows, which is made here: a function clears the places of its locals
+/// whenever it is called.
+#[inline(never)]
+fn outwards_with_rows<'t, 'a, L: Ledger>(
+    space: &GrownSpace<'_, 't, 'a>,
+    state: &mut Stepped,
+    limit: u32,
+    room: &mut Room,
+    steps: &mut Steps<L>,
+) -> Result<Option<Stop>, DeliverError>
+where
+    't: 'a,
+    requires within { limit ≤ room.old.limit }
+    requires empty { room.old.visited ≡ [] }
+    ensures exact { IsOutward true result room.new
+        (line_for None space.now limit state.old.context state.old.signal) }
+    ensures reached { IsReached true room.new state.new
+        (reached_by (turned_from None space.now) limit state.old) }
+    ensures kept { (room.new.trail ≡ room.old.trail) × (room.new.limit ≡ room.old.limit) }
+    ensures ticks { RisesWithin space.now
+        (contexts_met None space.now limit state.old.context state.old.signal)
+        steps.old.number steps.new.number }
+{
+    let mut rows = RowRoom::new();
+    outwards_over(None, space, state, limit, room, &mut rows, steps)
+}
+
+/// Walks as [`walk_front_into`] does, over a space that is seen over an image which has grown: so one
+/// space serves stack after stack, each added to an image of its own.
+pub fn walk_front_over<'t, 'a, L: Ledger>(
+    space: &GrownSpace<'_, 't, 'a>,
+    start: &Context,
+    interrupted: bool,
+    limit: u32,
+    room: &mut Room,
+    steps: &mut Steps<L>,
+) -> Front
+where
+    't: 'a,
+    requires { limit ≤ room.old.limit }
+    // The states are those from the start outwards, each the caller of the one before.
+    ensures states { room.new.visited ≡ front_of space.now limit start.now interrupted }
+    // They are all of a line that the limit has room for, and the first of any longer one.
+    ensures whole { (states : List Context) →
+        line_of space.now limit start.now interrupted ≡ Ok states →
+        room.new.visited ≡ states }
+    ensures front { (longer : ℕ) (states : List Context) → limit ≤ longer →
+        line_of space.now longer start.now interrupted ≡ Ok states →
+        room.new.visited ≡ take limit states }
+    // Each reason is given exactly for its cause.
+    ensures why { (reason : Front) → (result ≡ reason) ↔
+        ComesTo reason space.now limit start.now interrupted }
+    ensures no_cleanup { room.new.trail ≡ [] }
+    ensures places { room.new.limit ≡ room.old.limit }
+    // A description is searched once at most at each state.
+    ensures searches { RisesWithin space.now (length room.new.visited) steps.old.number
+        steps.new.number }
+    // As many searches as the limit allows states; none is counted where each module names a frame
+    // table and none is prepared.
+    ensures ticks { RisesWithin space.now limit steps.old.number steps.new.number }
+{
+    walk_front(space, start, interrupted, limit, room, steps)
 }
 
 /// Walks the stack whose innermost frame has the registers `start` into a room as far as it goes,
@@ -251,6 +341,13 @@ pub fn walk_front_into<L: Ledger>(
         StartsFormatStop space.now start.now limit functions s call calls → IsTrue interrupted →
         ShowChain room.new.visited s (call ∷ calls) ×
         (result ≡ front_of_chain space.now.modules (last_state call.caller calls)) }
+    // A stack of each of whose frames it is known how its caller's state follows, by facts that
+    // tables say or as unwind data describe its function, is walked to its end, for the reason that
+    // its outermost state has.
+    ensures known { (s : State) (callers : List State) →
+        StartsKnownStack space.now start.now limit interrupted s callers →
+        ShowStack room.new.visited (s ∷ callers) ×
+        (result ≡ front_of_stack space.now.modules interrupted s callers) }
     ensures no_cleanup { room.new.trail ≡ [] }
     ensures places { room.new.limit ≡ room.old.limit }
     // A description is searched once at most at each state.
@@ -262,7 +359,8 @@ pub fn walk_front_into<L: Ledger>(
 {
     // No two of its modules share an address, as a space's type says.
     let _ = space.image();
-    walk_front(space, start, interrupted, limit, room, steps)
+    let own = space.over_own_image();
+    walk_front_over(&own, start, interrupted, limit, room, steps)
 }
 
 /// Each reason can be given, so that its cause can be met: after a call that returns to 0, to an

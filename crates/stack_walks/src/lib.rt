@@ -10,7 +10,9 @@ mod room;
 mod walking;
 
 pub use eh_frame::RowRoom;
-pub use front::{Front, a_walk_ends_for_one_reason, each_reason_is_given, walk_front_into};
-pub use outward::{Phase, Stop, outwards};
+pub use front::{
+    Front, a_walk_ends_for_one_reason, each_reason_is_given, walk_front_into, walk_front_over,
+};
+pub use outward::{Phase, Stop, outwards, outwards_over};
 pub use room::{Room, Trail};
 pub use walking::{Visited, walk, walk_into, walk_with_rows};

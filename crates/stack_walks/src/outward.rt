@@ -1,7 +1,7 @@
 // The way outwards over a stack, of a walk and of the passes of a delivery. Itanium C++ ABI, exception
 // handling, level I, section 1.3.
 ghost use Rattle.std.specs.Prelude.{◌≡◌, ◌≤◌, ◌<◌, ◌*◌, Err, [], true, false};
-ghost use Rattle.std.specs.Prelude.{length, Some, OnErr, IfOk};
+ghost use Rattle.std.specs.Prelude.{length, None, Some, OnErr, IfOk};
 ghost use Rattle.std.specs.Option.{option_map};
 ghost use Rattle.unwinding_frames.specs.LanguageViews.{action_of};
 ghost use Rattle.stack_walks.specs.Turns.{stops, stop_of, past_arguments, turn_for, line_for};
@@ -19,7 +19,7 @@ use crate::room::Room;
 use eh_frame::RowRoom;
 use fde_finders::FDESearchResult;
 use memory_image::{Ledger, MemoryImage, Steps};
-use stack_steps::{DeliverError, FoundFrame, Space, Stepped, Stepper, action_asked};
+use stack_steps::{DeliverError, FoundFrame, GrownSpace, Space, Stepped, Stepper, action_asked};
 use unwind_arch::x86_64::{Context, RAX, RDX, RSP};
 use unwinding_frames::{EhAction, frame_mark};
 
@@ -124,14 +124,16 @@ fn stop_action(
 /// What a walk or a pass meets at a state. Where that is the caller, it stands in the state's
 /// place. `place` is for what a search finds.
 #[tactic(auto, unfolding(crate::specs::Turns::turn_for))]
-fn meet<'a, L: Ledger>(
+fn meet<'t, 'a, L: Ledger>(
     phase: Option<Phase>,
-    stepper: &mut Stepper<'_, 'a>,
+    stepper: &mut Stepper<'_, 't, 'a>,
     state: &mut Stepped,
     place: &mut Option<FDESearchResult<'a>>,
     rows: &mut RowRoom<'a>,
     steps: &mut Steps<L>,
 ) -> Result<Turn, DeliverError>
+where
+    't: 'a,
     ensures same { stepper.new ≡ stepper.old }
     ensures met { result_map (turn_shown state.new) result ≡ turn_for phase stepper.old
         state.old.context state.old.signal }
@@ -141,8 +143,8 @@ fn meet<'a, L: Ledger>(
         steps.new.number }
 {
     // It is lent from where it was found, as frames of some kinds are large.
-    let mut found = stepper.frame_at(state, place, rows, steps);
-    match &mut found {
+    let found = stepper.frame_at(state, place, rows, steps);
+    match &found {
         Ok(Some(frame)) => {
             if let Some(action) = stop_action(phase, stepper.image(), state, frame)? {
                 return Ok(Turn::Stop(action, frame.arguments()));
@@ -170,7 +172,83 @@ fn visit(phase: Option<Phase>, state: &Stepped, room: &mut Room)
 
 /// Goes from a state outwards: a walk, which has no phase and puts each state into the room, the
 /// search, which does so too, or a cleanup pass. It answers where it stops, `None` at the end of
-/// the stack. `state` is then the last state that was met or, after `FrameLimit`, the next.
+/// the stack. `state` is then the last state that was met or, after `FrameLimit`, the next. The space
+/// may be seen over an image that has grown.
+pub fn outwards_over<'t, 'a, L: Ledger>(
+    phase: Option<Phase>,
+    space: &GrownSpace<'_, 't, 'a>,
+    state: &mut Stepped,
+    limit: u32,
+    room: &mut Room,
+    rows: &mut RowRoom<'a>,
+    steps: &mut Steps<L>,
+) -> Result<Option<Stop>, DeliverError>
+where
+    't: 'a,
+    requires within { limit ≤ room.old.limit }
+    requires empty { visits phase ≡ true → room.old.visited ≡ [] }
+    ensures exact { IsOutward (visits phase) result room.new
+        (line_for phase space.now limit state.old.context state.old.signal) }
+    ensures reached { IsReached (visits phase) room.new state.new
+        (reached_by (turned_from phase space.now) limit state.old) }
+    ensures kept { (room.new.trail ≡ room.old.trail) × (room.new.limit ≡ room.old.limit) }
+    ensures stays { visits phase ≡ false → room.new ≡ room.old }
+    ensures ticks { RisesWithin space.now
+        (contexts_met phase space.now limit state.old.context state.old.signal)
+        steps.old.number steps.new.number }
+{
+    let mut stepper = Stepper::over(space, state.context.registers[RSP]);
+    let mut place = None;
+    for _ in 0..limit {
+        visit(phase, state, room);
+        match meet(phase, &mut stepper, state, &mut place, rows, steps)? {
+            Turn::End => return Ok(None),
+            Turn::Stop(action, arguments) => {
+                return Ok(Some(Stop {
+                    state: *state,
+                    action,
+                    arguments,
+                }));
+            }
+            Turn::Caller => {}
+        }
+    }
+    Err(DeliverError::FrameLimit)
+}
+
+/// Goes from a state outwards as a walk does. No room for rows is lent, and none is made where each
+/// module is prepared: it takes some 4 KB, which are cleared. Else each frame that wants one makes it.
+pub(crate) fn outwards_alone<'t, 'a, L: Ledger>(
+    space: &GrownSpace<'_, 't, 'a>,
+    state: &mut Stepped,
+    limit: u32,
+    room: &mut Room,
+    steps: &mut Steps<L>,
+) -> Result<Option<Stop>, DeliverError>
+where
+    't: 'a,
+    requires within { limit ≤ room.old.limit }
+    requires empty { room.old.visited ≡ [] }
+    ensures exact { IsOutward true result room.new
+        (line_for None space.now limit state.old.context state.old.signal) }
+    ensures reached { IsReached true room.new state.new
+        (reached_by (turned_from None space.now) limit state.old) }
+    ensures kept { (room.new.trail ≡ room.old.trail) × (room.new.limit ≡ room.old.limit) }
+    ensures ticks { RisesWithin space.now
+        (contexts_met None space.now limit state.old.context state.old.signal)
+        steps.old.number steps.new.number }
+{
+    let mut stepper = Stepper::over(space, state.context.registers[RSP]);
+    for _ in 0..limit {
+        visit(None, state, room);
+        if !stepper.advance(state, steps)? {
+            return Ok(None);
+        }
+    }
+    Err(DeliverError::FrameLimit)
+}
+
+/// Goes from a state outwards over a space, as [`outwards_over`] does.
 pub fn outwards<'a, L: Ledger>(
     phase: Option<Phase>,
     space: &Space<'a>,
@@ -192,21 +270,6 @@ pub fn outwards<'a, L: Ledger>(
         (contexts_met phase space.now limit state.old.context state.old.signal)
         steps.old.number steps.new.number }
 {
-    let mut stepper = Stepper::new(space, state.context.registers[RSP]);
-    let mut place = None;
-    for _ in 0..limit {
-        visit(phase, state, room);
-        match meet(phase, &mut stepper, state, &mut place, rows, steps)? {
-            Turn::End => return Ok(None),
-            Turn::Stop(action, arguments) => {
-                return Ok(Some(Stop {
-                    state: *state,
-                    action,
-                    arguments,
-                }));
-            }
-            Turn::Caller => {}
-        }
-    }
-    Err(DeliverError::FrameLimit)
+    let own = space.over_own_image();
+    outwards_over(phase, &own, state, limit, room, rows, steps)
 }

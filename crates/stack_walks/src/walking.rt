@@ -8,6 +8,7 @@ ghost use Rattle.unwind_definitions.specs.Chain.{Call};
 ghost use Rattle.stack_walks.specs.Fronts.{front_of};
 ghost use Rattle.stack_walks.specs.Lines.{GivesUnlessNoMemory, NeedsMore, line_of};
 ghost use Rattle.stack_steps.specs.Ticking.{RisesWithin};
+ghost use Rattle.stack_walks.specs.KnownWalks.{StartsKnownStack, ShowStack};
 ghost use Rattle.stack_walks.specs.Walking.{IsWalked, StepFails, ShowChain};
 ghost use Rattle.stack_walks.specs.Walking.{StartsChain, StartsFormatChain};
 ghost use Rattle.stack_steps.specs.Stopped.{StartsStopped, StartsFormatStop};
@@ -117,6 +118,13 @@ pub fn walk_into<L: Ledger>(
         (calls : List Call) →
         StartsFormatStop space.now start.now limit functions s call calls → IsTrue interrupted →
         IsOk result × ShowChain room.new.visited s (call ∷ calls) }
+    // A stack is walked to its end that the limit has room for and of each of whose frames it is
+    // known how its caller's state follows: in an ELF module by facts that its tables say, at any
+    // address, in another as the unwind data describe its function. The start may have been
+    // interrupted where it stands, and may have no caller.
+    ensures known { (s : State) (callers : List State) →
+        StartsKnownStack space.now start.now limit interrupted s callers →
+        IsOk result × ShowStack room.new.visited (s ∷ callers) }
     // A description is searched once at most at each state from the start outwards, up to the end of
     // the stack, to the first state whose step has a fault, or to the limit.
     ensures searches { RisesWithin space.now
@@ -221,6 +229,12 @@ pub fn walk(
         StartsFormatStop space.now start.now limit functions s call calls → IsTrue interrupted →
         (result ≡ Err DeliverError.NoMemory) ⊎
         IsOkAnd result (λ visited. ShowChain visited s (call ∷ calls)) }
+    // A stack of each of whose frames it is known how its caller's state follows, by facts that
+    // tables say or as unwind data describe its function, is walked to its end.
+    ensures known { (s : State) (callers : List State) →
+        StartsKnownStack space.now start.now limit interrupted s callers →
+        (result ≡ Err DeliverError.NoMemory) ⊎
+        IsOkAnd result (λ visited. ShowStack visited (s ∷ callers)) }
 {
     let mut room = Room::new(alloc, limit)?;
     walk_into(

@@ -1,28 +1,25 @@
-use Rattle.std.proofs.Common.{◌≡◌, List, ◌∷◌, Ok, sym, subst, ◌∙◌}
+use Rattle.std.proofs.Common.{◌≡◌, ◌↔◌, ℕ, Bool, List, ◌∷◌, Ok, sym, ap, ◌∙◌, subst}
 use Rattle.unwind_arch.specs.declared.x86_64.Context.{Context}
+use Rattle.stack_steps.specs.Modules.{SpaceValue}
 use Rattle.stack_walks.specs.declared.front.Front.{Front}
-use Rattle.stack_walks.specs.Fronts.{start_state, ComesTo, front_of_chain}
+use Rattle.stack_walks.specs.Fronts.{ComesTo, front_of_chain}
 use Rattle.unwind_definitions.specs.Chain.{last_state}
 use Rattle.stack_walks.specs.Lines.{line_of}
 use Rattle.stack_walks.specs.Walking.{ShowChain}
 use Rattle.stack_walks.proofs.ChainFronts.{chain_comes, stop_comes}
 use Rattle.stack_walks.proofs.ChainWalked.{chain_walked}
 use Rattle.stack_walks.proofs.ElfChains.{elf_starts, elf_starts_stopped}
+use Rattle.stack_walks.specs.KnownWalks.{ShowStack, front_of_stack}
+use Rattle.stack_walks.proofs.KnownLines.{known_walked, known_comes}
 use Rattle.stack_walks.proofs.StoppedWalk.{stopped_walked}
-use Rattle.stack_walks.proofs.FrontAnswers.{line_front, line_whole, one_front}
 use Rattle.stack_walks.proofs.front.walk_front_into.Goals as goal
 
-pub returns-clause-whole : goal.returns-clause-whole
-returns-clause-whole g c states is = c.walk_front.ensures.states ∙ line_whole c.args.space.now c.args.limit (start_state c.args.start.now c.args.interrupted) states is
+-- what is said of a walk over the space's own image is so of the space
+states_over : (own space : SpaceValue) (limit : ℕ) (c : Context) (interrupted : Bool) (visited states : List Context) → own ≡ space → (line_of own limit c interrupted ≡ Ok states → visited ≡ states) → line_of space limit c interrupted ≡ Ok states → visited ≡ states
+states_over own space limit c interrupted visited states same whole line = whole (ap (λ (s : SpaceValue). line_of s limit c interrupted) same ∙ line)
 
-pub returns-clause-front : goal.returns-clause-front
-returns-clause-front g c longer states less is = c.walk_front.ensures.states ∙ line_front c.args.space.now c.args.limit longer (start_state c.args.start.now c.args.interrupted) states less is
-
-pub returns-clause-why : goal.returns-clause-why
-returns-clause-why g c reason = (
-  λ is. subst (λ (why : Front). ComesTo why c.args.space.now c.args.limit c.args.start.now c.args.interrupted) is c.walk_front.ensures.why,
-  λ why. one_front c.args.space.now c.args.limit (start_state c.args.start.now c.args.interrupted) c.walk_front.result reason c.walk_front.ensures.why why,
-)
+reason_over : (own space : SpaceValue) (limit : ℕ) (c : Context) (interrupted : Bool) (why reason : Front) → own ≡ space → (why ≡ reason) ↔ ComesTo reason own limit c interrupted → ComesTo reason space limit c interrupted → why ≡ reason
+reason_over own space limit c interrupted why reason same says comes = says.1 (subst (λ (s : SpaceValue). ComesTo reason s limit c interrupted) (sym same) comes)
 
 pub returns-clause-chain_in : goal.returns-clause-chain_in
 returns-clause-chain_in g c functions s calls starts called =
@@ -30,8 +27,8 @@ returns-clause-chain_in g c functions s calls starts called =
     let line : line_of c.args.space.now c.args.limit c.args.start.now c.args.interrupted ≡ Ok w.0 = rw called w.1 in
     let comes : ComesTo (front_of_chain c.args.space.now.modules (last_state s calls)) c.args.space.now c.args.limit c.args.start.now c.args.interrupted =
     rw called (chain_comes c.args.space.now c.image.ensures.apart c.image.ensures.laid_out c.args.start.now c.args.limit functions s calls starts) in (
-      subst (λ (cs : List Context). ShowChain cs s calls) (sym (returns-clause-whole g c w.0 line)) w.2,
-      (returns-clause-why g c (front_of_chain c.args.space.now.modules (last_state s calls))).1 comes,
+      subst (λ (cs : List Context). ShowChain cs s calls) (sym (states_over c.over_own_image-own.result c.args.space.now c.args.limit c.args.start.now c.args.interrupted c.walk_front_over.new.room.visited w.0 c.over_own_image-own.ensures (c.walk_front_over.ensures.whole w.0) line)) w.2,
+      reason_over c.over_own_image-own.result c.args.space.now c.args.limit c.args.start.now c.args.interrupted c.walk_front_over.result (front_of_chain c.args.space.now.modules (last_state s calls)) c.over_own_image-own.ensures (c.walk_front_over.ensures.why (front_of_chain c.args.space.now.modules (last_state s calls))) comes,
     )
 
 pub returns-clause-chain : goal.returns-clause-chain
@@ -43,10 +40,18 @@ returns-clause-stopped_in g c functions s call calls starts marked =
     let line : line_of c.args.space.now c.args.limit c.args.start.now c.args.interrupted ≡ Ok w.0 = rw marked w.1 in
     let comes : ComesTo (front_of_chain c.args.space.now.modules (last_state call.caller calls)) c.args.space.now c.args.limit c.args.start.now c.args.interrupted =
     rw marked (stop_comes c.args.space.now c.image.ensures.apart c.image.ensures.laid_out c.args.start.now c.args.limit functions s call calls starts) in (
-      subst (λ (cs : List Context). ShowChain cs s (call ∷ calls)) (sym (returns-clause-whole g c w.0 line)) w.2,
-      (returns-clause-why g c (front_of_chain c.args.space.now.modules (last_state call.caller calls))).1 comes,
+      subst (λ (cs : List Context). ShowChain cs s (call ∷ calls)) (sym (states_over c.over_own_image-own.result c.args.space.now c.args.limit c.args.start.now c.args.interrupted c.walk_front_over.new.room.visited w.0 c.over_own_image-own.ensures (c.walk_front_over.ensures.whole w.0) line)) w.2,
+      reason_over c.over_own_image-own.result c.args.space.now c.args.limit c.args.start.now c.args.interrupted c.walk_front_over.result (front_of_chain c.args.space.now.modules (last_state call.caller calls)) c.over_own_image-own.ensures (c.walk_front_over.ensures.why (front_of_chain c.args.space.now.modules (last_state call.caller calls))) comes,
     )
 
 pub returns-clause-stopped : goal.returns-clause-stopped
 returns-clause-stopped g c functions s call calls starts marked =
     returns-clause-stopped_in g c functions s call calls (elf_starts_stopped c.args.space.now c.args.start.now c.args.limit functions s call calls starts) marked
+
+pub returns-clause-known : goal.returns-clause-known
+returns-clause-known g c s callers starts =
+    let w = known_walked c.args.space.now c.image.ensures.apart c.image.ensures.laid_out c.args.start.now c.args.limit c.args.interrupted s callers starts in
+    let comes = known_comes c.args.space.now c.image.ensures.apart c.image.ensures.laid_out c.args.start.now c.args.limit c.args.interrupted s callers starts in (
+      subst (λ (cs : List Context). ShowStack cs (s ∷ callers)) (sym (states_over c.over_own_image-own.result c.args.space.now c.args.limit c.args.start.now c.args.interrupted c.walk_front_over.new.room.visited w.0 c.over_own_image-own.ensures (c.walk_front_over.ensures.whole w.0) w.1)) w.2,
+      reason_over c.over_own_image-own.result c.args.space.now c.args.limit c.args.start.now c.args.interrupted c.walk_front_over.result (front_of_stack c.args.space.now.modules c.args.interrupted s callers) c.over_own_image-own.ensures (c.walk_front_over.ensures.why (front_of_stack c.args.space.now.modules c.args.interrupted s callers)) comes,
+    )

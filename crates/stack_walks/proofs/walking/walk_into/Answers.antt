@@ -7,6 +7,8 @@ use Rattle.stack_walks.proofs.LineAnswers.{line_limit, limit_line, line_fault, f
 use Rattle.stack_walks.proofs.Results.{walked_fault, fault_walked, states_walked}
 use Rattle.stack_walks.proofs.ChainWalked.{chain_walked}
 use Rattle.stack_walks.proofs.ElfChains.{elf_starts, elf_starts_stopped}
+use Rattle.stack_walks.specs.KnownWalks.{ShowStack}
+use Rattle.stack_walks.proofs.KnownLines.{known_walked}
 use Rattle.stack_walks.proofs.StoppedWalk.{stopped_walked}
 use Rattle.stack_walks.proofs.walking.walk_into.Goals as goal
 
@@ -48,3 +50,9 @@ returns-clause-stopped_in g c functions s call calls starts marked =
 pub returns-clause-stopped : goal.returns-clause-stopped
 returns-clause-stopped g c functions s call calls starts marked =
     returns-clause-stopped_in g c functions s call calls (elf_starts_stopped c.args.space.now c.args.start.now c.args.limit functions s call calls starts) marked
+
+pub returns-clause-known : goal.returns-clause-known
+returns-clause-known g c s callers starts =
+    let w = known_walked c.args.space.now c.image.ensures.apart c.image.ensures.laid_out c.args.start.now c.args.limit c.args.interrupted s callers starts in
+    let r = states_walked c.walk_with_rows.result c.walk_with_rows.new.room _ w.0 c.walk_with_rows.ensures.exact w.1 in
+    (r.0, subst (λ (cs : List Context). ShowStack cs (s ∷ callers)) r.1 w.2)

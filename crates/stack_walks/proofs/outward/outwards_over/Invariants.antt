@@ -5,7 +5,7 @@ use Rattle.stack_steps.specs.Ticking.{RisesWithin}
 use Rattle.stack_walks.specs.Fronts.{reached_by, turned_from}
 use Rattle.stack_walks.proofs.Reaching.{met_before}
 use Rattle.stack_walks.specs.TurnViews.{with_contexts, visits, AreVisited}
-use Rattle.stack_walks.proofs.outward.outwards.Given as goal
+use Rattle.stack_walks.proofs.outward.outwards_over.Given as goal
 
 abbrev pub invariant-loop : goal.invariant-loop
 invariant-loop g l = record {

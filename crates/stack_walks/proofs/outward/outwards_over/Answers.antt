@@ -7,7 +7,7 @@ use Rattle.stack_walks.specs.Fronts.{reached_by, turned_from}
 use Rattle.stack_walks.proofs.Reaching.{none_met, reached_here, reached_next, reached_limit, turned_faults, turned_ends, turned_stops, turned_goes, stands}
 use Rattle.stack_steps.proofs.Counted.{rises_none, rises_by_one, rises_to}
 use Rattle.stack_walks.proofs.TurnCounts.{met_here, met_all}
-use Rattle.stack_walks.proofs.outward.outwards.Goals as goal
+use Rattle.stack_walks.proofs.outward.outwards_over.Goals as goal
 
 pub loop-init : goal.loop-init
 loop-init g c =
@@ -18,7 +18,7 @@ loop-init g c =
       stays = λ unvisited. refl;
       trail = refl;
       places = refl;
-      over = c.new-stepper.ensures;
+      over = c.over-stepper.ensures;
       ticks = rises_none c.args.space.now c.args.steps.now.number;
     }
 

@@ -1,0 +1,17 @@
+use Rattle.std.proofs.Common.{subst, ◌∙◌}
+use Rattle.stack_walks.specs.declared.front.Front.{Front}
+use Rattle.stack_walks.specs.Fronts.{start_state, ComesTo}
+use Rattle.stack_walks.proofs.FrontAnswers.{line_front, line_whole, one_front}
+use Rattle.stack_walks.proofs.front.walk_front_over.Goals as goal
+
+pub returns-clause-whole : goal.returns-clause-whole
+returns-clause-whole g c states is = c.walk_front.ensures.states ∙ line_whole c.args.space.now c.args.limit (start_state c.args.start.now c.args.interrupted) states is
+
+pub returns-clause-front : goal.returns-clause-front
+returns-clause-front g c longer states less is = c.walk_front.ensures.states ∙ line_front c.args.space.now c.args.limit longer (start_state c.args.start.now c.args.interrupted) states less is
+
+pub returns-clause-why : goal.returns-clause-why
+returns-clause-why g c reason = (
+  λ is. subst (λ (why : Front). ComesTo why c.args.space.now c.args.limit c.args.start.now c.args.interrupted) is c.walk_front.ensures.why,
+  λ why. one_front c.args.space.now c.args.limit (start_state c.args.start.now c.args.interrupted) c.walk_front.result reason c.walk_front.ensures.why why,
+)
