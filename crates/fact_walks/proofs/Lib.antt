@@ -1,3 +1,3 @@
-pub mod SpaceSteps
-pub mod FactLines
+pub mod FactStacks
+pub mod Described
 pub mod SampleStarts

@@ -1,2 +1,2 @@
-pub mod FactStarts
+pub mod Callers
 pub mod SampleSpace

@@ -26,3 +26,7 @@ in_epilogue = context 0x4010a3 0x7fffffffece8 0x8 0x6b
 -- in the call of that function, from a part of another one that lies apart from it
 abbrev pub in_part : Context
 in_part = context 0x401011 0x7fffffffecf0 0x8 0x6b
+
+-- where the return address is 0
+abbrev pub outside : Context
+outside = context 0x0 0x7fffffffedd8 0x0 0x0

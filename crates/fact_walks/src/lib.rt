@@ -1,12 +1,13 @@
-//! Laws of the steps and the walks through modules whose tables say facts, as functions with empty
-//! bodies: what stands in a contract here is proved. `lines` has the laws, and `samples` starts that
-//! meet their premises.
+//! Laws of stacks of each of whose frames it is known how the caller's state follows, as functions
+//! with empty bodies: what stands in a contract here is proved. `stacks` has the laws, and `samples`
+//! starts that meet what the clauses of steps and walks ask.
 #![tactic(auto)]
 
-mod lines;
 mod samples;
+mod stacks;
 
-pub use lines::{
-    fact_chain_is_one, fact_chain_is_the_line, frame_with_facts_is_met, step_answers_by_facts,
+pub use samples::{frames_of_each_kind_are_known, walks_from_stops_begin_known_stacks};
+pub use stacks::{
+    described_starts_are_known, fact_chain_is_a_known_stack, frame_with_facts_is_met,
+    known_stack_is_one,
 };
-pub use samples::walks_from_stops_begin_fact_chains;

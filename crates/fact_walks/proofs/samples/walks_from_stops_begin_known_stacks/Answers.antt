@@ -1,5 +1,5 @@
-use Rattle.fact_walks.proofs.SampleStarts.{laid_out, lie_apart, prologue_starts, epilogue_starts, part_starts}
-use Rattle.fact_walks.proofs.samples.walks_from_stops_begin_fact_chains.Goals as goal
+use Rattle.fact_walks.proofs.SampleStarts.{laid_out, lie_apart, prologue_starts, epilogue_starts, part_starts, outside_starts}
+use Rattle.fact_walks.proofs.samples.walks_from_stops_begin_known_stacks.Goals as goal
 
 pub returns-clause-laid_out : goal.returns-clause-laid_out
 returns-clause-laid_out c = laid_out
@@ -15,3 +15,6 @@ returns-clause-epilogue c = epilogue_starts
 
 pub returns-clause-part : goal.returns-clause-part
 returns-clause-part c = part_starts
+
+pub returns-clause-alone : goal.returns-clause-alone
+returns-clause-alone c = outside_starts
