@@ -10,7 +10,7 @@ use Rattle.fde_finders.specs.Finding.{FoundFde}
 use Rattle.stack_walks.specs.declared.room.Trail.{Trail}
 use Rattle.format_frames.specs.declared.machine.Stepped.{Stepped}
 use Rattle.stack_steps.specs.declared.answers.DeliverError.{DeliverError}
-use Rattle.stack_steps.specs.declared.answers.DeliverError.TheVariants.{CompactHandler, FrameLimit, PassLimit, NoResume, PeHandler}
+use Rattle.stack_steps.specs.declared.answers.DeliverError.TheVariants.{FrameLimit, PassLimit, NoResume}
 use Rattle.stack_walks.specs.declared.outward.Phase.{Phase}
 use Rattle.stack_walks.specs.declared.outward.Phase.TheVariants as phase
 use Rattle.stack_steps.specs.Modules.{SpaceValue}
@@ -18,9 +18,9 @@ use Rattle.stack_deliver.specs.Resumes.{return_of}
 use Rattle.stack_steps.specs.Stepping.{step_of, refusal_of, frame_refusal, FrameAt, Described, Compact, Recorded, frame_of, caller_by}
 use Rattle.pe_unwind_info.specs.declared.x86_64.fault.FrameFault.{FrameFault}
 use Rattle.pe_unwind_info.specs.declared.x86_64.fault.FrameFault.TheVariants as pe
-use Rattle.format_definitions.specs.PeImage.{memory_of}
-use Rattle.format_frames.specs.Handlers.{has_language_table, handler_in}
-use Rattle.stack_steps.specs.Asking.{action_if_named, action_asked, named_table, recorded_table, table_if_named, unless_handled}
+use Rattle.macho_unwind_info.specs.declared.error.Error.{Error}
+use Rattle.format_frames.specs.Handlers.{macho_place, pe_place}
+use Rattle.stack_steps.specs.Asking.{action_if_named, action_asked, compact_table, named_table, recorded_table, table_if_named}
 use Rattle.stack_walks.specs.Turns.{turn_at, stops, Line, Stop, Turn, Ends, Stops, Goes, turn_of, with_context, line_turn, pass_of, mark_at, pad_of, turn_for}
 use Rattle.stack_deliver.specs.Passes.{PassEnd, Finishes, Elsewhere, end_of, cleanup_of, cleanup_at, resume_at, CleanupsRun, with_cleanup, cleanup_and_rest, after_pass, passes_of}
 use Rattle.stack_deliver.specs.StackDelivery.{delivery_after, delivery_at, delivery_to, delivery_by, stack_delivery}
@@ -138,18 +138,18 @@ module _ (space : SpaceValue) where
       described found (Ok (Some routine)) = tt
       described found (Err e) = refused e
 
-      handled : (named : Bool) (e : DeliverError) → IsStepFault e → OnStepFault (unless_handled named e)
-      handled true e is = is
-      handled false e is = tt
+      compacted : (r : Result (Option LanguagePlace) Error) → OnStepFault (compact_table r)
+      compacted (Ok place) = tt
+      compacted (Err e) = tt
 
-      recorded : (r : Result Bool FrameFault) → OnStepFault (recorded_table r)
-      recorded (Ok named) = handled named PeHandler tt
+      recorded : (r : Result (Option LanguagePlace) FrameFault) → OnStepFault (recorded_table r)
+      recorded (Ok place) = tt
       recorded (Err e) = framed_refused e
 
       named : (f : FrameAt) → OnStepFault (named_table space.image f)
       named (Described f) = described f.found (personality_address space.image f.found.fde)
-      named (Compact m a listed) = handled (has_language_table listed) CompactHandler tt
-      named (Recorded m rva function) = recorded (handler_in (memory_of space.image m.base) function)
+      named (Compact m listed) = compacted (macho_place space.image m listed)
+      named (Recorded m rva function) = recorded (pe_place space.image m function)
 
       by_named : (r : Result (Option (Result LanguagePlace calls.StepFault)) DeliverError) → OnStepFault r → OnStepFault (result_map (action_if_named space.image (address_of_call c.ra interrupted)) r)
       by_named (Ok place) on = tt

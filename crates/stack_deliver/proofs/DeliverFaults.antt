@@ -13,22 +13,24 @@ use Rattle.std.specs.Result.{result_map_both}
 use Rattle.pe_unwind_info.specs.declared.x86_64.fault.FrameFault.{FrameFault}
 use Rattle.pe_unwind_info.specs.declared.x86_64.fault.FrameFault.TheVariants as pe
 use Rattle.pe_unwind_info.specs.declared.x86_64.function_table.RuntimeFunction.{RuntimeFunction}
-use Rattle.pe_unwind_info.specs.Chain.{with_first, then_chain, chain_of}
 use Rattle.pe_unwind_info.specs.Frame.{chained_of, info_in, info_or}
 use Rattle.pe_unwind_info.specs.FrameOf.{Image}
 use Rattle.pe_unwind_info.specs.Info.{Info, parsed_info}
 use Rattle.format_definitions.specs.PeImage.{PeModule, memory_of}
-use Rattle.format_frames.specs.Handlers.{has_language_table, any_handler, handler_in}
+use Rattle.macho_unwind_info.specs.declared.error.Error.{Error}
+use Rattle.pe_unwind_info.specs.declared.x86_64.handler.Handler.{Handler}
+use Rattle.pe_unwind_info.specs.Handlers.{OwnRecord, handler_named, handler_or_fault, handler_if_named, with_own, then_records, records_of, first_naming, handler_among}
+use Rattle.format_frames.specs.Handlers.{macho_place, handler_place, pe_place}
 use Rattle.format_frames.specs.declared.machine.Stepped.{Stepped}
 use Rattle.stack_walks.specs.declared.room.Trail.{Trail}
 use Rattle.stack_steps.specs.declared.answers.DeliverError.{DeliverError}
-use Rattle.stack_steps.specs.declared.answers.DeliverError.TheVariants.{NoMemory, Unmapped, FrameLimit, PassLimit, NoResume, Table, MachO, CompactHandler, CompactForm, PeInfo, PeHandler, ChainLimit}
+use Rattle.stack_steps.specs.declared.answers.DeliverError.TheVariants.{NoMemory, Unmapped, FrameLimit, PassLimit, NoResume, Table, MachO, CompactForm, PeInfo, ChainLimit}
 use Rattle.stack_walks.specs.declared.outward.Phase.{Phase}
 use Rattle.stack_walks.specs.declared.outward.Phase.TheVariants as phase
 use Rattle.stack_steps.specs.Modules.{SpaceValue}
 use Rattle.stack_deliver.specs.Resumes.{return_of}
 use Rattle.stack_steps.specs.Stepping.{step_of, refusal_of, FrameAt, Described, Compact, Recorded, frame_of, caller_by}
-use Rattle.stack_steps.specs.Asking.{action_if_named, action_asked, described_table, named_table, recorded_table, table_if_named, unless_handled}
+use Rattle.stack_steps.specs.Asking.{action_if_named, action_asked, compact_table, described_table, named_table, recorded_table, table_if_named}
 use Rattle.stack_walks.specs.Turns.{turn_at, stops, Turn, Ends, Stops, Goes, turn_of, Line, with_context, line_turn, pass_of, mark_at, pad_of, Stop, turn_for}
 use Rattle.stack_deliver.specs.Passes.{PassEnd, Finishes, Elsewhere, end_of, cleanup_of, cleanup_at, resume_at, CleanupsRun, with_cleanup, cleanup_and_rest, after_pass, passes_of}
 use Rattle.stack_deliver.specs.StackDelivery.{delivery_after, delivery_at, delivery_to, delivery_by, stack_delivery}
@@ -46,10 +48,8 @@ IsCause image PassLimit = Unit {0}
 IsCause image (NoResume pad) = Unit {0}
 IsCause image (Table e) = Unit {0}
 IsCause image (MachO e) = Unit {0}
-IsCause image CompactHandler = Unit {0}
 IsCause image CompactForm = Unit {0}
 IsCause image PeInfo = Unit {0}
-IsCause image PeHandler = Unit {0}
 IsCause image ChainLimit = Unit {0}
 
 abbrev pub OnCause : {A : Type 0} → List Span → Result A DeliverError → Type 0
@@ -73,23 +73,23 @@ info_faults rva (Some bytes) = go (parsed_info bytes)
     go None = tt
     go (Some info) = tt
 
-first_faults : (info : Info) (r : Result (List Info) FrameFault) → OnChain r → OnChain (with_first info r)
-first_faults info (Ok infos) on = tt
-first_faults info (Err (pe.Memory rva)) on = tt
-first_faults info (Err (pe.Info rva)) on = tt
-first_faults info (Err pe.EpilogBytes) on = tt
-first_faults info (Err (pe.Stack a)) on = on
-first_faults info (Err pe.ChainLimit) on = tt
+own_faults : (own : OwnRecord) (r : Result (List OwnRecord) FrameFault) → OnChain r → OnChain (with_own own r)
+own_faults own (Ok records) on = tt
+own_faults own (Err (pe.Memory rva)) on = tt
+own_faults own (Err (pe.Info rva)) on = tt
+own_faults own (Err pe.EpilogBytes) on = tt
+own_faults own (Err (pe.Stack a)) on = on
+own_faults own (Err pe.ChainLimit) on = tt
 
-chain_faults : (memory : Image) (n : ℕ) (function : Option RuntimeFunction) → OnChain (chain_of memory n function)
-unfolding chain_of
-chain_faults memory zero None = tt
-chain_faults memory zero (Some function) = tt
-chain_faults memory (suc n) None = tt
-chain_faults memory (suc n) (Some function) = go (info_in function.unwind_info_address (memory function.unwind_info_address)) (info_faults function.unwind_info_address (memory function.unwind_info_address)) (λ info. chain_faults memory n (chained_of info))
+records_faults : (memory : Image) (n : ℕ) (function : Option RuntimeFunction) → OnChain (records_of memory n function)
+unfolding records_of
+records_faults memory zero None = tt
+records_faults memory zero (Some function) = tt
+records_faults memory (suc n) None = tt
+records_faults memory (suc n) (Some function) = go (info_in function.unwind_info_address (memory function.unwind_info_address)) (info_faults function.unwind_info_address (memory function.unwind_info_address)) (λ info. records_faults memory n (chained_of info))
   where
-    go : (r : Result Info FrameFault) → OnChain r → ((info : Info) → OnChain (chain_of memory n (chained_of info))) → OnChain (then_chain r (λ info. chain_of memory n (chained_of info)))
-    go (Ok info) on later = first_faults info (chain_of memory n (chained_of info)) (later info)
+    go : (r : Result Info FrameFault) → OnChain r → ((info : Info) → OnChain (records_of memory n (chained_of info))) → OnChain (then_records function r (λ info. records_of memory n (chained_of info)))
+    go (Ok info) on later = own_faults (function, info) (records_of memory n (chained_of info)) (later info)
     go (Err (pe.Memory rva)) on later = tt
     go (Err (pe.Info rva)) on later = tt
     go (Err pe.EpilogBytes) on later = tt
@@ -102,10 +102,8 @@ step_cause space c interrupted e fails = go e fails (subst OnStepFault fails (st
     go : (x : DeliverError) → step_of space c interrupted ≡ Err x → IsStepFault x → IsCause space.image x
     go (Table f) is fault = tt
     go (MachO f) is fault = tt
-    go CompactHandler is fault = tt
     go CompactForm is fault = tt
     go PeInfo is fault = tt
-    go PeHandler is fault = tt
     go ChainLimit is fault = tt
     go (Unmapped a) is fault = step_unmapped space c interrupted a is
     go NoMemory is fault = absurd fault
@@ -138,25 +136,33 @@ described_cause image found = go found.fde.cie.letters.personality
     go None = tt
     go (Some p) = by_target (tables.target image p.1) (target_cause image p.1)
 
-handled_cause : (image : List Span) (e : DeliverError) → IsCause image e → (named : Bool) → OnCause image (unless_handled named e)
-handled_cause image e is true = is
-handled_cause image e is false = tt
-
 -- An unwind record isn't on the stack.
-recorded_cause : (image : List Span) (m : PeModule) (function : Option RuntimeFunction) → OnCause image (recorded_table (handler_in (memory_of image m.base) function))
-recorded_cause image m function = go (chain_of (memory_of image m.base) 33 function) (chain_faults (memory_of image m.base) 33 function)
+handler_cause : (image : List Span) (m : PeModule) (o : Option OwnRecord) → OnCause image (recorded_table (result_map_both (option_map (handler_place m)) (λ fault. fault) (handler_if_named o)))
+handler_cause image m None = tt
+handler_cause image m (Some own) = go (handler_named own)
   where
-    go : (r : Result (List Info) FrameFault) → OnChain r → OnCause image (recorded_table (result_map_both any_handler (λ fault. fault) r))
-    go (Ok infos) on = handled_cause image PeHandler tt (any_handler infos)
+    go : (o : Option Handler) → OnCause image (recorded_table (result_map_both (option_map (handler_place m)) (λ fault. fault) (handler_or_fault own.0.unwind_info_address o)))
+    go None = tt
+    go (Some handler) = tt
+
+recorded_cause : (image : List Span) (m : PeModule) (function : Option RuntimeFunction) → OnCause image (recorded_table (pe_place image m function))
+recorded_cause image m function = go (records_of (memory_of image m.base) 33 function) (records_faults (memory_of image m.base) 33 function)
+  where
+    go : (r : Result (List OwnRecord) FrameFault) → OnChain r → OnCause image (recorded_table (result_map_both (option_map (handler_place m)) (λ fault. fault) (handler_among r)))
+    go (Ok records) on = handler_cause image m (first_naming records)
     go (Err (pe.Memory rva)) on = tt
     go (Err (pe.Info rva)) on = tt
     go (Err pe.EpilogBytes) on = tt
     go (Err (pe.Stack a)) on = absurd on
     go (Err pe.ChainLimit) on = tt
 
+compact_cause : (image : List Span) (r : Result (Option tables.LanguagePlace) Error) → OnCause image (compact_table r)
+compact_cause image (Ok place) = tt
+compact_cause image (Err e) = tt
+
 named_cause : (image : List Span) (f : FrameAt) → OnCause image (named_table image f)
 named_cause image (Described f) = described_cause image f.found
-named_cause image (Compact m a listed) = handled_cause image CompactHandler tt (has_language_table listed)
+named_cause image (Compact m listed) = compact_cause image (macho_place image m listed)
 named_cause image (Recorded m rva function) = recorded_cause image m function
 
 asked_cause : (image : List Span) (c : Context) (interrupted : Bool) (f : FrameAt) → OnCause image (action_asked image c interrupted f)

@@ -6,7 +6,7 @@ use Rattle.stack_deliver.specs.declared.answers.Ending.{Ending}
 use Rattle.stack_deliver.specs.declared.answers.Outcome.{Outcome}
 use Rattle.stack_deliver.specs.declared.answers.Outcome.TheVariants.{Installed, EndOfStack, FatalPhase1, FatalPhase2}
 use Rattle.stack_steps.specs.declared.answers.DeliverError.{DeliverError}
-use Rattle.stack_steps.specs.declared.answers.DeliverError.TheVariants.{NoMemory, Unmapped, FrameLimit, PassLimit, NoResume, Table, MachO, CompactHandler, CompactForm, PeInfo, PeHandler, ChainLimit}
+use Rattle.stack_steps.specs.declared.answers.DeliverError.TheVariants.{NoMemory, Unmapped, FrameLimit, PassLimit, NoResume, Table, MachO, CompactForm, PeInfo, ChainLimit}
 use Rattle.stack_walks.specs.declared.outward.Phase.{Phase}
 use Rattle.stack_walks.specs.declared.outward.Phase.TheVariants as phase
 use Rattle.stack_steps.specs.Modules.{SpaceValue}
@@ -233,10 +233,8 @@ module _ (space : SpaceValue) (c : Context) (exception : ℕ) (resumes : List (�
   refused_why (Unmapped a) fails = faults (Unmapped a) (λ e. cc) (λ e. cc) (λ pad e. cc) fails
   refused_why (Table f) fails = faults (Table f) (λ e. cc) (λ e. cc) (λ pad e. cc) fails
   refused_why (MachO f) fails = faults (MachO f) (λ e. cc) (λ e. cc) (λ pad e. cc) fails
-  refused_why CompactHandler fails = faults CompactHandler (λ e. cc) (λ e. cc) (λ pad e. cc) fails
   refused_why CompactForm fails = faults CompactForm (λ e. cc) (λ e. cc) (λ pad e. cc) fails
   refused_why PeInfo fails = faults PeInfo (λ e. cc) (λ e. cc) (λ pad e. cc) fails
-  refused_why PeHandler fails = faults PeHandler (λ e. cc) (λ e. cc) (λ pad e. cc) fails
   refused_why ChainLimit fails = faults ChainLimit (λ e. cc) (λ e. cc) (λ pad e. cc) fails
 
   pub why_refused : (e : DeliverError) → IsRefused space c exception resumes limit e → delivery ≡ Err e
@@ -247,8 +245,6 @@ module _ (space : SpaceValue) (c : Context) (exception : ℕ) (resumes : List (�
   why_refused (Unmapped a) is = fault_meets (Unmapped a) is
   why_refused (Table f) is = fault_meets (Table f) is
   why_refused (MachO f) is = fault_meets (MachO f) is
-  why_refused CompactHandler is = fault_meets CompactHandler is
   why_refused CompactForm is = fault_meets CompactForm is
   why_refused PeInfo is = fault_meets PeInfo is
-  why_refused PeHandler is = fault_meets PeHandler is
   why_refused ChainLimit is = fault_meets ChainLimit is

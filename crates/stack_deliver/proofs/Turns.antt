@@ -4,17 +4,18 @@ use Rattle.std.specs.Prelude.{IsTrue}
 use Rattle.std.specs.List.{Contains}
 use Rattle.std.proofs.lemmas.List.{set-get_or, get_or-set_same, get_or-set_other}
 use Rattle.std.proofs.Math.ListN.{length-set}
-use Rattle.memory_image.specs.Image.{IsLaidOut}
+use Rattle.memory_image.specs.Image.{Span, IsLaidOut}
 use Rattle.stack_steps.specs.Asking.{arguments_of}
 use Rattle.unwind_definitions.specs.State.{CalleeSaved, RBX, RBP, R12, R13, R14, R15, State, value_of, column_of, Shows}
-use Rattle.unwind_definitions.specs.Prologue.{steps_of}
+use Rattle.unwind_definitions.specs.Prologue.{SystemV, Windows, steps_of}
 use Rattle.unwind_definitions.specs.Entered.{IsEntered}
 use Rattle.unwind_definitions.specs.Function.{Function, IsFunction, Action, NoAction, Cleanup, in_body, action_at}
 use Rattle.unwind_definitions.specs.Module.{Module}
 use Rattle.unwind_definitions.specs.Chain.{Call, IsEnd}
 use Rattle.format_definitions.specs.FormatCalls.{IsFormatCall}
-use Rattle.format_definitions.specs.FormatModules.{FormatModule, Elf, in_format, convention_of, part_of, DescribesFormat, IsUncoveredBy}
-use Rattle.format_laws.proofs.FormatOne.{table_in_elf, silent_action}
+use Rattle.format_definitions.specs.FormatModules.{FormatModule, Elf, Macho, Pe, in_format, convention_of, part_of, DescribesFormat, IsUncoveredBy}
+use Rattle.format_laws.proofs.FormatHomes.{in_part, body_lies}
+use Rattle.format_laws.proofs.Silent.{silent_action}
 use Rattle.unwind_arch.specs.declared.x86_64.Context.{Context}
 use Rattle.unwind_arch.specs.ContextViews.{columns_of}
 use Rattle.stack_walks.specs.declared.outward.Phase.{Phase}
@@ -26,7 +27,9 @@ use Rattle.stack_walks.specs.Turns.{stops, past_arguments, Stops, Goes, turn_of,
 use Rattle.stack_walks.specs.ContextsMet.{contexts_met}
 use Rattle.stack_steps.proofs.ContextLemmas.{IsWhole}
 use Rattle.stack_walks.proofs.LineShows.{ends}
-use Rattle.stack_steps.proofs.MetFrames.{Met}
+use Rattle.stack_steps.proofs.FormatMet.{format_met}
+use Rattle.stack_steps.proofs.MetFrames.{Met, met}
+use Rattle.stack_deliver.proofs.TabledEnds.{tabled_end, recorded_end}
 use Rattle.stack_walks.proofs.TurnLines.{stop_at}
 use Rattle.stack_walks.proofs.TurnCounts.{met_beyond}
 
@@ -96,44 +99,58 @@ kept_value s ret R15 = refl
 pub asks_some : (f : Function) (a pad : ℕ) → action_at f a ≡ Cleanup pad → f.sites ≢ None
 asks_some f a pad asks none = let silent : action_at f a ≡ NoAction = silent_action f a none in absurd cc
 
--- a call of a function with a language table, which lies in an ELF module
-pub elf_call_back : (space : SpaceValue) (functions : List Function) (s : State) (k : Call) → IsFormatCall space.image (formats_of space) functions s k → k.callee.sites ≢ None → IsDescribedCall (process_of space) functions s k
-elf_call_back space functions s k is some = go alone.0 alone.1
-  where
-    alone : (m : Module) × (is.lies.home ≡ Elf m)
-    alone = table_in_elf space.image (formats_of space) functions k.callee is.lies is.listed some
-
-    go : (m : Module) → is.lies.home ≡ Elf m → IsDescribedCall (process_of space) functions s k
-    go m home = record {
-      is_function = subst (λ (h : FormatModule). IsFunction (convention_of h) k.callee) home is.lies.is_function;
-      listed = is.listed;
-      lies = record {
-        home = m;
-        known = elf_from_format space.modules m (subst (λ (h : FormatModule). Contains (formats_of space) h) home is.lies.known);
-        inside = subst (λ (h : FormatModule). IsTrue (in_format k.callee.start h)) home is.lies.inside;
-        describes = subst (λ (h : FormatModule). DescribesFormat space.image h (part_of h functions)) home is.lies.describes;
-      };
-      called = is.called;
-      caller = is.caller;
-      ends = is.ends;
-    }
-
 -- a call's function goes on elsewhere in its body, with the same registers
-pub call_resumed : (space : SpaceValue) (functions : List Function) (s : State) (k : Call) (ret : ℕ) → IsDescribedCall (process_of space) functions s k → ret ≢ 0 → IsTrue (in_body k.callee (ret - 1)) → IsDescribedCall (process_of space) functions (returning s ret) k
-call_resumed space functions s k ret is returns inside =
-    let entered : IsEntered space.image k.callee.outermost (steps_of k.callee.prologue) k.caller s = is.called.entered in
-    record {
-      is_function = is.is_function;
-      listed = is.listed;
-      lies = is.lies;
-      called = record {
-        returns = returns;
-        inside = inside;
-        entered = record { room = entered.room; returns = entered.returns; leaves = entered.leaves; stack = entered.stack; keeps = λ r none. kept_value s ret r ∙ entered.keeps r none };
-      };
-      caller = is.caller;
-      ends = is.ends;
-    }
+entered_again : (image : List Span) (s : State) (k : Call) (ret : ℕ) → IsEntered image k.callee.outermost (steps_of k.callee.prologue) k.caller s → IsEntered image k.callee.outermost (steps_of k.callee.prologue) k.caller (returning s ret)
+entered_again image s k ret entered = record { room = entered.room; returns = entered.returns; leaves = entered.leaves; stack = entered.stack; keeps = λ r none. kept_value s ret r ∙ entered.keeps r none }
+
+module _ (space : SpaceValue) (apart : AreApart 0 space.modules) (laid : IsLaidOut 0 space.image) (functions : List Function) (s : State) (k : Call) (ret : ℕ) (is : IsFormatCall space.image (formats_of space) functions s k)
+    (returns : ret ≢ 0) (inside : IsTrue (in_body k.callee (ret - 1))) where
+  abbrev part : FormatModule → List Function
+  part home = part_of home functions
+
+  resumed : IsFormatCall space.image (formats_of space) functions (returning s ret) k
+  resumed = record {
+    listed = is.listed;
+    lies = is.lies;
+    called = record { returns = returns; inside = inside; entered = entered_again space.image s k ret is.called.entered };
+    caller = is.caller;
+    ends = is.ends;
+  }
+
+  in_elf : (m : Module) → is.lies.home ≡ Elf m → IsDescribedCall (process_of space) functions (returning s ret) k
+  in_elf m home = record {
+    is_function = subst (λ (h : FormatModule). IsFunction (convention_of h) k.callee) home is.lies.is_function;
+    listed = is.listed;
+    lies = record {
+      home = m;
+      known = elf_from_format space.modules m (subst (λ (h : FormatModule). Contains (formats_of space) h) home is.lies.known);
+      inside = subst (λ (h : FormatModule). IsTrue (in_format k.callee.start h)) home is.lies.inside;
+      describes = subst (λ (h : FormatModule). DescribesFormat space.image h (part h)) home is.lies.describes;
+    };
+    called = record { returns = returns; inside = inside; entered = entered_again space.image s k ret is.called.entered };
+    caller = is.caller;
+    ends = is.ends;
+  }
+
+  in_home : (home : FormatModule) → is.lies.home ≡ home → Contains (part home) k.callee
+  in_home home same = in_part functions k.callee home is.listed (subst (λ (h : FormatModule). IsTrue (in_format k.callee.start h)) same is.lies.inside)
+
+  -- The frame of a function with a language table that goes on elsewhere in its body.
+  pub met_again : k.callee.sites ≢ None → (c : Context) → Shows (columns_of c) (returning s ret) → Met space c (returning s ret) k
+  met_again some c shows = by_home is.lies.home refl
+    where
+      by_home : (home : FormatModule) → is.lies.home ≡ home → Met space c (returning s ret) k
+      by_home (Elf m) home = met space c functions (returning s ret) k apart laid (in_elf m home) shows
+      by_home (Macho m) home =
+          let is_function = subst (λ (h : FormatModule). IsFunction (convention_of h) k.callee) home is.lies.is_function in
+          let lies = body_lies SystemV k.callee (ret - 1) is_function inside in
+          let small = tabled_end space.image m (part (Macho m)) (subst (λ (h : FormatModule). DescribesFormat space.image h (part h)) home is.lies.describes) k.callee (in_home (Macho m) home) some in
+          format_met space c functions (returning s ret) k apart laid resumed shows (omega (arith, lies.1))
+      by_home (Pe m) home =
+          let is_function = subst (λ (h : FormatModule). IsFunction (convention_of h) k.callee) home is.lies.is_function in
+          let lies = body_lies Windows k.callee (ret - 1) is_function inside in
+          let small = recorded_end space.image m (part (Pe m)) (subst (λ (h : FormatModule). DescribesFormat space.image h (part h)) home is.lies.describes) k.callee (in_home (Pe m) home) some in
+          format_met space c functions (returning s ret) k apart laid resumed shows (omega (arith, lies.1))
 
 -- ---- contexts that enter a landing pad
 

@@ -1,10 +1,10 @@
 -- Why a delivery is refused, and how it ends, in the words of its answers.
-use Rattle.std.specs.Prelude.{◌≡◌, ◌⊎◌, ℕ, zero, suc, ◌<◌, Bool, true, false, List, Result, Some, None, Ok, Err}
+use Rattle.std.specs.Prelude.{◌≡◌, ◌⊎◌, ℕ, zero, suc, ◌<◌, Bool, false, List, Result, Some, None, Ok, Err}
 use Rattle.unwind_arch.specs.declared.x86_64.Context.{Context}
 use Rattle.stack_deliver.specs.declared.answers.Outcome.{Outcome}
 use Rattle.stack_deliver.specs.declared.answers.Outcome.TheVariants.{Installed, EndOfStack, FatalPhase1, FatalPhase2}
 use Rattle.stack_steps.specs.declared.answers.DeliverError.{DeliverError}
-use Rattle.stack_steps.specs.declared.answers.DeliverError.TheVariants.{NoMemory, Unmapped, FrameLimit, PassLimit, NoResume, Table, MachO, CompactHandler, CompactForm, PeInfo, PeHandler, ChainLimit}
+use Rattle.stack_steps.specs.declared.answers.DeliverError.TheVariants.{NoMemory, Unmapped, FrameLimit, PassLimit, NoResume, Table, MachO, CompactForm, PeInfo, ChainLimit}
 use Rattle.stack_steps.specs.Modules.{SpaceValue}
 use Rattle.stack_deliver.specs.Resumes.{return_of}
 use Rattle.stack_steps.specs.Asking.{action_asked, named_table}
@@ -144,10 +144,8 @@ IsRefused space c exception resumes limit (NoResume pad) = InPasses space c exce
 IsRefused space c exception resumes limit (Unmapped a) = MeetFault space c exception resumes limit (Unmapped a)
 IsRefused space c exception resumes limit (Table e) = MeetFault space c exception resumes limit (Table e)
 IsRefused space c exception resumes limit (MachO e) = MeetFault space c exception resumes limit (MachO e)
-IsRefused space c exception resumes limit CompactHandler = MeetFault space c exception resumes limit CompactHandler
 IsRefused space c exception resumes limit CompactForm = MeetFault space c exception resumes limit CompactForm
 IsRefused space c exception resumes limit PeInfo = MeetFault space c exception resumes limit PeInfo
-IsRefused space c exception resumes limit PeHandler = MeetFault space c exception resumes limit PeHandler
 IsRefused space c exception resumes limit ChainLimit = MeetFault space c exception resumes limit ChainLimit
 
 -- How a delivery ends, by its outcome.

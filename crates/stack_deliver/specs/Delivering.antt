@@ -32,8 +32,7 @@ pub record StartsValidChain (space : SpaceValue) (c : Context) (resumes : List (
   pub elf : AreElf space.modules
   pub shorter : length calls < limit
 
--- The same where modules are of whatever format each: every module describes its part of the functions by the data of its format,
--- and functions of Mach-O and PE modules have no language table.
+-- The same where modules are of whatever format each: every module describes its part of the functions by the data of its format.
 pub record StartsValidFormatChain (space : SpaceValue) (c : Context) (resumes : List (ℕ × ℕ)) (limit : ℕ) (functions : List Function) (s : State) (calls : List Call) : Type 0 where
   pub valid : IsFormatValid space.image (formats_of space) (columns_of c) resumes functions s calls
   pub shorter : length calls < limit

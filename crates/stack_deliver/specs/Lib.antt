@@ -1,5 +1,6 @@
 pub mod Causes
 pub mod Delivering
+pub mod KnownDeliveries
 pub mod PassViews
 pub mod Passes
 pub mod Resumes

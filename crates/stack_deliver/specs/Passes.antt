@@ -1,8 +1,7 @@
 -- The passes of a delivery over a stack: the search for a frame whose language takes the exception, and then the cleanups on the
 -- way to it. Itanium C++ ABI, exception handling, level I, section 1.3.
-use Rattle.std.specs.Prelude.{ℕ, zero, suc, ◌+◌, ◌-◌, ◌==◌, false, List, [], ◌∷◌, Option, Some, None, Result, Ok, Err, slice_index, if◌then◌else◌}
+use Rattle.std.specs.Prelude.{ℕ, zero, suc, ◌==◌, false, List, [], ◌∷◌, Option, Some, None, Result, Ok, Err, slice_index, if◌then◌else◌}
 use Rattle.memory_image.specs.Results.{◌>>=◌, result_map}
-use Rattle.unwind_definitions.specs.Function.{Cleanup}
 use Rattle.unwind_arch.specs.declared.x86_64.Context.{Context}
 use Rattle.unwind_definitions.specs.Columns.{rsp}
 use Rattle.stack_walks.specs.declared.room.Trail.{Trail}

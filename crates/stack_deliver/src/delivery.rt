@@ -12,6 +12,8 @@ ghost use Rattle.stack_deliver.specs.StackDelivery.{stack_delivery};
 ghost use Rattle.stack_steps.specs.Ticking.{RisesWithin};
 ghost use Rattle.stack_deliver.specs.Delivering.{StartsValidChain, StartsValidFormatChain};
 ghost use Rattle.stack_deliver.specs.Delivering.{ShowsDelivery, IsDelivered, delivery_in};
+ghost use Rattle.frame_facts.specs.FactDeliveries.{AskedFrame};
+ghost use Rattle.stack_deliver.specs.KnownDeliveries.{StartsKnownDelivery, ShowsKnownDelivery};
 
 use crate::answers::{Delivery, Ending, Outcome};
 use crate::passes::passes;
@@ -112,7 +114,9 @@ fn without_landing(outcome: Outcome) -> Ending
 ///
 /// The room is emptied first. A search visits states from the start outwards, and each is put into
 /// the room. Of a frame whose description names a personality, whichever, the language table is
-/// asked at the address of the call. The search ends at the first frame whose table asks for a
+/// asked at the address of the call; so is that of a Mach-O frame whose opcode names one, where its
+/// section lists a language table for the function, and the handler data of a PE frame one of whose
+/// unwind records names a handler. The search ends at the first frame whose table asks for a
 /// handler or to end the program; a table that can't be read ends the program. The frame is kept by
 /// its stack pointer, less one where it stands after a signal's frame.
 ///
@@ -132,10 +136,10 @@ fn without_landing(outcome: Outcome) -> Ending
 ///   no entry for a cleanup's pad.
 /// - `Unmapped` and `Table` as in a step, and `Unmapped` where the cell that names the personality
 ///   isn't wholly mapped.
-/// - `MachO`, `CompactForm`, `PeInfo` and `ChainLimit` as in a step, and the last two where not all
-///   records of a PE frame can be read.
-/// - `CompactHandler` where the opcode of a Mach-O frame says that its function has a language
-///   table, and `PeHandler` where an unwind record of a PE frame names a handler.
+/// - `MachO`, `CompactForm`, `PeInfo` and `ChainLimit` as in a step; `MachO` also where the
+///   personality that the opcode of a Mach-O frame names isn't listed, or the list of language tables
+///   can't be read there, and the last two where the records of a PE frame can't be read up to one that
+///   names a handler, or that handler's bytes are missing.
 pub fn deliver_into<L: Ledger>(
     space: &Space<'_>,
     start: &Context,
@@ -170,6 +174,14 @@ pub fn deliver_into<L: Ledger>(
     ensures chain_in { (functions : List Function) (s : State) (calls : List Call) →
         StartsValidFormatChain space.now start.now resumes.now limit functions s calls →
         IsOkAnd result (λ ending. ShowsDelivery (delivery_in room.new ending) exception s calls) }
+    // What is delivered to a stack of each of whose frames it is known how its caller's state
+    // follows and what its language asks is what the definition says of these frames. In an ELF
+    // module it may be known by facts that its tables say, at any address of code, and landing pads
+    // are entered past the arguments that were pushed.
+    ensures known { (s : State) (callers : List State) (frames : List AskedFrame) →
+        StartsKnownDelivery space.now start.now resumes.now limit s callers frames →
+        IsOkAnd result
+        (λ ending. ShowsKnownDelivery (delivery_in room.new ending) exception s callers frames) }
     // Each state that the search or a pass meets is searched for at most once.
     ensures searches { RisesWithin space.now
         (met_in_delivery space.now start.now exception resumes.now limit)
@@ -177,14 +189,18 @@ pub fn deliver_into<L: Ledger>(
     // These are the search and at most one pass more than the limit, each through as many states as
     // the limit allows.
     ensures ticks { RisesWithin space.now ((limit + 2) * limit) steps.old.number steps.new.number }
-    // Over a valid chain each visited state is met by the search and by one pass at most, and the
-    // state of each cleanup by the pass after it too.
+    // Over a valid chain, and over a stack that is so known, each visited state is met by the search
+    // and by one pass at most, and the state of each cleanup by the pass after it too.
     ensures chain_searches { (functions : List Function) (s : State) (calls : List Call) →
         StartsValidChain space.now start.now resumes.now limit functions s calls →
         RisesWithin space.now (2 * length room.new.visited + length room.new.trail)
         steps.old.number steps.new.number }
     ensures chain_searches_in { (functions : List Function) (s : State) (calls : List Call) →
         StartsValidFormatChain space.now start.now resumes.now limit functions s calls →
+        RisesWithin space.now (2 * length room.new.visited + length room.new.trail)
+        steps.old.number steps.new.number }
+    ensures known_searches { (s : State) (callers : List State) (frames : List AskedFrame) →
+        StartsKnownDelivery space.now start.now resumes.now limit s callers frames →
         RisesWithin space.now (2 * length room.new.visited + length room.new.trail)
         steps.old.number steps.new.number }
     // In one module that names a header a search takes as many steps as the number of the header's
@@ -247,6 +263,12 @@ pub fn deliver(
         StartsValidFormatChain space.now start.now resumes.now limit functions s calls →
         (result ≡ Err DeliverError.NoMemory) ⊎
         IsOkAnd result (λ delivery. ShowsDelivery delivery exception s calls) }
+    // What is delivered to a stack that is known frame by frame, with what its frames ask, is what
+    // the definition says of these frames.
+    ensures known { (s : State) (callers : List State) (frames : List AskedFrame) →
+        StartsKnownDelivery space.now start.now resumes.now limit s callers frames →
+        (result ≡ Err DeliverError.NoMemory) ⊎
+        IsOkAnd result (λ delivery. ShowsKnownDelivery delivery exception s callers frames) }
 {
     let mut room = Room::new(alloc, limit)?;
     let ending = deliver_into(

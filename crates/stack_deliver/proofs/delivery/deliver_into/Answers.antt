@@ -3,6 +3,7 @@ use Rattle.stack_steps.specs.declared.answers.DeliverError.TheVariants.{NoMemory
 use Rattle.stack_deliver.specs.Causes.{EndsBy}
 use Rattle.stack_deliver.specs.StackDelivery.{DeliveryValue}
 use Rattle.stack_deliver.specs.Delivering.{ShowsDelivery}
+use Rattle.stack_deliver.specs.KnownDeliveries.{ShowsKnownDelivery}
 use Rattle.stack_deliver.specs.Searches.{met_in_delivery}
 use Rattle.stack_steps.proofs.Counted.{rises_up_to}
 use Rattle.stack_deliver.proofs.DeliverFaults.{delivery_unmapped, delivery_memory}
@@ -12,6 +13,7 @@ use Rattle.stack_deliver.proofs.DeliveryResults.{delivered_fault, fault_delivere
 use Rattle.stack_deliver.proofs.DeliveryAnswers.{refused_why, why_refused, ended_by, by_end}
 use Rattle.stack_deliver.proofs.ChainDelivered.{chain_delivered}
 use Rattle.stack_deliver.proofs.ElfDeliveries.{elf_starts_valid}
+use Rattle.stack_deliver.proofs.KnownDelivered.{known_delivered}
 use Rattle.stack_deliver.proofs.delivery.deliver_into.Goals as goal
 
 pub returns-clause-unmapped : goal.returns-clause-unmapped
@@ -29,6 +31,11 @@ pub returns-clause-chain : goal.returns-clause-chain
 returns-clause-chain g c functions s calls starts =
     returns-clause-chain_in g c functions s calls (elf_starts_valid c.args.space.now c.args.start.now c.args.limit functions s c.args.resumes.now calls starts)
 
+pub returns-clause-known : goal.returns-clause-known
+returns-clause-known g c s callers frames starts =
+    let d = known_delivered c.args.space.now c.args.start.now c.args.exception c.args.resumes.now c.args.limit s callers frames c.image.ensures.apart c.image.ensures.laid_out c.fresh_delivery.ensures.whole starts in
+    ending_delivered c.fresh_delivery.result c.fresh_delivery.new.room _ d.delivered (λ (x : DeliveryValue). ShowsKnownDelivery x c.args.exception s callers frames) c.fresh_delivery.ensures.exact d.is d.shows
+
 pub returns-clause-ticks : goal.returns-clause-ticks
 returns-clause-ticks g c =
     rises_up_to c.args.space.now _ _ _ _ (few_in_delivery c.args.space.now c.args.start.now c.args.exception c.args.resumes.now c.args.limit) c.fresh_delivery.ensures.ticks
@@ -36,6 +43,12 @@ returns-clause-ticks g c =
 pub returns-clause-chain_searches_in : goal.returns-clause-chain_searches_in
 returns-clause-chain_searches_in g c functions s calls starts =
     let d = chain_delivered c.args.space.now c.args.start.now c.args.exception c.args.resumes.now c.args.limit functions s calls c.image.ensures.apart c.image.ensures.laid_out c.fresh_delivery.ensures.whole starts in
+    let few = few_delivered c.fresh_delivery.result c.fresh_delivery.new.room _ d.delivered (met_in_delivery c.args.space.now c.args.start.now c.args.exception c.args.resumes.now c.args.limit) c.fresh_delivery.ensures.exact d.is d.few in
+    rises_up_to c.args.space.now _ _ _ _ few c.fresh_delivery.ensures.ticks
+
+pub returns-clause-known_searches : goal.returns-clause-known_searches
+returns-clause-known_searches g c s callers frames starts =
+    let d = known_delivered c.args.space.now c.args.start.now c.args.exception c.args.resumes.now c.args.limit s callers frames c.image.ensures.apart c.image.ensures.laid_out c.fresh_delivery.ensures.whole starts in
     let few = few_delivered c.fresh_delivery.result c.fresh_delivery.new.room _ d.delivered (met_in_delivery c.args.space.now c.args.start.now c.args.exception c.args.resumes.now c.args.limit) c.fresh_delivery.ensures.exact d.is d.few in
     rises_up_to c.args.space.now _ _ _ _ few c.fresh_delivery.ensures.ticks
 

@@ -1,0 +1,197 @@
+-- What is delivered to a stack, of each of whose frames it is known how its caller's state follows and what it asks, is what the
+-- definition says of these frames.
+use Rattle.std.proofs.Common.{◌≡◌, ℕ, length, ◌+◌, ◌*◌, ◌≤◌, length-append, Bool, true, false, List, [], ◌∷◌, ◌++◌, get_or, Option, Some, None, Result, Ok, refl, sym, ap, subst, ◌∙◌, arith}
+use Rattle.std.specs.Prelude.{IsTrue, IfSome, map}
+use Rattle.std.specs.Option.{option_map_or}
+use Rattle.memory_image.specs.Image.{IsLaidOut}
+use Rattle.unwind_definitions.specs.State.{State, IsState}
+use Rattle.unwind_definitions.specs.Function.{Action, NoAction, Cleanup, Catch, Filter, Terminate}
+use Rattle.unwind_definitions.specs.Delivery as described
+use Rattle.frame_facts.specs.FactDeliveries as asked
+use Rattle.frame_facts.specs.FactDeliveries.{AskedFrame, past, frame_decides, asked_states, delivery_decided_by, delivery_to_handler}
+use Rattle.unwind_arch.specs.declared.x86_64.Context.{Context}
+use Rattle.unwind_arch.specs.ContextViews.{columns_of}
+use Rattle.stack_steps.specs.declared.answers.DeliverError.{DeliverError}
+use Rattle.stack_steps.specs.Modules.{SpaceValue, AreApart}
+use Rattle.stack_steps.specs.KnownStacks.{IsKnownStack}
+use Rattle.stack_steps.proofs.ContextLemmas.{IsWhole}
+use Rattle.stack_walks.specs.declared.outward.Phase.TheVariants as phase
+use Rattle.stack_walks.specs.Walking.{EachShows}
+use Rattle.stack_walks.specs.Turns.{Stop, pass_of, mark_at, pad_of}
+use Rattle.stack_walks.proofs.KnownLines.{called_state, known_walked}
+use Rattle.stack_deliver.specs.declared.answers.Outcome.TheVariants.{EndOfStack, FatalPhase1}
+use Rattle.stack_deliver.specs.KnownDeliveries.{AreAsked, MayGoOnAt, ResumesBy, EachResumesBy, StartsKnownDelivery, ShowsKnownDelivery}
+use Rattle.stack_deliver.specs.Passes.{CleanupsRun, passes_of}
+use Rattle.stack_deliver.specs.Searches.{met_in_passes, met_after_stop, met_in_delivery}
+use Rattle.stack_walks.proofs.TurnCounts.{line_met}
+use Rattle.std.proofs.lemmas.List.{length-map}
+use Rattle.stack_deliver.specs.StackDelivery.{DeliveryValue, delivery_after, no_delivery, delivery_at, delivery_to, stack_delivery}
+use Rattle.stack_deliver.specs.StateViews.{state_of, outcome_of}
+use Rattle.stack_deliver.proofs.Chains.{shown_states}
+use Rattle.stack_deliver.proofs.KnownPasses.{deciding, inside, seen, StopIs, StopShows, SearchShows, AreMet, GoesOnMet, EachGoesOn, search_shows, lands_in, passes_show}
+use Rattle.stack_deliver.proofs.KnownTurns.{IsMet, link_met}
+use Rattle.stack_deliver.proofs.PassRuns.{by_pass, by_count}
+use Rattle.stack_deliver.proofs.Turns.{pass_ends_at}
+
+-- ---- what is known of a stack is met
+
+module _ (space : SpaceValue) (apart : AreApart 0 space.modules) (laid : IsLaidOut 0 space.image) where
+  frames_met : (s : State) (callers : List State) (stack : IsKnownStack space false s callers) (frames : List AskedFrame) → AreAsked space s callers stack frames → AreMet space s callers frames
+  frames_met s [] stack frames asks = (asks, λ c p room some shows. pass_ends_at space apart laid [] c s p room some shows (record { state = stack.state; ends = stack.ends }))
+  frames_met s (t ∷ callers) stack [] asks = absurd asks
+  frames_met s (t ∷ callers) stack (f ∷ frames) asks =
+      (asks.0, link_met space apart laid s t stack.0 f.action f.arguments (called_state space t callers stack.1) asks.1, frames_met t callers stack.1 frames asks.2)
+
+  resumes_met : (resumes : List (ℕ × ℕ)) (f : AskedFrame) (t : State) → IsState t → ResumesBy space resumes f t → GoesOnMet space resumes f t
+  resumes_met resumes f t fits goes = go (described.cleanup_pad f.action) goes
+    where
+      go : (o : Option ℕ) → IfSome o (λ pad. (ret : ℕ) × (described.resume_of resumes pad ≡ Some ret) × MayGoOnAt space (record (past f) { ra = ret }) t) →
+          IfSome o (λ pad. (ret : ℕ) × (described.resume_of resumes pad ≡ Some ret) × ((size : ℕ) × IsMet space (record (past f) { ra = ret }) NoAction size t))
+      go None goes = tt
+      go (Some pad) goes =
+          let on : MayGoOnAt space (record (past f) { ra = goes.0 }) t = goes.2 in
+          (goes.0, goes.1, (on.arguments, link_met space apart laid (record (past f) { ra = goes.0 }) t on.link NoAction on.arguments fits on.silent))
+
+  each_met : (resumes : List (ℕ × ℕ)) (s : State) (callers : List State) → IsKnownStack space false s callers → (frames : List AskedFrame) → EachResumesBy space resumes callers frames → EachGoesOn space resumes callers frames
+  each_met resumes s callers stack [] each = tt
+  each_met resumes s [] stack (f ∷ frames) each = absurd each
+  each_met resumes s (t ∷ callers) stack (f ∷ frames) each = (resumes_met resumes f t (called_state space t callers stack.1) each.0, each_met resumes t callers stack.1 frames each.1)
+
+-- ---- the delivery
+
+-- a frame that is found decides
+decides_found : (fs : List AskedFrame) (f : AskedFrame) → deciding fs ≡ Some f → frame_decides f ≡ true
+decides_found [] f found = absurd cc
+decides_found (g ∷ gs) f found = go (λ e. decides_found gs f e) (frame_decides g) refl
+  where
+    go : (deciding gs ≡ Some f → frame_decides f ≡ true) → (b : Bool) → frame_decides g ≡ b → frame_decides f ≡ true
+    go later true is =
+        let here : deciding (g ∷ gs) ≡ Some g = rw is refl in
+        let both : ◌≡◌ {A = Option AskedFrame} (Some g) (Some f) = sym here ∙ found in
+        let same : g ≡ f = cc in
+        ap frame_decides (sym same) ∙ is
+    go later false is = let beyond : deciding (g ∷ gs) ≡ deciding gs = rw is refl in later (sym beyond ∙ found)
+
+abbrev made : List State → List (ℕ × ℕ) → Option described.Landing → described.Outcome → described.Delivery
+made visited trail landing outcome = record { visited = visited; trail = trail; landing = landing; outcome = outcome }
+
+same_made : (v w : List State) (t u : List (ℕ × ℕ)) (l m : Option described.Landing) (o q : described.Outcome) → v ≡ w → t ≡ u → l ≡ m → o ≡ q → made v t l o ≡ made w u m q
+same_made v w t u l m o q a b c d = ap (λ x. made x t l o) a ∙ ap (λ x. made w x l o) b ∙ ap (λ x. made w u x o) c ∙ ap (λ x. made w u m x) d
+
+-- a delivery that is what the definition says, and how many contexts it meets
+pub record DeliversKnown (exception : ℕ) (s : State) (callers : List State) (frames : List AskedFrame) (r : Result DeliveryValue DeliverError) (met : ℕ) : Type 0 where
+  pub delivered : DeliveryValue
+  pub is : r ≡ Ok delivered
+  pub shows : ShowsKnownDelivery delivered exception s callers frames
+  pub few : met ≤ 2 * length delivered.visited + length delivered.trail
+
+module _ (space : SpaceValue) (c : Context) (exception : ℕ) (resumes : List (ℕ × ℕ)) (limit : ℕ) (s : State) (callers : List State) (frames : List AskedFrame) (apart : AreApart 0 space.modules) (laid : IsLaidOut 0 space.image) (whole : IsWhole c)
+    (is : StartsKnownDelivery space c resumes limit s callers frames) where
+  are : AreMet space s callers frames
+  are = frames_met space apart laid s callers is.starts.stack frames is.asked
+
+  abbrev passes : ℕ → Result CleanupsRun DeliverError
+  passes kept = passes_of space exception kept resumes limit limit c
+
+  abbrev Delivers : Result DeliveryValue DeliverError → ℕ → Type 0
+  Delivers = DeliversKnown exception s callers frames
+
+  -- how many contexts are met by a search that visits these, and by the passes toward where it stopped
+  abbrev met : List Context → Option Stop → ℕ
+  met contexts stop = length contexts + met_after_stop stop (λ kept. met_in_passes space exception kept resumes limit limit c)
+
+  due : Option AskedFrame → described.Delivery
+  due o = option_map_or (λ (f : AskedFrame). delivery_decided_by exception (inside frames) f f.action) o (described.delivery_without_handler (s ∷ callers) described.EndOfStack)
+
+  -- no frame decides
+  undecided : (contexts : List Context) → deciding frames ≡ None → EachShows contexts (s ∷ callers) → Delivers (delivery_to contexts None passes) (met contexts None)
+  unfolding due
+  undecided contexts none states = record {
+    delivered = no_delivery contexts EndOfStack;
+    is = refl;
+    shows = ap (λ (visited : List State). made visited [] None described.EndOfStack) (shown_states contexts (s ∷ callers) states) ∙ sym (ap due none);
+    few = omega arith;
+  }
+
+  module _ (contexts : List Context) (stop : Stop) (f : AskedFrame) (decided : deciding frames ≡ Some f) (stops : StopIs stop f) (states : EachShows contexts (seen (s ∷ callers) frames (Some f))) where
+    visited : map state_of contexts ≡ asked_states (inside frames) ++ f.state ∷ []
+    visited = shown_states contexts (seen (s ∷ callers) frames (Some f)) states
+
+    -- the frames inside the one that decides, and that one
+    visited_count : length contexts ≡ length (inside frames) + 1
+    visited_count =
+        sym (length-map contexts state_of) ∙ ap (λ (ss : List State). length ss) visited
+        ∙ length-append (asked_states (inside frames)) (f.state ∷ [])
+        ∙ ap (λ (n : ℕ). n + 1) (length-map (inside frames) (λ (g : AskedFrame). g.state))
+
+    due_is : (x : Action) → f.action ≡ x → asked.delivery_to exception (s ∷ callers) frames ≡ delivery_decided_by exception (inside frames) f x
+    unfolding due
+    due_is x acts = ap due decided ∙ ap (delivery_decided_by exception (inside frames) f) acts
+
+    pad_is : (x : Action) → f.action ≡ x → pad_of stop.action ≡ pad_of x
+    pad_is x acts = ap pad_of (stops.action ∙ acts)
+
+    terminates : (x : Action) → f.action ≡ x → pad_of x ≡ None → delivery_decided_by exception (inside frames) f x ≡ described.delivery_without_handler (asked_states (inside frames) ++ f.state ∷ []) described.FatalPhase1 →
+        Delivers (delivery_to contexts (Some stop) passes) (met contexts (Some stop))
+    terminates x acts none ends = record {
+      delivered = no_delivery contexts FatalPhase1;
+      is = ap (λ (o : Option ℕ). delivery_at contexts o (passes (mark_at stop.context stop.interrupted))) (pad_is x acts ∙ none);
+      shows = ap (λ (v : List State). made v [] None described.FatalPhase1) visited ∙ sym (due_is x acts ∙ ends);
+      few = let here : met_after_stop (Some stop) (λ kept. met_in_passes space exception kept resumes limit limit c) ≡ 0 = rw (pad_is x acts, none) refl in omega arith;
+    }
+
+    kept_is : mark_at stop.context stop.interrupted ≡ f.state.sp
+    kept_is = ap (mark_at stop.context) stops.unmarked ∙ sp
+      where
+        sp : get_or stop.context.registers 7 0 ≡ f.state.sp
+        sp = let e : columns_of stop.context 7 ≡ Some f.state.sp = stops.shows.sp in cc
+
+    accepted : (x : Action) (pad : ℕ) → f.action ≡ x → IsTrue (described.accepts x) → pad_of x ≡ Some pad → delivery_decided_by exception (inside frames) f x ≡ delivery_to_handler exception (inside frames) f pad →
+        lands_in space exception (mark_at stop.context stop.interrupted) resumes limit (past f) x ≡ Some (described.landing_at exception (past f) pad) →
+        Delivers (delivery_to contexts (Some stop) passes) (met contexts (Some stop))
+    accepted x pad acts accepts named handles lands =
+        let kept : ℕ = mark_at stop.context stop.interrupted in
+        let accepting : IsTrue (described.accepts f.action) = subst (λ (y : Action). IsTrue (described.accepts y)) (sym acts) accepts in
+        let within = is.starts.shorter in
+        let walked = known_walked space apart laid c limit false s callers is.starts in
+        let shown = passes_show space exception kept resumes limit s callers frames c limit limit f are walked.2.rise is.starts.shows whole within within (omega arith) decided accepting kept_is
+        (each_met space apart laid resumes s callers is.starts.stack (inside frames) (is.resumed f decided accepting)) in
+        let toward : met_after_stop (Some stop) (λ kept. met_in_passes space exception kept resumes limit limit c) ≡ met_in_passes space exception kept resumes limit limit c = rw (pad_is x acts, named) refl in
+        let counted = by_count space exception kept resumes limit limit c in
+        let run_met = shown.met in
+        let long = visited_count in
+        let run : passes kept ≡ Ok shown.passed = by_pass space exception kept resumes limit limit c ∙ shown.is in
+        record {
+          delivered = record { visited = contexts; trail = shown.passed.trail; outcome = shown.passed.ending.outcome; landing = shown.passed.ending.landing };
+          is = ap (λ (o : Option ℕ). delivery_at contexts o (passes kept)) (pad_is x acts ∙ named) ∙ ap (delivery_after contexts) run;
+          shows = same_made _ _ _ _ _ _ _ _ visited shown.trail (shown.landing ∙ ap (lands_in space exception kept resumes limit (past f)) acts ∙ lands) (ap outcome_of shown.outcome) ∙ sym (due_is x acts ∙ handles);
+          few = omega arith;
+        }
+
+    -- the frame that decides
+    by_action : (x : Action) → f.action ≡ x → Delivers (delivery_to contexts (Some stop) passes) (met contexts (Some stop))
+    by_action NoAction acts =
+        let decides : frame_decides f ≡ true = decides_found frames f decided in
+        let not : frame_decides f ≡ false = ap described.decides acts in
+        absurd cc
+    by_action (Cleanup pad) acts =
+        let decides : frame_decides f ≡ true = decides_found frames f decided in
+        let not : frame_decides f ≡ false = ap described.decides acts in
+        absurd cc
+    by_action (Catch pad) acts = accepted (Catch pad) pad acts refl refl refl refl
+    by_action (Filter pad) acts = accepted (Filter pad) pad acts refl refl refl refl
+    by_action Terminate acts = terminates Terminate acts refl refl
+
+  by_stop : (contexts : List Context) (o : Option AskedFrame) (stop : Option Stop) → deciding frames ≡ o → StopShows stop o → EachShows contexts (seen (s ∷ callers) frames o) → Delivers (delivery_to contexts stop passes) (met contexts stop)
+  by_stop contexts None None decided stops states = undecided contexts decided states
+  by_stop contexts (Some f) (Some stop) decided stops states = by_action contexts stop f decided stops states f.action refl
+  by_stop contexts None (Some stop) decided stops states = absurd stops
+  by_stop contexts (Some f) None decided stops states = absurd stops
+
+  -- What is delivered is what the definition says.
+  pub known_delivered : Delivers (stack_delivery space c exception resumes limit) (met_in_delivery space c exception resumes limit)
+  unfolding stack_delivery met_in_delivery
+  known_delivered =
+      let search : SearchShows (pass_of phase.Search space limit c false) (s ∷ callers) frames = search_shows space s callers frames c limit are is.starts.shows is.starts.shorter in
+      let counted = line_met (Some phase.Search) space limit c false search.line search.is in
+      rw (search.is, counted) (by_stop search.line.contexts (deciding frames) search.line.stop refl search.stop search.states)
