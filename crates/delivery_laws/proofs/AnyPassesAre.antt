@@ -1,13 +1,13 @@
 -- The passes of a delivery are those over any stack, by the step of its space and the personality of Rust.
 use Rattle.std.proofs.Common.{inl, inr, ◌≡◌, ℕ, zero, suc, Bool, true, false, List, ◌∷◌, length, map, set, Option, Some, None, Result, Ok, Err, refl, sym, ap, subst, ◌∙◌, ◌+◌, ◌%◌, ◌^◌, arith}
-use Rattle.std.specs.Prelude.{pos, ◌⊎◌, ◌↔◌, is_some, if◌then◌else◌, ◌==◌, slice_index}
-use Rattle.std.specs.Option.{option_map_or}
+use Rattle.std.specs.Prelude.{◌⊎◌, ◌↔◌, is_some, if◌then◌else◌, ◌==◌, slice_index}
+use Rattle.std.specs.Option.{option_map, option_map_or}
 use Rattle.std.specs.Result.{result_map_both}
 use Rattle.std.proofs.Math.ListN.{length-set}
-use Rattle.unwind_definitions.specs.Row.{RowInstructions, argument_size}
+use Rattle.unwind_definitions.specs.Row.{RowInstructions}
 use Rattle.unwind_definitions.specs.Caller.{Columns, StepFault, x86_64, caller_of}
 use Rattle.unwind_definitions.specs.Function.{Action, NoAction, Cleanup, Catch, Filter, Terminate}
-use Rattle.unwind_definitions.specs.LanguageSearch.{LanguagePlace, personality_address, address_of_call, language_action}
+use Rattle.unwind_definitions.specs.LanguageSearch.{LanguagePlace, personality_address, address_of_call, language_action, place_action}
 use Rattle.frame_rows.specs.RowValue.{RowValue}
 use Rattle.unwind_arch.specs.declared.x86_64.Context.{Context}
 use Rattle.unwind_definitions.specs.Columns.{rsp}
@@ -21,32 +21,35 @@ use Rattle.unwinding_frames.specs.FrameValue.{FrameValue}
 use Rattle.unwinding_frames.specs.OneLine as one
 use Rattle.unwinding_frames.specs.Passes.{Marked, without_mark, Answering, LineEnd, RanOut, Decides, Fails, Crowded, is_code, by_personality, cleanup_actions, cleanup_end, mark_of, turn_asked, turn_seen, goes, answer_of_personality}
 use Rattle.unwinding_frames.specs.Passes as any
-use Rattle.unwinding_frames.specs.Personalities.{Asked, Answer, search_answer}
+use Rattle.unwinding_frames.specs.Personalities.{Answer, search_answer, action_seen, rust_answers}
 use Rattle.unwinding_frames.specs.Seen.{Thrown}
 use Rattle.stack_deliver.specs.declared.answers.Outcome.TheVariants.{FatalPhase1}
 use Rattle.stack_steps.specs.declared.answers.DeliverError.{DeliverError}
-use Rattle.stack_steps.specs.declared.answers.DeliverError.TheVariants.{CompactHandler, FrameLimit, PassLimit, PeHandler}
+use Rattle.stack_steps.specs.declared.answers.DeliverError.TheVariants.{FrameLimit, PassLimit}
 use Rattle.stack_walks.specs.declared.outward.Phase.{Phase}
 use Rattle.stack_walks.specs.declared.outward.Phase.TheVariants as phase
-use Rattle.delivery_laws.specs.AnyPasses.{marked_of, no_routine, undoing_in, sees_in, stepping_in, rust_in, answer_left, Search, TakenBy, Untaken, search_end, search_stop, search_line, search_of, pass_end, FollowedBy, ResumedBy, IsSearchBy, IsPassBy, ArePassesBy, IsDeliveredAfter, IsDeliveredBy, IsDeliveryBy}
+use Rattle.delivery_laws.specs.AnyPasses.{marked_of, placed_routine, place_named, asked_with, seen_at, undoing_in, sees_in, stepping_in, rust_in, answer_left, Search, TakenBy, Untaken, search_end, search_stop, search_line, search_of, pass_end, FollowedBy, ResumedBy, IsSearchBy, IsPassBy, ArePassesBy, IsDeliveredAfter, IsDeliveredBy, IsDeliveryBy}
 use Rattle.stack_steps.specs.Modules.{SpaceValue}
-use Rattle.stack_steps.specs.Asking.{action_if_named, action_asked, arguments_of, or_terminate, recorded_table, table_if_named, unless_handled}
+use Rattle.stack_steps.specs.Asking.{action_if_named, action_asked, arguments_of, compact_table, named_table, or_terminate, recorded_table, table_if_named}
 use Rattle.stack_walks.specs.Turns.{Line, Stop, Turn, Ends, Stops, Goes, stops, stop_by, turn_at, turn_in, turn_for, line_turn, line_for, pass_of, past_arguments, pad_of, enters, mark_at, with_context}
 use Rattle.stack_deliver.specs.Passes.{PassEnd, Finishes, Elsewhere, end_at, end_by, end_of, cleanup_of, ending_at, cleanup_at, resume_at, CleanupsRun, with_cleanup, cleanup_and_rest, after_pass, passes_of}
 use Rattle.stack_deliver.specs.StackDelivery.{DeliveryValue, delivery_after, delivery_at, delivery_to, delivery_by, stack_delivery}
 use Rattle.stack_deliver.specs.Resumes.{return_of}
-use Rattle.delivery_laws.specs.Personality.{InCleanup, IsAsked, AnswersCleanup, answer_for}
+use Rattle.delivery_laws.specs.Personality.{landing_columns, InCleanup, AnswersCleanup}
 use Rattle.memory_image.specs.Results.{◌>>=◌, result_map}
 use Rattle.stack_steps.specs.Stepping.{FrameAt, DescribedFrame, Described, Compact, Recorded, frame_of, caller_by, next_with, opcode_caller, pe_refusal, recorded_columns, refusal_of}
+use Rattle.macho_unwind_info.specs.declared.error.Error.{Error}
+use Rattle.macho_unwind_info.specs.declared.function.Function.{Function as Listed}
 use Rattle.macho_unwind_info.specs.X86_64.{opcode_of}
 use Rattle.pe_unwind_info.specs.declared.x86_64.fault.FrameFault.{FrameFault}
-use Rattle.format_definitions.specs.CompactStep.{compact_step}
+use Rattle.format_definitions.specs.CompactStep.{MachoModule, opcode_step}
 use Rattle.format_definitions.specs.CompactStep as compact
-use Rattle.format_definitions.specs.PeImage.{memory_of}
+use Rattle.pe_unwind_info.specs.declared.x86_64.function_table.RuntimeFunction.{RuntimeFunction}
+use Rattle.format_definitions.specs.PeImage.{PeModule}
 use Rattle.format_definitions.specs.PeStep.{PeFault}
-use Rattle.format_frames.specs.Handlers.{has_language_table, handler_in}
+use Rattle.format_frames.specs.Handlers.{macho_place, pe_place}
 use Rattle.stack_steps.proofs.ContextLemmas.{IsWhole, context_of-columns}
-use Rattle.delivery_laws.proofs.PersonalityAsks.{answers_search, answers_cleanup}
+use Rattle.delivery_laws.proofs.PersonalityAsks.{seen_search, seen_cleanup}
 
 -- a landing pad is entered past the arguments
 past_then_enters : (c : Context) (size exception pad : ℕ) → IsWhole c → past_arguments (enters c exception pad) size ≡ enters (past_arguments c size) exception pad
@@ -91,9 +94,6 @@ module _ (space : SpaceValue) (row : RowInstructions → RowValue) (thrown : Thr
     pub is : p.answers routine acts f x ≡ (code, left)
     pub agrees : Answers ph x f action (stops ph action) code left
 
-  abbrev asked_with : UnwindAction → ℕ → Asked
-  asked_with acts routine = record { routine = routine; version = pos 1; actions = acts; class = thrown.class; exception = thrown.word }
-
   abbrev value_of : DescribedFrame → FrameValue
   value_of f = record { found = f.found; row = row f.run }
 
@@ -103,43 +103,50 @@ module _ (space : SpaceValue) (row : RowInstructions → RowValue) (thrown : Thr
   abbrev left_with : UnwindReasonCode → Context → UnwindReasonCode × Context
   left_with code c = (code, c)
 
-  module _ (x : Marked Context) (f : DescribedFrame) (routine : ℕ) (action : Action) (whole : IsWhole x.context) (is : IsAsked space.image x.context x.signal (value_of f) action) where
-    search_answers : (a : Action) → Answers phase.Search x (Described f) a (stops phase.Search a) (search_answer a) x.context
+  -- a frame is seen as one of call frame information, or by the place of its language table, which asks for an action
+  record IsSeen (x : Marked Context) (f : FrameAt) (routine : ℕ) (action : Action) : Type 0 where
+    pub frame : Option FrameValue
+    pub place : Option LanguagePlace
+    pub answers : (acts : UnwindAction) → p.answers routine acts f x ≡ answer_left (rust_answers landing_columns (asked_with thrown acts routine) (seen_at space x frame place))
+    pub told : or_terminate (action_seen space.image frame place (address_of_call x.context.ra x.signal)) ≡ action
+
+  module _ (x : Marked Context) (f : FrameAt) (routine : ℕ) (action : Action) (whole : IsWhole x.context) (is : IsSeen x f routine action) where
+    search_answers : (a : Action) → Answers phase.Search x f a (stops phase.Search a) (search_answer a) x.context
     search_answers NoAction = (refl, refl)
     search_answers (Cleanup pad) = (refl, refl)
     search_answers (Catch pad) = (refl, (refl, refl))
     search_answers (Filter pad) = (refl, (refl, refl))
     search_answers Terminate = (refl, (refl, refl))
 
-    searches : Answered phase.Search actions.SEARCH_PHASE x (Described f) routine action
+    searches : Answered phase.Search actions.SEARCH_PHASE x f routine action
     searches = record {
       code = search_answer action;
       left = x.context;
-      is = ap answer_left (answers_search space.image x.context x.signal (value_of f) action (asked_with actions.SEARCH_PHASE routine) is (record { version = refl; search = refl })) ∙ ap (left_with (search_answer action)) (whole_left x.context whole);
+      is = is.answers actions.SEARCH_PHASE ∙ ap answer_left (seen_search space.image x.context x.signal is.frame is.place action (asked_with thrown actions.SEARCH_PHASE routine) is.told (record { version = refl; search = refl })) ∙ ap (left_with (search_answer action)) (whole_left x.context whole);
       agrees = search_answers action;
     }
 
     abbrev answer_to : UnwindAction → Answer
-    answer_to acts = answer_for (asked_with acts routine) space.image (value_of f) x.context x.signal
+    answer_to acts = rust_answers landing_columns (asked_with thrown acts routine) (seen_at space x is.frame is.place)
 
-    cleans : (acts : UnwindAction) → InCleanup (asked_with acts routine) → Answered phase.Cleanup acts x (Described f) routine action
-    cleans acts in_cleanup = go action (answer_to acts) refl (answers_cleanup space.image x.context x.signal (value_of f) action (asked_with acts routine) is in_cleanup whole)
+    cleans : (acts : UnwindAction) → InCleanup (asked_with thrown acts routine) → Answered phase.Cleanup acts x f routine action
+    cleans acts in_cleanup = go action (answer_to acts) refl (seen_cleanup space.image x.context x.signal is.frame is.place action (asked_with thrown acts routine) is.told in_cleanup whole)
       where
-        stays : (a : Action) (code : UnwindReasonCode) → answer_to acts ≡ (code, columns_of x.context) → Answers phase.Cleanup x (Described f) a (stops phase.Cleanup a) code x.context → Answered phase.Cleanup acts x (Described f) routine a
-        stays a code same agrees = record { code = code; left = x.context; is = ap answer_left same ∙ ap (left_with code) (whole_left x.context whole); agrees = agrees }
+        stays : (a : Action) (code : UnwindReasonCode) → answer_to acts ≡ (code, columns_of x.context) → Answers phase.Cleanup x f a (stops phase.Cleanup a) code x.context → Answered phase.Cleanup acts x f routine a
+        stays a code same agrees = record { code = code; left = x.context; is = is.answers acts ∙ ap answer_left same ∙ ap (left_with code) (whole_left x.context whole); agrees = agrees }
 
-        installs : (a : Action) (pad : ℕ) → answer_to acts ≡ (INSTALL_CONTEXT, columns_of (enters x.context thrown.word pad)) → Answers phase.Cleanup x (Described f) a (stops phase.Cleanup a) INSTALL_CONTEXT (enters x.context thrown.word pad) → Answered phase.Cleanup acts x (Described f) routine a
+        installs : (a : Action) (pad : ℕ) → answer_to acts ≡ (INSTALL_CONTEXT, columns_of (enters x.context thrown.word pad)) → Answers phase.Cleanup x f a (stops phase.Cleanup a) INSTALL_CONTEXT (enters x.context thrown.word pad) → Answered phase.Cleanup acts x f routine a
         installs a pad same agrees = record {
           code = INSTALL_CONTEXT;
           left = enters x.context thrown.word pad;
-          is = ap answer_left same ∙ ap (left_with INSTALL_CONTEXT) (whole_left (enters x.context thrown.word pad) (enters_whole x.context thrown.word pad whole));
+          is = is.answers acts ∙ ap answer_left same ∙ ap (left_with INSTALL_CONTEXT) (whole_left (enters x.context thrown.word pad) (enters_whole x.context thrown.word pad whole));
           agrees = agrees;
         }
 
-        entered : (pad : ℕ) → (is_code INSTALL_CONTEXT INSTALL_CONTEXT ≡ true) × (past_arguments (enters x.context thrown.word pad) (argument_size f.run) ≡ enters (past_arguments x.context (argument_size f.run)) thrown.word pad) × IsWhole (past_arguments (enters x.context thrown.word pad) (argument_size f.run))
-        entered pad = (refl, past_then_enters x.context (argument_size f.run) thrown.word pad whole, past_whole (enters x.context thrown.word pad) (argument_size f.run) (enters_whole x.context thrown.word pad whole))
+        entered : (pad : ℕ) → (is_code INSTALL_CONTEXT INSTALL_CONTEXT ≡ true) × (past_arguments (enters x.context thrown.word pad) (arguments_of f) ≡ enters (past_arguments x.context (arguments_of f)) thrown.word pad) × IsWhole (past_arguments (enters x.context thrown.word pad) (arguments_of f))
+        entered pad = (refl, past_then_enters x.context (arguments_of f) thrown.word pad whole, past_whole (enters x.context thrown.word pad) (arguments_of f) (enters_whole x.context thrown.word pad whole))
 
-        go : (a : Action) (r : Answer) → answer_to acts ≡ r → AnswersCleanup a thrown.word x.context r → Answered phase.Cleanup acts x (Described f) routine a
+        go : (a : Action) (r : Answer) → answer_to acts ≡ r → AnswersCleanup a thrown.word x.context r → Answered phase.Cleanup acts x f routine a
         go NoAction r same so = stays NoAction CONTINUE_UNWIND (same ∙ so) (refl, refl)
         go (Cleanup pad) r same so = installs (Cleanup pad) pad (same ∙ so) (refl, entered pad)
         go (Catch pad) r same so = installs (Catch pad) pad (same ∙ so) (refl, entered pad)
@@ -151,7 +158,7 @@ module _ (space : SpaceValue) (row : RowInstructions → RowValue) (thrown : Thr
 
   -- the actions of a phase, and what frames answer to them
   abbrev AreAnswered : Phase → (Marked Context → UnwindAction) → Type 0
-  AreAnswered ph acts = (x : Marked Context) (f : DescribedFrame) (routine : ℕ) (action : Action) → IsWhole x.context → IsAsked space.image x.context x.signal (value_of f) action → Answered ph (acts x) x (Described f) routine action
+  AreAnswered ph acts = (x : Marked Context) (f : FrameAt) (routine : ℕ) (action : Action) → IsWhole x.context → IsSeen x f routine action → Answered ph (acts x) x f routine action
 
   abbrev Turned : Phase → Marked Context → Result Turn DeliverError → any.Turn Context DeliverError (Unit {0}) → Type 0
   Turned ph x (Ok Ends) g = g ≡ any.Ends tt (RanOut x)
@@ -169,7 +176,7 @@ module _ (space : SpaceValue) (row : RowInstructions → RowValue) (thrown : Thr
           go : (r : Result Columns StepFault) → Turned ph x (result_map Goes (result_map_both (next_with f.found.fde.cie.letters.signal) refusal_of r)) (goes tt (result_map marked_of (result_map_both (next_with f.found.fde.cie.letters.signal) refusal_of r)))
           go (Ok columns) = (refl, refl)
           go (Err e) = refl
-      called (Compact m a listed) = go (compact_step space.image m.frames (m.base + listed.start_address) a (columns_of x.context) (opcode_of listed.opcode))
+      called (Compact m listed) = go (opcode_step space.image (m.base + listed.start_address) (columns_of x.context) (opcode_of listed.opcode))
         where
           go : (o : Option (Result compact.Stepped StepFault)) → Turned ph x (result_map Goes (opcode_caller o)) (goes tt (result_map marked_of (opcode_caller o)))
           go None = refl
@@ -203,7 +210,7 @@ module _ (space : SpaceValue) (row : RowInstructions → RowValue) (thrown : Thr
             Framed (Described f) (Ok (or_terminate (language_action space.image f.found.bases f.found.fde (address_of_call x.context.ra x.signal)))) (Ok (p.answers routine (acts x) (Described f) x))
         named routine is =
             let action : Action = or_terminate (language_action space.image f.found.bases f.found.fde (address_of_call x.context.ra x.signal)) in
-            let a = answered x f routine action whole (record { routine = routine; named = is; asks = ap (λ (r : Result (Option ℕ) StepFault). acted (table_if_named space.image f.found r)) is }) in
+            let a = answered x (Described f) routine action whole (record { frame = Some (value_of f); place = None; answers = λ acts. refl; told = refl }) in
             subst (λ (r : UnwindReasonCode × Context). Framed (Described f) (Ok action) (Ok r)) (sym a.is) (spoken (Described f) action a.code a.left (stops ph action) refl a.agrees)
 
         described : Framed (Described f) (action_asked space.image x.context x.signal (Described f)) (answer_of_personality p (acts x) (Described f) x)
@@ -215,18 +222,37 @@ module _ (space : SpaceValue) (row : RowInstructions → RowValue) (thrown : Thr
             go (Ok None) is = silent (Described f)
             go (Ok (Some routine)) is = named routine is
 
-      handled : (f : FrameAt) (names : Bool) (e : DeliverError) → Framed f (acted (unless_handled names e)) (any.asked_if_named p (acts x) f x (no_routine (unless_handled names e)))
-      handled f true e = refl
-      handled f false e = silent f
+      -- by the place of a language table, if it has one
+      by_place : (f : FrameAt) → ((acts : UnwindAction) → p.answers 0 acts f x ≡ answer_left (rust_answers landing_columns (asked_with thrown acts 0) (seen_at space x None (place_named (named_table space.image f))))) →
+          (r : Result (Option LanguagePlace) DeliverError) → named_table space.image f ≡ result_map (option_map Ok) r →
+          Framed f (acted (result_map (option_map Ok) r)) (any.asked_if_named p (acts x) f x (placed_routine (result_map (option_map Ok) r)))
+      by_place f answers (Err e) is = refl
+      by_place f answers (Ok None) is = silent f
+      by_place f answers (Ok (Some place)) is =
+          let action : Action = or_terminate (place_action space.image place (address_of_call x.context.ra x.signal)) in
+          let named : place_named (named_table space.image f) ≡ Some place = ap place_named is in
+          let a = answered x f 0 action whole (record {
+            frame = None;
+            place = Some place;
+            answers = λ k. answers k ∙ ap (λ (o : Option LanguagePlace). answer_left (rust_answers landing_columns (asked_with thrown k 0) (seen_at space x None o))) named;
+            told = refl;
+          }) in
+          subst (λ (q : UnwindReasonCode × Context). Framed f (Ok action) (Ok q)) (sym a.is) (spoken f action a.code a.left (stops ph action) refl a.agrees)
 
-      recorded : (f : FrameAt) (r : Result Bool FrameFault) → Framed f (acted (recorded_table r)) (any.asked_if_named p (acts x) f x (no_routine (recorded_table r)))
-      recorded f (Ok names) = handled f names PeHandler
-      recorded f (Err e) = refl
+      compacted : (m : MachoModule) (listed : Listed) (r : Result (Option LanguagePlace) Error) → macho_place space.image m listed ≡ r →
+          Framed (Compact m listed) (acted (compact_table r)) (any.asked_if_named p (acts x) (Compact m listed) x (placed_routine (compact_table r)))
+      compacted m listed (Ok o) is = by_place (Compact m listed) (λ k. refl) (Ok o) (ap compact_table is)
+      compacted m listed (Err e) is = refl
+
+      recorded : (m : PeModule) (rva : ℕ) (function : Option RuntimeFunction) (r : Result (Option LanguagePlace) FrameFault) → pe_place space.image m function ≡ r →
+          Framed (Recorded m rva function) (acted (recorded_table r)) (any.asked_if_named p (acts x) (Recorded m rva function) x (placed_routine (recorded_table r)))
+      recorded m rva function (Ok o) is = by_place (Recorded m rva function) (λ k. refl) (Ok o) (ap recorded_table is)
+      recorded m rva function (Err e) is = refl
 
       framed : (f : FrameAt) → Framed f (action_asked space.image x.context x.signal f) (answer_of_personality p (acts x) f x)
       framed (Described f) = described f
-      framed (Compact m a listed) = handled (Compact m a listed) (has_language_table listed) CompactHandler
-      framed (Recorded m rva function) = recorded (Recorded m rva function) (handler_in (memory_of space.image m.base) function)
+      framed (Compact m listed) = compacted m listed (macho_place space.image m listed) refl
+      framed (Recorded m rva function) = recorded m rva function (pe_place space.image m function) refl
 
       turned : Turned ph x (turn_for (Some ph) space x.context x.signal) (turn_seen (undoing_in space) (by_personality p acts) tt x (sees_in space x))
       unfolding turn_for
@@ -322,7 +348,7 @@ module _ (space : SpaceValue) (row : RowInstructions → RowValue) (thrown : Thr
     answers_to_cleanup : AreAnswered phase.Cleanup cleanup_acts
     answers_to_cleanup x f routine action whole is = cleans x f routine action whole is (cleanup_acts x) (go (mark_of stack_pointer x == kept))
       where
-        go : (b : Bool) → InCleanup (asked_with (if b then any.both actions.CLEANUP_PHASE actions.HANDLER_FRAME else actions.CLEANUP_PHASE) routine)
+        go : (b : Bool) → InCleanup (asked_with thrown (if b then any.both actions.CLEANUP_PHASE actions.HANDLER_FRAME else actions.CLEANUP_PHASE) routine)
         go true = record { version = refl; cleanup = refl; unforced = refl }
         go false = record { version = refl; cleanup = refl; unforced = refl }
 

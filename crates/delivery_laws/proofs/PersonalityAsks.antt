@@ -1,19 +1,19 @@
 -- What the personality of Rust answers for a frame is what the passes ask of it.
-use Rattle.std.proofs.Common.{inl, inr, ◌≡◌, ◌≢◌, ℕ, Bool, true, false, cond, eqb, List, set, Option, Some, Result, Ok, Err, refl, sym, ap, subst, ◌∙◌, arith}
+use Rattle.std.proofs.Common.{inl, inr, ◌≡◌, ◌≢◌, ℕ, Bool, true, false, cond, eqb, List, set, Option, Some, None, Result, Ok, Err, refl, sym, ap, subst, ◌∙◌, arith}
 use Rattle.std.specs.Prelude.{pos, IsSome, ◌↔◌}
 use Rattle.std.proofs.lemmas.Bool.Decides.{nat_tests}
 use Rattle.memory_image.specs.Image.{Span}
 use Rattle.memory_image.specs.Results.{result_map}
 use Rattle.unwind_definitions.specs.Caller.{Columns, StepFault}
 use Rattle.unwind_definitions.specs.Function.{Action, NoAction, Cleanup, Catch, Filter, Terminate}
-use Rattle.unwind_definitions.specs.LanguageSearch.{address_of_call, language_action}
+use Rattle.unwind_definitions.specs.LanguageSearch.{LanguagePlace, address_of_call, language_action}
 use Rattle.unwind_arch.specs.declared.x86_64.Context.{Context}
 use Rattle.unwind_arch.specs.ContextViews.{columns_of}
 use Rattle.unwinding_frames.specs.Columns.{with_value}
 use Rattle.unwinding_frames.specs.FrameValue.{FrameValue}
 use Rattle.unwinding_frames.specs.declared.abi.UnwindReasonCode.{UnwindReasonCode}
 use Rattle.unwinding_frames.specs.declared.abi.TheConstants.UnwindReasonCode.{CONTINUE_UNWIND, HANDLER_FOUND}
-use Rattle.unwinding_frames.specs.Personalities.{Asked, Answer, columns_at_pad, search_answer, answered_by}
+use Rattle.unwinding_frames.specs.Personalities.{Asked, Answer, columns_at_pad, search_answer, answered_by, action_seen, rust_answers}
 use Rattle.stack_steps.specs.declared.answers.DeliverError.{DeliverError}
 use Rattle.stack_walks.specs.declared.outward.Phase.TheVariants as phase
 use Rattle.stack_steps.specs.Asking.{or_terminate, action_if_named, table_if_named}
@@ -52,25 +52,24 @@ landed_columns c exception pad whole =
 
 -- ---- answers
 
-module _ (image : List Span) (c : Context) (interrupted : Bool) (frame : FrameValue) (action : Action) (asked : Asked) (is : IsAsked image c interrupted frame action) where
+-- by a frame, or else by the place of a language table
+module _ (image : List Span) (c : Context) (interrupted : Bool) (frame : Option FrameValue) (place : Option LanguagePlace) (action : Action) (asked : Asked)
+    (told : or_terminate (action_seen image frame place (address_of_call c.ra interrupted)) ≡ action) where
   abbrev table : Result Action StepFault
-  table = language_action image frame.found.bases frame.found.fde (address_of_call c.ra interrupted)
+  table = action_seen image frame place (address_of_call c.ra interrupted)
 
-  told : or_terminate table ≡ action
-  told = inner (ap (λ (r : Result (Option ℕ) StepFault). result_map (action_if_named image (address_of_call c.ra interrupted)) (table_if_named image frame.found r)) (sym is.named) ∙ is.asks)
-    where
-      inner : ◌≡◌ {A = Result Action DeliverError} (Ok (or_terminate table)) (Ok action) → or_terminate table ≡ action
-      inner e = cc
+  abbrev answer_seen : Answer
+  answer_seen = rust_answers landing_columns asked (record { image = image; frame = frame; place = place; columns = columns_of c; signal = interrupted })
 
-  pub answers_search : InSearch asked → answer_for asked image frame c interrupted ≡ (search_answer action, columns_of c)
-  answers_search in_search = rw in_search.version (by_table table told)
+  pub seen_search : InSearch asked → answer_seen ≡ (search_answer action, columns_of c)
+  seen_search in_search = rw in_search.version (by_table table told)
     where
       by_table : (r : Result Action StepFault) → or_terminate r ≡ action → answered_by landing_columns asked (columns_of c) r ≡ (search_answer action, columns_of c)
       by_table (Ok x) e = rw (in_search.search, e) refl
       by_table (Err fault) e = rw (← e) refl
 
-  pub answers_cleanup : InCleanup asked → IsWhole c → AnswersCleanup action asked.exception c (answer_for asked image frame c interrupted)
-  answers_cleanup in_cleanup whole = rw in_cleanup.version (by_table table told)
+  pub seen_cleanup : InCleanup asked → IsWhole c → AnswersCleanup action asked.exception c answer_seen
+  seen_cleanup in_cleanup whole = rw in_cleanup.version (by_table table told)
     where
       by_action : (x : Action) → AnswersCleanup x asked.exception c (answered_by landing_columns asked (columns_of c) (Ok x))
       by_action NoAction = rw in_cleanup.cleanup refl
@@ -82,6 +81,19 @@ module _ (image : List Span) (c : Context) (interrupted : Bool) (frame : FrameVa
       by_table : (r : Result Action StepFault) → or_terminate r ≡ action → AnswersCleanup action asked.exception c (answered_by landing_columns asked (columns_of c) r)
       by_table (Ok x) e = subst (λ (y : Action). AnswersCleanup y asked.exception c (answered_by landing_columns asked (columns_of c) (Ok x))) e (by_action x)
       by_table (Err fault) e = subst (λ (y : Action). AnswersCleanup y asked.exception c (answered_by landing_columns asked (columns_of c) (Err fault))) e (inr refl)
+
+module _ (image : List Span) (c : Context) (interrupted : Bool) (frame : FrameValue) (action : Action) (asked : Asked) (is : IsAsked image c interrupted frame action) where
+  told : or_terminate (language_action image frame.found.bases frame.found.fde (address_of_call c.ra interrupted)) ≡ action
+  told = inner (ap (λ (r : Result (Option ℕ) StepFault). result_map (action_if_named image (address_of_call c.ra interrupted)) (table_if_named image frame.found r)) (sym is.named) ∙ is.asks)
+    where
+      inner : ◌≡◌ {A = Result Action DeliverError} (Ok (or_terminate (language_action image frame.found.bases frame.found.fde (address_of_call c.ra interrupted)))) (Ok action) → or_terminate (language_action image frame.found.bases frame.found.fde (address_of_call c.ra interrupted)) ≡ action
+      inner e = cc
+
+  pub answers_search : InSearch asked → answer_for asked image frame c interrupted ≡ (search_answer action, columns_of c)
+  answers_search in_search = seen_search image c interrupted (Some frame) None action asked told in_search
+
+  pub answers_cleanup : InCleanup asked → IsWhole c → AnswersCleanup action asked.exception c (answer_for asked image frame c interrupted)
+  answers_cleanup in_cleanup whole = seen_cleanup image c interrupted (Some frame) None action asked told in_cleanup whole
 
   -- ---- where a pass stops
 

@@ -1,7 +1,7 @@
 -- A delivery in the words of the passes over any stack: by the step of a space, and with the personality of Rust at its frames.
 -- Itanium C++ ABI, exception handling, level I, section 1.3.
-use Rattle.std.specs.Prelude.{◌≡◌, ℕ, zero, suc, true, false, List, [], Option, Some, None, Result, Ok, Err, map, slice_index, if◌then◌else◌}
-use Rattle.std.specs.Option.{option_map_or}
+use Rattle.std.specs.Prelude.{◌≡◌, ℕ, zero, suc, pos, true, false, List, [], Option, Some, None, Result, Ok, Err, map, slice_index, if◌then◌else◌}
+use Rattle.std.specs.Option.{option_map, option_map_or}
 use Rattle.std.specs.Result.{result_map_both}
 use Rattle.unwind_definitions.specs.LanguageSearch.{LanguagePlace}
 use Rattle.unwind_definitions.specs.Row.{RowInstructions}
@@ -11,11 +11,13 @@ use Rattle.unwind_arch.specs.declared.x86_64.Context.{Context}
 use Rattle.unwind_definitions.specs.Columns.{rsp}
 use Rattle.unwind_arch.specs.ContextViews.{columns_of, context_of}
 use Rattle.unwinding_frames.specs.declared.abi.UnwindReasonCode.{UnwindReasonCode}
-use Rattle.unwinding_frames.specs.declared.abi.TheConstants.UnwindReasonCode.{CONTINUE_UNWIND, HANDLER_FOUND}
+use Rattle.unwinding_frames.specs.declared.abi.TheConstants.UnwindReasonCode.{HANDLER_FOUND}
 use Rattle.unwinding_frames.specs.OneLine.{by_one}
 use Rattle.unwinding_frames.specs.Passes.{Marked, Undoing, Stepping, Answering, LineEnd, RanOut, Decides, Fails, Crowded, Line, Fault, Installs, Gives, is_code, frame_mark, IsSearched, IsCleanup}
 use Rattle.unwinding_frames.specs.Passes as any
-use Rattle.unwinding_frames.specs.Personalities.{Answer, rust_answers}
+use Rattle.unwinding_frames.specs.ContextSeen.{ContextSeen}
+use Rattle.unwinding_frames.specs.FrameValue.{FrameValue}
+use Rattle.unwinding_frames.specs.Personalities.{Asked, Answer, rust_answers}
 use Rattle.unwinding_frames.specs.Seen.{FrameSeen, Thrown, answering}
 use Rattle.format_frames.specs.declared.machine.Stepped.{Stepped}
 use Rattle.stack_walks.specs.declared.room.Trail.{Trail}
@@ -73,20 +75,36 @@ answer_left (code, columns) = (code, context_of columns)
 abbrev pub rust : SpaceValue → Thrown → Answering Columns FrameSeen StepFault
 rust space thrown = answering (rust_answers landing_columns) space.image thrown
 
--- a frame of another format names no personality, or one that isn't asked
-abbrev pub no_routine : Result (Option (Result LanguagePlace StepFault)) DeliverError → Result (Option ℕ) DeliverError
-no_routine named = result_map (λ place. None) named
+-- A frame of another format whose language table has a place is asked by it. The cell with the address of its routine isn't read, so
+-- that the routine stands here as 0.
+abbrev pub placed_routine : Result (Option (Result LanguagePlace StepFault)) DeliverError → Result (Option ℕ) DeliverError
+placed_routine = result_map (option_map (λ place. 0))
+
+abbrev pub place_named : Result (Option (Result LanguagePlace StepFault)) DeliverError → Option LanguagePlace
+place_named (Ok (Some (Ok place))) = Some place
+place_named _ = None
+
+-- a personality of a delivery is called by version 1 of the interface
+abbrev pub asked_with : Thrown → UnwindAction → ℕ → Asked
+asked_with thrown acts routine = record { routine = routine; version = pos 1; actions = acts; class = thrown.class; exception = thrown.word }
+
+-- what it sees at a context of a space: a frame, or else a place
+abbrev pub seen_at : SpaceValue → Marked Context → Option FrameValue → Option LanguagePlace → ContextSeen
+seen_at space x frame place = record { image = space.image; frame = frame; place = place; columns = columns_of x.context; signal = x.signal }
 
 module _ (space : SpaceValue) (row : RowInstructions → RowValue) (thrown : Thrown) where
   abbrev pub rust_named : FrameAt → Result (Option ℕ) DeliverError
   rust_named (Described f) = result_map_both (λ routine. routine) refusal_of ((rust space thrown).named (seen_with row f))
-  rust_named (Compact m a listed) = no_routine (named_table space.image (Compact m a listed))
-  rust_named (Recorded m rva function) = no_routine (named_table space.image (Recorded m rva function))
+  rust_named (Compact m listed) = placed_routine (named_table space.image (Compact m listed))
+  rust_named (Recorded m rva function) = placed_routine (named_table space.image (Recorded m rva function))
+
+  abbrev pub rust_at_place : ℕ → UnwindAction → FrameAt → Marked Context → UnwindReasonCode × Context
+  rust_at_place routine actions f x = answer_left (rust_answers landing_columns (asked_with thrown actions routine) (seen_at space x None (place_named (named_table space.image f))))
 
   abbrev pub rust_answered : ℕ → UnwindAction → FrameAt → Marked Context → UnwindReasonCode × Context
   rust_answered routine actions (Described f) x = answer_left ((rust space thrown).answers routine actions (seen_with row f) (at_columns x))
-  rust_answered routine actions (Compact m a listed) x = (CONTINUE_UNWIND, x.context)
-  rust_answered routine actions (Recorded m rva function) x = (CONTINUE_UNWIND, x.context)
+  rust_answered routine actions (Compact m listed) x = rust_at_place routine actions (Compact m listed) x
+  rust_answered routine actions (Recorded m rva function) x = rust_at_place routine actions (Recorded m rva function) x
 
   abbrev pub rust_in : Answering Context FrameAt DeliverError
   rust_in = record { named = rust_named; answers = rust_answered }

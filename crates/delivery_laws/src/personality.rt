@@ -24,8 +24,8 @@ ghost use Rattle.delivery_laws.specs.Personality.{answer_for, code_of};
 ghost use Rattle.unwinding_frames.specs.declared.abi.TheConstants.UnwindReasonCode.{CONTINUE_UNWIND};
 ghost use Rattle.unwinding_frames.specs.declared.abi.TheConstants.UnwindReasonCode.{HANDLER_FOUND};
 
-/// What a delivery asks of a frame is what `RustPersonality` answers for it. A law: the function
-/// does nothing.
+/// What a delivery asks of a frame whose description names a personality is what `RustPersonality`
+/// answers for it. A law: the function does nothing.
 ///
 /// In the search the two agree in every case, and the registers stay. In a cleanup pass the
 /// personality goes on where nothing is asked, installs the registers with which a landing pad is

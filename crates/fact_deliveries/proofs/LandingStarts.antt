@@ -1,0 +1,66 @@
+-- A delivery over the stack of a small C++ program, with landing pads past pushed arguments, and a cleanup that goes on in a part of its
+-- function that lies apart from it.
+use Rattle.std.proofs.Common.{◌≡◌, ◌≢◌, ◌-◌, true, false, refl, inl, inr, eqb, lit<, lit≤}
+use Rattle.std.specs.Prelude.{IsTrue}
+use Rattle.memory_image.specs.Image.{IsLaidOut}
+use Rattle.unwind_definitions.specs.State.{State}
+use Rattle.unwind_laws.proofs.Booleans.{all_contains}
+use Rattle.frame_facts.specs.Facts.{Facts, StandsWith}
+use Rattle.frame_facts.specs.FactTables.{AreSaidAt}
+use Rattle.frame_facts_laws.proofs.SampleTests.{are_words, words_fit}
+use Rattle.format_definitions.specs.FormatModules.{FormatModule, in_format, IsUncoveredBy, IsUncoveredIn}
+use Rattle.stack_steps.specs.Modules.{AreApart}
+use Rattle.stack_steps.specs.SpaceViews.{formats_of}
+use Rattle.stack_steps.specs.KnownStacks.{IsKnownLink, IsKnownEnd, IsKnownStack}
+use Rattle.stack_deliver.specs.KnownDeliveries.{MayGoOnAt, StartsKnownDelivery}
+use Rattle.delivery_laws.proofs.FormatStarts.{registers_show}
+use Rattle.fact_deliveries.specs.LandingProgram as sample
+use Rattle.fact_deliveries.specs.LandingSpace.{space, start}
+use Rattle.fact_deliveries.proofs.LandingFacts.{said_in_raises, said_in_cleans, said_in_part, said_in_catches, said_in_start, stands_in_raises, stands_in_cleans, stands_when_cleaned, stands_in_catches, stands_in_start, asks_in_raises, asks_in_cleans, asks_in_part, asks_in_catches, asks_in_start}
+
+pub laid_out : IsLaidOut 0 space.image
+laid_out = (lit≤ tt, lit< tt, lit≤ tt, (lit≤ tt, lit< tt, lit≤ tt, (lit≤ tt, lit< tt, lit≤ tt, (lit≤ tt, lit< tt, lit≤ tt, tt))))
+
+pub lie_apart : AreApart 0 space.modules
+lie_apart = (lit≤ tt, lit< tt, tt)
+
+pub not_zero : (s : State) → eqb s.ra 0 ≡ false → s.ra ≢ 0
+not_zero s other zero = absurd cc
+
+-- a state and its caller's, by the facts that are said there
+abbrev link : (s t : State) (facts : Facts) → are_words s ≡ true → eqb s.ra 0 ≡ false → StandsWith sample.image facts t s → AreSaidAt sample.process (s.ra - 1) facts → IsKnownLink space false s t
+link s t facts words nonzero stands said = inl (facts, record { state = words_fit s words; returns = not_zero s nonzero; stands = stands; said = said })
+
+-- no module holds the address below 1
+uncovered : IsUncoveredBy space.image (formats_of space) 0
+uncovered m has inside = all_contains (λ (m : FormatModule). IsTrue (in_format 0 m) → IsUncoveredIn space.image m 0) (formats_of space) m (λ at. absurd cc, tt) has inside
+
+last_state : IsKnownEnd space false sample.outside
+last_state = record { state = words_fit sample.outside refl; ends = inr (λ e. absurd cc, uncovered) }
+
+abbrev stack : IsKnownStack space false sample.in_raises sample.callers
+stack = (
+  link sample.in_raises sample.in_cleans sample.known_in_raises refl refl stands_in_raises said_in_raises,
+  (
+    link sample.in_cleans sample.in_catches sample.known_in_cleans refl refl stands_in_cleans said_in_cleans,
+    (
+      link sample.in_catches sample.in_start sample.known_in_catches refl refl stands_in_catches said_in_catches,
+      (link sample.in_start sample.outside sample.known_in_start refl refl stands_in_start said_in_start, last_state),
+    ),
+  ),
+)
+
+-- after the cleanup, in the part
+goes_on : MayGoOnAt space sample.cleaned sample.in_catches
+goes_on = record {
+  link = link sample.cleaned sample.in_catches sample.known_when_cleaned refl refl stands_when_cleaned said_in_part;
+  arguments = 0;
+  silent = asks_in_part;
+}
+
+pub landings_start : StartsKnownDelivery space start sample.resumes 5 sample.in_raises sample.callers sample.asked
+landings_start = record {
+  starts = record { stack = stack; shows = registers_show sample.in_raises; shorter = lit< tt };
+  asked = (refl, asks_in_raises, (refl, asks_in_cleans, (refl, asks_in_catches, (refl, asks_in_start, refl))));
+  resumed = λ f found accepted. (tt, ((0x401010, refl, goes_on), tt));
+}

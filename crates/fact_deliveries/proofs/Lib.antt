@@ -1,0 +1,3 @@
+pub mod LandingFacts
+pub mod LandingStarts
+pub mod OneDelivery

@@ -1,0 +1,2 @@
+pub mod LandingProgram
+pub mod LandingSpace
