@@ -5,3 +5,4 @@ pub mod FoldedLines
 pub mod Kept
 pub mod Walks
 pub mod Witnesses
+pub mod KnownStacks

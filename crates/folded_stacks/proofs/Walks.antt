@@ -29,7 +29,7 @@ returns_shown [] (s ∷ ss) each = absurd each
 returns_shown (c ∷ cs) [] each = absurd each
 
 -- the stack of contexts that show states is these states' stack
-stack_is : (cs : List Context) (ss : List State) → EachShows cs ss → stack_of cs ≡ stack_shown ss
+pub stack_is : (cs : List Context) (ss : List State) → EachShows cs ss → stack_of cs ≡ stack_shown ss
 stack_is cs ss each = ap outermost_first (returns_shown cs ss each)
 
 pub walked_by : (space : SpaceValue) (limit : ℕ) (s : Sample) (cs : List Context) → line_of space limit s.start s.interrupted ≡ Ok cs → walked_stack space limit s ≡ Some (stack_of cs)

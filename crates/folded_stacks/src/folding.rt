@@ -7,12 +7,14 @@ ghost use Rattle.unwind_definitions.specs.State.{State};
 ghost use Rattle.unwind_definitions.specs.Function.{Function};
 ghost use Rattle.unwind_definitions.specs.Chain.{Call};
 ghost use Rattle.stack_steps.specs.Stopped.{StartsStopped, StartsFormatStop};
+ghost use Rattle.stack_walks.specs.KnownWalks.{StartsKnownStack};
 ghost use Rattle.stack_walks.specs.Walking.{StartsChain, StartsFormatChain};
 ghost use Rattle.folded_stacks.specs.declared.folding.FoldError.TheVariants.{NoMemory};
 ghost use Rattle.folded_stacks.specs.declared.samples.Sample.{Sample};
 ghost use Rattle.folded_stacks.specs.Counts.{HasStack, IsFolded};
 ghost use Rattle.folded_stacks.specs.Folding.{accepted, fold_of, refused_of, walked_stack};
 ghost use Rattle.folded_stacks.specs.Folding.{chain_stack};
+ghost use Rattle.folded_stacks.specs.Stacks.{stack_shown};
 
 use crate::folded::{Folded, fold_runs};
 use crate::samples::{Sample, Samples};
@@ -137,16 +139,17 @@ fn fold_walks(
 fn fold_within(
     alloc: Global,
     space: &Space<'_>,
-    samples: &Samples,
+    samples: &[Sample],
     limit: u32,
 ) -> Result<Folded, FoldError>
+    requires { length samples.now ≤ 65536 }
     ensures limit { (result ≡ Err FoldError.Limit) ↔ ((limit ≡ 0) ⊎ (1024 < limit)) }
     ensures exact { IfOk result (λ folded. folded ≡ fold_of space.now limit samples.now) }
 {
     if limit == 0 || limit > MOST {
         return Err(FoldError::Limit);
     }
-    match fold_walks(alloc, space, samples.as_slice(), limit) {
+    match fold_walks(alloc, space, samples, limit) {
         Ok(folded) => Ok(folded),
         Err(AllocError) => Err(FoldError::NoMemory),
     }
@@ -216,8 +219,15 @@ pub fn fold(
         IsTrue sample.interrupted →
         (walked_stack space.now limit sample ≡ Some (chain_stack s (call ∷ calls))) ×
         IfOk result (λ folded. HasStack folded.lines (chain_stack s (call ∷ calls))) }
+    // So is one that begins a stack of each of whose frames it is known how its caller's state
+    // follows, in an ELF module by facts that its tables say, at any address.
+    ensures known { (sample : Sample) (s : State) (callers : List State) →
+        Contains samples.now sample →
+        StartsKnownStack space.now sample.start limit sample.interrupted s callers →
+        (walked_stack space.now limit sample ≡ Some (stack_shown (s ∷ callers))) ×
+        IfOk result (λ folded. HasStack folded.lines (stack_shown (s ∷ callers))) }
 {
     // No two of its modules share an address, as a space's type says.
     let _ = space.image();
-    fold_within(alloc, space, samples, limit)
+    fold_within(alloc, space, samples.as_slice(), limit)
 }
