@@ -1,0 +1,25 @@
+# The C library: `make` proves it and makes the archive, `make install` puts it where compilers look.
+#
+#     make install [PREFIX=/usr/local] [DESTDIR=]
+#     make examples                 builds and runs examples/embedding
+
+TOP := .
+include embedding.mk
+
+PREFIX ?= /usr/local
+INCLUDES := $(DESTDIR)$(PREFIX)/include
+LIBRARIES := $(DESTDIR)$(PREFIX)/lib
+
+.DEFAULT_GOAL := lib
+.PHONY: lib install examples
+
+lib: $(ARCHIVE)
+
+install: $(ARCHIVE)
+	install -d $(INCLUDES) $(LIBRARIES)/pkgconfig
+	install -m 644 include/kalzurenk.h $(INCLUDES)/
+	install -m 644 $(ARCHIVE) $(LIBRARIES)/libkalzurenk.a
+	sed 's|@prefix@|$(PREFIX)|' include/kalzurenk.pc.in >$(LIBRARIES)/pkgconfig/kalzurenk.pc
+
+examples: $(ARCHIVE)
+	$(MAKE) -C examples/embedding

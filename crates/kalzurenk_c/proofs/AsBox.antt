@@ -1,0 +1,17 @@
+-- A handle and its parts own what a box of the session owns.
+use mir.Syntax.{impl, tnil, dnil}
+use mathlib.Core.List.{[]}
+use denote.Signature.{Slot, plain}
+use Rattle.std_alloc.proofs.BoxSteps.Form.{Bx}
+use Rattle.std_heap.specs.contracts.Global as Heap
+use Rattle.std_heap.specs.contracts.GlobalAllocator.TheImpl.{ghosts, dict}
+use Rattle.std_heap.proofs.Global.TheLaws as heap
+use Rattle.kalzurenk_c.specs.contracts.session.Session as Session
+use Rattle.kalzurenk_c.proofs.session.Session.TheLaws as session
+use Rattle.kalzurenk_c.specs.contracts.handle.SessionHandle as SessionHandle
+
+abbrev pub E : Bx
+E = record { row = Session.the_row; laws = session.the_row_laws; al = record { row = Heap.the_row; laws = heap.the_row_laws; g = ghosts; d = dict; drops = impl [] tnil dnil } }
+
+abbrev pub FromHandle : Slot 0
+FromHandle = plain (λ _. SessionHandle.the_row)

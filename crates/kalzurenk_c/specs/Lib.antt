@@ -1,0 +1,9 @@
+pub mod Given
+pub mod GivenSample
+pub mod HandleOwns
+pub mod Lending
+pub mod Numbers
+pub mod Refusals
+pub mod SessionValues
+pub mod Sessions
+pub mod Told

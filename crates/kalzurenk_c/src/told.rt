@@ -1,0 +1,129 @@
+// What a walk tells its caller: frames, how many they are, and why there are no more.
+ghost use Rattle.std.specs.Prelude.{◌≡◌, ℕ, length};
+ghost use Rattle.kalzurenk_c.specs.Told.{end_told, frame_limit, frame_of, over};
+
+use crate::numbers::{refused_end, table_number};
+use stack_walks::{Front, Room};
+use unwind_arch::x86_64::{Context, R12, R13, R14, R15, RBP, RBX, RSP};
+
+/// A frame: its return address, its stack pointer, and the registers that calls keep.
+#[repr(C)]
+#[derive(Clone, Copy, Drop)]
+pub struct StackFrame {
+    /// The instruction pointer of the first frame, and of each other the address that the call of
+    /// the frame before returns to.
+    pub ra: u64,
+    /// The stack pointer. That of the next frame is this frame's canonical frame address.
+    pub sp: u64,
+    /// RBX.
+    pub rbx: u64,
+    /// RBP.
+    pub rbp: u64,
+    /// R12.
+    pub r12: u64,
+    /// R13.
+    pub r13: u64,
+    /// R14.
+    pub r14: u64,
+    /// R15.
+    pub r15: u64,
+}
+
+/// How far a walk came, and why it goes no further.
+#[repr(C)]
+#[derive(Clone, Copy, Drop)]
+pub struct WalkEnd {
+    /// How many frames there are.
+    pub count: u64,
+    /// The address asked at the last frame, where the reason has one; else 0.
+    pub address: u64,
+    /// How many bytes of a table stand before the entry that can't be read, or the address that
+    /// isn't mapped; else 0.
+    pub detail: u64,
+    /// Why there are no more, by the numbers of `kalzurenk.h`.
+    pub reason: u32,
+    /// Why the table can't be read, or the step is refused, by its numbers; else 0.
+    pub error: u32,
+}
+
+/// The frame that a state shows.
+fn frame_of(state: &Context) -> StackFrame
+    ensures { result ≡ frame_of state.now }
+{
+    StackFrame {
+        ra: state.ra,
+        sp: state.registers[RSP],
+        rbx: state.registers[RBX],
+        rbp: state.registers[RBP],
+        r12: state.registers[R12],
+        r13: state.registers[R13],
+        r14: state.registers[R14],
+        r15: state.registers[R15],
+    }
+}
+
+/// Puts the frames of the states in a room into places, as far as there are places.
+fn put_frames(room: &Room, frames: &mut [StackFrame])
+    ensures { frames.new ≡ over room.now.visited frames.old }
+{
+    let count = room.visited_len();
+    let places = frames.len();
+    let told = if count <= places { count } else { places };
+    for i in 0..told {
+        let state = room.visited(i).unwrap();
+        frames[i] = frame_of(&state);
+    }
+}
+
+/// What is told of a walk's end.
+fn end_told(count: u64, why: Front) -> WalkEnd
+    ensures { result ≡ end_told count why }
+{
+    let (reason, error, address, detail) = match why {
+        Front::Outermost => (0, 0, 0, 0),
+        Front::NoModule(address) => (1, 0, address, 0),
+        Front::NoDescription(address) => (2, 0, address, 0),
+        Front::UnreadableTable {
+            address,
+            offset,
+            error,
+        } => (3, table_number(error), address, offset),
+        Front::Refused { address, error } => {
+            let (number, detail) = refused_end(error);
+            (4, number, address, detail)
+        }
+        Front::Limit => (5, 0, 0, 0),
+    };
+    WalkEnd {
+        count,
+        address,
+        detail,
+        reason,
+        error,
+    }
+}
+
+/// Tells the frames of the states in a room, and why there are no more.
+pub(crate) fn tell(room: &Room, why: Front, frames: &mut [StackFrame], end: &mut WalkEnd)
+    ensures frames { frames.new ≡ over room.now.visited frames.old }
+    ensures end { end.new ≡ end_told (length room.now.visited) why }
+{
+    put_frames(room, frames);
+    *end = end_told(room.visited_len() as u64, why);
+}
+
+/// The most frames that there are places for.
+pub(crate) fn frame_limit(frames: &[StackFrame]) -> u32
+    ensures { result ≡ frame_limit (length frames.now) }
+{
+    match u32::try_from(frames.len()) {
+        Ok(limit) => limit,
+        Err(_) => u32::MAX,
+    }
+}
+
+/// A caller can tell ends apart: no two counts, and no two reasons with their addresses and errors, are
+/// told alike. The function does nothing.
+pub fn ends_are_told_apart()
+    ensures apart { (m n : ℕ) (a b : Front) → end_told m a ≡ end_told n b → (m ≡ n) × (a ≡ b) }
+{}

@@ -1,0 +1,127 @@
+/* Each status, and each reason why a walk ends, by kz_walk and by a session. The tables are those of the worked examples
+ * in crates/stack_walks/specs/FrontSample.antt, and what is due of them is what crates/stack_walks proves of these. */
+#include <inttypes.h>
+#include <kalzurenk.h>
+#include <stdio.h>
+#include <string.h>
+
+static const uint8_t no_entry[] = {0, 0, 0, 0};
+static const uint8_t cut_entry[] = {9, 0, 0, 0, 1};
+/* a CIE whose program is an instruction that there is not, and an FDE of the 16 bytes from 0x1000 on */
+static const uint8_t bad_row[] = {10, 0, 0,  0,    0, 0, 0, 0, 1, 0, 1,  0x78, 16, 0x3f, 20, 0, 0, 0, 18,
+                                  0,  0, 0,  0,    0x10, 0, 0, 0, 0, 0, 0,  16,   0,  0,    0,  0, 0, 0, 0};
+/* An empty list is a pointer that isn't null, too. */
+static const kz_module no_modules[1];
+static int failed;
+
+static void check(const char *what, uint64_t is, uint64_t due) {
+    if (is != due) {
+        printf("%s: %#" PRIx64 " and not %#" PRIx64 "\n", what, is, due);
+        failed = 1;
+    }
+}
+
+/* Walks from after a call that returns to `ra`, with one module at 0x1000 whose frame table is at 0x2000. */
+static void ends(const char *what, const uint8_t *table, size_t length, uint64_t ra, size_t places, kz_end due) {
+    kz_region region = {0x2000, table, length};
+    kz_module module = {0x1000, 0x1010, 0x2000, 0, KZ_ELF};
+    kz_registers start = {.ip = ra};
+    kz_frame frames[2];
+    memset(frames, 0x77, sizeof frames);
+    for (int by_session = 0; by_session < 2; by_session++) {
+        kz_end end;
+        kz_place place = {9, 9};
+        uint32_t status;
+        if (by_session) {
+            static const uint8_t stack[8];
+            kz_region sample = {0x7000, stack, sizeof stack};
+            kz_session session;
+            status = kz_session_open(&region, 1, &module, 1, 8, &session.at, &place);
+            check(what, status, KZ_OK);
+            status = kz_session_walk(&session, &sample, 1, &start, false, frames, places, &end, &place);
+            kz_session_close(session);
+        } else {
+            status = kz_walk(&region, 1, &module, 1, &start, false, frames, places, &end, &place);
+        }
+        check(what, status, KZ_OK);
+        check(what, place.index, 9);
+        check(what, end.count, due.count);
+        check(what, end.reason, due.reason);
+        check(what, end.address, due.address);
+        check(what, end.detail, due.detail);
+        check(what, end.error, due.error);
+        check(what, frames[0].ra, due.count > 0 ? ra : 0x7777777777777777);
+        check(what, frames[1].ra, 0x7777777777777777);
+        printf("%-15s %-8s status %u frames %" PRIu64 " reason %u address %#" PRIx64 " detail %" PRIu64 " error %u\n", what,
+               by_session ? "session" : "walk", status, end.count, end.reason, end.address, end.detail, end.error);
+    }
+}
+
+static void refused(const char *what, const kz_region *regions, size_t m, const kz_module *modules, size_t n,
+                    uint32_t due, kz_place at) {
+    kz_registers start = {.ip = 0x1005};
+    kz_frame frame = {.ra = 5};
+    kz_end end = {.count = 5};
+    kz_place place = {9, 9};
+    uint32_t status = kz_walk(regions, m, modules, n, &start, false, &frame, 1, &end, &place);
+    printf("%-15s %-8s status %u place %" PRIu64 " address %#" PRIx64 "\n", what, "walk", status, place.index, place.address);
+    check(what, status, due);
+    check(what, place.index, at.index);
+    check(what, place.address, at.address);
+    check(what, frame.ra, 5);
+    check(what, end.count, 5);
+    void *session = &frame;
+    place = (kz_place){9, 9};
+    check(what, kz_session_open(regions, m, modules, n, 8, &session, &place), due);
+    check(what, place.index, at.index);
+    check(what, place.address, at.address);
+    check(what, session == &frame, 1);
+}
+
+/* A sample's region that the session's memory doesn't leave room for, the second of two. */
+static void refused_sample(const char *what, kz_region region, uint32_t due, kz_place at) {
+    static const uint8_t stack[8];
+    kz_region memory = {0x2000, no_entry, sizeof no_entry}, sample[] = {{0x7000, stack, sizeof stack}, region};
+    kz_registers start = {.ip = 0x1005};
+    kz_frame frame = {.ra = 5};
+    kz_end end = {.count = 5};
+    kz_place place = {9, 9};
+    kz_session session;
+    check(what, kz_session_open(&memory, 1, no_modules, 0, 8, &session.at, &place), KZ_OK);
+    uint32_t status = kz_session_walk(&session, sample, 2, &start, false, &frame, 1, &end, &place);
+    kz_session_close(session);
+    printf("%-15s %-8s status %u place %" PRIu64 " address %#" PRIx64 "\n", what, "session", status, place.index,
+           place.address);
+    check(what, status, due);
+    check(what, place.index, at.index);
+    check(what, place.address, at.address);
+    check(what, frame.ra, 5);
+    check(what, end.count, 5);
+}
+
+int main(void) {
+    ends("outermost", no_entry, sizeof no_entry, 0, 1, (kz_end){1, 0, 0, KZ_OUTERMOST, 0});
+    ends("no module", no_entry, sizeof no_entry, 0x5005, 1, (kz_end){1, 0x5004, 0, KZ_NO_MODULE, 0});
+    ends("no description", no_entry, sizeof no_entry, 0x1005, 1, (kz_end){1, 0x1004, 0, KZ_NO_DESCRIPTION, 0});
+    ends("unreadable", cut_entry, sizeof cut_entry, 0x1005, 1, (kz_end){1, 0x1004, 0, KZ_UNREADABLE, KZ_END_OF_BYTES});
+    ends("refused", bad_row, sizeof bad_row, 0x1005, 1, (kz_end){1, 0x1004, 0, KZ_REFUSED, KZ_UNKNOWN_INSTRUCTION});
+    ends("limit", no_entry, sizeof no_entry, 0x1005, 0, (kz_end){0, 0, 0, KZ_LIMIT, 0});
+
+    kz_region one = {0x1000, no_entry, 1}, empty = {0x3000, no_entry, 0}, high = {UINT64_MAX, no_entry, 2};
+    kz_region both[] = {one, {0xfff, no_entry, 4}}, empties[] = {one, empty}, highs[] = {one, high};
+    refused("empty", empties, 2, no_modules, 0, KZ_REGION_EMPTY, (kz_place){1, 0});
+    refused("wraps", highs, 2, no_modules, 0, KZ_REGION_WRAPS, (kz_place){1, 0});
+    refused("overlaps", both, 2, no_modules, 0, KZ_REGION_OVERLAPS, (kz_place){1, 0x1000});
+    kz_module elf = {0x1000, 0x1001, 0x1000, 0, KZ_ELF};
+    refused("format", &one, 1, (kz_module[]){elf, {0x2000, 0x2001, 0, 0, 4}}, 2, KZ_MODULE_FORMAT, (kz_place){1, 0});
+    refused("pe", &one, 1, (kz_module[]){{0x2000, 0x2001, UINT64_C(1) << 32, 0, KZ_PE}}, 1, KZ_MODULE_FORMAT, (kz_place){0, 0});
+    refused("reversed", &one, 1, (kz_module[]){elf, {0x2000, 0x2000, 0, 0, KZ_MACHO}}, 2, KZ_MODULE_WRAPS, (kz_place){1, 0});
+    refused("shared", &one, 1, (kz_module[]){elf, elf}, 2, KZ_MODULE_OVERLAPS, (kz_place){1, 0x1000});
+    refused_sample("empty", (kz_region){0x3000, no_entry, 0}, KZ_REGION_EMPTY, (kz_place){1, 0});
+    refused_sample("wraps", high, KZ_REGION_WRAPS, (kz_place){1, 0});
+    refused_sample("overlaps", (kz_region){0x2003, no_entry, 1}, KZ_REGION_OVERLAPS, (kz_place){1, 0x2000});
+    refused_sample("overlaps too", (kz_region){0x7007, no_entry, 1}, KZ_REGION_OVERLAPS, (kz_place){1, 0x7000});
+    check("version", kz_version(), KZ_VERSION);
+    puts(failed ? "FAILED" : "each status and each reason is as it should be");
+    return failed;
+}
