@@ -6,8 +6,7 @@ use Rattle.std.proofs.lemmas.Option.{slice_get_within, get_or_from_slice_get}
 use Rattle.unwind_arch.specs.declared.x86_64.Context.{Context}
 use Rattle.stack_walks.specs.declared.room.Trail.{Trail}
 use Rattle.folded_stacks.specs.Counts.{StackCount, stack_count}
-use Rattle.stack_report.specs.Digits.{hexadecimal}
-use Rattle.stack_report.specs.Folds.{fold_line, fold_lines, other_addresses}
+use Rattle.stack_report.specs.Folds.{fold_line, fold_lines}
 use Rattle.stack_report.specs.Report.{frame_line, frame_lines, cleanup_line, cleanup_lines}
 
 drop_get : {X : Type 0} (xs : List X) (i : ℕ) (x : X) → slice_get xs i ≡ Some x → drop i xs ≡ x ∷ drop (i + 1) xs

@@ -66,10 +66,8 @@ refusal_text refusals.PassLimit = codes "pass limit"
 refusal_text (refusals.NoResume pad) = codes "no resume " ++ hexadecimal pad
 refusal_text (refusals.Table e) = codes "table " ++ error_name e
 refusal_text (refusals.MachO e) = section_text e
-refusal_text refusals.CompactHandler = codes "compact handler"
 refusal_text refusals.CompactForm = codes "compact form"
 refusal_text refusals.PeInfo = codes "pe info"
-refusal_text refusals.PeHandler = codes "pe handler"
 refusal_text refusals.ChainLimit = codes "chain limit"
 
 abbrev pub refused_line : DeliverError → List ℕ

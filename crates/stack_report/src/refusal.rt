@@ -92,10 +92,8 @@ pub(crate) fn put_refusal(report: &mut Report, error: DeliverError) -> Result<()
         DeliverError::NoResume(pad) => report.put_field("no resume ", pad),
         DeliverError::Table(error) => put_named(report, "table ", error_name(error)),
         DeliverError::MachO(error) => put_section(report, error),
-        DeliverError::CompactHandler => report.put("compact handler"),
         DeliverError::CompactForm => report.put("compact form"),
         DeliverError::PeInfo => report.put("pe info"),
-        DeliverError::PeHandler => report.put("pe handler"),
         DeliverError::ChainLimit => report.put("chain limit"),
     }
 }

@@ -11,3 +11,4 @@ pub mod Parts
 pub mod Described
 pub mod Sampled
 pub mod Cores
+pub mod Memory

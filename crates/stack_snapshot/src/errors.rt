@@ -31,6 +31,8 @@ pub enum Field {
     Interrupted,
     /// The threads that were stopped.
     Samples,
+    /// The functions that are claimed.
+    Functions,
 }
 
 impl Field {
@@ -50,6 +52,7 @@ impl Field {
             Field::Limit => "limit",
             Field::Interrupted => "interrupted",
             Field::Samples => "samples",
+            Field::Functions => "functions",
         }
     }
 }

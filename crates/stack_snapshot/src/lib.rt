@@ -29,6 +29,7 @@
 mod cores;
 mod errors;
 mod fields;
+mod memory;
 mod origins;
 mod parts;
 mod ranges;
@@ -38,8 +39,10 @@ mod snapshot;
 
 pub use cores::{CoreSnapshot, CoreSnapshotError, read_core_snapshot};
 pub use errors::{Field, SnapshotError};
+pub use fields::{as_word, word_at};
+pub use memory::{MemorySnapshot, memory_of};
 pub use origins::{Origin, Origins};
 pub use parts::SnapshotParts;
-pub use reading::{read_named_snapshot, read_snapshot};
+pub use reading::{read_named_snapshot, read_snapshot, value_in};
 pub use sampled::{SampledSnapshot, read_sampled_snapshot};
 pub use snapshot::{Region, Snapshot};

@@ -422,7 +422,11 @@ fn snapshot_of(alloc: Global, value: Value) -> Result<Snapshot, SnapshotError>
 }
 
 /// The value of some bytes as a JSON text.
-pub(crate) fn value_in(alloc: Global, bytes: &[u8]) -> Result<Value, SnapshotError>
+///
+/// # Errors
+///
+/// `NotJson` where the bytes are no JSON text. `NoMemory` may come in the place of each answer.
+pub fn value_in(alloc: Global, bytes: &[u8]) -> Result<Value, SnapshotError>
     ensures reads { ReadsValue result bytes.now }
     ensures some { result ≢ Err SnapshotError.NotJson → 0 < length bytes.now }
 {

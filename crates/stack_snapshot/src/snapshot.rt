@@ -139,7 +139,7 @@ pub(crate) fn space_with<'a>(
 }
 
 /// The image of the regions, if each is taken.
-fn image_of_regions(
+pub(crate) fn image_of_regions(
     alloc: Global,
     regions: &[Region],
 ) -> Result<Option<MemoryImage<'_>>, AllocError>
