@@ -1,1 +1,2 @@
 pub mod ThreadText
+pub mod KnownThreads

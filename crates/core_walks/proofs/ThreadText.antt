@@ -58,11 +58,11 @@ threads_split space limit from (d ∷ ds) (suc i) c e =
     ∙ ap (λ t. t ++ after) (sym (append_assoc at before here))
     ∙ ap (λ n. at ++ before ++ thread_text space limit n c ++ threads_text space limit (n + 1) (drop (suc i) ds)) place
 
--- what is written of a core file has the lines of such a thread in their place
-pub stopped_place : (c : CoreContent) (index : ℕ) (thread : Context) (functions : List Function) (s : State) (call : Call) (calls : List Call) → AreApart 0 (core_space_of c).modules → IsLaidOut 0 (core_space_of c).image
-    → slice_get (threads_of c.file) index ≡ Some thread → StartsFormatStop (core_space_of c) thread c.limit functions s call calls → core_report_of c ≡ text_before c index ++ stopped_text index s (call ∷ calls) ++ text_after c index
+-- what is written of a core file has the lines of a thread in their place
+pub placed : (c : CoreContent) (index : ℕ) (thread : Context) (text : List ℕ) → slice_get (threads_of c.file) index ≡ Some thread → thread_text (core_space_of c) c.limit index thread ≡ text →
+    core_report_of c ≡ text_before c index ++ text ++ text_after c index
 unfolding core_report_of
-stopped_place c index thread functions s call calls apart laid at starts =
+placed c index thread lines at is =
     let text : ℕ → List ℕ = λ n. thread_text (core_space_of c) c.limit n thread in
     let others : ℕ → ℕ → List ℕ = λ n m. threads_text (core_space_of c) c.limit n (drop m (threads_of c.file)) in
     let from : 0 + index ≡ index = omega arith in
@@ -70,7 +70,11 @@ stopped_place c index thread functions s call calls apart laid at starts =
     threads_split (core_space_of c) c.limit 0 (threads_of c.file) index thread at
     ∙ ap (λ n. text_before c index ++ text n ++ others (n + 1) (suc index)) from
     ∙ ap (λ n. text_before c index ++ text index ++ others (index + 1) n) next
-    ∙ ap (λ t. text_before c index ++ t ++ text_after c index) (stopped_is (core_space_of c) c.limit index thread functions s call calls apart laid starts)
+    ∙ ap (λ t. text_before c index ++ t ++ text_after c index) is
+
+pub stopped_place : (c : CoreContent) (index : ℕ) (thread : Context) (functions : List Function) (s : State) (call : Call) (calls : List Call) → AreApart 0 (core_space_of c).modules → IsLaidOut 0 (core_space_of c).image
+    → slice_get (threads_of c.file) index ≡ Some thread → StartsFormatStop (core_space_of c) thread c.limit functions s call calls → core_report_of c ≡ text_before c index ++ stopped_text index s (call ∷ calls) ++ text_after c index
+stopped_place c index thread functions s call calls apart laid at starts = placed c index thread (stopped_text index s (call ∷ calls)) at (stopped_is (core_space_of c) c.limit index thread functions s call calls apart laid starts)
 
 -- the texts so far and those of what is left
 pub text_next : (text : List ℕ) (space : SpaceValue) (limit index : ℕ) (c : Context) (cs : List Context) → text ++ thread_text space limit index c ++ threads_text space limit (index + 1) cs ≡ text ++ threads_text space limit index (c ∷ cs)

@@ -7,12 +7,14 @@ ghost use Rattle.stack_snapshot.specs.Cores.{core_space_of, threads_of};
 ghost use Rattle.unwind_arch.specs.declared.x86_64.Context.{Context};
 ghost use Rattle.core_walks.specs.Lines.{thread_text, threads_text, core_report_of};
 ghost use Rattle.core_walks.specs.Lines.{stopped_text, text_before, text_after};
+ghost use Rattle.core_walks.specs.ThreadLines.{thread_lines};
 ghost use Rattle.memory_image.specs.Image.{IsLaidOut};
 ghost use Rattle.unwind_definitions.specs.State.{State};
 ghost use Rattle.unwind_definitions.specs.Function.{Function};
 ghost use Rattle.unwind_definitions.specs.Chain.{Call};
 ghost use Rattle.stack_steps.specs.Modules.{AreApart};
 ghost use Rattle.stack_steps.specs.Stopped.{StartsFormatStop};
+ghost use Rattle.stack_walks.specs.KnownWalks.{StartsKnownStack};
 
 use core_file::Threads;
 use memory_image::{NoLedger, Steps};
@@ -107,6 +109,14 @@ pub fn core_report_of(alloc: Global, snapshot: &CoreSnapshot) -> Result<Report, 
         StartsFormatStop (core_space_of snapshot.now) thread snapshot.now.limit functions s call
         calls →
         report ≡ text_before snapshot.now index ++ stopped_text index s (call ∷ calls)
+        ++ text_after snapshot.now index) }
+    // Where it begins a stack of each of whose frames it is known how its caller's state follows, in
+    // an ELF module by facts that its tables say, at any address, they are those of the stack.
+    ensures known { IfOk result (λ report. (index : ℕ) (thread : Context) (s : State)
+        (callers : List State) →
+        slice_get (threads_of snapshot.now.file) index ≡ Some thread →
+        StartsKnownStack (core_space_of snapshot.now) thread snapshot.now.limit true s callers →
+        report ≡ text_before snapshot.now index ++ thread_lines index (s ∷ callers)
         ++ text_after snapshot.now index) }
 {
     let space = prepared_space(alloc, snapshot)?;
