@@ -14,7 +14,7 @@ use Rattle.stack_snapshot.specs.declared.errors.SnapshotError.TheVariants as fau
 use Rattle.command_ends.specs.declared.status.Status.{Status}
 use Rattle.command_ends.specs.declared.status.Status.TheVariants.{Done, ReadFault, WriteFault, TooLong, NotJson, BadSnapshot, Refused, Memory}
 use Rattle.unwind_cli.specs.declared.words.Task.{Task}
-use Rattle.unwind_cli.specs.declared.words.Task.TheVariants.{Deliver, Walk, Fold, Core}
+use Rattle.unwind_cli.specs.declared.words.Task.TheVariants.{Deliver, Walk, Fold, Core, Check}
 use Rattle.unwind_cli.specs.declared.words.Command.{Command}
 use Rattle.unwind_cli.specs.declared.words.Command.TheVariants.{OnSnapshot, Generate}
 use Rattle.unwind_cli.specs.Commands.{task_in}
@@ -27,7 +27,10 @@ use Rattle.stack_snapshot.specs.Cores.{CoreContent, core_content_of}
 use Rattle.stack_snapshot.specs.declared.cores.CoreSnapshotError.{CoreSnapshotError}
 use Rattle.stack_snapshot.specs.declared.cores.CoreSnapshotError.TheVariants as causes
 use Rattle.command_ends.specs.Answers.{fault_due}
-use Rattle.unwind_cli.specs.Due.{delivery_from, walk_from, refused_due, delivery_due, walk_due, folded_due, fault_of, read_due, core_due, core_fault, task_due, bytes_due, command_due, Refuses, RefusesCore}
+use Rattle.table_check.specs.declared.verdict.Verdict.{Verdict as Answer}
+use Rattle.claim_checks.specs.Claimed.{claimed_in}
+use Rattle.claim_checks.specs.declared.claimed.ClaimedModule.{ClaimedModule}
+use Rattle.unwind_cli.specs.Due.{checked_due, delivery_from, walk_from, refused_due, delivery_due, walk_due, folded_due, fault_of, read_due, core_due, core_fault, task_due, bytes_due, command_due, Refuses, RefusesCore}
 
 -- ---- what is answered
 
@@ -70,14 +73,15 @@ core_is P done refused bad (Err (causes.Snapshot e)) = bad e
 core_is P done refused bad (Err (causes.Core e)) = refused
 core_is P done refused bad (Err (causes.Region i)) = refused
 
-task_is : (P : Status → Option SnapshotError → Type 0) → P Done None → P Memory None → P Refused None → ((e : SnapshotError) → P (fault_due e).status (Some e)) → (task : Task) (bytes : List ℕ)
-    → P (task_due task bytes).status (fault_of (Some task) bytes)
-task_is P done memory refused bad Deliver bytes = read_is P (λ s. delivery_due (delivery_from s)) (λ s. delivery_is (λ x. P x None) done memory refused (delivery_from s)) bad (content_of bytes)
-task_is P done memory refused bad Walk bytes = read_is P (λ s. walk_due (walk_from s)) (λ s. walk_is (λ x. P x None) done memory refused (walk_from s)) bad (content_of bytes)
-task_is P done memory refused bad Fold bytes = read_is P folded_due (λ s. done) bad (sampled_in bytes)
-task_is P done memory refused bad Core bytes = core_is P done refused bad (core_content_of bytes)
+task_is : (P : Status → Option SnapshotError → Type 0) → P Done None → P Memory None → P Refused None → ((e : SnapshotError) → P (fault_due e).status (Some e)) → (answer : Answer) (task : Task) (bytes : List ℕ)
+    → P (task_due task bytes answer).status (fault_of (Some task) bytes)
+task_is P done memory refused bad answer Deliver bytes = read_is P (λ s. delivery_due (delivery_from s)) (λ s. delivery_is (λ x. P x None) done memory refused (delivery_from s)) bad (content_of bytes)
+task_is P done memory refused bad answer Walk bytes = read_is P (λ s. walk_due (walk_from s)) (λ s. walk_is (λ x. P x None) done memory refused (walk_from s)) bad (content_of bytes)
+task_is P done memory refused bad answer Fold bytes = read_is P folded_due (λ s. done) bad (sampled_in bytes)
+task_is P done memory refused bad answer Core bytes = core_is P done refused bad (core_content_of bytes)
+task_is P done memory refused bad answer Check bytes = read_is P (λ c. checked_due answer) (λ c. done) bad (claimed_in bytes)
 
-task_short : (task : Task) (bytes : List ℕ) → (task_due task bytes).status ≢ TooLong
+task_short : (answer : Answer) (task : Task) (bytes : List ℕ) → (task_due task bytes answer).status ≢ TooLong
 task_short = task_is (λ x o. x ≢ TooLong) (λ e. cc) (λ e. cc) (λ e. cc) bad
   where
     bad : (e : SnapshotError) → (fault_due e).status ≢ TooLong
@@ -85,7 +89,7 @@ task_short = task_is (λ x o. x ≢ TooLong) (λ e. cc) (λ e. cc) (λ e. cc) ba
     bad faults.NotJson = λ e. cc
     bad faults.NoMemory = λ e. cc
 
-task_unread : (task : Task) (bytes : List ℕ) → (task_due task bytes).status ≡ NotJson → fault_of (Some task) bytes ≡ Some faults.NotJson
+task_unread : (answer : Answer) (task : Task) (bytes : List ℕ) → (task_due task bytes answer).status ≡ NotJson → fault_of (Some task) bytes ≡ Some faults.NotJson
 task_unread = task_is (λ x o. x ≡ NotJson → o ≡ Some faults.NotJson) (λ e. absurd cc) (λ e. absurd cc) (λ e. absurd cc) bad
   where
     bad : (e : SnapshotError) → (fault_due e).status ≡ NotJson → Some e ≡ Some faults.NotJson
@@ -93,7 +97,7 @@ task_unread = task_is (λ x o. x ≡ NotJson → o ≡ Some faults.NotJson) (λ 
     bad faults.NotJson e = refl
     bad faults.NoMemory e = absurd cc
 
-unread_task : (task : Task) (bytes : List ℕ) → fault_of (Some task) bytes ≡ Some faults.NotJson → (task_due task bytes).status ≡ NotJson
+unread_task : (answer : Answer) (task : Task) (bytes : List ℕ) → fault_of (Some task) bytes ≡ Some faults.NotJson → (task_due task bytes answer).status ≡ NotJson
 unread_task = task_is (λ x o. o ≡ Some faults.NotJson → x ≡ NotJson) (λ e. absurd cc) (λ e. absurd cc) (λ e. absurd cc) bad
   where
     bad : (e : SnapshotError) → Some e ≡ Some faults.NotJson → (fault_due e).status ≡ NotJson
@@ -101,7 +105,7 @@ unread_task = task_is (λ x o. o ≡ Some faults.NotJson → x ≡ NotJson) (λ 
     bad faults.NotJson e = refl
     bad faults.NoMemory e = absurd cc
 
-task_faulty : (task : Task) (bytes : List ℕ) → (task_due task bytes).status ≡ BadSnapshot → (field : Field) × (fault_of (Some task) bytes ≡ Some (faults.Bad field))
+task_faulty : (answer : Answer) (task : Task) (bytes : List ℕ) → (task_due task bytes answer).status ≡ BadSnapshot → (field : Field) × (fault_of (Some task) bytes ≡ Some (faults.Bad field))
 task_faulty = task_is (λ x o. x ≡ BadSnapshot → (field : Field) × (o ≡ Some (faults.Bad field))) (λ e. absurd cc) (λ e. absurd cc) (λ e. absurd cc) bad
   where
     bad : (e : SnapshotError) → (fault_due e).status ≡ BadSnapshot → (field : Field) × (Some e ≡ Some (faults.Bad field))
@@ -109,7 +113,7 @@ task_faulty = task_is (λ x o. x ≡ BadSnapshot → (field : Field) × (o ≡ S
     bad faults.NotJson e = absurd cc
     bad faults.NoMemory e = absurd cc
 
-faulty_task : (field : Field) (task : Task) (bytes : List ℕ) → fault_of (Some task) bytes ≡ Some (faults.Bad field) → (task_due task bytes).status ≡ BadSnapshot
+faulty_task : (field : Field) (answer : Answer) (task : Task) (bytes : List ℕ) → fault_of (Some task) bytes ≡ Some (faults.Bad field) → (task_due task bytes answer).status ≡ BadSnapshot
 faulty_task field = task_is (λ x o. o ≡ Some (faults.Bad field) → x ≡ BadSnapshot) (λ e. absurd cc) (λ e. absurd cc) (λ e. absurd cc) bad
   where
     bad : (e : SnapshotError) → Some e ≡ Some (faults.Bad field) → (fault_due e).status ≡ BadSnapshot
@@ -120,63 +124,63 @@ faulty_task field = task_is (λ x o. o ≡ Some (faults.Bad field) → x ≡ Bad
 -- ---- what is due for all bytes
 
 -- either too many bytes, or what they say
-bytes_are : (P : Status → Type 0) (task : Task) (bytes : List ℕ) → (2 ^ 26 < length bytes → P TooLong) → (length bytes ≤ 2 ^ 26 → P (task_due task bytes).status) → P (bytes_due task bytes).status
-bytes_are P task bytes long short = go (ltb (2 ^ 26) (length bytes)) refl
+bytes_are : (P : Status → Type 0) (answer : Answer) (task : Task) (bytes : List ℕ) → (2 ^ 26 < length bytes → P TooLong) → (length bytes ≤ 2 ^ 26 → P (task_due task bytes answer).status) → P (bytes_due task bytes answer).status
+bytes_are P answer task bytes long short = go (ltb (2 ^ 26) (length bytes)) refl
   where
-    go : (b : Bool) → ltb (2 ^ 26) (length bytes) ≡ b → P (if b then verdict TooLong (line (codes "too long")) else task_due task bytes).status
+    go : (b : Bool) → ltb (2 ^ 26) (length bytes) ≡ b → P (if b then verdict TooLong (line (codes "too long")) else task_due task bytes answer).status
     go true is = long (grind (arith, nat_tests))
     go false is = short (grind (arith, nat_tests))
 
-short_due : (task : Task) (bytes : List ℕ) → length bytes ≤ 2 ^ 26 → bytes_due task bytes ≡ task_due task bytes
-short_due task bytes short = rw (le-ltb (2 ^ 26) (length bytes) short) refl
+short_due : (answer : Answer) (task : Task) (bytes : List ℕ) → length bytes ≤ 2 ^ 26 → bytes_due task bytes answer ≡ task_due task bytes answer
+short_due answer task bytes short = rw (le-ltb (2 ^ 26) (length bytes) short) refl
 
 -- ---- too many bytes
 
 abbrev pub IsTooLong : Option Task → List ℕ → Type 0
 IsTooLong task bytes = IsSome task × (2 ^ 26 < length bytes)
 
-long_cause : (o : Option Command) (bytes : List ℕ) (probes : ℕ) → (command_due o bytes probes).status ≡ TooLong → IsTooLong (task_in o) bytes
-long_cause None bytes probes is = absurd cc
-long_cause (Some (OnSnapshot task)) bytes probes is =
-    (refl, bytes_are (λ x. x ≡ TooLong → 2 ^ 26 < length bytes) task bytes (λ long e. long) (λ short e. absurd (task_short task bytes e)) is)
-long_cause (Some (Generate count seed)) bytes probes is = absurd cc
+long_cause : (o : Option Command) (bytes : List ℕ) (probes : ℕ) (answer : Answer) → (command_due o bytes probes answer).status ≡ TooLong → IsTooLong (task_in o) bytes
+long_cause None bytes probes answer is = absurd cc
+long_cause (Some (OnSnapshot task)) bytes probes answer is =
+    (refl, bytes_are (λ x. x ≡ TooLong → 2 ^ 26 < length bytes) answer task bytes (λ long e. long) (λ short e. absurd (task_short answer task bytes e)) is)
+long_cause (Some (Generate count seed)) bytes probes answer is = absurd cc
 
-long_due : (o : Option Command) (bytes : List ℕ) (probes : ℕ) → IsTooLong (task_in o) bytes → (command_due o bytes probes).status ≡ TooLong
-long_due None bytes probes is = absurd (let some : IsSome {T = Task} None = is.0 in cc)
-long_due (Some (OnSnapshot task)) bytes probes is = rw (lt-ltb (2 ^ 26) (length bytes) is.1) refl
-long_due (Some (Generate count seed)) bytes probes is = absurd (let some : IsSome {T = Task} None = is.0 in cc)
+long_due : (o : Option Command) (bytes : List ℕ) (probes : ℕ) (answer : Answer) → IsTooLong (task_in o) bytes → (command_due o bytes probes answer).status ≡ TooLong
+long_due None bytes probes answer is = absurd (let some : IsSome {T = Task} None = is.0 in cc)
+long_due (Some (OnSnapshot task)) bytes probes answer is = rw (lt-ltb (2 ^ 26) (length bytes) is.1) refl
+long_due (Some (Generate count seed)) bytes probes answer is = absurd (let some : IsSome {T = Task} None = is.0 in cc)
 
 -- ---- no JSON text
 
 abbrev pub IsUnread : Option Task → List ℕ → Type 0
 IsUnread task bytes = IsSome task × (length bytes ≤ 2 ^ 26) × (fault_of task bytes ≡ Some faults.NotJson)
 
-unread_cause : (o : Option Command) (bytes : List ℕ) (probes : ℕ) → (command_due o bytes probes).status ≡ NotJson → IsUnread (task_in o) bytes
-unread_cause None bytes probes is = absurd cc
-unread_cause (Some (OnSnapshot task)) bytes probes is =
-    bytes_are (λ x. x ≡ NotJson → IsUnread (Some task) bytes) task bytes (λ long e. absurd cc) (λ short e. (refl, short, task_unread task bytes e)) is
-unread_cause (Some (Generate count seed)) bytes probes is = absurd cc
+unread_cause : (o : Option Command) (bytes : List ℕ) (probes : ℕ) (answer : Answer) → (command_due o bytes probes answer).status ≡ NotJson → IsUnread (task_in o) bytes
+unread_cause None bytes probes answer is = absurd cc
+unread_cause (Some (OnSnapshot task)) bytes probes answer is =
+    bytes_are (λ x. x ≡ NotJson → IsUnread (Some task) bytes) answer task bytes (λ long e. absurd cc) (λ short e. (refl, short, task_unread answer task bytes e)) is
+unread_cause (Some (Generate count seed)) bytes probes answer is = absurd cc
 
-unread_due : (o : Option Command) (bytes : List ℕ) (probes : ℕ) → IsUnread (task_in o) bytes → (command_due o bytes probes).status ≡ NotJson
-unread_due None bytes probes is = absurd (let some : IsSome {T = Task} None = is.0 in cc)
-unread_due (Some (OnSnapshot task)) bytes probes is = rw (le-ltb (2 ^ 26) (length bytes) is.1) (unread_task task bytes is.2)
-unread_due (Some (Generate count seed)) bytes probes is = absurd (let some : IsSome {T = Task} None = is.0 in cc)
+unread_due : (o : Option Command) (bytes : List ℕ) (probes : ℕ) (answer : Answer) → IsUnread (task_in o) bytes → (command_due o bytes probes answer).status ≡ NotJson
+unread_due None bytes probes answer is = absurd (let some : IsSome {T = Task} None = is.0 in cc)
+unread_due (Some (OnSnapshot task)) bytes probes answer is = rw (le-ltb (2 ^ 26) (length bytes) is.1) (unread_task answer task bytes is.2)
+unread_due (Some (Generate count seed)) bytes probes answer is = absurd (let some : IsSome {T = Task} None = is.0 in cc)
 
 -- ---- a faulty field
 
 abbrev pub IsFaulty : Option Task → List ℕ → Type 0
 IsFaulty task bytes = IsSome task × (length bytes ≤ 2 ^ 26) × ((field : Field) × (fault_of task bytes ≡ Some (faults.Bad field)))
 
-faulty_cause : (o : Option Command) (bytes : List ℕ) (probes : ℕ) → (command_due o bytes probes).status ≡ BadSnapshot → IsFaulty (task_in o) bytes
-faulty_cause None bytes probes is = absurd cc
-faulty_cause (Some (OnSnapshot task)) bytes probes is =
-    bytes_are (λ x. x ≡ BadSnapshot → IsFaulty (Some task) bytes) task bytes (λ long e. absurd cc) (λ short e. (refl, short, task_faulty task bytes e)) is
-faulty_cause (Some (Generate count seed)) bytes probes is = absurd cc
+faulty_cause : (o : Option Command) (bytes : List ℕ) (probes : ℕ) (answer : Answer) → (command_due o bytes probes answer).status ≡ BadSnapshot → IsFaulty (task_in o) bytes
+faulty_cause None bytes probes answer is = absurd cc
+faulty_cause (Some (OnSnapshot task)) bytes probes answer is =
+    bytes_are (λ x. x ≡ BadSnapshot → IsFaulty (Some task) bytes) answer task bytes (λ long e. absurd cc) (λ short e. (refl, short, task_faulty answer task bytes e)) is
+faulty_cause (Some (Generate count seed)) bytes probes answer is = absurd cc
 
-faulty_due : (o : Option Command) (bytes : List ℕ) (probes : ℕ) → IsFaulty (task_in o) bytes → (command_due o bytes probes).status ≡ BadSnapshot
-faulty_due None bytes probes is = absurd (let some : IsSome {T = Task} None = is.0 in cc)
-faulty_due (Some (OnSnapshot task)) bytes probes is = let f = is.2 in rw (le-ltb (2 ^ 26) (length bytes) is.1) (faulty_task f.0 task bytes f.1)
-faulty_due (Some (Generate count seed)) bytes probes is = absurd (let some : IsSome {T = Task} None = is.0 in cc)
+faulty_due : (o : Option Command) (bytes : List ℕ) (probes : ℕ) (answer : Answer) → IsFaulty (task_in o) bytes → (command_due o bytes probes answer).status ≡ BadSnapshot
+faulty_due None bytes probes answer is = absurd (let some : IsSome {T = Task} None = is.0 in cc)
+faulty_due (Some (OnSnapshot task)) bytes probes answer is = let f = is.2 in rw (le-ltb (2 ^ 26) (length bytes) is.1) (faulty_task f.0 answer task bytes f.1)
+faulty_due (Some (Generate count seed)) bytes probes answer is = absurd (let some : IsSome {T = Task} None = is.0 in cc)
 
 -- ---- a task that is refused
 
@@ -203,29 +207,29 @@ walk_refused : (r : Result (List Context) DeliverError) → (walk_due r).status 
 walk_refused (Ok cs) is = absurd cc
 walk_refused (Err e) is = (e, some_error e is, refl)
 
-task_refused : (task : Task) (bytes : List ℕ) → (task_due task bytes).status ≡ Refused → RefusesSnapshot (Some task) bytes ⊎ RefusesCore (Some task) bytes
-task_refused Deliver bytes is = go (content_of bytes) refl is
+task_refused : (answer : Answer) (task : Task) (bytes : List ℕ) → (task_due task bytes answer).status ≡ Refused → RefusesSnapshot (Some task) bytes ⊎ RefusesCore (Some task) bytes
+task_refused answer Deliver bytes is = go (content_of bytes) refl is
   where
     go : (r : Result Content SnapshotError) → content_of bytes ≡ r → (read_due (λ s. delivery_due (delivery_from s)) r).status ≡ Refused → RefusesSnapshot (Some Deliver) bytes ⊎ ⊥
     go (Ok s) at is = inl (s, at, delivery_refused (delivery_from s) is)
     go (Err (faults.Bad field)) at is = absurd cc
     go (Err faults.NotJson) at is = absurd cc
     go (Err faults.NoMemory) at is = absurd cc
-task_refused Walk bytes is = go (content_of bytes) refl is
+task_refused answer Walk bytes is = go (content_of bytes) refl is
   where
     go : (r : Result Content SnapshotError) → content_of bytes ≡ r → (read_due (λ s. walk_due (walk_from s)) r).status ≡ Refused → RefusesSnapshot (Some Walk) bytes ⊎ ⊥
     go (Ok s) at is = inl (s, at, walk_refused (walk_from s) is)
     go (Err (faults.Bad field)) at is = absurd cc
     go (Err faults.NotJson) at is = absurd cc
     go (Err faults.NoMemory) at is = absurd cc
-task_refused Fold bytes is = absurd (go (sampled_in bytes) is)
+task_refused answer Fold bytes is = absurd (go (sampled_in bytes) is)
   where
     go : (r : Result SampledContent SnapshotError) → (read_due folded_due r).status ≡ Refused → ⊥
     go (Ok s) is = cc
     go (Err (faults.Bad field)) is = cc
     go (Err faults.NotJson) is = cc
     go (Err faults.NoMemory) is = cc
-task_refused Core bytes is = inr (go (core_content_of bytes) refl is)
+task_refused answer Core bytes is = inr (go (core_content_of bytes) refl is)
   where
     go : (r : Result CoreContent CoreSnapshotError) → core_content_of bytes ≡ r → (core_due r).status ≡ Refused → RefusesCore (Some Core) bytes
     go (Ok c) at is = absurd cc
@@ -234,43 +238,52 @@ task_refused Core bytes is = inr (go (core_content_of bytes) refl is)
     go (Err (causes.Snapshot faults.NoMemory)) at is = absurd cc
     go (Err (causes.Core error)) at is = inl (error, at)
     go (Err (causes.Region i)) at is = inr (i, at)
+task_refused answer Check bytes is = absurd (go (claimed_in bytes) is)
+  where
+    go : (r : Result ClaimedModule SnapshotError) → (read_due (λ c. checked_due answer) r).status ≡ Refused → ⊥
+    go (Ok c) is = cc
+    go (Err (faults.Bad field)) is = cc
+    go (Err faults.NotJson) is = cc
+    go (Err faults.NoMemory) is = cc
 
-refused_cause : (o : Option Command) (bytes : List ℕ) (probes : ℕ) → (command_due o bytes probes).status ≡ Refused → IsRefused (task_in o) bytes
-refused_cause None bytes probes is = absurd cc
-refused_cause (Some (OnSnapshot task)) bytes probes is =
-    bytes_are (λ x. x ≡ Refused → IsRefused (Some task) bytes) task bytes (λ long e. absurd cc) (λ short e. (refl, short, task_refused task bytes e)) is
-refused_cause (Some (Generate count seed)) bytes probes is = absurd cc
+refused_cause : (o : Option Command) (bytes : List ℕ) (probes : ℕ) (answer : Answer) → (command_due o bytes probes answer).status ≡ Refused → IsRefused (task_in o) bytes
+refused_cause None bytes probes answer is = absurd cc
+refused_cause (Some (OnSnapshot task)) bytes probes answer is =
+    bytes_are (λ x. x ≡ Refused → IsRefused (Some task) bytes) answer task bytes (λ long e. absurd cc) (λ short e. (refl, short, task_refused answer task bytes e)) is
+refused_cause (Some (Generate count seed)) bytes probes answer is = absurd cc
 
-refused_task : (task : Task) (bytes : List ℕ) → RefusesSnapshot (Some task) bytes ⊎ RefusesCore (Some task) bytes → (task_due task bytes).status ≡ Refused
-refused_task Deliver bytes (inl (s, reads, (error, other, is))) = rw (reads, is) (error_due error other)
-refused_task Deliver bytes (inr is) = absurd is
-refused_task Walk bytes (inl (s, reads, (error, other, is))) = rw (reads, is) (error_due error other)
-refused_task Walk bytes (inr is) = absurd is
-refused_task Fold bytes (inl (s, reads, (error, other, is))) = absurd is
-refused_task Fold bytes (inr is) = absurd is
-refused_task Core bytes (inl (s, reads, (error, other, is))) = absurd is
-refused_task Core bytes (inr (inl (error, is))) = rw is refl
-refused_task Core bytes (inr (inr (i, is))) = rw is refl
+refused_task : (answer : Answer) (task : Task) (bytes : List ℕ) → RefusesSnapshot (Some task) bytes ⊎ RefusesCore (Some task) bytes → (task_due task bytes answer).status ≡ Refused
+refused_task answer Deliver bytes (inl (s, reads, (error, other, is))) = rw (reads, is) (error_due error other)
+refused_task answer Deliver bytes (inr is) = absurd is
+refused_task answer Walk bytes (inl (s, reads, (error, other, is))) = rw (reads, is) (error_due error other)
+refused_task answer Walk bytes (inr is) = absurd is
+refused_task answer Fold bytes (inl (s, reads, (error, other, is))) = absurd is
+refused_task answer Fold bytes (inr is) = absurd is
+refused_task answer Core bytes (inl (s, reads, (error, other, is))) = absurd is
+refused_task answer Core bytes (inr (inl (error, is))) = rw is refl
+refused_task answer Core bytes (inr (inr (i, is))) = rw is refl
+refused_task answer Check bytes (inl (s, reads, (error, other, is))) = absurd is
+refused_task answer Check bytes (inr is) = absurd is
 
-refused_for : (o : Option Command) (bytes : List ℕ) (probes : ℕ) → IsRefused (task_in o) bytes → (command_due o bytes probes).status ≡ Refused
-refused_for None bytes probes is = absurd (let some : IsSome {T = Task} None = is.0 in cc)
-refused_for (Some (OnSnapshot task)) bytes probes is = rw (le-ltb (2 ^ 26) (length bytes) is.1) (refused_task task bytes is.2)
-refused_for (Some (Generate count seed)) bytes probes is = absurd (let some : IsSome {T = Task} None = is.0 in cc)
+refused_for : (o : Option Command) (bytes : List ℕ) (probes : ℕ) (answer : Answer) → IsRefused (task_in o) bytes → (command_due o bytes probes answer).status ≡ Refused
+refused_for None bytes probes answer is = absurd (let some : IsSome {T = Task} None = is.0 in cc)
+refused_for (Some (OnSnapshot task)) bytes probes answer is = rw (le-ltb (2 ^ 26) (length bytes) is.1) (refused_task answer task bytes is.2)
+refused_for (Some (Generate count seed)) bytes probes answer is = absurd (let some : IsSome {T = Task} None = is.0 in cc)
 
 -- ---- when each of them is answered
 
-module _ (o : Option Command) (bytes : List ℕ) (probes : ℕ) (result : Status) (before after : Option (List ℕ)) (told : Tells (command_due o bytes probes) result before after) where
+module _ (o : Option Command) (bytes : List ℕ) (probes : ℕ) (answer : Answer) (result : Status) (before after : Option (List ℕ)) (told : Tells (command_due o bytes probes answer) result before after) where
   abbrev due : Verdict
-  due = command_due o bytes probes
+  due = command_due o bytes probes answer
 
   pub long_told : ComesExactly result TooLong (IsTooLong (task_in o) bytes)
-  long_told = comes (IsTooLong (task_in o) bytes) due result TooLong before after told (λ is. sym (told_as due result TooLong before after told is).0) (long_cause o bytes probes) (long_due o bytes probes)
+  long_told = comes (IsTooLong (task_in o) bytes) due result TooLong before after told (λ is. sym (told_as due result TooLong before after told is).0) (long_cause o bytes probes answer) (long_due o bytes probes answer)
 
   pub unread_told : ComesExactly result NotJson (IsUnread (task_in o) bytes)
-  unread_told = comes (IsUnread (task_in o) bytes) due result NotJson before after told (λ is. sym (told_as due result NotJson before after told is).0) (unread_cause o bytes probes) (unread_due o bytes probes)
+  unread_told = comes (IsUnread (task_in o) bytes) due result NotJson before after told (λ is. sym (told_as due result NotJson before after told is).0) (unread_cause o bytes probes answer) (unread_due o bytes probes answer)
 
   pub faulty_told : ComesExactly result BadSnapshot (IsFaulty (task_in o) bytes)
-  faulty_told = comes (IsFaulty (task_in o) bytes) due result BadSnapshot before after told (λ is. sym (told_as due result BadSnapshot before after told is).0) (faulty_cause o bytes probes) (faulty_due o bytes probes)
+  faulty_told = comes (IsFaulty (task_in o) bytes) due result BadSnapshot before after told (λ is. sym (told_as due result BadSnapshot before after told is).0) (faulty_cause o bytes probes answer) (faulty_due o bytes probes answer)
 
   pub refused_told : ComesExactly result Refused (IsRefused (task_in o) bytes)
-  refused_told = comes (IsRefused (task_in o) bytes) due result Refused before after told (λ is. sym (told_as due result Refused before after told is).0) (refused_cause o bytes probes) (refused_for o bytes probes)
+  refused_told = comes (IsRefused (task_in o) bytes) due result Refused before after told (λ is. sym (told_as due result Refused before after told is).0) (refused_cause o bytes probes answer) (refused_for o bytes probes answer)

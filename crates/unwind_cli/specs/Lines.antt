@@ -3,4 +3,4 @@ use Rattle.std.specs.Prelude.{ℕ, List, codes}
 use Rattle.stack_report.specs.Report.{line}
 
 abbrev pub usage_line : List ℕ
-usage_line = line (codes "usage: unwind_cli deliver | walk | generate COUNT SEED | fold | core")
+usage_line = line (codes "usage: unwind_cli deliver | walk | generate COUNT SEED | fold | core | check")

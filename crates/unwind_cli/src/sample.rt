@@ -7,6 +7,7 @@ ghost use Rattle.unwind_definitions.specs.Chain.{states_of};
 ghost use Rattle.unwind_definitions.specs.Delivery.{delivery_of};
 ghost use Rattle.unwind_laws.specs.Pushing.{function, start, calls};
 ghost use Rattle.unwind_laws.specs.Storing as storing;
+ghost use Rattle.frame_facts_laws.specs.SampleProgram as layouts;
 ghost use Rattle.unwind_laws.specs.Three as three;
 ghost use Rattle.unwind_arch.specs.ContextViews.{columns_of};
 ghost use Rattle.stack_steps.specs.SpaceViews.{process_of};
@@ -22,6 +23,15 @@ ghost use Rattle.unwind_cli.specs.FramePointer as frame_pointer;
 ghost use Rattle.unwind_cli.specs.Allocated as allocated;
 ghost use Rattle.unwind_cli.specs.Caught as caught;
 ghost use Rattle.unwind_cli.specs.Formats as formats;
+ghost use Rattle.unwind_cli.specs.HandledMacho as handled_macho;
+ghost use Rattle.unwind_cli.specs.HandledPe as handled_pe;
+ghost use Rattle.format_samples.specs.MachoHandler as macho_handler;
+ghost use Rattle.format_samples.specs.PeHandler as pe_handler;
+ghost use Rattle.unwind_cli.specs.KnownSample as known;
+ghost use Rattle.unwind_cli.specs.Landings as landings;
+ghost use Rattle.fact_deliveries.specs.LandingProgram as program;
+ghost use Rattle.frame_facts.specs.FactDeliveries.{delivery_to};
+ghost use Rattle.stack_deliver.specs.KnownDeliveries.{StartsKnownDelivery};
 ghost use Rattle.format_laws.specs.FormatSample as mixed;
 ghost use Rattle.core_walks.specs.Lines.{stopped_text, text_before, text_after};
 ghost use Rattle.folded_stacks.specs.Folding.{chain_stack};
@@ -33,8 +43,12 @@ ghost use Rattle.stack_snapshot.specs.Described.{DescribesFormatWalk};
 ghost use Rattle.stack_snapshot.specs.Sampled.{sampled_space};
 ghost use Rattle.stack_steps.specs.Stopped.{StartsFormatStop};
 ghost use Rattle.stack_steps.specs.StopSample.{after_the_push, stopped_at};
+ghost use Rattle.stack_walks.specs.KnownWalks.{StartsKnownStack};
 ghost use Rattle.stack_walks.specs.Walking.{StartsFormatChain};
-ghost use Rattle.unwind_cli.specs.Due.{AsksCore, AsksFold, fold_from};
+ghost use Rattle.table_check.specs.declared.verdict.Verdict.TheVariants.{Yes};
+ghost use Rattle.claim_checks.specs.Claimed.{Describes};
+ghost use Rattle.unwind_cli.specs.Checked.{claimed, claimed_json};
+ghost use Rattle.unwind_cli.specs.Due.{AsksCheck, AsksCore, AsksFold, checked_due, fold_from};
 ghost use Rattle.unwind_cli.specs.Stopped.{stopped, stopped_json, core, core_json, core_text};
 ghost use Rattle.unwind_cli.specs.Stopped.{stopped_sample, sampled};
 ghost use Rattle.unwind_cli.specs.Stopped.{sampled_json, sampled_text};
@@ -137,6 +151,29 @@ pub fn calls_through_formats_are_described()
         formats.walked }
 {}
 
+/// A snapshot of a Mach-O module whose one function has a handler for the exception, as its section
+/// of compact unwinding says, meets what `run` asks of a described chain; and this text is then due.
+pub fn handler_of_a_macho_function_is_described()
+    ensures read { content_of handled_macho.json ≡ Ok handled_macho.snapshot }
+    ensures delivered { Asks task.Deliver (codes "deliver" ∷ []) (Some handled_macho.json)
+        handled_macho.snapshot }
+    ensures described { DescribesFormatChain handled_macho.snapshot macho_handler.functions
+        macho_handler.start macho_handler.calls }
+    ensures written { delivery_text (delivery_of 0x900000 macho_handler.start macho_handler.calls) ≡
+        handled_macho.text }
+{}
+
+/// The same of a PE module, by its function's unwind record.
+pub fn handler_of_a_pe_function_is_described()
+    ensures read { content_of handled_pe.json ≡ Ok handled_pe.snapshot }
+    ensures delivered { Asks task.Deliver (codes "deliver" ∷ []) (Some handled_pe.json)
+        handled_pe.snapshot }
+    ensures described { DescribesFormatChain handled_pe.snapshot pe_handler.functions
+        pe_handler.start pe_handler.calls }
+    ensures written { delivery_text (delivery_of 0x900000 pe_handler.start pe_handler.calls) ≡
+        handled_pe.text }
+{}
+
 /// What a step asks of a call that it undoes is met by that function, which pushes, sets a frame
 /// pointer and allocates.
 pub fn pushed_call_is_described()
@@ -200,4 +237,37 @@ pub fn samples_are_described()
         (function ∷ []) start after_the_push [] }
     ensures stack { chain_stack start (after_the_push ∷ []) ≡ 0x401006 ∷ [] }
     ensures written { fold_report_of (fold_from sampled) ≡ sampled_text }
+{}
+
+/// The function that pushes RBX, claimed so, meets what `run` asks of functions that a module
+/// describes, from its bytes on, and this text is then due.
+pub fn claimed_push_is_described()
+    ensures read { AsksCheck (codes "check" ∷ []) (Some claimed_json) claimed }
+    ensures described { Describes claimed }
+    ensures written { (checked_due Yes).text ≡ codes "yes\n" }
+{}
+
+/// A snapshot of a program that was stopped in an epilogue after two pops meets what `run` asks of a
+/// stack of each of whose frames it is known how its caller's state follows, from its bytes on. The
+/// stack goes through a part of a function that lies apart from it, a frame with pushed arguments
+/// and a realigned one, to `_start`.
+pub fn stop_in_an_epilogue_is_known()
+    ensures read { Asks task.Walk (codes "walk" ∷ []) (Some known.json) known.snapshot }
+    ensures starts { StartsKnownStack (space_of known.snapshot) known.snapshot.start
+        known.snapshot.limit known.snapshot.interrupted layouts.popped layouts.states }
+    ensures written { walk_text (layouts.popped ∷ layouts.states) ≡ known.text }
+{}
+
+/// A snapshot of a small C++ program where an exception is raised meets what `run` asks of a delivery
+/// to a stack that is known frame by frame, from its bytes on. A cleanup and a handler are entered
+/// past two pushed arguments each, and the cleanup goes on in a part of its function that lies apart
+/// from it. This text is then due.
+pub fn landings_past_arguments_are_known()
+    ensures read { Asks task.Deliver (codes "deliver" ∷ []) (Some landings.json)
+        landings.snapshot }
+    ensures starts { StartsKnownDelivery (space_of landings.snapshot) landings.snapshot.start
+        landings.snapshot.resumes landings.snapshot.limit program.in_raises program.callers
+        program.asked }
+    ensures written { delivery_text (delivery_to landings.snapshot.exception
+        (program.in_raises ∷ program.callers) program.asked) ≡ landings.text }
 {}

@@ -12,7 +12,8 @@ const ELF: &str =
 const SECTION: &str =
     "010000001c000000010000000000000000000000200000000300000000000102001000004400000000000000002000005800000000000000003000000000000000000000030000000c00020014000000000000000001000102000000080001000020000001000101";
 
-/// The same where the first function has a language table.
+/// The same where the opcode of the first function says that it has a language table, and names no
+/// personality.
 const HANDLED_SECTION: &str =
     "010000001c000000010000000000000000000000200000000300000000000142001000004400000000000000002000005800000000000000003000000000000000000000030000000c00020014000000000000000001000102000000080001000020000001000101";
 
@@ -33,7 +34,7 @@ const RECORD: &str =
 /// It allocates 40 bytes after it has pushed RBX.
 const INFO: &str = "0105020005420130";
 
-/// The same of a record that names a handler for exceptions, at 0x1000.
+/// The same of a record that names a handler for exceptions, at 0x1000, after which its region ends.
 const HANDLED_INFO: &str = "090502000542013000100000";
 
 /// A record that is chained to itself.
@@ -106,7 +107,49 @@ const RETURN: &str = "000\",\"bytes\":\"0000000000000000";
 const IN_EPILOG: &str =
     "],\"limit\":2,\"interrupted\":true,\"start\":{\"rip\":\"0x1400012e1\",\"rsp\":\"0x7000\",\"rbx\":\"0x9\"}}";
 
-static CASES: [Case; 10] = [
+/// A section with one function, whose opcode names the first of the section's personalities and says
+/// that it has a language table, which lies 0x1800 bytes after the module's base.
+const TABLED_SECTION: &str =
+    "{\"regions\":[{\"address\":\"0x600000\",\"bytes\":\"010000001c0000000100000020000000010000002400000002000000000001520030000000100000440000003c000000002000000000000044000000001000000018000002000000080001000010000000000152";
+
+/// The same where the part of the page in the list of language tables ends 4 bytes earlier.
+const CUT_SECTION: &str =
+    "{\"regions\":[{\"address\":\"0x600000\",\"bytes\":\"010000001c0000000100000020000000010000002400000002000000000001520030000000100000440000003c000000002000000000000040000000001000000018000002000000080001000010000000000152";
+
+/// The same as the first where there are no personalities.
+const UNNAMED_SECTION: &str =
+    "{\"regions\":[{\"address\":\"0x600000\",\"bytes\":\"010000001c0000000100000020000000000000002400000002000000000001520030000000100000440000003c000000002000000000000044000000001000000018000002000000080001000010000000000152";
+
+/// The same as the first where the opcode names no personality.
+const SILENT_SECTION: &str =
+    "{\"regions\":[{\"address\":\"0x600000\",\"bytes\":\"010000001c0000000100000020000000010000002400000002000000000001520030000000100000440000003c000000002000000000000044000000001000000018000002000000080001000010000000000142";
+
+/// The table: the calls in the bytes 8 to 0x18 of the function have a handler at 0x20.
+const TABLE: &str = "\"},{\"address\":\"0x100001800\",\"bytes\":\"ffff0104081020010100";
+
+const TABLED_MODULE: &str =
+    "{\"kind\":\"macho\",\"base\":\"0x100000000\",\"size\":\"0x4000\",\"unwind_info\":\"0x600000\"}";
+
+const TABLED_START: &str =
+    "],\"exception\":\"0x900000\",\"limit\":2,\"start\":{\"rip\":\"0x100001010\",\"rsp\":\"0x7000\"}}";
+
+/// A record that names a handler for exceptions, at 0x2800, and its language table: the calls in the
+/// bytes 8 to 0x18 of the function have a handler at 0x20.
+const TABLED_INFO: &str = "0900000000280000ffff0104081020010100";
+
+/// The same of a handler for termination.
+const TERMINATION_INFO: &str = "1100000000280000ffff0104081020010100";
+
+/// The first one cut inside the handler's address.
+const CUT_INFO: &str = "090000000028";
+
+/// A record that is chained to the first one, as that of a function which begins 8 bytes before.
+const CHAINED_INFO: &str = "21000000f80f000000110000202000000900000000280000ffff0104081020010100";
+
+const PE_HANDLER_START: &str =
+    "],\"exception\":\"0x900000\",\"limit\":2,\"start\":{\"rip\":\"0x140001010\",\"rsp\":\"0x7000\"}}";
+
+static CASES: [Case; 19] = [
     Case {
         words: &["deliver"],
         input: &[
@@ -164,8 +207,8 @@ static CASES: [Case; 10] = [
             PE_MODULE,
             START,
         ],
-        number: 8,
-        lines: &["refused: compact handler"],
+        number: 0,
+        lines: &[FIRST, SECOND, THIRD, LANDING, "outcome installed"],
     },
     // A walk doesn't look at handlers.
     Case {
@@ -205,8 +248,8 @@ static CASES: [Case; 10] = [
             PE_MODULE,
             START,
         ],
-        number: 8,
-        lines: &["refused: pe handler"],
+        number: 0,
+        lines: &[FIRST, SECOND, "outcome fatal phase 1"],
     },
     Case {
         words: &["deliver"],
@@ -285,6 +328,121 @@ static CASES: [Case; 10] = [
             "frame 0 ra=0x1400012e1 sp=0x7000 rbx=0x9 rbp=0x0 r12=0x0 r13=0x0 r14=0x0 r15=0x0",
             "frame 1 ra=0x0 sp=0x7008 rbx=0x9 rbp=0x0 r12=0x0 r13=0x0 r14=0x0 r15=0x0",
             "end",
+        ],
+    },
+    // A function of a Mach-O module with a handler.
+    Case {
+        words: &["deliver"],
+        input: &[TABLED_SECTION, TABLE, MODULES, TABLED_MODULE, TABLED_START],
+        number: 0,
+        lines: &[
+            "frame 0 ra=0x100001010 sp=0x7000 rbx=0x0 rbp=0x0 r12=0x0 r13=0x0 r14=0x0 r15=0x0",
+            "landing ra=0x100001020 sp=0x7000 rbx=0x0 rbp=0x0 r12=0x0 r13=0x0 r14=0x0 r15=0x0 rax=0x900000 rdx=0x0",
+            "outcome installed",
+        ],
+    },
+    Case {
+        words: &["deliver"],
+        input: &[CUT_SECTION, TABLE, MODULES, TABLED_MODULE, TABLED_START],
+        number: 8,
+        lines: &["refused: macho ReadError Lsda"],
+    },
+    Case {
+        words: &["deliver"],
+        input: &[UNNAMED_SECTION, TABLE, MODULES, TABLED_MODULE, TABLED_START],
+        number: 8,
+        lines: &["refused: macho ReadError Personalities"],
+    },
+    Case {
+        words: &["deliver"],
+        input: &[SILENT_SECTION, TABLE, MODULES, TABLED_MODULE, TABLED_START],
+        number: 8,
+        lines: &["refused: unmapped 0x7000"],
+    },
+    // A function of a PE module with a handler.
+    Case {
+        words: &["deliver"],
+        input: &[
+            FIRST_CODE,
+            NOPS,
+            RECORD,
+            TABLED_INFO,
+            MODULES,
+            PE_MODULE,
+            PE_HANDLER_START,
+        ],
+        number: 0,
+        lines: &[
+            "frame 0 ra=0x140001010 sp=0x7000 rbx=0x0 rbp=0x0 r12=0x0 r13=0x0 r14=0x0 r15=0x0",
+            "landing ra=0x140001020 sp=0x7000 rbx=0x0 rbp=0x0 r12=0x0 r13=0x0 r14=0x0 r15=0x0 rax=0x900000 rdx=0x0",
+            "outcome installed",
+        ],
+    },
+    Case {
+        words: &["deliver"],
+        input: &[
+            FIRST_CODE,
+            NOPS,
+            RECORD,
+            CUT_INFO,
+            MODULES,
+            PE_MODULE,
+            PE_HANDLER_START,
+        ],
+        number: 8,
+        lines: &["refused: pe info"],
+    },
+    // A walk doesn't ask for it.
+    Case {
+        words: &["walk"],
+        input: &[
+            FIRST_CODE,
+            NOPS,
+            RECORD,
+            CUT_INFO,
+            MODULES,
+            PE_MODULE,
+            PE_HANDLER_START,
+        ],
+        number: 8,
+        lines: &["refused: unmapped 0x7000"],
+    },
+    // Which flag is set makes no difference.
+    Case {
+        words: &["deliver"],
+        input: &[
+            FIRST_CODE,
+            NOPS,
+            RECORD,
+            TERMINATION_INFO,
+            MODULES,
+            PE_MODULE,
+            PE_HANDLER_START,
+        ],
+        number: 0,
+        lines: &[
+            "frame 0 ra=0x140001010 sp=0x7000 rbx=0x0 rbp=0x0 r12=0x0 r13=0x0 r14=0x0 r15=0x0",
+            "landing ra=0x140001020 sp=0x7000 rbx=0x0 rbp=0x0 r12=0x0 r13=0x0 r14=0x0 r15=0x0 rax=0x900000 rdx=0x0",
+            "outcome installed",
+        ],
+    },
+    // The handler's table counts from the function of the record that names it.
+    Case {
+        words: &["deliver"],
+        input: &[
+            FIRST_CODE,
+            NOPS,
+            RECORD,
+            CHAINED_INFO,
+            MODULES,
+            PE_MODULE,
+            PE_HANDLER_START,
+        ],
+        number: 0,
+        lines: &[
+            "frame 0 ra=0x140001010 sp=0x7000 rbx=0x0 rbp=0x0 r12=0x0 r13=0x0 r14=0x0 r15=0x0",
+            "landing ra=0x140001018 sp=0x7000 rbx=0x0 rbp=0x0 r12=0x0 r13=0x0 r14=0x0 r15=0x0 rax=0x900000 rdx=0x0",
+            "outcome installed",
         ],
     },
 ];
