@@ -104,7 +104,7 @@ tested space c interrupted (marked, inr none) = rw (marked, none) (either (c.ra 
     either false = refl
 
 -- after a call to nowhere the caller that the stack names shows the caller's state
-called_caller : (space : SpaceValue) (c : Context) (interrupted : Bool) (t s : State) → IsWhole c → IsNowhere space c interrupted → IsEntered space.image false [] t s → IsState t → t.ra ≢ 0 → Shows (columns_of c) s →
+pub called_caller : (space : SpaceValue) (c : Context) (interrupted : Bool) (t s : State) → IsWhole c → IsNowhere space c interrupted → IsEntered space.image false [] t s → IsState t → t.ra ≢ 0 → Shows (columns_of c) s →
     (d : Context) × (called_from space c interrupted ≡ Some d) × Shows (columns_of d) t
 called_caller space c interrupted t s whole nowhere entered state returns shows =
     let at : get_or c.registers 7 0 ≡ s.sp = (let e : Some (get_or c.registers 7 0) ≡ Some s.sp = shows.sp in cc) in

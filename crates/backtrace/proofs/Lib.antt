@@ -4,3 +4,4 @@ pub mod Chains
 pub mod Ends
 pub mod NullCall
 pub mod Written
+pub mod KnownTraces

@@ -11,6 +11,7 @@ use Rattle.stack_steps.specs.SpaceViews.{formats_of}
 use Rattle.stack_snapshot.specs.Content.{space_of}
 use Rattle.backtrace.specs.Sample.{callee, caller, snapshot}
 use Rattle.backtrace.specs.Due.{DescribesCallToNowhere}
+use Rattle.backtrace.specs.KnownStacks.{BeginsByCallToNowhere}
 
 pub kept : (r : CalleeSaved) → value_of r callee ≡ value_of r caller
 kept RBX = refl
@@ -47,3 +48,14 @@ alone = record { chain = record { state = fits; ends = inr (returns_somewhere, �
 
 pub described : DescribesCallToNowhere snapshot [] callee caller []
 described = record { nowhere = (refl, inl refl); entered = entered; returns = returns_somewhere; shows = shows; described = alone; shorter = lit< tt }
+
+-- it is a known stack by itself
+pub begins : BeginsByCallToNowhere snapshot callee caller []
+begins = record {
+  nowhere = (refl, inl refl);
+  entered = entered;
+  returns = returns_somewhere;
+  shows = shows;
+  stack = record { state = fits; ends = inr (returns_somewhere, λ m has. absurd (none_in_nil m has)) };
+  shorter = lit< tt;
+}

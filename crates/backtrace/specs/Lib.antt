@@ -4,3 +4,5 @@ pub mod Lines
 pub mod Due
 pub mod Sample
 pub mod ChainSample
+pub mod KnownStacks
+pub mod KnownSample

@@ -14,6 +14,8 @@ ghost use Rattle.stack_snapshot.specs.Origins.{OriginValue, origins_by};
 ghost use Rattle.unwind_definitions.specs.State.{State};
 ghost use Rattle.unwind_definitions.specs.Function.{Function};
 ghost use Rattle.unwind_definitions.specs.Chain.{Call};
+ghost use Rattle.backtrace.specs.KnownStacks.{BeginsByCallToNowhere, BeginsKnownStack};
+ghost use Rattle.backtrace.specs.KnownStacks.{called_stack_text, stack_text};
 ghost use Rattle.backtrace.specs.Options.{options_of};
 ghost use Rattle.backtrace.specs.Tracing.{TraceValue};
 ghost use Rattle.backtrace.specs.Lines.{usage_line};
@@ -152,6 +154,22 @@ pub fn run<I: Source, O: Sink>(
         Asks o words.now (I.left input.old) s origins →
         DescribesCallToNowhere s functions start caller calls →
         Tells (verdict Status.Done (called_text o s origins start caller calls)) result
+        (O.holds output.old) (O.holds output.new) }
+    // Where its start begins a stack of each of whose frames it is known how its caller's state
+    // follows, in an ELF module by facts that its tables say, at any address of code, these are the
+    // lines of the states of that stack, and the last says why its outermost state has no caller.
+    ensures known { (o : Options) (s : Content) (origins : List OriginValue) (start : State)
+        (callers : List State) →
+        Asks o words.now (I.left input.old) s origins → BeginsKnownStack s start callers →
+        Tells (verdict Status.Done (stack_text o s origins start callers)) result
+        (O.holds output.old) (O.holds output.new) }
+    // So they are, with the start before them, where it was interrupted right after a call to 0 or
+    // into no module and its caller's state begins such a stack.
+    ensures known_call { (o : Options) (s : Content) (origins : List OriginValue)
+        (start caller : State) (callers : List State) →
+        Asks o words.now (I.left input.old) s origins →
+        BeginsByCallToNowhere s start caller callers →
+        Tells (verdict Status.Done (called_stack_text o s origins start caller callers)) result
         (O.holds output.old) (O.holds output.new) }
     // Whatever the source tells, words that name no options are answered so, and no others.
     ensures usage { ComesExactly result Status.Usage (options_of words.now ≡ None) }

@@ -5,6 +5,7 @@ ghost use Rattle.unwind_definitions.specs.Entered.{IsEntered};
 ghost use Rattle.unwind_definitions.specs.Stopped.{StandsAfter};
 ghost use Rattle.unwind_laws.specs.Pushing.{function, start};
 ghost use Rattle.unwind_laws.specs.Three as three;
+ghost use Rattle.frame_facts_laws.specs.SampleProgram as layouts;
 ghost use Rattle.unwind_arch.specs.ContextViews.{columns_of};
 ghost use Rattle.stack_steps.specs.StopSample.{after_the_push};
 ghost use Rattle.stack_snapshot.specs.Content.{Content, space_of};
@@ -16,6 +17,9 @@ ghost use Rattle.backtrace.specs.Tracing.{IsNowhere};
 ghost use Rattle.backtrace.specs.ChainSample as sample;
 ghost use Rattle.backtrace.specs.Due.{Asks, DescribesCallToNowhere, IsBacktrace, IsTraceOf};
 ghost use Rattle.backtrace.specs.Due.{called_text, chain_text, text_of};
+ghost use Rattle.backtrace.specs.KnownSample as known;
+ghost use Rattle.backtrace.specs.KnownStacks.{BeginsByCallToNowhere, BeginsKnownStack};
+ghost use Rattle.backtrace.specs.KnownStacks.{called_stack_text, stack_text};
 ghost use Rattle.backtrace.specs.Sample.{callee, caller, entry, json, snapshot, text, trace};
 
 /// Words and bytes have one backtrace, where they ask for one.
@@ -78,4 +82,24 @@ pub fn null_call_is_described()
     ensures described { DescribesCallToNowhere snapshot [] callee caller [] }
     ensures written { called_text (record { registers = false }) snapshot [] callee caller [] ≡
         text }
+{}
+
+/// A snapshot of a program that was stopped in an epilogue after two pops meets what `run` asks of a
+/// stack of each of whose frames it is known how its caller's state follows, from its bytes on. The
+/// stack goes through a part of a function that lies apart from it, a frame with pushed arguments
+/// and a realigned one, to `_start`. This text is then written.
+pub fn stop_in_an_epilogue_is_known()
+    ensures asked { Asks (record { registers = false }) [] (Some known.json) known.snapshot
+        known.origins }
+    ensures begins { BeginsKnownStack known.snapshot layouts.popped layouts.states }
+    ensures written { stack_text (record { registers = false }) known.snapshot known.origins
+        layouts.popped layouts.states ≡ known.text }
+{}
+
+/// The snapshot that was taken after a call through a null pointer meets what `run` asks where the
+/// caller's state begins such a stack: it is one by itself.
+pub fn null_call_is_known()
+    ensures begins { BeginsByCallToNowhere snapshot callee caller [] }
+    ensures written { called_stack_text (record { registers = false }) snapshot [] callee caller []
+        ≡ text }
 {}

@@ -8,6 +8,7 @@ use Rattle.backtrace.proofs.Backtraces.{ready_with, if_some_both, asked_due, ask
 use Rattle.stack_snapshot.proofs.Taken.{content_apart, content_laid_out, content_whole}
 use Rattle.command_ends.specs.Verdicts.{verdict}
 use Rattle.backtrace.proofs.Chains.{called_traced, chain_traced, stop_traced}
+use Rattle.backtrace.proofs.KnownTraces.{stack_traced, called_stack_traced}
 use Rattle.backtrace.proofs.running.run.Goals as goal
 
 pub returns-clause-told : goal.returns-clause-told
@@ -62,5 +63,17 @@ returns-clause-stop g c = λ o s origins functions start call calls asks describ
 pub returns-clause-called : goal.returns-clause-called
 returns-clause-called g c = λ o s origins functions start caller calls asks described.
     let t = called_traced s (content_apart asks.bytes s asks.reads) (content_laid_out asks.bytes s asks.reads) (content_whole asks.bytes s asks.reads) o origins functions start caller calls described in
+    let P : List ℕ → Type 0 = λ text. Tells (verdict Done text) c.tell.result (g.O.Sink.holds c.args.output.now) (g.O.Sink.holds c.tell.new.output) in
+    subst P t.2 (returns-clause-traced g c o s origins t.0 asks t.1)
+
+pub returns-clause-known : goal.returns-clause-known
+returns-clause-known g c = λ o s origins start callers asks begins.
+    let t = stack_traced s (content_apart asks.bytes s asks.reads) (content_laid_out asks.bytes s asks.reads) o origins start callers begins in
+    let P : List ℕ → Type 0 = λ text. Tells (verdict Done text) c.tell.result (g.O.Sink.holds c.args.output.now) (g.O.Sink.holds c.tell.new.output) in
+    subst P t.2 (returns-clause-traced g c o s origins t.0 asks t.1)
+
+pub returns-clause-known_call : goal.returns-clause-known_call
+returns-clause-known_call g c = λ o s origins start caller callers asks begins.
+    let t = called_stack_traced s (content_apart asks.bytes s asks.reads) (content_laid_out asks.bytes s asks.reads) (content_whole asks.bytes s asks.reads) o origins start caller callers begins in
     let P : List ℕ → Type 0 = λ text. Tells (verdict Done text) c.tell.result (g.O.Sink.holds c.args.output.now) (g.O.Sink.holds c.tell.new.output) in
     subst P t.2 (returns-clause-traced g c o s origins t.0 asks t.1)

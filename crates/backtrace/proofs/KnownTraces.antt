@@ -1,0 +1,66 @@
+-- The trace of a snapshot that begins a known stack.
+use Rattle.std.proofs.Common.{◌≡◌, ◌-◌, ◌<◌, false, List, ◌∷◌, length, Some, None, refl, arith}
+use Rattle.std.specs.Prelude.{map}
+use Rattle.memory_image.specs.Image.{IsLaidOut}
+use Rattle.unwind_definitions.specs.State.{State}
+use Rattle.stack_steps.specs.Modules.{AreApart}
+use Rattle.stack_steps.proofs.ContextLemmas.{IsWhole}
+use Rattle.stack_walks.specs.Fronts.{start_state, front_of}
+use Rattle.stack_walks.specs.KnownWalks.{StartsKnownStack, front_of_stack}
+use Rattle.stack_walks.proofs.KnownLines.{called_state, known_walked, known_comes}
+use Rattle.stack_walks.proofs.FrontAnswers.{line_whole}
+use Rattle.stack_deliver.specs.StateViews.{state_of}
+use Rattle.stack_deliver.proofs.Chains.{shown_state, shown_states}
+use Rattle.stack_snapshot.specs.Content.{Content, space_of}
+use Rattle.stack_snapshot.specs.Origins.{OriginValue}
+use Rattle.backtrace.specs.declared.words.Options.{Options}
+use Rattle.backtrace.specs.Tracing.{TraceValue, called_from, is_nowhere}
+use Rattle.backtrace.specs.Lines.{backtrace_text}
+use Rattle.backtrace.specs.Due.{IsTraceOf, text_of}
+use Rattle.backtrace.specs.KnownStacks.{BeginsKnownStack, BeginsByCallToNowhere, stack_text, called_stack_text}
+use Rattle.backtrace.proofs.Chains.{called_caller}
+
+module _ (s : Content) (apart : AreApart 0 (space_of s).modules) (laid : IsLaidOut 0 (space_of s).image) where
+  -- of a walk that begins at the start
+  abbrev walked : State → List State → TraceValue
+  walked start callers =
+      record { first = None; states = front_of (space_of s) s.limit s.start s.interrupted; why = front_of_stack (space_of s).modules s.interrupted start callers }
+
+  lines_are : (o : Options) (origins : List OriginValue) (start : State) (callers : List State) → map state_of (front_of (space_of s) s.limit s.start s.interrupted) ≡ start ∷ callers →
+      text_of o s origins (walked start callers) ≡ stack_text o s origins start callers
+  unfolding backtrace_text
+  lines_are o origins start callers shown = rw shown refl
+
+  -- It has the states of the stack, and the lines are theirs.
+  pub stack_traced : (o : Options) (origins : List OriginValue) (start : State) (callers : List State) → BeginsKnownStack s start callers →
+      (t : TraceValue) × IsTraceOf s t × (text_of o s origins t ≡ stack_text o s origins start callers)
+  stack_traced o origins start callers is =
+      let w = known_walked (space_of s) apart laid s.start s.limit s.interrupted start callers is.starts in
+      let all : front_of (space_of s) s.limit s.start s.interrupted ≡ w.0 = line_whole (space_of s) s.limit (start_state s.start s.interrupted) w.0 w.1 in
+      let shown : map state_of (front_of (space_of s) s.limit s.start s.interrupted) ≡ start ∷ callers = rw all (shown_states w.0 (start ∷ callers) w.2.each) in
+      let why = known_comes (space_of s) apart laid s.start s.limit s.interrupted start callers is.starts in
+      let somewhere : is_nowhere (space_of s) s.start s.interrupted ≡ false = is.somewhere in
+      let none : called_from (space_of s) s.start s.interrupted ≡ None = rw somewhere refl in (
+        walked start callers,
+        rw none (refl, record { states = refl; why = why }),
+        lines_are o origins start callers shown,
+      )
+
+  -- And so has that of a call to nowhere, whose caller the stack names.
+  pub called_stack_traced : IsWhole s.start → (o : Options) (origins : List OriginValue) (start caller : State) (callers : List State) → BeginsByCallToNowhere s start caller callers →
+      (t : TraceValue) × IsTraceOf s t × (text_of o s origins t ≡ called_stack_text o s origins start caller callers)
+  unfolding backtrace_text
+  called_stack_traced whole o origins start caller callers is =
+      let d = called_caller (space_of s) s.start s.interrupted caller start whole is.nowhere is.entered (called_state (space_of s) caller callers is.stack) is.returns is.shows in
+      let short = is.shorter in
+      let fewer : length callers < s.limit - 1 = omega arith in
+      let starts : StartsKnownStack (space_of s) d.0 (s.limit - 1) false caller callers = record { stack = is.stack; shows = d.2; shorter = fewer } in
+      let w = known_walked (space_of s) apart laid d.0 (s.limit - 1) false caller callers starts in
+      let all : front_of (space_of s) (s.limit - 1) d.0 false ≡ w.0 = line_whole (space_of s) (s.limit - 1) (start_state d.0 false) w.0 w.1 in
+      let shown : map state_of (front_of (space_of s) (s.limit - 1) d.0 false) ≡ caller ∷ callers = rw all (shown_states w.0 (caller ∷ callers) w.2.each) in
+      let first : state_of s.start ≡ start = shown_state s.start start is.shows in
+      let why = known_comes (space_of s) apart laid d.0 (s.limit - 1) false caller callers starts in (
+        record { first = Some s.start; states = front_of (space_of s) (s.limit - 1) d.0 false; why = front_of_stack (space_of s).modules false caller callers },
+        rw d.1 (refl, record { states = refl; why = why }),
+        rw (first, shown) refl,
+      )
