@@ -9,6 +9,8 @@ mod cases;
 #[cfg(test)]
 mod chains;
 #[cfg(test)]
+mod cxx_tables;
+#[cfg(test)]
 mod formats;
 #[cfg(test)]
 mod frames;

@@ -84,6 +84,110 @@ fn regions_are_taken_or_refused(rt: HostRuntime) -> Result<(), Fail> {
     Ok(())
 }
 
+/// The word at an address of an image with one region more.
+fn read_over(image: &MemoryImage<'static>, bytes: &[u8], address: u64) -> Option<u64> {
+    match MemoryImage::over(image, 0x7fa0, bytes) {
+        Ok(over) => over.read_u64(address),
+        Err(_) => None,
+    }
+}
+
+/// Why an image doesn't take one region more, if it doesn't.
+fn refused_over<'a>(
+    image: &'a MemoryImage<'a>,
+    address: u64,
+    bytes: &'a [u8],
+) -> Option<ImageError> {
+    match MemoryImage::over(image, address, bytes) {
+        Ok(_) => None,
+        Err(error) => Some(error),
+    }
+}
+
+/// How many bytes the region of an address has from there on.
+fn count_from(image: &MemoryImage<'_>, address: u64) -> Option<usize> {
+    match image.from(address) {
+        Some(bytes) => Some(bytes.len()),
+        None => None,
+    }
+}
+
+#[test]
+fn a_region_is_taken_over_an_image(rt: HostRuntime) -> Result<(), Fail> {
+    let mut image: MemoryImage<'static> = MemoryImage::new(rt.alloc());
+    expect_equal(&rt, image.add(0x7000, &[0xaa; 16]), Ok(()));
+    expect_equal(&rt, image.add(0x7fb0, &[0xbb; 16]), Ok(()));
+    let stack = [1, 2, 3, 4, 5, 6, 7, 8, 9, 10, 11, 12, 13, 14, 15, 16];
+    for (address, word) in [
+        (0x7000, Some(0xaaaa_aaaa_aaaa_aaaa)),
+        (0x7fa0, Some(0x0807_0605_0403_0201)),
+        (0x7fa8, Some(0x100f_0e0d_0c0b_0a09)),
+        (0x7fac, Some(0xbbbb_bbbb_100f_0e0d)),
+        (0x7fb0, Some(0xbbbb_bbbb_bbbb_bbbb)),
+        (0x7f9f, None),
+        (0x7fb9, None),
+    ] {
+        expect_equal(&rt, read_over(&image, &stack, address), word);
+    }
+    expect_equal(&rt, read_over(&image, &stack[..8], 0x7fa0).is_some(), true);
+    expect_equal(&rt, read_over(&image, &stack[..8], 0x7fa4), None);
+    Ok(())
+}
+
+#[test]
+fn images_over_images_refuse_as_images_do(rt: HostRuntime) -> Result<(), Fail> {
+    let mut tables: MemoryImage<'static> = MemoryImage::new(rt.alloc());
+    expect_equal(&rt, tables.add(0x7000, &[0xaa; 16]), Ok(()));
+    for (address, bytes, error) in [
+        (0x6fff, [].as_slice(), ImageError::Empty),
+        (u64::MAX, [1, 2].as_slice(), ImageError::Wraps),
+        (0x6fff, [1, 2].as_slice(), ImageError::Overlap(0x7000)),
+        (0x700f, [1].as_slice(), ImageError::Overlap(0x7000)),
+    ] {
+        let refused = refused_over(&tables, address, bytes);
+        expect_equal(&rt, refused, Some(error));
+    }
+    let stack = MemoryImage::over(&tables, 0x7010, &[1, 2, 3, 4, 5, 6, 7, 8])
+        .ok()
+        .ok_or("fits")?;
+    let mut signal_stack = MemoryImage::over(&stack, 0x7ff0, &[9; 8])
+        .ok()
+        .ok_or("fits")?;
+    for (address, start) in [
+        (0x6ff8, 0x7000),
+        (0x7008, 0x7000),
+        (0x7010, 0x7010),
+        (0x7ff7, 0x7ff0),
+    ] {
+        let refused = refused_over(&signal_stack, address, &[0; 16]);
+        expect_equal(&rt, refused, Some(ImageError::Overlap(start)));
+    }
+    expect_equal(
+        &rt,
+        signal_stack.read_u64(0x700c),
+        Some(0x0403_0201_aaaa_aaaa),
+    );
+    expect_equal(
+        &rt,
+        signal_stack.read_u64(0x7ff0),
+        Some(0x0909_0909_0909_0909),
+    );
+    for (address, count) in [(0x7010, Some(8)), (0x7017, Some(1)), (0x7018, None)] {
+        expect_equal(&rt, count_from(&signal_stack, address), count);
+    }
+    expect_equal(
+        &rt,
+        signal_stack.add(0x7ff0, &[1]),
+        Err(ImageError::Overlap(0x7ff0)),
+    );
+    expect_equal(
+        &rt,
+        signal_stack.add(0x8000, &[1]),
+        Err(ImageError::NoMemory),
+    );
+    Ok(())
+}
+
 #[test]
 fn errors_are_told(rt: HostRuntime) -> Result<(), Fail> {
     for (error, text) in [

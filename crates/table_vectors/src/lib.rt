@@ -21,6 +21,8 @@ mod pointers;
 #[cfg(test)]
 mod prepared;
 #[cfg(test)]
+mod profiles;
+#[cfg(test)]
 mod registers;
 #[cfg(test)]
 mod rows;
