@@ -103,8 +103,9 @@ of_programs() {
     try printed 'no symboliser' env PATH="$scratch/few" "$tools/backtrace.sh" "$live"
     try printed 'of a core, no symboliser' env PATH="$scratch/few" "$tools/backtrace.sh" "$programs/nested-gcc-O2" "$scratch/core"
     try printed 'no gdb' env PATH="$scratch/few" "$tools/backtrace.sh" "$live" --threads
-    try refused 'a profile without gdb' env PATH="$scratch/few" "$tools/profile.sh" "$live" 1
     try refused 'a profile of no process' "$tools/profile.sh" 4194305 1
+    try refused 'a profile, nothing is built' env UNWIND_CLI=/none "$tools/profile.sh" "$live" 1
+    try refused 'a profile, the program fails' env UNWIND_CLI="$scratch/fails" "$tools/profile.sh" "$live" 1
 }
 
 of_words() {
@@ -115,6 +116,12 @@ of_words() {
     try refused 'a snapshot of random bytes' "$tools/names.py" - "$scratch/junk"
     try refused 'a snapshot without modules' "$tools/names.py" - <(echo '{}')
     try refused 'joining what is no snapshot' "$tools/join.py" "$scratch/junk"
+    sed 's/"interrupted"/"interupted"/' ../crates/backtrace/stdin > "$scratch/misspelt"
+    sed 's/"eh_frame"/"ehframe"/' ../crates/backtrace/stdin > "$scratch/no-table"
+    head -c 500 ../crates/backtrace/stdin > "$scratch/cut"
+    try refused 'a stored snapshot that was cut off' "$tools/backtrace.sh" "$scratch/cut"
+    try refused 'a stored snapshot with a faulty module' "$tools/backtrace.sh" "$scratch/no-table"
+    try refused 'a stored snapshot with a member that was misspelt' "$tools/backtrace.sh" "$scratch/misspelt" --strict
 }
 
 start "$programs/nested-gcc-O2"

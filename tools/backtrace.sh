@@ -1,8 +1,9 @@
 #!/usr/bin/env bash
-# Prints the backtrace of a process or a core.
+# Prints the backtrace of a process, a core or a stored snapshot.
 #
 #   backtrace.sh PID [--threads] [--frame-pointers]
 #   backtrace.sh PROGRAM CORE [--threads]
+#   backtrace.sh FILE [--strict]          a snapshot, or samples (snapshot_backtrace.py)
 #
 # No debugger is asked. process_backtrace.py stops the process and reads its stacks, core_backtrace.py reads a core; the
 # built programs find the frames, and the frames are named. BACKTRACE and UNWIND_CLI name the built programs, where they
@@ -11,7 +12,7 @@ set -uo pipefail
 tools=$(dirname "$(readlink -f "${BASH_SOURCE[0]}")")
 
 usage() {
-    echo 'usage: backtrace.sh PID [--threads] [--frame-pointers] | PROGRAM CORE [--threads]' >&2
+    echo 'usage: backtrace.sh PID [--threads] [--frame-pointers] | PROGRAM CORE [--threads] | FILE [--strict]' >&2
     exit 2
 }
 
@@ -29,13 +30,16 @@ python=/usr/bin/python3
 export BACKTRACE=${BACKTRACE:-$(built backtrace)} UNWIND_CLI=${UNWIND_CLI:-$(built unwind_cli)}
 
 options=()
-while [ $# -gt 1 ] && [[ ${*: -1} == --threads || ${*: -1} == --frame-pointers ]]; do
+while [ $# -gt 1 ] && [[ ${*: -1} =~ ^--(threads|frame-pointers|strict)$ ]]; do
     options+=("${*: -1}")
     set -- "${@:1:$#-1}"
 done
 case $#:${1:-}:${options[*]} in
-    1:*[!0-9]*:* | 1::* | 2:*frame-pointers*) usage ;;
-    1:*) exec "$python" -S "$tools/process_backtrace.py" "$1" "${options[@]}" ;;
-    2:*) exec "$python" -S "$tools/core_backtrace.py" "$1" "$2" "${options[@]}" --unwind-cli "$UNWIND_CLI" ;;
+    1:*[!0-9]*:*threads* | 1:*[!0-9]*:*frame-pointers* | 1::* | 2:*frame-pointers* | 2:*strict* | 1:*[0-9]:*strict*) usage ;;
+    1:*[!0-9]*:*)
+        [ -f "$1" ] || usage
+        exec "$python" -E -S "$tools/snapshot_backtrace.py" "$1" "${options[@]}" ;;
+    1:*) exec "$python" -E -S "$tools/process_backtrace.py" "$1" "${options[@]}" ;;
+    2:*) exec "$python" -E -S "$tools/core_backtrace.py" "$1" "$2" "${options[@]}" --unwind-cli "$UNWIND_CLI" ;;
     *) usage ;;
 esac

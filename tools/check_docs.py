@@ -194,12 +194,17 @@ EXCEPTIONS = {
     "operations of DWARF that aren't taken": "DW_CFA_GNU_negative_offset_extended DW_OP_addrx DW_OP_call2 DW_OP_constx",
     "operations of DWARF in short": "bra breg0 const1u constu deref deref_size div dup lit0 lit1 nop plus_uconst",
     "encodings and letters": "absptr e eh ff z zPLR zPR zR zRS P L R S",
-    "machine instructions and registers": "and lea mov sub REX.W reg6 reg16",
+    "machine instructions and registers": "and cpuid int3 lea mov ret sub REX.W reg6 reg16",
     "words of Rust": "ArrayVec ArrayVec::from ArrayVec::new Copy Display Drop From assert_eq! clone static std try u32 u64 "
     "usize json::Reader json::Value ensures requires Model null",
     "names of other crates": "PersonalityRoutine RegisterRule::Constant UnwindExpression UnwindExceptionCleanupFn "
     "UnwindStopFn UnwindTraceFn rust_eh_personality",
-    "words of a report, of a snapshot or of an option": "in early",
+    "words of a report, of a snapshot or of an option": "in early yes",
+    "functions of other programs": "__mpn_addmul_1 __mpn_submul_1 ____longjmp_chk swapcontext setcontext vfork mcount "
+    "__fentry__ __longjmp __libc_main __memmove_ssse3 bn_gather5 x25519_fe51_sqr _dl_runtime_resolve_ _dl_runtime_profile_ "
+    "_Unwind_RaiseException longjmp snprintf x25519_fe64_sqr ossl_rsaz_amm52x20_x1_avxifma256 "
+    "ossl_rsaz_amm52x40_x2_avxifma256 aesni_xts_128_encrypt_avx512 Curl_altsvc_save sqlite3Select rtreeInsertCell "
+    "pcache1Unpin git_buf_dispose",
     "a build of an example": "every_instruction",
     "names that stand for any": "a File.name",
 }
@@ -210,6 +215,7 @@ CODE_NAMES = (
     r"^\s+(?:pub(?:\(\w+\))? )?(?:ghost )?(\w+): ",
     r"^\s+([A-Z]\w*)(?:\(|,| \{|$)",
 )
+HEADER_NAMES = r"\b(kz_\w+)|\b(KZ_\w+)"
 SCRIPT_NAMES = r"\b(?:def|class) (\w+)|^(\w+)\(\)|\b(\w+)\("
 
 
@@ -239,6 +245,8 @@ def code_names() -> set[str]:
             known |= names_in((TOP / name).read_text())
         elif path.parts[0] in ("tools", "bench", "examples") and path.suffix in (".py", ".sh", ".c", ".h", ".cpp", ".rs"):
             known |= found_in((SCRIPT_NAMES,), (TOP / name).read_text())
+        elif path.parts[0] == "include" and path.suffix == ".h":
+            known |= found_in((HEADER_NAMES,), (TOP / name).read_text())
     known |= found_in((r'"(\w+)": \{',), (TOP / "docs" / "snapshot.schema.json").read_text())
     return known | found_in((r"(\w+)",), (TOP / "crates.txt").read_text())
 
@@ -508,20 +516,8 @@ def check_links() -> list[str]:
 UNCITED = "No public clause cites this"
 
 # Files whose first line is to be mended when their crates change next: a change of it proves a crate and those above
-# it anew. Of frame_rows BegunPrograms, KnownRows and Running are cited, by `RowTableBuilder::add`, and say that they
-# aren't.
-KNOWN = {
-    "eh_frame": "Directory FdeLists Looking Turns",
-    "fde_finders": "GlobalCovering Sought",
-    "format_frames": "HandlerViews",
-    "frame_expressions": "OperationViews Runs Stacked Unmapped",
-    "frame_rows": "BegunPrograms Bodies KnownRows RoomRow Running",
-    "macho_unwind_info": "FirstOnes",
-    "memory_image": "ImageLaws",
-    "stack_steps": "Held",
-    "unwinding_core": "Turns",
-    "unwinding_frames": "Windows",
-}
+# it anew.
+KNOWN = {"memory_image": "ImageLaws"}
 
 
 def public_texts(function: Function) -> list[str]:

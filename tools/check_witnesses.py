@@ -27,7 +27,7 @@ from contracts import Function, Imports, Place, Specs, end_of_group
 # Premises that want no witness, by the reason: `crate.File.name`.
 REASONS = {
     "a comparison of numbers, of bytes or of variants": """
-        macho_unwind_info.Described.IsInRange macho_unwind_info.Described.IsOutside
+        frame_rows.Walks.IsBefore macho_unwind_info.Described.IsInRange macho_unwind_info.Described.IsOutside
         pe_unwind_info.FunctionTable.Holds unwind_definitions.Numbers.SpellsRelative unwind_laws.Spelled.AreBytes
         unwind_laws.Spelled.BeginsSigned unwind_laws.Spelled.BeginsUnsigned unwind_laws.Spelled.Follows
         unwinding_core.Runs.IsUntaken""",
@@ -40,9 +40,9 @@ REASONS = {
     "the header of a described module, as functions_by_a_header_are_described has one": """
         unwind_definitions.Module.IsHeaderTable""",
     "what a law concludes of a described function": "unwind_laws.Found.FindsFunction",
-    "an answer of a call says it: of decide, add, add_next and turn, row_at and make, frame_at": """
+    "an answer of a call says it: of decide, add, add_next and turn, row_at and make, frame_at, begin": """
         command_ends.Verdicts.IsReadyOrFailed frame_rows.Begun.HasBegun frame_rows.Begun.HasBegunBefore
-        frame_rows.Rows.IsRowOf stack_steps.FrameViews.IsFrameOf""",
+        frame_rows.Rows.IsRowOf frame_rows.Walks.IsWalking stack_steps.FrameViews.IsFrameOf""",
     "the cause of an answer, which the clause beside says of the answer": """
         stack_deliver.Causes.EndsBy stack_deliver.Causes.IsRefused stack_walks.Lines.NeedsMore
         stack_walks.Walking.StepFails""",

@@ -1,12 +1,15 @@
 #!/usr/bin/env python3
 """Compares the lines of `unwind_cli fold` with gdb's backtraces of the same threads at the same moment.
 
-    compare_folded.py UNWIND_CLI PID
+    compare_folded.py UNWIND_CLI PID [--traced]
 
 gdb attaches once: it takes the snapshot of all threads (`snapshot.py`), and prints `thread apply all bt`, with the frames
 above main and the entry point. `join.py --samples` makes the samples, and UNWIND_CLI folds them. Its lines have to be what
 gdb's text comes to: each stack once, with the number of threads that have it, in the order of the addresses, and none
 refused. The status is 1 where they aren't.
+
+With --traced the samples are those of `process_samples.py`, as profile.sh takes them, and gdb attaches after it: that is for a
+process whose threads wait, or that is stopped (kill -STOP).
 
 gdb prints no address of a frame that begins a line of source, nor of a function that was inlined, so the process must be
 of a program without debug information; that of libraries isn't asked.
@@ -58,6 +61,13 @@ def run_program(words: list[str], **streams: object) -> str:
     return str(done.stdout)
 
 
+def taken_traced(process: str, folder: Path) -> tuple[str, Path]:
+    """The file of the threads' samples without gdb, and gdb's text of all threads a moment later."""
+    samples = folder / "samples.json"
+    samples.write_text(run_program([sys.executable, str(TOOLS / "process_samples.py"), process]), encoding="ascii")
+    return run_program([*GDB, "-p", process, *ALL_FRAMES], stdin=subprocess.DEVNULL), samples
+
+
 def taken(process: str, folder: Path) -> tuple[str, Path]:
     """gdb's text of all threads, and the file of their samples."""
     take = ["-ix", str(TOOLS / "snapshot.py"), "-ex", f"snapshot {folder}/taken --threads"]
@@ -74,10 +84,10 @@ def differences(report: list[str], wanted: list[str]) -> list[str]:
     return found + [f"only gdb:  {line}" for line in wanted if line not in report]
 
 
-def compare(program: str, process: str) -> bool:
+def compare(program: str, process: str, traced: bool) -> bool:
     """Says what is the same, or what differs."""
     with tempfile.TemporaryDirectory() as folder:
-        text, samples = taken(process, Path(folder))
+        text, samples = (taken_traced if traced else taken)(process, Path(folder))
         stacks = stacks_of(text)
         with open(samples, encoding="ascii") as stream:
             report = run_program([program, "fold"], stdin=stream).splitlines()
@@ -94,10 +104,10 @@ def compare(program: str, process: str) -> bool:
 
 def main() -> None:
     """Runs the program."""
-    if len(sys.argv) != 3:
-        sys.exit("usage: compare_folded.py UNWIND_CLI PID")
+    if len(sys.argv) != 3 and sys.argv[3:] != ["--traced"]:
+        sys.exit("usage: compare_folded.py UNWIND_CLI PID [--traced]")
     try:
-        sys.exit(0 if compare(*sys.argv[1:]) else 1)
+        sys.exit(0 if compare(sys.argv[1], sys.argv[2], len(sys.argv) == 4) else 1)
     except (Refused, OSError, IndexError) as error:
         sys.exit(f"compare_folded.py: {error}")
 

@@ -18,7 +18,7 @@ Place = tuple[str, str, str]
 
 CLAUSE = re.compile(r"\b(requires|ensures)(?:\s+(\w+))?\s*\{")
 GHOST = re.compile(r"\bghost \w+: \{")
-FUNCTION = re.compile(r"^([ ]*)((?:pub(?:\([a-z]+\))? )?(?:const )?)fn (\w+)", re.M)
+FUNCTION = re.compile(r"^([ ]*)((?:pub(?:\([a-z]+\))? )?(?:const )?(?:extern \"C\" )?)fn (\w+)", re.M)
 OWNER = re.compile(r"^(?:pub )?(?:impl|trait)\b[^;{]*", re.M)
 IMPORT = re.compile(r"use Rattle\.(\w+)\.specs\.(\w+)(?:\.(?:\{([^{}]*)\})|(?: as (\w+)))?")
 NAME = re.compile(r"[^\s(){},;.λ×⊎→←\[\]∷≡≢◌&|+*/<>=-]+(?:-[^\s(){},;.]+)?")

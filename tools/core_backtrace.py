@@ -11,7 +11,6 @@ from __future__ import annotations
 import json
 import os
 import signal
-import subprocess
 import sys
 from typing import NamedTuple, NoReturn
 
@@ -20,6 +19,7 @@ from core_image import Core
 from core_names import Loaded, ThreadStart, thread_lines, titled
 from elf_image import Refused
 from names import modules_of
+from programs import run_program
 from snapshot_file import MOST_BYTES, MOST_STATES, Object
 from symbols import has_symbolizer
 
@@ -68,18 +68,15 @@ def short_text(found: Object) -> bytes:
 
 
 def report_of(unwind_cli: str, found: Object) -> str:
-    """What `unwind_cli core` prints. It may end before it has read its text, which says why."""
-    before = signal.signal(signal.SIGPIPE, signal.SIG_IGN)
+    """What `unwind_cli core` prints."""
     try:
-        done = subprocess.run([unwind_cli, "core"], input=short_text(found), capture_output=True, check=False)
+        done = run_program([unwind_cli, "core"], short_text(found))
     except FileNotFoundError:
         raise Refused(f"{unwind_cli} isn't built: run `rt run < stdin` in crates/unwind_cli")
-    finally:
-        signal.signal(signal.SIGPIPE, before)
-    if done.returncode != 0:
-        words = (done.stdout + done.stderr).decode("utf-8", "replace").strip()
-        raise Refused(f"{unwind_cli} ended with status {done.returncode}: {words}".rstrip(": "))
-    return done.stdout.decode("ascii")
+    if done.status != 0:
+        words = (done.output + done.errors).decode("utf-8", "replace").strip()
+        raise Refused(f"{unwind_cli} ended with status {done.status}: {words}".rstrip(": "))
+    return done.output.decode("ascii")
 
 
 def loaded_of(core: Core, found: Object) -> Loaded:

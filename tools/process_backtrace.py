@@ -20,7 +20,6 @@ import json
 import os
 import re
 import signal
-import subprocess
 import sys
 from typing import Iterator, NamedTuple
 
@@ -33,6 +32,7 @@ from elf_image import ElfImage, Range, Refused
 from loaded_module import module_objects
 from names import backtrace
 from process_image import DELETED, Process, registers_of, stopped, thread_name
+from programs import run_program
 from snapshot_file import MOST_BYTES, MOST_STATES, Object, Region, region_object
 from symbols import has_symbolizer
 
@@ -184,14 +184,14 @@ class Answer(NamedTuple):
 def run(words: list[str], text: bytes) -> Answer:
     """What a program says of a text."""
     try:
-        done = subprocess.run(words, input=text, capture_output=True, check=False)
+        done = run_program(words, text)
     except OSError as error:
         return Answer("", f"{words[0]} can't be run: {error.strerror}")
-    said = done.stdout.decode("ascii", "replace")
-    if done.returncode < 0:
-        return Answer(said, f"{words[0]} was ended by the signal {-done.returncode}")
-    last = (said + done.stderr.decode("utf-8", "replace")).strip().rpartition("\n")[2]
-    return Answer(said, f"{words[0]} ended with status {done.returncode}: {last}".rstrip(": ") if done.returncode else None)
+    said = done.output.decode("ascii", "replace")
+    if done.status < 0:
+        return Answer(said, f"{words[0]} was ended by the signal {-done.status}")
+    last = (said + done.errors.decode("utf-8", "replace")).strip().rpartition("\n")[2]
+    return Answer(said, f"{words[0]} ended with status {done.status}: {last}".rstrip(": ") if done.status else None)
 
 
 THREAD_LINE = re.compile(r"^thread \d+\n", re.MULTILINE)

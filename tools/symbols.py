@@ -16,11 +16,11 @@ import io
 import os
 import re
 import struct
-import subprocess
 from typing import Iterable, Iterator, NamedTuple, Sequence
 
 from elf_image import WORD, ElfImage, Function, Range, Refused
 from plain_names import plain_name
+from programs import run_program
 
 DEBUG_FOLDER = "/usr/lib/debug/.build-id"
 
@@ -81,15 +81,13 @@ def program_on_path(name: str) -> str | None:
     return next((found for found in map(which, (name, *versions)) if found), None)
 
 
-def run_program(words: Sequence[str], text: str) -> str:
+def printed_by(words: Sequence[str], text: str) -> str:
     """What a program prints of a text. One that fails prints nothing."""
     try:
-        done = subprocess.run(
-            words, input=text, capture_output=True, text=True, encoding="utf-8", errors="surrogateescape", check=False
-        )
+        done = run_program(words, text.encode("utf-8", "surrogateescape"))
     except OSError:
         return ""
-    return done.stdout if done.returncode == 0 else ""
+    return done.output.decode("utf-8", "surrogateescape") if done.status == 0 else ""
 
 
 MANGLED = re.compile(r"\b_[ZR]|::h[0-9a-f]{16}\b")
@@ -101,7 +99,7 @@ def demangled(text: str) -> str:
     if not MANGLED.search(text):
         return text
     program = which("c++filt") or program_on_path("llvm-cxxfilt")
-    return (run_program([program], text) if program else "") or text
+    return (printed_by([program], text) if program else "") or text
 
 
 def has_symbolizer() -> bool:
@@ -121,14 +119,14 @@ def output_of_llvm(questions: list[Question]) -> str:
     quoted = [(f"'{question.file}'" if '"' in question.file else f'"{question.file}"', question) for question in questions]
     lines = [f"{file} {address:#x}\n" for file, question in quoted for address in question.addresses]
     style = ["--output-style=GNU", "--relativenames", "--no-demangle", "-a", "-f", "-i"]
-    return run_program([program, *style], "".join(lines)) if program else ""
+    return printed_by([program, *style], "".join(lines)) if program else ""
 
 
 def output_of_addr2line(question: Question) -> str:
     """What `addr2line` prints of a question."""
     program = which("addr2line")
     lines = [f"{address:#x}\n" for address in question.addresses]
-    return run_program([program, "-a", "-f", "-i", "-e", question.file], "".join(lines)) if program else ""
+    return printed_by([program, "-a", "-f", "-i", "-e", question.file], "".join(lines)) if program else ""
 
 
 def split_by_questions(output: str, questions: list[Question]) -> Iterator[str]:

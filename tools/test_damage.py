@@ -33,7 +33,7 @@ class Ends(unittest.TestCase):
             ("deliver", 0, FIRST + b"cleanup pad=0x1 sp=0x2\n" + LANDING + b"outcome installed\n"),
             ("walk", 8, b"refused: unmapped 0x7008\n"), ("deliver", 8, b"refused: no resume 0x401040\n"),
             ("walk", 8, b"refused: table UnexpectedEof\n"), ("walk", 8, b"refused: macho ReadError Header\n"),
-            ("walk", 8, b"refused: pe info\n"), ("deliver", 8, b"refused: compact handler\n"), ("walk", 7, b"bad snapshot: limit\n"),
+            ("walk", 8, b"refused: pe info\n"), ("deliver", 8, b"refused: macho ReadError Lsda\n"), ("walk", 7, b"bad snapshot: limit\n"),
             ("walk", 6, b"not json\n"), ("walk", 9, b""),
         ):
             with self.subTest(output):

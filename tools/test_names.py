@@ -172,7 +172,7 @@ class Files(unittest.TestCase):
                 for address, (name, index) in self.addresses.items()}
 
     def test_all_are_asked_in_one_run(self) -> None:
-        with mock.patch.object(symbols, "run_program", wraps=symbols.run_program) as run:
+        with mock.patch.object(symbols, "printed_by", wraps=symbols.printed_by) as run:
             found = names_of([*self.addresses, 0x9], self.modules)
         lines = {address: [Place(place.function, place.line and place.line.split("/")[-1]) for place in places]
                  for address, places in found.items()}
