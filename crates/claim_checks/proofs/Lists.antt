@@ -7,15 +7,15 @@ use Rattle.serde_json.specs.View.{items_view, view}
 use Rattle.serde_json.specs.declared.value.Value.{Value}
 use Rattle.unwind_definitions.specs.Function.{Function, Site}
 use Rattle.unwinding_frames.specs.LanguageViews.{action_of}
-use Rattle.table_check.specs.ClaimViews.{step_of}
+use Rattle.table_check.specs.ClaimViews.{prologue_step_of, range_of, site_of, step_of}
 use Rattle.table_check.specs.Claiming.{with_body, with_claim, with_last, with_site, with_step, with_table}
-use Rattle.claim_checks.specs.declared.functions.AddressRange.{AddressRange}
-use Rattle.claim_checks.specs.declared.functions.CallSite.{CallSite}
-use Rattle.claim_checks.specs.declared.functions.EndedStep.{EndedStep}
+use Rattle.table_check.specs.declared.claims.AddressRange.{AddressRange}
+use Rattle.table_check.specs.declared.claims.ClaimedSite.{ClaimedSite}
+use Rattle.table_check.specs.declared.claims.ClaimedStep.{ClaimedStep}
 use Rattle.claim_checks.specs.declared.functions.ReadFunction.{ReadFunction}
 use Rattle.claim_checks.specs.Adding.{with_bodies, with_sites, with_steps}
 use Rattle.claim_checks.specs.Functions.{action_with, range_in, site_in, site_with}
-use Rattle.claim_checks.specs.Views.{function_of, function_with, prologue_step_of, range_of, site_of}
+use Rattle.claim_checks.specs.Views.{function_of, function_with}
 
 -- the values before, and then those that are read
 abbrev pub with_front : {A : Type 0} → List A → Option (List A) → Option (List A)
@@ -66,7 +66,7 @@ last_added f (y ∷ z ∷ fs) x = ap (λ ys. y ∷ ys) (last_added f (z ∷ fs) 
 pub no_steps : (fs : List Function) → with_last (with_steps []) fs ≡ fs
 no_steps = last_same (with_steps []) (λ f. ap (λ p. record f { prologue = p }) (append-nil f.prologue))
 
-pub more_steps : (s : EndedStep) (ss : List EndedStep) (fs : List Function) → with_last (with_steps ss) (with_last (with_step s.end (step_of s.step)) fs) ≡ with_last (with_steps (s ∷ ss)) fs
+pub more_steps : (s : ClaimedStep) (ss : List ClaimedStep) (fs : List Function) → with_last (with_steps ss) (with_last (with_step s.end (step_of s.step)) fs) ≡ with_last (with_steps (s ∷ ss)) fs
 more_steps s ss = last_twice (with_step s.end (step_of s.step)) (with_steps ss) (with_steps (s ∷ ss)) (λ f. ap (λ p. record f { prologue = p }) (append_assoc f.prologue (prologue_step_of s ∷ []) (map prologue_step_of ss)))
 
 pub no_bodies : (fs : List Function) → with_last (with_bodies []) fs ≡ fs
@@ -86,13 +86,13 @@ none_in (Some old) = ap Some (append-nil old)
 pub no_sites : (fs : List Function) → with_last (with_sites []) fs ≡ fs
 no_sites = last_same (with_sites []) (λ f. ap (λ s. record f { sites = s }) (none_in f.sites))
 
-pub more_sites : (s : CallSite) (ss : List CallSite) (fs : List Function) → with_last (with_sites ss) (with_last (with_site s.range.from s.range.to (action_of s.action)) fs) ≡ with_last (with_sites (s ∷ ss)) fs
+pub more_sites : (s : ClaimedSite) (ss : List ClaimedSite) (fs : List Function) → with_last (with_sites ss) (with_last (with_site s.range.from s.range.to (action_of s.action)) fs) ≡ with_last (with_sites (s ∷ ss)) fs
 more_sites s ss = last_twice (with_site s.range.from s.range.to (action_of s.action)) (with_sites ss) (with_sites (s ∷ ss)) (λ f. ap (λ o. record f { sites = o }) (more_in f.sites (site_of s) (map site_of ss)))
 
 -- ---- parts that are added one after another
 
-module _ (ss : List EndedStep) (i : ℕ) where
-  pub step_more : (d : EndedStep) → i < length ss → (old new all : List Function) → new ≡ with_last (with_step (get_or ss i d).end (step_of (get_or ss i d).step)) old → with_last (with_steps (drop i ss)) old ≡ all → with_last (with_steps (drop (i + 1) ss)) new ≡ all
+module _ (ss : List ClaimedStep) (i : ℕ) where
+  pub step_more : (d : ClaimedStep) → i < length ss → (old new all : List Function) → new ≡ with_last (with_step (get_or ss i d).end (step_of (get_or ss i d).step)) old → with_last (with_steps (drop i ss)) old ≡ all → with_last (with_steps (drop (i + 1) ss)) new ≡ all
   step_more d below old new all is held =
       ap (λ n. with_last (with_steps (drop n ss)) new) (sym (suc-eq-add-one i)) ∙ ap (with_last (with_steps (drop (suc i) ss))) is
       ∙ more_steps (get_or ss i d) (drop (suc i) ss) old ∙ ap (λ xs. with_last (with_steps xs) old) (sym (drop-cons ss i d below)) ∙ held
@@ -109,8 +109,8 @@ module _ (rs : List AddressRange) (i : ℕ) where
   pub body_done : length rs ≤ i → (new all : List Function) → with_last (with_bodies (drop i rs)) new ≡ all → new ≡ all
   body_done done new all held = sym (no_bodies new) ∙ ap (λ xs. with_last (with_bodies xs) new) (sym (drop_of_length-le rs done)) ∙ held
 
-module _ (ss : List CallSite) (i : ℕ) where
-  pub site_more : (d : CallSite) → i < length ss → (old new all : List Function) → new ≡ with_last (with_site (get_or ss i d).range.from (get_or ss i d).range.to (action_of (get_or ss i d).action)) old → with_last (with_sites (drop i ss)) old ≡ all → with_last (with_sites (drop (i + 1) ss)) new ≡ all
+module _ (ss : List ClaimedSite) (i : ℕ) where
+  pub site_more : (d : ClaimedSite) → i < length ss → (old new all : List Function) → new ≡ with_last (with_site (get_or ss i d).range.from (get_or ss i d).range.to (action_of (get_or ss i d).action)) old → with_last (with_sites (drop i ss)) old ≡ all → with_last (with_sites (drop (i + 1) ss)) new ≡ all
   site_more d below old new all is held =
       ap (λ n. with_last (with_sites (drop n ss)) new) (sym (suc-eq-add-one i)) ∙ ap (with_last (with_sites (drop (suc i) ss))) is
       ∙ more_sites (get_or ss i d) (drop (suc i) ss) old ∙ ap (λ xs. with_last (with_sites xs) old) (sym (drop-cons ss i d below)) ∙ held
@@ -127,19 +127,19 @@ abbrev without_sites : ReadFunction → Function
 without_sites f = function_with f.start f.end f.is_outermost f.steps.items f.bodies.items None
 
 -- its steps and its body are added
-bodied_is : (f : ReadFunction) (old pushed stepped bodied : List Function) (steps : List EndedStep) (bodies : List AddressRange) → steps ≡ f.steps.items → bodies ≡ f.bodies.items → pushed ≡ with_claim f.start f.end f.is_outermost old
+bodied_is : (f : ReadFunction) (old pushed stepped bodied : List Function) (steps : List ClaimedStep) (bodies : List AddressRange) → steps ≡ f.steps.items → bodies ≡ f.bodies.items → pushed ≡ with_claim f.start f.end f.is_outermost old
     → stepped ≡ with_last (with_steps steps) pushed → bodied ≡ with_last (with_bodies bodies) stepped → bodied ≡ old ++ without_sites f ∷ []
 bodied_is f old pushed stepped bodied steps bodies is_steps is_bodies is_pushed is_stepped is_bodied =
     is_bodied ∙ ap (λ bs. with_last (with_bodies bs) stepped) is_bodies
     ∙ ap (with_last (with_bodies f.bodies.items)) (is_stepped ∙ ap (λ ss. with_last (with_steps ss) pushed) is_steps ∙ ap (with_last (with_steps f.steps.items)) is_pushed ∙ last_added (with_steps f.steps.items) old (begun f))
     ∙ last_added (with_bodies f.bodies.items) old (with_steps f.steps.items (begun f))
 
-pub claimed_without : (f : ReadFunction) (old pushed stepped bodied : List Function) (steps : List EndedStep) (bodies : List AddressRange) → steps ≡ f.steps.items → bodies ≡ f.bodies.items → pushed ≡ with_claim f.start f.end f.is_outermost old
+pub claimed_without : (f : ReadFunction) (old pushed stepped bodied : List Function) (steps : List ClaimedStep) (bodies : List AddressRange) → steps ≡ f.steps.items → bodies ≡ f.bodies.items → pushed ≡ with_claim f.start f.end f.is_outermost old
     → stepped ≡ with_last (with_steps steps) pushed → bodied ≡ with_last (with_bodies bodies) stepped → f.sites ≡ None → bodied ≡ old ++ function_of f ∷ []
 claimed_without f old pushed stepped bodied steps bodies is_steps is_bodies is_pushed is_stepped is_bodied none =
     rw none (bodied_is f old pushed stepped bodied steps bodies is_steps is_bodies is_pushed is_stepped is_bodied)
 
-pub claimed_with : (f : ReadFunction) (old pushed stepped bodied tabled sited : List Function) (steps : List EndedStep) (bodies : List AddressRange) (vec : Vec CallSite Global) (sites : List CallSite) → steps ≡ f.steps.items → bodies ≡ f.bodies.items
+pub claimed_with : (f : ReadFunction) (old pushed stepped bodied tabled sited : List Function) (steps : List ClaimedStep) (bodies : List AddressRange) (vec : Vec ClaimedSite Global) (sites : List ClaimedSite) → steps ≡ f.steps.items → bodies ≡ f.bodies.items
     → sites ≡ vec.items → pushed ≡ with_claim f.start f.end f.is_outermost old → stepped ≡ with_last (with_steps steps) pushed → bodied ≡ with_last (with_bodies bodies) stepped → tabled ≡ with_last with_table bodied
     → sited ≡ with_last (with_sites sites) tabled → f.sites ≡ Some vec → sited ≡ old ++ function_of f ∷ []
 claimed_with f old pushed stepped bodied tabled sited steps bodies vec sites is_steps is_bodies is_sites is_pushed is_stepped is_bodied is_tabled is_sited some =

@@ -12,9 +12,9 @@ use Rattle.table_check.specs.declared.claims.ClaimStep.{ClaimStep}
 use Rattle.table_check.specs.declared.claims.ClaimStep.TheVariants.{Push, Allocate, Set, Store}
 use Rattle.stack_snapshot.specs.Fields.{as_word, word_at, flag_or_false}
 use Rattle.stack_snapshot.specs.Snapshot.{each_of}
-use Rattle.claim_checks.specs.declared.functions.AddressRange.{AddressRange}
-use Rattle.claim_checks.specs.declared.functions.CallSite.{CallSite}
-use Rattle.claim_checks.specs.declared.functions.EndedStep.{EndedStep}
+use Rattle.table_check.specs.declared.claims.AddressRange.{AddressRange}
+use Rattle.table_check.specs.declared.claims.ClaimedSite.{ClaimedSite}
+use Rattle.table_check.specs.declared.claims.ClaimedStep.{ClaimedStep}
 use Rattle.claim_checks.specs.Views.{function_with}
 
 -- ---- steps
@@ -48,16 +48,16 @@ abbrev pub step_in : Data → Option ClaimStep
 step_in d = step_by d (get (codes "push") d) (get (codes "allocate") d) (get (codes "set") d) (get (codes "store") d)
 
 -- a step, and the offset in the function's code at which it has ended
-abbrev pub ended_with : ℕ → ClaimStep → EndedStep
+abbrev pub ended_with : ℕ → ClaimStep → ClaimedStep
 ended_with end step = record { end = end; step = step }
 
-abbrev pub ended_step_of : Data → Option EndedStep
+abbrev pub ended_step_of : Data → Option ClaimedStep
 ended_step_of d = option_and_then (λ end. option_map (ended_with end) (step_in d)) (word_at (codes "end") d)
 
-abbrev pub step_list : Items → Option (List EndedStep)
+abbrev pub step_list : Items → Option (List ClaimedStep)
 step_list = each_of ended_step_of
 
-unfoldable pub steps_of : Data → Option (List EndedStep)
+unfoldable pub steps_of : Data → Option (List ClaimedStep)
 steps_of d = option_and_then step_list (option_and_then as_array (get (codes "steps") d))
 
 -- ---- bodies
@@ -101,11 +101,11 @@ no_action_named name = if bytes_eq name (codes "none") then Some action.None els
 abbrev pub no_action : Data → Option EhAction
 no_action name = option_and_then no_action_named (as_str name)
 
-abbrev pub site_with : Data → Data → Option EhAction → Option CallSite
+abbrev pub site_with : Data → Data → Option EhAction → Option ClaimedSite
 site_with from to asks = option_and_then (λ range. option_map (λ action. record { range = range; action = action }) asks) (range_with from to)
 
 -- two words, what the calls between ask, and perhaps a landing pad
-abbrev pub site_in : Items → Option CallSite
+abbrev pub site_in : Items → Option ClaimedSite
 site_in no_items = None
 site_in (item from no_items) = None
 site_in (item from (item to no_items)) = None
@@ -113,18 +113,18 @@ site_in (item from (item to (item name no_items))) = site_with from to (no_actio
 site_in (item from (item to (item name (item pad no_items)))) = site_with from to (action_with name pad)
 site_in (item from (item to (item name (item pad (item d ds))))) = None
 
-abbrev pub site_of : Data → Option CallSite
+abbrev pub site_of : Data → Option ClaimedSite
 site_of d = option_and_then site_in (as_array d)
 
-abbrev pub site_list : Items → Option (List CallSite)
+abbrev pub site_list : Items → Option (List ClaimedSite)
 site_list = each_of site_of
 
 -- the call sites, where a language table is given
-abbrev pub sites_by : Option Data → Option (Option (List CallSite))
+abbrev pub sites_by : Option Data → Option (Option (List ClaimedSite))
 sites_by None = Some None
 sites_by (Some d) = option_map Some (option_and_then site_list (as_array d))
 
-unfoldable pub sites_of : Data → Option (Option (List CallSite))
+unfoldable pub sites_of : Data → Option (Option (List ClaimedSite))
 sites_of d = sites_by (get (codes "sites") d)
 
 -- ---- functions

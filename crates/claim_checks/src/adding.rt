@@ -4,12 +4,12 @@ ghost use Rattle.table_check.specs.Claiming.{with_last};
 ghost use Rattle.claim_checks.specs.Adding.{with_bodies, with_sites, with_steps};
 ghost use Rattle.claim_checks.specs.Views.{function_of};
 
-use crate::functions::{AddressRange, CallSite, EndedStep, ReadFunction};
+use crate::functions::ReadFunction;
 use std::alloc::AllocError;
-use table_check::Claims;
+use table_check::{AddressRange, ClaimedSite, ClaimedStep, Claims};
 
 /// Adds steps to the last claim.
-fn add_steps(claims: &mut Claims, steps: &[EndedStep]) -> Result<(), AllocError>
+fn add_steps(claims: &mut Claims, steps: &[ClaimedStep]) -> Result<(), AllocError>
     ensures { OnOk result (claims.new ≡ with_last (with_steps steps.now) claims.old) }
 {
     for step in steps {
@@ -29,7 +29,7 @@ fn add_bodies(claims: &mut Claims, bodies: &[AddressRange]) -> Result<(), AllocE
 }
 
 /// Adds call sites to the language table of the last claim.
-fn add_sites(claims: &mut Claims, sites: &[CallSite]) -> Result<(), AllocError>
+fn add_sites(claims: &mut Claims, sites: &[ClaimedSite]) -> Result<(), AllocError>
     ensures { OnOk result (claims.new ≡ with_last (with_sites sites.now) claims.old) }
 {
     for site in sites {

@@ -14,31 +14,10 @@ ghost use Rattle.claim_checks.specs.Views.{function_of};
 use serde_json::Value;
 use stack_snapshot::{Field, SnapshotError, as_word, word_at};
 use std::alloc::Global;
-use table_check::{ClaimStep, EhAction, Register};
+use table_check::{AddressRange, ClaimStep, ClaimedSite, ClaimedStep, EhAction, Register};
 
 /// What is answered where the functions are faulty.
 const FAULTY: SnapshotError = SnapshotError::Bad(Field::Functions);
-
-/// A step of a prologue, and the offset in the function's code at which it has ended.
-#[derive(Clone, Copy)]
-pub(crate) struct EndedStep {
-    pub(crate) end: u64,
-    pub(crate) step: ClaimStep,
-}
-
-/// The addresses from one on up to another, which isn't in it.
-#[derive(Clone, Copy)]
-pub(crate) struct AddressRange {
-    pub(crate) from: u64,
-    pub(crate) to: u64,
-}
-
-/// The calls in a range, and what they ask.
-#[derive(Clone, Copy)]
-pub(crate) struct CallSite {
-    pub(crate) range: AddressRange,
-    pub(crate) action: EhAction,
-}
 
 /// A function that was read.
 #[derive(Drop)]
@@ -46,10 +25,10 @@ pub(crate) struct ReadFunction {
     pub(crate) start: u64,
     pub(crate) end: u64,
     pub(crate) is_outermost: bool,
-    pub(crate) steps: Vec<EndedStep>,
+    pub(crate) steps: Vec<ClaimedStep>,
     pub(crate) bodies: Vec<AddressRange>,
     // none without a language table
-    pub(crate) sites: Option<Vec<CallSite>>,
+    pub(crate) sites: Option<Vec<ClaimedSite>>,
 }
 
 /// A register that calls keep, by its name.
@@ -101,16 +80,16 @@ fn step_in(value: &Value) -> Option<ClaimStep>
 }
 
 /// The step that an object says.
-fn ended_step_of(value: &Value) -> Option<EndedStep>
+fn ended_step_of(value: &Value) -> Option<ClaimedStep>
     ensures { result ≡ ended_step_of (view value.now) }
 {
     let end = word_at(value, "end")?;
     let step = step_in(value)?;
-    Some(EndedStep { end, step })
+    Some(ClaimedStep { end, step })
 }
 
 /// Each item a step.
-fn step_list(alloc: Global, items: &[Value]) -> Result<Vec<EndedStep>, SnapshotError>
+fn step_list(alloc: Global, items: &[Value]) -> Result<Vec<ClaimedStep>, SnapshotError>
     ensures { Gives (λ steps. steps.items) result
         (needs Field.Functions (step_list (items_view items.now))) }
 {
@@ -123,7 +102,7 @@ fn step_list(alloc: Global, items: &[Value]) -> Result<Vec<EndedStep>, SnapshotE
 
 /// The steps of a prologue.
 #[tactic(auto, unfolding(crate::specs::Functions::steps_of))]
-fn steps_of(alloc: Global, value: &Value) -> Result<Vec<EndedStep>, SnapshotError>
+fn steps_of(alloc: Global, value: &Value) -> Result<Vec<ClaimedStep>, SnapshotError>
     ensures { Gives (λ steps. steps.items) result
         (needs Field.Functions (steps_of (view value.now))) }
 {
@@ -213,16 +192,16 @@ fn no_action(name: &Value) -> Option<EhAction>
 }
 
 /// The call site from one word to before another.
-fn site_with(from: &Value, to: &Value, asks: Option<EhAction>) -> Option<CallSite>
+fn site_with(from: &Value, to: &Value, asks: Option<EhAction>) -> Option<ClaimedSite>
     ensures { result ≡ site_with (view from.now) (view to.now) asks }
 {
     let range = range_with(from, to)?;
     let action = asks?;
-    Some(CallSite { range, action })
+    Some(ClaimedSite { range, action })
 }
 
 /// Two words, what the calls between ask, and perhaps a landing pad.
-fn site_in(items: &[Value]) -> Option<CallSite>
+fn site_in(items: &[Value]) -> Option<ClaimedSite>
     ensures { result ≡ site_in (items_view items.now) }
 {
     match items {
@@ -233,14 +212,14 @@ fn site_in(items: &[Value]) -> Option<CallSite>
 }
 
 /// The call site that an array says.
-fn site_of(value: &Value) -> Option<CallSite>
+fn site_of(value: &Value) -> Option<ClaimedSite>
     ensures { result ≡ site_of (view value.now) }
 {
     site_in(value.as_array()?)
 }
 
 /// Each item a call site.
-fn site_list(alloc: Global, items: &[Value]) -> Result<Vec<CallSite>, SnapshotError>
+fn site_list(alloc: Global, items: &[Value]) -> Result<Vec<ClaimedSite>, SnapshotError>
     ensures { Gives (λ sites. sites.items) result
         (needs Field.Functions (site_list (items_view items.now))) }
 {
@@ -253,7 +232,7 @@ fn site_list(alloc: Global, items: &[Value]) -> Result<Vec<CallSite>, SnapshotEr
 
 /// The call sites of a language table, where one is given.
 #[tactic(auto, unfolding(crate::specs::Functions::sites_of))]
-fn sites_of(alloc: Global, value: &Value) -> Result<Option<Vec<CallSite>>, SnapshotError>
+fn sites_of(alloc: Global, value: &Value) -> Result<Option<Vec<ClaimedSite>>, SnapshotError>
     ensures { Gives (λ sites. option_map (λ list. list.items) sites) result
         (needs Field.Functions (sites_of (view value.now))) }
 {

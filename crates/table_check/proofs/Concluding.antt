@@ -16,18 +16,15 @@ use Rattle.fde_finders.specs.declared.custom.FrameInfo.{FrameInfo}
 use Rattle.fde_finders.specs.FrameTables.{FrameTable, table_by}
 use Rattle.table_check.specs.declared.reason.Reason.{Reason}
 use Rattle.table_check.specs.declared.reason.Reason.TheVariants as reason
-use Rattle.table_check.specs.declared.verdict.Verdict.TheVariants.{No}
-use Rattle.table_check.specs.AllEntries.{AllApart, AreAll}
 use Rattle.table_check.specs.Descriptions.{AllDescribed, HasCode, HasLanguage}
 use Rattle.table_check.specs.Modules.{AreDescribed, module_of, tables_of}
 use Rattle.table_check.specs.Ranges.{LeavesFirst, extents_of}
 use Rattle.table_check.specs.Reasons.{Refuses, StandsSoFar}
 use Rattle.table_check.specs.Scanned.{AllMayStand, AllMayStandIn, AllStand, IsDescribedAmong, IsFirstExtra, IsFirstRefused, IsRefused, IsShortAt, MayStand, ReadBefore, StandBefore}
-use Rattle.table_check.specs.Verdicts.{IsVerdict, RefusesDescriptions}
-use Rattle.table_check.proofs.Apart.{all_apart}
+use Rattle.table_check.specs.Verdicts.{RefusesDescriptions}
 use Rattle.table_check.proofs.Beside.{found_in}
 use Rattle.table_check.proofs.NamedTables.{address_is, frame_table, named_at}
-use Rattle.table_check.proofs.Whole.{AreParts, among, d_parts, describes, fails_not, may_stand_all}
+use Rattle.table_check.proofs.Whole.{AreParts, among, d_parts, describes, fails_not}
 
 pub one_table : (t u : FrameTable) → ◌≡◌ {A = Option FrameTable} (Some t) (Some u) → t ≡ u
 one_table t u e = cc
@@ -136,15 +133,6 @@ module _ (image : List Span) (start end : ℕ) (frame : FrameInfo) (functions : 
     module _ (t : FrameTable) (named : table_by frame image ≡ Some t) where
       same : t ≡ s.table
       same = one_table t s.table (sym named ∙ s.named)
-
-      pub all_in : AreAll t.bases t.entries s.beside.descriptions.entries
-      all_in = subst (λ (x : FrameTable). AreAll x.bases x.entries s.beside.descriptions.entries) (sym same) (may_stand_all s.table.bases s.table.entries functions s.beside.descriptions)
-
-      pub apart_in : AllApart fdes_in
-      apart_in = all_apart functions [] fdes_in s.beside.descriptions.stand
-
-      pub says_no : (r : Reason) → IsSaid t functions (Some r) → IsVerdict image start end frame functions (No r)
-      says_no r said = inr (record { stand = s; refuses = subst (λ (x : FrameTable). IsSaid x functions (Some r)) same said })
 
       abbrev m : Module
       m = module_of start end frame

@@ -1,11 +1,11 @@
 -- A header of the form that linkers choose, and the table that is read by it.
 use Rattle.std.proofs.Common.{◌≡◌, ℕ, zero, suc, ◌+◌, ◌*◌, ◌%◌, ◌^◌, ◌<◌, Bool, true, false, List, [], ◌∷◌, ◌++◌, length, drop, take, map, get_or, Some, Result, Ok, Err, refl, sym, ap, subst, ◌∙◌, arith}
-use Rattle.std.specs.Prelude.{◌==◌, nat_lt, slice_get}
+use Rattle.std.specs.Prelude.{◌==◌, slice_get}
 use Rattle.std.specs.Int.{w32}
 use Rattle.std.specs.List.{AllByRecursion, Contains}
 use Rattle.std.specs.List.Sorted.{IsPermutation}
 use Rattle.std.proofs.lemmas.Bool.{eqb-true}
-use Rattle.std.proofs.lemmas.List.{drop-drop, length-map, take-append-drop}
+use Rattle.std.proofs.lemmas.List.{length-map, take-append-drop}
 use Rattle.std.proofs.lemmas.List.Sorted.{Contains-permutation, IsPermutation-refl, length_permutation}
 use Rattle.memory_image.specs.Image.{Span, table_at}
 use Rattle.unwind_definitions.specs.declared.error.Error.{Error as Fault}
@@ -19,15 +19,11 @@ use Rattle.unwind_definitions.specs.Header.{FrameHeader, bases_in, header, pair_
 use Rattle.unwind_definitions.specs.PointerEncodings.{datarel_sdata4, DW_EH_PE_udata4, pcrel_sdata4}
 use Rattle.unwind_laws.specs.Listing.{listing}
 use Rattle.unwind_laws.proofs.Booleans.{first, later}
-use Rattle.unwind_laws.proofs.HeaderListed.{header_read, nth_pair}
-use Rattle.unwind_laws.proofs.Leb.{one_byte}
+use Rattle.unwind_laws.proofs.HeaderListed.{after_head, four_passed, head_read, header_read, input, nth_pair, skip_more, skip_none}
 use Rattle.unwind_laws.proofs.Signal.{ok_same}
 use Rattle.table_check.specs.AllEntries.{AllApart}
 use Rattle.table_check.specs.Pairs.{HavePairs, ListsAll, ListsEach}
 use Rattle.table_check.proofs.Permuted.{distinct_pairs, permutes}
-
-abbrev input : ℕ → ℕ → List ℕ → Input
-input base offset bytes = record { base = base; offset = offset; bytes = bytes }
 
 -- what goes on to a value has one before it
 before : {A B : Type 0} (r : Result A Fault) (f : A → Result B Fault) (y : B) → (r >>= f) ≡ Ok y → (x : A) × (r ≡ Ok x) × (f x ≡ Ok y)
@@ -35,13 +31,6 @@ before (Ok x) f y is = (x, refl, is)
 before (Err e) f y is = absurd cc
 
 -- ---- the header
-
-abbrev after_head : Bases → ℕ → Pointer × Input → Result FrameHeader Fault
-after_head bases base frame = pair_count DW_EH_PE_udata4 datarel_sdata4 frame.1 >>= λ count. Ok (record { frame = frame.0; count = count.0; encoding = datarel_sdata4; bases = bases_in base bases; pairs = count.1 })
-
-head_read : (bases : Bases) (base : ℕ) (rest : List ℕ) → header bases (input base 0 (0x01 ∷ 0x1b ∷ 0x03 ∷ 0x3b ∷ rest)) ≡ (pointer pcrel_sdata4 (bases_in base bases) (input base 4 rest) >>= after_head bases base)
-head_read bases base rest =
-    rw (one_byte base 0 0x01 (0x1b ∷ 0x03 ∷ 0x3b ∷ rest), one_byte base 1 0x1b (0x03 ∷ 0x3b ∷ rest), one_byte base 2 0x03 (0x3b ∷ rest), one_byte base 3 0x3b rest) refl
 
 -- a pointer that is relative to its own place is direct
 record IsDirect (c : Input) (p : Pointer × Input) : Type 0 where
@@ -98,21 +87,6 @@ got : (ps : List (ℕ × ℕ)) (k : ℕ) (d : ℕ × ℕ) → k < length ps → 
 got [] k d lt = absurd (omega arith)
 got (p ∷ ps) zero d lt = refl
 got (p ∷ ps) (suc k) d lt = got ps k d (omega arith)
-
-skip_none : (c : Input) → skip 0 c ≡ c
-skip_none c = let zero_more : c.offset + 0 ≡ c.offset = omega arith in ap (λ o. input c.base o c.bytes) zero_more
-
-skip_more : (m n k : ℕ) (c : Input) → k ≡ n + m → skip m (skip n c) ≡ skip k c
-skip_more m n k c sum =
-    let offset : c.offset + n + m ≡ c.offset + k = omega arith in
-    ap (λ o. input c.base o (drop m (drop n c.bytes))) offset ∙ ap (λ (l : List ℕ). input c.base (c.offset + k) l) (drop-drop m n c.bytes ∙ ap (λ j. drop j c.bytes) (sym sum))
-
-four_passed : (h a : ℕ) (c d : Input) → direct datarel_sdata4 (header_bases h) c ≡ Ok (a, d) → d ≡ skip 4 c
-four_passed h a c d e = go (nat_lt (length c.bytes) 4) refl
-  where
-    go : (b : Bool) → nat_lt (length c.bytes) 4 ≡ b → d ≡ skip 4 c
-    go true is = let h = rw is at e in absurd cc
-    go false is = let h = rw is at e in sym (ap (λ (p : ℕ × Input). p.1) (ok_same _ (a, d) h))
 
 module _ (h : ℕ) (bases : Bases) where
   -- a pair is read as two addresses

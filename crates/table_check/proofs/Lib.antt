@@ -23,6 +23,8 @@ mod HeaderForms
 mod OneNoted
 mod Ascending
 mod NamedTables
-mod Passing
 mod Concluding
 mod Once
+mod Taking
+mod Answering
+mod Runs

@@ -59,10 +59,10 @@ short_by table offset n rest read = (
 -- ---- one more entry is read
 
 module _ (bases : Bases) (table : Input) (l : Listing) (inv : l ≡ record { table = table; bases = bases; offset = l.offset; is_over = false }) (before : List Entry) (stand : StandBefore bases table 0 before l.offset) (e : Entry) (read : entry_in (upcoming l) ≡ Ok (Some e)) where
-  abbrev next_found : (next : ℕ) × (entry_at l.bases l.table l.offset ≡ Ok (Some (record { entry = e; next = next }))) × (after l (upcoming l) ≡ record l { offset = next })
+  abbrev pub next_found : (next : ℕ) × (entry_at l.bases l.table l.offset ≡ Ok (Some (record { entry = e; next = next }))) × (after l (upcoming l) ≡ record l { offset = next })
   next_found = reads_entry l (ap (λ (x : Listing). x.is_over) inv) e read
 
-  at_here : entry_at bases table l.offset ≡ Ok (Some (record { entry = e; next = next_found.0 }))
+  pub at_here : entry_at bases table l.offset ≡ Ok (Some (record { entry = e; next = next_found.0 }))
   at_here = subst (λ (x : Listing). entry_at x.bases x.table x.offset ≡ Ok (Some (record { entry = e; next = next_found.0 }))) inv next_found.1
 
   -- an entry whose length isn't short is the first that is refused

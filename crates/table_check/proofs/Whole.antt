@@ -39,7 +39,7 @@ module _ (bases : Bases) (table : Input) where
   stand_short from [] end stand = tt
   stand_short from (e ∷ es) end stand = (subst (IsShortAt table) (sym (own_offset bases table from e stand.0 stand.1)) stand.2, stand_short stand.0 es end stand.3)
 
-  read_before : (from : ℕ) (es : List Entry) (end : ℕ) → StandBefore bases table from es end → ReadBefore bases table from es end
+  pub read_before : (from : ℕ) (es : List Entry) (end : ℕ) → StandBefore bases table from es end → ReadBefore bases table from es end
   read_before from [] end stand = stand
   read_before from (e ∷ es) end stand = (stand.0, stand.1, read_before stand.0 es end stand.3)
 

@@ -17,3 +17,5 @@ pub mod Descriptions
 pub mod Pairs
 pub mod Modules
 pub mod Verdicts
+pub mod Findings
+pub mod Running

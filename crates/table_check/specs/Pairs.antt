@@ -1,5 +1,6 @@
 -- The pairs of a header's table, read one by one. No public clause cites this.
-use Rattle.std.specs.Prelude.{◌≡◌, ℕ, ◌<◌, List, length, Option, Some, None, Ok, slice_index_or}
+use Rattle.std.specs.Prelude.{◌≡◌, ℕ, ◌<◌, Bool, List, length, Option, Some, None, Ok, slice_index_or}
+use Rattle.std.specs.Bool.{Decides}
 use Rattle.std.specs.List.{AllByRecursion, Contains}
 use Rattle.unwind_definitions.specs.Entries.{Fde}
 use Rattle.unwind_definitions.specs.Header.{PairTable, pair_at}
@@ -19,6 +20,10 @@ IsPlaceIn pairs start (Some place) = Contains pairs (start, place) × ((other : 
 -- each description of a table at an address has its pair
 abbrev pub HavePairs : ℕ → List (ℕ × ℕ) → List Fde → Type 0
 HavePairs frame pairs fdes = AllByRecursion (λ fde. Contains pairs (pair_of frame fde)) fdes
+
+-- whether each description has its pair, where a header's table is there whose pairs all read and ascend
+abbrev pub SaysListed : Option PairTable → ℕ → List Fde → Bool → Type 0
+SaysListed pairs frame fdes says = (t : PairTable) (read : List (ℕ × ℕ)) → pairs ≡ Some t → AreRead t read → Decides says (HavePairs frame read fdes)
 
 -- there are as many pairs as descriptions, each of which has its own
 pub record ListsEach (t : PairTable) (frame : ℕ) (fdes : List Fde) : Type 0 where

@@ -28,25 +28,42 @@ pub enum ClaimStep {
     Store(Register, u64),
 }
 
-/// A step, and the offset in the function's code at which it has ended.
+/// A step of a prologue, and the offset in the function's code at which it has ended.
 #[derive(Clone, Copy)]
-pub(crate) struct ClaimedStep {
-    pub(crate) end: u64,
-    pub(crate) step: ClaimStep,
+pub struct ClaimedStep {
+    /// How many bytes after the function's start it has ended.
+    pub end: u64,
+    /// What it does.
+    pub step: ClaimStep,
 }
 
 /// The addresses from one on up to another, which isn't in it.
 #[derive(Clone, Copy)]
-pub(crate) struct AddressRange {
-    pub(crate) from: u64,
-    pub(crate) to: u64,
+pub struct AddressRange {
+    /// The first address that is in it.
+    pub from: u64,
+    /// The first address after it.
+    pub to: u64,
 }
 
 /// The calls in a range, and what they ask.
+///
+/// Source: Itanium C++ ABI, exception handling tables: the call site table.
 #[derive(Clone, Copy)]
-pub(crate) struct ClaimedSite {
-    pub(crate) range: AddressRange,
-    pub(crate) action: EhAction,
+pub struct ClaimedSite {
+    /// The addresses of the calls.
+    pub range: AddressRange,
+    /// What they ask.
+    pub action: EhAction,
+}
+
+/// What the description says that has a claim's range.
+#[derive(Clone, Copy)]
+pub(crate) struct Described {
+    /// Whether it describes the claim's code.
+    pub(crate) has_code: bool,
+    /// Whether it leads to the claim's language table; or to none, where the claim has none.
+    pub(crate) has_language: bool,
 }
 
 /// A function that is claimed.
@@ -60,8 +77,8 @@ pub(crate) struct Claim {
     // none without a language table
     pub(crate) sites: Vec<ClaimedSite>,
     pub(crate) has_table: bool,
-    // the offset of its description in the frame table, once it is found
-    pub(crate) description: Option<u64>,
+    // what its description says, once it is found
+    pub(crate) description: Option<Described>,
 }
 
 /// Functions that a module is claimed to have, by ascending address.

@@ -31,8 +31,8 @@ pub(crate) fn first_refused_entry(frames: &EhFrame<'_>, bytes: &[u8], bases: &Ba
     }
 }
 
-// Whether four bytes spell the length at an offset of a table.
-fn is_short(address: u64, bytes: &[u8], offset: u64) -> bool
+/// Whether four bytes spell the length at an offset of a table.
+pub(crate) fn is_short(address: u64, bytes: &[u8], offset: u64) -> bool
     ensures { Decides result
         (IsShortAt (record { base = address; offset = 0; bytes = bytes.now }) offset) }
 {

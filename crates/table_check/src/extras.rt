@@ -1,6 +1,6 @@
 //! Descriptions beside the functions that are claimed. LSB, section on `.eh_frame`.
 
-ghost use Rattle.std.specs.Prelude.{◌≡◌, ◌⊎◌, ◌+◌, ◌<◌, ◌≤◌, ℕ, List, [], ◌∷◌, MatchOption, false};
+ghost use Rattle.std.specs.Prelude.{◌≡◌, ◌⊎◌, ◌+◌, ◌<◌, ◌≤◌, ℕ, List, [], ◌∷◌, MatchOption, false, true};
 ghost use Rattle.std.specs.Prelude.{length, map, slice_index_or};
 ghost use Rattle.std.specs.Bool.{Decides};
 ghost use Rattle.std.specs.List.{AllByRecursion};
@@ -21,14 +21,15 @@ use crate::claims::Claim;
 use eh_frame::{Bases, EhFrame, Entries, Entry, Fde};
 
 /// Whether a description has the range of a claim, or shares no address with any. The claims ascend
-/// and share no address; the one that it may share one with is found by halving.
-pub(crate) fn fits_claims(fde: &Fde<'_>, claims: &[Claim]) -> bool
+/// and share no address; the one that it may share one with is at an index that is guessed, or else
+/// found by halving.
+pub(crate) fn fits_claims(fde: &Fde<'_>, claims: &[Claim], guess: usize) -> bool
     requires { AreInOrder (map function_of claims.now) }
     ensures { Decides result
         (AllByRecursion (FitsFunction (fde_of fde.now)) (map function_of claims.now)) }
 {
     let start = fde.initial_address();
-    let i = first_ending_after(claims, start);
+    let i = first_ending_after(claims, start, guess);
     if i == claims.len() {
         return true;
     }
@@ -51,8 +52,53 @@ fn fits(claim_start: u64, claim_end: u64, start: u64, len: u64) -> bool
     claim_start == start && claim_end - start == len
 }
 
-/// The index of the first claim that ends after an address, or how many there are.
-pub(crate) fn first_ending_after(claims: &[Claim], address: u64) -> usize
+/// The index of the first claim that ends after an address, or how many there are: the one that is
+/// guessed, or else it is found by halving.
+pub(crate) fn first_ending_after(claims: &[Claim], address: u64, guess: usize) -> usize
+    requires { AreInOrder (map function_of claims.now) }
+    ensures within { result ≤ length claims.now }
+    ensures before { (k : ℕ) (d : Claimed) → k < result →
+        (slice_index_or claims.now k d).end ≤ address }
+    ensures after { (k : ℕ) (d : Claimed) → result ≤ k → k < length claims.now →
+        address < (slice_index_or claims.now k d).end }
+{
+    if guess <= claims.len()
+        && end_by(claims, address, guess)
+        && end_after(claims, address, guess)
+    {
+        return guess;
+    }
+    halved(claims, address)
+}
+
+// Whether the claims before an index end at or before an address.
+fn end_by(claims: &[Claim], address: u64, index: usize) -> bool
+    requires order { AreInOrder (map function_of claims.now) }
+    requires within { index ≤ length claims.now }
+    ensures { result ≡ true → (k : ℕ) (d : Claimed) → k < index →
+        (slice_index_or claims.now k d).end ≤ address }
+{
+    if index == 0 {
+        return true;
+    }
+    claims[index - 1].end <= address
+}
+
+// Whether the claims from an index on end after an address.
+fn end_after(claims: &[Claim], address: u64, index: usize) -> bool
+    requires order { AreInOrder (map function_of claims.now) }
+    requires within { index ≤ length claims.now }
+    ensures { result ≡ true → (k : ℕ) (d : Claimed) → index ≤ k → k < length claims.now →
+        address < (slice_index_or claims.now k d).end }
+{
+    if index == claims.len() {
+        return true;
+    }
+    address < claims[index].end
+}
+
+// The index of the first claim that ends after an address, by halving.
+fn halved(claims: &[Claim], address: u64) -> usize
     requires { AreInOrder (map function_of claims.now) }
     ensures within { result ≤ length claims.now }
     ensures before { (k : ℕ) (d : Claimed) → k < result →
@@ -119,7 +165,7 @@ fn extra_start(
     match entry {
         Entry::Cie(_) => None,
         Entry::Fde(fde) => {
-            if may_stand(frames, bases, claims, fde, count, highest) {
+            if may_stand(frames, bases, claims, fde, count, highest, 0) {
                 None
             } else {
                 Some(fde.initial_address())
@@ -150,15 +196,16 @@ fn is_apart_from(entry: &Entry<'_>, fde: &Fde<'_>) -> bool
     }
 }
 
-// Whether a description may stand after so many entries, whose descriptions end at or before an
-// address.
-fn may_stand(
+/// Whether a description may stand after so many entries, whose descriptions end at or before an
+/// address. The claim that it may be of is guessed.
+pub(crate) fn may_stand(
     frames: &EhFrame<'_>,
     bases: &Bases,
     claims: &[Claim],
     fde: &Fde<'_>,
     count: u64,
     highest: u64,
+    guess: usize,
 ) -> bool
     requires { AreInOrder (map function_of claims.now) }
     ensures { (before : List Described) (end : ℕ) → length before ≡ count →
@@ -166,7 +213,7 @@ fn may_stand(
         AllByRecursion (EndsBy highest) (fdes_of before) →
         Decides result (MayStand (map function_of claims.now) (fdes_of before) (fde_of fde.now)) }
 {
-    fde.len() > 0 && is_apart(frames, bases, fde, count, highest) && fits_claims(fde, claims)
+    fde.len() > 0 && is_apart(frames, bases, fde, count, highest) && fits_claims(fde, claims, guess)
 }
 
 // Whether a description shares no address with those before it.
@@ -219,8 +266,8 @@ fn are_apart(earlier: &Fde<'_>, later: &Fde<'_>) -> bool
     (a <= b && earlier.len() <= b - a) || (b <= a && later.len() <= a - b)
 }
 
-// The end of a description, or a higher one.
-fn later_end(fde: &Fde<'_>, highest: u64) -> u64
+/// The end of a description, or a higher one.
+pub(crate) fn later_end(fde: &Fde<'_>, highest: u64) -> u64
     ensures end { EndsBy result (fde_of fde.now) }
     ensures higher { highest ≤ result }
 {

@@ -2,10 +2,10 @@
 //! they don't, the first reason why.
 //!
 //! [`Claims`] list functions as a compiler knows them: their ranges, their prologues, their bodies
-//! and their call sites. [`check`] answers whether a module's tables describe them, exactly, and
-//! else the first [`Reason`] why not; what it calls a description is what the theorems on walks and
-//! deliveries ask of a module. [`refusal_of_ranges`] is the part of it that looks at claims, entries
-//! and ranges alone.
+//! and their call sites. [`check`] answers `Yes` exactly where they ascend and a module's tables
+//! describe them, and else the first [`Reason`] why not; what it calls a description is what the
+//! theorems on walks and deliveries ask of a module. [`refusal_of_ranges`] is the part of it that
+//! looks at claims, entries and ranges alone.
 //!
 //! Source: LSB, sections on `.eh_frame` and `.eh_frame_hdr`; DWARF 5 section 6.4; Itanium C++ ABI,
 //! exception handling tables.
@@ -16,23 +16,24 @@ mod claims;
 mod descriptions;
 mod entries;
 mod extras;
+mod findings;
 mod functions;
 mod header_tables;
 mod language;
 #[cfg(test)]
 mod language_tests;
 mod marks;
-mod noted;
 mod programs;
 mod prologue;
 mod ranges;
 mod reason;
 mod rows;
+mod running;
 #[cfg(test)]
 mod tests;
 mod verdict;
 
-pub use claims::{ClaimStep, Claims};
+pub use claims::{AddressRange, ClaimStep, ClaimedSite, ClaimedStep, Claims};
 pub use eh_frame::Register;
 pub use fde_finders::{FrameInfo, FrameInfoKind};
 pub use reason::{Reason, refusal_of_claims, refusal_of_ranges};

@@ -1,54 +1,35 @@
-//! Which description of a frame table each claim has. LSB, section on `.eh_frame`.
+//! Which claims have a description, and what these say. LSB, section on `.eh_frame`; Itanium C++ ABI,
+//! exception handling tables.
 
-ghost use Rattle.std.specs.Prelude.{◌≡◌, ◌≤◌, ◌==◌, ◌+◌, ◌&&◌, ◌++◌, ◌∷◌, ℕ, List, []};
-ghost use Rattle.std.specs.Prelude.{Ok, Some, length, map};
+ghost use Rattle.std.specs.Prelude.{◌≡◌, ◌==◌, ◌+◌, ◌&&◌, ◌++◌, ◌∷◌, IsTrue, List, [], map};
+ghost use Rattle.std.specs.Bool.{Decides};
 ghost use Rattle.std.specs.List.{AllByRecursion};
-ghost use Rattle.unwind_definitions.specs.Input.{Input};
+ghost use Rattle.memory_image.specs.Image.{Span};
 ghost use Rattle.unwind_definitions.specs.Pointers.{Bases as Relative};
-ghost use Rattle.unwind_definitions.specs.Entries.{AFde, Entry as Described, Fde as Description};
-ghost use Rattle.unwind_definitions.specs.Entries.{entry_at};
-ghost use Rattle.unwind_definitions.specs.FrameTable.{has_range_of};
-ghost use Rattle.unwind_definitions.specs.Scan.{fdes_of};
+ghost use Rattle.unwind_definitions.specs.Entries.{Fde as Description};
+ghost use Rattle.unwind_definitions.specs.FrameTable.{DescribesCode, has_range_of};
+ghost use Rattle.unwind_definitions.specs.Function.{IsFunction};
+ghost use Rattle.unwind_definitions.specs.LanguageTable.{LeadsToLanguage};
+ghost use Rattle.unwind_definitions.specs.Prologue.{SystemV};
 ghost use Rattle.encoded_pointers.specs.PointerViews.{bases_of};
-ghost use Rattle.eh_frame.specs.EntryViews.{entry_of, fde_of, table_of};
-ghost use Rattle.table_check.specs.AllEntries.{AreAll};
+ghost use Rattle.eh_frame.specs.EntryViews.{fde_of};
+ghost use Rattle.table_check.specs.AllEntries.{AllApart};
 ghost use Rattle.table_check.specs.ClaimViews.{function_of};
+ghost use Rattle.table_check.specs.Descriptions.{HasCode, HasLanguage};
 ghost use Rattle.table_check.specs.First.{TellsFirst};
-ghost use Rattle.table_check.specs.Marks.{AreMarked, IsUnmarked};
+ghost use Rattle.table_check.specs.Marks.{AreMarked, IsMarked, IsUnmarked};
 ghost use Rattle.table_check.specs.Ranges.{AreInOrder};
 ghost use Rattle.table_check.specs.Scanned.{IsDescribedAmong};
 
-use crate::claims::Claim;
-use crate::extras::{first_ending_after, next_entry};
-use eh_frame::{Bases, EhFrame, Entry, Fde};
+use crate::claims::{Claim, Described};
+use crate::descriptions::describes_code;
+use crate::extras::first_ending_after;
+use crate::language::has_sites;
+use eh_frame::{Bases, Fde, RowWalk};
+use memory_image::MemoryImage;
 
-/// Notes for each claim the offset of the description that has its range, if there is one, and
-/// answers how many descriptions there are. The claims ascend and share no address.
-pub(crate) fn note_descriptions(frames: &EhFrame<'_>, bases: &Bases, claims: &mut [Claim]) -> u64
-    requires { AreInOrder (map function_of claims.old) }
-    ensures same { map function_of claims.new ≡ map function_of claims.old }
-    ensures marks { (entries : List Described) →
-        AreAll (bases_of bases.now) (table_of frames.now) entries →
-        AreMarked (bases_of bases.now) (table_of frames.now) (fdes_of entries) claims.new }
-    ensures count { (entries : List Described) →
-        AreAll (bases_of bases.now) (table_of frames.now) entries →
-        result ≡ length (fdes_of entries) }
-{
-    forget_descriptions(claims);
-    let mut entries = frames.entries(bases);
-    let mut count = 0;
-    loop {
-        let offset = entries.offset();
-        let Some(entry) = next_entry(&mut entries) else {
-            return count;
-        };
-        note_entry(&entry, offset, claims);
-        count += descriptions_in(&entry);
-    }
-}
-
-// Notes no description for any claim.
-fn forget_descriptions(claims: &mut [Claim])
+/// Notes no description for any claim.
+pub(crate) fn forget_descriptions(claims: &mut [Claim])
     ensures same { map function_of claims.new ≡ map function_of claims.old }
     ensures none { AllByRecursion IsUnmarked claims.new }
 {
@@ -57,47 +38,53 @@ fn forget_descriptions(claims: &mut [Claim])
     }
 }
 
-// How many descriptions an entry is.
-fn descriptions_in(entry: &Entry<'_>) -> u64
-    ensures count { result ≡ length (fdes_of (entry_of entry.now ∷ [])) }
-    ensures few { result ≤ 1 }
+/// Notes what a description says for the claim that has its range, if there is one. The claims
+/// ascend and share no address; the one that has it is guessed. Answers a guess for the next one.
+pub(crate) fn note<'a>(
+    image: &MemoryImage<'_>,
+    bases: &Bases,
+    claims: &mut [Claim],
+    fde: &Fde<'a>,
+    guess: usize,
+    walk: &mut RowWalk<'a>,
+) -> usize
+    requires order { AreInOrder (map function_of claims.old) }
+    requires functions { AllByRecursion (IsFunction SystemV) (map function_of claims.old) }
+    ensures same { map function_of claims.new ≡ map function_of claims.old }
+    ensures marks { (before : List Description) →
+        AreMarked image.now (bases_of bases.now) before claims.old →
+        AreMarked image.now (bases_of bases.now) (before ++ fde_of fde.now ∷ []) claims.new }
 {
-    match entry {
-        Entry::Cie(_) => 0,
-        Entry::Fde(_) => 1,
+    let i = first_ending_after(claims, fde.initial_address(), guess);
+    if i == claims.len() {
+        return i;
     }
+    if !has_range(&claims[i], fde) {
+        return i;
+    }
+    let described = describe(image, &claims[i], fde, bases, walk);
+    claims[i].description = Some(described);
+    i + 1
 }
 
-// Notes an entry, which stands at an offset, for the claim that has its range, if it is a
-// description and there is one.
-fn note_entry(entry: &Entry<'_>, offset: u64, claims: &mut [Claim])
-    requires { AreInOrder (map function_of claims.old) }
-    ensures same { map function_of claims.new ≡ map function_of claims.old }
-    ensures marks { (bases : Relative) (table : Input) (before : List Description) (next : ℕ) →
-        entry_at bases table offset ≡
-        Ok (Some (record { entry = entry_of entry.now; next = next })) →
-        AreMarked bases table before claims.old →
-        AreMarked bases table (before ++ fdes_of (entry_of entry.now ∷ [])) claims.new }
+// What a description says that has a claim's range.
+fn describe<'a>(
+    image: &MemoryImage<'_>,
+    claim: &Claim,
+    fde: &Fde<'a>,
+    bases: &Bases,
+    walk: &mut RowWalk<'a>,
+) -> Described
+    requires function { IsFunction SystemV (function_of claim.now) }
+    requires range { IsTrue (has_range_of (function_of claim.now) (fde_of fde.now)) }
+    ensures code { Decides result.has_code (DescribesCode image.now (bases_of bases.now)
+        (function_of claim.now) (fde_of fde.now)) }
+    ensures language { Decides result.has_language
+        (LeadsToLanguage image.now (function_of claim.now) (fde_of fde.now).language) }
 {
-    match entry {
-        Entry::Cie(_) => {}
-        Entry::Fde(fde) => note(fde, offset, claims),
-    }
-}
-
-// The same of a description.
-fn note(fde: &Fde<'_>, offset: u64, claims: &mut [Claim])
-    requires { AreInOrder (map function_of claims.old) }
-    ensures same { map function_of claims.new ≡ map function_of claims.old }
-    ensures marks { (bases : Relative) (table : Input) (before : List Description) (next : ℕ) →
-        entry_at bases table offset ≡
-        Ok (Some (record { entry = AFde (fde_of fde.now); next = next })) →
-        AreMarked bases table before claims.old →
-        AreMarked bases table (before ++ fde_of fde.now ∷ []) claims.new }
-{
-    let i = first_ending_after(claims, fde.initial_address());
-    if i < claims.len() && has_range(&claims[i], fde) {
-        claims[i].description = Some(offset);
+    Described {
+        has_code: describes_code(image, claim, fde, bases, walk),
+        has_language: has_sites(image, claim, fde),
     }
 }
 
@@ -117,8 +104,8 @@ fn is_range(start: u64, end: u64, from: u64, len: u64) -> bool
 
 /// The first claim for which no description is noted.
 pub(crate) fn first_missing(claims: &[Claim]) -> Option<usize>
-    ensures { (bases : Relative) (table : Input) (fdes : List Description) →
-        AreMarked bases table fdes claims.now →
+    ensures { (image : List Span) (bases : Relative) (fdes : List Description) →
+        AreMarked image bases fdes claims.now →
         TellsFirst (IsDescribedAmong fdes) (map function_of claims.now) result }
 {
     for (i, claim) in claims.iter().enumerate() {
@@ -127,4 +114,59 @@ pub(crate) fn first_missing(claims: &[Claim]) -> Option<usize>
         }
     }
     None
+}
+
+/// The first claim whose description isn't one of its code. A description is noted for each claim.
+pub(crate) fn first_other_program(claims: &[Claim]) -> Option<usize>
+    ensures { (image : List Span) (bases : Relative) (fdes : List Description) → AllApart fdes →
+        AreMarked image bases fdes claims.now →
+        AllByRecursion (IsDescribedAmong fdes) (map function_of claims.now) →
+        TellsFirst (HasCode image bases fdes) (map function_of claims.now) result }
+{
+    for (i, claim) in claims.iter().enumerate() {
+        if !has_code(claim) {
+            return Some(i);
+        }
+    }
+    None
+}
+
+/// The first claim whose description doesn't lead to its language table. A description is noted for
+/// each claim.
+pub(crate) fn first_other_sites(claims: &[Claim]) -> Option<usize>
+    ensures { (image : List Span) (bases : Relative) (fdes : List Description) → AllApart fdes →
+        AreMarked image bases fdes claims.now →
+        AllByRecursion (IsDescribedAmong fdes) (map function_of claims.now) →
+        TellsFirst (HasLanguage image bases fdes) (map function_of claims.now) result }
+{
+    for (i, claim) in claims.iter().enumerate() {
+        if !has_language(claim) {
+            return Some(i);
+        }
+    }
+    None
+}
+
+// Whether the description that is noted for a claim is one of its code.
+fn has_code(claim: &Claim) -> bool
+    ensures { (image : List Span) (bases : Relative) (fdes : List Description) → AllApart fdes →
+        IsMarked image bases fdes claim.now → IsDescribedAmong fdes (function_of claim.now) →
+        Decides result (HasCode image bases fdes (function_of claim.now)) }
+{
+    match claim.description {
+        Some(described) => described.has_code,
+        None => false,
+    }
+}
+
+// Whether the description that is noted for a claim leads to its language table.
+fn has_language(claim: &Claim) -> bool
+    ensures { (image : List Span) (bases : Relative) (fdes : List Description) → AllApart fdes →
+        IsMarked image bases fdes claim.now → IsDescribedAmong fdes (function_of claim.now) →
+        Decides result (HasLanguage image bases fdes (function_of claim.now)) }
+{
+    match claim.description {
+        Some(described) => described.has_language,
+        None => false,
+    }
 }

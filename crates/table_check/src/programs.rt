@@ -1,7 +1,7 @@
 //! The rows of a description, address by address, beside the steps and the body of a claim.
 //! DWARF 5 sections 6.4.1 and 6.4.3.
 
-ghost use Rattle.std.specs.Prelude.{◌≡◌, ◌⊎◌, ◌+◌, ◌<◌, ◌≤◌, ℕ, [], MatchOption, Ok, Result};
+ghost use Rattle.std.specs.Prelude.{◌≡◌, ◌⊎◌, ◌+◌, ◌-◌, ◌<◌, ◌≤◌, ℕ, MatchOption, Ok, Result};
 ghost use Rattle.std.specs.Prelude.{map};
 ghost use Rattle.std.specs.List.{list_any};
 ghost use Rattle.std.specs.Bool.{Decides};
@@ -16,13 +16,14 @@ ghost use Rattle.eh_frame.specs.EntryViews.{fde_of};
 ghost use Rattle.frame_rows.specs.Rows.{GivesRow};
 ghost use Rattle.frame_rows.specs.Walks.{IsBefore, IsWalking, end_of};
 ghost use Rattle.table_check.specs.ClaimViews.{function_of, prologue_step_of, range_of};
-ghost use Rattle.table_check.specs.Frames.{IsFrameAfter, MayGoOn};
+ghost use Rattle.table_check.specs.Frames.{IsFrameAfter};
 ghost use Rattle.table_check.specs.Programs.{AreEdgesQuiet, AreEndsQuiet, Fits, IsPlace};
 ghost use Rattle.table_check.specs.Programs.{IsQuiet};
 
 use crate::claims::{AddressRange, Claim, ClaimedStep};
 use crate::prologue::FrameSoFar;
 use crate::rows::{is_body_row, is_outermost_row, is_prologue_row};
+use crate::running::RunningFrame;
 use eh_frame::{Bases, Fde, RowRef, RowWalk};
 
 /// What is asked of the row at an address of a function.
@@ -55,9 +56,11 @@ pub(crate) fn has_rows<'a>(
         (DescribesRows (bases_of bases.now) (function_of claim.now) (fde_of fde.now)) }
 {
     fde.begin_rows(bases, walk);
+    let mut running = RunningFrame::new(&claim.steps);
     let mut pc = claim.start;
     while pc < claim.end {
-        if !fits_at(claim, walk, pc) {
+        running.run_to(&claim.steps, pc - claim.start);
+        if !fits_at(claim, walk, &running.frame, pc) {
             return false;
         }
         pc = next_change(claim, walk, pc);
@@ -116,10 +119,13 @@ fn next_edge(bodies: &[AddressRange], pc: u64, limit: u64) -> u64
     next
 }
 
-// Whether the row that the walk has is the one that is asked at an address.
-fn fits_at(claim: &Claim, walk: &RowWalk<'_>, pc: u64) -> bool
+// Whether the row that the walk has is the one that is asked at an address, where the steps that have
+// ended leave a frame.
+fn fits_at(claim: &Claim, walk: &RowWalk<'_>, frame: &FrameSoFar, pc: u64) -> bool
     requires function { IsFunction SystemV (function_of claim.now) }
     requires start { claim.now.start ≤ pc }
+    requires frame { IsFrameAfter frame.now
+        (ended_by (pc - claim.now.start) (function_of claim.now).prologue) }
     ensures { (coding : Coding) (from a : ℕ) (due : ℕ → Result RowInstructions Fault) →
         IsWalking walk.now coding from due → from ≤ a → IsBefore a (end_of walk.now) →
         Decides result (Fits (function_of claim.now) pc (due a)) }
@@ -129,15 +135,23 @@ fn fits_at(claim: &Claim, walk: &RowWalk<'_>, pc: u64) -> bool
         return true;
     }
     match walk.row() {
-        Ok(row) => fits_place(claim, &row, place, pc),
+        Ok(row) => fits_place(claim, &row, frame, place, pc),
         Err(_) => false,
     }
 }
 
-// Whether a row is the one that is asked at an address.
-fn fits_place(claim: &Claim, row: &RowRef<'_, '_>, place: Place, pc: u64) -> bool
+// Whether a row is the one that is asked at an address, where steps leave a frame.
+fn fits_place(
+    claim: &Claim,
+    row: &RowRef<'_, '_>,
+    frame: &FrameSoFar,
+    place: Place,
+    pc: u64,
+) -> bool
     requires function { IsFunction SystemV (function_of claim.now) }
     requires start { claim.now.start ≤ pc }
+    requires frame { IsFrameAfter frame.now
+        (ended_by (pc - claim.now.start) (function_of claim.now).prologue) }
     requires place { IsPlace (function_of claim.now) pc place }
     ensures { (due : Result RowInstructions Fault) → GivesRow (Ok row.now) due →
         Decides result (Fits (function_of claim.now) pc due) }
@@ -145,8 +159,8 @@ fn fits_place(claim: &Claim, row: &RowRef<'_, '_>, place: Place, pc: u64) -> boo
     match place {
         Place::Free => true,
         Place::Outermost => is_outermost_row(row),
-        Place::Body => is_body_row(row, &frame_at(&claim.steps, pc - claim.start)),
-        Place::Prologue => is_prologue_row(row, &frame_at(&claim.steps, pc - claim.start)),
+        Place::Body => is_body_row(row, frame),
+        Place::Prologue => is_prologue_row(row, frame),
     }
 }
 
@@ -207,19 +221,4 @@ fn is_before_body(claim: &Claim, pc: u64) -> bool
         Some(body) => pc < body.from,
         None => pc < claim.end,
     }
-}
-
-// What the steps leave on the stack that have ended so far after the function's start.
-fn frame_at(steps: &[ClaimedStep], offset: u64) -> FrameSoFar
-    requires { MayGoOn 0 [] (map prologue_step_of steps.now) }
-    ensures { IsFrameAfter result (ended_by offset (map prologue_step_of steps.now)) }
-{
-    let mut frame = FrameSoFar::new();
-    for step in steps {
-        if step.end > offset {
-            return frame;
-        }
-        frame.take(step.step);
-    }
-    frame
 }

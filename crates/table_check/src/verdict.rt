@@ -1,12 +1,9 @@
 //! Whether a module describes the functions that are claimed.
 
-ghost use Rattle.std.specs.Prelude.{◌≡◌, ◌∷◌, ℕ, List, [], MatchOption, None, Option, Some, length, map};
+ghost use Rattle.std.specs.Prelude.{◌≡◌, ◌∷◌, ℕ, [], None, Option, Some, map};
 ghost use Rattle.std.specs.List.{AllByRecursion};
-ghost use Rattle.unwind_definitions.specs.Entries.{Entry as Described};
 ghost use Rattle.unwind_definitions.specs.Function.{IsFunction};
 ghost use Rattle.unwind_definitions.specs.Prologue.{SystemV};
-ghost use Rattle.unwind_definitions.specs.Scan.{fdes_of};
-ghost use Rattle.encoded_pointers.specs.PointerViews.{bases_of};
 ghost use Rattle.eh_frame.specs.EntryViews.{table_of};
 ghost use Rattle.fde_finders.specs.FrameTables.{table_by_kind};
 ghost use Rattle.fde_finders.specs.NamedTables.{named_of};
@@ -14,19 +11,17 @@ ghost use Rattle.fde_finders.specs.declared.custom.FrameInfoKind.TheVariants as 
 ghost use Rattle.unwind_laws.specs.Pushing as pushing;
 ghost use Rattle.table_check.specs.declared.verdict.Verdict.{Verdict as Answer};
 ghost use Rattle.table_check.specs.declared.verdict.Verdict.TheVariants.{Yes};
-ghost use Rattle.table_check.specs.AllEntries.{AllApart, AreAll};
 ghost use Rattle.table_check.specs.ClaimViews.{function_of};
-ghost use Rattle.table_check.specs.Descriptions.{AllDescribed};
-ghost use Rattle.table_check.specs.Marks.{AreMarked};
+ghost use Rattle.table_check.specs.Findings.{AreFound, IsAnswer};
 ghost use Rattle.table_check.specs.Modules.{tables_of};
 ghost use Rattle.table_check.specs.Ranges.{AreInOrder};
-ghost use Rattle.table_check.specs.Verdicts.{IsVerdict, RefusesDescriptions};
+ghost use Rattle.table_check.specs.Verdicts.{IsVerdict};
 
 use crate::claims::{Claim, Claims};
+use crate::findings::{Findings, go_through};
 use crate::header_tables::lists_descriptions;
-use crate::marks::{first_missing, note_descriptions};
-use crate::noted::{first_other_program, first_other_sites};
-use crate::reason::{Reason, refusal_of_ranges};
+use crate::marks::{first_missing, first_other_program, first_other_sites};
+use crate::reason::{Reason, refusal_of_claims};
 use fde_finders::{FrameInfo, FrameInfoKind, NamedTable, named_table};
 use memory_image::MemoryImage;
 
@@ -60,13 +55,14 @@ pub fn check(
         result ≡ other }
     ensures unchanged { claims.new ≡ claims.old }
 {
-    if let Some(reason) = refusal_of_ranges(image, start, end, frame, claims) {
+    if let Some(reason) = refusal_of_claims(claims, start, end) {
         return Verdict::No(reason);
     }
     let Some(table) = named_table(image, frame) else {
         return Verdict::No(Reason::Header);
     };
-    match refusal_of_descriptions(image, frame.kind, &table, &mut claims.claims) {
+    let bytes = image.bytes_from(table.frames.address());
+    match refusal_of_table(image, frame.kind, &table, bytes, &mut claims.claims) {
         Some(reason) => Verdict::No(reason),
         None => Verdict::Yes,
     }
@@ -79,61 +75,56 @@ pub fn one_push_is_described()
         (pushing.function ∷ []) Yes }
 {}
 
-// Why the descriptions of a frame table that a module names, which stand beside claims, don't
-// describe these.
-fn refusal_of_descriptions(
+// Why the frame table that a module names doesn't describe claims, or its header's table doesn't
+// list its descriptions. The table's entries are gone through once; `bytes` are those of the table.
+fn refusal_of_table(
     image: &MemoryImage<'_>,
     kind: FrameInfoKind,
     table: &NamedTable<'_>,
+    bytes: &[u8],
     claims: &mut [Claim],
 ) -> Option<Reason>
+    requires bytes { bytes.now ≡ (table_of table.now.frames).bytes }
     requires order { AreInOrder (map function_of claims.old) }
     requires functions { AllByRecursion (IsFunction SystemV) (map function_of claims.old) }
     ensures same { map function_of claims.new ≡ map function_of claims.old }
-    ensures reason { (text : Option ℕ) (entries : List Described) →
+    ensures reason { (text : Option ℕ) →
         table_by_kind text kind image.now ≡ Some (named_of table.now) →
-        AreAll (bases_of table.now.bases) (table_of table.now.frames) entries →
-        AllApart (fdes_of entries) →
-        MatchOption result (AllDescribed image.now (bases_of table.now.bases) (fdes_of entries)
-        (tables_of kind) (table_of table.now.frames).base (map function_of claims.old))
-        (λ reason. RefusesDescriptions image.now (bases_of table.now.bases) (fdes_of entries)
-        (tables_of kind) (table_of table.now.frames).base (map function_of claims.old) reason) }
+        IsAnswer image.now (named_of table.now) (tables_of kind) (map function_of claims.old)
+        result }
 {
-    let count = note_descriptions(&table.frames, &table.bases, claims);
-    refusal_of_noted(image, kind, table, claims, count)
+    match go_through(image, table, bytes, claims) {
+        Ok(found) => refusal_of_found(image, kind, table, claims, &found),
+        Err(offset) => Some(Reason::Entry(offset)),
+    }
 }
 
-// The same where their descriptions are noted for the claims, and there are so many.
-fn refusal_of_noted(
+// The same by what its entries tell.
+fn refusal_of_found(
     image: &MemoryImage<'_>,
     kind: FrameInfoKind,
     table: &NamedTable<'_>,
     claims: &[Claim],
-    count: u64,
+    found: &Findings,
 ) -> Option<Reason>
-    requires { AllByRecursion (IsFunction SystemV) (map function_of claims.now) }
-    ensures { (text : Option ℕ) (entries : List Described) →
-        table_by_kind text kind image.now ≡ Some (named_of table.now) →
-        AreAll (bases_of table.now.bases) (table_of table.now.frames) entries →
-        AllApart (fdes_of entries) →
-        AreMarked (bases_of table.now.bases) (table_of table.now.frames) (fdes_of entries)
-        claims.now →
-        count ≡ length (fdes_of entries) →
-        MatchOption result (AllDescribed image.now (bases_of table.now.bases) (fdes_of entries)
-        (tables_of kind) (table_of table.now.frames).base (map function_of claims.now))
-        (λ reason. RefusesDescriptions image.now (bases_of table.now.bases) (fdes_of entries)
-        (tables_of kind) (table_of table.now.frames).base (map function_of claims.now) reason) }
+    ensures { (text : Option ℕ) → table_by_kind text kind image.now ≡ Some (named_of table.now) →
+        AreFound image.now (named_of table.now) (map function_of claims.now) claims.now found.now →
+        IsAnswer image.now (named_of table.now) (tables_of kind) (map function_of claims.now)
+        result }
 {
+    if let Some(start) = found.extra {
+        return Some(Reason::Extra(start));
+    }
     if let Some(i) = first_missing(claims) {
         return Some(Reason::Missing(i));
     }
-    if let Some(i) = first_other_program(image, &table.frames, &table.bases, claims) {
+    if let Some(i) = first_other_program(claims) {
         return Some(Reason::Program(i));
     }
-    if let Some(i) = first_other_sites(image, &table.frames, &table.bases, claims) {
+    if let Some(i) = first_other_sites(claims) {
         return Some(Reason::Sites(i));
     }
-    if lists_descriptions(image, kind, table, count) {
+    if lists_descriptions(image, kind, table, found) {
         None
     } else {
         Some(Reason::HeaderTable)

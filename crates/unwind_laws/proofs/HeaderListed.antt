@@ -32,7 +32,7 @@ use Rattle.unwind_laws.proofs.Leb.{one_byte}
 use Rattle.unwind_laws.proofs.Booleans.{later, first, all_contains}
 use Rattle.unwind_laws.proofs.ByHeader.{header_answers, mapped_from, placed}
 
-abbrev input : ℕ → ℕ → List ℕ → Input
+abbrev pub input : ℕ → ℕ → List ℕ → Input
 input base offset bytes = record { base = base; offset = offset; bytes = bytes }
 
 -- ---- the header
@@ -50,10 +50,10 @@ pointer_read bases c d a e = go (number w32 c) refl
         let same : ((address_of c + signed_word 32 n.0) % 2 ^ 64, n.1) ≡ (a, d) = ok_same _ _ h in
         rw is (ap (λ (p : ℕ × Input). pointed (Direct p.0) p.1) same)
 
-abbrev after_head : Bases → ℕ → Pointer × Input → Result FrameHeader Fault
+abbrev pub after_head : Bases → ℕ → Pointer × Input → Result FrameHeader Fault
 after_head bases base frame = pair_count DW_EH_PE_udata4 datarel_sdata4 frame.1 >>= λ count. Ok (record { frame = frame.0; count = count.0; encoding = datarel_sdata4; bases = bases_in base bases; pairs = count.1 })
 
-head_read : (bases : Bases) (base : ℕ) (rest : List ℕ) → header bases (input base 0 (0x01 ∷ 0x1b ∷ 0x03 ∷ 0x3b ∷ rest)) ≡ (pointer pcrel_sdata4 (bases_in base bases) (input base 4 rest) >>= after_head bases base)
+pub head_read : (bases : Bases) (base : ℕ) (rest : List ℕ) → header bases (input base 0 (0x01 ∷ 0x1b ∷ 0x03 ∷ 0x3b ∷ rest)) ≡ (pointer pcrel_sdata4 (bases_in base bases) (input base 4 rest) >>= after_head bases base)
 head_read bases base rest =
     rw (one_byte base 0 0x01 (0x1b ∷ 0x03 ∷ 0x3b ∷ rest), one_byte base 1 0x1b (0x03 ∷ 0x3b ∷ rest), one_byte base 2 0x03 (0x3b ∷ rest), one_byte base 3 0x3b rest) refl
 
@@ -69,15 +69,15 @@ module _ (image : List Span) (h frame : ℕ) (fdes : List Fde) (bases : Bases) (
       ∙ ap (λ (r : Result (ℕ × Input) Fault). r >>= λ count. Ok (record { frame = Direct frame; count = count.0; encoding = datarel_sdata4; bases = bases_in h bases; pairs = count.1 })) counts
 
 -- ---- the pairs
-skip_none : (c : Input) → skip 0 c ≡ c
+pub skip_none : (c : Input) → skip 0 c ≡ c
 skip_none c = let zero_more : c.offset + 0 ≡ c.offset = omega arith in ap (λ o. input c.base o c.bytes) zero_more
 
-skip_more : (m n k : ℕ) (c : Input) → k ≡ n + m → skip m (skip n c) ≡ skip k c
+pub skip_more : (m n k : ℕ) (c : Input) → k ≡ n + m → skip m (skip n c) ≡ skip k c
 skip_more m n k c sum =
     let offset : c.offset + n + m ≡ c.offset + k = omega arith in
     ap (λ o. input c.base o (drop m (drop n c.bytes))) offset ∙ ap (λ (l : List ℕ). input c.base (c.offset + k) l) (drop-drop m n c.bytes ∙ ap (λ j. drop j c.bytes) (sym sum))
 
-four_passed : (h a : ℕ) (c d : Input) → direct datarel_sdata4 (header_bases h) c ≡ Ok (a, d) → d ≡ skip 4 c
+pub four_passed : (h a : ℕ) (c d : Input) → direct datarel_sdata4 (header_bases h) c ≡ Ok (a, d) → d ≡ skip 4 c
 four_passed h a c d e = go (nat_lt (length c.bytes) 4) refl
   where
     go : (b : Bool) → nat_lt (length c.bytes) 4 ≡ b → d ≡ skip 4 c

@@ -1,6 +1,6 @@
 use Rattle.std.proofs.Common.{List, map, take}
 use Rattle.std.specs.List.{AllByRecursion}
-use Rattle.unwind_definitions.specs.Input.{Input}
+use Rattle.memory_image.specs.Image.{Span}
 use Rattle.unwind_definitions.specs.Pointers.{Bases}
 use Rattle.unwind_definitions.specs.Entries.{Fde}
 use Rattle.table_check.specs.ClaimViews.{function_of}
@@ -10,4 +10,4 @@ use Rattle.table_check.proofs.marks.first_missing.Given as goal
 
 -- a description is noted for those before
 abbrev pub invariant-loop-i : goal.invariant-loop-i
-invariant-loop-i l = (bases : Bases) (table : Input) (fdes : List Fde) → AreMarked bases table fdes l.claims → AllByRecursion (IsDescribedAmong fdes) (map function_of (take l.i l.claims))
+invariant-loop-i l = (image : List Span) (bases : Bases) (fdes : List Fde) → AreMarked image bases fdes l.claims → AllByRecursion (IsDescribedAmong fdes) (map function_of (take l.i l.claims))

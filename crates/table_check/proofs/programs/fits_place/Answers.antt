@@ -1,20 +1,9 @@
-use Rattle.std.proofs.Common.{◌-◌, [], List, map, sym, subst}
+use Rattle.std.proofs.Common.{◌-◌, subst}
 use Rattle.unwind_definitions.specs.DescribedRows.{ended_by}
-use Rattle.table_check.specs.declared.claims.ClaimedStep.{ClaimedStep}
-use Rattle.table_check.specs.ClaimViews.{function_of, prologue_step_of}
-use Rattle.table_check.specs.Frames.{IsFrameAfter, MayGoOn}
+use Rattle.table_check.specs.ClaimViews.{function_of}
 use Rattle.table_check.specs.Programs.{IsPlace}
-use Rattle.table_check.proofs.Prologues.{goes_on_prologue}
 use Rattle.table_check.proofs.RowFits.{fits_body, fits_outermost, fits_prologue}
 use Rattle.table_check.proofs.programs.fits_place.Goals as goal
-
-pub frame_at-requires : goal.frame_at-requires
-frame_at-requires c =
-    subst (λ l. MayGoOn 0 [] (map prologue_step_of l)) (sym c.deref.ensures.value) (goes_on_prologue (function_of c.args.claim.now).prologue c.requires.function.prologue)
-
-pub frame_at-requires-in-Prologue : goal.frame_at-requires-in-Prologue
-frame_at-requires-in-Prologue c =
-    subst (λ l. MayGoOn 0 [] (map prologue_step_of l)) (sym c.deref-in-Prologue.ensures.value) (goes_on_prologue (function_of c.args.claim.now).prologue c.requires.function.prologue)
 
 pub returns-in-Outermost : goal.returns-in-Outermost
 returns-in-Outermost c due gives =
@@ -26,12 +15,10 @@ pub returns-in-Body : goal.returns-in-Body
 returns-in-Body c due gives =
     let f = function_of c.args.claim.now in
     let place = subst (IsPlace f c.args.pc) c.in-Body.is c.requires.place in
-    let frame = subst (λ (l : List ClaimedStep). IsFrameAfter c.frame_at.result (ended_by (c.args.pc - f.start) (map prologue_step_of l))) c.deref.ensures.value c.frame_at.ensures in
-    fits_body f c.requires.function c.args.pc c.args.row.now due gives c.is_body_row.result place.0 place.1 (c.is_body_row.ensures (ended_by (c.args.pc - f.start) f.prologue) frame)
+    fits_body f c.requires.function c.args.pc c.args.row.now due gives c.is_body_row.result place.0 place.1 (c.is_body_row.ensures (ended_by (c.args.pc - f.start) f.prologue) c.requires.frame)
 
 pub returns-in-Prologue : goal.returns-in-Prologue
 returns-in-Prologue c due gives =
     let f = function_of c.args.claim.now in
     let place = subst (IsPlace f c.args.pc) c.in-Prologue.is c.requires.place in
-    let frame = subst (λ (l : List ClaimedStep). IsFrameAfter c.frame_at-in-Prologue.result (ended_by (c.args.pc - f.start) (map prologue_step_of l))) c.deref-in-Prologue.ensures.value c.frame_at-in-Prologue.ensures in
-    fits_prologue f c.requires.function c.args.pc c.args.row.now due gives c.is_prologue_row.result place.0 place.1 place.2 (c.is_prologue_row.ensures (ended_by (c.args.pc - f.start) f.prologue) frame)
+    fits_prologue f c.requires.function c.args.pc c.args.row.now due gives c.is_prologue_row.result place.0 place.1 place.2 (c.is_prologue_row.ensures (ended_by (c.args.pc - f.start) f.prologue) c.requires.frame)

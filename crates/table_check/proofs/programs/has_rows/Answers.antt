@@ -1,4 +1,4 @@
-use Rattle.std.proofs.Common.{ℕ, ◌≤◌, Option, sym, subst, ◌∙◌, inl, inr, arith}
+use Rattle.std.proofs.Common.{ℕ, ◌-◌, ◌≤◌, [], map, Option, sym, subst, ◌∙◌, inl, inr, arith}
 use Rattle.std.specs.Prelude.{MatchOption}
 use Rattle.std.proofs.lemmas.Bool.{cases_lt}
 use Rattle.unwind_definitions.specs.Entries.{coding_of}
@@ -6,11 +6,36 @@ use Rattle.encoded_pointers.specs.PointerViews.{bases_of}
 use Rattle.eh_frame.specs.EntryViews.{fde_of}
 use Rattle.eh_frame.specs.Walked.{due_row}
 use Rattle.frame_rows.specs.Walks.{IsBefore, end_of}
-use Rattle.table_check.specs.ClaimViews.{function_of}
+use Rattle.table_check.specs.ClaimViews.{function_of, prologue_step_of}
+use Rattle.table_check.specs.Frames.{MayGoOn}
+use Rattle.table_check.specs.Running.{IsRunning}
 use Rattle.table_check.proofs.Deciding.{decides_no, decides_not, decides_yes}
+use Rattle.table_check.proofs.Prologues.{goes_on_prologue}
 use Rattle.table_check.proofs.Quiet.{all_fit, fit_all, fits_on}
+use Rattle.table_check.proofs.Runs.{runs_longer}
 use Rattle.table_check.proofs.WalkEnds.{before_end, before_next, before_other, is_end}
 use Rattle.table_check.proofs.programs.has_rows.Goals as goal
+
+pub new-running-requires : goal.new-running-requires
+new-running-requires c = subst (λ l. MayGoOn 0 [] (map prologue_step_of l)) (sym c.deref.ensures.value) (goes_on_prologue (function_of c.args.claim.now).prologue c.requires.function.prologue)
+
+pub loop-pc-init : goal.loop-pc-init
+loop-pc-init c =
+    let fde = fde_of c.args.fde.now in
+    let coding = coding_of (bases_of c.args.bases.now) fde.cie in
+    let due = due_row (bases_of c.args.bases.now) fde in
+    let walking = c.begin_rows.ensures in
+    let start = c.requires.start in let end = c.requires.end in
+    let first : ℕ = c.args.claim.now.start in (
+      fde.start,
+      walking,
+      omega (arith, start),
+      subst (λ n. IsBefore n (end_of c.begin_rows.new.walk)) start (before_end c.begin_rows.new.walk coding fde.start due walking),
+      omega arith,
+      omega (arith, start, end),
+      runs_longer c.new-running.result 0 (first - first) c.args.claim.now.steps.items (omega arith) (subst (IsRunning c.new-running.result 0) c.deref.ensures.value c.new-running.ensures),
+      λ a low high. absurd (omega (arith, low, high)),
+    )
 
 pub returns-then-not-fits_at : goal.returns-then-not-fits_at
 returns-then-not-fits_at c =
@@ -28,7 +53,7 @@ returns c =
     let fde = fde_of c.args.fde.now in
     let inv = c.loop-pc.invariant in
     let done = c.loop-pc-test.false in
-    decides_yes (all_fit bases f fde c.requires.start c.requires.end c.requires.function (λ pc low high. inv.6 pc low (omega (arith, high, done))))
+    decides_yes (all_fit bases f fde c.requires.start c.requires.end c.requires.function (λ pc low high. inv.7 pc low (omega (arith, high, done))))
 
 pub loop-pc-preserved-then-eq : goal.loop-pc-preserved-then-eq
 loop-pc-preserved-then-eq c =
@@ -49,8 +74,10 @@ loop-pc-preserved-then-eq c =
       before_end c.go_on.new.walk (coding_of bases fde.cie) next (due_row bases fde) walking,
       omega (arith, ahead, low),
       c.next_change-pc.ensures.inside,
+      runs_longer c.run_to.new.self (pc - c.args.claim.now.start) (next - c.args.claim.now.start) c.args.claim.now.steps.items (omega (arith, ahead))
+          (subst (IsRunning c.run_to.new.self (pc - c.args.claim.now.start)) c.deref-in-loop-pc.ensures.value c.run_to.ensures.running),
       λ a start below. elim (cases_lt a pc) [
-        | inl before ↦ inv.6 a start before
+        | inl before ↦ inv.7 a start before
         | inr after ↦ fits_on f pc next a (due_row bases fde a) after below low c.next_change-pc.ensures.inside c.next_change-pc.ensures.quiet
             ((c.fits_at.ensures (coding_of bases fde.cie) inv.0 a (due_row bases fde) inv.1 (omega (arith, from, after)) (before_next (end_of c.loop-pc.walk) a next below c.next_change-pc.ensures.row)).0 c.if-not-fits_at.false)
       ],
@@ -73,8 +100,10 @@ loop-pc-preserved c =
       subst (IsBefore next) c.end.ensures.end (before_other c.end.result next (subst (λ (e : Option ℕ). MatchOption e (Unit {0}) (λ x. next ≤ x)) (sym c.end.ensures.end) c.next_change-pc.ensures.row) (sym c.eq.ensures ∙ c.if-eq.false)),
       omega (arith, ahead, low),
       c.next_change-pc.ensures.inside,
+      runs_longer c.run_to.new.self (pc - c.args.claim.now.start) (next - c.args.claim.now.start) c.args.claim.now.steps.items (omega (arith, ahead))
+          (subst (IsRunning c.run_to.new.self (pc - c.args.claim.now.start)) c.deref-in-loop-pc.ensures.value c.run_to.ensures.running),
       λ a start below. elim (cases_lt a pc) [
-        | inl before ↦ inv.6 a start before
+        | inl before ↦ inv.7 a start before
         | inr after ↦ fits_on f pc next a (due_row bases fde a) after below low c.next_change-pc.ensures.inside c.next_change-pc.ensures.quiet
             ((c.fits_at.ensures (coding_of bases fde.cie) inv.0 a (due_row bases fde) inv.1 (omega (arith, from, after)) (before_next (end_of c.loop-pc.walk) a next below c.next_change-pc.ensures.row)).0 c.if-not-fits_at.false)
       ],

@@ -6,6 +6,7 @@ use Rattle.eh_frame.specs.Walked.{due_row}
 use Rattle.frame_rows.specs.Walks.{IsBefore, IsWalking, end_of}
 use Rattle.table_check.specs.ClaimViews.{function_of}
 use Rattle.table_check.specs.Programs.{Fits}
+use Rattle.table_check.specs.Running.{IsRunning}
 use Rattle.table_check.proofs.programs.has_rows.Given as goal
 
 -- the walk has the row at the address, and the rows before it fit
@@ -13,6 +14,7 @@ abbrev pub invariant-loop-pc : goal.invariant-loop-pc
 invariant-loop-pc l =
     (from : ℕ) × IsWalking l.walk (coding_of (bases_of l.bases) (fde_of l.fde).cie) from (due_row (bases_of l.bases) (fde_of l.fde)) × (from ≤ l.pc) × IsBefore l.pc (end_of l.walk)
     × (l.claim.start ≤ l.pc) × (l.pc ≤ l.claim.end)
+    × IsRunning l.running (l.pc - l.claim.start) l.claim.steps.items
     × ((a : ℕ) → l.claim.start ≤ a → a < l.pc → Fits (function_of l.claim) a (due_row (bases_of l.bases) (fde_of l.fde) a))
 
 abbrev pub decreases-loop-pc : goal.decreases-loop-pc

@@ -1,0 +1,60 @@
+-- Steps of a prologue that are run one after another.
+use Rattle.std.proofs.Common.{◌≡◌, ℕ, suc, ◌+◌, ◌<◌, ◌≤◌, List, [], ◌∷◌, ◌++◌, length, map, drop, get_or, sym, ap, subst, ◌∙◌, arith, append_assoc}
+use Rattle.std.proofs.Math.Numerals.{suc-eq-add-one}
+use Rattle.std.proofs.lemmas.List.{append-nil}
+use Rattle.unwind_definitions.specs.Prologue.{PrologueStep}
+use Rattle.unwind_definitions.specs.DescribedRows.{ended_by}
+use Rattle.table_check.specs.declared.claims.ClaimedStep.{ClaimedStep}
+use Rattle.table_check.specs.declared.running.RunningFrame.{RunningFrame}
+use Rattle.table_check.specs.ClaimViews.{prologue_step_of}
+use Rattle.table_check.specs.Frames.{IsFrameAfter, MayBeNext, MayGoOn}
+use Rattle.table_check.specs.Running.{IsRunning}
+use Rattle.table_check.proofs.GoneThrough.{left_is, none_left}
+use Rattle.table_check.proofs.Prologues.{ended_none, ended_not, ended_one}
+
+pub runs_longer : (r : RunningFrame) (low high : ℕ) (steps : List ClaimedStep) → low ≤ high → IsRunning r low steps → IsRunning r high steps
+runs_longer r low high steps le is = record { before = is.before; last = is.last; frame = is.frame; reached = (let a = is.reached in omega (arith, a, le)); goes_on = is.goes_on; ended = is.ended }
+
+module _ (r : RunningFrame) (offset : ℕ) (steps : List ClaimedStep) (is : IsRunning r offset steps) where
+  -- all have run
+  pub all_run : length steps ≤ r.taken → IsFrameAfter r.frame (ended_by offset (map prologue_step_of steps))
+  all_run over =
+      let none : ended_by offset (map prologue_step_of (drop r.taken steps)) ≡ [] = ap (ended_by offset) (none_left prologue_step_of steps r.taken over) in
+      subst (IsFrameAfter r.frame) (sym (is.ended offset is.reached ∙ ap (λ l. is.before ++ l) none ∙ append-nil is.before)) is.frame
+
+  module _ (i : ℕ) (at : r.taken ≡ i) (d : ClaimedStep) (there : i < length steps) where
+    abbrev p : PrologueStep
+    p = prologue_step_of (get_or steps i d)
+
+    abbrev rest : List PrologueStep
+    rest = map prologue_step_of (drop (suc i) steps)
+
+    left : map prologue_step_of (drop r.taken steps) ≡ p ∷ rest
+    left = ap (λ n. map prologue_step_of (drop n steps)) at ∙ left_is prologue_step_of steps i d there
+
+    on : MayGoOn is.last is.before (p ∷ rest)
+    on = subst (MayGoOn is.last is.before) left is.goes_on
+
+    -- the next one hasn't ended
+    pub next_later : offset < p.end → IsFrameAfter r.frame (ended_by offset (map prologue_step_of steps))
+    next_later past =
+        let none = ended_not offset p rest past ∙ ended_none offset p.end (is.before ++ p.step ∷ []) rest past on.2 in
+        subst (IsFrameAfter r.frame) (sym (is.ended offset is.reached ∙ ap (λ l. is.before ++ ended_by offset l) left ∙ ap (λ l. is.before ++ l) none ∙ append-nil is.before)) is.frame
+
+    pub next_may : MayBeNext is.before p.step
+    next_may = on.1
+
+    -- the next one runs
+    pub next_runs : (new : RunningFrame) → new.taken ≡ i + 1 → IsFrameAfter new.frame (is.before ++ p.step ∷ []) → p.end ≤ offset → IsRunning new offset steps
+    next_runs new taken frame past =
+        let one : suc i ≡ new.taken = suc-eq-add-one i ∙ sym taken in
+        let low = on.0 in
+        record {
+          before = is.before ++ p.step ∷ [];
+          last = p.end;
+          frame = frame;
+          reached = past;
+          goes_on = subst (λ n. MayGoOn p.end (is.before ++ p.step ∷ []) (map prologue_step_of (drop n steps))) one on.2;
+          ended = λ o le. is.ended o (omega (arith, le, low)) ∙ ap (λ l. is.before ++ ended_by o l) left ∙ ap (λ l. is.before ++ l) (ended_one o p rest le) ∙ sym (append_assoc is.before (p.step ∷ []) (ended_by o rest))
+              ∙ ap (λ n. (is.before ++ p.step ∷ []) ++ ended_by o (map prologue_step_of (drop n steps))) one;
+        }
