@@ -1,6 +1,8 @@
 pub mod Lists
 pub mod RowUndone
 pub mod FromSteps
+pub mod SignalValues
+pub mod SignalUndone
 pub mod FactSteps
 pub mod FactWalked
 pub mod FromFunctions
@@ -9,3 +11,4 @@ pub mod SampleTests
 pub mod SampleFacts
 pub mod SampleChains
 pub mod FactsAsked
+pub mod SignalFacts

@@ -17,23 +17,23 @@ use Rattle.frame_facts.specs.FactTables.{HasTables, AreSaidAt}
 use Rattle.frame_facts.specs.FactChains.{FactFrame, address_asked, IsFactEnd}
 
 module _ (p : Process) where
-  -- The module that holds an address has tables, where a scan finds a description for it, which isn't one of a signal's frame and
-  -- has a row there.
-  pub record FindsRow (a : ℕ) : Type 0 where
+  -- The module that holds an address has tables, where a scan finds a description for it, which has a row there. The mark says whether
+  -- it is one of a signal's frame.
+  pub record FindsRow (signal : Bool) (a : ℕ) : Type 0 where
     pub home : Module
     pub known : Contains p.modules home
     pub inside : IsTrue (in_module a home)
     pub tables : HasTables p.image home
     pub fde : Fde
     pub found : scan (bases_of home tables.frame) (input_at p.image tables.frame) a ≡ Ok fde
-    pub unmarked : fde.cie.letters.signal ≡ false
+    pub marked : fde.cie.letters.signal ≡ signal
     pub read : FdeRead (bases_of home tables.frame) fde
     pub run : RowInstructions
     pub has_row : row_at (bases_of home tables.frame) fde a ≡ Ok run
 
   -- By what is found for an address, the columns of a frame there have a caller, which shows a state.
   pub record StepsOut (evaluates : Evaluates) (columns : Columns) (a : ℕ) (t : State) : Type 0 where
-    pub finds : FindsRow a
+    pub finds : FindsRow false a
     pub undoes : Undoes evaluates p.image finds.run t columns
 
   -- Columns that show a state, and step by step those of its callers, up to the end of the stack; stack pointers strictly rise.

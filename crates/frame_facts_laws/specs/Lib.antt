@@ -1,2 +1,4 @@
 pub mod FactWalks
+pub mod SignalSteps
 pub mod SampleProgram
+pub mod SignalProgram

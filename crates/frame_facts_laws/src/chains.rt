@@ -12,8 +12,10 @@ ghost use Rattle.unwind_laws.specs.Walked.{CanStep, CanStepInside};
 ghost use Rattle.frame_facts.specs.Facts.{Facts, StandsWith};
 ghost use Rattle.frame_facts.specs.FactTables.{AreSaidAt};
 ghost use Rattle.frame_facts.specs.FactChains.{FactFrame, chain_states, IsFactChain};
+ghost use Rattle.frame_facts.specs.SignalFrames.{SignalFrame, StandsInSignal, IsSignalFrameAt};
 ghost use Rattle.frame_facts.specs.StepFacts.{facts_in_prologue, called_frames};
 ghost use Rattle.frame_facts_laws.specs.FactWalks.{StepsOut, IsFactWalk};
+ghost use Rattle.frame_facts_laws.specs.SignalSteps.{HasGeneralRegisters, StepsToInterrupted};
 
 /// Where facts are said at an address, the tables there give the caller of every state that stands
 /// with them: the description that a scan finds, its row, and the caller's columns.
@@ -22,6 +24,15 @@ pub fn frame_with_facts_is_undone()
         (columns : Columns) →
         AreSaidAt p a facts → StandsWith p.image facts t s → IsState t → Shows columns s →
         StepsOut p evaluates columns a t }
+{}
+
+/// Where a signal's frame is said at an address, the tables there give the state that the signal
+/// interrupted: the description that a scan finds, which is marked as a signal's, its row, and the
+/// columns that it gives.
+pub fn signal_frame_gives_the_interrupted_state()
+    ensures { (p : Process) (a : ℕ) (frame : SignalFrame) (s t : State) (columns : Columns) →
+        IsSignalFrameAt p a frame → StandsInSignal p.image frame t s → Shows columns s →
+        HasGeneralRegisters columns → StepsToInterrupted p columns a t }
 {}
 
 /// From columns that show the start of a chain of facts its tables lead, state by state, to its

@@ -17,18 +17,21 @@ mod steps;
 
 pub use chains::{
     body_stop_begins_a_fact_chain, described_chain_is_a_fact_chain, fact_chain_is_walked,
-    frame_with_facts_is_undone, prologue_stop_begins_a_fact_chain, stack_pointers_rise_by_facts,
+    frame_with_facts_is_undone, prologue_stop_begins_a_fact_chain,
+    signal_frame_gives_the_interrupted_state, stack_pointers_rise_by_facts,
 };
 pub use claims::{claim_is_said_by_stretches, claims_say_facts};
 pub use deliveries::{
     calls_are_delivered_alike, cleaned_frame_goes_on, described_chain_asks,
     description_with_facts_asks,
 };
-pub use rows::row_that_says_facts_undoes;
+pub use rows::{
+    row_that_says_a_signal_frame_gives_the_interrupted_state, row_that_says_facts_undoes,
+};
 pub use samples::{
     aligned_frame_is_known, claims_are_said, cleaned_frame_is_known, overwritten_register_is_known,
-    part_is_known, popped_registers_are_known, pushed_arguments_are_known, start_is_known,
-    stops_begin_fact_chains,
+    part_is_known, popped_registers_are_known, pushed_arguments_are_known, signal_frame_is_known,
+    start_is_known, stops_begin_fact_chains,
 };
 pub use steps::{
     body_has_facts, described_call_has_facts, described_stop_has_facts,

@@ -1,4 +1,5 @@
-//! A small program whose tables say facts, byte for byte (`examples/frame_layouts.c`).
+//! Small programs whose tables say facts and a signal's frame, byte for byte
+//! (`examples/frame_layouts.c`, `examples/signal_frame.c`).
 
 ghost use Rattle.std.specs.Prelude.{◌≡◌, ◌≢◌, ◌+◌, ◌∷◌, [], false, true};
 ghost use Rattle.frame_facts.specs.Facts.{StandsWith};
@@ -6,8 +7,11 @@ ghost use Rattle.frame_facts.specs.FactTables.{AreSaidAt};
 ghost use Rattle.frame_facts.specs.FactChains.{chain_states, IsFactChain};
 ghost use Rattle.frame_facts.specs.Claims.{SaysClaims};
 ghost use Rattle.frame_facts.specs.FactDeliveries.{GoesOnAt, ResumesIn, past};
+ghost use Rattle.frame_facts.specs.SignalFrames.{IsSignalFrameAt, SaysSignalFrame, StandsInSignal};
+ghost use Rattle.frame_facts.specs.SignalFrames.{linux_signal_frame};
 ghost use Rattle.unwind_definitions.specs.Module.{IsProcess};
 ghost use Rattle.frame_facts_laws.specs.SampleProgram as sample;
+ghost use Rattle.frame_facts_laws.specs.SignalProgram as signals;
 
 /// In a prologue, after a push of RBP and a move to it: RBP's slot holds what the caller has, and
 /// the register doesn't any more.
@@ -50,6 +54,17 @@ pub fn aligned_frame_is_known()
 pub fn start_is_known()
     ensures said { AreSaidAt sample.process 0x401050 sample.known_in_start }
     ensures stands { StandsWith sample.image sample.known_in_start sample.outside sample.in_start }
+{}
+
+/// A signal's frame, at the code of the GNU C library to which a handler returns, as gcc's bytes
+/// describe it (`examples/signal_frame.c`): the state there stands where the kernel put the
+/// registers of the state that the signal interrupted.
+pub fn signal_frame_is_known()
+    ensures process { IsProcess signals.process }
+    ensures says { SaysSignalFrame linux_signal_frame signals.row_in_restore }
+    ensures said { IsSignalFrameAt signals.process 0x40113f linux_signal_frame }
+    ensures stands { StandsInSignal signals.image linux_signal_frame signals.in_trapped
+        signals.in_restore }
 {}
 
 /// Both stops begin chains of facts, through each of these frames and up to the end of the stack.
