@@ -10,6 +10,4 @@ pub mod FormatModules
 pub mod FormatCalls
 pub mod FormatProcess
 pub mod FormatValid
-pub mod ElfStep
-pub mod FormatStep
 pub mod FormatStops

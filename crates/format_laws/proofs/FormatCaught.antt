@@ -24,7 +24,7 @@ use Rattle.format_laws.proofs.FormatValid.{laid_out}
 
 -- ---- the process
 
-modules_apart : AllPairs FormatsApart modules
+pub modules_apart : AllPairs FormatsApart modules
 modules_apart i zero d lt below = absurd (omega arith)
 modules_apart zero (suc zero) d lt below = inl (lit≤ tt)
 modules_apart zero (suc (suc zero)) d lt below = inl (lit≤ tt)

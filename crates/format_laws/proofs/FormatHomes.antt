@@ -1,7 +1,7 @@
 -- An address lies in one module at most, and an address of a described function in the module that describes it.
 use Rattle.std.proofs.Common.{◌≡◌, ℕ, ◌+◌, ◌<◌, ◌≤◌, Bool, true, false, leb, ltb, List, [], ◌∷◌, Option, Some, refl, sym, ap, subst, ◌∙◌, arith, inl, inr}
 use Rattle.std.specs.Prelude.{◌⊎◌, IsTrue}
-use Rattle.std.specs.List.{Contains, AllPairs}
+use Rattle.std.specs.List.{Contains, AllPairs, find}
 use Rattle.std.proofs.lemmas.Bool.{le-leb, lt-ltb, leb-true, ltb-true}
 use Rattle.memory_image.specs.Image.{Span}
 use Rattle.unwind_definitions.specs.Prologue.{Convention}
@@ -16,7 +16,6 @@ use Rattle.format_definitions.specs.PeImage.{PeModule}
 use Rattle.format_definitions.specs.PeModules.{HasRecord, DescribesLeaf, DescribesPe}
 use Rattle.format_definitions.specs.FormatModules.{FormatModule, Elf, Macho, Pe, in_format, part_of, DescribesFormat, LiesInFormat}
 use Rattle.format_definitions.specs.FormatProcess.{start_of, end_of, FormatsApart}
-use Rattle.format_definitions.specs.FormatStep.{holder_of}
 
 pub inside_is : (a : ℕ) (m : FormatModule) → IsTrue (in_format a m) → (start_of m ≤ a) × (a < end_of m)
 inside_is a (Elf m) h = let both = lists.both_true (leb m.start a) (ltb a m.end) h in (leb-true m.start a both.0, ltb-true a m.end both.1)
@@ -32,8 +31,12 @@ not_both : (a : ℕ) (m n : FormatModule) → FormatsApart m n → IsTrue (in_fo
 not_both a m n (inl le) p q = let x = inside_is a m p in let y = inside_is a n q in omega (arith, x.1, y.0)
 not_both a m n (inr le) p q = let x = inside_is a m p in let y = inside_is a n q in omega (arith, x.0, y.1)
 
+-- the first module that holds an address
+abbrev holder_of : List FormatModule → ℕ → Option FormatModule
+holder_of modules a = find (in_format a) modules
+
 -- the module that is found for an address is the one that it lies in
-pub holder_is : (ms : List FormatModule) → AllPairs FormatsApart ms → (a : ℕ) (m : FormatModule) → Contains ms m → IsTrue (in_format a m) → holder_of ms a ≡ Some m
+holder_is : (ms : List FormatModule) → AllPairs FormatsApart ms → (a : ℕ) (m : FormatModule) → Contains ms m → IsTrue (in_format a m) → holder_of ms a ≡ Some m
 holder_is [] apart a m has inside = absurd (lists.none_in_nil m has)
 holder_is (x ∷ xs) apart a m has inside = go (in_format a x) refl (lists.here_or_later x xs m has) (λ h. holder_is xs (lists.tail_pairs FormatsApart x xs apart) a m h inside)
   where
@@ -42,21 +45,6 @@ holder_is (x ∷ xs) apart a m has inside = go (in_format a x) refl (lists.here_
     go true e (inr h) ih = absurd (not_both a x m (lists.head_pairs FormatsApart x xs m apart h) e inside)
     go false e (inl same) ih = let yes : in_format a x ≡ true = subst (λ (y : FormatModule). in_format a y ≡ true) (sym same) inside in absurd cc
     go false e (inr h) ih = rw e (ih h)
-
--- a module that is found is listed, and the address lies in it
-pub holder_holds : (ms : List FormatModule) (a : ℕ) (m : FormatModule) → holder_of ms a ≡ Some m → Contains ms m × IsTrue (in_format a m)
-holder_holds [] a m found = absurd cc
-holder_holds (x ∷ xs) a m found = go (in_format a x) refl (λ h. holder_holds xs a m h)
-  where
-    go : (b : Bool) → in_format a x ≡ b → (holder_of xs a ≡ Some m → Contains xs m × IsTrue (in_format a m)) → Contains (x ∷ xs) m × IsTrue (in_format a m)
-    go true inside later =
-        let here : holder_of (x ∷ xs) a ≡ Some x = rw inside refl in
-        let same : x ≡ m = cc in
-        (subst (λ (k : FormatModule). Contains (x ∷ xs) k) same (lists.first x xs), subst (λ (k : FormatModule). IsTrue (in_format a k)) same inside)
-    go false outside later =
-        let past : holder_of xs a ≡ Some m = rw outside at found in
-        let r = later past in
-        (lists.later x xs m r.0, r.1)
 
 some_module : (m n : FormatModule) → ◌≡◌ {A = Option FormatModule} (Some m) (Some n) → m ≡ n
 some_module m n e = cc

@@ -1,37 +1,34 @@
 -- Two described chains of one start through modules of three formats go through the same states, and what is delivered to them
 -- is one.
-use Rattle.std.proofs.Common.{◌≡◌, ℕ, ◌-◌, ◌<◌, ◌≤◌, false, List, [], ◌∷◌, Option, Some, None, Result, Ok, Err, refl, sym, ap, subst, ◌∙◌, arith, inl, inr}
+use Rattle.std.proofs.Common.{◌≡◌, ◌≢◌, ℕ, ◌-◌, ◌<◌, ◌≤◌, false, List, [], ◌∷◌, Option, Some, None, Result, Ok, Err, refl, sym, ap, subst, ◌∙◌, arith, inl, inr}
 use Rattle.std.specs.Prelude.{◌⊎◌}
 use Rattle.std.specs.List.{AllPairs, AllByRecursion, Contains}
 use Rattle.memory_image.specs.Image.{Span}
-use Rattle.unwind_definitions.specs.Caller.{Columns}
+use Rattle.unwind_definitions.specs.Caller.{Columns, StepFault, x86_64, caller_of}
 use Rattle.unwind_definitions.specs.Expressions.{evaluation}
 use Rattle.unwind_definitions.specs.State.{State, Shows}
 use Rattle.unwind_definitions.specs.Entries.{Fde}
 use Rattle.unwind_definitions.specs.Function.{Function, action_at}
 use Rattle.unwind_definitions.specs.LanguageTable.{LeadsToLanguage}
-use Rattle.unwind_definitions.specs.Module.{Module, Process, AreApart}
+use Rattle.unwind_definitions.specs.Module.{Module, Process, AreApart, CoversNot}
 use Rattle.unwind_definitions.specs.Chain.{Call, IsChain}
 use Rattle.unwind_laws.specs.Apart.{FunctionsApart}
 use Rattle.unwind_laws.specs.Columns.{columns_of}
 use Rattle.unwind_laws.specs.Walked.{Steps}
 use Rattle.unwind_laws.proofs.Booleans as lists
-use Rattle.unwind_laws.proofs.OneModule.{Same, one_found}
+use Rattle.unwind_laws.proofs.OneModule.{Same, one_found, ok_is, found_is_covered}
 use Rattle.unwind_laws.proofs.OneLanguage.{one_action}
 use Rattle.unwind_laws.proofs.OneChain.{one_state, Alike}
 use Rattle.unwind_laws.proofs.PushingValid.{columns_show}
-use Rattle.format_definitions.specs.CompactStep.{Stepped}
-use Rattle.format_definitions.specs.FormatModules.{FormatModule, Elf, Macho, Pe, convention_of, part_of, DescribesFormat, IsUncoveredBy, LiesInFormat, IsFormatChain}
+use Rattle.format_definitions.specs.CompactStep.{Stepped, MachoFault, macho_step}
+use Rattle.format_definitions.specs.PeStep.{PeFault}
+use Rattle.format_definitions.specs.FormatModules.{FormatModule, Elf, Macho, Pe, convention_of, part_of, DescribesFormat, IsUncoveredIn, IsUncoveredBy, LiesInFormat, IsFormatChain}
 use Rattle.format_definitions.specs.FormatProcess.{FormatsApart}
-use Rattle.format_definitions.specs.FormatStep.{FormatFault, format_step}
-use Rattle.format_laws.specs.FormatUndone.{FormatUndone, CanUndo}
-use Rattle.format_laws.specs.FormatStepped.{StepUndone}
-use Rattle.format_laws.proofs.FormatSteps.{call_undone}
+use Rattle.format_laws.specs.FormatUndone.{FormatUndone, CanUndo, columns_after}
+use Rattle.format_laws.proofs.FormatSteps.{uncovered_ends, call_undone, shown_after, can_undo}
 use Rattle.format_laws.proofs.MachoLanguage.{one_listed_action}
 use Rattle.format_laws.proofs.PeLanguage.{one_recorded_action}
 use Rattle.format_laws.proofs.FormatHomes.{one_home, in_home, in_part, body_lies}
-use Rattle.format_laws.proofs.FormatStepped.{answered, step_ends}
-use Rattle.format_laws.proofs.FormatLines.{can_undo, link_undone}
 
 -- ---- what functions ask
 
@@ -59,17 +56,36 @@ same_actions image (Elf m) columns a c d x y = elf_actions image m columns a c d
 same_actions image (Macho m) columns a c d x y = one_listed_action image m x.part y.part x.describes y.describes c.callee d.callee a x.listed y.listed (x.low, x.high) (y.low, y.high)
 same_actions image (Pe m) columns a c d x y = one_recorded_action image m x.part y.part x.describes y.describes c.callee d.callee a x.listed y.listed (x.low, x.high) (y.low, y.high)
 
--- ---- chains
+-- ---- callers
+
+abbrev answered : Columns → Result (Option Stepped) MachoFault
+answered columns = Ok (Some (record { columns = columns; signal = false }))
+
 some_columns : (x y : Columns) → answered x ≡ answered y → x ≡ y
 some_columns x y e = ap columns_in e
   where
-    columns_in : Result (Option Stepped) FormatFault → Columns
+    columns_in : Result (Option Stepped) MachoFault → Columns
     columns_in (Ok (Some caller)) = caller.columns
     columns_in (Ok None) = x
     columns_in (Err f) = x
 
-not_none : (x : Columns) → ◌≡◌ {A = Result (Option Stepped) FormatFault} (Ok None) (answered x) → ⊥
-not_none x e = absurd cc
+one_caller : (image : List Span) (home : FormatModule) (columns : Columns) (a : ℕ) (c d : Call) (x : FormatUndone image home columns a c) (y : FormatUndone image home columns a d) → columns_after image home columns a c x ≡ columns_after image home columns a d y
+one_caller image (Elf m) columns a c d x y =
+    let p : Process = record { image = image; modules = m ∷ [] } in
+    let same : Same p (lists.pairs_one AreApart m) c.callee d.callee a x.finds y.finds = one_found p (lists.pairs_one AreApart m) c.callee d.callee a x.finds y.finds in
+    ok_is {E = StepFault} x.undoes.caller y.undoes.caller (sym x.undoes.is_caller ∙ ap (caller_of x86_64 (evaluation image) image columns) same.run ∙ y.undoes.is_caller)
+one_caller image (Macho m) columns a c d x y = some_columns x.caller y.caller (sym x.answered ∙ y.answered)
+one_caller image (Pe m) columns a c d x y = ok_is {E = PeFault} x.caller y.caller (sym x.answered ∙ y.answered)
+
+-- a module undoes no call at an address that none of its entries contains
+undone_is_covered : (image : List Span) (home : FormatModule) (columns : Columns) (a : ℕ) (c : Call) → FormatUndone image home columns a c → IsUncoveredIn image home a → ⊥
+undone_is_covered image (Elf m) columns a c x u =
+    found_is_covered (record { image = image; modules = m ∷ [] }) (lists.pairs_one AreApart m) c.callee a x.finds
+    (λ n known inside. elim (lists.here_or_later m [] n known) [ inl same ↦ subst (λ (k : Module). CoversNot image k a) same u | inr none ↦ absurd (lists.none_in_nil n none) ])
+undone_is_covered image (Macho m) columns a c x u = let none : macho_step image m (a - m.base) columns ≡ Ok None = uncovered_ends image m a columns u in let some = x.answered in absurd cc
+undone_is_covered image (Pe m) columns a c x u = absurd u
+
+-- ---- chains
 
 module _ (image : List Span) (modules : List FormatModule) (apart : AllPairs FormatsApart modules) where
   undone_in_home : (functions : List Function) (s : State) (c : Call) (columns : Columns) → (can : CanUndo image modules functions (s.ra - 1) s c) → Shows columns s → IsUndoneIn image can.lies.home columns (s.ra - 1) c
@@ -91,35 +107,33 @@ module _ (image : List Span) (modules : List FormatModule) (apart : AllPairs For
       one_home modules apart (s.ra - 1) x.lies.home y.lies.home x.lies.known y.lies.known
       (in_home image modules functions c.callee x.lies x.listed (s.ra - 1) i.0 i.1) (in_home image modules more d.callee y.lies y.listed (s.ra - 1) j.0 j.1)
 
-  -- at one state they ask the same
-  one_asked : (functions more : List Function) (s : State) (c d : Call) (columns : Columns) → (x : CanUndo image modules functions (s.ra - 1) s c) → (y : CanUndo image modules more (s.ra - 1) s d) → Shows columns s →
-      action_at c.callee (s.ra - 1) ≡ action_at d.callee (s.ra - 1)
-  one_asked functions more s c d columns x y shows =
-      same_actions image x.lies.home columns (s.ra - 1) c d (undone_in_home functions s c columns x shows)
-      (subst (λ (home : FormatModule). IsUndoneIn image home columns (s.ra - 1) d) (sym (same_home functions more s c d x y)) (undone_in_home more s d columns y shows))
-
-  -- the caller's columns, which the step answers for both
-  one_caller : (h k : FormatModule) (columns : Columns) (t u : State) (x : StepUndone h (format_step image modules false columns) columns t) (y : StepUndone k (format_step image modules false columns) columns u) → t ≡ u
-  one_caller h k columns t u x y =
-      let same : x.caller ≡ y.caller = some_columns x.caller y.caller (sym x.answered ∙ y.answered) in
-      one_state x.caller t u x.shows (subst (λ (c : Columns). Shows c u) (sym same) y.shows)
+  -- the end of the stack is no call
+  not_ended : (functions : List Function) (s : State) (c : Call) (calls : List Call) (columns : Columns) → IsChain image (IsUncoveredBy image modules) functions s (c ∷ calls) → LiesInFormat image modules functions c.callee → Shows columns s →
+      (s.ra ≡ 0) ⊎ ((s.ra ≢ 0) × IsUncoveredBy image modules (s.ra - 1)) → ⊥
+  not_ended functions s c calls columns chain lies shows (inl none) = chain.0.called.returns none
+  not_ended functions s c calls columns chain lies shows (inr free) =
+      let can = can_undo image modules functions s c calls chain lies in
+      let at = body_lies (convention_of can.lies.home) c.callee (s.ra - 1) can.lies.is_function can.inside in
+      undone_is_covered image can.lies.home columns (s.ra - 1) c (undone_in_home functions s c columns can shows).undone
+      (free.1 can.lies.home can.lies.known (in_home image modules functions c.callee can.lies can.listed (s.ra - 1) at.0 at.1))
 
   alike : (functions more : List Function) (s : State) (cs ds : List Call) (columns : Columns) → IsChain image (IsUncoveredBy image modules) functions s cs → AllByRecursion (λ (c : Call). LiesInFormat image modules functions c.callee) cs →
       IsChain image (IsUncoveredBy image modules) more s ds → AllByRecursion (λ (c : Call). LiesInFormat image modules more c.callee) ds → Shows columns s → Alike s cs ds
   alike functions more s [] [] columns x lx y ly shows = tt
-  alike functions more s [] (d ∷ ds) columns x lx y ly shows =
-      let v = link_undone image modules apart more s d ds columns y.0 y.1 ly.0 shows in
-      absurd (not_none v.caller (sym (step_ends image modules functions columns s x shows) ∙ v.answered))
-  alike functions more s (c ∷ cs) [] columns x lx y ly shows =
-      let u = link_undone image modules apart functions s c cs columns x.0 x.1 lx.0 shows in
-      absurd (not_none u.caller (sym (step_ends image modules more columns s y shows) ∙ u.answered))
+  alike functions more s [] (d ∷ ds) columns x lx y ly shows = absurd (not_ended more s d ds columns y ly.0 shows x.ends)
+  alike functions more s (c ∷ cs) [] columns x lx y ly shows = absurd (not_ended functions s c cs columns x lx.0 shows y.ends)
   alike functions more s (c ∷ cs) (d ∷ ds) columns x lx y ly shows =
-      let u = link_undone image modules apart functions s c cs columns x.0 x.1 lx.0 shows in
-      let v = link_undone image modules apart more s d ds columns y.0 y.1 ly.0 shows in
-      let callers : c.caller ≡ d.caller = one_caller lx.0.home ly.0.home columns c.caller d.caller u v in
-      let asks = one_asked functions more s c d columns (can_undo image modules apart functions s c cs x.0 x.1 lx.0) (can_undo image modules apart more s d ds y.0 y.1 ly.0) shows in
+      let a : ℕ = s.ra - 1 in
+      let can = can_undo image modules functions s c cs x lx.0 in
+      let also = can_undo image modules more s d ds y ly.0 in
+      let home : FormatModule = can.lies.home in
+      let u : IsUndoneIn image home columns a c = undone_in_home functions s c columns can shows in
+      let v : IsUndoneIn image home columns a d = subst (λ (h : FormatModule). IsUndoneIn image h columns a d) (sym (same_home functions more s c d can also)) (undone_in_home more s d columns also shows) in
+      let shown : Shows (columns_after image home columns a c u.undone) c.caller = shown_after image modules home columns a c u.undone in
+      let callers : c.caller ≡ d.caller = one_state (columns_after image home columns a c u.undone) c.caller d.caller shown
+      (subst (λ (k : Columns). Shows k d.caller) (sym (one_caller image home columns a c d u.undone v.undone)) (shown_after image modules home columns a d v.undone)) in
       let rest : IsChain image (IsUncoveredBy image modules) more c.caller ds = subst (λ (t : State). IsChain image (IsUncoveredBy image modules) more t ds) (sym callers) y.1 in
-      (callers, asks, alike functions more c.caller cs ds u.caller x.1 lx.1 rest ly.1 u.shows)
+      (callers, same_actions image home columns a c d u v, alike functions more c.caller cs ds (columns_after image home columns a c u.undone) x.1 lx.1 rest ly.1 shown)
 
   pub chains_alike : (functions more : List Function) (s : State) (cs ds : List Call) → IsFormatChain image modules functions s cs → IsFormatChain image modules more s ds → Alike s cs ds
   chains_alike functions more s cs ds x y = alike functions more s cs ds (columns_of s) x.chain x.described y.chain y.described (columns_show s)

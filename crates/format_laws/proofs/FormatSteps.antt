@@ -71,20 +71,26 @@ module _ (image : List Span) (modules : List FormatModule) where
   state_in functions s [] chain = chain.state
   state_in functions s (c ∷ calls) chain = chain.0.state
 
-  walked : (functions : List Function) (s : State) (calls : List Call) (columns : Columns) → IsChain image (IsUncoveredBy image modules) functions s calls →
-      AllByRecursion (λ (c : Call). LiesInFormat image modules functions c.callee) calls → Shows columns s → IsFormatWalk image modules functions columns s calls
-  walked functions s [] columns chain lie shows = (shows, chain)
-  walked functions s (c ∷ calls) columns chain lie shows =
+  -- what a link of a chain asks is what its step asks
+  pub can_undo : (functions : List Function) (s : State) (c : Call) (calls : List Call) → IsChain image (IsUncoveredBy image modules) functions s (c ∷ calls) → LiesInFormat image modules functions c.callee → CanUndo image modules functions (s.ra - 1) s c
+  can_undo functions s c calls chain lies =
       let link : IsLink image functions s c calls = chain.0 in
-      let can : CanUndo image modules functions (s.ra - 1) s c = record {
+      record {
         listed = link.listed;
-        lies = lie.0;
+        lies = lies;
         inside = link.called.inside;
         entered = link.called.entered;
         caller = state_in functions c.caller calls chain.1;
         ends = λ outer. (link.last outer).1;
-      } in
-      let step : FormatUndone image lie.0.home columns (s.ra - 1) c = call_undone functions (s.ra - 1) s c columns can shows in (
+      }
+
+  walked : (functions : List Function) (s : State) (calls : List Call) (columns : Columns) → IsChain image (IsUncoveredBy image modules) functions s calls →
+      AllByRecursion (λ (c : Call). LiesInFormat image modules functions c.callee) calls → Shows columns s → IsFormatWalk image modules functions columns s calls
+  unfolding can_undo
+  walked functions s [] columns chain lie shows = (shows, chain)
+  walked functions s (c ∷ calls) columns chain lie shows =
+      let link : IsLink image functions s c calls = chain.0 in
+      let step : FormatUndone image lie.0.home columns (s.ra - 1) c = call_undone functions (s.ra - 1) s c columns (can_undo functions s c calls chain lie.0) shows in (
         shows,
         link.called.returns,
         rises image c.callee.outermost (steps_of c.callee.prologue) c.caller s link.called.entered,

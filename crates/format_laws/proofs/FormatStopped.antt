@@ -1,7 +1,6 @@
--- The step from a state that was stopped in a described function of a module of whatever format, and the line from there.
-use Rattle.std.proofs.Common.{◌≡◌, ℕ, zero, suc, ◌+◌, ◌-◌, ◌<◌, ◌≤◌, true, false, List, [], ◌∷◌, ◌++◌, length, map, Option, Ok, refl, sym, subst, ◌∙◌, arith, inl, inr, length-append}
+-- The step from a state that was stopped in a described function of a module of whatever format.
+use Rattle.std.proofs.Common.{◌≡◌, ℕ, ◌+◌, ◌-◌, ◌<◌, ◌≤◌, false, List, [], ◌∷◌, ◌++◌, length, map, Option, refl, sym, subst, ◌∙◌, arith, inl, inr, length-append}
 use Rattle.std.specs.Prelude.{IsTrue}
-use Rattle.std.specs.List.{AllPairs}
 use Rattle.memory_image.specs.Image.{Span}
 use Rattle.unwind_definitions.specs.Expressions.{evaluation}
 use Rattle.unwind_definitions.specs.Caller.{Columns}
@@ -10,7 +9,7 @@ use Rattle.unwind_definitions.specs.Prologue.{Register, Push, Allocate, SystemV,
 use Rattle.unwind_definitions.specs.Entered.{IsEntered}
 use Rattle.unwind_definitions.specs.Function.{Function, IsFunction, first_body, last_end}
 use Rattle.unwind_definitions.specs.Stopped.{IsBelowNext}
-use Rattle.unwind_definitions.specs.Chain.{Call, states_of, StacksRise}
+use Rattle.unwind_definitions.specs.Chain.{Call}
 use Rattle.unwind_laws.proofs.InPrologue as elf
 use Rattle.unwind_laws.proofs.Undo.{rises}
 use Rattle.unwind_laws.proofs.Walk.{step_inside}
@@ -19,19 +18,14 @@ use Rattle.pe_unwind_info.specs.declared.x86_64.epilog.FunctionEpilogInstruction
 use Rattle.format_definitions.specs.PeImage.{PeModule}
 use Rattle.format_definitions.specs.PeModules.{DescribesLeaf, HasRecord}
 use Rattle.format_definitions.specs.PeEpilogs.{concatenation, StandsAt, before_add, before_lea, before_pops, StandsInEpilog}
-use Rattle.format_definitions.specs.FormatModules.{FormatModule, Elf, Macho, Pe, in_format, convention_of, part_of, DescribesFormat, IsFormatChain}
-use Rattle.format_definitions.specs.FormatProcess.{FormatsApart}
-use Rattle.format_definitions.specs.FormatStep.{format_step, format_line}
+use Rattle.format_definitions.specs.FormatModules.{FormatModule, Elf, Macho, Pe, in_format, convention_of, part_of, DescribesFormat}
 use Rattle.format_definitions.specs.FormatStops.{StandsInPrologue, StandsInBody, StandsInPe, at_body, at_prologue, at_leaf, at_epilog, StandsIn, IsFormatStop}
 use Rattle.format_laws.specs.FormatUndone.{FormatUndone, CanUndo}
-use Rattle.format_laws.specs.FormatStepped.{StepUndone, ShowChain}
 use Rattle.format_laws.proofs.PeEpilogs.{terminator_length}
 use Rattle.format_laws.proofs.PeMachine.{stack_falls}
 use Rattle.format_laws.proofs.PeSteps.{first_inside, stands_inside, leaf_call_undone, prologue_call_undone, epilog_call_undone}
 use Rattle.format_laws.proofs.FormatSteps.{undone_in}
-use Rattle.format_laws.proofs.FormatHomes.{in_home, body_lies}
-use Rattle.format_laws.proofs.FormatStepped.{undone_by, step_is}
-use Rattle.format_laws.proofs.FormatLines.{line_shows, chain_rises}
+use Rattle.format_laws.proofs.FormatHomes.{body_lies}
 
 -- ---- a leaf has no steps
 none_done : (done later : List PrologueStep) → [] ≡ done ++ later → done ≡ []
@@ -123,33 +117,3 @@ module _ (image : List Span) (modules : List FormatModule) (functions : List Fun
       let lies = leaf_lies image s c is leaf.no_steps p in
       leaf_call_undone image m (part_of (Pe m) functions) d c.callee is c.caller s stop.caller columns shows leaf s.ra lies.0 lies.1 (leaf_entered m d.table leaf p)
   undone_at (Pe m) within is d (at_epilog r st) = epilog_call_undone image m (part_of (Pe m) functions) d c.callee is c.caller s stop.caller columns shows r st
-
-module _ (image : List Span) (modules : List FormatModule) (apart : AllPairs FormatsApart modules) (functions : List Function) (s : State) (c : Call) (stop : IsFormatStop image modules functions s c)
-    (columns : Columns) (shows : Shows columns s) where
-  -- The step from the stopped state.
-  pub stop_undone : StepUndone stop.lies.home (format_step image modules true columns) columns c.caller
-  stop_undone =
-      let home : FormatModule = stop.lies.home in
-      let lies = stop_lies image s c home (part_of home functions) stop.lies.describes stop.lies.is_function stop.stands in
-      let inside = in_home image modules functions c.callee stop.lies stop.listed s.ra lies.0 lies.1 in
-      undone_by image modules home s.ra columns c (format_step image modules true columns) (undone_at image modules functions s c stop columns shows home stop.lies.inside stop.lies.is_function stop.lies.describes stop.stands)
-      (step_is image modules true columns s s.ra home apart stop.lies.known inside shows stop.returns refl)
-
-  -- one more state below a chain
-  rise_from : (calls : List Call) → s.sp < c.caller.sp → StacksRise (states_of c.caller calls) → StacksRise (s ∷ states_of c.caller calls)
-  rise_from [] below rise = (below, rise)
-  rise_from (d ∷ calls) below rise = (below, rise)
-
-  -- The line from the stopped state is that state and then the chain's.
-  pub stop_lined : (calls : List Call) (room : ℕ) → IsFormatChain image modules functions c.caller calls → length calls + 1 < room →
-      (line : List Columns) × (format_line image modules room true columns ≡ Ok line) × ShowChain line s (c ∷ calls)
-  stop_lined calls zero is less = absurd (omega arith)
-  stop_lined calls (suc room) is less =
-      let fewer : length calls < room = omega arith in
-      let step : StepUndone stop.lies.home (format_step image modules true columns) columns c.caller = stop_undone in
-      let rest = line_shows image modules apart functions c.caller calls step.caller room is.chain is.described step.shows fewer in
-      let below = stop_below image s c stop.lies.home (part_of stop.lies.home functions) stop.lies.describes stop.stands in (
-        columns ∷ rest.0,
-        rw (step.answered, rest.1) refl,
-        record { states = (shows, rest.2); rise = rise_from calls below (chain_rises image modules apart functions c.caller calls is.chain) },
-      )

@@ -22,8 +22,6 @@ pub mod FormatSteps
 pub mod ElfThree
 pub mod FormatValid
 pub mod FormatHomes
-pub mod FormatStepped
-pub mod FormatLines
 pub mod FormatOne
 pub mod FormatParts
 pub mod FormatCaught

@@ -5,4 +5,3 @@ pub mod MachoSamples
 pub mod ElfSample
 pub mod FormatUndone
 pub mod FormatSample
-pub mod FormatStepped

@@ -3,24 +3,19 @@
 //!
 //! `pe` says that the step in a described PE module undoes a call, from wherever the function is
 //! stopped, and `macho` that the step in a described Mach-O module does, from a body. `chains` says
-//! that chains through modules of all three formats are walked, `lines` that the one step over such
-//! modules goes through them, `stops` that it does from a frame that was stopped where it stands,
-//! and `validity` that a start has one chain and one delivery. `samples` shows modules, states and
-//! chains that meet these laws.
+//! that chains through modules of all three formats are walked, and `validity` that a start has one
+//! chain and one delivery. `samples` shows modules, states and chains that meet these laws.
 #![tactic(auto)]
 
 mod chains;
-mod lines;
 mod macho;
 mod pe;
 mod samples;
-mod stops;
 mod validity;
 
 pub use chains::{
     format_call_is_undone, format_chain_is_walked, uncovered_macho_address_ends_the_stack,
 };
-pub use lines::{described_call_is_undone, described_chain_is_the_line};
 pub use macho::{macho_body_is_undone, opcode_is_undone};
 pub use pe::{pe_body_is_undone, pe_epilog_is_undone, pe_leaf_is_undone, pe_prologue_is_undone};
 pub use samples::{
@@ -31,7 +26,6 @@ pub use samples::{
     state_stands_in_an_elf_prologue, states_stand_in_a_pe_epilog,
     stops_in_a_pe_epilog_are_described, stops_in_formats_are_described,
 };
-pub use stops::{chain_after_a_stop_is_the_line, described_stop_is_undone};
 pub use validity::{
     address_lies_in_one_module, format_chain_is_one, format_delivery_is_one,
     valid_format_chain_is_described,

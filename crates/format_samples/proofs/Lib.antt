@@ -8,3 +8,4 @@ pub mod MachoEnds
 pub mod MachoWhole
 pub mod MachoHandler
 pub mod PeHandler
+pub mod HandlersValid

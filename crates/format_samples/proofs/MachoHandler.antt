@@ -1,34 +1,22 @@
--- A Mach-O module whose function has a handler is described, and a call of that function is valid.
-use Rattle.std.proofs.Common.{◌≡◌, false, [], ◌∷◌, refl, arith, inl, lit<, lit≤}
+-- A Mach-O module whose function has a handler is described, beside modules of other formats.
+use Rattle.std.proofs.Common.{◌≡◌, false, [], ◌∷◌, refl, arith, lit<, lit≤}
 use Rattle.memory_image.specs.Image.{word_at}
-use Rattle.unwind_definitions.specs.State.{IsState, value_of}
+use Rattle.unwind_definitions.specs.State.{value_of}
 use Rattle.unwind_definitions.specs.Prologue.{SystemV, steps_of}
 use Rattle.unwind_definitions.specs.Entered.{IsEntered}
 use Rattle.unwind_definitions.specs.Function.{IsFunction}
 use Rattle.unwind_definitions.specs.LanguageTable.{IsLanguageTable}
-use Rattle.unwind_definitions.specs.Chain.{IsChain}
-use Rattle.unwind_laws.specs.Columns.{columns_of}
-use Rattle.unwind_laws.proofs.Booleans.{pairs_one}
-use Rattle.unwind_laws.proofs.PushingValid.{columns_show}
-use Rattle.unwind_laws.proofs.RowFacts.{by_register, state_fits}
+use Rattle.unwind_laws.proofs.RowFacts.{by_register}
 use Rattle.macho_unwind_info.specs.Unaligned.{u32_of_number}
-use Rattle.format_definitions.specs.FormatModules.{Macho, IsUncoveredBy}
-use Rattle.format_definitions.specs.FormatProcess.{FormatsApart, IsFormatProcess}
-use Rattle.format_definitions.specs.FormatValid.{IsFormatValid}
 use Rattle.format_definitions.specs.MachoModules.{DescribesMacho}
 use Rattle.format_laws.specs.MachoSamples.{sample_module}
 use Rattle.format_laws.proofs.MachoValid.{frameless}
-use Rattle.format_samples.specs.MachoHandler.{image, sites, handled, functions, modules, start, caller, calls}
+use Rattle.format_samples.specs.Handlers.{image, macho_sites, macho_function, in_macho, in_pe}
 
-pub is_process : IsFormatProcess image modules
-is_process = record { regions = (lit≤ tt, lit< tt, lit≤ tt, (lit≤ tt, lit< tt, lit≤ tt, (lit≤ tt, lit< tt, lit≤ tt, tt))); ranges = ((lit< tt, lit< tt), tt); apart = pairs_one FormatsApart (Macho sample_module) }
-
--- ---- the module
-
-table : IsLanguageTable image 0x100001800 0x100001000 sites
+table : IsLanguageTable image 0x100001800 0x100001000 macho_sites
 table = record { nonzero = λ e. absurd cc; size = 4; after = _; header = refl; listed = _; actions = _; parts = refl; each = (_, refl, refl) }
 
-pub described : DescribesMacho image sample_module functions
+pub described : DescribesMacho image sample_module (macho_function ∷ [])
 described = record {
   info = _;
   parses = refl;
@@ -45,16 +33,14 @@ described = record {
         end = refl;
         inside = lit≤ tt;
         opcode = (refl, frameless);
-        language = record { index = lit≤ tt; leads = (sites, refl, table); words = lit< tt };
+        language = record { index = lit≤ tt; leads = (macho_sites, refl, table); words = lit< tt };
       };
     },
     tt,
   );
 }
 
--- ---- the call
-
-is_function : IsFunction SystemV handled
+pub is_function : IsFunction SystemV macho_function
 is_function = record {
   prologue = record { ends = tt; each = tt; once = λ i j d lt below. absurd (omega arith) };
   has_body = λ e. absurd cc;
@@ -63,27 +49,6 @@ is_function = record {
   outermost = λ e. absurd cc;
 }
 
-entered : IsEntered image false (steps_of handled.prologue) caller start
+pub entered : IsEntered image false (steps_of macho_function.prologue) in_pe in_macho
 unfolding word_at
-entered = record { room = lit≤ tt; returns = λ _. refl; leaves = tt; stack = refl; keeps = λ r e. by_register (λ q. value_of q start ≡ value_of q caller) refl refl refl refl refl refl r }
-
-start_fits : IsState start
-start_fits = state_fits start (lit< tt) (lit< tt) (lit< tt) (lit< tt) (lit< tt) (lit< tt) (lit< tt) (lit< tt)
-
-caller_fits : IsState caller
-caller_fits = state_fits caller (lit< tt) (lit< tt) (lit< tt) (lit< tt) (lit< tt) (lit< tt) (lit< tt) (lit< tt)
-
-chain : IsChain image (IsUncoveredBy image modules) functions start calls
-chain = (
-  record { state = start_fits; listed = (0, lit< tt, refl); called = record { returns = λ e. absurd cc; inside = refl; entered = entered }; last = λ outer. absurd cc },
-  record { state = caller_fits; ends = inl refl },
-)
-
-pub valid : IsFormatValid image modules (columns_of start) [] functions start calls
-valid = record {
-  parts = (record { are_functions = (is_function, tt); describes = described }, tt);
-  no_others = (refl, tt);
-  shows = columns_show start;
-  chain = chain;
-  resumed = λ f found accepted. tt;
-}
+entered = record { room = lit≤ tt; returns = λ _. refl; leaves = tt; stack = refl; keeps = λ r e. by_register (λ q. value_of q in_macho ≡ value_of q in_pe) refl refl refl refl refl refl r }

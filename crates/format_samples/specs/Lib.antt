@@ -1,5 +1,4 @@
 pub mod StopSamples
 pub mod EpilogSamples
 pub mod MachoWhole
-pub mod MachoHandler
-pub mod PeHandler
+pub mod Handlers

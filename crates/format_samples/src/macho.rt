@@ -1,17 +1,13 @@
-//! Mach-O modules: one in which a stack ends, one with frame data, and one with a handler.
+//! Mach-O modules: one in which a stack ends, and one with frame data.
 
-ghost use Rattle.std.specs.Prelude.{◌≡◌, []};
+ghost use Rattle.std.specs.Prelude.{[]};
 ghost use Rattle.std.specs.List.{AllPairs};
-ghost use Rattle.unwind_definitions.specs.Delivery.{delivery_of};
 ghost use Rattle.unwind_laws.specs.Apart.{FunctionsApart};
-ghost use Rattle.unwind_laws.specs.Columns.{columns_of};
 ghost use Rattle.unwind_laws.specs.Returning as returning;
 ghost use Rattle.format_definitions.specs.FormatModules.{IsFormatChain, MachoCoversNot};
 ghost use Rattle.format_definitions.specs.FormatProcess.{IsFormatProcess};
-ghost use Rattle.format_definitions.specs.FormatValid.{IsFormatValid};
 ghost use Rattle.format_definitions.specs.MachoModules.{DescribesMacho};
 ghost use Rattle.format_laws.specs.MachoSamples as macho;
-ghost use Rattle.format_samples.specs.MachoHandler as handler;
 ghost use Rattle.format_samples.specs.MachoWhole as samples;
 
 /// A return address in a Mach-O module, after all of its functions: no function covers the address
@@ -36,15 +32,4 @@ pub fn functions_of_a_chain_share_no_address()
     ensures apart { AllPairs FunctionsApart samples.functions }
     ensures chain { IsFormatChain samples.image samples.modules samples.functions
         returning.start returning.calls }
-{}
-
-/// A Mach-O module whose one function has a handler for the calls in a part of it: its opcode names a
-/// personality, and the section leads to its language table. A call of it is valid, and the handler
-/// takes an exception there.
-pub fn macho_function_with_a_handler_is_described()
-    ensures process { IsFormatProcess handler.image handler.modules }
-    ensures described { DescribesMacho handler.image macho.sample_module handler.functions }
-    ensures valid { IsFormatValid handler.image handler.modules (columns_of handler.start) []
-        handler.functions handler.start handler.calls }
-    ensures delivery { delivery_of 0x900000 handler.start handler.calls ≡ handler.delivered }
 {}
