@@ -22,13 +22,12 @@ use Rattle.format_laws.proofs.FormatStopped.{stop_lies, undone_at}
 use Rattle.stack_steps.specs.Modules.{SpaceValue, AreApart}
 use Rattle.stack_steps.specs.SpaceViews.{process_of, formats_of}
 use Rattle.stack_steps.specs.Stepping.{step_of}
-use Rattle.stack_steps.specs.Stopped.{IsDescribedStop}
-use Rattle.stack_steps.specs.Undoing.{IsDescribedCall, Undone, UndoneIn}
+use Rattle.stack_steps.specs.Undoing.{Undone, UndoneIn}
 use Rattle.stack_steps.proofs.FormatFrames.{FormatFrame, macho_framed, pe_framed}
-use Rattle.stack_steps.proofs.FormatHolders.{elf_to_format, elf_from_format, HoldsAt, held_at}
-use Rattle.stack_steps.proofs.MetFrames.{Met, met, step_undone}
+use Rattle.stack_steps.proofs.FormatHolders.{elf_from_format, HoldsAt, held_at}
+use Rattle.stack_steps.proofs.MetFrames.{IsDescribedCall, Met, met, step_undone}
 use Rattle.stack_steps.proofs.StepParts.{some_next, stepped_by, step_is}
-use Rattle.stack_steps.proofs.StoppedUndone.{stopped_undone}
+use Rattle.stack_steps.proofs.StoppedUndone.{IsDescribedStop, stopped_undone}
 
 module _ (space : SpaceValue) (c : Context) (functions : List Function) (s : State) (call : Call) (apart : AreApart 0 space.modules) (laid : IsLaidOut 0 space.image) where
   abbrev Lies : FormatModule → Type 0
@@ -36,23 +35,7 @@ module _ (space : SpaceValue) (c : Context) (functions : List Function) (s : Sta
 
   -- ---- ELF modules
 
-  -- a described call is one of a module of whatever format
-  pub elf_call_in : IsDescribedCall (process_of space) functions s call → IsFormatCall space.image (formats_of space) functions s call
-  elf_call_in is = record {
-    listed = is.listed;
-    lies = record {
-      home = Elf is.lies.home;
-      known = elf_to_format space.modules is.lies.home is.lies.known;
-      inside = is.lies.inside;
-      is_function = is.is_function;
-      describes = is.lies.describes;
-    };
-    called = is.called;
-    caller = is.caller;
-    ends = is.ends;
-  }
-
-  -- and so is a call of a function in an ELF module
+  -- a call of a function in an ELF module is one of the process
   call_in_elf : (m : described.Module) → Lies (Elf m) → DescribesFormat space.image (Elf m) (part_of (Elf m) functions) → IsFormatCall space.image (formats_of space) functions s call → IsDescribedCall (process_of space) functions s call
   call_in_elf m lies d is = record {
     is_function = lies.2;

@@ -1,6 +1,7 @@
 -- The frame at a context that shows a state of a described chain.
 use Rattle.std.proofs.Common.{◌≡◌, ◌≢◌, ℕ, ◌-◌, ◌^◌, ◌<◌, Bool, false, List, Option, Some, None, Result, Ok, refl, sym, ap, subst, ◌∙◌, arith, eqb, ltb, leb}
 use Rattle.std.specs.Prelude.{IsTrue}
+use Rattle.std.specs.List.{Contains}
 use Rattle.std.proofs.lemmas.Bool.Decides.{nat_tests}
 use Rattle.std.proofs.lemmas.Bool.{ltb-true, leb-true}
 use Rattle.memory_image.specs.Image.{Span, IsLaidOut}
@@ -10,10 +11,12 @@ use Rattle.unwind_definitions.specs.Row.{row_at}
 use Rattle.unwind_definitions.specs.LanguageTable.{input_at}
 use Rattle.unwind_definitions.specs.LanguageSearch.{address_of_call}
 use Rattle.unwind_definitions.specs.Caller.{Columns, StepFault}
-use Rattle.unwind_definitions.specs.State.{State, Shows, KeepsOthers}
-use Rattle.unwind_definitions.specs.Function.{Action, Function, action_at}
-use Rattle.unwind_definitions.specs.Chain.{Call}
+use Rattle.unwind_definitions.specs.State.{State, IsState, Shows, KeepsOthers}
+use Rattle.unwind_definitions.specs.Prologue.{SystemV}
+use Rattle.unwind_definitions.specs.Function.{Action, Function, IsFunction, action_at}
+use Rattle.unwind_definitions.specs.Chain.{Call, IsCalled}
 use Rattle.unwind_definitions.specs.Module as described
+use Rattle.unwind_definitions.specs.Valid.{LiesDescribed}
 use Rattle.unwind_laws.specs.Found.{AsksAs}
 use Rattle.unwind_laws.specs.Walked.{Steps}
 use Rattle.unwind_laws.proofs.Asked.{asks_as, ends_below}
@@ -35,12 +38,21 @@ use Rattle.format_frames.specs.declared.machine.Stepped.{Stepped}
 use Rattle.stack_steps.specs.Modules.{SpaceValue, AreApart, module_at}
 use Rattle.stack_steps.specs.SpaceViews.{tables_of, elf_module, process_of}
 use Rattle.stack_steps.specs.Stepping.{step_of, FrameAt, Described, frame_of, caller_by}
-use Rattle.stack_steps.specs.Undoing.{IsDescribedCall, Undone}
+use Rattle.stack_steps.specs.Undoing.{Undone}
 use Rattle.stack_steps.specs.Asking.{action_if_named, action_asked, arguments_of, described_action, table_if_named}
 use Rattle.stack_steps.proofs.ContextLemmas.{IsWhole}
 use Rattle.stack_steps.proofs.HeaderFinds.{header_finds}
 use Rattle.stack_steps.proofs.StepParts.{some_next, stepped_by, step_is}
 use Rattle.stack_steps.proofs.StepUndone.{IsOf, contains_map, module_at-contains, context_of-holds}
+
+-- A call of a function that one of the ELF modules of a process describes.
+pub record IsDescribedCall (p : described.Process) (functions : List Function) (s : State) (c : Call) : Type 0 where
+  pub is_function : IsFunction SystemV c.callee
+  pub listed : Contains functions c.callee
+  pub lies : LiesDescribed p functions c.callee
+  pub called : IsCalled p.image s c
+  pub caller : IsState c.caller
+  pub ends : IsTrue c.callee.outermost → c.caller.ra ≡ 0
 
 -- the frame that a context shows of a called function, what its language asks, and its caller
 pub record Met (space : SpaceValue) (c : Context) (s : State) (call : Call) : Type 0 where

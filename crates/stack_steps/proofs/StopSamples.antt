@@ -14,9 +14,8 @@ use Rattle.unwind_definitions.specs.Function.{in_body, IsFunction}
 use Rattle.unwind_definitions.specs.DescribedRows.{HasRow, IsBodyRow, IsPrologueRow, MayFindLate, FindsRegister, ended_by, DescribesRows}
 use Rattle.unwind_definitions.specs.LanguageTable.{input_at}
 use Rattle.unwind_definitions.specs.FrameTable.{DescribesFunction, DescribesFrames}
-use Rattle.unwind_definitions.specs.Module.{Module, in_module, DescriptionsApart, DescribesModule}
+use Rattle.unwind_definitions.specs.Module.{DescriptionsApart, DescribesModule}
 use Rattle.unwind_definitions.specs.Stopped.{StandsAfter}
-use Rattle.unwind_definitions.specs.Valid.{LiesDescribed}
 use Rattle.unwind_laws.specs.Pushing as pushing
 use Rattle.unwind_laws.specs.Storing.{bases, cie, run_of, pushed, set}
 use Rattle.unwind_laws.proofs.Booleans.{both_true, either_false, here_or_later, none_in_nil, pairs_one}
@@ -24,8 +23,12 @@ use Rattle.unwind_laws.proofs.RowFacts.{by_register, state_fits, unnamed, same_e
 use Rattle.unwind_laws.proofs.Steady.{is_steady, same_row_at}
 use Rattle.unwind_laws.proofs.PushingValid.{one_valid}
 use Rattle.unwind_arch.specs.ContextViews.{columns_of}
-use Rattle.stack_steps.specs.StopSample.{image, home, process, fde, entries, in_body_run, function, call, before_steps, after_push, after_set, after_late_push, after_allocation, after_store, in_body_of_it, pushing_space, stopped_at, before_push, after_the_push}
-use Rattle.stack_steps.specs.Stopped.{IsDescribedStop, StartsStopped}
+use Rattle.format_definitions.specs.FormatModules.{FormatModule, in_format, LiesInFormat}
+use Rattle.format_definitions.specs.FormatModules as formats
+use Rattle.format_definitions.specs.FormatStops.{IsFormatStop}
+use Rattle.stack_steps.specs.StopSample.{image, home, modules, fde, entries, in_body_run, function, call, before_steps, after_push, after_set, after_late_push, after_allocation, after_store, in_body_of_it, pushing_space, stopped_at, before_push, after_the_push}
+use Rattle.stack_steps.specs.SpaceViews.{formats_of}
+use Rattle.stack_steps.specs.Stopped.{StartsStopped}
 
 -- between two addresses the description's row stays
 abbrev Stays : ℕ → ℕ → Type 0
@@ -232,12 +235,11 @@ caller_fits : IsState call.caller
 caller_fits = state_fits call.caller (lit< tt) (lit< tt) (lit< tt) (lit< tt) (lit< tt) (lit< tt) (lit< tt) (lit< tt)
 
 -- a stop in the prologue of the function
-stop_in_prologue : (done later : List PrologueStep) (s : State) → s.ra ≢ 0 → StandsAfter image function done later call.caller s → IsDescribedStop process (function ∷ []) s call
+stop_in_prologue : (done later : List PrologueStep) (s : State) → s.ra ≢ 0 → StandsAfter image function done later call.caller s → IsFormatStop image modules (function ∷ []) s call
 stop_in_prologue done later s returns stands = record {
-  is_function = is_function;
   inner = refl;
   listed = (0, lit< tt, refl);
-  lies = record { home = home; known = (0, lit< tt, refl); inside = refl; describes = module_described };
+  lies = record { home = formats.Elf home; known = (0, lit< tt, refl); inside = refl; is_function = is_function; describes = module_described };
   returns = returns;
   stands = inl (record { done = done; later = later; stands = stands });
   caller = caller_fits;
@@ -262,7 +264,7 @@ stands_before_steps = record {
   below = lit< tt;
 }
 
-pub stopped_before_steps : IsDescribedStop process (function ∷ []) before_steps call
+pub stopped_before_steps : IsFormatStop image modules (function ∷ []) before_steps call
 stopped_before_steps = stop_in_prologue done_before_steps (record { step = Push (Followed RBP); end = 1 } ∷ record { step = SetFrame 0; end = 4 } ∷ record { step = Push (Followed RBX); end = 5 } ∷ record { step = Allocate 24; end = 9 } ∷ record { step = Store (Followed R12) 8; end = 14 } ∷ []) before_steps (λ e. absurd cc) stands_before_steps
 
 abbrev done_after_push : List PrologueStep
@@ -284,7 +286,7 @@ stands_after_push = record {
   below = lit< tt;
 }
 
-pub stopped_after_push : IsDescribedStop process (function ∷ []) after_push call
+pub stopped_after_push : IsFormatStop image modules (function ∷ []) after_push call
 stopped_after_push = stop_in_prologue done_after_push (record { step = SetFrame 0; end = 4 } ∷ record { step = Push (Followed RBX); end = 5 } ∷ record { step = Allocate 24; end = 9 } ∷ record { step = Store (Followed R12) 8; end = 14 } ∷ []) after_push (λ e. absurd cc) stands_after_push
 
 abbrev done_after_set : List PrologueStep
@@ -306,7 +308,7 @@ stands_after_set = record {
   below = lit< tt;
 }
 
-pub stopped_after_set : IsDescribedStop process (function ∷ []) after_set call
+pub stopped_after_set : IsFormatStop image modules (function ∷ []) after_set call
 stopped_after_set = stop_in_prologue done_after_set (record { step = Push (Followed RBX); end = 5 } ∷ record { step = Allocate 24; end = 9 } ∷ record { step = Store (Followed R12) 8; end = 14 } ∷ []) after_set (λ e. absurd cc) stands_after_set
 
 abbrev done_after_late_push : List PrologueStep
@@ -328,7 +330,7 @@ stands_after_late_push = record {
   below = lit< tt;
 }
 
-pub stopped_after_late_push : IsDescribedStop process (function ∷ []) after_late_push call
+pub stopped_after_late_push : IsFormatStop image modules (function ∷ []) after_late_push call
 stopped_after_late_push = stop_in_prologue done_after_late_push (record { step = Allocate 24; end = 9 } ∷ record { step = Store (Followed R12) 8; end = 14 } ∷ []) after_late_push (λ e. absurd cc) stands_after_late_push
 
 abbrev done_after_allocation : List PrologueStep
@@ -350,7 +352,7 @@ stands_after_allocation = record {
   below = lit< tt;
 }
 
-pub stopped_after_allocation : IsDescribedStop process (function ∷ []) after_allocation call
+pub stopped_after_allocation : IsFormatStop image modules (function ∷ []) after_allocation call
 stopped_after_allocation = stop_in_prologue done_after_allocation (record { step = Store (Followed R12) 8; end = 14 } ∷ []) after_allocation (λ e. absurd cc) stands_after_allocation
 
 abbrev done_after_store : List PrologueStep
@@ -372,7 +374,7 @@ stands_after_store = record {
   below = lit< tt;
 }
 
-pub stopped_after_store : IsDescribedStop process (function ∷ []) after_store call
+pub stopped_after_store : IsFormatStop image modules (function ∷ []) after_store call
 stopped_after_store = stop_in_prologue done_after_store ([]) after_store (λ e. absurd cc) stands_after_store
 
 entered : IsEntered image false (steps_of function.prologue) call.caller in_body_of_it
@@ -385,20 +387,19 @@ entered = record {
   keeps = by_register (λ r. distance r (steps_of function.prologue) ≡ None → value_of r in_body_of_it ≡ value_of r call.caller) (λ e. absurd cc) (λ e. absurd cc) (λ e. absurd cc) (λ e. refl) (λ e. refl) (λ e. refl);
 }
 
-pub stopped_in_body : IsDescribedStop process (function ∷ []) in_body_of_it call
+pub stopped_in_body : IsFormatStop image modules (function ∷ []) in_body_of_it call
 stopped_in_body = record {
-  is_function = is_function;
   inner = refl;
   listed = (0, lit< tt, refl);
-  lies = record { home = home; known = (0, lit< tt, refl); inside = refl; describes = module_described };
+  lies = record { home = formats.Elf home; known = (0, lit< tt, refl); inside = refl; is_function = is_function; describes = module_described };
   returns = λ e. absurd cc;
   stands = inr (record { inside = refl; entered = entered });
   caller = caller_fits;
 }
 
 -- ---- walks from a function that pushes RBX
-pushing_lies : LiesDescribed pushing.process (pushing.function ∷ []) pushing.function
-pushing_lies = record { home = pushing.module_of_it; known = (0, lit< tt, refl); inside = refl; describes = one_valid.modules.0 }
+pushing_lies : LiesInFormat pushing.image (formats_of pushing_space) (pushing.function ∷ []) pushing.function
+pushing_lies = record { home = formats.Elf pushing.module_of_it; known = (0, lit< tt, refl); inside = refl; is_function = one_valid.are_functions.0; describes = one_valid.modules.0 }
 
 pushing_shows : (ra : ℕ) → Shows (columns_of (stopped_at ra)) (pushing.state ra 0x7000 9)
 pushing_shows ra = record { ra = refl; sp = refl; saved = λ r. by_register (λ r. columns_of (stopped_at ra) (column_of r) ≡ Some (value_of r (pushing.state ra 0x7000 9))) refl refl refl refl refl refl r }
@@ -414,16 +415,16 @@ stands_before_push = record {
 }
 
 -- no module holds an address below the one module
-outside : (m : Module) → Contains pushing.process.modules m → IsTrue (in_module 4 m) → ⊥
-outside m has inside = elim (here_or_later pushing.module_of_it [] m has) [
+outside : (m : FormatModule) → Contains (formats_of pushing_space) m → IsTrue (in_format 4 m) → ⊥
+outside m has inside = elim (here_or_later (formats.Elf pushing.module_of_it) [] m has) [
   | inl same ↦ let h = rw (← same) at inside in absurd cc
   | inr later ↦ absurd (none_in_nil m later)
 ]
 
 pub walks_before_push : StartsStopped pushing_space (stopped_at 0x401000) 2 (pushing.function ∷ []) (pushing.state 0x401000 0x7000 9) before_push []
+unfolding pushing_lies
 walks_before_push = record {
   stopped = record {
-    is_function = one_valid.are_functions.0;
     inner = refl;
     listed = (0, lit< tt, refl);
     lies = pushing_lies;
@@ -432,20 +433,18 @@ walks_before_push = record {
     caller = state_fits before_push.caller (lit< tt) (lit< tt) (lit< tt) (lit< tt) (lit< tt) (lit< tt) (lit< tt) (lit< tt);
   };
   described = record {
-    are_functions = one_valid.are_functions;
     chain = record { state = state_fits before_push.caller (lit< tt) (lit< tt) (lit< tt) (lit< tt) (lit< tt) (lit< tt) (lit< tt) (lit< tt); ends = inr ((λ e. absurd cc), (λ m has inside. absurd (outside m has inside))) };
     described = tt;
     ends = inr (λ m has inside. absurd (outside m has inside));
   };
   shows = pushing_shows 0x401000;
-  elf = (tt, tt);
   shorter = lit< tt;
 }
 
 pub walks_in_body : StartsStopped pushing_space (stopped_at 0x401006) 2 (pushing.function ∷ []) pushing.start after_the_push []
+unfolding pushing_lies
 walks_in_body = record {
   stopped = record {
-    is_function = one_valid.are_functions.0;
     inner = refl;
     listed = (0, lit< tt, refl);
     lies = pushing_lies;
@@ -453,8 +452,7 @@ walks_in_body = record {
     stands = inr (record { inside = refl; entered = one_valid.chain.0.called.entered });
     caller = one_valid.chain.1.state;
   };
-  described = record { are_functions = one_valid.are_functions; chain = one_valid.chain.1; described = tt; ends = inl refl };
+  described = record { chain = record { state = one_valid.chain.1.state; ends = inl refl }; described = tt; ends = inl refl };
   shows = pushing_shows 0x401006;
-  elf = (tt, tt);
   shorter = lit< tt;
 }

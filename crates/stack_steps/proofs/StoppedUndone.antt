@@ -1,11 +1,14 @@
 -- The step from a state that was stopped in a described function.
 use Rattle.std.proofs.Common.{◌≢◌, true, List, refl, inl, inr}
-use Rattle.std.specs.Prelude.{◌⊎◌}
+use Rattle.std.specs.Prelude.{◌⊎◌, IsFalse}
+use Rattle.std.specs.List.{Contains}
 use Rattle.memory_image.specs.Image.{IsLaidOut}
-use Rattle.unwind_definitions.specs.State.{State, Shows}
-use Rattle.unwind_definitions.specs.Prologue.{steps_of}
-use Rattle.unwind_definitions.specs.Function.{Function}
+use Rattle.unwind_definitions.specs.State.{State, IsState, Shows}
+use Rattle.unwind_definitions.specs.Prologue.{SystemV, steps_of}
+use Rattle.unwind_definitions.specs.Function.{Function, IsFunction}
 use Rattle.unwind_definitions.specs.Chain.{Call}
+use Rattle.unwind_definitions.specs.Module.{Process}
+use Rattle.unwind_definitions.specs.Valid.{LiesDescribed}
 use Rattle.unwind_laws.specs.Walked.{CanStep, CanStepInside}
 use Rattle.frame_facts.specs.Facts.{Facts, StandsWith}
 use Rattle.frame_facts.specs.FactTables.{AreSaidAt}
@@ -18,8 +21,17 @@ use Rattle.stack_steps.specs.SpaceViews.{process_of}
 use Rattle.stack_steps.specs.Stepping.{step_of}
 use Rattle.stack_steps.specs.Undoing.{Undone}
 use Rattle.format_definitions.specs.FormatStops.{StandsInPrologue, StandsInBody}
-use Rattle.stack_steps.specs.Stopped.{IsDescribedStop}
 use Rattle.stack_steps.proofs.FactSteps.{facts_undone}
+
+-- A stop in a function that one of the ELF modules of a process describes.
+pub record IsDescribedStop (p : Process) (functions : List Function) (s : State) (c : Call) : Type 0 where
+  pub is_function : IsFunction SystemV c.callee
+  pub inner : IsFalse c.callee.outermost
+  pub listed : Contains functions c.callee
+  pub lies : LiesDescribed p functions c.callee
+  pub returns : s.ra ≢ 0
+  pub stands : StandsInPrologue p.image s c ⊎ StandsInBody p.image s c
+  pub caller : IsState c.caller
 
 -- What is known where a described function was stopped: by the steps that have run in its prologue, or in its body.
 module _ (space : SpaceValue) (s : State) (call : Call) (functions : List Function) (is : IsDescribedStop (process_of space) functions s call) where

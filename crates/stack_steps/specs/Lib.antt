@@ -15,4 +15,5 @@ pub mod Undoing
 pub mod FormatViews
 pub mod FormatStopSample
 pub mod KnownStacks
+pub mod Interrupting
 pub mod KnownFrames

@@ -6,12 +6,14 @@ use Rattle.unwind_definitions.specs.Entries.{Fde, Entry, ACie, AFde}
 use Rattle.unwind_definitions.specs.State.{State, RBX, RBP, R12}
 use Rattle.unwind_definitions.specs.Prologue.{Followed, Push, Allocate, SetFrame, Store}
 use Rattle.unwind_definitions.specs.Function.{Function}
-use Rattle.unwind_definitions.specs.Module.{Module, Process, Frames}
+use Rattle.unwind_definitions.specs.Module.{Module, Frames}
 use Rattle.unwind_definitions.specs.Chain.{Call}
 use Rattle.unwind_definitions.specs.Columns as column
 use Rattle.unwind_laws.specs.Pushing as pushing
 use Rattle.unwind_laws.specs.Storing.{cie, state}
 use Rattle.unwind_arch.specs.declared.x86_64.Context.{Context}
+use Rattle.format_definitions.specs.FormatModules.{FormatModule}
+use Rattle.format_definitions.specs.FormatModules as formats
 use Rattle.fde_finders.specs.declared.custom.FrameInfoKind.TheVariants.{EhFrame}
 use Rattle.stack_steps.specs.declared.space.ModuleTables.TheVariants.{Elf}
 use Rattle.stack_steps.specs.Modules.{SpaceValue, without_index}
@@ -34,8 +36,8 @@ image = record { start = 0x7000; bytes = stack } ∷ record { start = 0x500000; 
 abbrev pub home : Module
 home = record { start = 0x401000; end = 0x401020; text = None; tables = Frames 0x500000 }
 
-abbrev pub process : Process
-process = record { image = image; modules = home ∷ [] }
+abbrev pub modules : List FormatModule
+modules = formats.Elf home ∷ []
 
 abbrev pub fde : Fde
 fde = record {

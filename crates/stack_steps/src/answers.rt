@@ -38,7 +38,8 @@ pub enum DeliverError {
     #[error("the function's opcode gives no caller")]
     CompactForm,
     /// The function table of a PE module, an unwind record, or the code up to a function's end that
-    /// may be an epilog's can't be read.
+    /// may be an epilog's can't be read; or in a delivery a record up to one that names a handler, or
+    /// the bytes of that handler.
     #[error("the module's unwind data can't be read")]
     PeInfo,
     /// More than 32 unwind records are chained to the first one.

@@ -3,7 +3,7 @@ ghost use Rattle.std.specs.Prelude.{◌≡◌, ◌∷◌, []};
 ghost use Rattle.memory_image.specs.Image.{IsLaidOut, table_at};
 ghost use Rattle.stack_steps.specs.Growing.{Grows, all_prepared, over_image};
 ghost use Rattle.stack_steps.specs.GrownSample.{grown_image, table_image};
-ghost use Rattle.stack_steps.specs.Modules.{module_at};
+ghost use Rattle.stack_steps.specs.Modules.{AreApart, module_at};
 
 use crate::space::{Module, Space};
 use memory_image::MemoryImage;
@@ -59,8 +59,11 @@ impl<'s, 't, 'a> GrownSpace<'s, 't, 'a> {
     /// The image that it is seen over.
     pub fn image(&self) -> &'s MemoryImage<'a>
         ensures image { result.now ≡ self.now.image }
+        ensures apart { AreApart 0 self.now.modules }
         ensures laid_out { IsLaidOut 0 self.now.image }
     {
+        // No two of its modules share an address, as a space's type says.
+        let _ = self.space.image();
         self.image.laid_out();
         self.image
     }

@@ -8,6 +8,7 @@ ghost use Rattle.unwind_definitions.specs.Function.{Function};
 ghost use Rattle.unwind_definitions.specs.Chain.{Call};
 ghost use Rattle.unwind_definitions.specs.LanguageSearch.{address_of_call};
 ghost use Rattle.frame_facts.specs.FactChains.{FactFrame, IsFactLink};
+ghost use Rattle.frame_facts.specs.SignalFrames.{SignalFrame, IsSignalLink};
 ghost use Rattle.unwind_arch.specs.ContextViews.{columns_of};
 ghost use Rattle.eh_frame.specs.Index.{AreFewSteps};
 ghost use Rattle.fde_finders.specs.declared.custom.FrameInfo.{FrameInfo as Tables};
@@ -27,13 +28,13 @@ ghost use Rattle.stack_steps.specs.Ticking.{IsScannedAt, RisesBySearch, TicksAt,
 ghost use Rattle.stack_steps.specs.Ticking.{searched_at, module_pairs};
 ghost use Rattle.memory_image.specs.Results.{result_map};
 ghost use Rattle.stack_steps.specs.Growing.{advanced_to};
+ghost use Rattle.stack_steps.specs.Interrupting.{Interrupted};
 ghost use Rattle.stack_steps.specs.Stepping.{FrameAt, frame_by, frame_in, frame_of, caller_by};
 ghost use Rattle.stack_steps.specs.Stepping.{step_of, GivesCaller, EndsAt, FaultsAt};
 ghost use Rattle.stack_steps.specs.Stepping.{ReadIsUnmapped, DescribedFrame, described_caller};
 ghost use Rattle.stack_steps.specs.Stepping.{IsUnreadSection, IsWithoutForm, IsUnreadInfo};
 ghost use Rattle.stack_steps.specs.Stepping.{IsChainedTooLong};
-ghost use Rattle.stack_steps.specs.Undoing.{IsDescribedCall, Undone, UndoneIn};
-ghost use Rattle.stack_steps.specs.Stopped.{IsDescribedStop};
+ghost use Rattle.stack_steps.specs.Undoing.{Undone, UndoneIn};
 
 use crate::answers::DeliverError;
 use crate::frames::{CompactFrame, RecordedFrame, compact_frame, recorded_frame};
@@ -525,11 +526,12 @@ fn exact_step<L: Ledger>(
 /// that holds the address is asked by its format: an ELF module for a description, by which the
 /// caller is found; a Mach-O module for a function in its section of compact unwinding, by the
 /// function's opcode, or by the description to which that points; a PE module by the unwind record
-/// that covers the address, and as a leaf where none does. The stack ends where `ra` is 0, or where the address is in no module, or no
-/// description is found for it in an ELF module, since none contains it or an entry before can't be
-/// read, or no function in a Mach-O module. A prepared module is asked by its index, and answers the
-/// same. Steps are counted in the search of an index, one at least, and in that of a
-/// header's table, at most as many as its length has binary digits, and none in a scan.
+/// that covers the address, and as a leaf where none does. The stack ends where `ra` is 0, or where
+/// the address is in no module, or no description is found for it in an ELF module, since none
+/// contains it or an entry before can't be read, or no function in a Mach-O module. A prepared
+/// module is asked by its index, and answers the same. Steps are counted in the search of an index,
+/// one at least, and in that of a header's table, at most as many as its length has binary digits,
+/// and none in a scan.
 ///
 /// # Errors
 ///
@@ -567,22 +569,14 @@ pub fn step<L: Ledger>(
         IsUnreadInfo space.now context.now interrupted }
     ensures chain_limit { (result ≡ Err DeliverError.ChainLimit) ↔
         IsChainedTooLong space.now context.now interrupted }
+    // A call of a function that its module describes, of whatever format that is, is undone.
     ensures undone { (functions : List Function) (s : State) (call : Call) →
-        IsDescribedCall (process_of space.now) functions s call →
-        Shows (columns_of context.now) s → IsFalse interrupted →
-        Undone result (columns_of context.now) call.caller }
-    // The same where the function was stopped at any instruction of its prologue or its body.
-    ensures stopped { (functions : List Function) (s : State) (call : Call) →
-        IsDescribedStop (process_of space.now) functions s call →
-        Shows (columns_of context.now) s → IsTrue interrupted →
-        Undone result (columns_of context.now) call.caller }
-    // Both in a module of whatever format: a call, and a stop in the body of a function of any, in
-    // the prologue of one of an ELF or a PE module, or in an epilog of one of a PE module.
-    ensures undone_in { (functions : List Function) (s : State) (call : Call) →
         (calls : IsFormatCall space.now.image (formats_of space.now) functions s call) →
         Shows (columns_of context.now) s → IsFalse interrupted →
         UndoneIn calls.lies.home result (columns_of context.now) call.caller }
-    ensures stopped_in { (functions : List Function) (s : State) (call : Call) →
+    // So is one that was stopped at an instruction: in the body of a function of whatever format,
+    // in the prologue of one of an ELF or a PE module, or in an epilog of one of a PE module.
+    ensures stopped { (functions : List Function) (s : State) (call : Call) →
         (stop : IsFormatStop space.now.image (formats_of space.now) functions s call) →
         Shows (columns_of context.now) s → IsTrue interrupted →
         UndoneIn stop.lies.home result (columns_of context.now) call.caller }
@@ -592,6 +586,11 @@ pub fn step<L: Ledger>(
         IsFactLink (process_of space.now) interrupted s frame → IsState frame.caller →
         Shows (columns_of context.now) s →
         Undone result (columns_of context.now) frame.caller }
+    // From a signal's frame, which the tables say there, the state that the signal interrupted: the
+    // words in which the kernel put its registers are its own, and it is marked as interrupted.
+    ensures signal { (s t : State) (frame : SignalFrame) →
+        IsSignalLink (process_of space.now) interrupted s frame t →
+        Shows (columns_of context.now) s → Interrupted result t }
     // A search takes as many steps at most as there are binary digits in the length of what is
     // searched: the index of a prepared module, or else the table of a header.
     ensures ticks { RisesBySearch (searched_at space.now context.now interrupted) steps.old.number

@@ -11,8 +11,9 @@ ghost use Rattle.format_laws.specs.PeSamples.{epilog_function, epilog_start, epi
 ghost use Rattle.stack_steps.specs.FormatStopSample.{space_of_three, space_with_epilog};
 ghost use Rattle.stack_steps.specs.Modules.{AreApart};
 ghost use Rattle.stack_steps.specs.SpaceViews.{formats_of};
-ghost use Rattle.stack_steps.specs.Stopped.{IsDescribedStop, StartsStopped};
-ghost use Rattle.stack_steps.specs.StopSample.{process, function, call, before_steps, after_push};
+ghost use Rattle.stack_steps.specs.Stopped.{StartsStopped};
+ghost use Rattle.stack_steps.specs.StopSample.{image, modules, function, call, before_steps};
+ghost use Rattle.stack_steps.specs.StopSample.{after_push};
 ghost use Rattle.stack_steps.specs.StopSample.{after_set, after_late_push, after_allocation};
 ghost use Rattle.stack_steps.specs.StopSample.{after_store, in_body_of_it, pushing_space};
 ghost use Rattle.stack_steps.specs.StopSample.{stopped_at, before_push, after_the_push};
@@ -21,13 +22,13 @@ ghost use Rattle.stack_steps.specs.StopSample.{stopped_at, before_push, after_th
 /// it is stopped: before its first step, after each one, and in its body. Its table tells of RBX
 /// and R12 only where the body begins.
 pub fn stops_after_each_step_are_described()
-    ensures before { IsDescribedStop process (function ∷ []) before_steps call }
-    ensures push { IsDescribedStop process (function ∷ []) after_push call }
-    ensures set { IsDescribedStop process (function ∷ []) after_set call }
-    ensures late_push { IsDescribedStop process (function ∷ []) after_late_push call }
-    ensures allocation { IsDescribedStop process (function ∷ []) after_allocation call }
-    ensures store { IsDescribedStop process (function ∷ []) after_store call }
-    ensures body { IsDescribedStop process (function ∷ []) in_body_of_it call }
+    ensures before { IsFormatStop image modules (function ∷ []) before_steps call }
+    ensures push { IsFormatStop image modules (function ∷ []) after_push call }
+    ensures set { IsFormatStop image modules (function ∷ []) after_set call }
+    ensures late_push { IsFormatStop image modules (function ∷ []) after_late_push call }
+    ensures allocation { IsFormatStop image modules (function ∷ []) after_allocation call }
+    ensures store { IsFormatStop image modules (function ∷ []) after_store call }
+    ensures body { IsFormatStop image modules (function ∷ []) in_body_of_it call }
 {}
 
 /// A walk may start at the push of a function that pushes RBX, before which the word at the stack

@@ -4,27 +4,16 @@ use Rattle.format_frames.specs.declared.machine.Stepped.{Stepped}
 use Rattle.unwind_arch.specs.ContextViews.{columns_of}
 use Rattle.stack_steps.specs.Undoing.{Undone, UndoneIn}
 use Rattle.stack_steps.specs.Stepping.{step_of}
+use Rattle.stack_steps.specs.Interrupting.{Interrupted}
 use Rattle.stack_steps.proofs.Counted.{index_is_searched, scan_is_free, ticks_rise}
-use Rattle.stack_steps.proofs.FactSteps.{asked_at, facts_undone}
+use Rattle.stack_steps.proofs.FactSteps.{asked_at, facts_undone, signal_left}
 use Rattle.stack_steps.proofs.FormatMet.{format_undone, format_stopped}
-use Rattle.stack_steps.proofs.MetFrames.{step_undone}
-use Rattle.stack_steps.proofs.StoppedUndone.{stopped_undone}
 use Rattle.stack_steps.proofs.StepAnswers.{step_ends, ends_step, step_unmapped, step_read, read_step, step_table, table_step, step_caller, caller_step}
 use Rattle.stack_steps.proofs.StepAnswers.{step_section, section_step, step_form, form_step, step_info, info_step, step_limit, limit_step}
 use Rattle.stack_steps.proofs.stepping.step.Goals as goal
 
 pub returns-clause-undone : goal.returns-clause-undone
-returns-clause-undone g c functions s call is shows called =
-    let at : step_of c.args.space.now c.args.context.now false ≡ c.exact_step.result = sym (rw called at c.exact_step.ensures.exact) in
-    subst (λ (r : Result (Option Stepped) DeliverError). Undone r (columns_of c.args.context.now) call.caller) at (step_undone c.args.space.now c.args.context.now functions s call c.exact_step.ensures.apart c.exact_step.ensures.laid_out is shows)
-
-pub returns-clause-stopped : goal.returns-clause-stopped
-returns-clause-stopped g c functions s call is shows marked =
-    let at : step_of c.args.space.now c.args.context.now true ≡ c.exact_step.result = sym (rw marked at c.exact_step.ensures.exact) in
-    subst (λ (r : Result (Option Stepped) DeliverError). Undone r (columns_of c.args.context.now) call.caller) at (stopped_undone c.args.space.now c.args.context.now s call c.exact_step.ensures.apart c.exact_step.ensures.laid_out is.returns shows functions is)
-
-pub returns-clause-undone_in : goal.returns-clause-undone_in
-returns-clause-undone_in g c functions s call calls shows called =
+returns-clause-undone g c functions s call calls shows called =
     let at : step_of c.args.space.now c.args.context.now false ≡ c.exact_step.result = sym (rw called at c.exact_step.ensures.exact) in
     let ra : columns_of c.args.context.now 16 ≡ Some s.ra = shows.ra in
     let same : c.args.context.now.ra ≡ s.ra = cc in
@@ -32,8 +21,8 @@ returns-clause-undone_in g c functions s call calls shows called =
     subst (λ (r : Result (Option Stepped) DeliverError). UndoneIn calls.lies.home r (columns_of c.args.context.now) call.caller) at
     (format_undone c.args.space.now c.args.context.now functions s call c.exact_step.ensures.apart c.exact_step.ensures.laid_out calls shows low)
 
-pub returns-clause-stopped_in : goal.returns-clause-stopped_in
-returns-clause-stopped_in g c functions s call stop shows marked =
+pub returns-clause-stopped : goal.returns-clause-stopped
+returns-clause-stopped g c functions s call stop shows marked =
     let at : step_of c.args.space.now c.args.context.now true ≡ c.exact_step.result = sym (rw marked at c.exact_step.ensures.exact) in
     subst (λ (r : Result (Option Stepped) DeliverError). UndoneIn stop.lies.home r (columns_of c.args.context.now) call.caller) at
     (format_stopped c.args.space.now c.args.context.now functions s call c.exact_step.ensures.apart c.exact_step.ensures.laid_out stop shows)
@@ -44,6 +33,13 @@ returns-clause-known g c s frame link fits shows =
     subst (λ (r : Result (Option Stepped) DeliverError). Undone r (columns_of c.args.context.now) frame.caller) at
     (facts_undone c.args.space.now c.args.context.now c.args.interrupted s frame.caller c.exact_step.ensures.apart c.exact_step.ensures.laid_out link.returns
     (asked_at c.args.interrupted s link.returns link.state.ra) shows frame.facts fits link.said link.stands)
+
+pub returns-clause-signal : goal.returns-clause-signal
+returns-clause-signal g c s t frame link shows =
+    let at : step_of c.args.space.now c.args.context.now c.args.interrupted ≡ c.exact_step.result = sym c.exact_step.ensures.exact in
+    subst (λ (r : Result (Option Stepped) DeliverError). Interrupted r t) at
+    (signal_left c.args.space.now c.args.context.now c.args.interrupted s t c.exact_step.ensures.apart c.exact_step.ensures.laid_out link.returns
+    (asked_at c.args.interrupted s link.returns link.state.ra) shows frame link.said link.stands)
 
 pub returns-clause-ends : goal.returns-clause-ends
 returns-clause-ends g c = (λ e. step_ends c.args.space.now c.args.context.now c.args.interrupted (sym c.exact_step.ensures.exact ∙ e), λ ends. c.exact_step.ensures.exact ∙ ends_step c.args.space.now c.args.context.now c.args.interrupted ends)
