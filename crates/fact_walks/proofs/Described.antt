@@ -16,13 +16,12 @@ use Rattle.format_definitions.specs.FormatStops.{StandsIn, IsFormatStop}
 use Rattle.unwind_arch.specs.declared.x86_64.Context.{Context}
 use Rattle.stack_steps.specs.Modules.{SpaceValue}
 use Rattle.stack_steps.specs.SpaceViews.{process_of, formats_of}
-use Rattle.stack_steps.specs.Stopped.{IsDescribedStop, StartsFormatStop, StartsStopped}
+use Rattle.stack_steps.specs.Stopped.{StartsStopped}
 use Rattle.stack_steps.specs.KnownStacks.{IsOtherFormat, IsKnownLink, IsKnownStack}
 use Rattle.stack_steps.proofs.FormatHolders.{elf_from_format}
-use Rattle.stack_steps.proofs.StoppedUndone.{HasFacts, stop_facts}
-use Rattle.stack_walks.specs.Walking.{StartsChain, StartsFormatChain}
+use Rattle.stack_steps.proofs.StoppedUndone.{IsDescribedStop, HasFacts, stop_facts}
+use Rattle.stack_walks.specs.Walking.{StartsChain}
 use Rattle.stack_walks.specs.KnownWalks.{StartsKnownStack}
-use Rattle.stack_walks.proofs.ElfChains.{elf_starts, elf_starts_stopped}
 use Rattle.stack_walks.proofs.LineShows.{call_in}
 use Rattle.fact_walks.specs.Callers.{callers_of}
 
@@ -110,28 +109,22 @@ chain_known : (space : SpaceValue) (functions : List Function) (s : State) (call
     AllByRecursion (λ (k : Call). LiesInFormat space.image (formats_of space) functions k.callee) calls → IsKnownStack space false s (callers_of calls)
 chain_known space functions s [] chain lie = record { state = chain.state; ends = chain.ends }
 chain_known space functions s (k ∷ calls) chain lie =
-    (call_known space functions s k chain.0.state (call_in space functions s k calls chain lie.0), chain_known space functions k.caller calls chain.1 lie.1)
+    (inl (call_known space functions s k chain.0.state (call_in space functions s k calls chain lie.0)), chain_known space functions k.caller calls chain.1 lie.1)
 
 few_callers : (calls : List Call) (limit : ℕ) → length calls < limit → length (callers_of calls) < limit
 few_callers calls limit less = rw length-map less
 
 module _ (space : SpaceValue) (c : Context) (limit : ℕ) (functions : List Function) (s : State) where
-  pub format_chain_starts : (calls : List Call) → StartsFormatChain space c limit functions s calls → StartsKnownStack space c limit false s (callers_of calls)
-  format_chain_starts calls is =
+  pub chain_starts : (calls : List Call) → StartsChain space c limit functions s calls → StartsKnownStack space c limit false s (callers_of calls)
+  chain_starts calls is =
       record { stack = chain_known space functions s calls is.described.chain is.described.described; shows = is.shows; shorter = few_callers calls limit is.shorter }
 
-  pub format_stop_starts : (call : Call) (calls : List Call) → IsState s → StartsFormatStop space c limit functions s call calls → StartsKnownStack space c limit true s (callers_of (call ∷ calls))
-  format_stop_starts call calls state is = record {
-    stack = (stop_known space functions s call state is.stopped, chain_known space functions call.caller calls is.described.chain is.described.described);
+  pub stop_starts : (call : Call) (calls : List Call) → IsState s → StartsStopped space c limit functions s call calls → StartsKnownStack space c limit true s (callers_of (call ∷ calls))
+  stop_starts call calls state is = record {
+    stack = (inl (stop_known space functions s call state is.stopped), chain_known space functions call.caller calls is.described.chain is.described.described);
     shows = is.shows;
     shorter = let short = is.shorter in few_callers (call ∷ calls) limit (omega arith);
   }
-
-  pub chain_starts : (calls : List Call) → StartsChain space c limit functions s calls → StartsKnownStack space c limit false s (callers_of calls)
-  chain_starts calls is = format_chain_starts calls (elf_starts space c limit functions s calls is)
-
-  pub stop_starts : (call : Call) (calls : List Call) → IsState s → StartsStopped space c limit functions s call calls → StartsKnownStack space c limit true s (callers_of (call ∷ calls))
-  stop_starts call calls state is = format_stop_starts call calls state (elf_starts_stopped space c limit functions s call calls is)
 
 pub called_states : (s : State) (calls : List Call) → s ∷ callers_of calls ≡ states_of s calls
 called_states s [] = refl

@@ -26,7 +26,7 @@ facts_known space interrupted s [] elf chain = record { state = chain.state; end
     go : (s.ra ≡ 0) ⊎ ((s.ra ≢ 0) × IsUncovered (process_of space) (address_asked interrupted s)) → (s.ra ≡ 0) ⊎ ((s.ra ≢ 0) × IsUncoveredBy space.image (formats_of space) (address_asked interrupted s))
     go (inl none) = inl none
     go (inr free) = inr (free.0, uncovered space [] elf (address_asked interrupted s) free.1)
-facts_known space interrupted s (f ∷ frames) elf chain = (inl (f.facts, chain.0), facts_known space false f.caller frames elf chain.1)
+facts_known space interrupted s (f ∷ frames) elf chain = (inl (inl (f.facts, chain.0)), facts_known space false f.caller frames elf chain.1)
 
 pub same_states : (s : State) (frames : List FactFrame) → s ∷ callers_in frames ≡ chain_states s frames
 same_states s [] = refl

@@ -1,3 +1,4 @@
 pub mod FactStacks
 pub mod Described
 pub mod SampleStarts
+pub mod SignalStarts

@@ -12,7 +12,7 @@ use Rattle.fact_walks.specs.Callers.{callers_in}
 use Rattle.fact_walks.specs.SampleSpace.{space, context, in_prologue, in_epilogue, in_part, outside}
 use Rattle.fact_walks.proofs.FactStacks.{facts_known}
 
-shows : (ra rsp rbx rbp : ℕ) → Shows (columns_of (context ra rsp rbx rbp)) (sample.state ra rsp rbx rbp)
+pub shows : (ra rsp rbx rbp : ℕ) → Shows (columns_of (context ra rsp rbx rbp)) (sample.state ra rsp rbx rbp)
 shows ra rsp rbx rbp = record { ra = refl; sp = refl; saved = λ r. by_register (λ r. columns_of (context ra rsp rbx rbp) (column_of r) ≡ Some (value_of r (sample.state ra rsp rbx rbp))) refl refl refl refl refl refl r }
 
 pub laid_out : IsLaidOut 0 space.image

@@ -1,11 +1,13 @@
 //! A small program whose stack is walked from stops in a prologue, in an epilogue, and in a part of
 //! a function that lies apart from it.
 
-ghost use Rattle.std.specs.Prelude.{false, true, []};
+ghost use Rattle.std.specs.Prelude.{false, true, [], ◌∷◌};
 ghost use Rattle.memory_image.specs.Image.{IsLaidOut};
+ghost use Rattle.unwind_definitions.specs.Valid.{IsDescribedChain};
+ghost use Rattle.unwind_laws.specs.Pushing as pushing;
 ghost use Rattle.frame_facts.specs.FactChains.{IsFactLink};
 ghost use Rattle.frame_facts_laws.specs.SampleProgram as sample;
-ghost use Rattle.stack_steps.specs.Modules.{AreApart};
+ghost use Rattle.stack_steps.specs.Modules.{AreApart, AreElf};
 ghost use Rattle.stack_steps.specs.SpaceViews.{process_of};
 ghost use Rattle.stack_walks.specs.KnownWalks.{StartsKnownStack};
 ghost use Rattle.fact_walks.specs.Callers.{callers_in};
@@ -38,9 +40,16 @@ pub fn frames_of_each_kind_are_known()
 pub fn walks_from_stops_begin_known_stacks()
     ensures laid_out { IsLaidOut 0 space.image }
     ensures apart { AreApart 0 space.modules }
+    ensures elf { AreElf space.modules }
     ensures prologue { StartsKnownStack space in_prologue 9 true sample.overwritten sample.states }
     ensures epilogue { StartsKnownStack space in_epilogue 9 true sample.popped sample.states }
     ensures part { StartsKnownStack space in_part 8 false sample.in_part
         (callers_in sample.outer_frames) }
     ensures alone { StartsKnownStack space outside 1 true sample.outside [] }
+{}
+
+/// What laws of ELF frames ask of a chain over ELF modules alone is met by a call of a function that
+/// pushes RBX.
+pub fn call_of_a_push_is_a_described_chain()
+    ensures { IsDescribedChain pushing.process (pushing.function ∷ []) pushing.start pushing.calls }
 {}

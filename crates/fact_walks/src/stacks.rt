@@ -13,10 +13,10 @@ ghost use Rattle.unwind_arch.specs.declared.x86_64.Context.{Context};
 ghost use Rattle.unwind_arch.specs.ContextViews.{columns_of};
 ghost use Rattle.stack_steps.specs.Modules.{AreApart, AreElf, SpaceValue};
 ghost use Rattle.stack_steps.specs.SpaceViews.{process_of};
-ghost use Rattle.stack_steps.specs.Stopped.{StartsFormatStop, StartsStopped};
+ghost use Rattle.stack_steps.specs.Stopped.{StartsStopped};
 ghost use Rattle.stack_steps.specs.KnownFrames.{MeetsFrame};
 ghost use Rattle.stack_steps.specs.KnownStacks.{IsKnownStack};
-ghost use Rattle.stack_walks.specs.Walking.{StartsChain, StartsFormatChain};
+ghost use Rattle.stack_walks.specs.Walking.{StartsChain};
 ghost use Rattle.stack_walks.specs.KnownWalks.{StartsKnownStack};
 ghost use Rattle.fact_walks.specs.Callers.{callers_in, callers_of};
 
@@ -39,17 +39,9 @@ pub fn described_starts_are_known()
     ensures chain { (space : SpaceValue) (c : Context) (limit : ℕ) (functions : List Function)
         (s : State) (calls : List Call) → StartsChain space c limit functions s calls →
         StartsKnownStack space c limit false s (callers_of calls) }
-    ensures chain_in { (space : SpaceValue) (c : Context) (limit : ℕ)
-        (functions : List Function) (s : State) (calls : List Call) →
-        StartsFormatChain space c limit functions s calls →
-        StartsKnownStack space c limit false s (callers_of calls) }
     ensures stopped { (space : SpaceValue) (c : Context) (limit : ℕ) (functions : List Function)
         (s : State) (call : Call) (calls : List Call) → IsState s →
         StartsStopped space c limit functions s call calls →
-        StartsKnownStack space c limit true s (callers_of (call ∷ calls)) }
-    ensures stopped_in { (space : SpaceValue) (c : Context) (limit : ℕ)
-        (functions : List Function) (s : State) (call : Call) (calls : List Call) → IsState s →
-        StartsFormatStop space c limit functions s call calls →
         StartsKnownStack space c limit true s (callers_of (call ∷ calls)) }
     ensures states { (s : State) (calls : List Call) → s ∷ callers_of calls ≡ states_of s calls }
 {}

@@ -30,11 +30,11 @@ use Rattle.stack_steps.specs.declared.space.ModuleTables.TheVariants.{Elf, Macho
 use Rattle.stack_steps.specs.Modules.{SpaceValue, AreApart, module_at}
 use Rattle.stack_steps.specs.SpaceViews.{tables_of, elf_module, format_by, formats_of}
 use Rattle.stack_steps.specs.Stepping.{step_of}
-use Rattle.stack_steps.specs.Stopped.{StartsFormatStop}
+use Rattle.stack_steps.specs.Stopped.{StartsStopped}
 use Rattle.stack_steps.specs.Undoing.{UndoneIn}
 use Rattle.stack_steps.proofs.FormatMet.{format_undone, format_stopped}
 use Rattle.stack_walks.specs.Lines.{line_of}
-use Rattle.stack_walks.specs.Walking.{StartsFormatChain}
+use Rattle.stack_walks.specs.Walking.{StartsChain}
 use Rattle.stack_walks.specs.Fronts.{reached_by, caller_from, start_state, IsUndescribed, IsUnknownIn, IsUnknown, EndsFor, ComesTo, front_uncovered, front_of_chain}
 use Rattle.stack_walks.proofs.LineShows.{in_no_entry, none_listed, uncovered_there, step_ends, call_in}
 use Rattle.stack_walks.proofs.ChainWalked.{chain_walked}
@@ -117,14 +117,14 @@ module _ (space : SpaceValue) (apart : AreApart 0 space.modules) (laid : IsLaidO
 
   -- ---- why the walk ends
 
-  pub chain_comes : (c : Context) (limit : ℕ) (functions : List Function) (s : State) (calls : List Call) → StartsFormatChain space c limit functions s calls → ComesTo (front_of_chain space.modules (last_state s calls)) space limit c false
+  pub chain_comes : (c : Context) (limit : ℕ) (functions : List Function) (s : State) (calls : List Call) → StartsChain space c limit functions s calls → ComesTo (front_of_chain space.modules (last_state s calls)) space limit c false
   chain_comes c limit functions s calls is =
       let line = chain_walked space c limit functions s calls apart laid is in
       let last = last_shown functions s calls (start_state c false) limit is.described.chain is.described.described is.shows refl is.shorter in
       comes (front_of_chain space.modules (last_state s calls)) space limit (start_state c false) (not_refused (line_of space limit c false) line.0 line.1)
       (rw last.1 (last_ends functions (reached_by (caller_from space) limit (start_state c false)).state.context (last_state s calls) last.0 (chain_end space functions s calls is.described.chain)))
 
-  pub stop_comes : (c : Context) (limit : ℕ) (functions : List Function) (s : State) (call : Call) (calls : List Call) → StartsFormatStop space c limit functions s call calls → ComesTo (front_of_chain space.modules (last_state call.caller calls)) space limit c true
+  pub stop_comes : (c : Context) (limit : ℕ) (functions : List Function) (s : State) (call : Call) (calls : List Call) → StartsStopped space c limit functions s call calls → ComesTo (front_of_chain space.modules (last_state call.caller calls)) space limit c true
   stop_comes c zero functions s call calls is = let short = is.shorter in absurd (omega arith)
   stop_comes c (suc room) functions s call calls is =
       let short = is.shorter in

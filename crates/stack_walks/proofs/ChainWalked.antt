@@ -11,7 +11,7 @@ use Rattle.unwind_arch.specs.declared.x86_64.Context.{Context}
 use Rattle.stack_steps.specs.Modules.{SpaceValue, AreApart}
 use Rattle.stack_steps.specs.SpaceViews.{formats_of}
 use Rattle.stack_walks.specs.Lines.{line_of}
-use Rattle.stack_walks.specs.Walking.{StartsFormatChain, ShowChain}
+use Rattle.stack_walks.specs.Walking.{StartsChain, ShowChain}
 use Rattle.stack_walks.proofs.LineShows.{line_shows}
 
 -- the stack pointers of a chain strictly rise
@@ -22,7 +22,7 @@ chain_rises image Uncovered functions s (c ∷ d ∷ calls) chain =
     (rises image c.callee.outermost (steps_of c.callee.prologue) c.caller s chain.0.called.entered, chain_rises image Uncovered functions c.caller (d ∷ calls) chain.1)
 
 -- the walk over a chain that the limit has room for
-pub chain_walked : (space : SpaceValue) (c : Context) (limit : ℕ) (functions : List Function) (s : State) (calls : List Call) → AreApart 0 space.modules → IsLaidOut 0 space.image → StartsFormatChain space c limit functions s calls →
+pub chain_walked : (space : SpaceValue) (c : Context) (limit : ℕ) (functions : List Function) (s : State) (calls : List Call) → AreApart 0 space.modules → IsLaidOut 0 space.image → StartsChain space c limit functions s calls →
     (cs : List Context) × (line_of space limit c false ≡ Ok cs) × ShowChain cs s calls
 chain_walked space c limit functions s calls apart laid is =
     let chain : IsFormatChain space.image (formats_of space) functions s calls = is.described in

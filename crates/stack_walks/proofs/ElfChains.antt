@@ -1,8 +1,8 @@
--- Described chains and stops over ELF modules alone are those over modules of whatever format.
-use Rattle.std.proofs.Common.{inl, inr, ◌≡◌, ◌≢◌, ℕ, ◌-◌, Bool, true, false, List, [], ◌∷◌, refl, sym, ap, subst, ◌∙◌}
+-- Chains that ELF modules alone describe are described chains through modules of whatever format.
+use Rattle.std.proofs.Common.{inl, inr, ◌≡◌, ◌≢◌, ℕ, ◌-◌, ◌<◌, Bool, length, true, false, List, [], ◌∷◌, refl, sym, ap, subst, ◌∙◌}
 use Rattle.std.specs.Prelude.{◌⊎◌, ◌||◌, IsTrue, map}
 use Rattle.std.specs.List.{Contains, AllByRecursion, filter_map, list_any}
-use Rattle.unwind_definitions.specs.State.{State}
+use Rattle.unwind_definitions.specs.State.{State, Shows}
 use Rattle.unwind_definitions.specs.Prologue.{SystemV}
 use Rattle.unwind_definitions.specs.Function.{Function, IsFunction}
 use Rattle.unwind_definitions.specs.Chain.{Call, IsChain, last_state}
@@ -10,6 +10,7 @@ use Rattle.unwind_definitions.specs.Module as described
 use Rattle.unwind_definitions.specs.Valid.{DescribesPart, LiesDescribed, IsDescribedAt, IsDescribedChain}
 use Rattle.unwind_laws.proofs.Booleans as lists
 use Rattle.unwind_arch.specs.declared.x86_64.Context.{Context}
+use Rattle.unwind_arch.specs.ContextViews.{columns_of}
 use Rattle.format_definitions.specs.FormatModules.{FormatModule, in_format, part_of, IsUncoveredIn, IsUncoveredBy, LiesInFormat, DescribesFormat, IsDescribedBy, IsFormatChain}
 use Rattle.format_definitions.specs.FormatModules as formats
 use Rattle.format_definitions.specs.FormatValid.{DescribesItsPart}
@@ -18,9 +19,8 @@ use Rattle.stack_steps.specs.declared.space.ModuleTables.{ModuleTables}
 use Rattle.stack_steps.specs.declared.space.ModuleTables.TheVariants.{Elf, Macho, Pe}
 use Rattle.stack_steps.specs.Modules.{SpaceValue, AreElf, HasElfTables}
 use Rattle.stack_steps.specs.SpaceViews.{elf_module, elf_of, process_of, format_by, format_of, formats_of}
-use Rattle.stack_steps.specs.Stopped.{StartsStopped, StartsFormatStop}
 use Rattle.stack_steps.proofs.FormatHolders.{IsFormatOf, format_named, elf_to_format, elf_from_format}
-use Rattle.stack_walks.specs.Walking.{StartsChain, StartsFormatChain}
+use Rattle.stack_walks.specs.Walking.{StartsChain}
 
 -- a module of whatever format is one of the ELF modules of a process
 record IsElf (modules : List Module) (home : FormatModule) : Type 0 where
@@ -119,24 +119,7 @@ module _ (space : SpaceValue) (functions : List Function) where
       let home = lists.any_contains (described.in_module f.start) (filter_map elf_of space.modules) (lists.all_contains (λ (g : Function). IsTrue (list_any (described.in_module g.start) (filter_map elf_of space.modules))) functions f each has) in
       contains_any (in_format f.start) (formats_of space) (formats.Elf home.0) (elf_to_format space.modules home.0 home.1) home.2)
 
-module _ (space : SpaceValue) (c : Context) (limit : ℕ) (functions : List Function) (s : State) where
   -- ---- starts
 
-  pub elf_starts : (calls : List Call) → StartsChain space c limit functions s calls → StartsFormatChain space c limit functions s calls
-  elf_starts calls is = record { described = elf_chain space functions is.elf s calls is.described; shows = is.shows; shorter = is.shorter }
-
-  pub elf_starts_stopped : (call : Call) (calls : List Call) → StartsStopped space c limit functions s call calls → StartsFormatStop space c limit functions s call calls
-  unfolding lies_in
-  elf_starts_stopped call calls is = record {
-    stopped = record {
-      inner = is.stopped.inner;
-      listed = is.stopped.listed;
-      lies = lies_in space functions is.described.are_functions call.callee is.stopped.listed is.stopped.lies;
-      returns = is.stopped.returns;
-      stands = is.stopped.stands;
-      caller = is.stopped.caller;
-    };
-    described = elf_chain space functions is.elf call.caller calls is.described;
-    shows = is.shows;
-    shorter = is.shorter;
-  }
+  pub elf_starts : AreElf space.modules → (s : State) (calls : List Call) → IsDescribedChain (process_of space) functions s calls → (c : Context) (limit : ℕ) → Shows (columns_of c) s → length calls < limit → StartsChain space c limit functions s calls
+  elf_starts elf s calls is c limit shows shorter = record { described = elf_chain elf s calls is; shows = shows; shorter = shorter }

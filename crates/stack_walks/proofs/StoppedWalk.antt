@@ -14,7 +14,7 @@ use Rattle.stack_steps.specs.Stepping.{step_of}
 use Rattle.stack_walks.specs.Lines.{line_of}
 use Rattle.stack_steps.specs.Undoing.{UndoneIn}
 use Rattle.stack_walks.specs.Walking.{ShowChain}
-use Rattle.stack_steps.specs.Stopped.{StartsFormatStop}
+use Rattle.stack_steps.specs.Stopped.{StartsStopped}
 use Rattle.stack_walks.proofs.ChainWalked.{chain_rises}
 use Rattle.stack_walks.proofs.LineShows.{line_shows}
 use Rattle.format_laws.proofs.FormatStopped.{stop_below}
@@ -27,7 +27,7 @@ rise_from s t (c ∷ calls) below rise = (below, rise)
 
 module _ (space : SpaceValue) (functions : List Function) (s : State) (call : Call) (calls : List Call) (c : Context) (apart : AreApart 0 space.modules) (laid : IsLaidOut 0 space.image) where
   -- The line from the stopped state is that state and then the chain's.
-  pub stopped_walked : (limit : ℕ) → StartsFormatStop space c limit functions s call calls → (cs : List Context) × (line_of space limit c true ≡ Ok cs) × ShowChain cs s (call ∷ calls)
+  pub stopped_walked : (limit : ℕ) → StartsStopped space c limit functions s call calls → (cs : List Context) × (line_of space limit c true ≡ Ok cs) × ShowChain cs s (call ∷ calls)
   stopped_walked zero is = let short = is.shorter in absurd (omega arith)
   stopped_walked (suc room) is =
       let short = is.shorter in

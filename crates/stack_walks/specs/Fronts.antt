@@ -1,5 +1,5 @@
 -- How far a walk comes, and why it ends there.
-use Rattle.std.specs.Prelude.{◌≡◌, ◌≢◌, ◌⊎◌, ℕ, zero, suc, ◌-◌, ◌==◌, Bool, List, [], ◌∷◌, Option, Some, None, Result, Ok, Err, if◌then◌else◌}
+use Rattle.std.specs.Prelude.{◌≡◌, ◌≢◌, ◌⊎◌, ℕ, zero, suc, ◌-◌, ◌==◌, Bool, true, List, [], ◌∷◌, Option, Some, None, Result, Ok, Err, if◌then◌else◌}
 use Rattle.memory_image.specs.Image.{Span}
 use Rattle.unwind_definitions.specs.declared.error.Error.{Error as Fault}
 use Rattle.unwind_definitions.specs.Input.{Input}
@@ -19,6 +19,7 @@ use Rattle.stack_steps.specs.declared.answers.DeliverError.TheVariants.{FrameLim
 use Rattle.stack_walks.specs.declared.front.Front.{Front}
 use Rattle.stack_walks.specs.declared.front.Front.TheVariants.{Outermost, NoModule, NoDescription, UnreadableTable, Refused, Limit}
 use Rattle.stack_walks.specs.declared.outward.Phase.{Phase}
+use Rattle.stack_walks.specs.declared.outward.Stop.{Stop}
 use Rattle.stack_steps.specs.declared.space.Module.{Module}
 use Rattle.stack_steps.specs.declared.space.ModuleTables.{ModuleTables}
 use Rattle.stack_steps.specs.declared.space.ModuleTables.TheVariants.{Elf, Macho, Pe}
@@ -27,8 +28,8 @@ use Rattle.format_frames.specs.Refusals.{function_at}
 use Rattle.stack_steps.specs.Modules.{SpaceValue, module_at}
 use Rattle.stack_steps.specs.Stepping.{macho_of, step_of}
 use Rattle.stack_walks.specs.Lines.{NeedsMore}
-use Rattle.stack_walks.specs.Turns.{Turn, Ends, Stops, Goes, turn_for}
-use Rattle.stack_walks.specs.TurnViews.{AreVisited}
+use Rattle.stack_walks.specs.Turns.{Turn, Ends, Stops, Goes, turn_for, line_for}
+use Rattle.stack_walks.specs.TurnViews.{AreVisited, IsOutward}
 use Rattle.stack_walks.specs.Walking.{RoomValue}
 
 -- ---- how far it comes
@@ -82,6 +83,14 @@ IsReached visited room state due = AreVisited visited room due.contexts × (stat
 -- the bytes of a table at its address
 abbrev pub input_of : ℕ → List ℕ → Input
 input_of base bytes = record { base = base; offset = 0; bytes = bytes }
+
+-- A walk goes from a state outwards through so many states at most, into a room without states: its answer and the room's states are
+-- the line's, the state is left as the last that it reached or, at the limit, the next, and the room keeps its cleanups and its limit.
+abbrev pub WalksOutwards : SpaceValue → ℕ → Stepped → Stepped → RoomValue → RoomValue → Result (Option Stop) DeliverError → Type 0
+WalksOutwards space limit start left before after result =
+    IsOutward true result after (line_for None space limit start.context start.signal)
+    × IsReached true after left (reached_by (turned_from None space) limit start)
+    × (after.trail ≡ before.trail) × (after.limit ≡ before.limit)
 
 -- The entry at an offset of a frame table can't be read, and no entry before it contains the address. These entries are those
 -- from some place on.

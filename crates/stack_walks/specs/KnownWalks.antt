@@ -1,13 +1,13 @@
 -- What a walk over a stack gives of each of whose frames it is known how the caller's state follows.
-use Rattle.std.specs.Prelude.{ℕ, ◌<◌, ◌==◌, Bool, false, List, [], ◌∷◌, length, if◌then◌else◌}
+use Rattle.std.proofs.Common.{inl, inr}
+use Rattle.std.specs.Prelude.{ℕ, ◌<◌, ◌==◌, Bool, List, [], ◌∷◌, length, if◌then◌else◌}
 use Rattle.unwind_definitions.specs.State.{State, Shows}
-use Rattle.unwind_definitions.specs.Chain.{StacksRise}
 use Rattle.frame_facts.specs.FactChains.{address_asked}
 use Rattle.unwind_arch.specs.declared.x86_64.Context.{Context}
 use Rattle.unwind_arch.specs.ContextViews.{columns_of}
 use Rattle.stack_steps.specs.declared.space.Module.{Module}
 use Rattle.stack_steps.specs.Modules.{SpaceValue, module_at}
-use Rattle.stack_steps.specs.KnownStacks.{IsKnownStack}
+use Rattle.stack_steps.specs.KnownStacks.{IsStackLink, is_by_signal, IsKnownStack}
 use Rattle.stack_walks.specs.declared.front.Front.{Front}
 use Rattle.stack_walks.specs.declared.front.Front.TheVariants.{Outermost}
 use Rattle.stack_walks.specs.Fronts.{front_uncovered}
@@ -20,17 +20,28 @@ pub record StartsKnownStack (space : SpaceValue) (c : Context) (limit : ℕ) (in
   pub shows : Shows (columns_of c) s
   pub shorter : length callers < limit
 
--- contexts show states one by one, from the innermost outwards, and the stack pointers of these strictly rise
-pub record ShowStack (cs : List Context) (states : List State) : Type 0 where
-  pub each : EachShows cs states
-  pub rise : StacksRise states
+module _ (space : SpaceValue) where
+  -- The stack pointers of a stack's states strictly rise from each to its caller's. Past a signal's frame they may also fall: the
+  -- handler may have run on an alternate stack.
+  abbrev pub IsBelow : (interrupted : Bool) (s t : State) → IsStackLink space interrupted s t → Type 0
+  IsBelow interrupted s t (inl known) = s.sp < t.sp
+  IsBelow interrupted s t (inr signal) = Unit {0}
+
+  abbrev pub StackRises : (interrupted : Bool) (s : State) (callers : List State) → IsKnownStack space interrupted s callers → Type 0
+  StackRises interrupted s [] stack = Unit {0}
+  StackRises interrupted s (t ∷ callers) stack = IsBelow interrupted s t stack.0 × StackRises (is_by_signal space interrupted s t stack.0) t callers stack.1
+
+  -- contexts show the states of a stack one by one, from the innermost outwards, and their stack pointers rise
+  pub record ShowStack (cs : List Context) (interrupted : Bool) (s : State) (callers : List State) (stack : IsKnownStack space interrupted s callers) : Type 0 where
+    pub each : EachShows cs (s ∷ callers)
+    pub rise : StackRises interrupted s callers stack
 
 -- Why a walk goes no further than a state: it returns to 0, or nothing covers the address asked.
 abbrev pub front_at : List Module → Bool → State → Front
 front_at modules interrupted s =
     if s.ra == 0 then Outermost else front_uncovered (module_at modules (address_asked interrupted s)) (address_asked interrupted s)
 
--- at the outermost state of a stack
-abbrev pub front_of_stack : List Module → Bool → State → List State → Front
-front_of_stack modules interrupted s [] = front_at modules interrupted s
-front_of_stack modules interrupted s (t ∷ callers) = front_of_stack modules false t callers
+-- at the outermost state of a stack, which may itself have been interrupted
+abbrev pub front_of_stack : (space : SpaceValue) (interrupted : Bool) (s : State) (callers : List State) → IsKnownStack space interrupted s callers → Front
+front_of_stack space interrupted s [] stack = front_at space.modules interrupted s
+front_of_stack space interrupted s (t ∷ callers) stack = front_of_stack space (is_by_signal space interrupted s t stack.0) t callers stack.1

@@ -3,15 +3,14 @@ use Rattle.std.specs.Prelude.{◌≡◌, ◌⊎◌, ℕ, zero, suc, ◌<◌, Boo
 use Rattle.unwind_definitions.specs.State.{State, Shows}
 use Rattle.unwind_definitions.specs.Function.{Function}
 use Rattle.unwind_definitions.specs.Chain.{Call, states_of, StacksRise}
-use Rattle.unwind_definitions.specs.Valid.{IsDescribedChain}
 use Rattle.format_definitions.specs.FormatModules.{IsFormatChain}
 use Rattle.unwind_arch.specs.declared.x86_64.Context.{Context}
 use Rattle.unwind_arch.specs.ContextViews.{columns_of}
 use Rattle.stack_walks.specs.declared.room.Trail.{Trail}
 use Rattle.format_frames.specs.declared.machine.Stepped.{Stepped}
 use Rattle.stack_steps.specs.declared.answers.DeliverError.{DeliverError}
-use Rattle.stack_steps.specs.Modules.{AreElf, SpaceValue}
-use Rattle.stack_steps.specs.SpaceViews.{process_of, formats_of}
+use Rattle.stack_steps.specs.Modules.{SpaceValue}
+use Rattle.stack_steps.specs.SpaceViews.{formats_of}
 use Rattle.stack_steps.specs.Stepping.{step_of}
 
 -- ---- what contexts show
@@ -41,17 +40,9 @@ abbrev pub StepFails : SpaceValue → ℕ → Context → Bool → DeliverError 
 StepFails space zero c interrupted e = ⊥
 StepFails space (suc room) c interrupted e = (step_of space c interrupted ≡ Err e) ⊎ ((s : Stepped) × (step_of space c interrupted ≡ Ok (Some s)) × StepFails space room s.context s.signal e)
 
--- A context shows the innermost state of a chain of calls that is shorter than the limit. All modules are ELF modules, and the
--- tables that they name, frame tables or headers of them, describe the functions of the chain.
+-- A context shows the innermost state of a chain of calls that is shorter than the limit. The modules are of whatever format each,
+-- ELF, Mach-O or PE: the unwind data that each module has by its format describe the functions of the chain that lie in it.
 pub record StartsChain (space : SpaceValue) (c : Context) (limit : ℕ) (functions : List Function) (s : State) (calls : List Call) : Type 0 where
-  pub described : IsDescribedChain (process_of space) functions s calls
-  pub elf : AreElf space.modules
-  pub shows : Shows (columns_of c) s
-  pub shorter : length calls < limit
-
--- The same where modules are of whatever format each, ELF, Mach-O or PE: the unwind data that each module has by its format
--- describe the functions of the chain that lie in it.
-pub record StartsFormatChain (space : SpaceValue) (c : Context) (limit : ℕ) (functions : List Function) (s : State) (calls : List Call) : Type 0 where
   pub described : IsFormatChain space.image (formats_of space) functions s calls
   pub shows : Shows (columns_of c) s
   pub shorter : length calls < limit

@@ -1,6 +1,6 @@
 // How far a walk comes, and why it ends there.
 ghost use Rattle.std.specs.Prelude.{◌≡◌, ◌≢◌, ◌≤◌, ◌↔◌, ◌∷◌, ℕ, suc, List, [], Ok, Err, false, None};
-ghost use Rattle.std.specs.Prelude.{Bool, length, take, IsTrue, IsFalse, true};
+ghost use Rattle.std.specs.Prelude.{Bool, length, take, IsTrue, IsFalse};
 ghost use Rattle.unwind_definitions.specs.declared.error.Error.{Error as Fault};
 ghost use Rattle.unwind_definitions.specs.Scan.{scan};
 ghost use Rattle.unwind_definitions.specs.State.{State};
@@ -13,16 +13,14 @@ ghost use Rattle.stack_walks.specs.Lines.{line_of};
 ghost use Rattle.stack_walks.specs.FrontSample.{after_call, bad_row, cut_entry, held_by};
 ghost use Rattle.stack_walks.specs.FrontSample.{no_entry, nowhere};
 ghost use Rattle.stack_walks.specs.ContextsMet.{contexts_met};
-ghost use Rattle.stack_walks.specs.Fronts.{IsReached, reached_by, turned_from};
-ghost use Rattle.stack_walks.specs.Turns.{line_for};
-ghost use Rattle.stack_walks.specs.TurnViews.{IsOutward};
 ghost use Rattle.stack_walks.specs.Fronts.{ComesTo, EndsFor, front_of, input_of, IsUndescribed};
+ghost use Rattle.stack_walks.specs.Fronts.{WalksOutwards};
 ghost use Rattle.stack_walks.specs.Fronts.{IsUndescribedIn, stopped_by, IsUnknownIn, front_of_chain};
 ghost use Rattle.stack_walks.specs.KnownWalks.{StartsKnownStack, ShowStack, front_of_stack};
-ghost use Rattle.stack_walks.specs.Walking.{ShowChain, StartsChain, StartsFormatChain};
+ghost use Rattle.stack_walks.specs.Walking.{ShowChain, StartsChain};
 ghost use Rattle.stack_steps.specs.Modules.{SpaceValue};
 ghost use Rattle.stack_steps.specs.Stepping.{FindsNone, step_of, FindsNoneIn};
-ghost use Rattle.stack_steps.specs.Stopped.{StartsStopped, StartsFormatStop};
+ghost use Rattle.stack_steps.specs.Stopped.{StartsStopped};
 ghost use Rattle.stack_steps.specs.Ticking.{RisesWithin};
 
 use crate::outward::{Stop, outwards_alone, outwards_over};
@@ -143,7 +141,7 @@ fn unknown_front(image: &MemoryImage<'_>, address: u64, holder: &Module) -> Fron
 }
 
 /// Why there is no frame at a state.
-fn unframed_front(space: &GrownSpace<'_, '_, '_>, state: &Stepped) -> Front
+pub fn unframed_front(space: &GrownSpace<'_, '_, '_>, state: &Stepped) -> Front
     requires { step_of space.now state.now.context state.now.signal ≡ Ok None }
     ensures { EndsFor result space.now state.now.context state.now.signal }
 {
@@ -210,11 +208,7 @@ where
     't: 'a,
     requires within { limit ≤ room.old.limit }
     requires empty { room.old.visited ≡ [] }
-    ensures exact { IsOutward true result room.new
-        (line_for None space.now limit state.old.context state.old.signal) }
-    ensures reached { IsReached true room.new state.new
-        (reached_by (turned_from None space.now) limit state.old) }
-    ensures kept { (room.new.trail ≡ room.old.trail) × (room.new.limit ≡ room.old.limit) }
+    ensures walks { WalksOutwards space.now limit state.old state.new room.old room.new result }
     ensures ticks { RisesWithin space.now
         (contexts_met None space.now limit state.old.context state.old.signal)
         steps.old.number steps.new.number }
@@ -239,11 +233,7 @@ where
     't: 'a,
     requires within { limit ≤ room.old.limit }
     requires empty { room.old.visited ≡ [] }
-    ensures exact { IsOutward true result room.new
-        (line_for None space.now limit state.old.context state.old.signal) }
-    ensures reached { IsReached true room.new state.new
-        (reached_by (turned_from None space.now) limit state.old) }
-    ensures kept { (room.new.trail ≡ room.old.trail) × (room.new.limit ≡ room.old.limit) }
+    ensures walks { WalksOutwards space.now limit state.old state.new room.old room.new result }
     ensures ticks { RisesWithin space.now
         (contexts_met None space.now limit state.old.context state.old.signal)
         steps.old.number steps.new.number }
@@ -277,6 +267,12 @@ where
     // Each reason is given exactly for its cause.
     ensures why { (reason : Front) → (result ≡ reason) ↔
         ComesTo reason space.now limit start.now interrupted }
+    // A stack of each of whose frames it is known how its caller's state follows is walked to its end,
+    // through signals' frames too, for the reason that its outermost state has.
+    ensures known { (s : State) (callers : List State) →
+        (is : StartsKnownStack space.now start.now limit interrupted s callers) →
+        ShowStack space.now room.new.visited interrupted s callers is.stack ×
+        (result ≡ front_of_stack space.now interrupted s callers is.stack) }
     ensures no_cleanup { room.new.trail ≡ [] }
     ensures places { room.new.limit ≡ room.old.limit }
     // A description is searched once at most at each state.
@@ -286,6 +282,8 @@ where
     // table and none is prepared.
     ensures ticks { RisesWithin space.now limit steps.old.number steps.new.number }
 {
+    // No two of its modules share an address, as a space's type says.
+    let _ = space.image();
     walk_front(space, start, interrupted, limit, room, steps)
 }
 
@@ -295,8 +293,9 @@ where
 /// The room is emptied first. Then it holds the states from the start outwards: each next one is
 /// the caller of the one before, by `step`, up to the end of the stack, to the first state whose
 /// step has a fault, or to the limit. `interrupted` says whether the start stands before its
-/// instruction and not after a call. So where `walk_into` answers, these are its states; where it
-/// is refused, they are the states before its fault. No memory is taken, and nothing is refused.
+/// instruction and not after a call; so does each state after a signal's frame. So where `walk_into`
+/// answers, these are its states; where it is refused, they are those up to and with the state whose
+/// step has the fault, or as many as the limit. No memory is taken, and nothing is refused.
 pub fn walk_front_into<L: Ledger>(
     space: &Space<'_>,
     start: &Context,
@@ -318,36 +317,27 @@ pub fn walk_front_into<L: Ledger>(
     // Each reason is given exactly for its cause.
     ensures why { (reason : Front) → (result ≡ reason) ↔
         ComesTo reason space.now limit start.now interrupted }
-    // A described chain that the limit has room for is walked to its end. The reason is there that
-    // the last state returns to 0, or that no module holds the byte before its return address, or
-    // that the module which does has no description of it.
+    // A described chain, through modules of whatever format, that the limit has room for is walked
+    // to its end. The reason is there that the last state returns to 0, or that no module holds the
+    // byte before its return address, or that the module which does has no description of it.
     ensures chain { (functions : List Function) (s : State) (calls : List Call) →
         StartsChain space.now start.now limit functions s calls → IsFalse interrupted →
         ShowChain room.new.visited s calls ×
         (result ≡ front_of_chain space.now.modules (last_state s calls)) }
-    // So is a function that was stopped at any instruction of its prologue or its body, and then
-    // the described chain that its caller begins.
+    // So is a function that was stopped in its body, in the prologue where it is of an ELF or a PE
+    // module, or in an epilog where it is of a PE module, and then the described chain that its
+    // caller begins.
     ensures stopped { (functions : List Function) (s : State) (call : Call) (calls : List Call) →
         StartsStopped space.now start.now limit functions s call calls → IsTrue interrupted →
         ShowChain room.new.visited s (call ∷ calls) ×
         (result ≡ front_of_chain space.now.modules (last_state call.caller calls)) }
-    // The same through modules of whatever format.
-    ensures chain_in { (functions : List Function) (s : State) (calls : List Call) →
-        StartsFormatChain space.now start.now limit functions s calls → IsFalse interrupted →
-        ShowChain room.new.visited s calls ×
-        (result ≡ front_of_chain space.now.modules (last_state s calls)) }
-    ensures stopped_in { (functions : List Function) (s : State) (call : Call)
-        (calls : List Call) →
-        StartsFormatStop space.now start.now limit functions s call calls → IsTrue interrupted →
-        ShowChain room.new.visited s (call ∷ calls) ×
-        (result ≡ front_of_chain space.now.modules (last_state call.caller calls)) }
     // A stack of each of whose frames it is known how its caller's state follows, by facts that
-    // tables say or as unwind data describe its function, is walked to its end, for the reason that
-    // its outermost state has.
+    // tables say or as unwind data describe its function, is walked to its end, through signals'
+    // frames too, for the reason that its outermost state has.
     ensures known { (s : State) (callers : List State) →
-        StartsKnownStack space.now start.now limit interrupted s callers →
-        ShowStack room.new.visited (s ∷ callers) ×
-        (result ≡ front_of_stack space.now.modules interrupted s callers) }
+        (is : StartsKnownStack space.now start.now limit interrupted s callers) →
+        ShowStack space.now room.new.visited interrupted s callers is.stack ×
+        (result ≡ front_of_stack space.now interrupted s callers is.stack) }
     ensures no_cleanup { room.new.trail ≡ [] }
     ensures places { room.new.limit ≡ room.old.limit }
     // A description is searched once at most at each state.

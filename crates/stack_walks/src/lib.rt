@@ -11,7 +11,8 @@ mod walking;
 
 pub use eh_frame::RowRoom;
 pub use front::{
-    Front, a_walk_ends_for_one_reason, each_reason_is_given, walk_front_into, walk_front_over,
+    Front, a_walk_ends_for_one_reason, each_reason_is_given, unframed_front, walk_front_into,
+    walk_front_over,
 };
 pub use outward::{Phase, Stop, outwards, outwards_over};
 pub use room::{Room, Trail};

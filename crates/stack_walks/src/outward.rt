@@ -6,7 +6,7 @@ ghost use Rattle.std.specs.Option.{option_map};
 ghost use Rattle.unwinding_frames.specs.LanguageViews.{action_of};
 ghost use Rattle.stack_walks.specs.Turns.{stops, stop_of, past_arguments, turn_for, line_for};
 ghost use Rattle.stack_walks.specs.Turns.{mark_at, pad_of, enters};
-ghost use Rattle.stack_walks.specs.Fronts.{reached_by, turned_from, IsReached};
+ghost use Rattle.stack_walks.specs.Fronts.{reached_by, turned_from, IsReached, WalksOutwards};
 ghost use Rattle.stack_steps.specs.FrameViews.{IsFrameOf};
 ghost use Rattle.stack_steps.specs.Stepping.{FrameAt};
 ghost use Rattle.stack_walks.specs.TurnViews.{turn_shown, visits};
@@ -229,11 +229,7 @@ where
     't: 'a,
     requires within { limit ≤ room.old.limit }
     requires empty { room.old.visited ≡ [] }
-    ensures exact { IsOutward true result room.new
-        (line_for None space.now limit state.old.context state.old.signal) }
-    ensures reached { IsReached true room.new state.new
-        (reached_by (turned_from None space.now) limit state.old) }
-    ensures kept { (room.new.trail ≡ room.old.trail) × (room.new.limit ≡ room.old.limit) }
+    ensures walks { WalksOutwards space.now limit state.old state.new room.old room.new result }
     ensures ticks { RisesWithin space.now
         (contexts_met None space.now limit state.old.context state.old.signal)
         steps.old.number steps.new.number }

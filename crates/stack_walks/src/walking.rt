@@ -9,9 +9,8 @@ ghost use Rattle.stack_walks.specs.Fronts.{front_of};
 ghost use Rattle.stack_walks.specs.Lines.{GivesUnlessNoMemory, NeedsMore, line_of};
 ghost use Rattle.stack_steps.specs.Ticking.{RisesWithin};
 ghost use Rattle.stack_walks.specs.KnownWalks.{StartsKnownStack, ShowStack};
-ghost use Rattle.stack_walks.specs.Walking.{IsWalked, StepFails, ShowChain};
-ghost use Rattle.stack_walks.specs.Walking.{StartsChain, StartsFormatChain};
-ghost use Rattle.stack_steps.specs.Stopped.{StartsStopped, StartsFormatStop};
+ghost use Rattle.stack_walks.specs.Walking.{IsWalked, StartsChain, StepFails, ShowChain};
+ghost use Rattle.stack_steps.specs.Stopped.{StartsStopped};
 
 use crate::outward::outwards;
 use crate::room::Room;
@@ -99,32 +98,25 @@ pub fn walk_into<L: Ledger>(
     ensures unmapped { (a : ℕ) → result ≡ Err (DeliverError.Unmapped a) →
         word_at space.now.image a ≡ None }
     ensures takes_no_memory { result ≢ Err DeliverError.NoMemory }
-    // A described chain that the limit has room for is walked to its end.
+    // A described chain, through modules of whatever format, that the limit has room for is walked
+    // to its end.
     ensures chain { (functions : List Function) (s : State) (calls : List Call) →
         StartsChain space.now start.now limit functions s calls → IsFalse interrupted →
         IsOk result × ShowChain room.new.visited s calls }
-    // So is a function that was stopped at any instruction of its prologue or its body, and then
-    // the described chain that its caller begins.
+    // So is a function that was stopped in its body, in the prologue where it is of an ELF or a PE
+    // module, or in an epilog where it is of a PE module, and then the described chain that its
+    // caller begins.
     ensures stopped { (functions : List Function) (s : State) (call : Call) (calls : List Call) →
         StartsStopped space.now start.now limit functions s call calls → IsTrue interrupted →
-        IsOk result × ShowChain room.new.visited s (call ∷ calls) }
-    // The same through modules of whatever format: of a described chain, and of a function that was
-    // stopped in its body, in the prologue where it is of an ELF or a PE module, or in an epilog
-    // where it is of a PE module.
-    ensures chain_in { (functions : List Function) (s : State) (calls : List Call) →
-        StartsFormatChain space.now start.now limit functions s calls → IsFalse interrupted →
-        IsOk result × ShowChain room.new.visited s calls }
-    ensures stopped_in { (functions : List Function) (s : State) (call : Call)
-        (calls : List Call) →
-        StartsFormatStop space.now start.now limit functions s call calls → IsTrue interrupted →
         IsOk result × ShowChain room.new.visited s (call ∷ calls) }
     // A stack is walked to its end that the limit has room for and of each of whose frames it is
     // known how its caller's state follows: in an ELF module by facts that its tables say, at any
     // address, in another as the unwind data describe its function. The start may have been
-    // interrupted where it stands, and may have no caller.
+    // interrupted where it stands, and may have no caller. So it is through a signal's frame, from
+    // which it goes on at the state that the signal interrupted.
     ensures known { (s : State) (callers : List State) →
-        StartsKnownStack space.now start.now limit interrupted s callers →
-        IsOk result × ShowStack room.new.visited (s ∷ callers) }
+        (is : StartsKnownStack space.now start.now limit interrupted s callers) →
+        IsOk result × ShowStack space.now room.new.visited interrupted s callers is.stack }
     // A description is searched once at most at each state from the start outwards, up to the end of
     // the stack, to the first state whose step has a fault, or to the limit.
     ensures searches { RisesWithin space.now
@@ -208,33 +200,26 @@ pub fn walk(
         (result ≡ Err DeliverError.NoMemory) ⊎ (result ≡ Err error) }
     ensures unmapped { (a : ℕ) → result ≡ Err (DeliverError.Unmapped a) →
         word_at space.now.image a ≡ None }
-    // A described chain that the limit has room for is walked to its end.
+    // A described chain, through modules of whatever format, that the limit has room for is walked
+    // to its end.
     ensures chain { (functions : List Function) (s : State) (calls : List Call) →
         StartsChain space.now start.now limit functions s calls → IsFalse interrupted →
         (result ≡ Err DeliverError.NoMemory) ⊎
         IsOkAnd result (λ visited. ShowChain visited s calls) }
-    // So is a function that was stopped at any instruction of its prologue or its body, and then
-    // the described chain that its caller begins.
+    // So is a function that was stopped in its body, in the prologue where it is of an ELF or a PE
+    // module, or in an epilog where it is of a PE module, and then the described chain that its
+    // caller begins.
     ensures stopped { (functions : List Function) (s : State) (call : Call) (calls : List Call) →
         StartsStopped space.now start.now limit functions s call calls → IsTrue interrupted →
         (result ≡ Err DeliverError.NoMemory) ⊎
         IsOkAnd result (λ visited. ShowChain visited s (call ∷ calls)) }
-    // The same through modules of whatever format.
-    ensures chain_in { (functions : List Function) (s : State) (calls : List Call) →
-        StartsFormatChain space.now start.now limit functions s calls → IsFalse interrupted →
-        (result ≡ Err DeliverError.NoMemory) ⊎
-        IsOkAnd result (λ visited. ShowChain visited s calls) }
-    ensures stopped_in { (functions : List Function) (s : State) (call : Call)
-        (calls : List Call) →
-        StartsFormatStop space.now start.now limit functions s call calls → IsTrue interrupted →
-        (result ≡ Err DeliverError.NoMemory) ⊎
-        IsOkAnd result (λ visited. ShowChain visited s (call ∷ calls)) }
     // A stack of each of whose frames it is known how its caller's state follows, by facts that
-    // tables say or as unwind data describe its function, is walked to its end.
+    // tables say or as unwind data describe its function, is walked to its end, through signals'
+    // frames too.
     ensures known { (s : State) (callers : List State) →
-        StartsKnownStack space.now start.now limit interrupted s callers →
+        (is : StartsKnownStack space.now start.now limit interrupted s callers) →
         (result ≡ Err DeliverError.NoMemory) ⊎
-        IsOkAnd result (λ visited. ShowStack visited (s ∷ callers)) }
+        IsOkAnd result (λ visited. ShowStack space.now visited interrupted s callers is.stack) }
 {
     let mut room = Room::new(alloc, limit)?;
     walk_into(

@@ -7,6 +7,9 @@ returns-clause-laid_out c = laid_out
 pub returns-clause-apart : goal.returns-clause-apart
 returns-clause-apart c = lie_apart
 
+pub returns-clause-elf : goal.returns-clause-elf
+returns-clause-elf c = (tt, tt)
+
 pub returns-clause-prologue : goal.returns-clause-prologue
 returns-clause-prologue c = prologue_starts
 

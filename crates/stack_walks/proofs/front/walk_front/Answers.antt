@@ -7,24 +7,24 @@ use Rattle.stack_walks.proofs.front.walk_front.Goals as goal
 
 pub unframed_front-requires : goal.unframed_front-requires
 unframed_front-requires g c =
-    walk_ends c.args.space.now c.args.limit c.args.start.now c.args.interrupted c.outwards_from.new.room c.outwards_from.new.state c.outwards_from.ensures.reached c.outwards_from.result c.outwards_from.ensures.exact c.in-Ok.field-0 c.in-Ok.is
+    walk_ends c.args.space.now c.args.limit c.args.start.now c.args.interrupted c.outwards_from.new.room c.outwards_from.new.state c.outwards_from.ensures.walks.1 c.outwards_from.result c.outwards_from.ensures.walks.0 c.in-Ok.field-0 c.in-Ok.is
 
 pub returns-in-Ok-clause-states : goal.returns-in-Ok-clause-states
 returns-in-Ok-clause-states g c =
-    walk_states c.args.space.now c.args.limit c.args.start.now c.args.interrupted c.outwards_from.new.room c.outwards_from.new.state c.outwards_from.ensures.reached
+    walk_states c.args.space.now c.args.limit c.args.start.now c.args.interrupted c.outwards_from.new.room c.outwards_from.new.state c.outwards_from.ensures.walks.1
 
 pub returns-in-Ok-clause-why : goal.returns-in-Ok-clause-why
 returns-in-Ok-clause-why g c =
-    walk_ends_for c.args.space.now c.args.limit c.args.start.now c.args.interrupted c.outwards_from.new.room c.outwards_from.new.state c.outwards_from.ensures.reached c.outwards_from.result c.outwards_from.ensures.exact c.in-Ok.field-0 c.in-Ok.is
+    walk_ends_for c.args.space.now c.args.limit c.args.start.now c.args.interrupted c.outwards_from.new.room c.outwards_from.new.state c.outwards_from.ensures.walks.1 c.outwards_from.result c.outwards_from.ensures.walks.0 c.in-Ok.field-0 c.in-Ok.is
     c.unframed_front.result c.unframed_front.ensures
 
 pub returns-in-Err-clause-states : goal.returns-in-Err-clause-states
 returns-in-Err-clause-states g c =
-    walk_states c.args.space.now c.args.limit c.args.start.now c.args.interrupted c.outwards_from.new.room c.outwards_from.new.state c.outwards_from.ensures.reached
+    walk_states c.args.space.now c.args.limit c.args.start.now c.args.interrupted c.outwards_from.new.room c.outwards_from.new.state c.outwards_from.ensures.walks.1
 
 pub returns-in-Err-clause-why : goal.returns-in-Err-clause-why
 returns-in-Err-clause-why g c =
-    rw c.stopped_front.ensures (walk_stops c.args.space.now c.args.limit c.args.start.now c.args.interrupted c.outwards_from.new.room c.outwards_from.new.state c.outwards_from.ensures.reached c.outwards_from.result c.outwards_from.ensures.exact c.in-Err.error c.in-Err.is c.address.result c.address.ensures)
+    rw c.stopped_front.ensures (walk_stops c.args.space.now c.args.limit c.args.start.now c.args.interrupted c.outwards_from.new.room c.outwards_from.new.state c.outwards_from.ensures.walks.1 c.outwards_from.result c.outwards_from.ensures.walks.0 c.in-Err.error c.in-Err.is c.address.result c.address.ensures)
 
 pub returns-in-Ok-clause-ticks : goal.returns-in-Ok-clause-ticks
 returns-in-Ok-clause-ticks g c = rises_up_to c.args.space.now _ c.args.limit _ _ (few_met None c.args.space.now c.args.limit c.args.start.now c.args.interrupted) c.outwards_from.ensures.ticks
@@ -34,10 +34,10 @@ returns-in-Err-clause-ticks g c = rises_up_to c.args.space.now _ c.args.limit _ 
 
 pub returns-in-Ok-clause-searches : goal.returns-in-Ok-clause-searches
 returns-in-Ok-clause-searches g c =
-    let states = walk_states c.args.space.now c.args.limit c.args.start.now c.args.interrupted c.outwards_from.new.room c.outwards_from.new.state c.outwards_from.ensures.reached in
+    let states = walk_states c.args.space.now c.args.limit c.args.start.now c.args.interrupted c.outwards_from.new.room c.outwards_from.new.state c.outwards_from.ensures.walks.1 in
     rises_to c.args.space.now _ _ _ _ (walk_met c.args.space.now c.args.limit c.args.start.now c.args.interrupted ∙ ap (λ (cs : List Context). length cs) (sym states)) c.outwards_from.ensures.ticks
 
 pub returns-in-Err-clause-searches : goal.returns-in-Err-clause-searches
 returns-in-Err-clause-searches g c =
-    let states = walk_states c.args.space.now c.args.limit c.args.start.now c.args.interrupted c.outwards_from.new.room c.outwards_from.new.state c.outwards_from.ensures.reached in
+    let states = walk_states c.args.space.now c.args.limit c.args.start.now c.args.interrupted c.outwards_from.new.room c.outwards_from.new.state c.outwards_from.ensures.walks.1 in
     rises_to c.args.space.now _ _ _ _ (walk_met c.args.space.now c.args.limit c.args.start.now c.args.interrupted ∙ ap (λ (cs : List Context). length cs) (sym states)) c.outwards_from.ensures.ticks

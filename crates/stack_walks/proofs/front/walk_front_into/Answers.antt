@@ -8,7 +8,6 @@ use Rattle.stack_walks.specs.Lines.{line_of}
 use Rattle.stack_walks.specs.Walking.{ShowChain}
 use Rattle.stack_walks.proofs.ChainFronts.{chain_comes, stop_comes}
 use Rattle.stack_walks.proofs.ChainWalked.{chain_walked}
-use Rattle.stack_walks.proofs.ElfChains.{elf_starts, elf_starts_stopped}
 use Rattle.stack_walks.specs.KnownWalks.{ShowStack, front_of_stack}
 use Rattle.stack_walks.proofs.KnownLines.{known_walked, known_comes}
 use Rattle.stack_walks.proofs.StoppedWalk.{stopped_walked}
@@ -21,8 +20,8 @@ states_over own space limit c interrupted visited states same whole line = whole
 reason_over : (own space : SpaceValue) (limit : ℕ) (c : Context) (interrupted : Bool) (why reason : Front) → own ≡ space → (why ≡ reason) ↔ ComesTo reason own limit c interrupted → ComesTo reason space limit c interrupted → why ≡ reason
 reason_over own space limit c interrupted why reason same says comes = says.1 (subst (λ (s : SpaceValue). ComesTo reason s limit c interrupted) (sym same) comes)
 
-pub returns-clause-chain_in : goal.returns-clause-chain_in
-returns-clause-chain_in g c functions s calls starts called =
+pub returns-clause-chain : goal.returns-clause-chain
+returns-clause-chain g c functions s calls starts called =
     let w = chain_walked c.args.space.now c.args.start.now c.args.limit functions s calls c.image.ensures.apart c.image.ensures.laid_out starts in
     let line : line_of c.args.space.now c.args.limit c.args.start.now c.args.interrupted ≡ Ok w.0 = rw called w.1 in
     let comes : ComesTo (front_of_chain c.args.space.now.modules (last_state s calls)) c.args.space.now c.args.limit c.args.start.now c.args.interrupted =
@@ -31,11 +30,8 @@ returns-clause-chain_in g c functions s calls starts called =
       reason_over c.over_own_image-own.result c.args.space.now c.args.limit c.args.start.now c.args.interrupted c.walk_front_over.result (front_of_chain c.args.space.now.modules (last_state s calls)) c.over_own_image-own.ensures (c.walk_front_over.ensures.why (front_of_chain c.args.space.now.modules (last_state s calls))) comes,
     )
 
-pub returns-clause-chain : goal.returns-clause-chain
-returns-clause-chain g c functions s calls starts called = returns-clause-chain_in g c functions s calls (elf_starts c.args.space.now c.args.start.now c.args.limit functions s calls starts) called
-
-pub returns-clause-stopped_in : goal.returns-clause-stopped_in
-returns-clause-stopped_in g c functions s call calls starts marked =
+pub returns-clause-stopped : goal.returns-clause-stopped
+returns-clause-stopped g c functions s call calls starts marked =
     let w = stopped_walked c.args.space.now functions s call calls c.args.start.now c.image.ensures.apart c.image.ensures.laid_out c.args.limit starts in
     let line : line_of c.args.space.now c.args.limit c.args.start.now c.args.interrupted ≡ Ok w.0 = rw marked w.1 in
     let comes : ComesTo (front_of_chain c.args.space.now.modules (last_state call.caller calls)) c.args.space.now c.args.limit c.args.start.now c.args.interrupted =
@@ -44,14 +40,10 @@ returns-clause-stopped_in g c functions s call calls starts marked =
       reason_over c.over_own_image-own.result c.args.space.now c.args.limit c.args.start.now c.args.interrupted c.walk_front_over.result (front_of_chain c.args.space.now.modules (last_state call.caller calls)) c.over_own_image-own.ensures (c.walk_front_over.ensures.why (front_of_chain c.args.space.now.modules (last_state call.caller calls))) comes,
     )
 
-pub returns-clause-stopped : goal.returns-clause-stopped
-returns-clause-stopped g c functions s call calls starts marked =
-    returns-clause-stopped_in g c functions s call calls (elf_starts_stopped c.args.space.now c.args.start.now c.args.limit functions s call calls starts) marked
-
 pub returns-clause-known : goal.returns-clause-known
 returns-clause-known g c s callers starts =
     let w = known_walked c.args.space.now c.image.ensures.apart c.image.ensures.laid_out c.args.start.now c.args.limit c.args.interrupted s callers starts in
     let comes = known_comes c.args.space.now c.image.ensures.apart c.image.ensures.laid_out c.args.start.now c.args.limit c.args.interrupted s callers starts in (
-      subst (λ (cs : List Context). ShowStack cs (s ∷ callers)) (sym (states_over c.over_own_image-own.result c.args.space.now c.args.limit c.args.start.now c.args.interrupted c.walk_front_over.new.room.visited w.0 c.over_own_image-own.ensures (c.walk_front_over.ensures.whole w.0) w.1)) w.2,
-      reason_over c.over_own_image-own.result c.args.space.now c.args.limit c.args.start.now c.args.interrupted c.walk_front_over.result (front_of_stack c.args.space.now.modules c.args.interrupted s callers) c.over_own_image-own.ensures (c.walk_front_over.ensures.why (front_of_stack c.args.space.now.modules c.args.interrupted s callers)) comes,
+      subst (λ (cs : List Context). ShowStack c.args.space.now cs c.args.interrupted s callers starts.stack) (sym (states_over c.over_own_image-own.result c.args.space.now c.args.limit c.args.start.now c.args.interrupted c.walk_front_over.new.room.visited w.0 c.over_own_image-own.ensures (c.walk_front_over.ensures.whole w.0) w.1)) w.2,
+      reason_over c.over_own_image-own.result c.args.space.now c.args.limit c.args.start.now c.args.interrupted c.walk_front_over.result (front_of_stack c.args.space.now c.args.interrupted s callers starts.stack) c.over_own_image-own.ensures (c.walk_front_over.ensures.why (front_of_stack c.args.space.now c.args.interrupted s callers starts.stack)) comes,
     )

@@ -1,7 +1,10 @@
-use Rattle.std.proofs.Common.{subst, ◌∙◌}
+use Rattle.std.proofs.Common.{List, sym, subst, ◌∙◌}
+use Rattle.unwind_arch.specs.declared.x86_64.Context.{Context}
 use Rattle.stack_walks.specs.declared.front.Front.{Front}
 use Rattle.stack_walks.specs.Fronts.{start_state, ComesTo}
 use Rattle.stack_walks.proofs.FrontAnswers.{line_front, line_whole, one_front}
+use Rattle.stack_walks.specs.KnownWalks.{ShowStack, front_of_stack}
+use Rattle.stack_walks.proofs.KnownLines.{known_walked, known_comes}
 use Rattle.stack_walks.proofs.front.walk_front_over.Goals as goal
 
 pub returns-clause-whole : goal.returns-clause-whole
@@ -15,3 +18,12 @@ returns-clause-why g c reason = (
   λ is. subst (λ (why : Front). ComesTo why c.args.space.now c.args.limit c.args.start.now c.args.interrupted) is c.walk_front.ensures.why,
   λ why. one_front c.args.space.now c.args.limit (start_state c.args.start.now c.args.interrupted) c.walk_front.result reason c.walk_front.ensures.why why,
 )
+
+pub returns-clause-known : goal.returns-clause-known
+returns-clause-known g c s callers starts =
+    let start = start_state c.args.start.now c.args.interrupted in
+    let w = known_walked c.args.space.now c.image.ensures.apart c.image.ensures.laid_out c.args.start.now c.args.limit c.args.interrupted s callers starts in
+    let comes = known_comes c.args.space.now c.image.ensures.apart c.image.ensures.laid_out c.args.start.now c.args.limit c.args.interrupted s callers starts in (
+      subst (λ (cs : List Context). ShowStack c.args.space.now cs c.args.interrupted s callers starts.stack) (sym (c.walk_front.ensures.states ∙ line_whole c.args.space.now c.args.limit start w.0 w.1)) w.2,
+      one_front c.args.space.now c.args.limit start c.walk_front.result (front_of_stack c.args.space.now c.args.interrupted s callers starts.stack) c.walk_front.ensures.why comes,
+    )

@@ -1,4 +1,4 @@
-use Rattle.std.proofs.Common.{◌≡◌, ◌≢◌, ℕ, ◌+◌, ◌-◌, ◌++◌, ◌∷◌, [], Bool, true, false, length-append, suc, sym, ap, refl, ◌∙◌, arith, Result, Ok, Err, None}
+use Rattle.std.proofs.Common.{◌≡◌, ◌≢◌, ℕ, ◌+◌, ◌-◌, ◌++◌, ◌∷◌, [], Bool, true, false, length-append, suc, sym, ap, refl, ◌∙◌, arith, rules, Result, Ok, Err, None}
 use Rattle.std.proofs.lemmas.Result.{err_from_is_err_and}
 use Rattle.stack_steps.specs.declared.answers.DeliverError.{DeliverError}
 use Rattle.stack_walks.specs.Turns.{Ends, Goes, turn_for}
@@ -14,23 +14,22 @@ use Rattle.stack_walks.proofs.outward.outwards_alone.Goals as goal
 no_caller : (e : DeliverError) → ◌≢◌ {A = Result Bool DeliverError} (Err e) (Ok true)
 no_caller e h = absurd cc
 
-pub returns-in_err-advance-clause-exact : goal.returns-in_err-advance-clause-exact
-returns-in_err-advance-clause-exact g c =
+pub returns-in_err-advance-clause-walks : goal.returns-in_err-advance-clause-walks
+returns-in_err-advance-clause-walks g c =
     let p = err_from_is_err_and c.from_residual.result c.from_residual.ensures.1 in
     let turns : c.args.limit - c.loop.counter ≡ suc (c.args.limit - (c.loop.counter + 1)) = omega arith in
     let line = c.loop.invariant.line in
-    rw (p.1, p.2) (line_faults None c.args.space.now _ _ c.loop.state line.0 _ turns line.1 c.in_err-advance.field-0.0
-    (turn_advanced c.args.space.now c.loop.stepper c.loop.state c.advance.new.state (Err c.in_err-advance.field-0.0) c.loop.invariant.over c.in_err-advance.ensures.step))
-
-pub returns-in_err-advance-clause-reached : goal.returns-in_err-advance-clause-reached
-returns-in_err-advance-clause-reached g c =
-    let turns : c.args.limit - c.loop.counter ≡ suc (c.args.limit - (c.loop.counter + 1)) = omega arith in
-    let line = c.loop.invariant.line in
-    let here = turned_faults None c.args.space.now c.loop.state c.in_err-advance.field-0.0 (turn_advanced c.args.space.now c.loop.stepper c.loop.state c.advance.new.state (Err c.in_err-advance.field-0.0) c.loop.invariant.over c.in_err-advance.ensures.step) in
-    stands true c.visit.new.room c.advance.new.state c.loop.state line.0 (reached_by (turned_from None c.args.space.now) c.args.limit c.args.state.now)
-    (rw c.visit.ensures (more_visited true c.loop.room c.loop.state.context line.0 line.2))
-    (c.in_err-advance.ensures.stays (no_caller c.in_err-advance.field-0.0))
-    (reached_here (turned_from None c.args.space.now) _ _ c.loop.state line.0 _ turns line.3 here)
+    let keeps = visited_keeps true c.loop.room c.loop.state.context in
+    let fault = turn_advanced c.args.space.now c.loop.stepper c.loop.state c.advance.new.state (Err c.in_err-advance.field-0.0) c.loop.invariant.over c.in_err-advance.ensures.step in
+    let here = turned_faults None c.args.space.now c.loop.state c.in_err-advance.field-0.0 fault in (
+      rw (p.1, p.2) (line_faults None c.args.space.now _ _ c.loop.state line.0 _ turns line.1 c.in_err-advance.field-0.0 fault),
+      stands true c.visit.new.room c.advance.new.state c.loop.state line.0 (reached_by (turned_from None c.args.space.now) c.args.limit c.args.state.now)
+          (rw c.visit.ensures (more_visited true c.loop.room c.loop.state.context line.0 line.2))
+          (c.in_err-advance.ensures.stays (no_caller c.in_err-advance.field-0.0))
+          (reached_here (turned_from None c.args.space.now) _ _ c.loop.state line.0 _ turns line.3 here),
+      rw c.visit.ensures (keeps.0 ∙ c.loop.invariant.trail),
+      rw c.visit.ensures (keeps.1 ∙ c.loop.invariant.places),
+    )
 
 pub returns-in_err-advance-clause-ticks : goal.returns-in_err-advance-clause-ticks
 returns-in_err-advance-clause-ticks g c =
@@ -45,28 +44,26 @@ returns-in_err-advance-clause-ticks g c =
 none_next : ◌≢◌ {A = Result Bool DeliverError} (Ok false) (Ok true)
 none_next h = absurd cc
 
-pub returns-then-not-branch-clause-exact : goal.returns-then-not-branch-clause-exact
-returns-then-not-branch-clause-exact g c =
+pub returns-then-not-branch-clause-walks : goal.returns-then-not-branch-clause-walks
+returns-then-not-branch-clause-walks g c =
     let turns : c.args.limit - c.loop.counter ≡ suc (c.args.limit - (c.loop.counter + 1)) = omega arith in
     let line = c.loop.invariant.line in
-    let ends : turn_for None c.args.space.now c.loop.state.context c.loop.state.signal ≡ Ok Ends =
-    turn_advanced c.args.space.now c.loop.stepper c.loop.state c.advance.new.state (Ok false) c.loop.invariant.over (rw c.if-not-branch.true at c.in_ok-advance.ensures.step) in (
-      line.0 ++ c.loop.state.context ∷ [],
-      line_ends None c.args.space.now _ _ c.loop.state line.0 _ turns line.1 ends,
-      rw c.visit.ensures (more_visited true c.loop.room c.loop.state.context line.0 line.2),
-    )
-
-pub returns-then-not-branch-clause-reached : goal.returns-then-not-branch-clause-reached
-returns-then-not-branch-clause-reached g c =
-    let turns : c.args.limit - c.loop.counter ≡ suc (c.args.limit - (c.loop.counter + 1)) = omega arith in
-    let line = c.loop.invariant.line in
+    let keeps = visited_keeps true c.loop.room c.loop.state.context in
     let ends : turn_for None c.args.space.now c.loop.state.context c.loop.state.signal ≡ Ok Ends =
     turn_advanced c.args.space.now c.loop.stepper c.loop.state c.advance.new.state (Ok false) c.loop.invariant.over (rw c.if-not-branch.true at c.in_ok-advance.ensures.step) in
-    let here = turned_ends None c.args.space.now c.loop.state ends in
-    stands true c.visit.new.room c.advance.new.state c.loop.state line.0 (reached_by (turned_from None c.args.space.now) c.args.limit c.args.state.now)
-    (rw c.visit.ensures (more_visited true c.loop.room c.loop.state.context line.0 line.2))
-    ((rw c.if-not-branch.true at c.in_ok-advance.ensures.stays) none_next)
-    (reached_here (turned_from None c.args.space.now) _ _ c.loop.state line.0 _ turns line.3 here)
+    let here = turned_ends None c.args.space.now c.loop.state ends in (
+      (
+        line.0 ++ c.loop.state.context ∷ [],
+        line_ends None c.args.space.now _ _ c.loop.state line.0 _ turns line.1 ends,
+        rw c.visit.ensures (more_visited true c.loop.room c.loop.state.context line.0 line.2),
+      ),
+      stands true c.visit.new.room c.advance.new.state c.loop.state line.0 (reached_by (turned_from None c.args.space.now) c.args.limit c.args.state.now)
+          (rw c.visit.ensures (more_visited true c.loop.room c.loop.state.context line.0 line.2))
+          ((rw c.if-not-branch.true at c.in_ok-advance.ensures.stays) none_next)
+          (reached_here (turned_from None c.args.space.now) _ _ c.loop.state line.0 _ turns line.3 here),
+      rw c.visit.ensures (keeps.0 ∙ c.loop.invariant.trail),
+      rw c.visit.ensures (keeps.1 ∙ c.loop.invariant.places),
+    )
 
 pub returns-then-not-branch-clause-ticks : goal.returns-then-not-branch-clause-ticks
 returns-then-not-branch-clause-ticks g c =
@@ -77,6 +74,11 @@ returns-then-not-branch-clause-ticks g c =
     let here = turned_ends None c.args.space.now c.loop.state ends in
     rises_to c.args.space.now _ _ _ _ (sym (met_here _ line.0 c.loop.state c.loop.counter line.4 (reached_here (turned_from None c.args.space.now) _ _ c.loop.state line.0 _ turns line.3 here)))
     (rises_by_one c.args.space.now c.loop.state.context c.loop.state.signal c.loop.counter _ _ _ c.loop.invariant.ticks (rw c.loop.invariant.over at c.in_ok-advance.ensures.ticks))
+
+-- ---- the limit is met
+
+pub returns-clause-walks : goal.returns-clause-walks
+returns-clause-walks g c = (search rules, search rules, c.loop.invariant.trail, c.loop.invariant.places)
 
 -- ---- the caller
 

@@ -11,16 +11,6 @@ returns-clause-stopped c functions s call calls starts marked =
     let walked = c.in_ok-walk_into.ensures.stopped functions s call calls starts marked in
     inr walked.1
 
-pub returns-in_err-walk_into-clause-stopped_in : goal.returns-in_err-walk_into-clause-stopped_in
-returns-in_err-walk_into-clause-stopped_in c functions s call calls starts marked =
-    let broken = (c.in_err-walk_into.ensures.stopped_in functions s call calls starts marked).0 in
-    absurd cc
-
-pub returns-clause-stopped_in : goal.returns-clause-stopped_in
-returns-clause-stopped_in c functions s call calls starts marked =
-    let walked = c.in_ok-walk_into.ensures.stopped_in functions s call calls starts marked in
-    inr walked.1
-
 pub returns-in_err-walk_into-clause-known : goal.returns-in_err-walk_into-clause-known
 returns-in_err-walk_into-clause-known c s callers starts =
     let broken = (c.in_err-walk_into.ensures.known s callers starts).0 in

@@ -6,7 +6,6 @@ use Rattle.stack_walks.specs.Walking.{IsWalked, ShowChain}
 use Rattle.stack_walks.proofs.LineAnswers.{line_limit, limit_line, line_fault, fault_line, line_unmapped, line_memory}
 use Rattle.stack_walks.proofs.Results.{walked_fault, fault_walked, states_walked}
 use Rattle.stack_walks.proofs.ChainWalked.{chain_walked}
-use Rattle.stack_walks.proofs.ElfChains.{elf_starts, elf_starts_stopped}
 use Rattle.stack_walks.specs.KnownWalks.{ShowStack}
 use Rattle.stack_walks.proofs.KnownLines.{known_walked}
 use Rattle.stack_walks.proofs.StoppedWalk.{stopped_walked}
@@ -30,29 +29,22 @@ returns-clause-unmapped g c a e = line_unmapped c.args.space.now c.args.limit c.
 pub returns-clause-takes_no_memory : goal.returns-clause-takes_no_memory
 returns-clause-takes_no_memory g c e = line_memory c.args.space.now c.args.limit c.args.start.now c.args.interrupted (walked_fault c.walk_with_rows.result c.walk_with_rows.new.room _ NoMemory c.walk_with_rows.ensures.exact e)
 
-pub returns-clause-chain_in : goal.returns-clause-chain_in
-returns-clause-chain_in g c functions s calls starts called =
+pub returns-clause-chain : goal.returns-clause-chain
+returns-clause-chain g c functions s calls starts called =
     let w = chain_walked c.args.space.now c.args.start.now c.args.limit functions s calls c.image.ensures.apart c.image.ensures.laid_out starts in
     let exact : IsWalked c.walk_with_rows.result c.walk_with_rows.new.room (line_of c.args.space.now c.args.limit c.args.start.now false) = rw called at c.walk_with_rows.ensures.exact in
     let r = states_walked c.walk_with_rows.result c.walk_with_rows.new.room _ w.0 exact w.1 in
     (r.0, subst (λ (cs : List Context). ShowChain cs s calls) r.1 w.2)
 
-pub returns-clause-chain : goal.returns-clause-chain
-returns-clause-chain g c functions s calls starts called = returns-clause-chain_in g c functions s calls (elf_starts c.args.space.now c.args.start.now c.args.limit functions s calls starts) called
-
-pub returns-clause-stopped_in : goal.returns-clause-stopped_in
-returns-clause-stopped_in g c functions s call calls starts marked =
+pub returns-clause-stopped : goal.returns-clause-stopped
+returns-clause-stopped g c functions s call calls starts marked =
     let w = stopped_walked c.args.space.now functions s call calls c.args.start.now c.image.ensures.apart c.image.ensures.laid_out c.args.limit starts in
     let exact : IsWalked c.walk_with_rows.result c.walk_with_rows.new.room (line_of c.args.space.now c.args.limit c.args.start.now true) = rw marked at c.walk_with_rows.ensures.exact in
     let r = states_walked c.walk_with_rows.result c.walk_with_rows.new.room _ w.0 exact w.1 in
     (r.0, subst (λ (cs : List Context). ShowChain cs s (call ∷ calls)) r.1 w.2)
 
-pub returns-clause-stopped : goal.returns-clause-stopped
-returns-clause-stopped g c functions s call calls starts marked =
-    returns-clause-stopped_in g c functions s call calls (elf_starts_stopped c.args.space.now c.args.start.now c.args.limit functions s call calls starts) marked
-
 pub returns-clause-known : goal.returns-clause-known
 returns-clause-known g c s callers starts =
     let w = known_walked c.args.space.now c.image.ensures.apart c.image.ensures.laid_out c.args.start.now c.args.limit c.args.interrupted s callers starts in
     let r = states_walked c.walk_with_rows.result c.walk_with_rows.new.room _ w.0 c.walk_with_rows.ensures.exact w.1 in
-    (r.0, subst (λ (cs : List Context). ShowStack cs (s ∷ callers)) r.1 w.2)
+    (r.0, subst (λ (cs : List Context). ShowStack c.args.space.now cs c.args.interrupted s callers starts.stack) r.1 w.2)
