@@ -9,6 +9,7 @@ use Rattle.stack_steps.specs.StopSample.{pushing_module, pushing_space, stopped_
 use Rattle.stack_steps.specs.Ticking.{IsScannedAt, CountsWithin, module_pairs}
 use Rattle.stack_deliver.specs.Delivering.{StartsValidChain}
 use Rattle.stack_deliver.specs.Searches.{HasOneHeader}
+use Rattle.stack_deliver.proofs.ElfDeliveries.{elf_starts_valid}
 use Rattle.delivery_laws.proofs.FormatStarts.{registers_show}
 use Rattle.delivery_laws.specs.CountedSpaces.{header_tables, header_loaded, space_by_header}
 use Rattle.delivery_laws.specs.StateRegisters.{registers_of}
@@ -20,11 +21,7 @@ pub header_apart : AreApart 0 space_by_header.modules
 header_apart = (lit≤ tt, lit< tt, tt)
 
 pub header_starts : StartsValidChain space_by_header (registers_of start) resumes 8 functions start calls
-header_starts = record {
-  valid = record { are_functions = header_valid.are_functions; modules = header_valid.modules; no_others = header_valid.no_others; shows = registers_show start; chain = header_valid.chain; resumed = header_valid.resumed };
-  elf = (tt, tt);
-  shorter = lit< tt;
-}
+header_starts = elf_starts_valid space_by_header functions start resumes calls _ (tt, tt) header_valid (registers_of start) 8 (registers_show start) (lit< tt)
 
 -- the header lists three descriptions
 few_pairs : module_pairs space_by_header.image header_loaded.tables < 2 ^ 2

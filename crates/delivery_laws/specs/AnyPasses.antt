@@ -75,8 +75,8 @@ answer_left (code, columns) = (code, context_of columns)
 abbrev pub rust : SpaceValue → Thrown → Answering Columns FrameSeen StepFault
 rust space thrown = answering (rust_answers landing_columns) space.image thrown
 
--- A frame of another format whose language table has a place is asked by it. The cell with the address of its routine isn't read, so
--- that the routine stands here as 0.
+-- A frame of another format whose language table has a place is asked by it. The routine stands here as 0: the cell with the address
+-- of a Mach-O frame's isn't read, and that of a PE frame's, which its record holds itself, isn't looked at.
 abbrev pub placed_routine : Result (Option (Result LanguagePlace StepFault)) DeliverError → Result (Option ℕ) DeliverError
 placed_routine = result_map (option_map (λ place. 0))
 

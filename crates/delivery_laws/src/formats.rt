@@ -6,9 +6,9 @@ ghost use Rattle.unwind_laws.specs.Three as three;
 ghost use Rattle.format_laws.specs.FormatSample as mixed;
 ghost use Rattle.stack_steps.specs.Modules.{AreApart};
 ghost use Rattle.stack_steps.specs.SpaceViews.{formats_of};
-ghost use Rattle.stack_steps.specs.Stopped.{StartsFormatStop};
-ghost use Rattle.stack_walks.specs.Walking.{StartsFormatChain};
-ghost use Rattle.stack_deliver.specs.Delivering.{StartsValidFormatChain};
+ghost use Rattle.stack_steps.specs.Stopped.{StartsStopped};
+ghost use Rattle.stack_walks.specs.Walking.{StartsChain};
+ghost use Rattle.stack_deliver.specs.Delivering.{StartsValidChain};
 ghost use Rattle.stack_steps.specs.FormatStopSample.{space_of_three};
 ghost use Rattle.delivery_laws.specs.StateRegisters.{registers_of};
 
@@ -20,9 +20,9 @@ pub fn calls_through_formats_start_walks_and_deliveries()
     ensures memory { IsLaidOut 0 space_of_three.image }
     ensures apart { AreApart 0 space_of_three.modules }
     ensures modules { formats_of space_of_three ≡ mixed.modules }
-    ensures walk { StartsFormatChain space_of_three (registers_of mixed.caught_start) 5
+    ensures walk { StartsChain space_of_three (registers_of mixed.caught_start) 5
         mixed.functions mixed.caught_start mixed.caught_calls }
-    ensures delivery { StartsValidFormatChain space_of_three (registers_of mixed.caught_start)
+    ensures delivery { StartsValidChain space_of_three (registers_of mixed.caught_start)
         three.resumes 5 mixed.functions mixed.caught_start mixed.caught_calls }
     ensures delivered { delivery_of three.exception mixed.caught_start mixed.caught_calls
         ≡ mixed.caught_delivery }
@@ -31,11 +31,11 @@ pub fn calls_through_formats_start_walks_and_deliveries()
 /// A walk over the same space may as well start where the Mach-O function was stopped in its body,
 /// or the PE function in its body or after the push of its prologue. The function does nothing.
 pub fn stops_in_formats_start_walks()
-    ensures macho_body { StartsFormatStop space_of_three (registers_of mixed.caught_start) 5
+    ensures macho_body { StartsStopped space_of_three (registers_of mixed.caught_start) 5
         mixed.functions mixed.caught_start mixed.caught_frameless
         (mixed.caught_pushing ∷ mixed.outer_calls) }
-    ensures pe_body { StartsFormatStop space_of_three (registers_of mixed.caught_room) 4
+    ensures pe_body { StartsStopped space_of_three (registers_of mixed.caught_room) 4
         mixed.functions mixed.caught_room mixed.caught_pushing mixed.outer_calls }
-    ensures pe_prologue { StartsFormatStop space_of_three (registers_of mixed.pushed_room) 4
+    ensures pe_prologue { StartsStopped space_of_three (registers_of mixed.pushed_room) 4
         mixed.functions mixed.pushed_room mixed.caught_pushing mixed.outer_calls }
 {}

@@ -40,12 +40,12 @@ last_state = record { state = words_fit sample.outside refl; ends = inr (λ e. a
 
 abbrev stack : IsKnownStack space false sample.in_raises sample.callers
 stack = (
-  link sample.in_raises sample.in_cleans sample.known_in_raises refl refl stands_in_raises said_in_raises,
+  inl (link sample.in_raises sample.in_cleans sample.known_in_raises refl refl stands_in_raises said_in_raises),
   (
-    link sample.in_cleans sample.in_catches sample.known_in_cleans refl refl stands_in_cleans said_in_cleans,
+    inl (link sample.in_cleans sample.in_catches sample.known_in_cleans refl refl stands_in_cleans said_in_cleans),
     (
-      link sample.in_catches sample.in_start sample.known_in_catches refl refl stands_in_catches said_in_catches,
-      (link sample.in_start sample.outside sample.known_in_start refl refl stands_in_start said_in_start, last_state),
+      inl (link sample.in_catches sample.in_start sample.known_in_catches refl refl stands_in_catches said_in_catches),
+      (inl (link sample.in_start sample.outside sample.known_in_start refl refl stands_in_start said_in_start), last_state),
     ),
   ),
 )

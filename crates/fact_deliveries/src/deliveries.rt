@@ -10,7 +10,7 @@ ghost use Rattle.frame_facts.specs.FactDeliveries.{AskedFrame, asked_frames_of, 
 ghost use Rattle.unwind_arch.specs.declared.x86_64.Context.{Context};
 ghost use Rattle.stack_steps.specs.Modules.{AreApart, SpaceValue};
 ghost use Rattle.fact_walks.specs.Callers.{callers_of};
-ghost use Rattle.stack_deliver.specs.Delivering.{StartsValidChain, StartsValidFormatChain};
+ghost use Rattle.stack_deliver.specs.Delivering.{StartsValidChain};
 ghost use Rattle.stack_deliver.specs.KnownDeliveries.{StartsKnownDelivery};
 
 /// Whatever the clauses of deliveries ask of a described chain of calls, a known stack of the same
@@ -23,15 +23,9 @@ pub fn described_deliveries_are_known()
         StartsValidChain space c resumes limit functions s calls →
         StartsKnownDelivery space c resumes limit s (callers_of calls)
         (asked_frames_of (frames_of s calls)) }
-    ensures chain_in { (space : SpaceValue) (c : Context) (resumes : List (ℕ × ℕ)) (limit : ℕ)
-        (functions : List Function) (s : State) (calls : List Call) →
-        AreApart 0 space.modules → IsLaidOut 0 space.image →
-        StartsValidFormatChain space c resumes limit functions s calls →
-        StartsKnownDelivery space c resumes limit s (callers_of calls)
-        (asked_frames_of (frames_of s calls)) }
     ensures delivered { (space : SpaceValue) (c : Context) (resumes : List (ℕ × ℕ)) (limit : ℕ)
         (functions : List Function) (s : State) (calls : List Call) (exception : ℕ) →
-        StartsValidFormatChain space c resumes limit functions s calls →
+        StartsValidChain space c resumes limit functions s calls →
         delivery_to exception (s ∷ callers_of calls) (asked_frames_of (frames_of s calls)) ≡
         delivery_of exception s calls }
 {}

@@ -30,9 +30,8 @@ use Rattle.stack_steps.specs.KnownStacks.{IsOtherFormat, IsKnownLink, IsKnownSta
 use Rattle.stack_steps.proofs.FormatHolders.{elf_from_format}
 use Rattle.stack_steps.proofs.MetFrames.{Met}
 use Rattle.stack_walks.proofs.LineShows.{call_in}
-use Rattle.stack_deliver.specs.Delivering.{StartsValidChain, StartsValidFormatChain}
+use Rattle.stack_deliver.specs.Delivering.{StartsValidChain}
 use Rattle.stack_deliver.specs.KnownDeliveries.{AsksThere, AreAsked, MayGoOnAt, ResumesBy, EachResumesBy, StartsKnownDelivery}
-use Rattle.stack_deliver.proofs.ElfDeliveries.{elf_starts_valid}
 use Rattle.stack_deliver.proofs.Turns.{returning, asks_some, met_again}
 
 -- the states of the callers of calls
@@ -175,7 +174,7 @@ module _ (space : SpaceValue) (functions : List Function) (apart : AreApart 0 sp
   chain_asked s (k ∷ calls) chain lie =
       let known : AskedLink space s k.caller (action_at k.callee (s.ra - 1)) = call_asked space functions s k chain.0.state (call_in space functions s k calls chain lie.0) in
       let rest = chain_asked k.caller calls chain.1 lie.1 in
-      ((known.link, rest.0), (refl, known.asks, rest.1))
+      ((inl known.link, rest.0), (refl, known.asks, rest.1))
 
   each_resumes : (s : State) (calls : List Call) → Chain s calls → Lie calls → AllByRecursion (Resumes resumes) (inner_frames s calls) → EachResumesBy space resumes (callers_of calls) (before_first frame_decides (asked_frames_of (frames_of s calls)))
   each_resumes s [] chain lie resume = tt
@@ -214,8 +213,8 @@ found_back (g ∷ fs) f found = go (is_deciding g) refl (λ later. found_back fs
         record { frame = by.frame; found = beyond ∙ by.found; same = by.same }
 
 module _ (space : SpaceValue) (c : Context) (resumes : List (ℕ × ℕ)) (limit : ℕ) (functions : List Function) (s : State) (calls : List Call) (apart : AreApart 0 space.modules) (laid : IsLaidOut 0 space.image) where
-  pub format_delivery_starts : StartsValidFormatChain space c resumes limit functions s calls → StartsKnownDelivery space c resumes limit s (callers_of calls) (asked_frames_of (frames_of s calls))
-  format_delivery_starts is =
+  pub delivery_starts : StartsValidChain space c resumes limit functions s calls → StartsKnownDelivery space c resumes limit s (callers_of calls) (asked_frames_of (frames_of s calls))
+  delivery_starts is =
       let described = valid_described space.image (formats_of space) (columns_of c) resumes functions s calls is.valid in
       let lie = described.described in
       let asked = chain_asked space functions apart laid resumes s calls is.valid.chain lie in
@@ -228,11 +227,8 @@ module _ (space : SpaceValue) (c : Context) (resumes : List (ℕ × ℕ)) (limit
             (is.valid.resumed by.frame by.found (subst (λ (x : Action). IsTrue (accepts x)) by.same accepted));
       }
 
-  pub delivery_starts : StartsValidChain space c resumes limit functions s calls → StartsKnownDelivery space c resumes limit s (callers_of calls) (asked_frames_of (frames_of s calls))
-  delivery_starts is = format_delivery_starts (elf_starts_valid space c limit functions s resumes calls is)
-
 -- what is delivered to the frames is what is delivered to the chain
-pub delivered_alike : (space : SpaceValue) (c : Context) (resumes : List (ℕ × ℕ)) (limit : ℕ) (functions : List Function) (s : State) (calls : List Call) (exception : ℕ) → StartsValidFormatChain space c resumes limit functions s calls →
+pub delivered_alike : (space : SpaceValue) (c : Context) (resumes : List (ℕ × ℕ)) (limit : ℕ) (functions : List Function) (s : State) (calls : List Call) (exception : ℕ) → StartsValidChain space c resumes limit functions s calls →
     delivery_to exception (s ∷ callers_of calls) (asked_frames_of (frames_of s calls)) ≡ delivery_of exception s calls
 delivered_alike space c resumes limit functions s calls exception is =
     ap (λ (states : List State). delivery_to exception states (asked_frames_of (frames_of s calls))) (called_states s calls)

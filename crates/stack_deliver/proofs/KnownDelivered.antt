@@ -1,6 +1,6 @@
 -- What is delivered to a stack, of each of whose frames it is known how its caller's state follows and what it asks, is what the
 -- definition says of these frames.
-use Rattle.std.proofs.Common.{◌≡◌, ℕ, length, ◌+◌, ◌*◌, ◌≤◌, length-append, Bool, true, false, List, [], ◌∷◌, ◌++◌, get_or, Option, Some, None, Result, Ok, refl, sym, ap, subst, ◌∙◌, arith}
+use Rattle.std.proofs.Common.{inl, inr, ◌≡◌, ℕ, length, ◌+◌, ◌*◌, ◌≤◌, length-append, Bool, true, false, List, [], ◌∷◌, ◌++◌, get_or, Option, Some, None, Result, Ok, refl, sym, ap, subst, ◌∙◌, arith}
 use Rattle.std.specs.Prelude.{IsTrue, IfSome, map}
 use Rattle.std.specs.Option.{option_map_or}
 use Rattle.memory_image.specs.Image.{IsLaidOut}
@@ -13,12 +13,12 @@ use Rattle.unwind_arch.specs.declared.x86_64.Context.{Context}
 use Rattle.unwind_arch.specs.ContextViews.{columns_of}
 use Rattle.stack_steps.specs.declared.answers.DeliverError.{DeliverError}
 use Rattle.stack_steps.specs.Modules.{SpaceValue, AreApart}
-use Rattle.stack_steps.specs.KnownStacks.{IsKnownStack}
+use Rattle.stack_steps.specs.KnownStacks.{IsKnownStack, HasNoSignals}
 use Rattle.stack_steps.proofs.ContextLemmas.{IsWhole}
 use Rattle.stack_walks.specs.declared.outward.Phase.TheVariants as phase
 use Rattle.stack_walks.specs.Walking.{EachShows}
 use Rattle.stack_walks.specs.Turns.{Stop, pass_of, mark_at, pad_of}
-use Rattle.stack_walks.proofs.KnownLines.{called_state, known_walked}
+use Rattle.stack_walks.proofs.KnownLines.{called_state, calls_rise}
 use Rattle.stack_deliver.specs.declared.answers.Outcome.TheVariants.{EndOfStack, FatalPhase1}
 use Rattle.stack_deliver.specs.KnownDeliveries.{AreAsked, MayGoOnAt, ResumesBy, EachResumesBy, StartsKnownDelivery, ShowsKnownDelivery}
 use Rattle.stack_deliver.specs.Passes.{CleanupsRun, passes_of}
@@ -39,8 +39,16 @@ module _ (space : SpaceValue) (apart : AreApart 0 space.modules) (laid : IsLaidO
   frames_met : (s : State) (callers : List State) (stack : IsKnownStack space false s callers) (frames : List AskedFrame) → AreAsked space s callers stack frames → AreMet space s callers frames
   frames_met s [] stack frames asks = (asks, λ c p room some shows. pass_ends_at space apart laid [] c s p room some shows (record { state = stack.state; ends = stack.ends }))
   frames_met s (t ∷ callers) stack [] asks = absurd asks
-  frames_met s (t ∷ callers) stack (f ∷ frames) asks =
-      (asks.0, link_met space apart laid s t stack.0 f.action f.arguments (called_state space t callers stack.1) asks.1, frames_met t callers stack.1 frames asks.2)
+  frames_met s (t ∷ callers) (inl link, outer) (f ∷ frames) asks =
+      (asks.0, link_met space apart laid s t link f.action f.arguments (called_state space t callers outer) asks.1, frames_met t callers outer frames asks.2)
+  frames_met s (t ∷ callers) (inr signal, outer) (f ∷ frames) asks = absurd asks
+
+  -- a stack whose frames ask has no signal's frame
+  asked_by_calls : (s : State) (callers : List State) (stack : IsKnownStack space false s callers) (frames : List AskedFrame) → AreAsked space s callers stack frames → HasNoSignals space false s callers stack
+  asked_by_calls s [] stack frames asks = tt
+  asked_by_calls s (t ∷ callers) stack [] asks = absurd asks
+  asked_by_calls s (t ∷ callers) (inl link, outer) (f ∷ frames) asks = (refl, asked_by_calls t callers outer frames asks.2)
+  asked_by_calls s (t ∷ callers) (inr signal, outer) (f ∷ frames) asks = absurd asks
 
   resumes_met : (resumes : List (ℕ × ℕ)) (f : AskedFrame) (t : State) → IsState t → ResumesBy space resumes f t → GoesOnMet space resumes f t
   resumes_met resumes f t fits goes = go (described.cleanup_pad f.action) goes
@@ -52,10 +60,13 @@ module _ (space : SpaceValue) (apart : AreApart 0 space.modules) (laid : IsLaidO
           let on : MayGoOnAt space (record (past f) { ra = goes.0 }) t = goes.2 in
           (goes.0, goes.1, (on.arguments, link_met space apart laid (record (past f) { ra = goes.0 }) t on.link NoAction on.arguments fits on.silent))
 
-  each_met : (resumes : List (ℕ × ℕ)) (s : State) (callers : List State) → IsKnownStack space false s callers → (frames : List AskedFrame) → EachResumesBy space resumes callers frames → EachGoesOn space resumes callers frames
-  each_met resumes s callers stack [] each = tt
-  each_met resumes s [] stack (f ∷ frames) each = absurd each
-  each_met resumes s (t ∷ callers) stack (f ∷ frames) each = (resumes_met resumes f t (called_state space t callers stack.1) each.0, each_met resumes t callers stack.1 frames each.1)
+  each_met : (resumes : List (ℕ × ℕ)) (s : State) (callers : List State) (stack : IsKnownStack space false s callers) → HasNoSignals space false s callers stack → (frames : List AskedFrame) → EachResumesBy space resumes callers frames →
+      EachGoesOn space resumes callers frames
+  each_met resumes s [] stack calls [] each = tt
+  each_met resumes s [] stack calls (f ∷ frames) each = absurd each
+  each_met resumes s (t ∷ callers) (inl link, outer) calls [] each = tt
+  each_met resumes s (t ∷ callers) (inl link, outer) calls (f ∷ frames) each = (resumes_met resumes f t (called_state space t callers outer) each.0, each_met resumes t callers outer calls.1 frames each.1)
+  each_met resumes s (t ∷ callers) (inr signal, outer) calls frames each = let by_call : true ≡ false = calls.0 in absurd cc
 
 -- ---- the delivery
 
@@ -153,9 +164,9 @@ module _ (space : SpaceValue) (c : Context) (exception : ℕ) (resumes : List (�
         let kept : ℕ = mark_at stop.context stop.interrupted in
         let accepting : IsTrue (described.accepts f.action) = subst (λ (y : Action). IsTrue (described.accepts y)) (sym acts) accepts in
         let within = is.starts.shorter in
-        let walked = known_walked space apart laid c limit false s callers is.starts in
-        let shown = passes_show space exception kept resumes limit s callers frames c limit limit f are walked.2.rise is.starts.shows whole within within (omega arith) decided accepting kept_is
-        (each_met space apart laid resumes s callers is.starts.stack (inside frames) (is.resumed f decided accepting)) in
+        let calls = asked_by_calls space apart laid s callers is.starts.stack frames is.asked in
+        let shown = passes_show space exception kept resumes limit s callers frames c limit limit f are (calls_rise space false s callers is.starts.stack calls) is.starts.shows whole within within (omega arith) decided accepting kept_is
+        (each_met space apart laid resumes s callers is.starts.stack calls (inside frames) (is.resumed f decided accepting)) in
         let toward : met_after_stop (Some stop) (λ kept. met_in_passes space exception kept resumes limit limit c) ≡ met_in_passes space exception kept resumes limit limit c = rw (pad_is x acts, named) refl in
         let counted = by_count space exception kept resumes limit limit c in
         let run_met = shown.met in

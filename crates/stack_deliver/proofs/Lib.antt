@@ -21,3 +21,4 @@ pub mod SearchCounts
 pub mod TabledEnds
 pub mod TurnParts
 pub mod Turns
+pub mod Over

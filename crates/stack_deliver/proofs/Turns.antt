@@ -1,15 +1,14 @@
 -- The turn of a pass at a state of a described chain.
-use Rattle.std.proofs.Common.{◌≡◌, ◌≢◌, ℕ, zero, suc, ◌+◌, ◌-◌, ◌%◌, ◌^◌, ◌<◌, Bool, true, false, List, [], ◌∷◌, length, get_or, set, Option, Some, None, Ok, refl, ap, subst, ◌∙◌, arith}
+use Rattle.std.proofs.Common.{◌≡◌, ◌≢◌, ℕ, zero, suc, ◌-◌, ◌<◌, false, List, [], ◌∷◌, length, get_or, set, Option, Some, None, Ok, refl, ap, subst, ◌∙◌, arith}
 use Rattle.std.specs.Prelude.{IsTrue}
 use Rattle.std.specs.List.{Contains}
-use Rattle.std.proofs.lemmas.List.{set-get_or, get_or-set_same, get_or-set_other}
+use Rattle.std.proofs.lemmas.List.{get_or-set_same, get_or-set_other}
 use Rattle.std.proofs.Math.ListN.{length-set}
 use Rattle.memory_image.specs.Image.{Span, IsLaidOut}
-use Rattle.stack_steps.specs.Asking.{arguments_of}
 use Rattle.unwind_definitions.specs.State.{CalleeSaved, RBX, RBP, R12, R13, R14, R15, State, value_of, column_of, Shows}
 use Rattle.unwind_definitions.specs.Prologue.{SystemV, Windows, steps_of}
 use Rattle.unwind_definitions.specs.Entered.{IsEntered}
-use Rattle.unwind_definitions.specs.Function.{Function, IsFunction, Action, NoAction, Cleanup, in_body, action_at}
+use Rattle.unwind_definitions.specs.Function.{Function, IsFunction, NoAction, Cleanup, in_body, action_at}
 use Rattle.unwind_definitions.specs.Module.{Module}
 use Rattle.unwind_definitions.specs.Chain.{Call, IsEnd}
 use Rattle.format_definitions.specs.FormatCalls.{IsFormatCall}
@@ -21,54 +20,13 @@ use Rattle.unwind_arch.specs.ContextViews.{columns_of}
 use Rattle.stack_walks.specs.declared.outward.Phase.{Phase}
 use Rattle.stack_steps.specs.Modules.{AreApart, SpaceValue}
 use Rattle.stack_steps.specs.SpaceViews.{process_of, formats_of}
-use Rattle.stack_steps.specs.Undoing.{IsDescribedCall}
 use Rattle.stack_steps.proofs.FormatHolders.{elf_from_format}
-use Rattle.stack_walks.specs.Turns.{stops, past_arguments, Stops, Goes, turn_of, with_context, pass_of, enters, turn_for}
-use Rattle.stack_walks.specs.ContextsMet.{contexts_met}
+use Rattle.stack_walks.specs.Turns.{pass_of, enters, turn_for}
 use Rattle.stack_steps.proofs.ContextLemmas.{IsWhole}
 use Rattle.stack_walks.proofs.LineShows.{ends}
 use Rattle.stack_steps.proofs.FormatMet.{format_met}
-use Rattle.stack_steps.proofs.MetFrames.{Met, met}
+use Rattle.stack_steps.proofs.MetFrames.{IsDescribedCall, Met, met}
 use Rattle.stack_deliver.proofs.TabledEnds.{tabled_end, recorded_end}
-use Rattle.stack_walks.proofs.TurnLines.{stop_at}
-use Rattle.stack_walks.proofs.TurnCounts.{met_beyond}
-
-abbrev pub action_in : State → Call → Action
-action_in s k = action_at k.callee (s.ra - 1)
-
-module _ (space : SpaceValue) (c : Context) (s : State) (k : Call) (m : Met space c s k) (shows : Shows (columns_of c) s) (small : s.sp < 2 ^ 64) where
-  -- a frame without arguments is entered with its own registers
-  past_same : past_arguments c (arguments_of m.frame) ≡ c
-  past_same =
-      let e : columns_of c 7 ≡ Some s.sp = shows.sp in
-      let sp : get_or c.registers 7 0 ≡ s.sp = cc in
-      let none : arguments_of m.frame ≡ 0 = m.no_arguments in
-      let v : (get_or c.registers 7 0 + arguments_of m.frame) % 2 ^ 64 ≡ get_or c.registers 7 0 = omega arith in
-      ap (λ (n : ℕ). record c { registers = set c.registers 7 n }) v ∙ ap (λ (registers : List ℕ). record c { registers = registers }) (set-get_or c.registers 7 0)
-
-  pub met_stops : (p : Phase) → stops p (action_in s k) ≡ true → turn_of p space c false ≡ Ok (Stops (action_in s k) c)
-  unfolding turn_for
-  met_stops p asks = rw (m.framed, m.asks, asks, past_same) refl
-
-  pub met_goes : (p : Phase) → stops p (action_in s k) ≡ false → turn_of p space c false ≡ Ok (Goes m.next)
-  unfolding turn_for
-  met_goes p asks = rw (m.framed, m.asks, asks, m.called) refl
-
-  -- a pass that stops there
-  pub pass_stops_at : (p : Phase) (room : ℕ) → 0 < room → stops p (action_in s k) ≡ true → pass_of p space room c false ≡ Ok (record { contexts = c ∷ []; stop = Some (stop_at c false (action_in s k) c) })
-  pass_stops_at p zero some asks = absurd (omega arith)
-  pass_stops_at p (suc n) some asks = rw (met_stops p asks) refl
-
-  -- a pass that goes on there
-  pub pass_goes_on : (p : Phase) (room : ℕ) → 0 < room → stops p (action_in s k) ≡ false → pass_of p space room c false ≡ with_context c (pass_of p space (room - 1) m.next.context false)
-  pass_goes_on p zero some asks = absurd (omega arith)
-  pass_goes_on p (suc n) some asks = let less : suc n - 1 ≡ n = omega arith in rw (less, met_goes p asks, m.unmarked) refl
-
-  -- and meets one context more than from there on
-  pub met_goes_on : (p : Phase) (room : ℕ) → 0 < room → stops p (action_in s k) ≡ false → contexts_met (Some p) space room c false ≡ suc (contexts_met (Some p) space (room - 1) m.next.context false)
-  met_goes_on p room some asks =
-      met_beyond (Some p) space room (room - 1) c false m.next (omega arith) (met_goes p asks)
-      ∙ ap (λ (marked : Bool). suc (contexts_met (Some p) space (room - 1) m.next.context marked)) m.unmarked
 
 -- ---- the end of the stack
 
@@ -185,6 +143,3 @@ module _ (c : Context) (s : State) (exception pad : ℕ) (shows : Shows (columns
 
   pub entered_rdx : IsWhole c → get_or (enters c exception pad).registers 1 0 ≡ 0
   entered_rdx whole = let long : length (set c.registers 0 exception) ≡ length c.registers = length-set c.registers 0 exception in get_or-set_same (set c.registers 0 exception) 1 0 0 (omega arith)
-
-  pub entered_whole : IsWhole c → IsWhole (enters c exception pad)
-  entered_whole whole = length-set (set c.registers 0 exception) 1 0 ∙ length-set c.registers 0 exception ∙ whole

@@ -3,14 +3,13 @@ use Rattle.std.specs.Prelude.{◌≡◌, ℕ, ◌<◌, List, length, Result, Ok,
 use Rattle.unwind_definitions.specs.State.{State}
 use Rattle.unwind_definitions.specs.Function.{Function}
 use Rattle.unwind_definitions.specs.Chain.{Call}
-use Rattle.unwind_definitions.specs.Valid.{IsValid}
 use Rattle.format_definitions.specs.FormatValid.{IsFormatValid}
 use Rattle.unwind_arch.specs.declared.x86_64.Context.{Context}
 use Rattle.unwind_arch.specs.ContextViews.{columns_of}
 use Rattle.stack_deliver.specs.declared.answers.Ending.{Ending}
 use Rattle.stack_steps.specs.declared.answers.DeliverError.{DeliverError}
-use Rattle.stack_steps.specs.Modules.{AreElf, SpaceValue}
-use Rattle.stack_steps.specs.SpaceViews.{process_of, formats_of}
+use Rattle.stack_steps.specs.Modules.{SpaceValue}
+use Rattle.stack_steps.specs.SpaceViews.{formats_of}
 use Rattle.stack_deliver.specs.StackDelivery.{DeliveryValue}
 use Rattle.stack_deliver.specs.StateViews.{delivery_shown}
 use Rattle.unwind_definitions.specs.Delivery as described
@@ -25,15 +24,10 @@ abbrev pub IsDelivered : Result Ending DeliverError → RoomValue → Result Del
 IsDelivered (Ok ending) room due = due ≡ Ok (delivery_in room ending)
 IsDelivered (Err e) room due = due ≡ Err e
 
--- A delivery starts in a chain that the modules describe, with room for its states: every module is an ELF module and describes its part
--- of the functions, and where a handler takes the exception, the resume table says where each frame inside it goes on after its cleanup.
+-- A delivery starts in a chain that the modules describe, with room for its states: every module, of whatever format each is, describes
+-- its part of the functions by the data of its format, and where a handler takes the exception, the resume table says where each frame
+-- inside it goes on after its cleanup.
 pub record StartsValidChain (space : SpaceValue) (c : Context) (resumes : List (ℕ × ℕ)) (limit : ℕ) (functions : List Function) (s : State) (calls : List Call) : Type 0 where
-  pub valid : IsValid (process_of space) (columns_of c) resumes functions s calls
-  pub elf : AreElf space.modules
-  pub shorter : length calls < limit
-
--- The same where modules are of whatever format each: every module describes its part of the functions by the data of its format.
-pub record StartsValidFormatChain (space : SpaceValue) (c : Context) (resumes : List (ℕ × ℕ)) (limit : ℕ) (functions : List Function) (s : State) (calls : List Call) : Type 0 where
   pub valid : IsFormatValid space.image (formats_of space) (columns_of c) resumes functions s calls
   pub shorter : length calls < limit
 

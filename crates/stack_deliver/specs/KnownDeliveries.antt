@@ -27,11 +27,13 @@ module _ (space : SpaceValue) where
   AsksThere s t (inl known) action arguments = AsksAt (process_of space) (s.ra - 1) known.0 known.1.said action arguments
   AsksThere s t (inr described) action arguments = (action ≡ action_at described.call.callee (s.ra - 1)) × (arguments ≡ 0)
 
-  -- the frames of a stack ask this, the innermost first; the outermost state of a stack is in no frame
+  -- The frames of a stack ask this, the innermost first; the outermost state of a stack is in no frame. No exception is delivered
+  -- through a signal's frame: a stack with one asks nothing.
   abbrev pub AreAsked : (s : State) (callers : List State) → IsKnownStack space false s callers → List AskedFrame → Type 0
   AreAsked s [] stack frames = frames ≡ []
   AreAsked s (t ∷ callers) stack [] = ⊥
-  AreAsked s (t ∷ callers) stack (f ∷ frames) = (f.state ≡ s) × AsksThere s t stack.0 f.action f.arguments × AreAsked t callers stack.1 frames
+  AreAsked s (t ∷ callers) (inl link, outer) (f ∷ frames) = (f.state ≡ s) × AsksThere s t link f.action f.arguments × AreAsked t callers outer frames
+  AreAsked s (t ∷ callers) (inr signal, outer) (f ∷ frames) = ⊥
 
   -- ---- resuming after a cleanup
 
@@ -54,7 +56,7 @@ module _ (space : SpaceValue) where
 
 -- ---- deliveries
 
--- A delivery starts at such a stack, with room for its states: a context shows the innermost state, the frames ask this, and where a
+-- A delivery starts at such a stack without a signal's frame, with room for its states: a context shows the innermost state, the frames ask this, and where a
 -- handler takes the exception, the resume table says where each frame inside its frame goes on after its cleanup.
 pub record StartsKnownDelivery (space : SpaceValue) (c : Context) (resumes : List (ℕ × ℕ)) (limit : ℕ) (s : State) (callers : List State) (frames : List AskedFrame) : Type 0 where
   pub starts : StartsKnownStack space c limit false s callers

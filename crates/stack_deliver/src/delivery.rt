@@ -10,8 +10,8 @@ ghost use Rattle.stack_deliver.specs.Searches.{HasOneHeader, met_in_delivery};
 ghost use Rattle.stack_walks.specs.Lines.{GivesUnlessNoMemory};
 ghost use Rattle.stack_deliver.specs.StackDelivery.{stack_delivery};
 ghost use Rattle.stack_steps.specs.Ticking.{RisesWithin};
-ghost use Rattle.stack_deliver.specs.Delivering.{StartsValidChain, StartsValidFormatChain};
-ghost use Rattle.stack_deliver.specs.Delivering.{ShowsDelivery, IsDelivered, delivery_in};
+ghost use Rattle.stack_deliver.specs.Delivering.{StartsValidChain, ShowsDelivery, IsDelivered};
+ghost use Rattle.stack_deliver.specs.Delivering.{delivery_in};
 ghost use Rattle.frame_facts.specs.FactDeliveries.{AskedFrame};
 ghost use Rattle.stack_deliver.specs.KnownDeliveries.{StartsKnownDelivery, ShowsKnownDelivery};
 
@@ -20,15 +20,15 @@ use crate::passes::passes;
 use crate::resumes::Resumes;
 use eh_frame::RowRoom;
 use memory_image::{Ledger, NoLedger, Steps};
-use stack_steps::{DeliverError, Space, Stepped};
-use stack_walks::{Phase, Room, outwards};
+use stack_steps::{DeliverError, GrownSpace, Space, Stepped};
+use stack_walks::{Phase, Room, outwards_over};
 use std::alloc::Global;
 use unwind_arch::x86_64::Context;
 
 /// The search for a handler, and where a frame takes the exception the passes toward it.
 #[tactic(auto, unfolding(crate::specs::StackDelivery::stack_delivery))]
-fn delivery_in_room<L: Ledger>(
-    space: &Space<'_>,
+fn delivery_in_room<'t, 'a, L: Ledger>(
+    space: &GrownSpace<'_, 't, 'a>,
     start: Context,
     exception: u64,
     resumes: &Resumes,
@@ -36,6 +36,8 @@ fn delivery_in_room<L: Ledger>(
     room: &mut Room,
     steps: &mut Steps<L>,
 ) -> Result<Ending, DeliverError>
+where
+    't: 'a,
     requires within { limit ≤ room.old.limit }
     requires empty { (room.old.visited ≡ []) × (room.old.trail ≡ []) }
     ensures exact { IsDelivered result room.new
@@ -51,7 +53,7 @@ fn delivery_in_room<L: Ledger>(
         signal: false,
     };
     let phase = Some(Phase::Search);
-    let Some(stop) = outwards(phase, space, &mut state, limit, room, &mut rows, steps)? else {
+    let Some(stop) = outwards_over(phase, space, &mut state, limit, room, &mut rows, steps)? else {
         return Ok(without_landing(Outcome::EndOfStack));
     };
     if stop.pad().is_none() {
@@ -71,8 +73,8 @@ fn delivery_in_room<L: Ledger>(
 }
 
 /// The same in a room that is emptied first, and after an error again.
-fn fresh_delivery<L: Ledger>(
-    space: &Space<'_>,
+fn fresh_delivery<'t, 'a, L: Ledger>(
+    space: &GrownSpace<'_, 't, 'a>,
     start: Context,
     exception: u64,
     resumes: &Resumes,
@@ -80,6 +82,8 @@ fn fresh_delivery<L: Ledger>(
     room: &mut Room,
     steps: &mut Steps<L>,
 ) -> Result<Ending, DeliverError>
+where
+    't: 'a,
     requires { limit ≤ room.old.limit }
     ensures exact { IsDelivered result room.new
         (stack_delivery space.now start exception resumes.now limit) }
@@ -136,10 +140,11 @@ fn without_landing(outcome: Outcome) -> Ending
 ///   no entry for a cleanup's pad.
 /// - `Unmapped` and `Table` as in a step, and `Unmapped` where the cell that names the personality
 ///   isn't wholly mapped.
-/// - `MachO`, `CompactForm`, `PeInfo` and `ChainLimit` as in a step; `MachO` also where the
-///   personality that the opcode of a Mach-O frame names isn't listed, or the list of language tables
-///   can't be read there, and the last two where the records of a PE frame can't be read up to one that
-///   names a handler, or that handler's bytes are missing.
+/// - `MachO`, `CompactForm`, `PeInfo` and `ChainLimit` as in a step. `MachO` also where the opcode of
+///   a Mach-O frame names a personality and its section's personalities can't be read or lack that
+///   one, or the list of language tables can't be read. `PeInfo` also where a record of a PE frame, up
+///   to one that names a handler, can't be read, or that handler's bytes are missing; `ChainLimit`
+///   also where more than 32 records are chained up to it.
 pub fn deliver_into<L: Ledger>(
     space: &Space<'_>,
     start: &Context,
@@ -166,13 +171,10 @@ pub fn deliver_into<L: Ledger>(
         IsRefused space.now start.now exception resumes.now limit error }
     ensures ended { (outcome : Outcome) → IsOkAnd result (λ ending. ending.outcome ≡ outcome) ↔
         EndsBy space.now start.now exception resumes.now limit outcome }
-    // What is delivered to a valid chain is what the definition says of the chain.
+    // What is delivered to a valid chain, through modules of whatever format, is what the definition
+    // says of the chain.
     ensures chain { (functions : List Function) (s : State) (calls : List Call) →
         StartsValidChain space.now start.now resumes.now limit functions s calls →
-        IsOkAnd result (λ ending. ShowsDelivery (delivery_in room.new ending) exception s calls) }
-    // So it is where the chain goes through modules of whatever format.
-    ensures chain_in { (functions : List Function) (s : State) (calls : List Call) →
-        StartsValidFormatChain space.now start.now resumes.now limit functions s calls →
         IsOkAnd result (λ ending. ShowsDelivery (delivery_in room.new ending) exception s calls) }
     // What is delivered to a stack of each of whose frames it is known how its caller's state
     // follows and what its language asks is what the definition says of these frames. In an ELF
@@ -195,10 +197,6 @@ pub fn deliver_into<L: Ledger>(
         StartsValidChain space.now start.now resumes.now limit functions s calls →
         RisesWithin space.now (2 * length room.new.visited + length room.new.trail)
         steps.old.number steps.new.number }
-    ensures chain_searches_in { (functions : List Function) (s : State) (calls : List Call) →
-        StartsValidFormatChain space.now start.now resumes.now limit functions s calls →
-        RisesWithin space.now (2 * length room.new.visited + length room.new.trail)
-        steps.old.number steps.new.number }
     ensures known_searches { (s : State) (callers : List State) (frames : List AskedFrame) →
         StartsKnownDelivery space.now start.now resumes.now limit s callers frames →
         RisesWithin space.now (2 * length room.new.visited + length room.new.trail)
@@ -214,6 +212,48 @@ pub fn deliver_into<L: Ledger>(
 {
     // It is for languages that tell their own exceptions from those of others.
     let _ = class;
+    // No two of its modules share an address, as a space's type says.
+    let _ = space.image();
+    let own = space.over_own_image();
+    fresh_delivery(&own, *start, exception, resumes, limit, room, steps)
+}
+
+/// Delivers an exception as [`deliver_into`] does, over a space that is seen over an image which has
+/// grown: so one space serves stack after stack, each added to an image of its own.
+///
+/// # Errors
+///
+/// Those of [`deliver_into`]; the room is then empty.
+pub fn deliver_over<'t, 'a, L: Ledger>(
+    space: &GrownSpace<'_, 't, 'a>,
+    start: &Context,
+    exception: u64,
+    resumes: &Resumes,
+    limit: u32,
+    room: &mut Room,
+    steps: &mut Steps<L>,
+) -> Result<Ending, DeliverError>
+where
+    't: 'a,
+    requires { limit ≤ room.old.limit }
+    // The room's states and cleanups and the ending are the delivery, and an error is its first
+    // fault.
+    ensures exact { IsDelivered result room.new
+        (stack_delivery space.now start.now exception resumes.now limit) }
+    ensures emptied { OnErr result ((room.new.visited ≡ []) × (room.new.trail ≡ [])) }
+    ensures places { room.new.limit ≡ room.old.limit }
+    ensures takes_no_memory { result ≢ Err DeliverError.NoMemory }
+    // What is delivered to a stack of each of whose frames it is known how its caller's state
+    // follows and what its language asks is what the definition says of these frames.
+    ensures known { (s : State) (callers : List State) (frames : List AskedFrame) →
+        StartsKnownDelivery space.now start.now resumes.now limit s callers frames →
+        IsOkAnd result
+        (λ ending. ShowsKnownDelivery (delivery_in room.new ending) exception s callers frames) }
+    // Each state that the search or a pass meets is searched for at most once.
+    ensures searches { RisesWithin space.now
+        (met_in_delivery space.now start.now exception resumes.now limit)
+        steps.old.number steps.new.number }
+{
     // No two of its modules share an address, as a space's type says.
     let _ = space.image();
     fresh_delivery(space, *start, exception, resumes, limit, room, steps)
@@ -253,14 +293,10 @@ pub fn deliver(
         EndsBy space.now start.now exception resumes.now limit outcome →
         (result ≡ Err DeliverError.NoMemory) ⊎
         IsOkAnd result (λ delivery. delivery.outcome ≡ outcome) }
-    // What is delivered to a valid chain is what the definition says of the chain.
+    // What is delivered to a valid chain, through modules of whatever format, is what the definition
+    // says of the chain.
     ensures chain { (functions : List Function) (s : State) (calls : List Call) →
         StartsValidChain space.now start.now resumes.now limit functions s calls →
-        (result ≡ Err DeliverError.NoMemory) ⊎
-        IsOkAnd result (λ delivery. ShowsDelivery delivery exception s calls) }
-    // So it is where the chain goes through modules of whatever format.
-    ensures chain_in { (functions : List Function) (s : State) (calls : List Call) →
-        StartsValidFormatChain space.now start.now resumes.now limit functions s calls →
         (result ≡ Err DeliverError.NoMemory) ⊎
         IsOkAnd result (λ delivery. ShowsDelivery delivery exception s calls) }
     // What is delivered to a stack that is known frame by frame, with what its frames ask, is what

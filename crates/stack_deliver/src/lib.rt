@@ -40,7 +40,7 @@ mod passes;
 mod resumes;
 
 pub use answers::{Delivery, Ending, Outcome};
-pub use delivery::{deliver, deliver_into};
+pub use delivery::{deliver, deliver_into, deliver_over};
 pub use eh_frame::Error;
 pub use fde_finders::{FrameInfo, FrameInfoKind};
 pub use resumes::{Resumes, first_entry_counts};

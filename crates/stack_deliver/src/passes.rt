@@ -17,8 +17,8 @@ use crate::answers::{Ending, Outcome};
 use crate::resumes::Resumes;
 use eh_frame::RowRoom;
 use memory_image::{Ledger, Steps};
-use stack_steps::{DeliverError, Space, Stepped};
-use stack_walks::{Phase, Room, Stop, Trail, outwards};
+use stack_steps::{DeliverError, GrownSpace, Stepped};
+use stack_walks::{Phase, Room, Stop, Trail, outwards_over};
 use unwind_arch::x86_64::{Context, RSP};
 
 /// How a cleanup pass ends.
@@ -54,8 +54,8 @@ fn pass_end(stop: &Stop, exception: u64, kept: u64) -> Pass
 }
 
 /// A cleanup pass toward the frame with the kept mark.
-fn cleanup<'a, L: Ledger>(
-    space: &Space<'a>,
+fn cleanup<'t, 'a, L: Ledger>(
+    space: &GrownSpace<'_, 't, 'a>,
     start: &Context,
     exception: u64,
     kept: u64,
@@ -64,6 +64,8 @@ fn cleanup<'a, L: Ledger>(
     rows: &mut RowRoom<'a>,
     steps: &mut Steps<L>,
 ) -> Result<Pass, DeliverError>
+where
+    't: 'a,
     requires within { limit ≤ room.old.limit }
     ensures exact { result_map end_shown result ≡ cleanup_of space.now exception kept limit
         start.now }
@@ -77,7 +79,7 @@ fn cleanup<'a, L: Ledger>(
         signal: false,
     };
     let phase = Some(Phase::Cleanup);
-    match outwards(phase, space, &mut state, limit, room, rows, steps)? {
+    match outwards_over(phase, space, &mut state, limit, room, rows, steps)? {
         None => Ok(Pass::Finished(FATAL)),
         Some(stop) => Ok(pass_end(&stop, exception, kept)),
     }
@@ -118,8 +120,8 @@ fn resume(
 
 /// The cleanup passes from the start on, each but the first from after the cleanup before it, until
 /// one enters the handler of the frame with the kept mark or ends the program.
-pub(crate) fn passes<'a, L: Ledger>(
-    space: &Space<'a>,
+pub(crate) fn passes<'t, 'a, L: Ledger>(
+    space: &GrownSpace<'_, 't, 'a>,
     start: &Context,
     exception: u64,
     kept: u64,
@@ -129,6 +131,8 @@ pub(crate) fn passes<'a, L: Ledger>(
     rows: &mut RowRoom<'a>,
     steps: &mut Steps<L>,
 ) -> Result<Ending, DeliverError>
+where
+    't: 'a,
     requires within { limit ≤ room.old.limit }
     requires empty { room.old.trail ≡ [] }
     ensures exact { GivesCleanupsRun result room.new
