@@ -8,7 +8,7 @@ use Rattle.unwind_definitions.specs.State.{State}
 use Rattle.unwind_definitions.specs.Function.{Function}
 use Rattle.unwind_definitions.specs.Chain.{Call, states_of}
 use Rattle.stack_steps.specs.Modules.{SpaceValue, AreApart}
-use Rattle.stack_steps.specs.Stopped.{StartsFormatStop}
+use Rattle.stack_steps.specs.Stopped.{StartsStopped}
 use Rattle.stack_steps.specs.declared.answers.DeliverError.{DeliverError}
 use Rattle.stack_walks.specs.Lines.{line_of}
 use Rattle.stack_walks.proofs.StoppedWalk.{stopped_walked}
@@ -20,7 +20,7 @@ use Rattle.core_walks.specs.Lines.{walked_text, thread_text, threads_text, core_
 
 -- a thread that was stopped in a described function
 stopped_is : (space : SpaceValue) (limit index : ℕ) (thread : Context) (functions : List Function) (s : State) (call : Call) (calls : List Call) → AreApart 0 space.modules → IsLaidOut 0 space.image
-    → StartsFormatStop space thread limit functions s call calls → thread_text space limit index thread ≡ stopped_text index s (call ∷ calls)
+    → StartsStopped space thread limit functions s call calls → thread_text space limit index thread ≡ stopped_text index s (call ∷ calls)
 unfolding thread_text
 stopped_is space limit index thread functions s call calls apart laid starts =
     let w = stopped_walked space functions s call calls thread apart laid limit starts in
@@ -73,7 +73,7 @@ placed c index thread lines at is =
     ∙ ap (λ t. text_before c index ++ t ++ text_after c index) is
 
 pub stopped_place : (c : CoreContent) (index : ℕ) (thread : Context) (functions : List Function) (s : State) (call : Call) (calls : List Call) → AreApart 0 (core_space_of c).modules → IsLaidOut 0 (core_space_of c).image
-    → slice_get (threads_of c.file) index ≡ Some thread → StartsFormatStop (core_space_of c) thread c.limit functions s call calls → core_report_of c ≡ text_before c index ++ stopped_text index s (call ∷ calls) ++ text_after c index
+    → slice_get (threads_of c.file) index ≡ Some thread → StartsStopped (core_space_of c) thread c.limit functions s call calls → core_report_of c ≡ text_before c index ++ stopped_text index s (call ∷ calls) ++ text_after c index
 stopped_place c index thread functions s call calls apart laid at starts = placed c index thread (stopped_text index s (call ∷ calls)) at (stopped_is (core_space_of c) c.limit index thread functions s call calls apart laid starts)
 
 -- the texts so far and those of what is left

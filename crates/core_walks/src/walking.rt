@@ -13,7 +13,7 @@ ghost use Rattle.unwind_definitions.specs.State.{State};
 ghost use Rattle.unwind_definitions.specs.Function.{Function};
 ghost use Rattle.unwind_definitions.specs.Chain.{Call};
 ghost use Rattle.stack_steps.specs.Modules.{AreApart};
-ghost use Rattle.stack_steps.specs.Stopped.{StartsFormatStop};
+ghost use Rattle.stack_steps.specs.Stopped.{StartsStopped};
 ghost use Rattle.stack_walks.specs.KnownWalks.{StartsKnownStack};
 
 use core_file::Threads;
@@ -106,12 +106,13 @@ pub fn core_report_of(alloc: Global, snapshot: &CoreSnapshot) -> Result<Report, 
     ensures stopped { IfOk result (λ report. (index : ℕ) (thread : Context)
         (functions : List Function) (s : State) (call : Call) (calls : List Call) →
         slice_get (threads_of snapshot.now.file) index ≡ Some thread →
-        StartsFormatStop (core_space_of snapshot.now) thread snapshot.now.limit functions s call
+        StartsStopped (core_space_of snapshot.now) thread snapshot.now.limit functions s call
         calls →
         report ≡ text_before snapshot.now index ++ stopped_text index s (call ∷ calls)
         ++ text_after snapshot.now index) }
     // Where it begins a stack of each of whose frames it is known how its caller's state follows, in
-    // an ELF module by facts that its tables say, at any address, they are those of the stack.
+    // an ELF module by facts that its tables say, at any address, and through a signal's frame to the
+    // state that was interrupted, they are those of the stack.
     ensures known { IfOk result (λ report. (index : ℕ) (thread : Context) (s : State)
         (callers : List State) →
         slice_get (threads_of snapshot.now.file) index ≡ Some thread →

@@ -9,9 +9,9 @@ use Rattle.unwind_definitions.specs.Chain.{Call, states_of}
 use Rattle.unwind_arch.specs.declared.x86_64.Context.{Context}
 use Rattle.stack_steps.specs.declared.answers.DeliverError.{DeliverError}
 use Rattle.stack_steps.specs.Modules.{SpaceValue, AreApart}
-use Rattle.stack_steps.specs.Stopped.{StartsFormatStop}
+use Rattle.stack_steps.specs.Stopped.{StartsStopped}
 use Rattle.stack_walks.specs.Lines.{line_of}
-use Rattle.stack_walks.specs.Walking.{EachShows, StartsFormatChain}
+use Rattle.stack_walks.specs.Walking.{EachShows, StartsChain}
 use Rattle.stack_walks.proofs.ChainWalked.{chain_walked}
 use Rattle.stack_walks.proofs.StoppedWalk.{stopped_walked}
 use Rattle.folded_stacks.specs.declared.samples.Sample.{Sample}
@@ -41,13 +41,13 @@ unfolding walked_stack
 refused_by space limit s e is = rw is refl
 
 pub chain_stacked : (space : SpaceValue) (limit : ℕ) (sample : Sample) (functions : List Function) (s : State) (calls : List Call) → AreApart 0 space.modules → IsLaidOut 0 space.image
-    → StartsFormatChain space sample.start limit functions s calls → sample.interrupted ≡ false → walked_stack space limit sample ≡ Some (chain_stack s calls)
+    → StartsChain space sample.start limit functions s calls → sample.interrupted ≡ false → walked_stack space limit sample ≡ Some (chain_stack s calls)
 chain_stacked space limit sample functions s calls apart laid starts called =
     let w = chain_walked space sample.start limit functions s calls apart laid starts in
     walked_by space limit sample w.0 (rw called w.1) ∙ ap Some (stack_is w.0 (states_of s calls) w.2.states)
 
 pub stop_stacked : (space : SpaceValue) (limit : ℕ) (sample : Sample) (functions : List Function) (s : State) (call : Call) (calls : List Call) → AreApart 0 space.modules → IsLaidOut 0 space.image
-    → StartsFormatStop space sample.start limit functions s call calls → sample.interrupted ≡ true → walked_stack space limit sample ≡ Some (chain_stack s (call ∷ calls))
+    → StartsStopped space sample.start limit functions s call calls → sample.interrupted ≡ true → walked_stack space limit sample ≡ Some (chain_stack s (call ∷ calls))
 stop_stacked space limit sample functions s call calls apart laid starts marked =
     let w = stopped_walked space functions s call calls sample.start apart laid limit starts in
     walked_by space limit sample w.0 (rw marked w.1) ∙ ap Some (stack_is w.0 (states_of s (call ∷ calls)) w.2.states)

@@ -16,12 +16,8 @@ use Rattle.folded_stacks.specs.FoldSample.{folded_three, sample_at, three_sample
 use Rattle.folded_stacks.proofs.Walks.{chain_stacked}
 
 pub starts_chain : StartsChain pushing_space (sample_at 0x401006).start 4 (pushing.function ∷ []) pushing.start (after_the_push ∷ [])
-starts_chain = record {
-  described = valid_described (process_of pushing_space) _ _ (pushing.function ∷ []) pushing.start pushing.calls one_valid;
-  elf = (tt, tt);
-  shows = walks_in_body.shows;
-  shorter = lit< tt;
-}
+starts_chain = elf_starts pushing_space (pushing.function ∷ []) (tt, tt) pushing.start pushing.calls (valid_described (process_of pushing_space) _ _ (pushing.function ∷ []) pushing.start pushing.calls one_valid) (stopped_at 0x401006) 4
+    walks_in_body.shows (lit< tt)
 
 pub laid_out : IsLaidOut 0 pushing_space.image
 laid_out = (lit≤ tt, lit< tt, lit≤ tt, (lit≤ tt, lit< tt, lit≤ tt, tt))
@@ -30,8 +26,7 @@ pub apart : AreApart 0 pushing_space.modules
 apart = (lit≤ tt, lit< tt, tt)
 
 pub pushed : walked_stack pushing_space 4 (sample_at 0x401006) ≡ Some (0x401006 ∷ [])
-pushed = chain_stacked pushing_space 4 (sample_at 0x401006) (pushing.function ∷ []) pushing.start (after_the_push ∷ []) apart laid_out
-    (elf_starts pushing_space (stopped_at 0x401006) 4 (pushing.function ∷ []) pushing.start (after_the_push ∷ []) starts_chain) refl
+pushed = chain_stacked pushing_space 4 (sample_at 0x401006) (pushing.function ∷ []) pushing.start (after_the_push ∷ []) apart laid_out starts_chain refl
 
 pub ended : walked_stack pushing_space 4 (sample_at 0) ≡ Some []
 unfolding walked_stack

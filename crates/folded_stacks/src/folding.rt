@@ -6,9 +6,9 @@ ghost use Rattle.std.specs.List.{Contains};
 ghost use Rattle.unwind_definitions.specs.State.{State};
 ghost use Rattle.unwind_definitions.specs.Function.{Function};
 ghost use Rattle.unwind_definitions.specs.Chain.{Call};
-ghost use Rattle.stack_steps.specs.Stopped.{StartsStopped, StartsFormatStop};
+ghost use Rattle.stack_steps.specs.Stopped.{StartsStopped};
 ghost use Rattle.stack_walks.specs.KnownWalks.{StartsKnownStack};
-ghost use Rattle.stack_walks.specs.Walking.{StartsChain, StartsFormatChain};
+ghost use Rattle.stack_walks.specs.Walking.{StartsChain};
 ghost use Rattle.folded_stacks.specs.declared.folding.FoldError.TheVariants.{NoMemory};
 ghost use Rattle.folded_stacks.specs.declared.samples.Sample.{Sample};
 ghost use Rattle.folded_stacks.specs.Counts.{HasStack, IsFolded};
@@ -187,16 +187,16 @@ pub fn fold(
     // Each sample counts once.
     ensures adds_up { IfOk result (λ folded.
         sum_by (λ line. line.count) folded.lines + folded.refused ≡ length samples.now) }
-    // A sample that begins a described chain for which the limit has room is accepted, and its stack
-    // is the return addresses of the chain, the outermost first.
+    // A sample that begins a described chain, through modules of whatever format, for which the limit
+    // has room is accepted, and its stack is the return addresses of the chain, the outermost first.
     ensures chain { (sample : Sample) (functions : List Function) (s : State) (calls : List Call) →
         Contains samples.now sample →
         StartsChain space.now sample.start limit functions s calls →
         IsFalse sample.interrupted →
         (walked_stack space.now limit sample ≡ Some (chain_stack s calls)) ×
         IfOk result (λ folded. HasStack folded.lines (chain_stack s calls)) }
-    // So is one that is stopped at any instruction of the prologue or the body of a function, whose
-    // caller begins such a chain.
+    // So is one that was stopped in the body of a function, in its prologue where it is of an ELF or a
+    // PE module, or in an epilog where it is of a PE module, and whose caller begins such a chain.
     ensures stopped { (sample : Sample) (functions : List Function) (s : State) (call : Call)
         (calls : List Call) →
         Contains samples.now sample →
@@ -204,23 +204,9 @@ pub fn fold(
         IsTrue sample.interrupted →
         (walked_stack space.now limit sample ≡ Some (chain_stack s (call ∷ calls))) ×
         IfOk result (λ folded. HasStack folded.lines (chain_stack s (call ∷ calls))) }
-    // The same through modules of whatever format.
-    ensures chain_in { (sample : Sample) (functions : List Function) (s : State)
-        (calls : List Call) →
-        Contains samples.now sample →
-        StartsFormatChain space.now sample.start limit functions s calls →
-        IsFalse sample.interrupted →
-        (walked_stack space.now limit sample ≡ Some (chain_stack s calls)) ×
-        IfOk result (λ folded. HasStack folded.lines (chain_stack s calls)) }
-    ensures stopped_in { (sample : Sample) (functions : List Function) (s : State) (call : Call)
-        (calls : List Call) →
-        Contains samples.now sample →
-        StartsFormatStop space.now sample.start limit functions s call calls →
-        IsTrue sample.interrupted →
-        (walked_stack space.now limit sample ≡ Some (chain_stack s (call ∷ calls))) ×
-        IfOk result (λ folded. HasStack folded.lines (chain_stack s (call ∷ calls))) }
     // So is one that begins a stack of each of whose frames it is known how its caller's state
-    // follows, in an ELF module by facts that its tables say, at any address.
+    // follows, in an ELF module by facts that its tables say, at any address, and through a signal's
+    // frame to the state that was interrupted.
     ensures known { (sample : Sample) (s : State) (callers : List State) →
         Contains samples.now sample →
         StartsKnownStack space.now sample.start limit sample.interrupted s callers →

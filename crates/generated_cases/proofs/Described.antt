@@ -7,6 +7,7 @@ use Rattle.unwind_definitions.specs.Valid.{IsValid}
 use Rattle.unwind_arch.specs.ContextViews.{columns_of}
 use Rattle.stack_steps.specs.SpaceViews.{process_of}
 use Rattle.stack_deliver.specs.Resumes.{resume_table}
+use Rattle.stack_deliver.proofs.ElfDeliveries.{elf_starts_valid}
 use Rattle.generated_chains.specs.declared.outline.Outline.{Outline}
 use Rattle.generated_chains.specs.declared.stack.Registers.{Registers}
 use Rattle.generated_chains.specs.declared.chain.Chain.{Chain}
@@ -100,8 +101,7 @@ module _ (c : Chain) (count seed : ℕ) (some : 0 < count) (few : count ≤ 1000
       let by_table : List (ℕ × ℕ) → Type 0 = λ rs. IsValid (made.process_of by_header c count) (columns_of (context_in c.innermost)) rs (functions_of os) (state_of seed os) (calls_of seed os) in
       let w = subst by_table (is_made.resumes ∙ sym resumes_made) v in
       let in_process : Process → Type 0 = λ p. IsValid p (columns_of (context_in c.innermost)) (resume_table c.resumes.items) (functions_of os) (state_of seed os) (calls_of seed os) in
-      record {
-        valid = subst in_process (sym process_is) w;
-        elf = (tt, tt);
-        shorter = let n = length-calls seed os in let m = length-outlines seed 0 count in omega arith;
-      }
+      let n = length-calls seed os in
+      let m = length-outlines seed 0 count in
+      elf_starts_valid (space_of (content_with c count)) (functions_of os) (state_of seed os) (resume_table c.resumes.items) (calls_of seed os) (columns_of (context_in c.innermost)) (tt, tt) (subst in_process (sym process_is) w)
+      (context_in c.innermost) (count + 1) (w.shows) (omega arith)

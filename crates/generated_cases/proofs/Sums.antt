@@ -46,6 +46,5 @@ pub starts_chain : (s : Content) (space : SpaceValue) (start : Context) (resumes
     → DescribesChain s functions state calls → StartsValidChain space start resumes limit functions state calls
 starts_chain s space start resumes limit functions state calls image modules at by most described = record {
   valid = rw (image, modules, at, by) described.valid;
-  elf = rw modules described.elf;
   shorter = rw most described.shorter;
 }

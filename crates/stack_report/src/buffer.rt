@@ -37,6 +37,13 @@ impl Report {
         }
     }
 
+    /// Lets go of the text, and keeps its memory for another one.
+    pub fn clear(&mut self)
+        ensures { self.new ≡ [] }
+    {
+        self.bytes.clear();
+    }
+
     /// The bytes of the text.
     pub fn bytes(&self) -> &[u8]
         ensures { result.now ≡ self.now }

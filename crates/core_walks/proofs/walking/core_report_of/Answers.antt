@@ -3,7 +3,7 @@ use Rattle.unwind_arch.specs.declared.x86_64.Context.{Context}
 use Rattle.unwind_definitions.specs.State.{State}
 use Rattle.unwind_definitions.specs.Function.{Function}
 use Rattle.unwind_definitions.specs.Chain.{Call}
-use Rattle.stack_steps.specs.Stopped.{StartsFormatStop}
+use Rattle.stack_steps.specs.Stopped.{StartsStopped}
 use Rattle.core_file.specs.Left.{threads_left}
 use Rattle.stack_snapshot.specs.Cores.{core_space_of, threads_of}
 use Rattle.core_walks.specs.Lines.{threads_text, core_report_of, stopped_text, text_before, text_after}
@@ -25,7 +25,7 @@ pub returns-clause-stopped : goal.returns-clause-stopped
 returns-clause-stopped c =
     let s = c.args.snapshot.now in
     let Stopped : List ℕ → Type 0 = λ report. (index : ℕ) (thread : Context) (functions : List Function) (start : State) (call : Call) (calls : List Call) → slice_get (threads_of s.file) index ≡ Some thread
-    → StartsFormatStop (core_space_of s) thread s.limit functions start call calls → report ≡ text_before s index ++ stopped_text index start (call ∷ calls) ++ text_after s index in
+    → StartsStopped (core_space_of s) thread s.limit functions start call calls → report ≡ text_before s index ++ stopped_text index start (call ∷ calls) ++ text_after s index in
     if_ok_as c.threads_report.result (core_report_of s) Stopped (returns-clause-text c)
     (λ index thread functions start call calls at starts. stopped_place s index thread functions start call calls c.in_ok-space.ensures.apart c.in_ok-space.ensures.laid_out at starts)
 

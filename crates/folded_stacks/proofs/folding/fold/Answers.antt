@@ -1,6 +1,5 @@
 use Rattle.std.proofs.Common.{◌≡◌, rules}
 use Rattle.std.specs.Prelude.{IfOk}
-use Rattle.stack_walks.proofs.ElfChains.{elf_starts, elf_starts_stopped}
 use Rattle.folded_stacks.specs.Folding.{fold_of}
 use Rattle.folded_stacks.proofs.FoldedLines.{lines_folded, refused_folded, stack_folded, total_folded}
 use Rattle.folded_stacks.proofs.KnownStacks.{known_stacked}
@@ -22,25 +21,17 @@ returns-clause-refused c =
     let exact : IfOk c.fold_within.result (λ folded. folded ≡ fold_of c.args.space.now c.args.limit c.args.samples.now) = search rules in
     refused_folded c.fold_within.result c.args.space.now c.args.limit c.args.samples.now exact
 
-pub returns-clause-chain_in : goal.returns-clause-chain_in
-returns-clause-chain_in c = λ sample functions s calls has starts called.
+pub returns-clause-chain : goal.returns-clause-chain
+returns-clause-chain c = λ sample functions s calls has starts called.
     let exact : IfOk c.fold_within.result (λ folded. folded ≡ fold_of c.args.space.now c.args.limit c.args.samples.now) = search rules in
     let stack = chain_stacked c.args.space.now c.args.limit sample functions s calls c.image.ensures.apart c.image.ensures.laid_out starts called in
     (stack, stack_folded c.fold_within.result c.args.space.now c.args.limit c.args.samples.now exact sample _ has stack)
 
-pub returns-clause-stopped_in : goal.returns-clause-stopped_in
-returns-clause-stopped_in c = λ sample functions s call calls has starts marked.
+pub returns-clause-stopped : goal.returns-clause-stopped
+returns-clause-stopped c = λ sample functions s call calls has starts marked.
     let exact : IfOk c.fold_within.result (λ folded. folded ≡ fold_of c.args.space.now c.args.limit c.args.samples.now) = search rules in
     let stack = stop_stacked c.args.space.now c.args.limit sample functions s call calls c.image.ensures.apart c.image.ensures.laid_out starts marked in
     (stack, stack_folded c.fold_within.result c.args.space.now c.args.limit c.args.samples.now exact sample _ has stack)
-
-pub returns-clause-chain : goal.returns-clause-chain
-returns-clause-chain c = λ sample functions s calls has starts called.
-    returns-clause-chain_in c sample functions s calls has (elf_starts c.args.space.now sample.start c.args.limit functions s calls starts) called
-
-pub returns-clause-stopped : goal.returns-clause-stopped
-returns-clause-stopped c = λ sample functions s call calls has starts marked.
-    returns-clause-stopped_in c sample functions s call calls has (elf_starts_stopped c.args.space.now sample.start c.args.limit functions s call calls starts) marked
 
 pub returns-clause-known : goal.returns-clause-known
 returns-clause-known c = λ sample s callers has starts.
