@@ -1,6 +1,6 @@
 //! What the commands share, each of which reads a snapshot whole and writes one answer: the words,
 //! the source's bytes within a limit, what is answered where they are no snapshot, the sink's front
-//! where a write fails, and the status of the run.
+//! where a write fails, the status of the run, and what standard error says of it.
 #![tactic(auto)]
 
 mod answer;
@@ -10,7 +10,7 @@ mod telling;
 mod words;
 
 pub use answer::{Answer, bad_line, fault_answer, read_input, silent_answer, text_answer};
-pub use status::Status;
+pub use status::{Status, end_program};
 pub use streams::{ReadFailure, read_all, write_all};
 pub use telling::tell;
 pub use words::{Words, words_of};
