@@ -24,7 +24,7 @@ use Rattle.stack_steps.proofs.ContextLemmas.{IsWhole}
 use Rattle.stack_steps.proofs.FormatMet.{format_stopped}
 use Rattle.stack_steps.proofs.StepAnswers.{ends_step}
 use Rattle.stack_walks.specs.Fronts.{start_state, front_of, front_of_chain}
-use Rattle.stack_walks.specs.Walking.{StartsFormatChain}
+use Rattle.stack_walks.specs.Walking.{StartsChain}
 use Rattle.stack_walks.proofs.ChainFronts.{chain_comes, stop_comes}
 use Rattle.stack_walks.proofs.ChainWalked.{chain_walked}
 use Rattle.stack_walks.proofs.StoppedWalk.{stopped_walked}
@@ -32,7 +32,7 @@ use Rattle.stack_walks.proofs.FrontAnswers.{line_whole}
 use Rattle.stack_deliver.specs.StateViews.{state_of}
 use Rattle.stack_deliver.proofs.Chains.{shown_state, shown_states}
 use Rattle.stack_snapshot.specs.Content.{Content, space_of}
-use Rattle.stack_snapshot.specs.Described.{DescribesFormatStop, DescribesFormatWalk}
+use Rattle.stack_snapshot.specs.Described.{DescribesStop, DescribesWalk}
 use Rattle.stack_snapshot.specs.Origins.{OriginValue}
 use Rattle.backtrace.specs.declared.words.Options.{Options}
 use Rattle.backtrace.specs.Tracing.{TraceValue, IsNowhere, called_from, is_nowhere, returned_to}
@@ -128,7 +128,7 @@ module _ (s : Content) (apart : AreApart 0 (space_of s).modules) (laid : IsLaidO
   lines_are o origins start calls shown = rw shown refl
 
   -- The trace of a described chain has its states, and the lines are theirs.
-  pub chain_traced : (o : Options) (origins : List OriginValue) (functions : List Function) (start : State) (calls : List Call) → DescribesFormatWalk s functions start calls →
+  pub chain_traced : (o : Options) (origins : List OriginValue) (functions : List Function) (start : State) (calls : List Call) → DescribesWalk s functions start calls →
       (t : TraceValue) × IsTraceOf s t × (text_of o s origins t ≡ chain_text o s origins start calls)
   chain_traced o origins functions start calls is =
       let w = chain_walked (space_of s) s.start s.limit functions start calls apart laid is.1 in
@@ -141,7 +141,7 @@ module _ (s : Content) (apart : AreApart 0 (space_of s).modules) (laid : IsLaidO
       )
 
   -- So has that of a stop in a described function.
-  pub stop_traced : (o : Options) (origins : List OriginValue) (functions : List Function) (start : State) (call : Call) (calls : List Call) → DescribesFormatStop s functions start call calls →
+  pub stop_traced : (o : Options) (origins : List OriginValue) (functions : List Function) (start : State) (call : Call) (calls : List Call) → DescribesStop s functions start call calls →
       (t : TraceValue) × IsTraceOf s t × (text_of o s origins t ≡ chain_text o s origins start (call ∷ calls))
   stop_traced o origins functions start call calls is =
       let w = stopped_walked (space_of s) functions start call calls s.start apart laid s.limit is.1 in
@@ -164,7 +164,7 @@ module _ (s : Content) (apart : AreApart 0 (space_of s).modules) (laid : IsLaidO
       let d = called_caller (space_of s) s.start s.interrupted caller start whole is.nowhere is.entered (begins (space_of s).image (IsUncoveredBy (space_of s).image (formats_of (space_of s))) functions caller calls is.described.chain) is.returns is.shows in
       let short = is.shorter in
       let fewer : length calls < s.limit - 1 = omega arith in
-      let starts : StartsFormatChain (space_of s) d.0 (s.limit - 1) functions caller calls = record { described = is.described; shows = d.2; shorter = fewer } in
+      let starts : StartsChain (space_of s) d.0 (s.limit - 1) functions caller calls = record { described = is.described; shows = d.2; shorter = fewer } in
       let w = chain_walked (space_of s) d.0 (s.limit - 1) functions caller calls apart laid starts in
       let all : front_of (space_of s) (s.limit - 1) d.0 false ≡ w.0 = line_whole (space_of s) (s.limit - 1) (start_state d.0 false) w.0 w.1 in
       let shown : map state_of (front_of (space_of s) (s.limit - 1) d.0 false) ≡ states_of caller calls = rw all (shown_states w.0 (states_of caller calls) w.2.states) in

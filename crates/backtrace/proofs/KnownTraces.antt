@@ -1,10 +1,12 @@
 -- The trace of a snapshot that begins a known stack.
-use Rattle.std.proofs.Common.{◌≡◌, ◌-◌, ◌<◌, false, List, ◌∷◌, length, Some, None, refl, arith}
+use Rattle.std.proofs.Common.{◌≡◌, ℕ, ◌-◌, ◌<◌, Bool, false, List, [], ◌∷◌, length, Some, None, refl, arith}
 use Rattle.std.specs.Prelude.{map}
 use Rattle.memory_image.specs.Image.{IsLaidOut}
 use Rattle.unwind_definitions.specs.State.{State}
-use Rattle.stack_steps.specs.Modules.{AreApart}
+use Rattle.stack_steps.specs.Modules.{SpaceValue, AreApart}
+use Rattle.stack_steps.specs.KnownStacks.{is_by_signal, IsKnownStack}
 use Rattle.stack_steps.proofs.ContextLemmas.{IsWhole}
+use Rattle.stack_walks.specs.declared.front.Front.TheVariants.{Outermost}
 use Rattle.stack_walks.specs.Fronts.{start_state, front_of}
 use Rattle.stack_walks.specs.KnownWalks.{StartsKnownStack, front_of_stack}
 use Rattle.stack_walks.proofs.KnownLines.{called_state, known_walked, known_comes}
@@ -20,20 +22,25 @@ use Rattle.backtrace.specs.Due.{IsTraceOf, text_of}
 use Rattle.backtrace.specs.KnownStacks.{BeginsKnownStack, BeginsByCallToNowhere, stack_text, called_stack_text}
 use Rattle.backtrace.proofs.Chains.{called_caller}
 
+-- where the outermost state returns to
+abbrev pub last_returns : State → List State → ℕ
+last_returns s [] = s.ra
+last_returns s (t ∷ callers) = last_returns t callers
+
 module _ (s : Content) (apart : AreApart 0 (space_of s).modules) (laid : IsLaidOut 0 (space_of s).image) where
   -- of a walk that begins at the start
-  abbrev walked : State → List State → TraceValue
-  walked start callers =
-      record { first = None; states = front_of (space_of s) s.limit s.start s.interrupted; why = front_of_stack (space_of s).modules s.interrupted start callers }
+  abbrev walked : (start : State) (callers : List State) → BeginsKnownStack s start callers → TraceValue
+  walked start callers is =
+      record { first = None; states = front_of (space_of s) s.limit s.start s.interrupted; why = front_of_stack (space_of s) s.interrupted start callers is.starts.stack }
 
-  lines_are : (o : Options) (origins : List OriginValue) (start : State) (callers : List State) → map state_of (front_of (space_of s) s.limit s.start s.interrupted) ≡ start ∷ callers →
-      text_of o s origins (walked start callers) ≡ stack_text o s origins start callers
+  lines_are : (o : Options) (origins : List OriginValue) (start : State) (callers : List State) (is : BeginsKnownStack s start callers) →
+      map state_of (front_of (space_of s) s.limit s.start s.interrupted) ≡ start ∷ callers → text_of o s origins (walked start callers is) ≡ stack_text o s origins start callers is
   unfolding backtrace_text
-  lines_are o origins start callers shown = rw shown refl
+  lines_are o origins start callers is shown = rw shown refl
 
   -- It has the states of the stack, and the lines are theirs.
-  pub stack_traced : (o : Options) (origins : List OriginValue) (start : State) (callers : List State) → BeginsKnownStack s start callers →
-      (t : TraceValue) × IsTraceOf s t × (text_of o s origins t ≡ stack_text o s origins start callers)
+  pub stack_traced : (o : Options) (origins : List OriginValue) (start : State) (callers : List State) (is : BeginsKnownStack s start callers) →
+      (t : TraceValue) × IsTraceOf s t × (text_of o s origins t ≡ stack_text o s origins start callers is)
   stack_traced o origins start callers is =
       let w = known_walked (space_of s) apart laid s.start s.limit s.interrupted start callers is.starts in
       let all : front_of (space_of s) s.limit s.start s.interrupted ≡ w.0 = line_whole (space_of s) s.limit (start_state s.start s.interrupted) w.0 w.1 in
@@ -41,14 +48,14 @@ module _ (s : Content) (apart : AreApart 0 (space_of s).modules) (laid : IsLaidO
       let why = known_comes (space_of s) apart laid s.start s.limit s.interrupted start callers is.starts in
       let somewhere : is_nowhere (space_of s) s.start s.interrupted ≡ false = is.somewhere in
       let none : called_from (space_of s) s.start s.interrupted ≡ None = rw somewhere refl in (
-        walked start callers,
+        walked start callers is,
         rw none (refl, record { states = refl; why = why }),
-        lines_are o origins start callers shown,
+        lines_are o origins start callers is shown,
       )
 
   -- And so has that of a call to nowhere, whose caller the stack names.
-  pub called_stack_traced : IsWhole s.start → (o : Options) (origins : List OriginValue) (start caller : State) (callers : List State) → BeginsByCallToNowhere s start caller callers →
-      (t : TraceValue) × IsTraceOf s t × (text_of o s origins t ≡ called_stack_text o s origins start caller callers)
+  pub called_stack_traced : IsWhole s.start → (o : Options) (origins : List OriginValue) (start caller : State) (callers : List State) (is : BeginsByCallToNowhere s start caller callers) →
+      (t : TraceValue) × IsTraceOf s t × (text_of o s origins t ≡ called_stack_text o s origins start caller callers is)
   unfolding backtrace_text
   called_stack_traced whole o origins start caller callers is =
       let d = called_caller (space_of s) s.start s.interrupted caller start whole is.nowhere is.entered (called_state (space_of s) caller callers is.stack) is.returns is.shows in
@@ -60,7 +67,12 @@ module _ (s : Content) (apart : AreApart 0 (space_of s).modules) (laid : IsLaidO
       let shown : map state_of (front_of (space_of s) (s.limit - 1) d.0 false) ≡ caller ∷ callers = rw all (shown_states w.0 (caller ∷ callers) w.2.each) in
       let first : state_of s.start ≡ start = shown_state s.start start is.shows in
       let why = known_comes (space_of s) apart laid d.0 (s.limit - 1) false caller callers starts in (
-        record { first = Some s.start; states = front_of (space_of s) (s.limit - 1) d.0 false; why = front_of_stack (space_of s).modules false caller callers },
+        record { first = Some s.start; states = front_of (space_of s) (s.limit - 1) d.0 false; why = front_of_stack (space_of s) false caller callers is.stack },
         rw d.1 (refl, record { states = refl; why = why }),
         rw (first, shown) refl,
       )
+
+-- A stack whose outermost state returns to 0 ends there, whether or not that state was interrupted.
+pub ends_outermost : (space : SpaceValue) (interrupted : Bool) (s : State) (callers : List State) (stack : IsKnownStack space interrupted s callers) → last_returns s callers ≡ 0 → front_of_stack space interrupted s callers stack ≡ Outermost
+ends_outermost space interrupted s [] stack none = rw none refl
+ends_outermost space interrupted s (t ∷ callers) stack none = ends_outermost space (is_by_signal space interrupted s t stack.0) t callers stack.1 none

@@ -18,9 +18,9 @@ pub record BeginsKnownStack (s : Content) (start : State) (callers : List State)
 
 -- The lines of a stack whose innermost state is the snapshot's start: of the frame of each state, and last that the outermost one
 -- returns to 0, or that nothing covers the address asked there.
-abbrev pub stack_text : Options → Content → List OriginValue → State → List State → List ℕ
-stack_text o s origins start callers =
-    states_text (form_with o.registers s.interrupted origins false) (start ∷ callers) (front_of_stack (space_of s).modules s.interrupted start callers)
+abbrev pub stack_text : (o : Options) (s : Content) (origins : List OriginValue) (start : State) (callers : List State) → BeginsKnownStack s start callers → List ℕ
+stack_text o s origins start callers begins =
+    states_text (form_with o.registers s.interrupted origins false) (start ∷ callers) (front_of_stack (space_of s) s.interrupted start callers begins.starts.stack)
 
 -- The snapshot was taken after a call to the address 0 or into no module, before anything else was done. The caller's state is the
 -- innermost of a known stack, and the limit has room for the start beside it.
@@ -33,6 +33,6 @@ pub record BeginsByCallToNowhere (s : Content) (start caller : State) (callers :
   pub shorter : length callers + 1 < s.limit
 
 -- the lines of the start and of that stack, where it is said that the return address was read from the machine's stack
-abbrev pub called_stack_text : Options → Content → List OriginValue → State → State → List State → List ℕ
-called_stack_text o s origins start caller callers =
-    states_text (form_with o.registers s.interrupted origins true) (start ∷ caller ∷ callers) (front_of_stack (space_of s).modules false caller callers)
+abbrev pub called_stack_text : (o : Options) (s : Content) (origins : List OriginValue) (start caller : State) (callers : List State) → BeginsByCallToNowhere s start caller callers → List ℕ
+called_stack_text o s origins start caller callers begins =
+    states_text (form_with o.registers s.interrupted origins true) (start ∷ caller ∷ callers) (front_of_stack (space_of s) false caller callers begins.stack)

@@ -9,15 +9,16 @@ mod tracing;
 mod words;
 
 use crate::running::run;
-use command_ends::{Status, words_of};
+use command_ends::{Status, end_program, words_of};
 use memory_image::{StdinSource, StdoutSink};
 use std::process::ExitCode;
 
 fn main(rt: HostRuntime) -> ExitCode {
     let Ok(words) = words_of(&rt) else {
-        return Status::Memory.exit_code();
+        return end_program(&rt, "backtrace", Status::Memory);
     };
     let mut input = StdinSource::new(rt.stdin());
     let mut output = StdoutSink::new(rt.stdout());
-    run(rt.alloc(), &words, &mut input, &mut output).exit_code()
+    let status = run(rt.alloc(), &words, &mut input, &mut output);
+    end_program(&rt, "backtrace", status)
 }

@@ -9,7 +9,7 @@ ghost use Rattle.command_ends.specs.Verdicts.{ComesExactly};
 ghost use Rattle.stack_snapshot.specs.declared.errors.Field.{Field};
 ghost use Rattle.stack_snapshot.specs.Content.{Content};
 ghost use Rattle.stack_snapshot.specs.Answers.{content_of, value_of};
-ghost use Rattle.stack_snapshot.specs.Described.{DescribesFormatStop, DescribesFormatWalk};
+ghost use Rattle.stack_snapshot.specs.Described.{DescribesStop, DescribesWalk};
 ghost use Rattle.stack_snapshot.specs.Origins.{OriginValue, origins_by};
 ghost use Rattle.unwind_definitions.specs.State.{State};
 ghost use Rattle.unwind_definitions.specs.Function.{Function};
@@ -131,12 +131,12 @@ pub fn run<I: Source, O: Sink>(
         Asks o words.now (I.left input.old) s origins → IsTraceOf s t →
         Tells (verdict Status.Done (text_of o s origins t)) result (O.holds output.old)
         (O.holds output.new) }
-    // Where its tables describe a chain of calls, in modules of whatever format, these are the
-    // lines of the chain's states, and the last says why its outermost state has no caller.
+    // Where its unwind tables describe a chain of calls, through modules of whatever format, these are
+    // the lines of the chain's states, and the last says why its outermost state has no caller.
     ensures chain { (o : Options) (s : Content) (origins : List OriginValue)
         (functions : List Function) (start : State) (calls : List Call) →
         Asks o words.now (I.left input.old) s origins →
-        DescribesFormatWalk s functions start calls →
+        DescribesWalk s functions start calls →
         Tells (verdict Status.Done (chain_text o s origins start calls)) result
         (O.holds output.old) (O.holds output.new) }
     // So they are where it was stopped at an instruction of a described function, of its state and
@@ -144,7 +144,7 @@ pub fn run<I: Source, O: Sink>(
     ensures stop { (o : Options) (s : Content) (origins : List OriginValue)
         (functions : List Function) (start : State) (call : Call) (calls : List Call) →
         Asks o words.now (I.left input.old) s origins →
-        DescribesFormatStop s functions start call calls →
+        DescribesStop s functions start call calls →
         Tells (verdict Status.Done (chain_text o s origins start (call ∷ calls))) result
         (O.holds output.old) (O.holds output.new) }
     // And where it was interrupted right after a call to 0 or into no module, of its state and of
@@ -156,20 +156,22 @@ pub fn run<I: Source, O: Sink>(
         Tells (verdict Status.Done (called_text o s origins start caller calls)) result
         (O.holds output.old) (O.holds output.new) }
     // Where its start begins a stack of each of whose frames it is known how its caller's state
-    // follows, in an ELF module by facts that its tables say, at any address of code, these are the
-    // lines of the states of that stack, and the last says why its outermost state has no caller.
+    // follows, in an ELF module by facts that its tables say, at any address of code, and through a
+    // signal's frame to the state that was interrupted, these are the lines of the states of that
+    // stack, and the last says why its outermost state has no caller.
     ensures known { (o : Options) (s : Content) (origins : List OriginValue) (start : State)
         (callers : List State) →
-        Asks o words.now (I.left input.old) s origins → BeginsKnownStack s start callers →
-        Tells (verdict Status.Done (stack_text o s origins start callers)) result
+        Asks o words.now (I.left input.old) s origins →
+        (begins : BeginsKnownStack s start callers) →
+        Tells (verdict Status.Done (stack_text o s origins start callers begins)) result
         (O.holds output.old) (O.holds output.new) }
     // So they are, with the start before them, where it was interrupted right after a call to 0 or
     // into no module and its caller's state begins such a stack.
     ensures known_call { (o : Options) (s : Content) (origins : List OriginValue)
         (start caller : State) (callers : List State) →
         Asks o words.now (I.left input.old) s origins →
-        BeginsByCallToNowhere s start caller callers →
-        Tells (verdict Status.Done (called_stack_text o s origins start caller callers)) result
+        (begins : BeginsByCallToNowhere s start caller callers) →
+        Tells (verdict Status.Done (called_stack_text o s origins start caller callers begins)) result
         (O.holds output.old) (O.holds output.new) }
     // Whatever the source tells, words that name no options are answered so, and no others.
     ensures usage { ComesExactly result Status.Usage (options_of words.now ≡ None) }

@@ -10,7 +10,7 @@ ghost use Rattle.unwind_arch.specs.ContextViews.{columns_of};
 ghost use Rattle.stack_steps.specs.StopSample.{after_the_push};
 ghost use Rattle.stack_snapshot.specs.Content.{Content, space_of};
 ghost use Rattle.stack_snapshot.specs.Answers.{content_of};
-ghost use Rattle.stack_snapshot.specs.Described.{DescribesFormatStop, DescribesFormatWalk};
+ghost use Rattle.stack_snapshot.specs.Described.{DescribesStop, DescribesWalk};
 ghost use Rattle.backtrace.specs.declared.words.Options.{Options};
 ghost use Rattle.backtrace.specs.Options.{options_of};
 ghost use Rattle.backtrace.specs.Tracing.{IsNowhere};
@@ -50,7 +50,7 @@ pub fn null_call_is_traced()
 pub fn chain_is_described()
     ensures asked { Asks (record { registers = true }) (codes "--registers" ∷ [])
         (Some sample.calling_json) sample.calling sample.calling_origins }
-    ensures described { DescribesFormatWalk sample.calling three.functions three.start three.calls }
+    ensures described { DescribesWalk sample.calling three.functions three.start three.calls }
     ensures written { chain_text (record { registers = true }) sample.calling
         sample.calling_origins three.start three.calls ≡ sample.calling_text }
 {}
@@ -60,7 +60,7 @@ pub fn chain_is_described()
 pub fn stop_is_described()
     ensures asked { Asks (record { registers = false }) [] (Some sample.stopped_json)
         sample.stopped sample.stopped_origins }
-    ensures described { DescribesFormatStop sample.stopped (function ∷ []) start after_the_push [] }
+    ensures described { DescribesStop sample.stopped (function ∷ []) start after_the_push [] }
     ensures written { chain_text (record { registers = false }) sample.stopped
         sample.stopped_origins start (after_the_push ∷ []) ≡ sample.stopped_text }
 {}
@@ -92,14 +92,16 @@ pub fn stop_in_an_epilogue_is_known()
     ensures asked { Asks (record { registers = false }) [] (Some known.json) known.snapshot
         known.origins }
     ensures begins { BeginsKnownStack known.snapshot layouts.popped layouts.states }
-    ensures written { stack_text (record { registers = false }) known.snapshot known.origins
-        layouts.popped layouts.states ≡ known.text }
+    ensures written { (begins : BeginsKnownStack known.snapshot layouts.popped layouts.states) →
+        stack_text (record { registers = false }) known.snapshot known.origins layouts.popped
+        layouts.states begins ≡ known.text }
 {}
 
 /// The snapshot that was taken after a call through a null pointer meets what `run` asks where the
 /// caller's state begins such a stack: it is one by itself.
 pub fn null_call_is_known()
     ensures begins { BeginsByCallToNowhere snapshot callee caller [] }
-    ensures written { called_stack_text (record { registers = false }) snapshot [] callee caller []
-        ≡ text }
+    ensures written { (begins : BeginsByCallToNowhere snapshot callee caller []) →
+        called_stack_text (record { registers = false }) snapshot [] callee caller [] begins ≡
+        text }
 {}

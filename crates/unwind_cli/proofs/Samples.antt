@@ -1,21 +1,21 @@
 -- Snapshots of valid processes are described ones.
-use Rattle.std.proofs.Common.{◌≡◌, ℕ, ◌<◌, List, [], ◌∷◌, length, Some, refl}
+use Rattle.std.proofs.Common.{◌≡◌, ◌<◌, List, ◌∷◌, length, Some, refl}
 use Rattle.unwind_definitions.specs.Caller.{Columns}
-use Rattle.unwind_definitions.specs.State.{State, IsState, Shows, column_of, value_of}
-use Rattle.unwind_definitions.specs.Prologue.{SystemV}
-use Rattle.unwind_definitions.specs.Function.{Function, IsFunction}
-use Rattle.unwind_definitions.specs.Module.{Process, IsUncovered}
-use Rattle.unwind_definitions.specs.Chain.{Call, IsChain}
+use Rattle.unwind_definitions.specs.State.{State, Shows, column_of, value_of}
+use Rattle.unwind_definitions.specs.Function.{Function}
+use Rattle.unwind_definitions.specs.Chain.{Call}
 use Rattle.unwind_definitions.specs.Valid.{IsValid}
 use Rattle.unwind_laws.specs.Three as three
 use Rattle.unwind_laws.specs.Storing as storing
-use Rattle.unwind_laws.proofs.Booleans.{all_contains}
 use Rattle.unwind_laws.proofs.RowFacts.{by_register}
-use Rattle.unwind_laws.proofs.Walk.{valid_described}
+use Rattle.format_definitions.specs.FormatCalls.{IsFormatCall}
+use Rattle.format_laws.proofs.FormatParts.{valid_described}
 use Rattle.unwind_arch.specs.ContextViews.{columns_of}
 use Rattle.stack_steps.specs.Modules.{AreElf}
-use Rattle.stack_steps.specs.SpaceViews.{process_of}
-use Rattle.stack_steps.specs.Undoing.{IsDescribedCall}
+use Rattle.stack_steps.specs.SpaceViews.{process_of, formats_of}
+use Rattle.stack_walks.specs.Walking.{StartsChain}
+use Rattle.stack_walks.proofs.LineShows.{call_in}
+use Rattle.stack_deliver.proofs.ElfDeliveries.{elf_starts_valid}
 use Rattle.stack_snapshot.specs.Content.{Content, space_of}
 use Rattle.unwind_cli.specs.Caught as caught
 use Rattle.unwind_cli.specs.FramePointer as frame_pointer
@@ -23,29 +23,20 @@ use Rattle.stack_snapshot.specs.Described.{DescribesChain}
 
 pub described : (s : Content) (functions : List Function) (start : State) (calls : List Call) (columns : Columns) → IsValid (process_of (space_of s)) columns s.resumes functions start calls
     → AreElf (space_of s).modules → Shows (columns_of s.start) start → length calls < s.limit → DescribesChain s functions start calls
-described s functions start calls columns w elf shows shorter = record {
-  valid = record { are_functions = w.are_functions; modules = w.modules; no_others = w.no_others; shows = shows; chain = w.chain; resumed = w.resumed };
-  elf = elf;
-  shorter = shorter;
+described s functions start calls columns w elf shows shorter = elf_starts_valid (space_of s) functions start s.resumes calls columns elf w s.start s.limit shows shorter
+
+-- so is a walk over such a chain
+pub walk_described : (s : Content) (functions : List Function) (start : State) (calls : List Call) → DescribesChain s functions start calls → StartsChain (space_of s) s.start s.limit functions start calls
+walk_described s functions start calls is = record {
+  described = valid_described (space_of s).image (formats_of (space_of s)) (columns_of s.start) s.resumes functions start calls is.valid;
+  shows = is.valid.shows;
+  shorter = is.shorter;
 }
 
--- the state that a chain begins with is one
-begins : (p : Process) (functions : List Function) (s : State) (calls : List Call) → IsChain p.image (IsUncovered p) functions s calls → IsState s
-begins p functions s [] chain = chain.state
-begins p functions s (c ∷ calls) chain = chain.0.state
-
--- the innermost call of a valid chain is described
-pub first_described : (p : Process) (columns : Columns) (resumes : List (ℕ × ℕ)) (functions : List Function) (s : State) (c : Call) (calls : List Call) → IsValid p columns resumes functions s (c ∷ calls) → IsDescribedCall p functions s c
-first_described p columns resumes functions s c calls w =
-    let d = valid_described p columns resumes functions s (c ∷ calls) w in
-    record {
-      is_function = all_contains (IsFunction SystemV) functions c.callee w.are_functions w.chain.0.listed;
-      listed = w.chain.0.listed;
-      lies = d.described.0;
-      called = w.chain.0.called;
-      caller = begins p functions c.caller calls w.chain.1;
-      ends = λ outer. (w.chain.0.last outer).1;
-    }
+-- the innermost call of a described chain is described
+pub first_described : (s : Content) (functions : List Function) (start : State) (c : Call) (calls : List Call) → DescribesChain s functions start (c ∷ calls) → IsFormatCall (space_of s).image (formats_of (space_of s)) functions start c
+unfolding call_in
+first_described s functions start c calls is = call_in (space_of s) functions start c calls is.valid.chain (walk_described s functions start (c ∷ calls) is).described.described.0
 
 -- ---- what the starts show
 

@@ -1,12 +1,10 @@
 -- Samples of a function that pushes RBX, one of which was stopped in its body.
-use Rattle.std.proofs.Common.{◌≡◌, ℕ, List, [], ◌∷◌, Some, refl, ap, ◌∙◌, lit<}
+use Rattle.std.proofs.Common.{◌≡◌, [], ◌∷◌, Some, refl, ap, ◌∙◌, lit<}
 use Rattle.std.specs.Fmt.{digits}
 use Rattle.unwind_laws.specs.Pushing as pushing
-use Rattle.stack_steps.specs.Stopped.{StartsStopped, StartsFormatStop}
+use Rattle.stack_steps.specs.Stopped.{StartsStopped}
 use Rattle.stack_steps.specs.StopSample.{after_the_push, pushing_space, stopped_at}
 use Rattle.stack_steps.proofs.StopSamples.{walks_in_body}
-use Rattle.stack_walks.specs.Walking.{StartsFormatChain}
-use Rattle.stack_walks.proofs.ElfChains.{elf_starts, elf_starts_stopped}
 use Rattle.folded_stacks.specs.Folding.{fold_of, walked_stack}
 use Rattle.folded_stacks.specs.FoldSample.{folded_three}
 use Rattle.folded_stacks.proofs.Walks.{stop_stacked}
@@ -17,14 +15,8 @@ use Rattle.stack_report.specs.Summary.{count_line}
 use Rattle.unwind_cli.specs.Due.{fold_from}
 use Rattle.unwind_cli.specs.Stopped.{stopped_sample, sampled, sampled_text}
 
-stop : StartsStopped pushing_space (stopped_at 0x401006) 4 (pushing.function ∷ []) pushing.start after_the_push []
-stop = record { stopped = walks_in_body.stopped; described = walks_in_body.described; shows = walks_in_body.shows; elf = walks_in_body.elf; shorter = lit< tt }
-
-pub starts_stop : StartsFormatStop pushing_space (stopped_at 0x401006) 4 (pushing.function ∷ []) pushing.start after_the_push []
-starts_stop = elf_starts_stopped pushing_space (stopped_at 0x401006) 4 (pushing.function ∷ []) pushing.start after_the_push [] stop
-
-pub starts_chain : StartsFormatChain pushing_space (stopped_at 0x401006) 4 (pushing.function ∷ []) pushing.start (after_the_push ∷ [])
-starts_chain = elf_starts pushing_space (stopped_at 0x401006) 4 (pushing.function ∷ []) pushing.start (after_the_push ∷ []) witness.starts_chain
+pub starts_stop : StartsStopped pushing_space (stopped_at 0x401006) 4 (pushing.function ∷ []) pushing.start after_the_push []
+starts_stop = record { stopped = walks_in_body.stopped; described = walks_in_body.described; shows = walks_in_body.shows; shorter = lit< tt }
 
 stacked : walked_stack pushing_space 4 stopped_sample ≡ Some (0x401006 ∷ [])
 stacked = stop_stacked pushing_space 4 stopped_sample (pushing.function ∷ []) pushing.start after_the_push [] witness.apart witness.laid_out starts_stop refl

@@ -10,12 +10,12 @@ ghost use Rattle.unwind_laws.specs.Storing as storing;
 ghost use Rattle.frame_facts_laws.specs.SampleProgram as layouts;
 ghost use Rattle.unwind_laws.specs.Three as three;
 ghost use Rattle.unwind_arch.specs.ContextViews.{columns_of};
-ghost use Rattle.stack_steps.specs.SpaceViews.{process_of};
-ghost use Rattle.stack_steps.specs.Undoing.{IsDescribedCall};
+ghost use Rattle.format_definitions.specs.FormatCalls.{IsFormatCall};
+ghost use Rattle.stack_steps.specs.SpaceViews.{formats_of};
 ghost use Rattle.stack_snapshot.specs.Content.{space_of};
 ghost use Rattle.unwind_cli.specs.declared.words.Task.TheVariants as task;
 ghost use Rattle.unwind_cli.specs.Due.{Asks};
-ghost use Rattle.stack_snapshot.specs.Described.{DescribesChain, DescribesWalk};
+ghost use Rattle.stack_snapshot.specs.Described.{DescribesChain, DescribesStop, DescribesWalk};
 ghost use Rattle.stack_report.specs.Report.{delivery_text, walk_text};
 ghost use Rattle.unwind_cli.specs.Sample.{json, snapshot, text, walked};
 ghost use Rattle.stack_snapshot.specs.Answers.{content_of};
@@ -23,10 +23,8 @@ ghost use Rattle.unwind_cli.specs.FramePointer as frame_pointer;
 ghost use Rattle.unwind_cli.specs.Allocated as allocated;
 ghost use Rattle.unwind_cli.specs.Caught as caught;
 ghost use Rattle.unwind_cli.specs.Formats as formats;
-ghost use Rattle.unwind_cli.specs.HandledMacho as handled_macho;
-ghost use Rattle.unwind_cli.specs.HandledPe as handled_pe;
-ghost use Rattle.format_samples.specs.MachoHandler as macho_handler;
-ghost use Rattle.format_samples.specs.PeHandler as pe_handler;
+ghost use Rattle.unwind_cli.specs.Handled as handled;
+ghost use Rattle.format_samples.specs.Handlers as handlers;
 ghost use Rattle.unwind_cli.specs.KnownSample as known;
 ghost use Rattle.unwind_cli.specs.Landings as landings;
 ghost use Rattle.fact_deliveries.specs.LandingProgram as program;
@@ -38,13 +36,11 @@ ghost use Rattle.folded_stacks.specs.Folding.{chain_stack};
 ghost use Rattle.folded_stacks.specs.FoldSample.{sample_at};
 ghost use Rattle.stack_report.specs.Folds.{fold_report_of};
 ghost use Rattle.stack_snapshot.specs.Cores.{core_space_of, threads_of};
-ghost use Rattle.stack_snapshot.specs.Described.{DescribesFormatChain, DescribesFormatStop};
-ghost use Rattle.stack_snapshot.specs.Described.{DescribesFormatWalk};
 ghost use Rattle.stack_snapshot.specs.Sampled.{sampled_space};
-ghost use Rattle.stack_steps.specs.Stopped.{StartsFormatStop};
+ghost use Rattle.stack_steps.specs.Stopped.{StartsStopped};
 ghost use Rattle.stack_steps.specs.StopSample.{after_the_push, stopped_at};
 ghost use Rattle.stack_walks.specs.KnownWalks.{StartsKnownStack};
-ghost use Rattle.stack_walks.specs.Walking.{StartsFormatChain};
+ghost use Rattle.stack_walks.specs.Walking.{StartsChain};
 ghost use Rattle.table_check.specs.declared.verdict.Verdict.TheVariants.{Yes};
 ghost use Rattle.claim_checks.specs.Claimed.{Describes};
 ghost use Rattle.unwind_cli.specs.Checked.{claimed, claimed_json};
@@ -141,9 +137,9 @@ pub fn calls_through_formats_are_described()
     ensures delivered { Asks task.Deliver (codes "deliver" ∷ []) (Some formats.json)
         formats.snapshot }
     ensures walked { Asks task.Walk (codes "walk" ∷ []) (Some formats.json) formats.snapshot }
-    ensures described { DescribesFormatChain formats.snapshot mixed.functions mixed.caught_start
+    ensures described { DescribesChain formats.snapshot mixed.functions mixed.caught_start
         mixed.caught_calls }
-    ensures walk_described { DescribesFormatWalk formats.snapshot mixed.functions
+    ensures walk_described { DescribesWalk formats.snapshot mixed.functions
         mixed.caught_start mixed.caught_calls }
     ensures delivery_text { delivery_text
         (delivery_of three.exception mixed.caught_start mixed.caught_calls) ≡ formats.text }
@@ -151,57 +147,60 @@ pub fn calls_through_formats_are_described()
         formats.walked }
 {}
 
-/// A snapshot of a Mach-O module whose one function has a handler for the exception, as its section
-/// of compact unwinding says, meets what `run` asks of a described chain; and this text is then due.
-pub fn handler_of_a_macho_function_is_described()
-    ensures read { content_of handled_macho.json ≡ Ok handled_macho.snapshot }
-    ensures delivered { Asks task.Deliver (codes "deliver" ∷ []) (Some handled_macho.json)
-        handled_macho.snapshot }
-    ensures described { DescribesFormatChain handled_macho.snapshot macho_handler.functions
-        macho_handler.start macho_handler.calls }
-    ensures written { delivery_text (delivery_of 0x900000 macho_handler.start macho_handler.calls) ≡
-        handled_macho.text }
+/// A snapshot of modules of three formats, in each of which the function that was called has a handler
+/// for the exception, meets what `run` asks of a described chain, from its bytes on. The innermost one
+/// takes the exception, and this text is then due.
+pub fn handlers_of_three_formats_are_described()
+    ensures read { content_of handled.json ≡ Ok handled.snapshot }
+    ensures delivered { Asks task.Deliver (codes "deliver" ∷ []) (Some handled.json)
+        handled.snapshot }
+    ensures described { DescribesChain handled.snapshot handlers.functions handlers.in_macho
+        handlers.calls_from_macho }
+    ensures written { delivery_text
+        (delivery_of three.exception handlers.in_macho handlers.calls_from_macho) ≡ handled.text }
 {}
 
-/// The same of a PE module, by its function's unwind record.
+/// The same where the function of the PE module is the innermost one.
 pub fn handler_of_a_pe_function_is_described()
-    ensures read { content_of handled_pe.json ≡ Ok handled_pe.snapshot }
-    ensures delivered { Asks task.Deliver (codes "deliver" ∷ []) (Some handled_pe.json)
-        handled_pe.snapshot }
-    ensures described { DescribesFormatChain handled_pe.snapshot pe_handler.functions
-        pe_handler.start pe_handler.calls }
-    ensures written { delivery_text (delivery_of 0x900000 pe_handler.start pe_handler.calls) ≡
-        handled_pe.text }
+    ensures read { content_of handled.pe_json ≡ Ok handled.pe_snapshot }
+    ensures delivered { Asks task.Deliver (codes "deliver" ∷ []) (Some handled.pe_json)
+        handled.pe_snapshot }
+    ensures described { DescribesChain handled.pe_snapshot handlers.functions handlers.in_pe
+        handlers.calls_from_pe }
+    ensures written { delivery_text
+        (delivery_of three.exception handlers.in_pe handlers.calls_from_pe) ≡ handled.pe_text }
 {}
 
 /// What a step asks of a call that it undoes is met by that function, which pushes, sets a frame
 /// pointer and allocates.
 pub fn pushed_call_is_described()
-    ensures call { IsDescribedCall (process_of (space_of caught.first))
+    ensures call { IsFormatCall (space_of caught.first).image (formats_of (space_of caught.first))
         (three.fa ∷ []) three.start three.first_call }
     ensures shows { Shows (columns_of caught.first.start) three.start }
 {}
 
 /// And by one that allocates and stores a register.
 pub fn stored_call_is_described()
-    ensures call { IsDescribedCall (process_of (space_of frame_pointer.snapshot)) storing.functions
-        storing.start (record { callee = storing.storing; caller = storing.caller }) }
+    ensures call { IsFormatCall (space_of frame_pointer.snapshot).image
+        (formats_of (space_of frame_pointer.snapshot)) storing.functions storing.start
+        (record { callee = storing.storing; caller = storing.caller }) }
     ensures shows { Shows (columns_of frame_pointer.snapshot.start) storing.start }
 {}
 
 /// And where that function is alone in its module and its frame table, and returns into itself: the
 /// caller is at the same return address, 32 bytes further up, with the R12 that was stored.
 pub fn allocated_call_is_described()
-    ensures call { IsDescribedCall (process_of (space_of allocated.snapshot)) (storing.storing ∷ [])
-        allocated.start allocated.call }
+    ensures call { IsFormatCall (space_of allocated.snapshot).image
+        (formats_of (space_of allocated.snapshot)) (storing.storing ∷ []) allocated.start
+        allocated.call }
     ensures shows { Shows (columns_of allocated.snapshot.start) allocated.start }
     ensures caller { allocated.call.caller ≡ record allocated.start { sp = 0x7020; r12 = 0xc12 } }
 {}
 
 /// And by a function whose module names the header of its frame table.
 pub fn listed_call_is_described()
-    ensures call { IsDescribedCall (process_of (space_of caught.by_header)) three.functions
-        three.start three.first_call }
+    ensures call { IsFormatCall (space_of caught.by_header).image
+        (formats_of (space_of caught.by_header)) three.functions three.start three.first_call }
     ensures shows { Shows (columns_of caught.by_header.start) three.start }
 {}
 
@@ -209,7 +208,7 @@ pub fn listed_call_is_described()
 /// a stop in a described function, from its bytes on.
 pub fn stop_is_described()
     ensures read { Asks task.Walk (codes "walk" ∷ []) (Some stopped_json) stopped }
-    ensures described { DescribesFormatStop stopped (function ∷ []) start after_the_push [] }
+    ensures described { DescribesStop stopped (function ∷ []) start after_the_push [] }
     ensures written { walk_text (states_of start (after_the_push ∷ [])) ≡ walked }
 {}
 
@@ -217,7 +216,7 @@ pub fn stop_is_described()
 pub fn stopped_thread_is_described()
     ensures read { AsksCore (codes "core" ∷ []) (Some core_json) core }
     ensures thread { slice_get (threads_of core.file) 0 ≡ Some (stopped_at 0x401006) }
-    ensures described { StartsFormatStop (core_space_of core) (stopped_at 0x401006) core.limit
+    ensures described { StartsStopped (core_space_of core) (stopped_at 0x401006) core.limit
         (function ∷ []) start after_the_push [] }
     ensures written { text_before core 0 ++ stopped_text 0 start (after_the_push ∷ [])
         ++ text_after core 0 ≡ core_text }
@@ -229,11 +228,11 @@ pub fn samples_are_described()
     ensures read { AsksFold (codes "fold" ∷ []) (Some sampled_json) sampled }
     ensures called { Contains sampled.samples (sample_at 0x401006) ×
         IsFalse (sample_at 0x401006).interrupted ×
-        StartsFormatChain (sampled_space sampled) (sample_at 0x401006).start sampled.limit
+        StartsChain (sampled_space sampled) (sample_at 0x401006).start sampled.limit
         (function ∷ []) start (after_the_push ∷ []) }
     ensures stopped { Contains sampled.samples stopped_sample ×
         IsTrue stopped_sample.interrupted ×
-        StartsFormatStop (sampled_space sampled) stopped_sample.start sampled.limit
+        StartsStopped (sampled_space sampled) stopped_sample.start sampled.limit
         (function ∷ []) start after_the_push [] }
     ensures stack { chain_stack start (after_the_push ∷ []) ≡ 0x401006 ∷ [] }
     ensures written { fold_report_of (fold_from sampled) ≡ sampled_text }

@@ -73,14 +73,17 @@ fn run_cases(rt: &impl Abort, alloc: Global, cases: &[Case]) -> Result<(), Fail>
 /// One region: a frame table of the function 0x401000 to 0x401010, which pushes RBX; and the start of
 /// another, a stack at 0x7000.
 const TABLE: &str =
-    "{\"regions\":[{\"address\":\"0x500000\",\"bytes\":\"1400000000000000017a5200017810011b0c070890010000140000001c000000e00ff0ff1000000000410e108302000000000000\"},{\"address\":\"0x7000\",\"bytes\":\"";
+    "{\"regions\":[{\"address\":\"0x500000\",\"bytes\":\"1400000000000000017a5200017810011b0c070\
+    890010000140000001c000000e00ff0ff1000000000410e108302000000000000\"},\
+    {\"address\":\"0x7000\",\"bytes\":\"";
 
 /// A stack: RBX's value, and 0 for the return address.
 const STACK: &str = "05000000000000000000000000000000";
 
 /// The function's module, and what is to come is the start.
 const MODULE: &str =
-    "\"}],\"modules\":[{\"kind\":\"elf\",\"start\":\"0x401000\",\"end\":\"0x401010\",\"eh_frame\":\"0x500000\"}],\"start\":";
+    "\"}],\"modules\":[{\"kind\":\"elf\",\"start\":\"0x401000\",\"end\":\"0x401010\",\
+    \"eh_frame\":\"0x500000\"}],\"start\":";
 
 /// A start after a call in the function, after its push.
 const START: &str = "{\"rip\":\"0x401006\",\"rsp\":\"0x7000\",\"rbx\":\"0x9\"},";

@@ -5,7 +5,9 @@ use super::{deliveries as calls, *};
 /// The frame of the function 0x401000 to 0x401010 has no bytes: its return address is below the stack
 /// pointer, which stays. And the start of a stack at 0x7000.
 const LOOPING_TABLE: &str =
-    "{\"regions\":[{\"address\":\"0x500000\",\"bytes\":\"1400000000000000017a5200017810011b0c070090010000140000001c000000e00ff0ff10000000000000000000000000000000\"},{\"address\":\"0x7000\",\"bytes\":\"";
+    "{\"regions\":[{\"address\":\"0x500000\",\"bytes\":\"1400000000000000017a5200017810011b0c070\
+    090010000140000001c000000e00ff0ff10000000000000000000000000000000\"},\
+    {\"address\":\"0x7000\",\"bytes\":\"";
 
 /// The return address after the function's call, and the address after it.
 const LOOPING_STACK: &str = "0610400000000000";
@@ -14,13 +16,15 @@ const LOOPING_START: &str = "{\"rip\":\"0x401006\",\"rsp\":\"0x7008\"},";
 
 /// The frame table of the module isn't mapped.
 const LOST_MODULE: &str =
-    "\"}],\"modules\":[{\"kind\":\"elf\",\"start\":\"0x401000\",\"end\":\"0x401010\",\"eh_frame\":\"0x900000\"}],\"start\":";
+    "\"}],\"modules\":[{\"kind\":\"elf\",\"start\":\"0x401000\",\"end\":\"0x401010\",\
+    \"eh_frame\":\"0x900000\"}],\"start\":";
 
 const FIRST: &str = "frame 0 ra=0x401006 sp=0x7000 rbx=0x9 rbp=0x0 r12=0x0 r13=0x0 r14=0x0 r15=0x0";
 
 /// The language tables without the cell that holds the personality's address.
 const WITHOUT_CELL: &str =
-    "\"},{\"address\":\"0x502000\",\"bytes\":\"ffff01080810200020100000ff9b0c010408102001010000000000\"},{\"address\":\"0x70";
+    "\"},{\"address\":\"0x502000\",\"bytes\":\"ffff01080810200020100000ff9b0c0104081020010100000\
+    00000\"},{\"address\":\"0x70";
 
 /// The cell without the language tables.
 const WITHOUT_TABLES: &str =

@@ -6,7 +6,8 @@ use super::*;
 
 /// Samples of the function that pushes RBX.
 const MODULE_OF_SAMPLES: &str =
-    "\"}],\"modules\":[{\"kind\":\"elf\",\"start\":\"0x401000\",\"end\":\"0x401010\",\"eh_frame\":\"0x500000\"}],\"samples\":[";
+    "\"}],\"modules\":[{\"kind\":\"elf\",\"start\":\"0x401000\",\"end\":\"0x401010\",\
+    \"eh_frame\":\"0x500000\"}],\"samples\":[";
 
 /// After its push, stopped after a call.
 const SAMPLE: &str = "{\"start\":{\"rip\":\"0x401006\",\"rsp\":\"0x7000\",\"rbx\":\"0x9\"}}";
@@ -22,7 +23,9 @@ const NO_STACK: &str = ",{\"start\":{\"rip\":\"0x401000\"}}";
 
 /// Samples of the chain through three functions, by the first of them.
 const CHAIN_SAMPLES: &str =
-    ",\"samples\":[{\"start\":{\"rip\":\"0x401010\",\"rsp\":\"0x70b0\",\"rbx\":\"0x7\",\"rbp\":\"0x70c0\",\"r14\":\"0x2e\"}},{\"start\":{\"rip\":\"0x401010\",\"rsp\":\"0x70b0\",\"rbx\":\"0x7\",\"rbp\":\"0x9000\",\"r14\":\"0x2e\"}}]}";
+    ",\"samples\":[{\"start\":{\"rip\":\"0x401010\",\"rsp\":\"0x70b0\",\"rbx\":\"0x7\",\
+    \"rbp\":\"0x70c0\",\"r14\":\"0x2e\"}},{\"start\":{\"rip\":\"0x401010\",\"rsp\":\"0x70b0\",\
+    \"rbx\":\"0x7\",\"rbp\":\"0x9000\",\"r14\":\"0x2e\"}}]}";
 
 static CASES: [Case; 8] = [
     // Two samples with one stack, and one at the end of its stack.

@@ -3,11 +3,13 @@ use super::*;
 
 /// The function's module with a header and a frame table, and what is to come is the start.
 const BOTH_MODULE: &str =
-    "\"}],\"modules\":[{\"kind\":\"elf\",\"start\":\"0x401000\",\"end\":\"0x401010\",\"eh_frame_hdr\":\"0x500000\",\"eh_frame\":\"0x500000\"}],\"start\":";
+    "\"}],\"modules\":[{\"kind\":\"elf\",\"start\":\"0x401000\",\"end\":\"0x401010\",\
+    \"eh_frame_hdr\":\"0x500000\",\"eh_frame\":\"0x500000\"}],\"start\":";
 
 /// A base of the text that is no word.
 const TEXT_MODULE: &str =
-    "\"}],\"modules\":[{\"kind\":\"elf\",\"start\":\"0x401000\",\"end\":\"0x401010\",\"eh_frame\":\"0x500000\",\"text_base\":\"0\"}],\"start\":";
+    "\"}],\"modules\":[{\"kind\":\"elf\",\"start\":\"0x401000\",\"end\":\"0x401010\",\
+    \"eh_frame\":\"0x500000\",\"text_base\":\"0\"}],\"start\":";
 
 const OTHER_MODULE: &str =
     "\"}],\"modules\":[{\"kind\":\"coff\",\"base\":\"0x401000\",\"size\":\"0x10\",\"unwind_info\":\"0x0\"}],\"start\":";

@@ -5,27 +5,39 @@ use super::*;
 /// The function 0x401000 to 0x401010 is a signal's, whose frame has 8 bytes throughout; and the start of
 /// a stack at 0x7000.
 const SIGNAL_TABLE: &str =
-    "{\"regions\":[{\"address\":\"0x500000\",\"bytes\":\"1400000000000000017a525300017810011b0c0708900100140000001c000000e00ff0ff10000000000000000000000000000000\"},{\"address\":\"0x7000\",\"bytes\":\"";
+    "{\"regions\":[{\"address\":\"0x500000\",\"bytes\":\"1400000000000000017a525300017810011b0c0\
+    708900100140000001c000000e00ff0ff10000000000000000000000000000000\"},\
+    {\"address\":\"0x7000\",\"bytes\":\"";
 
 /// The same without the mark of a signal.
 const CALL_TABLE: &str =
-    "{\"regions\":[{\"address\":\"0x500000\",\"bytes\":\"1400000000000000017a5200017810011b0c070890010000140000001c000000e00ff0ff10000000000000000000000000000000\"},{\"address\":\"0x7000\",\"bytes\":\"";
+    "{\"regions\":[{\"address\":\"0x500000\",\"bytes\":\"1400000000000000017a5200017810011b0c070\
+    890010000140000001c000000e00ff0ff10000000000000000000000000000000\"},\
+    {\"address\":\"0x7000\",\"bytes\":\"";
 
 /// RBX is at the address 8 above the frame's, by an expression.
 const RULE_TABLE: &str =
-    "{\"regions\":[{\"address\":\"0x500000\",\"bytes\":\"1400000000000000017a5200017810011b0c070890010000140000001c000000e00ff0ff10000000001003022308000000000000\"},{\"address\":\"0x7000\",\"bytes\":\"";
+    "{\"regions\":[{\"address\":\"0x500000\",\"bytes\":\"1400000000000000017a5200017810011b0c070\
+    890010000140000001c000000e00ff0ff10000000001003022308000000000000\"},\
+    {\"address\":\"0x7000\",\"bytes\":\"";
 
 /// The frame's address is in the word 16 above the stack pointer.
 const ADDRESS_TABLE: &str =
-    "{\"regions\":[{\"address\":\"0x500000\",\"bytes\":\"1400000000000000017a5200017810011b0c070890010000140000001c000000e00ff0ff10000000000f03771006000000000000\"},{\"address\":\"0x7000\",\"bytes\":\"";
+    "{\"regions\":[{\"address\":\"0x500000\",\"bytes\":\"1400000000000000017a5200017810011b0c070\
+    890010000140000001c000000e00ff0ff10000000000f03771006000000000000\"},\
+    {\"address\":\"0x7000\",\"bytes\":\"";
 
 /// The frame's address is 8 above a word that nothing has put on the stack.
 const EMPTY_TABLE: &str =
-    "{\"regions\":[{\"address\":\"0x500000\",\"bytes\":\"1400000000000000017a5200017810011b0c070890010000140000001c000000e00ff0ff10000000000f02230800000000000000\"},{\"address\":\"0x7000\",\"bytes\":\"";
+    "{\"regions\":[{\"address\":\"0x500000\",\"bytes\":\"1400000000000000017a5200017810011b0c070\
+    890010000140000001c000000e00ff0ff10000000000f02230800000000000000\"},\
+    {\"address\":\"0x7000\",\"bytes\":\"";
 
 /// RBX is the value of an expression that goes back to its start.
 const ENDLESS_TABLE: &str =
-    "{\"regions\":[{\"address\":\"0x500000\",\"bytes\":\"1400000000000000017a5200017810011b0c070890010000140000001c000000e00ff0ff10000000001603032ffdff0000000000\"},{\"address\":\"0x7000\",\"bytes\":\"";
+    "{\"regions\":[{\"address\":\"0x500000\",\"bytes\":\"1400000000000000017a5200017810011b0c070\
+    890010000140000001c000000e00ff0ff10000000001603032ffdff0000000000\"},\
+    {\"address\":\"0x7000\",\"bytes\":\"";
 
 /// The return address at the function's start, and 0.
 const AT_START_STACK: &str = "00104000000000000000000000000000";

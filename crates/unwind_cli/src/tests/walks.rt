@@ -39,13 +39,16 @@ const OUTERMOST_STATE: &str =
 /// The frame table of a function from 0x402000 that pushes R15, R14 and RBX, whose saved registers it
 /// names at the end of the prologue alone; and the start of a stack at 0x7000.
 const LATE_TABLE: &str =
-    "{\"regions\":[{\"address\":\"0x500000\",\"bytes\":\"1400000000000000017a5200017810011b0c0708900100001c0000001c000000e01ff0ff2000000000420e10420e18410e2083048e038f0200000000\"},{\"address\":\"0x7000\",\"bytes\":\"";
+    "{\"regions\":[{\"address\":\"0x500000\",\"bytes\":\"1400000000000000017a5200017810011b0c070\
+    8900100001c0000001c000000e01ff0ff2000000000420e10420e18410e2083048e038f0200000000\"},\
+    {\"address\":\"0x7000\",\"bytes\":\"";
 
 /// What R14 and R15 hold, and the return address 0.
 const TWO_PUSHED: &str = "140000000000000015000000000000000000000000000000";
 
 const LATE_MODULE: &str =
-    "\"}],\"modules\":[{\"kind\":\"elf\",\"start\":\"0x402000\",\"end\":\"0x402020\",\"eh_frame\":\"0x500000\"}],\"start\":";
+    "\"}],\"modules\":[{\"kind\":\"elf\",\"start\":\"0x402000\",\"end\":\"0x402020\",\
+    \"eh_frame\":\"0x500000\"}],\"start\":";
 
 /// The function has pushed R15 and R14.
 const AFTER_TWO: &str =

@@ -10,4 +10,4 @@ returns-clause-begins c = begins
 
 pub returns-clause-written : goal.returns-clause-written
 unfolding digits hexadecimal word states_text frame_line no_module_text place_text rest_text
-returns-clause-written c = refl
+returns-clause-written c begins = refl

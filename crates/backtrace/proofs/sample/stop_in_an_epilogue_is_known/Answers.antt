@@ -1,4 +1,4 @@
-use Rattle.std.proofs.Common.{refl, lit≤}
+use Rattle.std.proofs.Common.{◌≡◌, true, false, ◌∷◌, refl, ap, ◌∙◌, lit≤}
 use Rattle.std.specs.Char.{encode_utf8}
 use Rattle.std.specs.Str.{is_utf8, chars}
 use Rattle.std.specs.Fmt.{digits}
@@ -9,8 +9,12 @@ use Rattle.stack_snapshot.specs.Answers.{value_of}
 use Rattle.stack_snapshot.specs.Origins.{origins_of}
 use Rattle.stack_snapshot.specs.Snapshot.{regions_of, modules_of, start_of, resumes_of, limit_of, interrupted_of, whole_numbers, snapshot_of}
 use Rattle.stack_report.specs.Digits.{hexadecimal, word}
-use Rattle.backtrace.specs.Lines.{states_text, frame_line, place_text, rest_text}
-use Rattle.backtrace.specs.KnownSample.{json}
+use Rattle.backtrace.specs.Lines.{form_with, states_text, frame_line, place_text, rest_text}
+use Rattle.frame_facts_laws.specs.SampleProgram as layouts
+use Rattle.stack_snapshot.specs.Content.{space_of}
+use Rattle.stack_walks.specs.declared.front.Front.TheVariants.{Outermost}
+use Rattle.backtrace.specs.KnownSample.{json, origins, snapshot, text}
+use Rattle.backtrace.proofs.KnownTraces.{ends_outermost}
 use Rattle.backtrace.proofs.sample.stop_in_an_epilogue_is_known.Goals as goal
 
 pub returns-clause-asked : goal.returns-clause-asked
@@ -22,4 +26,7 @@ returns-clause-begins c = record { starts = epilogue_starts; somewhere = refl }
 
 pub returns-clause-written : goal.returns-clause-written
 unfolding digits hexadecimal word states_text frame_line place_text rest_text
-returns-clause-written c = refl
+returns-clause-written c begins =
+    let front = ends_outermost (space_of snapshot) true layouts.popped layouts.states begins.starts.stack refl in
+    let written : states_text (form_with false true origins false) (layouts.popped ∷ layouts.states) Outermost ≡ text = refl in
+    ap (states_text (form_with false true origins false) (layouts.popped ∷ layouts.states)) front ∙ written

@@ -1,7 +1,5 @@
 use Rattle.std.proofs.Common.{refl, lit≤}
 use Rattle.stack_steps.proofs.StopSamples.{walks_in_body}
-use Rattle.stack_steps.specs.StopSample.{pushing_space, stopped_at}
-use Rattle.stack_walks.proofs.ElfChains.{elf_starts_stopped}
 use Rattle.std.specs.Char.{encode_utf8}
 use Rattle.std.specs.Str.{is_utf8, chars}
 use Rattle.std.specs.Fmt.{digits}
@@ -20,7 +18,7 @@ unfolding is_utf8 chars encode_utf8 decode_pairs serde_json_on_literals value_of
 returns-clause-asked c = record { bytes = stopped_json; named = refl; source_is = refl; short = lit≤ tt; reads = refl; files = refl }
 
 pub returns-clause-described : goal.returns-clause-described
-returns-clause-described c = (refl, elf_starts_stopped pushing_space (stopped_at 0x401006) 2 _ _ _ _ walks_in_body)
+returns-clause-described c = (refl, walks_in_body)
 
 pub returns-clause-written : goal.returns-clause-written
 unfolding digits hexadecimal word states_text frame_line place_text rest_text

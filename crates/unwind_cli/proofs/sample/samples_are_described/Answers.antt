@@ -9,7 +9,8 @@ use Rattle.stack_snapshot.specs.Answers.{value_of}
 use Rattle.stack_snapshot.specs.Sampled.{depth_of, sampled_of, samples_of}
 use Rattle.stack_snapshot.specs.Snapshot.{interrupted_of, modules_of, regions_of, start_of, whole_numbers}
 use Rattle.unwind_cli.specs.Stopped.{stopped_sample, sampled_json}
-use Rattle.unwind_cli.proofs.StoppedSamples.{starts_chain, starts_stop, written}
+use Rattle.unwind_cli.proofs.StoppedSamples.{starts_stop, written}
+use Rattle.folded_stacks.proofs.Witnesses.{starts_chain}
 use Rattle.unwind_cli.proofs.sample.samples_are_described.Goals as goal
 
 pub returns-clause-read : goal.returns-clause-read

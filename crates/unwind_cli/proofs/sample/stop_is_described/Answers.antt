@@ -9,8 +9,6 @@ use Rattle.stack_report.specs.Report.{state_fields, state_line}
 use Rattle.stack_snapshot.specs.Answers.{value_of}
 use Rattle.stack_snapshot.specs.Snapshot.{regions_of, modules_of, start_of, resumes_of, limit_of, interrupted_of, whole_numbers, snapshot_of}
 use Rattle.stack_steps.proofs.StopSamples.{walks_in_body}
-use Rattle.stack_steps.specs.StopSample.{pushing_space, stopped_at}
-use Rattle.stack_walks.proofs.ElfChains.{elf_starts_stopped}
 use Rattle.unwind_cli.specs.Stopped.{stopped_json}
 use Rattle.unwind_cli.proofs.sample.stop_is_described.Goals as goal
 
@@ -19,7 +17,7 @@ unfolding is_utf8 chars encode_utf8 decode_pairs serde_json_on_literals value_of
 returns-clause-read c = record { bytes = stopped_json; named = refl; source_is = refl; short = lit≤ tt; reads = refl }
 
 pub returns-clause-described : goal.returns-clause-described
-returns-clause-described c = (refl, elf_starts_stopped pushing_space (stopped_at 0x401006) 2 _ _ _ _ walks_in_body)
+returns-clause-described c = (refl, walks_in_body)
 
 pub returns-clause-written : goal.returns-clause-written
 unfolding digits hexadecimal state_fields state_line

@@ -14,8 +14,6 @@ use Rattle.stack_snapshot.specs.Answers.{value_of}
 use Rattle.stack_snapshot.specs.Cores.{core_content_in, regions_after, taken_core}
 use Rattle.stack_snapshot.specs.Snapshot.{modules_of, limit_of, whole_numbers}
 use Rattle.stack_steps.proofs.StopSamples.{walks_in_body}
-use Rattle.stack_steps.specs.StopSample.{pushing_space, stopped_at}
-use Rattle.stack_walks.proofs.ElfChains.{elf_starts_stopped}
 use Rattle.unwind_cli.specs.Stopped.{core_json}
 use Rattle.unwind_cli.proofs.sample.stopped_thread_is_described.Goals as goal
 
@@ -29,7 +27,7 @@ returns-clause-thread c = refl
 
 pub returns-clause-described : goal.returns-clause-described
 unfolding u16_at u32_at u64_at core_of are_whole_notes first_note
-returns-clause-described c = elf_starts_stopped pushing_space (stopped_at 0x401006) 2 _ _ _ _ walks_in_body
+returns-clause-described c = walks_in_body
 
 pub returns-clause-written : goal.returns-clause-written
 unfolding digits hexadecimal state_fields state_line u16_at u32_at u64_at core_of are_whole_notes first_note threads_in_notes notes_of thread_of

@@ -8,11 +8,11 @@ use Rattle.stack_report.specs.Digits.{hexadecimal}
 use Rattle.stack_report.specs.Report.{state_fields, state_line, handler_line}
 use Rattle.stack_snapshot.specs.Answers.{value_of}
 use Rattle.stack_snapshot.specs.Snapshot.{regions_of, modules_of, start_of, resumes_of, limit_of, interrupted_of, whole_numbers, snapshot_of}
-use Rattle.format_samples.specs.MachoHandler.{start}
-use Rattle.format_samples.proofs.MachoHandler.{valid}
+use Rattle.format_samples.specs.Handlers.{in_macho}
+use Rattle.format_samples.proofs.HandlersValid.{valid_from_macho}
 use Rattle.delivery_laws.proofs.FormatStarts.{registers_show}
-use Rattle.unwind_cli.specs.HandledMacho.{json}
-use Rattle.unwind_cli.proofs.sample.handler_of_a_macho_function_is_described.Goals as goal
+use Rattle.unwind_cli.specs.Handled.{json}
+use Rattle.unwind_cli.proofs.sample.handlers_of_three_formats_are_described.Goals as goal
 
 pub returns-clause-read : goal.returns-clause-read
 unfolding is_utf8 chars encode_utf8 decode_pairs serde_json_on_literals value_of regions_of modules_of start_of resumes_of limit_of interrupted_of whole_numbers snapshot_of
@@ -23,7 +23,7 @@ returns-clause-delivered c = record { bytes = json; named = refl; source_is = re
 
 pub returns-clause-described : goal.returns-clause-described
 returns-clause-described c = record {
-  valid = record { parts = valid.parts; no_others = valid.no_others; shows = registers_show start; chain = valid.chain; resumed = valid.resumed };
+  valid = record { parts = valid_from_macho.parts; no_others = valid_from_macho.no_others; shows = registers_show in_macho; chain = valid_from_macho.chain; resumed = valid_from_macho.resumed };
   shorter = lit< tt;
 }
 
