@@ -2,6 +2,7 @@
 #
 #     make install [PREFIX=/usr/local] [DESTDIR=]
 #     make examples                 builds and runs examples/embedding
+#     make check                    the same, and again under valgrind; it fails where a frame differs or memory leaks
 
 TOP := .
 include embedding.mk
@@ -11,7 +12,7 @@ INCLUDES := $(DESTDIR)$(PREFIX)/include
 LIBRARIES := $(DESTDIR)$(PREFIX)/lib
 
 .DEFAULT_GOAL := lib
-.PHONY: lib install examples
+.PHONY: lib install examples check
 
 lib: $(ARCHIVE)
 
@@ -23,3 +24,6 @@ install: $(ARCHIVE)
 
 examples: $(ARCHIVE)
 	$(MAKE) -C examples/embedding
+
+check: examples
+	$(MAKE) -C examples/embedding valgrind

@@ -1,4 +1,4 @@
-/* Kalzurenk for C: walks of x86-64 stacks, over memory that is handed in.
+/* Kalzurenk for C: walks of x86-64 stacks and deliveries of exceptions, over memory that is handed in.
  *
  * Nothing is asked of the process that calls: no loader, no signals, no threads. What is handed in is
  * memory at its addresses (a stack or a copy of one, the tables of modules), the modules, and the
@@ -7,10 +7,10 @@
  *
  * What C has to see to, as nothing checks it:
  *   - Each pointer is valid for its length, aligned, and not null, also where the length is 0.
- *   - What a call writes (frames, end, place, a session) overlaps nothing else that is handed in, and
+ *   - What a call writes (frames, end, cleanups, delivery, place, a session) overlaps nothing else that is handed in, and
  *     nobody changes memory that is handed in while a call runs.
  *   - A `bool` is 0 or 1.
- *   - kz_walk, kz_session_open and kz_session_close take memory by malloc and realloc, or give it back by
+ *   - kz_walk, kz_deliver, kz_session_open and kz_session_close take memory by malloc and realloc, or give it back by
  *     free: they aren't called from a signal handler, or from the forked child of a process with threads.
  *     kz_session_walk takes none. A handler may call it for a session that no interrupted call uses.
  *   - Calls may run side by side in several threads; a session is used by one call at a time, and in
@@ -28,13 +28,19 @@ extern "C" {
 #endif
 
 /* The version of this header: its layouts, numbers and calls. */
-#define KZ_VERSION 1
+#define KZ_VERSION 2
 
 /* The version of the library that is linked: the same, or its layouts are others. */
 uint32_t kz_version(void);
 
+/* The first member of a struct that is handed in by its address is its size, as the caller was compiled: sizeof of it;
+ * that of a frame stands in its end, and that of a cleanup in its delivery. A session is an address alone. So a struct
+ * can grow with the library: a call that knows another size answers which struct it is, and reads no more of it. A call
+ * that writes a struct leaves its sizes. */
+
 /* Memory: bytes that lie at an address and after it. */
 typedef struct kz_region {
+    uint64_t size; /* sizeof(kz_region) */
     uint64_t address;
     const uint8_t *bytes;
     size_t length;
@@ -51,6 +57,7 @@ enum {
 /* A module: its addresses are those from `start` to before `end`. The start of a Mach-O or a PE module
  * is its base. */
 typedef struct kz_module {
+    uint64_t size; /* sizeof(kz_module) */
     uint64_t start;
     uint64_t end;
     uint64_t tables;
@@ -61,13 +68,16 @@ typedef struct kz_module {
 /* The registers of a stopped thread. The general ones are in the order of DWARF: rax, rdx, rcx, rbx,
  * rsi, rdi, rbp, rsp, r8 to r15. */
 typedef struct kz_registers {
+    uint64_t size; /* sizeof(kz_registers) */
     uint64_t general[16];
     uint64_t ip;
 } kz_registers;
 
-/* A frame: of the first the instruction pointer, of each other the address to which its callee returns;
- * the stack pointer, which is the canonical frame address of the frame before; and the registers that
- * calls keep. */
+/* A frame: of the first, and of one that a signal interrupted, the instruction pointer, of each other the
+ * address to which its callee returns; the stack pointer, which is the canonical frame address of the frame before; the registers that
+ * calls keep; and whether it was interrupted where it stands, and not stopped in a call: of the first as
+ * the call says, and of each other whether the frame before is a signal's. The address to look up
+ * is `ra` where it was, else `ra` - 1. */
 typedef struct kz_frame {
     uint64_t ra;
     uint64_t sp;
@@ -77,6 +87,7 @@ typedef struct kz_frame {
     uint64_t r13;
     uint64_t r14;
     uint64_t r15;
+    uint64_t interrupted; /* 1 or 0 */
 } kz_frame;
 
 /* Why there are no more frames. */
@@ -131,19 +142,25 @@ enum {
     KZ_COMPACT_KIND = 111,
     KZ_COMPACT_SENTINEL = 112,
     KZ_COMPACT_OVERFLOW = 113,
-    /* of a part again: one that deliveries read, and none of these calls */
+    /* of a part again: one that deliveries alone read */
     KZ_COMPACT_PERSONALITIES = 114,
     KZ_COMPACT_LSDA = 115,
     /* of a step */
     KZ_UNMAPPED = 201,     /* the word at `detail` isn't wholly in a region */
     KZ_COMPACT_FORM = 202, /* the function's opcode gives no caller */
     KZ_PE_INFO = 203,      /* unwind data of a PE module can't be read */
-    KZ_CHAIN_LIMIT = 204   /* more than 32 unwind records are chained */
+    KZ_CHAIN_LIMIT = 204,  /* more than 32 unwind records are chained */
+    /* of a delivery */
+    KZ_FRAME_LIMIT = 211, /* the search or a pass needs more states than the limit */
+    KZ_PASS_LIMIT = 212,  /* more cleanups would run than the limit */
+    KZ_NO_RESUME = 213    /* the resume table has no return address for the pad `detail` */
 };
 
 /* How far a walk came: how many frames there are, and why there are no more. What a reason doesn't
  * speak of is 0. */
 typedef struct kz_end {
+    uint64_t size;       /* sizeof(kz_end) */
+    uint64_t frame_size; /* sizeof(kz_frame) */
     uint64_t count;
     uint64_t address;
     uint64_t detail;
@@ -151,9 +168,10 @@ typedef struct kz_end {
     uint32_t error;
 } kz_end;
 
-/* What is faulty of what was handed in: the place of the region or of the module in its list, and where
- * it shares an address with earlier ones, the lowest start of these. Where memory ran out both are 0. */
+/* What is faulty of what was handed in: the place of the region, the module or the pair in its list, 0 for
+ * what stands in no list; and where it shares an address with earlier ones, the lowest start of these. */
 typedef struct kz_place {
+    uint64_t size; /* sizeof(kz_place) */
     uint64_t index;
     uint64_t address;
 } kz_place;
@@ -167,18 +185,97 @@ enum {
     KZ_REGION_OVERLAPS = 4, /* a region shares an address with an earlier one */
     KZ_MODULE_FORMAT = 5,   /* a module's format isn't known, or a number of a PE module has over 32 bits */
     KZ_MODULE_WRAPS = 6,    /* a module is empty or reversed, or a Mach-O or PE module has 2^32 bytes or more */
-    KZ_MODULE_OVERLAPS = 7  /* a module shares an address with an earlier one */
+    KZ_MODULE_OVERLAPS = 7, /* a module shares an address with an earlier one */
+    /* a size isn't known: */
+    KZ_REGION_SIZE = 8,     /* that of a region */
+    KZ_MODULE_SIZE = 9,     /* that of a module */
+    KZ_REGISTERS_SIZE = 10, /* that of the registers */
+    KZ_END_SIZE = 11,       /* that of the end */
+    KZ_FRAME_SIZE = 12,     /* that of a frame */
+    KZ_PLACE_SIZE = 13,     /* that of the place; nothing is written */
+    KZ_THROW_SIZE = 14,     /* that of what is thrown */
+    KZ_RESUME_SIZE = 15,    /* that of a pair of the resume table */
+    KZ_DELIVERY_SIZE = 16,  /* that of the delivery */
+    KZ_CLEANUP_SIZE = 17    /* that of a cleanup */
 };
+
+/* What these structs are initialized with, sizes and all: `kz_end end = KZ_END;`. */
+#define KZ_END {sizeof(kz_end), sizeof(kz_frame), 0, 0, 0, 0, 0}
+#define KZ_PLACE {sizeof(kz_place), 0, 0}
+#define KZ_REGION(address, bytes, length) {sizeof(kz_region), (address), (bytes), (length)}
+#define KZ_MODULE(start, end, tables, more, format) {sizeof(kz_module), (start), (end), (tables), (more), (format)}
 
 /* Walks the stack of a stopped thread as far as it goes, at most `frames_length` frames (and at most
  * 2^32 - 1), and tells why there are no more.
  *
  * `interrupted` says that the thread stands before the instruction at `start->ip`, and not after a call.
- * Where the answer isn't KZ_OK, `frames` and `end` are as before, and `place` tells what is faulty. Of
- * `frames` only the first `end->count` are written. */
+ * Where the answer isn't KZ_OK, `frames` and `end` are as before, and `place` says what is faulty, unless
+ * its own size isn't known. Of `frames` only the first `end->count` are written. */
 uint32_t kz_walk(const kz_region *regions, size_t regions_length, const kz_module *modules,
                  size_t modules_length, const kz_registers *start, bool interrupted, kz_frame *frames,
                  size_t frames_length, kz_end *end, kz_place *place);
+
+/* What is thrown: the exception's word, which RAX holds at each landing pad, and the most states of the
+ * search and of each pass, which is also the most cleanups. */
+typedef struct kz_throw {
+    uint64_t size; /* sizeof(kz_throw) */
+    uint64_t exception;
+    uint32_t limit;
+} kz_throw;
+
+/* Where a delivery goes on after the cleanup at a landing pad: what the call of _Unwind_Resume that ends
+ * the cleanup would return to. Of several pairs of one pad the first counts. */
+typedef struct kz_resume {
+    uint64_t size; /* sizeof(kz_resume) */
+    uint64_t pad;
+    uint64_t ret;
+} kz_resume;
+
+/* A cleanup that runs: its landing pad, and the stack pointer there. */
+typedef struct kz_cleanup {
+    uint64_t pad;
+    uint64_t sp;
+} kz_cleanup;
+
+/* How a delivery ends. */
+enum {
+    KZ_INSTALLED = 0,     /* at the landing pad of the frame that takes the exception */
+    KZ_END_OF_STACK = 1,  /* no frame takes it */
+    KZ_FATAL_PHASE_1 = 2, /* in the search a language table says to terminate, or isn't readable */
+    KZ_FATAL_PHASE_2 = 3, /* in a cleanup pass it does, or the stack ends */
+    KZ_NOT_DELIVERED = 4  /* the delivery is refused, for `error`; nothing is visited and no cleanup runs */
+};
+
+/* What a delivery does. What its outcome doesn't speak of is 0. */
+typedef struct kz_delivery {
+    uint64_t size;         /* sizeof(kz_delivery) */
+    uint64_t cleanup_size; /* sizeof(kz_cleanup) */
+    uint64_t visited;      /* how many states the search visits */
+    uint64_t cleanups;     /* how many cleanups run */
+    uint64_t detail;       /* of KZ_UNMAPPED the address, of KZ_NO_RESUME the landing pad */
+    uint32_t outcome;
+    uint32_t error;
+    uint64_t general[16]; /* the registers at the handler, in the order of kz_registers */
+    uint64_t ip;          /* the handler's landing pad */
+} kz_delivery;
+
+#define KZ_DELIVERY {sizeof(kz_delivery), sizeof(kz_cleanup), 0, 0, 0, 0, 0, {0}, 0}
+#define KZ_THROW(exception, limit) {sizeof(kz_throw), (exception), (limit)}
+#define KZ_RESUME(pad, ret) {sizeof(kz_resume), (pad), (ret)}
+
+/* Delivers an exception to the stack of a thread, as the Itanium C++ ABI says: a search for a frame that
+ * takes it, and then the cleanups on the way there, from the innermost outwards, up to the landing pad of
+ * that frame. Of the cleanups as many are written as there are places.
+ *
+ * `start` is a state that was stopped in a call: `start->ip` is what the call returns to. The frame that
+ * takes the exception is the first whose language table has a handler as the first action there, of
+ * whatever type, as Rust's personality reads it: a frame of C++ that cleans up first and then handles is
+ * passed. RDX is 0 at each landing pad. Where the answer isn't KZ_OK, `cleanups` and `delivery` are as
+ * before, and `place` says what is faulty, unless its own size isn't known. */
+uint32_t kz_deliver(const kz_region *regions, size_t regions_length, const kz_module *modules,
+                    size_t modules_length, const kz_registers *start, const kz_throw *thrown,
+                    const kz_resume *resumes, size_t resumes_length, kz_cleanup *cleanups,
+                    size_t cleanups_length, kz_delivery *delivery, kz_place *place);
 
 /* A session: modules that are kept from walk to walk, with indexes of their frame tables. */
 typedef struct kz_session {
@@ -200,6 +297,13 @@ uint32_t kz_session_open(const kz_region *regions, size_t regions_length, const 
 uint32_t kz_session_walk(kz_session *session, const kz_region *regions, size_t regions_length,
                          const kz_registers *start, bool interrupted, kz_frame *frames,
                          size_t frames_length, kz_end *end, kz_place *place);
+
+/* Delivers as kz_deliver does, over the session's modules, with these regions beside those of the session.
+ * Memory is taken for the resume table and for `thrown->limit` states, and given back. */
+uint32_t kz_session_deliver(kz_session *session, const kz_region *regions, size_t regions_length,
+                            const kz_registers *start, const kz_throw *thrown, const kz_resume *resumes,
+                            size_t resumes_length, kz_cleanup *cleanups, size_t cleanups_length,
+                            kz_delivery *delivery, kz_place *place);
 
 /* Gives a session's memory back. */
 void kz_session_close(kz_session session);

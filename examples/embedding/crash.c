@@ -85,8 +85,8 @@ static void on_crash(int number, siginfo_t *info, void *context) {
     }
     kz_region memory = stack_from(readable_from(start_of_stack(&start), stack_end), stack_end);
     static kz_frame frames[MOST];
-    kz_end end;
-    kz_place place;
+    kz_end end = KZ_END;
+    kz_place place = KZ_PLACE;
     uint32_t status = kz_session_walk(&session, &memory, 1, &start, interrupted, frames, MOST, &end, &place);
     if (status != KZ_OK)
         _exit(2);
@@ -118,7 +118,7 @@ int main(int count, char **words) {
     how = count > 1 ? words[1] : "write";
     find_modules(&own);
     stack_end = end_of_stack();
-    kz_place place;
+    kz_place place = KZ_PLACE;
     if (kz_session_open(own.tables, own.length, own.modules, own.length, MOST, &session.at, &place) != KZ_OK)
         return 2;
     stack_t alternate = {.ss_sp = malloc(1 << 16), .ss_size = 1 << 16};

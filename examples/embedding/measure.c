@@ -1,7 +1,9 @@
 /* Walks of one stack, so many times, by one of several unwinders: for callgrind, whose counts for two numbers of walks
  * are subtracted.
  *
- *     measure session|walk|unw_step|unw_backtrace|libgcc WALKS DEPTH
+ *     measure session|walk|unw_step|unw_backtrace|libgcc|deliver|raise WALKS DEPTH
+ *
+ * The last two search it for a handler, and find none: kz_deliver, and libgcc's _Unwind_RaiseException.
  *
  * The stack goes through the program's own functions and the C library's qsort. Kalzurenk walks it where it lies, from
  * the function that calls it; the others begin in it. */
@@ -35,8 +37,8 @@ static void fail(const char *what, uint32_t status) {
 static void walk_by_session(const kz_region *memory, const kz_registers *start) {
     static kz_frame frames[MOST];
     kz_session session;
-    kz_place place;
-    kz_end end;
+    kz_place place = KZ_PLACE;
+    kz_end end = KZ_END;
     uint32_t status =
         kz_session_open(own.tables, own.length, own.modules, own.length, MOST, &session.at, &place);
     if (status != KZ_OK)
@@ -50,13 +52,12 @@ static void walk_by_session(const kz_region *memory, const kz_registers *start) 
     kz_session_close(session);
 }
 
-static void walk_anew(const kz_region *memory, const kz_registers *start) {
-    static kz_region regions[MOST_MODULES + 1];
+static kz_region regions[MOST_MODULES + 1];
+
+static void walk_anew(const kz_registers *start) {
     static kz_frame frames[MOST];
-    kz_place place;
-    kz_end end;
-    memcpy(regions, own.tables, sizeof own.tables);
-    regions[own.length] = *memory;
+    kz_place place = KZ_PLACE;
+    kz_end end = KZ_END;
     for (int i = 0; i < walks; i++) {
         uint32_t status = kz_walk(regions, own.length + 1, own.modules, own.length, start, true, frames, MOST, &end, &place);
         if (status != KZ_OK || end.reason != KZ_OUTERMOST)
@@ -65,15 +66,40 @@ static void walk_anew(const kz_region *memory, const kz_registers *start) {
     }
 }
 
+static void deliver(const kz_registers *start) {
+    static const kz_resume no_resumes[1];
+    static kz_cleanup cleanups[MOST];
+    kz_throw thrown = KZ_THROW(0, MOST);
+    kz_delivery delivery = KZ_DELIVERY;
+    kz_place place = KZ_PLACE;
+    for (int i = 0; i < walks; i++) {
+        uint32_t status = kz_deliver(regions, own.length + 1, own.modules, own.length, start, &thrown, no_resumes, 0, cleanups,
+                                     MOST, &delivery, &place);
+        if (status != KZ_OK || delivery.outcome != KZ_END_OF_STACK)
+            fail("deliver", status);
+        counted += delivery.visited - 1;
+    }
+}
+
 static __attribute__((noinline)) void walk_all(void) {
     ucontext_t here;
     getcontext(&here);
     kz_registers start = registers_of(&here);
     kz_region memory = stack_from(stack_pointer(&start), stack_end);
+    memcpy(regions, own.tables, sizeof own.tables);
+    regions[own.length] = memory;
     if (strcmp(how, "session") == 0)
         walk_by_session(&memory, &start);
     if (strcmp(how, "walk") == 0)
-        walk_anew(&memory, &start);
+        walk_anew(&start);
+    if (strcmp(how, "deliver") == 0)
+        deliver(&start);
+    for (int i = 0; strcmp(how, "raise") == 0 && i < walks; i++) {
+        static struct _Unwind_Exception exception;
+        if (_Unwind_RaiseException(&exception) != _URC_END_OF_STACK)
+            fail("raise", 0);
+        counted++;
+    }
     for (int i = 0; strcmp(how, "unw_step") == 0 && i < walks; i++) {
         unw_cursor_t cursor;
         unw_context_t now;

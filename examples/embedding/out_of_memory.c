@@ -21,15 +21,16 @@ static const uint8_t table[] = {20, 0, 0, 0, 0, 0, 0, 0, 1, 'z', 'R', 0, 1, 0x78
 
 int main(void) {
     static const uint8_t stack[64];
-    kz_region regions[] = {{0x2000, table, sizeof table}, {0x7000, stack, sizeof stack}};
-    kz_module module = {0x1000, 0x1010, 0x2000, 0, KZ_ELF};
-    kz_registers start = {.general = {[7] = 0x7000}, .ip = 0x1001};
-    int failed = 0, walks = 0, opens = 0, samples = 0;
+    kz_region regions[] = {KZ_REGION(0x2000, table, sizeof table), KZ_REGION(0x7000, stack, sizeof stack)};
+    kz_module module = KZ_MODULE(0x1000, 0x1010, 0x2000, 0, KZ_ELF);
+    kz_registers start = {.size = sizeof start, .general = {[7] = 0x7000}, .ip = 0x1001};
+    int failed = 0, walks = 0, opens = 0, samples = 0, deliveries = 0;
     uint32_t status = KZ_NO_MEMORY;
     for (int n = 0; status == KZ_NO_MEMORY; n++, walks++) {
         kz_frame frames[4] = {{.ra = 5}};
-        kz_end end = {.count = 5};
-        kz_place place;
+        kz_end end = KZ_END;
+        end.count = 5;
+        kz_place place = KZ_PLACE;
         left = n;
         status = kz_walk(regions, 2, &module, 1, &start, true, frames, 4, &end, &place);
         left = -1;
@@ -39,7 +40,7 @@ int main(void) {
     kz_session session = {NULL};
     status = KZ_NO_MEMORY;
     for (int n = 0; status == KZ_NO_MEMORY; n++, opens++) {
-        kz_place place;
+        kz_place place = KZ_PLACE;
         left = n;
         status = kz_session_open(regions, 1, &module, 1, 4, &session.at, &place);
         left = -1;
@@ -49,8 +50,9 @@ int main(void) {
     status = KZ_NO_MEMORY;
     for (int n = 0; status == KZ_NO_MEMORY; n++, samples++) {
         kz_frame frames[4] = {{.ra = 5}};
-        kz_end end = {.count = 5};
-        kz_place place;
+        kz_end end = KZ_END;
+        end.count = 5;
+        kz_place place = KZ_PLACE;
         left = n;
         status = kz_session_walk(&session, regions + 1, 1, &start, true, frames, 4, &end, &place);
         left = -1;
@@ -58,7 +60,23 @@ int main(void) {
     }
     failed |= status != KZ_OK;
     kz_session_close(session);
-    printf("%s: %d, %d and %d allocations of a walk, a session and a sample\n", failed ? "FAILED" : "each failure is told",
-           walks - 1, opens - 1, samples - 1);
+    status = KZ_NO_MEMORY;
+    start.ip = 0x1006;
+    for (int n = 0; status == KZ_NO_MEMORY; n++, deliveries++) {
+        kz_resume resumes[] = {KZ_RESUME(0x1008, 0x100a), KZ_RESUME(0x1004, 0x1006)};
+        kz_throw thrown = KZ_THROW(0x9000, 4);
+        kz_cleanup cleanup = {5, 5};
+        kz_delivery delivery = KZ_DELIVERY;
+        kz_place place = KZ_PLACE;
+        delivery.visited = 5;
+        left = n;
+        status = kz_deliver(regions, 2, &module, 1, &start, &thrown, resumes, 2, &cleanup, 1, &delivery, &place);
+        left = -1;
+        failed |= status == KZ_OK ? delivery.visited != 2 || delivery.outcome != KZ_END_OF_STACK : delivery.visited != 5;
+        failed |= cleanup.pad != 5;
+    }
+    failed |= status != KZ_OK;
+    printf("%s: %d, %d, %d and %d allocations of a walk, a session, a sample and a delivery\n",
+           failed ? "FAILED" : "each failure is told", walks - 1, opens - 1, samples - 1, deliveries - 1);
     return failed;
 }

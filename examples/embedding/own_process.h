@@ -3,7 +3,9 @@
  * Include it first: it asks for the names that GNU's headers show. */
 #ifndef OWN_PROCESS_H
 #define OWN_PROCESS_H
+#ifndef _GNU_SOURCE
 #define _GNU_SOURCE
+#endif
 #include <kalzurenk.h>
 #include <link.h>
 #include <pthread.h>
@@ -32,7 +34,7 @@ static inline const ElfW(Phdr) *segment_of(const struct dl_phdr_info *info, ElfW
  * is handed in that holds .eh_frame_hdr, and .eh_frame beside it. */
 static inline int add_module(struct dl_phdr_info *info, size_t size, void *data) {
     (void)size;
-    own_modules *own = data;
+    own_modules *own = (own_modules *)data;
     const ElfW(Phdr) *header = NULL;
     uint64_t start = UINT64_MAX, end = 0, base = info->dlpi_addr;
     for (int i = 0; i < info->dlpi_phnum; i++) {
@@ -48,8 +50,8 @@ static inline int add_module(struct dl_phdr_info *info, size_t size, void *data)
     if (segment == NULL || end == 0 || own->length == MOST_MODULES)
         return 0;
     uint64_t tables = base + segment->p_vaddr;
-    own->tables[own->length] = (kz_region){tables, (const uint8_t *)tables, segment->p_memsz};
-    own->modules[own->length] = (kz_module){base + start, base + end, base + header->p_vaddr, 0, KZ_ELF_HEADER};
+    own->tables[own->length] = (kz_region)KZ_REGION(tables, (const uint8_t *)tables, segment->p_memsz);
+    own->modules[own->length] = (kz_module)KZ_MODULE(base + start, base + end, base + header->p_vaddr, 0, KZ_ELF_HEADER);
     own->names[own->length] = info->dlpi_name[0] != 0 ? info->dlpi_name : "program";
     own->length++;
     return 0;
@@ -77,7 +79,7 @@ static inline kz_registers registers_of(const ucontext_t *context) {
     const greg_t *from = context->uc_mcontext.gregs;
     const int order[16] = {REG_RAX, REG_RDX, REG_RCX, REG_RBX, REG_RSI, REG_RDI, REG_RBP, REG_RSP,
                            REG_R8,  REG_R9,  REG_R10, REG_R11, REG_R12, REG_R13, REG_R14, REG_R15};
-    kz_registers registers = {.ip = (uint64_t)from[REG_RIP]};
+    kz_registers registers = {sizeof registers, {0}, (uint64_t)from[REG_RIP]};
     for (int i = 0; i < 16; i++)
         registers.general[i] = (uint64_t)from[order[i]];
     return registers;
@@ -93,7 +95,7 @@ static inline uint64_t start_of_stack(const kz_registers *registers) { return st
 
 /* A stack where it lies: nobody else writes it while it is walked. */
 static inline kz_region stack_from(uint64_t start, uint64_t end) {
-    return (kz_region){start, (const uint8_t *)start, end - start};
+    return (kz_region)KZ_REGION(start, (const uint8_t *)start, end - start);
 }
 
 /* How many frames have a return address: the outermost has none. */

@@ -65,8 +65,8 @@ static void on_timer(int number, siginfo_t *info, void *context) {
     kz_registers start = registers_of(context);
     kz_region memory = stack_from(start_of_stack(&start), stack_end);
     static kz_frame frames[MOST];
-    kz_end end;
-    kz_place place;
+    kz_end end = KZ_END;
+    kz_place place = KZ_PLACE;
     if (kz_session_walk(&session, &memory, 1, &start, true, frames, MOST, &end, &place) != KZ_OK)
         return;
     trace libgcc = trace_of_libgcc(), libunwind = trace_of_libunwind();
@@ -135,7 +135,7 @@ int main(int count, char **words) {
     stack_end = end_of_stack();
     (void)trace_of_libgcc(), (void)trace_of_libunwind(); /* so that both make their tables now */
     find_modules(&own);
-    kz_place place;
+    kz_place place = KZ_PLACE;
     if (kz_session_open(own.tables, own.length, own.modules, own.length, MOST, &session.at, &place) != KZ_OK)
         return 2;
     struct sigaction action = {.sa_sigaction = on_timer, .sa_flags = SA_SIGINFO | SA_RESTART};

@@ -18,8 +18,8 @@ __attribute__((noinline)) static uint64_t walk_here(kz_session *session, uint64_
     kz_registers start = registers_of(&here);
     kz_region memory = stack_from(stack_pointer(&start), stack_end);
     kz_frame frames[MOST];
-    kz_end end;
-    kz_place place;
+    kz_end end = KZ_END;
+    kz_place place = KZ_PLACE;
     if (kz_session_walk(session, &memory, 1, &start, true, frames, MOST, &end, &place) != KZ_OK)
         return 0;
     return end.reason == KZ_OUTERMOST ? end.count : 0;
@@ -34,7 +34,7 @@ static void *walk_often(void *data) {
     thread_result *result = data;
     uint64_t stack_end = end_of_stack();
     kz_session session;
-    kz_place place;
+    kz_place place = KZ_PLACE;
     if (kz_session_open(own.tables, own.length, own.modules, own.length, MOST, &session.at, &place) != KZ_OK)
         return NULL;
     for (int i = 0; i < WALKS; i++) {

@@ -24,7 +24,7 @@ static void on_signal(int number, siginfo_t *info, void *context) {
     uint64_t from = start_of_stack(&start);
     size_t length = stack_end - from < STACK ? stack_end - from : STACK;
     memcpy(stack, (const void *)from, length);
-    memory = (kz_region){from, stack, length};
+    memory = (kz_region)KZ_REGION(from, stack, length);
     found_length = backtrace(found, MOST);
 }
 
@@ -58,13 +58,13 @@ int main(void) {
     sigaction(SIGUSR1, &action, NULL);
     (void)deep(20);
 
-    kz_place place = {0, 0};
+    kz_place place = KZ_PLACE;
     kz_session session = {NULL};
     uint32_t status = kz_session_open(own.tables, own.length, own.modules, own.length, MOST, &session.at, &place);
     if (status != KZ_OK)
         return fail("open", status, &place);
     static kz_frame frames[MOST];
-    kz_end end;
+    kz_end end = KZ_END;
     status = kz_session_walk(&session, &memory, 1, &start, true, frames, MOST, &end, &place);
     if (status != KZ_OK)
         return fail("walk", status, &place);

@@ -7,6 +7,7 @@ use std::ptr::null_mut;
 #[repr(C)]
 #[derive(Clone, Copy)]
 struct Region {
+    size: u64,
     address: u64,
     bytes: *const u8,
     length: usize,
@@ -15,6 +16,7 @@ struct Region {
 #[repr(C)]
 #[derive(Clone, Copy)]
 struct Module {
+    size: u64,
     start: u64,
     end: u64,
     tables: u64,
@@ -23,8 +25,8 @@ struct Module {
 }
 
 #[repr(C)]
-#[derive(Default)]
 struct Registers {
+    size: u64,
     general: [u64; 16],
     ip: u64,
 }
@@ -35,11 +37,14 @@ struct Frame {
     ra: u64,
     sp: u64,
     kept: [u64; 6],
+    interrupted: u64,
 }
 
 #[repr(C)]
 #[derive(Default)]
 struct End {
+    size: u64,
+    frame_size: u64,
     count: u64,
     address: u64,
     detail: u64,
@@ -50,8 +55,28 @@ struct End {
 #[repr(C)]
 #[derive(Default)]
 struct Place {
+    size: u64,
     index: u64,
     address: u64,
+}
+
+impl End {
+    fn sized() -> End {
+        End {
+            size: size_of::<End>() as u64,
+            frame_size: size_of::<Frame>() as u64,
+            ..End::default()
+        }
+    }
+}
+
+impl Place {
+    fn sized() -> Place {
+        Place {
+            size: size_of::<Place>() as u64,
+            ..Place::default()
+        }
+    }
 }
 
 #[repr(C)]
@@ -59,7 +84,7 @@ struct Session {
     at: *mut c_void,
 }
 
-const KZ_VERSION: u32 = 1;
+const KZ_VERSION: u32 = 2;
 const KZ_ELF_HEADER: u64 = 1;
 const KZ_OUTERMOST: u32 = 0;
 
@@ -153,11 +178,13 @@ extern "C" fn add_module(object: *const Object, _size: usize, data: *mut c_void)
     };
     let address = object.base + segment.address;
     own.tables.push(Region {
+        size: size_of::<Region>() as u64,
         address,
         bytes: address as *const u8,
         length: segment.size as usize,
     });
     own.modules.push(Module {
+        size: size_of::<Module>() as u64,
         start: object.base + start,
         end: object.base + end,
         tables: object.base + table.address,
@@ -176,7 +203,11 @@ extern "C" fn add_address(context: *mut c_void, data: *mut c_void) -> c_int {
 /// The registers here: the walk begins at the instruction after the one that reads RIP.
 #[inline(always)]
 fn registers_here() -> Registers {
-    let mut here = Registers::default();
+    let mut here = Registers {
+        size: size_of::<Registers>() as u64,
+        general: [0; 16],
+        ip: 0,
+    };
     unsafe {
         asm!(
             "lea {ip}, [rip]",
@@ -189,7 +220,7 @@ fn registers_here() -> Registers {
             "mov [{to} + 120], r15",
             "mov [{to} + 128], {ip}",
             ip = out(reg) _,
-            to = in(reg) &mut here,
+            to = in(reg) &raw mut here.general,
         );
     }
     here
@@ -203,12 +234,13 @@ fn walk(session: &mut Session) -> bool {
     let start = registers_here();
     let sp = start.general[7];
     let stack = Region {
+        size: size_of::<Region>() as u64,
         address: sp,
         bytes: sp as *const u8,
         length: unsafe { __libc_stack_end } as usize - sp as usize,
     };
     let mut frames = [Frame::default(); 64];
-    let (mut end, mut place) = (End::default(), Place::default());
+    let (mut end, mut place) = (End::sized(), Place::sized());
     let status = unsafe {
         kz_session_walk(
             session,
@@ -244,7 +276,7 @@ fn deep(n: u32, session: &mut Session) -> bool {
 fn main() {
     let mut own = Modules::default();
     unsafe { dl_iterate_phdr(add_module, (&raw mut own).cast()) };
-    let (mut session, mut place) = (Session { at: null_mut() }, Place::default());
+    let (mut session, mut place) = (Session { at: null_mut() }, Place::sized());
     let status = unsafe {
         kz_session_open(
             own.tables.as_ptr(),

@@ -1,10 +1,11 @@
 -- The memory and the modules that a caller hands in.
-use Rattle.std.specs.Prelude.{◌≡◌, ◌⊎◌, ℕ, ◌+◌, ◌^◌, ◌==◌, ◌&&◌, List, [], ◌∷◌, map, Option, Some, None, Result, Ok, Err, nat_lt, if◌then◌else◌}
+use Rattle.std.specs.Prelude.{◌≡◌, ◌⊎◌, ℕ, ◌+◌, ◌^◌, ◌==◌, ◌&&◌, Bool, List, [], ◌∷◌, map, Option, Some, None, Result, Ok, Err, nat_lt, if◌then◌else◌}
 use Rattle.memory_image.specs.Image.{Span, refusal, with_span}
 use Rattle.memory_image.specs.Results.{◌>>=◌}
 use Rattle.fde_finders.specs.declared.custom.FrameInfoKind.{FrameInfoKind}
 use Rattle.fde_finders.specs.declared.custom.FrameInfoKind.TheVariants.{EhFrame, EhFrameHdr}
 use Rattle.unwind_arch.specs.declared.x86_64.Context.{Context}
+use Rattle.format_frames.specs.declared.machine.Stepped.{Stepped}
 use Rattle.stack_steps.specs.declared.space.Module.{Module}
 use Rattle.stack_steps.specs.declared.space.ModuleTables.{ModuleTables}
 use Rattle.stack_steps.specs.declared.space.ModuleTables.TheVariants.{Elf, Macho, Pe}
@@ -14,17 +15,27 @@ use Rattle.kalzurenk_c.specs.declared.given.GivenModule.{GivenModule}
 use Rattle.kalzurenk_c.specs.declared.given.Registers.{Registers}
 use Rattle.kalzurenk_c.specs.declared.refusal.Refusal.{Refusal}
 use Rattle.kalzurenk_c.specs.declared.refusal.Refusal.TheVariants as refused
+use Rattle.kalzurenk_c.specs.Sizes.{if_sized, module_size, region_size}
 
 -- the registers from which a stack is walked
 abbrev pub context_of : Registers → Context
 context_of r = record { registers = r.general; ra = r.ip; mcxsr = 0; fcw = 0 }
 
+-- the state from which it is walked, interrupted where it stands or stopped in a call
+abbrev pub start_given : Registers → Bool → Stepped
+start_given r interrupted = record { context = context_of r; signal = interrupted }
+
 -- ---- regions
 
-abbrev pub span_of : Region → Span
-span_of r = record { start = r.address; bytes = r.bytes.now }
+-- bytes at an address, and the size that their struct has for its caller
+pub record SizedSpan : Type 0 where
+  pub size : ℕ
+  pub span : Span
 
-abbrev pub spans_of : List Region → List Span
+abbrev pub span_of : Region → SizedSpan
+span_of r = record { size = r.size; span = record { start = r.address; bytes = r.bytes.now } }
+
+abbrev pub spans_of : List Region → List SizedSpan
 spans_of = map span_of
 
 -- what follows, unless there is a cause against it
@@ -33,9 +44,11 @@ unless_refused refuse None more = more
 unless_refused refuse (Some e) more = Err (refuse e)
 
 -- The image after these regions are added, in their order, or the first that isn't taken. The first is at a place of its list.
-abbrev pub image_after : ℕ → List Span → List Span → Result (List Span) Refusal
+abbrev pub image_after : ℕ → List Span → List SizedSpan → Result (List Span) Refusal
 image_after place image [] = Ok image
-image_after place image (s ∷ ss) = unless_refused (refused.Region place) (refusal image s.start s.bytes) (image_after (place + 1) (with_span s image) ss)
+image_after place image (s ∷ ss) =
+    if_sized s.size region_size (refused.RegionSize place)
+    (unless_refused (refused.Region place) (refusal image s.span.start s.span.bytes) (image_after (place + 1) (with_span s.span image) ss))
 
 -- ---- modules
 
@@ -71,7 +84,8 @@ after_module place space (Some m) more = unless_refused (refused.Module place) (
 -- The space after these modules are added, in their order, or the first that isn't taken.
 abbrev pub space_after : ℕ → SpaceValue → List GivenModule → Result SpaceValue Refusal
 space_after place space [] = Ok space
-space_after place space (g ∷ gs) = after_module place space (module_given g) (λ s. space_after (place + 1) s gs)
+space_after place space (g ∷ gs) =
+    if_sized g.size module_size (refused.ModuleSize place) (after_module place space (module_given g) (λ s. space_after (place + 1) s gs))
 
 -- ---- both
 

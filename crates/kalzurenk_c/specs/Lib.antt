@@ -1,9 +1,12 @@
+pub mod Deliveries
 pub mod Given
 pub mod GivenSample
 pub mod HandleOwns
 pub mod Lending
 pub mod Numbers
+pub mod Outward
 pub mod Refusals
 pub mod SessionValues
 pub mod Sessions
+pub mod Sizes
 pub mod Told

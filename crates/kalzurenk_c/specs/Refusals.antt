@@ -6,7 +6,8 @@ use Rattle.stack_steps.specs.declared.space.SpaceError.{SpaceError}
 use Rattle.stack_steps.specs.declared.space.SpaceError.TheVariants as space
 use Rattle.kalzurenk_c.specs.declared.refusal.Place.{Place}
 use Rattle.kalzurenk_c.specs.declared.refusal.Refusal.{Refusal}
-use Rattle.kalzurenk_c.specs.declared.refusal.Refusal.TheVariants.{NoMemory, Region, Module, Format}
+use Rattle.kalzurenk_c.specs.declared.refusal.Refusal.TheVariants.{NoMemory, Region, Module, Format, RegionSize, ModuleSize, RegistersSize, EndSize, FrameSize, PlaceSize, ThrowSize, ResumeSize, DeliverySize, CleanupSize}
+use Rattle.kalzurenk_c.specs.Sizes.{place_size}
 
 abbrev pub region_refusal : ℕ → ImageError → Refusal
 region_refusal place image.NoMemory = NoMemory
@@ -33,6 +34,16 @@ status_of NoMemory = 1
 status_of (Region place e) = image_status e
 status_of (Module place e) = space_status e
 status_of (Format place) = 5
+status_of (RegionSize place) = 8
+status_of (ModuleSize place) = 9
+status_of RegistersSize = 10
+status_of EndSize = 11
+status_of FrameSize = 12
+status_of PlaceSize = 13
+status_of ThrowSize = 14
+status_of (ResumeSize place) = 15
+status_of DeliverySize = 16
+status_of CleanupSize = 17
 
 abbrev pub image_overlap : ImageError → ℕ
 image_overlap (image.Overlap start) = start
@@ -42,9 +53,20 @@ abbrev pub space_overlap : SpaceError → ℕ
 space_overlap (space.Overlap start) = start
 space_overlap e = 0
 
+abbrev pub at_place : ℕ → ℕ → Place
+at_place index address = record { size = place_size; index = index; address = address }
+
 -- what is faulty, and which start it overlaps
 abbrev pub place_of : Refusal → Place
-place_of NoMemory = record { index = 0; address = 0 }
-place_of (Region place e) = record { index = place; address = image_overlap e }
-place_of (Module place e) = record { index = place; address = space_overlap e }
-place_of (Format place) = record { index = place; address = 0 }
+place_of (Region place e) = at_place place (image_overlap e)
+place_of (Module place e) = at_place place (space_overlap e)
+place_of (Format place) = at_place place 0
+place_of (RegionSize place) = at_place place 0
+place_of (ModuleSize place) = at_place place 0
+place_of (ResumeSize place) = at_place place 0
+place_of _ = at_place 0 0
+
+-- the place after a refusal; it is as before where its own size isn't known
+abbrev pub place_after : Refusal → Place → Place
+place_after PlaceSize before = before
+place_after e before = place_of e

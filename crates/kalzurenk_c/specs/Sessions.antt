@@ -1,18 +1,14 @@
 -- Sessions: what they are opened with, and what they walk over.
-use Rattle.std.specs.Prelude.{◌≡◌, ◌⊎◌, ◌↔◌, ℕ, Bool, List, Result, Ok, Err}
-use Rattle.memory_image.specs.Image.{Span}
+use Rattle.std.specs.Prelude.{◌≡◌, ◌⊎◌, ℕ, List, Result, Ok, Err}
 use Rattle.memory_image.specs.Results.{result_map}
-use Rattle.unwind_arch.specs.declared.x86_64.Context.{Context}
 use Rattle.stack_steps.specs.Growing.{over_image}
 use Rattle.stack_steps.specs.Modules.{SpaceValue}
 use Rattle.stack_steps.specs.Preparing.{Prepares}
-use Rattle.stack_walks.specs.declared.front.Front.{Front}
-use Rattle.stack_walks.specs.Fronts.{ComesTo, front_of}
 use Rattle.kalzurenk_c.specs.declared.refusal.Refusal.{Refusal}
 use Rattle.kalzurenk_c.specs.declared.refusal.Refusal.TheVariants.{NoMemory}
 use Rattle.kalzurenk_c.specs.declared.refusal.Place.{Place}
-use Rattle.kalzurenk_c.specs.Given.{image_after}
-use Rattle.kalzurenk_c.specs.Refusals.{place_of, status_of}
+use Rattle.kalzurenk_c.specs.Given.{SizedSpan, image_after}
+use Rattle.kalzurenk_c.specs.Refusals.{place_after, status_of}
 use Rattle.kalzurenk_c.specs.SessionValues.{SessionValue}
 
 -- A session over the space that is due, in which each module that can be is prepared; or there is none, or no memory.
@@ -22,15 +18,8 @@ OpensSession (Ok session) due limit =
 OpensSession (Err e) due limit = (e ≡ NoMemory) ⊎ (due ≡ Err e)
 
 -- the session's modules over its memory with these regions added, or the first of these that isn't taken
-abbrev pub space_over : SpaceValue → List Span → Result SpaceValue Refusal
+abbrev pub space_over : SpaceValue → List SizedSpan → Result SpaceValue Refusal
 space_over space spans = result_map (over_image space) (image_after 0 space.image spans)
-
--- the states of a walk over the space that is due, and why it goes no further
-abbrev pub IsFront : Result Front Refusal → Result SpaceValue Refusal → ℕ → Context → Bool → List Context → Type 0
-IsFront (Ok why) due limit c interrupted states =
-    (space : SpaceValue) × (due ≡ Ok space) × (states ≡ front_of space limit c interrupted)
-    × ((reason : Front) → (why ≡ reason) ↔ ComesTo reason space limit c interrupted)
-IsFront (Err e) due limit c interrupted states = due ≡ Err e
 
 -- a session on the heap
 abbrev pub OpensBox : {B : Type 0} → (B → SessionValue) → Result B Refusal → Result SpaceValue Refusal → ℕ → Type 0
@@ -38,10 +27,10 @@ OpensBox value (Ok boxed) due limit = OpensSession (Ok (value boxed)) due limit
 OpensBox value (Err e) due limit = OpensSession (Err e) due limit
 
 -- a refusal is told
-abbrev pub IsRefused : Refusal → ℕ → Place → Type 0
-IsRefused refusal status after = (status ≡ status_of refusal) × (after ≡ place_of refusal)
+abbrev pub IsRefused : Refusal → ℕ → Place → Place → Type 0
+IsRefused refusal status before after = (status ≡ status_of refusal) × (after ≡ place_after refusal before)
 
 -- a session is opened where there is a space; or the status says why there is none, or that memory ran out
 abbrev pub IsOpened : Result SpaceValue Refusal → ℕ → Place → Place → Type 0
-IsOpened (Ok space) status before after = IsRefused NoMemory status after ⊎ ((status ≡ 0) × (after ≡ before))
-IsOpened (Err refusal) status before after = IsRefused NoMemory status after ⊎ IsRefused refusal status after
+IsOpened (Ok space) status before after = IsRefused NoMemory status before after ⊎ ((status ≡ 0) × (after ≡ before))
+IsOpened (Err refusal) status before after = IsRefused NoMemory status before after ⊎ IsRefused refusal status before after

@@ -4,13 +4,16 @@ ghost use Rattle.stack_steps.specs.Growing.{Grows};
 ghost use Rattle.stack_steps.specs.Modules.{SpaceValue};
 ghost use Rattle.kalzurenk_c.specs.Given.{context_of, image_after, module_given, nonzero, spans_of};
 ghost use Rattle.kalzurenk_c.specs.Given.{elf_given, pe_given, space_after, space_given};
+ghost use Rattle.kalzurenk_c.specs.Given.{start_given};
 ghost use Rattle.kalzurenk_c.specs.Given.{GivesUnlessNoMemory, LeavesUnlessNoMemory};
-ghost use Rattle.kalzurenk_c.specs.GivenSample.{at_end, at_start, given_module, there};
+ghost use Rattle.kalzurenk_c.specs.Sizes.{module_size, region_size};
+ghost use Rattle.kalzurenk_c.specs.GivenSample.{at_end, at_start, given_module, sized_as, there};
 
 use crate::refusal::{Refusal, module_refusal, region_refusal};
+use crate::sizes::{MODULE_SIZE, REGION_SIZE};
 use fde_finders::{FrameInfo, FrameInfoKind};
 use memory_image::{ImageError, MemoryImage};
-use stack_steps::{MachoTables, Module, ModuleTables, PeTables, Space, SpaceError};
+use stack_steps::{MachoTables, Module, ModuleTables, PeTables, Space, SpaceError, Stepped};
 use std::alloc::Global;
 use unwind_arch::x86_64::Context;
 
@@ -18,6 +21,8 @@ use unwind_arch::x86_64::Context;
 #[repr(C)]
 #[derive(Clone, Copy, Drop)]
 pub struct Region<'a> {
+    /// How many bytes this struct has.
+    pub size: u64,
     /// The address of the first byte.
     pub address: u64,
     /// The bytes.
@@ -28,6 +33,8 @@ pub struct Region<'a> {
 #[repr(C)]
 #[derive(Clone, Copy, Drop)]
 pub struct GivenModule {
+    /// How many bytes this struct has.
+    pub size: u64,
     /// Its first address, which is the base of a Mach-O or a PE module.
     pub start: u64,
     /// The address after its last.
@@ -48,6 +55,8 @@ pub struct GivenModule {
 #[repr(C)]
 #[derive(Clone, Copy, Drop)]
 pub struct Registers {
+    /// How many bytes this struct has.
+    pub size: u64,
     /// In the order of the psABI's table of DWARF register numbers: RAX, RDX, RCX, RBX, RSI, RDI,
     /// RBP, RSP, and R8 to R15.
     pub general: [u64; 16],
@@ -56,7 +65,7 @@ pub struct Registers {
 }
 
 /// The registers from which a stack is walked.
-pub(crate) fn start_of(start: &Registers) -> Context
+pub(crate) fn context_of(start: &Registers) -> Context
     ensures { result ≡ context_of start.now }
 {
     let mut context = Context::default();
@@ -64,6 +73,16 @@ pub(crate) fn start_of(start: &Registers) -> Context
     context.registers = general;
     context.ra = start.ip;
     context
+}
+
+/// The state from which a stack is walked.
+pub(crate) fn start_of(start: &Registers, interrupted: bool) -> Stepped
+    ensures { result ≡ start_given start.now interrupted }
+{
+    Stepped {
+        context: context_of(start),
+        signal: interrupted,
+    }
 }
 
 /// A number, unless it is 0.
@@ -129,6 +148,9 @@ pub(crate) fn add_regions<'a>(
 {
     let mut place = 0;
     for region in regions {
+        if region.size != REGION_SIZE {
+            return Err(Refusal::RegionSize(place));
+        }
         if let Err(error) = image.add(region.address, region.bytes) {
             return Err(region_refusal(place, error));
         }
@@ -143,6 +165,9 @@ fn add_modules(space: &mut Space<'_>, modules: &[GivenModule]) -> Result<(), Ref
 {
     let mut place = 0;
     for given in modules {
+        if given.size != MODULE_SIZE {
+            return Err(Refusal::ModuleSize(place));
+        }
         let Some(module) = module_of(given) else {
             return Err(Refusal::Format(place));
         };
@@ -169,14 +194,17 @@ pub(crate) fn space_of<'a>(
     Ok(space)
 }
 
-/// Each refusal but that of memory can be met; and a region and a module are taken, one byte at 0x1000
+/// Each refusal of a region and of a module but that of memory can be met; and a region and a module are taken, one byte at 0x1000
 /// and an ELF module there. The function does nothing.
 pub fn each_refusal_is_given()
+    ensures sized { image_after 0 [] (sized_as 24 (at_start []) ∷ []) ≡ Err (Refusal.RegionSize 0) }
     ensures empty { image_after 0 [] (at_start [] ∷ []) ≡
         Err (Refusal.Region 0 ImageError.Empty) }
     ensures wraps { image_after 0 [] (at_end ∷ []) ≡ Err (Refusal.Region 0 ImageError.Wraps) }
     ensures overlaps { image_after 0 [] (at_start (0 ∷ []) ∷ at_start (0 ∷ []) ∷ []) ≡
         Err (Refusal.Region 1 (ImageError.Overlap 0x1000)) }
+    ensures sized_module { space_after 0 there
+        (record (given_module 0 0x1001) { size = 40 } ∷ []) ≡ Err (Refusal.ModuleSize 0) }
     ensures format { space_after 0 there (given_module 4 0x1001 ∷ []) ≡ Err (Refusal.Format 0) }
     ensures reversed { space_after 0 there (given_module 0 0x1000 ∷ []) ≡
         Err (Refusal.Module 0 SpaceError.Wraps) }

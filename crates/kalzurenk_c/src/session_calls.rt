@@ -1,13 +1,15 @@
 // The calls of sessions.
 ghost use Rattle.std.specs.Prelude.{◌≡◌, length, min};
-ghost use Rattle.kalzurenk_c.specs.Given.{context_of, space_given, spans_of};
+ghost use Rattle.kalzurenk_c.specs.Given.{space_given, spans_of, start_given};
 ghost use Rattle.kalzurenk_c.specs.Sessions.{IsOpened, OpensBox, space_over};
-ghost use Rattle.kalzurenk_c.specs.Told.{TellsWalk, frame_limit};
+ghost use Rattle.kalzurenk_c.specs.Sizes.{place_sized, walk_sized};
+ghost use Rattle.kalzurenk_c.specs.Told.{GivesWalk, TellsWalk, frame_limit};
 
 use crate::given::{GivenModule, Region, Registers};
 use crate::handle::SessionHandle;
 use crate::refusal::{Place, Refusal, answered};
 use crate::session::Session;
+use crate::sizes::{place_sized, walk_sized};
 use crate::told::{StackFrame, WalkEnd};
 use std::alloc::Global;
 
@@ -41,18 +43,40 @@ pub extern "C" fn kz_session_open(
     session: &mut *mut u8,
     place: &mut Place,
 ) -> u32
-    ensures { IsOpened (space_given regions.now modules.now) result place.old place.new }
+    ensures { IsOpened
+        (place_sized place.old.size (space_given regions.now modules.now)) result place.old place.new }
 {
-    match boxed_session(alloc, regions, modules, limit) {
+    let opened = match place_sized(place) {
+        Ok(()) => boxed_session(alloc, regions, modules, limit),
+        Err(refusal) => Err(refusal),
+    };
+    match opened {
         Ok(boxed) => {
             *session = Box::into_raw(boxed).cast::<u8>();
             0
         }
-        Err(refusal) => {
-            *place = refusal.place();
-            refusal.status()
-        }
+        Err(refusal) => refusal.told(place),
     }
+}
+
+/// Walks over a session, where each size is known.
+fn walk_in_session(
+    session: &Session,
+    regions: &[Region<'_>],
+    start: &Registers,
+    interrupted: bool,
+    frames: &mut [StackFrame],
+    end: &mut WalkEnd,
+    place: &Place,
+) -> Result<(), Refusal>
+    ensures { GivesWalk result
+        (walk_sized place.now.size start.now.size end.old.size end.old.frame_size
+        (space_over session.now.space (spans_of regions.now)))
+        (min (frame_limit (length frames.old)) session.now.limit)
+        (start_given start.now interrupted) frames.old frames.new end.old end.new }
+{
+    walk_sized(start, end, place)?;
+    session.tell(regions, start, interrupted, frames, end)
 }
 
 /// Walks the stack of a stopped thread as [`kz_walk`](crate::kz_walk) does, over the modules of a
@@ -69,16 +93,17 @@ pub extern "C" fn kz_session_walk(
     place: &mut Place,
 ) -> u32
     ensures told { TellsWalk
-        (space_over session.old.value.space (spans_of regions.now))
+        (walk_sized place.old.size start.now.size end.old.size end.old.frame_size
+        (space_over session.old.value.space (spans_of regions.now)))
         (min (frame_limit (length frames.old)) session.old.value.limit)
-        (context_of start.now) interrupted
+        (start_given start.now interrupted)
         (record { status = 0; frames = frames.old; end = end.old; place = place.old })
         (record { status = result; frames = frames.new; end = end.new; place = place.new }) }
     ensures space { session.new.value.space ≡ session.old.value.space }
     ensures limit { session.new.value.limit ≡ session.old.value.limit }
 {
     let kept = session.as_mut();
-    let told = kept.tell(regions, start, interrupted, frames, end);
+    let told = walk_in_session(kept, regions, start, interrupted, frames, end, place);
     answered(told, place)
 }
 

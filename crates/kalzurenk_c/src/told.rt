@@ -1,17 +1,19 @@
 // What a walk tells its caller: frames, how many they are, and why there are no more.
 ghost use Rattle.std.specs.Prelude.{◌≡◌, ℕ, length};
-ghost use Rattle.kalzurenk_c.specs.Told.{end_told, frame_limit, frame_of, over};
+ghost use Rattle.kalzurenk_c.specs.Told.{end_told, frame_limit, frame_of};
 
 use crate::numbers::{refused_end, table_number};
-use stack_walks::{Front, Room};
-use unwind_arch::x86_64::{Context, R12, R13, R14, R15, RBP, RBX, RSP};
+use crate::sizes::{END_SIZE, FRAME_SIZE};
+use stack_steps::Stepped;
+use stack_walks::Front;
+use unwind_arch::x86_64::{R12, R13, R14, R15, RBP, RBX, RSP};
 
-/// A frame: its return address, its stack pointer, and the registers that calls keep.
+/// A frame: its return address, its stack pointer, the registers that calls keep, and its mark.
 #[repr(C)]
 #[derive(Clone, Copy, Drop)]
 pub struct StackFrame {
-    /// The instruction pointer of the first frame, and of each other the address that the call of
-    /// the frame before returns to.
+    /// The instruction pointer of the first frame, and of one that a signal interrupted; of each
+    /// other the address that the call of the frame before returns to.
     pub ra: u64,
     /// The stack pointer. That of the next frame is this frame's canonical frame address.
     pub sp: u64,
@@ -27,12 +29,20 @@ pub struct StackFrame {
     pub r14: u64,
     /// R15.
     pub r15: u64,
+    /// 1 where the frame was interrupted where it stands, so that `ra` is the address of its next
+    /// instruction: the start of a walk, as was said of it, and each that a signal's frame returns
+    /// to. 0 where it was stopped in a call.
+    pub interrupted: u64,
 }
 
 /// How far a walk came, and why it goes no further.
 #[repr(C)]
 #[derive(Clone, Copy, Drop)]
 pub struct WalkEnd {
+    /// How many bytes this struct has.
+    pub size: u64,
+    /// How many bytes a frame has.
+    pub frame_size: u64,
     /// How many frames there are.
     pub count: u64,
     /// The address asked at the last frame, where the reason has one; else 0.
@@ -47,36 +57,25 @@ pub struct WalkEnd {
 }
 
 /// The frame that a state shows.
-fn frame_of(state: &Context) -> StackFrame
+pub(crate) fn frame_of(state: &Stepped) -> StackFrame
     ensures { result ≡ frame_of state.now }
 {
+    let context = &state.context;
     StackFrame {
-        ra: state.ra,
-        sp: state.registers[RSP],
-        rbx: state.registers[RBX],
-        rbp: state.registers[RBP],
-        r12: state.registers[R12],
-        r13: state.registers[R13],
-        r14: state.registers[R14],
-        r15: state.registers[R15],
-    }
-}
-
-/// Puts the frames of the states in a room into places, as far as there are places.
-fn put_frames(room: &Room, frames: &mut [StackFrame])
-    ensures { frames.new ≡ over room.now.visited frames.old }
-{
-    let count = room.visited_len();
-    let places = frames.len();
-    let told = if count <= places { count } else { places };
-    for i in 0..told {
-        let state = room.visited(i).unwrap();
-        frames[i] = frame_of(&state);
+        ra: context.ra,
+        sp: context.registers[RSP],
+        rbx: context.registers[RBX],
+        rbp: context.registers[RBP],
+        r12: context.registers[R12],
+        r13: context.registers[R13],
+        r14: context.registers[R14],
+        r15: context.registers[R15],
+        interrupted: if state.signal { 1 } else { 0 },
     }
 }
 
 /// What is told of a walk's end.
-fn end_told(count: u64, why: Front) -> WalkEnd
+pub(crate) fn end_told(count: u64, why: Front) -> WalkEnd
     ensures { result ≡ end_told count why }
 {
     let (reason, error, address, detail) = match why {
@@ -95,21 +94,14 @@ fn end_told(count: u64, why: Front) -> WalkEnd
         Front::Limit => (5, 0, 0, 0),
     };
     WalkEnd {
+        size: END_SIZE,
+        frame_size: FRAME_SIZE,
         count,
         address,
         detail,
         reason,
         error,
     }
-}
-
-/// Tells the frames of the states in a room, and why there are no more.
-pub(crate) fn tell(room: &Room, why: Front, frames: &mut [StackFrame], end: &mut WalkEnd)
-    ensures frames { frames.new ≡ over room.now.visited frames.old }
-    ensures end { end.new ≡ end_told (length room.now.visited) why }
-{
-    put_frames(room, frames);
-    *end = end_told(room.visited_len() as u64, why);
 }
 
 /// The most frames that there are places for.

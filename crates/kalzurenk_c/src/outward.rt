@@ -1,0 +1,195 @@
+// The way outwards over a stack: its frames, each put into its place as it is met, and why there are no
+// more.
+ghost use Rattle.std.specs.Prelude.{◌≡◌, ◌≢◌, ◌≤◌, length, Ok, true};
+ghost use Rattle.memory_image.specs.Results.{result_map};
+ghost use Rattle.stack_steps.specs.Growing.{advanced_to};
+ghost use Rattle.stack_steps.specs.Modules.{AreApart};
+ghost use Rattle.stack_steps.specs.Stepping.{step_of};
+ghost use Rattle.kalzurenk_c.specs.Told.{TellsFront, over};
+ghost use Rattle.kalzurenk_c.specs.Outward.{HasNoNext, IsStop, StopsFor, states_from};
+
+use crate::told::{StackFrame, WalkEnd, end_told, frame_of};
+use fde_finders::FDESearchResult;
+use memory_image::{Ledger, NoLedger, Steps};
+use stack_steps::{DeliverError, GrownSpace, Stepped, Stepper};
+use stack_walks::{Front, RowRoom, unframed_front};
+use unwind_arch::x86_64::RSP;
+
+/// Where a walk starts, and how many frames it may have.
+#[derive(Drop)]
+pub(crate) struct WalkStart {
+    pub(crate) state: Stepped,
+    pub(crate) limit: u32,
+}
+
+/// How far a walk came.
+#[derive(Clone, Copy, Drop)]
+struct Stop {
+    /// How many states were met.
+    count: u32,
+    /// What the step from the last of them answered: that there is a caller, where there is no
+    /// place for it.
+    last: Result<bool, DeliverError>,
+}
+
+/// Puts the frames from a state outwards into places, where each module is prepared. `state` becomes
+/// the last state that was met, or the next where there is no place for it.
+fn prepared_frames<'t, 'a>(
+    space: &GrownSpace<'_, 't, 'a>,
+    state: &mut Stepped,
+    limit: u32,
+    frames: &mut [StackFrame],
+) -> Stop
+where
+    't: 'a,
+    requires { limit ≤ length frames.old }
+    ensures frames { frames.new ≡ over (states_from space.now limit state.old) frames.old }
+    ensures stop { IsStop result space.now limit state.old state.new }
+{
+    let mut steps = Steps::new(NoLedger);
+    let mut stepper = Stepper::over(space, state.context.registers[RSP]);
+    for i in 0..limit {
+        frames[i as usize] = frame_of(state);
+        match stepper.advance(state, &mut steps) {
+            Ok(true) => {}
+            Ok(false) => return Stop {
+                count: i + 1,
+                last: Ok(false),
+            },
+            Err(error) => return Stop {
+                count: i + 1,
+                last: Err(error),
+            },
+        }
+    }
+    Stop {
+        count: limit,
+        last: Ok(true),
+    }
+}
+
+/// Puts the caller of the frame at a state in the state's place, with rooms for what isn't prepared.
+#[tactic(auto, unfolding(stack_steps::specs::Stepping::step_of))]
+fn advance_in<'t, 'a, L: Ledger>(
+    stepper: &mut Stepper<'_, 't, 'a>,
+    state: &mut Stepped,
+    place: &mut Option<FDESearchResult<'a>>,
+    rows: &mut RowRoom<'a>,
+    steps: &mut Steps<L>,
+) -> Result<bool, DeliverError>
+where
+    't: 'a,
+    ensures step { result_map (advanced_to state.new) result ≡
+        step_of stepper.old state.old.context state.old.signal }
+    ensures stays { (result ≢ Ok true) → state.new ≡ state.old }
+    ensures same { stepper.new ≡ stepper.old }
+{
+    let found = stepper.frame_at(state, place, rows, steps);
+    match &found {
+        Ok(None) => Ok(false),
+        Ok(Some(frame)) => match stepper.leave(state, frame) {
+            Ok(()) => Ok(true),
+            Err(error) => Err(error),
+        },
+        Err(error) => Err(*error),
+    }
+}
+
+/// The same where not each module is prepared. The rooms for what isn't are made here, once, as a
+/// function clears the places of its locals whenever it is called.
+#[inline(never)]
+fn searched_frames<'t, 'a>(
+    space: &GrownSpace<'_, 't, 'a>,
+    state: &mut Stepped,
+    limit: u32,
+    frames: &mut [StackFrame],
+) -> Stop
+where
+    't: 'a,
+    requires { limit ≤ length frames.old }
+    ensures frames { frames.new ≡ over (states_from space.now limit state.old) frames.old }
+    ensures stop { IsStop result space.now limit state.old state.new }
+{
+    let mut steps = Steps::new(NoLedger);
+    let mut rows = RowRoom::new();
+    let mut place = None;
+    let mut stepper = Stepper::over(space, state.context.registers[RSP]);
+    for i in 0..limit {
+        frames[i as usize] = frame_of(state);
+        match advance_in(&mut stepper, state, &mut place, &mut rows, &mut steps) {
+            Ok(true) => {}
+            Ok(false) => return Stop {
+                count: i + 1,
+                last: Ok(false),
+            },
+            Err(error) => return Stop {
+                count: i + 1,
+                last: Err(error),
+            },
+        }
+    }
+    Stop {
+        count: limit,
+        last: Ok(true),
+    }
+}
+
+/// Puts the frames from a state outwards into places.
+fn put_frames<'t, 'a>(
+    space: &GrownSpace<'_, 't, 'a>,
+    state: &mut Stepped,
+    limit: u32,
+    frames: &mut [StackFrame],
+) -> Stop
+where
+    't: 'a,
+    requires { limit ≤ length frames.old }
+    ensures frames { frames.new ≡ over (states_from space.now limit state.old) frames.old }
+    ensures stop { IsStop result space.now limit state.old state.new }
+{
+    if space.is_prepared() {
+        prepared_frames(space, state, limit, frames)
+    } else {
+        searched_frames(space, state, limit, frames)
+    }
+}
+
+/// Why there are no more frames than those up to a state, by what the step from it answered.
+fn front_at(
+    space: &GrownSpace<'_, '_, '_>,
+    state: &Stepped,
+    last: Result<bool, DeliverError>,
+) -> Front
+    requires { HasNoNext last space.now state.now }
+    ensures { StopsFor last result space.now state.now }
+{
+    match last {
+        Ok(true) => Front::Limit,
+        Ok(false) => unframed_front(space, state),
+        Err(error) => Front::Refused {
+            address: state.address(),
+            error,
+        },
+    }
+}
+
+/// Walks a stack: puts its frames into places, and tells how many they are and why there are no more.
+pub(crate) fn tell_walk<'t, 'a>(
+    space: &GrownSpace<'_, 't, 'a>,
+    start: &WalkStart,
+    frames: &mut [StackFrame],
+    end: &mut WalkEnd,
+)
+where
+    't: 'a,
+    requires limit { start.now.limit ≤ length frames.old }
+    requires apart { AreApart 0 space.now.modules }
+    ensures { TellsFront space.now start.now.limit start.now.state frames.old frames.new end.new }
+{
+    // Its regions are laid out, as the image's type says.
+    let _ = space.image();
+    let mut state = start.state;
+    let stop = put_frames(space, &mut state, start.limit, frames);
+    let why = front_at(space, &state, stop.last);
+    *end = end_told(u64::from(stop.count), why);
+}
