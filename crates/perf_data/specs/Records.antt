@@ -6,12 +6,20 @@ use Rattle.perf_data.specs.declared.errors.PerfError.{PerfError}
 use Rattle.perf_data.specs.declared.errors.PerfError.TheVariants as errors
 use Rattle.perf_data.specs.declared.layout.Layout.{Layout}
 use Rattle.perf_data.specs.Samples.{SampleValue, sample_of}
+use Rattle.perf_data.specs.declared.task.Task.{Task}
 use Rattle.perf_data.specs.Mappings.{MappingValue, NameValue, mapping_of, name_of}
+use Rattle.perf_data.specs.Tasks.{task_of}
 
--- the types of a name, a sample and a mapping, of records of others after which bytes stand that are no record, and of those
--- whose bodies are compressed
+-- the types of a name, the end and the start of a thread, a sample and a mapping, of records of others after which bytes stand
+-- that are no record, and of those whose bodies are compressed
 abbrev pub COMM : ℕ
 COMM = 3
+
+abbrev pub EXIT : ℕ
+EXIT = 4
+
+abbrev pub FORK : ℕ
+FORK = 7
 
 abbrev pub SAMPLE : ℕ
 SAMPLE = 9
@@ -53,6 +61,8 @@ pub data RecordValue : Type 0 where
   Sampled : SampleValue → RecordValue
   Mapped : MappingValue → RecordValue
   Named : NameValue → RecordValue
+  Forked : Task → RecordValue
+  Exited : Task → RecordValue
   OtherKind : ℕ → RecordValue
 
 -- what the fields of a record say, where its body has them
@@ -69,6 +79,12 @@ mapping_in misc offset body = whole offset Mapped (mapping_of misc body)
 abbrev pub name_in : ℕ → ℕ → List ℕ → Result RecordValue PerfError
 name_in misc offset body = whole offset Named (name_of misc body)
 
+abbrev pub fork_in : ℕ → List ℕ → Result RecordValue PerfError
+fork_in offset body = whole offset Forked (task_of body)
+
+abbrev pub exit_in : ℕ → List ℕ → Result RecordValue PerfError
+exit_in offset body = whole offset Exited (task_of body)
+
 abbrev pub is_compressed : ℕ → Bool
 is_compressed kind = (kind == COMPRESSED) || (kind == COMPRESSED2)
 
@@ -80,9 +96,11 @@ record_of layout offset f =
     if f.kind == SAMPLE then sample_in layout offset f.body
     else (if f.kind == MMAP2 then mapping_in f.misc offset f.body
     else (if f.kind == COMM then name_in f.misc offset f.body
+    else (if f.kind == FORK then fork_in offset f.body
+    else (if f.kind == EXIT then exit_in offset f.body
     else (if is_compressed f.kind then Err (errors.Compressed offset)
     else (if is_trailed f.kind then Err (errors.Trailing offset)
-    else Ok (OtherKind f.kind)))))
+    else Ok (OtherKind f.kind)))))))
 
 -- what the first record of bytes says, and its size
 abbrev pub sized : ℕ → Result RecordValue PerfError → Result (RecordValue × ℕ) PerfError

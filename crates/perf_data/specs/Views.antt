@@ -16,7 +16,7 @@ use Rattle.perf_data.specs.declared.sample.Sample.{Sample}
 use Rattle.perf_data.specs.Registers.{RegisterWords}
 use Rattle.perf_data.specs.Samples.{SampleValue}
 use Rattle.perf_data.specs.Mappings.{FileValue, BuildId, Inode, MappingValue, NameValue}
-use Rattle.perf_data.specs.Records.{FramedValue, RecordValue, Sampled, Mapped, Named, OtherKind, records_of}
+use Rattle.perf_data.specs.Records.{FramedValue, RecordValue, Sampled, Mapped, Named, Forked, Exited, OtherKind, records_of}
 
 abbrev pub register_words : UserRegisters → RegisterWords
 register_words r = record { abi = r.abi; mask = r.mask; words = r.words.now }
@@ -53,6 +53,8 @@ abbrev pub record_value : Record → RecordValue
 record_value (records.Sample s) = Sampled (sample_value s)
 record_value (records.Mapping m) = Mapped (mapping_value m)
 record_value (records.Comm c) = Named (name_value c)
+record_value (records.Fork t) = Forked t
+record_value (records.Exit t) = Exited t
 record_value (records.Other kind) = OtherKind kind
 
 abbrev pub framed_pair : Framed × ℕ → FramedValue × ℕ

@@ -91,7 +91,7 @@ pub(crate) fn first_layout(size: u64, attributes: &[u8]) -> Option<Layout>
 }
 
 /// Whether all attributes tell this layout.
-#[tactic(auto, using(crate::proofs::LayoutLemmas::share_end, crate::proofs::LayoutLemmas::share_next, crate::proofs::LayoutLemmas::share_other))]
+#[tactic(auto, using(crate::proofs::LayoutLemmas::share_end, crate::proofs::LayoutLemmas::share_other))]
 pub(crate) fn share_layout(layout: &Layout, size: usize, attributes: &[u8]) -> bool
     requires { 80 ≤ size }
     ensures { result ≡ share_layout layout.now size attributes.now }

@@ -1,6 +1,6 @@
-//! A reader of perf.data files, which Linux's `perf record` writes: the samples of a profile with their registers and stacks,
-//! and the mappings and the names of its processes. The file's bytes are borrowed; nothing is copied, and nothing is
-//! allocated.
+//! A reader of perf.data files, which Linux's `perf record` writes: the samples of a profile with
+//! their registers and stacks, the mappings and the names of its processes, and the starts and ends
+//! of their threads. The file's bytes are borrowed; nothing is copied, and nothing is allocated.
 //!
 //! `PerfFile::parse` reads the header, and `records` gives the records one at a time, in the order of the file. Files of a
 //! machine of the other byte order, compressed records and what perf writes to a pipe are refused by name; records of
@@ -22,6 +22,7 @@ mod record;
 mod records;
 mod registers;
 mod sample;
+mod task;
 
 pub use errors::PerfError;
 pub use file::PerfFile;
@@ -30,3 +31,4 @@ pub use record::Record;
 pub use records::Records;
 pub use registers::UserRegisters;
 pub use sample::{Sample, Thread};
+pub use task::Task;

@@ -2,7 +2,7 @@
 ghost use Rattle.std.specs.Prelude.{◌≡◌, ◌≤◌, length, IfOk};
 ghost use Rattle.memory_image.specs.Results.{result_map};
 ghost use Rattle.perf_data.specs.Records.{first_framed, record_of, first_record};
-ghost use Rattle.perf_data.specs.Records.{sample_in, mapping_in, name_in};
+ghost use Rattle.perf_data.specs.Records.{sample_in, mapping_in, name_in, fork_in, exit_in};
 ghost use Rattle.perf_data.specs.Views.{framed_value, framed_pair, record_value, record_pair};
 
 use crate::errors::PerfError;
@@ -10,10 +10,15 @@ use crate::header::u16_at;
 use crate::layout::Layout;
 use crate::mapping::{Comm, Mapping, mapping_of, name_of};
 use crate::sample::{Sample, sample_of};
+use crate::task::{Task, task_of};
 use memory_image::u32_at;
 
 // the types of records
 const COMM: u32 = 3;
+
+const EXIT: u32 = 4;
+
+const FORK: u32 = 7;
 
 const SAMPLE: u32 = 9;
 
@@ -39,6 +44,10 @@ pub enum Record<'a> {
     Mapping(Mapping<'a>),
     /// The name of a thread.
     Comm(Comm<'a>),
+    /// The start of a thread, which has the name of the one that started it.
+    Fork(Task),
+    /// The end of a thread.
+    Exit(Task),
     /// A record of another type, which isn't read.
     Other(u32),
 }
@@ -106,6 +115,26 @@ fn name_in(misc: u16, offset: u64, body: &[u8]) -> Result<Record<'_>, PerfError>
     }
 }
 
+/// What the start of a thread says.
+fn fork_in<'a>(offset: u64, body: &'a [u8]) -> Result<Record<'a>, PerfError>
+    ensures { result_map record_value result ≡ fork_in offset body.now }
+{
+    match task_of(body) {
+        Some(task) => Ok(Record::Fork(task)),
+        None => Err(PerfError::Body(offset)),
+    }
+}
+
+/// What the end of a thread says.
+fn exit_in<'a>(offset: u64, body: &'a [u8]) -> Result<Record<'a>, PerfError>
+    ensures { result_map record_value result ≡ exit_in offset body.now }
+{
+    match task_of(body) {
+        Some(task) => Ok(Record::Exit(task)),
+        None => Err(PerfError::Body(offset)),
+    }
+}
+
 /// What a record says that stands at this offset of the file.
 #[tactic(auto, unfolding(crate::specs::Records::record_of))]
 fn record_of<'a>(layout: &Layout, offset: u64, framed: &Framed<'a>) -> Result<Record<'a>, PerfError>
@@ -115,6 +144,8 @@ fn record_of<'a>(layout: &Layout, offset: u64, framed: &Framed<'a>) -> Result<Re
         SAMPLE => sample_in(layout, offset, framed.body),
         MMAP2 => mapping_in(framed.misc, offset, framed.body),
         COMM => name_in(framed.misc, offset, framed.body),
+        FORK => fork_in(offset, framed.body),
+        EXIT => exit_in(offset, framed.body),
         COMPRESSED | COMPRESSED2 => Err(PerfError::Compressed(offset)),
         HEADER_TRACING_DATA | AUXTRACE => Err(PerfError::Trailing(offset)),
         kind => Ok(Record::Other(kind)),

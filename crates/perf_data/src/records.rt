@@ -42,7 +42,7 @@ impl<'a> Iterator for Records<'a> {
 
     ghost remaining = { item_count records_left };
 
-    #[tactic(auto, using(crate::proofs::RecordLemmas::records_end, crate::proofs::RecordLemmas::records_err, crate::proofs::RecordLemmas::records_next))]
+    #[tactic(auto, using(crate::proofs::RecordLemmas::records_end, crate::proofs::RecordLemmas::records_err))]
     fn next(&mut self) -> Option<Result<Record<'a>, PerfError>> {
         let bytes = self.bytes;
         if bytes.is_empty() {

@@ -86,6 +86,9 @@ pub struct Sample<'a> {
     pub stack: &'a [u8],
 }
 
+/// The registers of a program, where it has some, and what follows them.
+type RegistersThen<'a> = Option<(Option<UserRegisters<'a>>, &'a [u8])>;
+
 /// The bytes of a word that stands where a bit is set.
 fn word_if(n: u64, mask: u64) -> usize
     ensures { result ≡ word_if n mask }
@@ -289,11 +292,7 @@ fn after_passed<'a>(layout: &Layout, bytes: &'a [u8]) -> Option<&'a [u8]>
 }
 
 /// The registers of a program of this form, and what follows them.
-fn registers_by<'a>(
-    layout: &Layout,
-    abi: u64,
-    bytes: &'a [u8],
-) -> Option<(Option<UserRegisters<'a>>, &'a [u8])>
+fn registers_by<'a>(layout: &Layout, abi: u64, bytes: &'a [u8]) -> RegistersThen<'a>
     ensures { option_map (λ p. (words_of p.0, p.1.now)) result ≡ registers_by layout.now abi bytes.now }
 {
     if abi == 0 {
@@ -306,10 +305,7 @@ fn registers_by<'a>(
 }
 
 /// The form of the program and its registers, and what follows them.
-fn first_registers<'a>(
-    layout: &Layout,
-    bytes: &'a [u8],
-) -> Option<(Option<UserRegisters<'a>>, &'a [u8])>
+fn first_registers<'a>(layout: &Layout, bytes: &'a [u8]) -> RegistersThen<'a>
     ensures { option_map (λ p. (words_of p.0, p.1.now)) result ≡ first_registers layout.now bytes.now }
 {
     let (abi, registers) = first_word(bytes)?;
@@ -317,10 +313,7 @@ fn first_registers<'a>(
 }
 
 #[tactic(auto, unfolding(crate::specs::Samples::user_registers))]
-fn user_registers<'a>(
-    layout: &Layout,
-    bytes: &'a [u8],
-) -> Option<(Option<UserRegisters<'a>>, &'a [u8])>
+fn user_registers<'a>(layout: &Layout, bytes: &'a [u8]) -> RegistersThen<'a>
     ensures { option_map (λ p. (words_of p.0, p.1.now)) result ≡ user_registers layout.now bytes.now }
 {
     if has_bits(layout.sample_type, REGS_USER) {

@@ -1,6 +1,6 @@
 //! Records as text.
 
-use perf_data::{Comm, MappedFile, Mapping, Sample, Thread, UserRegisters};
+use perf_data::{Comm, MappedFile, Mapping, Sample, Task, Thread, UserRegisters};
 use std::alloc::AllocError;
 
 // how many numbers perf has for the registers of x86-64
@@ -98,6 +98,15 @@ pub fn put_comm(line: &mut String, comm: &Comm) -> Result<(), AllocError> {
     line.push_str(if comm.by_exec { "exec" } else { "comm" })?;
     put_thread(line, comm.thread)?;
     put_name(line, comm.name)
+}
+
+/// Puts what the start or the end of a thread says.
+pub fn put_task(line: &mut String, word: &str, task: &Task) -> Result<(), AllocError> {
+    let (pid, tid, time) = (task.parent.pid, task.parent.tid, task.time);
+    line.push_str(word)?;
+    put_thread(line, task.thread)?;
+    write!(line, " parent={pid}/{tid} time={time}")?;
+    Ok(())
 }
 
 // The sum of bytes: FNV-1a of 64 bits.

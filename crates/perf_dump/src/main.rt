@@ -5,7 +5,7 @@
 
 mod lines;
 
-use crate::lines::{put_comm, put_mapping, put_sample};
+use crate::lines::{put_comm, put_mapping, put_sample, put_task};
 use anyhow::Result;
 use perf_data::{PerfFile, Record};
 use std::alloc::Global;
@@ -18,6 +18,8 @@ fn line_of(alloc: Global, record: &Record) -> Result<String> {
         Record::Sample(sample) => put_sample(&mut line, sample)?,
         Record::Mapping(mapping) => put_mapping(&mut line, mapping)?,
         Record::Comm(comm) => put_comm(&mut line, comm)?,
+        Record::Fork(task) => put_task(&mut line, "fork", task)?,
+        Record::Exit(task) => put_task(&mut line, "exit", task)?,
         Record::Other(kind) => write!(line, "other kind={kind}")?,
     }
     Ok(line)
