@@ -1,0 +1,45 @@
+//! Reads a perf.data file from standard input and prints its folded stacks: a line for each distinct
+//! stack of its samples, with the number of the samples that show it. `profile TABLES` walks them over
+//! the modules of the file TABLES, a snapshot. docs/FORMATS.md has the lines.
+#![tactic(auto)]
+
+mod lines;
+mod running;
+mod sample;
+mod words;
+
+use crate::running::run;
+use crate::words::tables_file;
+use command_ends::{Status, Words, end_program, words_of};
+use memory_image::{StdinSource, StdoutSink};
+use std::fs;
+use std::io::ErrorKind;
+use std::process::ExitCode;
+
+/// The bytes of the file that the words name, none where they name none.
+fn tables_named(rt: &HostRuntime, words: &Words) -> Result<Vec<u8>, Status> {
+    let Some(path) = tables_file(words) else {
+        return Ok(Vec::new(rt.alloc()));
+    };
+    match fs::read(rt, path) {
+        Ok(bytes) => Ok(bytes),
+        Err(error) => match error.kind() {
+            ErrorKind::OutOfMemory => Err(Status::Memory),
+            _ => Err(Status::ReadFault),
+        },
+    }
+}
+
+fn main(rt: HostRuntime) -> ExitCode {
+    let Ok(words) = words_of(&rt) else {
+        return end_program(&rt, "profile", Status::Memory);
+    };
+    let tables = match tables_named(&rt, &words) {
+        Ok(tables) => tables,
+        Err(status) => return end_program(&rt, "profile", status),
+    };
+    let mut input = StdinSource::new(rt.stdin());
+    let mut output = StdoutSink::new(rt.stdout());
+    let status = run(rt.alloc(), &words, &tables, &mut input, &mut output);
+    end_program(&rt, "profile", status)
+}

@@ -1,0 +1,172 @@
+// One run of the program, from its words, its tables and its input to its output.
+ghost use Rattle.std.specs.Prelude.{◌≡◌, ◌≢◌, ℕ, List, Result, IfOk, IfSome, IsSome, None, ⊤};
+ghost use Rattle.std.specs.Io.KnownBytes.{Keeps};
+ghost use Rattle.memory_image.specs.Ends.{Rose};
+ghost use Rattle.command_ends.specs.Answers.{AnswersBytes, KeepsToEnds, LeavesSource};
+ghost use Rattle.command_ends.specs.Verdicts.{ComesExactly, IsReady, IsReadyOrFailed, Tells};
+ghost use Rattle.command_ends.specs.Verdicts.{verdict};
+ghost use Rattle.perf_data.specs.declared.errors.PerfError.{PerfError};
+ghost use Rattle.perf_data.specs.FileValue.{perf_of};
+ghost use Rattle.perf_data.specs.Records.{RecordValue};
+ghost use Rattle.folded_stacks.specs.Counts.{StackCount, IsFolded};
+ghost use Rattle.stack_snapshot.specs.Answers.{content_of, value_of};
+ghost use Rattle.stack_snapshot.specs.Content.{space_of};
+ghost use Rattle.stack_snapshot.specs.Origins.{OriginValue, origins_by};
+ghost use Rattle.sampled_profile.specs.Profiles.{Tables, profile_of, profile_text, stacks_of};
+ghost use Rattle.sampled_profile.specs.Profiles.{tables};
+ghost use Rattle.sampled_profile.specs.Told.{GivesProfile};
+ghost use Rattle.profile.specs.Due.{Asks, bytes_due, content_due, due_of, file_due, tables_file};
+ghost use Rattle.profile.specs.Due.{tables_of};
+ghost use Rattle.profile.specs.Lines.{usage_line};
+
+use crate::lines::{refused_line, usage_line};
+use crate::words::tables_file;
+use command_ends::{
+    Answer, Status, Words, fault_answer, read_input, silent_answer, tell, text_answer,
+};
+use memory_image::{Sink, Source};
+use perf_data::PerfFile;
+use sampled_profile::{Profile, ProfileError, profile_of};
+use stack_deliver::Space;
+use stack_report::Report;
+use stack_snapshot::{Origins, Snapshot, read_named_snapshot};
+use std::alloc::{AllocError, Global};
+
+/// The space of a snapshot, in which its modules are prepared where they can be. The profile over it
+/// is the same.
+fn prepared_space(alloc: Global, snapshot: &Snapshot) -> Result<Space<'_>, AllocError>
+    ensures { IfOk result (λ space. (origins : List OriginValue) (limit : ℕ)
+        (records : List (Result RecordValue PerfError)) →
+        profile_of (tables space origins limit) records ≡
+        profile_of (tables (space_of snapshot.now) origins limit) records) }
+{
+    let mut space = snapshot.space(alloc)?;
+    space.prepare()?;
+    Ok(space)
+}
+
+/// The profile of a perf.data file over the modules of a snapshot.
+fn snapshot_profile(
+    alloc: Global,
+    snapshot: &Snapshot,
+    origins: &Origins,
+    file: &PerfFile<'_>,
+) -> Result<Profile, ProfileError>
+    ensures { GivesProfile result
+        (profile_of (tables_of snapshot.now origins.now) file.now.records) }
+{
+    let space = prepared_space(alloc, snapshot)?;
+    profile_of(alloc, &space, origins, snapshot.limit(), file)
+}
+
+/// The lines of a profile.
+fn profile_lines(alloc: Global, profile: &Profile) -> Result<Report, AllocError>
+    ensures { IfOk result (λ report. report ≡ profile_text profile.now) }
+{
+    let mut report = Report::new(alloc);
+    profile.put_lines(&mut report)?;
+    Ok(report)
+}
+
+/// The answer to a perf.data file, or to other bytes.
+fn perf_answer(alloc: Global, snapshot: &Snapshot, origins: &Origins, bytes: &[u8]) -> Answer
+    ensures answer { AnswersBytes (file_due (tables_of snapshot.now origins.now) (perf_of bytes.now))
+        result.status result.text }
+    ensures kind { result.status ≢ Status.TooLong }
+{
+    let file = match PerfFile::parse(bytes) {
+        Ok(file) => file,
+        Err(error) => return text_answer(alloc, Status::Refused, refused_line(alloc, error)),
+    };
+    match snapshot_profile(alloc, snapshot, origins, &file) {
+        Ok(profile) => text_answer(alloc, Status::Done, profile_lines(alloc, &profile)),
+        Err(ProfileError::NoMemory) => silent_answer(alloc, Status::Memory),
+        Err(ProfileError::Unread(error)) => {
+            text_answer(alloc, Status::Refused, refused_line(alloc, error))
+        }
+    }
+}
+
+/// The answer to all bytes of the source, by the bytes of the tables' file.
+fn bytes_answer(alloc: Global, tables: &[u8], bytes: &[u8]) -> Answer
+    ensures answer { AnswersBytes (content_due (origins_by (value_of tables.now)) bytes.now
+        (content_of tables.now)) result.status result.text }
+    ensures kind { result.status ≢ Status.TooLong }
+{
+    match read_named_snapshot(alloc, tables) {
+        Ok((snapshot, origins)) => perf_answer(alloc, &snapshot, &origins, bytes),
+        Err(error) => fault_answer(alloc, error),
+    }
+}
+
+fn input_answer<I: Source>(alloc: Global, tables: &[u8], input: &mut I) -> Answer
+    ensures answer { IfSome (I.left input.old)
+        (λ bytes. IsReadyOrFailed (bytes_due tables.now bytes) result.status result.text) }
+    ensures kind { (result.status ≢ Status.Usage) × (result.status ≢ Status.WriteFault) }
+    ensures leaves { LeavesSource ⊤ result.status result.text
+        (Rose (I.faults input.old) (I.faults input.new)) (I.left input.old) (I.left input.new) }
+{
+    match read_input(alloc, input) {
+        Ok(bytes) => bytes_answer(alloc, tables, &bytes),
+        Err(answer) => answer,
+    }
+}
+
+fn decide<I: Source>(alloc: Global, words: &Words, tables: &[u8], input: &mut I) -> Answer
+    ensures answer { IfSome (I.left input.old) (λ bytes.
+        IsReadyOrFailed (due_of words.now tables.now bytes) result.status result.text) }
+    ensures usage { tables_file words.now ≡ None →
+        IsReady (verdict Status.Usage usage_line) result.status result.text }
+    ensures no_other { result.status ≡ Status.Usage → tables_file words.now ≡ None }
+    ensures leaves { LeavesSource (IsSome (tables_file words.now)) result.status result.text
+        (Rose (I.faults input.old) (I.faults input.new)) (I.left input.old) (I.left input.new) }
+    ensures unread { tables_file words.now ≡ None →
+        (result.status ≢ Status.ReadFault) × Keeps (I.left input.old) (I.left input.new) }
+    ensures kind { result.status ≢ Status.WriteFault }
+{
+    match tables_file(words) {
+        Some(_) => input_answer(alloc, tables, input),
+        None => text_answer(alloc, Status::Usage, usage_line(alloc)),
+    }
+}
+
+/// Writes the folded stacks of the perf.data file that the input is to the output, or why there are
+/// none. `tables` are the bytes of the file that the words name.
+///
+/// The input is read to its end, but for at most one byte after the 67,108,864th, and not at all
+/// where the words name no file. The checks go in this order: words, reading, JSON, snapshot,
+/// perf.data, writing. Running out of memory at any of them is `Memory`.
+pub fn run<I: Source, O: Sink>(
+    alloc: Global,
+    words: &Words,
+    tables: &[u8],
+    input: &mut I,
+    output: &mut O,
+) -> Status
+    // What is due for the words, the tables' bytes and the source's is answered and written.
+    ensures told { IfSome (I.left input.old) (λ bytes.
+        Tells (due_of words.now tables.now bytes) result (O.holds output.old)
+        (O.holds output.new)) }
+    // Of a perf.data file of which each record is read, the distinct stacks of its samples over the
+    // tables are written, in order and each once, with the number of the samples that show it.
+    ensures folded { IfSome (I.left input.old) (λ bytes. (t : Tables)
+        (records : List RecordValue) (lines : List StackCount) →
+        Asks words.now tables.now bytes t records → IsFolded (stacks_of t records) lines →
+        Tells (verdict Status.Done (profile_text lines)) result (O.holds output.old)
+        (O.holds output.new)) }
+    // Whatever the source tells, words that name no file are answered so, and no others.
+    ensures usage { ComesExactly result Status.Usage (tables_file words.now ≡ None) }
+    ensures usage_told { tables_file words.now ≡ None →
+        Tells (verdict Status.Usage usage_line) result (O.holds output.old) (O.holds output.new) }
+    ensures unread { tables_file words.now ≡ None →
+        (result ≢ Status.ReadFault) × Keeps (I.left input.old) (I.left input.new) }
+    // Without memory, and after a fault of the source, nothing is written; a fault is answered only
+    // where one rose; and the source is read to its end where the status says so.
+    ensures ends { KeepsToEnds (IsSome (tables_file words.now)) result
+        (Rose (I.faults input.old) (I.faults input.new))
+        (Rose (O.faults output.old) (O.faults output.new)) (I.left input.old) (I.left input.new)
+        (O.holds output.old) (O.holds output.new) }
+{
+    let answer = decide(alloc, words, tables, input);
+    tell(output, answer.status, answer.text.bytes())
+}

@@ -1,0 +1,5 @@
+pub mod EndLemmas
+pub mod CountLemmas
+pub mod NameLemmas
+pub mod TextLemmas
+pub mod ProfileLemmas

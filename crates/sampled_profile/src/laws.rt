@@ -1,0 +1,26 @@
+//! Laws of profiles, as functions with empty bodies: what stands in a contract here is proved.
+ghost use Rattle.std.specs.Prelude.{◌≡◌, ℕ, Bool, List, Result};
+ghost use Rattle.unwind_arch.specs.declared.x86_64.Context.{Context};
+ghost use Rattle.perf_data.specs.declared.errors.PerfError.{PerfError};
+ghost use Rattle.perf_data.specs.Records.{RecordValue};
+ghost use Rattle.stack_steps.specs.Modules.{Added, SpaceValue};
+ghost use Rattle.stack_walks.specs.declared.front.Front.{Front};
+ghost use Rattle.stack_walks.specs.Fronts.{ComesTo};
+ghost use Rattle.stack_snapshot.specs.Origins.{OriginValue};
+ghost use Rattle.sampled_profile.specs.Profiles.{profile_of, tables};
+ghost use Rattle.sampled_profile.specs.Walks.{end_of, end_told};
+
+/// What a profile tells doesn't depend on which modules of a space are prepared.
+pub fn profiles_stay_as_modules_are_prepared()
+    ensures { (space : SpaceValue) (added : List Added) (origins : List OriginValue) (limit : ℕ)
+        (records : List (Result RecordValue PerfError)) →
+        profile_of (tables (record space { added = added }) origins limit) records ≡
+        profile_of (tables space origins limit) records }
+{}
+
+/// The end of a stack is the one that the reason of its walk tells.
+pub fn a_reason_tells_the_end()
+    ensures { (space : SpaceValue) (why : Front) (limit : ℕ) (c : Context) (interrupted : Bool) →
+        ComesTo why space limit c interrupted →
+        end_of space limit c interrupted ≡ end_told why }
+{}

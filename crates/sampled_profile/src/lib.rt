@@ -1,0 +1,18 @@
+//! The stacks of a profile: each sample of a perf.data file is walked over the tables of its process
+//! and the copy of its thread's stack, and each distinct stack is told once, with the number of the
+//! samples that show it.
+//!
+//! Nothing of the tables is copied for a sample, and no memory is taken for one whose stack was seen
+//! before. A stack that goes on where nothing is known, as after the end of the copy, is told as far
+//! as it is known, and why there is no more.
+#![tactic(auto)]
+
+mod counts;
+mod laws;
+mod names;
+mod profile;
+mod texts;
+mod walks;
+
+pub use laws::{a_reason_tells_the_end, profiles_stay_as_modules_are_prepared};
+pub use profile::{Profile, ProfileError, profile_of};

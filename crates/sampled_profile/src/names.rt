@@ -1,0 +1,101 @@
+// The names of threads, as the records so far say.
+ghost use Rattle.std.specs.Prelude.{◌≡◌, ◌∷◌, [], List, OnOk};
+ghost use Rattle.std.specs.Option.{option_map};
+ghost use Rattle.perf_data.specs.Records.{RecordValue, Named, Forked};
+ghost use Rattle.perf_data.specs.Views.{name_value, record_value};
+ghost use Rattle.sampled_profile.specs.Kept.{Knows, name_kept, own_kept, parent_kept};
+ghost use Rattle.sampled_profile.specs.Names.{name_in};
+
+use perf_data::{Comm, Record, Task};
+use std::alloc::{AllocError, Global};
+use std::collections::BTreeMap;
+
+// of how many threads a name is asked, each of which started the one before
+const MOST: u32 = 16;
+
+/// The names of threads, and which thread started which.
+#[derive(Drop)]
+pub(crate) struct ThreadNames<'a> {
+    names: BTreeMap<u32, &'a [u8]>,
+    parents: BTreeMap<u32, u32>,
+}
+
+impl<'a> ThreadNames<'a> {
+    /// No names. It takes no memory yet.
+    pub(crate) fn new(alloc: Global) -> ThreadNames<'a>
+        ensures { Knows result [] }
+    {
+        ThreadNames {
+            names: BTreeMap::new(alloc),
+            parents: BTreeMap::new(alloc),
+        }
+    }
+
+    /// A thread's own name.
+    fn own(&self, thread: u32) -> Option<&'a [u8]>
+        ensures { option_map (λ name. name.now) result ≡ own_kept self.now thread }
+    {
+        self.names.get(&thread).copied()
+    }
+
+    /// The thread that started a thread.
+    fn parent(&self, thread: u32) -> Option<u32>
+        ensures { result ≡ parent_kept self.now thread }
+    {
+        self.parents.get(&thread).copied()
+    }
+
+    /// The name of a thread or of one that it comes from, of at most so many.
+    fn name_within(&self, most: u32, thread: u32) -> Option<&'a [u8]>
+        ensures { option_map (λ name. name.now) result ≡ name_kept self.now most thread }
+    {
+        if most == 0 {
+            return None;
+        }
+        if let Some(name) = self.own(thread) {
+            return Some(name);
+        }
+        match self.parent(thread) {
+            Some(parent) => self.name_within(most - 1, parent),
+            None => None,
+        }
+    }
+
+    /// The name of a thread.
+    pub(crate) fn name(&self, thread: u32) -> Option<&'a [u8]>
+        ensures { (earlier : List RecordValue) → Knows self.now earlier →
+            option_map (λ name. name.now) result ≡ name_in earlier thread }
+    {
+        self.name_within(MOST, thread)
+    }
+
+    /// Names a thread.
+    fn name_thread(&mut self, name: &Comm<'a>) -> Result<(), AllocError>
+        ensures { OnOk result ((earlier : List RecordValue) → Knows self.old earlier →
+            Knows self.new (Named (name_value name.now) ∷ earlier)) }
+    {
+        self.names.insert(name.thread.tid, name.name)?;
+        Ok(())
+    }
+
+    /// Notes which thread started a thread.
+    fn start_thread(&mut self, task: &Task) -> Result<(), AllocError>
+        ensures { OnOk result ((earlier : List RecordValue) → Knows self.old earlier →
+            Knows self.new (Forked task.now ∷ earlier)) }
+    {
+        self.parents.insert(task.thread.tid, task.parent.tid)?;
+        Ok(())
+    }
+
+    /// Takes what a record says of names.
+    pub(crate) fn note(&mut self, entry: &Record<'a>) -> Result<(), AllocError>
+        ensures { OnOk result ((earlier : List RecordValue) → Knows self.old earlier →
+            Knows self.new (record_value entry.now ∷ earlier)) }
+    {
+        match entry {
+            Record::Comm(name) => self.name_thread(name),
+            Record::Fork(task) => self.start_thread(task),
+            _ => Ok(()),
+        }
+    }
+}

@@ -1,0 +1,215 @@
+// The profile of a perf.data file.
+ghost use Rattle.std.specs.Prelude.{◌≡◌, ◌+◌, ◌<◌, ◌≤◌, ◌^◌, ◌++◌, ◌∷◌, [], List, Ok, IfOk, OnOk, length};
+ghost use Rattle.std.specs.Prelude.{sum_by};
+ghost use Rattle.std.specs.Option.{option_map};
+ghost use Rattle.perf_data.specs.Records.{RecordValue};
+ghost use Rattle.stack_steps.specs.Modules.{SpaceValue};
+ghost use Rattle.stack_snapshot.specs.Origins.{OriginValue};
+ghost use Rattle.perf_data.specs.Views.{record_value, records_left, sample_value};
+ghost use Rattle.folded_stacks.specs.Counts.{IsFolded, counted_in};
+ghost use Rattle.sampled_profile.specs.Kept.{IsTally, Knows};
+ghost use Rattle.sampled_profile.specs.Names.{name_of};
+ghost use Rattle.sampled_profile.specs.Profiles.{profile_of, profile_text, read_all, stacks_of};
+ghost use Rattle.sampled_profile.specs.Profiles.{tables};
+ghost use Rattle.sampled_profile.specs.Texts.{sample_text};
+ghost use Rattle.sampled_profile.specs.Told.{GivesProfile};
+
+use crate::counts::StackCounts;
+use crate::names::ThreadNames;
+use crate::texts::put_sample;
+use perf_data::{PerfError, PerfFile, Record, Records, Sample};
+use stack_deliver::{Room, Space};
+use stack_report::Report;
+use stack_snapshot::Origins;
+use std::alloc::{AllocError, Global};
+use std::marker::Model;
+
+/// Why there is no profile.
+#[derive(Clone, Copy, Debug, PartialEq, Eq, thiserror::Error)]
+pub enum ProfileError {
+    /// Memory ran out.
+    #[error("out of memory")]
+    NoMemory,
+    /// A record can't be read.
+    #[error("{0}")]
+    Unread(PerfError),
+}
+
+impl From<AllocError> for ProfileError {
+    ghost use Rattle.std.specs.Prelude.{◌≡◌};
+    ghost use Rattle.sampled_profile.specs.declared.profile.ProfileError.TheVariants.{NoMemory};
+
+    ghost from_gives = { λ _ e. e ≡ NoMemory };
+
+    fn from(_e: AllocError) -> ProfileError {
+        ProfileError::NoMemory
+    }
+}
+
+/// The distinct stacks of the samples, in the order of their texts, each with the number of the
+/// samples that show it.
+///
+/// Contracts see the texts with their counts.
+#[derive(Drop)]
+pub struct Profile {
+    counts: StackCounts,
+}
+
+impl Model for Profile {
+    ghost use Rattle.std.specs.Prelude.{List};
+    ghost use Rattle.folded_stacks.specs.Counts.{StackCount};
+
+    ghost Value = { List StackCount };
+
+    ghost view = { λ p. p.counts };
+}
+
+impl Profile {
+    /// Puts a line for each stack last: its text, a space and the count.
+    ///
+    /// # Errors
+    ///
+    /// `AllocError` where memory ran out.
+    pub fn put_lines(&self, report: &mut Report) -> Result<(), AllocError>
+        ensures { OnOk result (report.new ≡ report.old ++ profile_text self.now) }
+    {
+        self.counts.put_lines(report)
+    }
+}
+
+/// What is known after the records so far, and the room and the text of a walk.
+#[derive(Drop)]
+pub(crate) struct Tally<'a> {
+    names: ThreadNames<'a>,
+    counts: StackCounts,
+    room: Room,
+    text: Report,
+}
+
+/// Nothing is known yet.
+fn empty_tally<'a>(alloc: Global, limit: u32) -> Result<Tally<'a>, AllocError>
+    ensures { IfOk result (λ tally. (space : SpaceValue) (origins : List OriginValue) →
+        IsTally (tables space origins limit) tally []) }
+{
+    Ok(Tally {
+        names: ThreadNames::new(alloc),
+        counts: StackCounts::new(alloc),
+        room: Room::new(alloc, limit)?,
+        text: Report::new(alloc),
+    })
+}
+
+/// The name of a sample's thread.
+fn name_of<'a>(names: &ThreadNames<'a>, sample: &Sample<'_>) -> Option<&'a [u8]>
+    ensures { (earlier : List RecordValue) → Knows names.now earlier →
+        option_map (λ name. name.now) result ≡ name_of earlier (sample_value sample.now).thread }
+{
+    match sample.thread {
+        Some(thread) => names.name(thread.tid),
+        None => None,
+    }
+}
+
+/// Counts the stack of a sample.
+fn count_sample(
+    space: &Space<'_>,
+    origins: &Origins,
+    limit: u32,
+    sample: &Sample<'_>,
+    tally: &mut Tally<'_>,
+) -> Result<(), AllocError>
+    requires places { limit ≤ tally.old.room.limit }
+    requires few { sum_by (λ line. line.count) tally.old.counts + 1 < 2 ^ 64 }
+    ensures counted { OnOk result ((earlier : List RecordValue) → Knows tally.old.names earlier →
+        tally.new.counts ≡ counted_in (sample_text space.now origins.now limit
+        (name_of earlier (sample_value sample.now).thread) (sample_value sample.now))
+        tally.old.counts) }
+    ensures names { tally.new.names ≡ tally.old.names }
+    ensures places { tally.new.room.limit ≡ tally.old.room.limit }
+{
+    let name = name_of(&tally.names, sample);
+    tally.text.clear();
+    let room = &mut tally.room;
+    put_sample(&mut tally.text, space, origins, limit, name, sample, room)?;
+    tally.counts.count(tally.text.bytes())
+}
+
+/// Takes what a record says.
+fn note_record<'a>(
+    space: &Space<'_>,
+    origins: &Origins,
+    limit: u32,
+    entry: &Record<'a>,
+    tally: &mut Tally<'a>,
+) -> Result<(), AllocError>
+    requires places { tally.old.room.limit ≡ limit }
+    requires few { sum_by (λ line. line.count) tally.old.counts + 1 < 2 ^ 64 }
+    ensures { OnOk result ((earlier : List RecordValue) →
+        IsTally (tables space.now origins.now limit) tally.old earlier →
+        IsTally (tables space.now origins.now limit) tally.new
+        (record_value entry.now ∷ earlier)) }
+{
+    match entry {
+        Record::Sample(sample) => count_sample(space, origins, limit, sample, tally),
+        _ => tally.names.note(entry),
+    }
+}
+
+/// Takes what each record says.
+fn tally_records<'a>(
+    alloc: Global,
+    space: &Space<'_>,
+    origins: &Origins,
+    limit: u32,
+    records: Records<'a>,
+) -> Result<StackCounts, ProfileError>
+    requires { length (records_left records) < 2 ^ 64 }
+    ensures { GivesProfile result
+        (profile_of (tables space.now origins.now limit) (records_left records.entry)) }
+{
+    let mut tally = empty_tally(alloc, limit)?;
+    let mut records = records;
+    while let Some(item) = records.next() {
+        match item {
+            Ok(record) => note_record(space, origins, limit, &record, &mut tally)?,
+            Err(error) => return Err(ProfileError::Unread(error)),
+        }
+    }
+    Ok(tally.counts)
+}
+
+/// The profile of a perf.data file: each distinct stack of its samples once, in the order of the
+/// texts, with the number of the samples that show it.
+///
+/// A sample is walked over the modules of the space from its registers on, over the space's memory
+/// and the copy of its stack, at most `limit` states. Its text has the name of its thread, which the
+/// records before it tell, then why it is told no further, and its frames, the outermost first, by
+/// the files of `origins`. The space answers the same whether it is prepared or not, and much sooner
+/// where it is. Nothing is allocated for a sample whose text was told before.
+///
+/// # Errors
+///
+/// `Unread` with the error of the first record that can't be read; `NoMemory` where memory ran out,
+/// which may come in the place of any answer.
+pub fn profile_of(
+    alloc: Global,
+    space: &Space<'_>,
+    origins: &Origins,
+    limit: u32,
+    file: &PerfFile<'_>,
+) -> Result<Profile, ProfileError>
+    ensures exact { GivesProfile result
+        (profile_of (tables space.now origins.now limit) file.now.records) }
+    // The lines are the distinct stacks of the samples, in order and each once, with the number of
+    // the samples that show it.
+    ensures lines { IfOk result (λ profile. (read : List RecordValue) ×
+        (read_all file.now.records ≡ Ok read) ×
+        IsFolded (stacks_of (tables space.now origins.now limit) read) profile) }
+    // Each sample counts once.
+    ensures adds_up { IfOk result (λ profile. (read : List RecordValue) →
+        read_all file.now.records ≡ Ok read → sum_by (λ line. line.count) profile ≡
+        length (stacks_of (tables space.now origins.now limit) read)) }
+{
+    let counts = tally_records(alloc, space, origins, limit, file.records())?;
+    Ok(Profile { counts })
+}
