@@ -1,0 +1,13 @@
+mod Deciding
+mod Left
+mod Known
+mod Rules
+mod OneRow
+mod Spans
+mod Unique
+mod OneClaim
+mod AllClaims
+mod Begun
+mod Named
+mod Answered
+mod SampleDiffers

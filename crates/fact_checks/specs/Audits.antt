@@ -1,0 +1,63 @@
+-- What an audit answers: where a module's tables don't say what is claimed, and why. DWARF 5 section 6.4.1; LSB, sections on the
+-- .eh_frame and .eh_frame_hdr sections.
+use Rattle.std.specs.Prelude.{◌≡◌, ◌≢◌, ℕ, suc, ◌+◌, ◌≤◌, true, List, [], ◌∷◌, ◌++◌, None, IsTrue}
+use Rattle.std.specs.List.{AllByRecursion, Contains}
+use Rattle.memory_image.specs.Image.{Span}
+use Rattle.unwind_definitions.specs.Pointers.{Bases}
+use Rattle.unwind_definitions.specs.Entries.{Fde}
+use Rattle.unwind_definitions.specs.Row.{row_at}
+use Rattle.unwind_definitions.specs.Function.{in_range}
+use Rattle.frame_facts.specs.Claims.{Claim, IsClaimSaid}
+use Rattle.fde_finders.specs.declared.custom.FrameInfo.{FrameInfo}
+use Rattle.fde_finders.specs.FrameTables.{table_by}
+use Rattle.fact_checks.specs.declared.auditing.AuditError.{AuditError}
+use Rattle.fact_checks.specs.declared.auditing.AuditError.TheVariants as error
+use Rattle.fact_checks.specs.declared.rows.Mismatch.{Mismatch}
+use Rattle.fact_checks.specs.declared.rows.Mismatch.TheVariants as mismatch
+use Rattle.fact_checks.specs.declared.stretches.Difference.{Difference}
+use Rattle.fact_checks.specs.InOrder.{AreInOrder, IsFirstOutOfOrder}
+use Rattle.fact_checks.specs.RowFacts.{Differs}
+
+module _ (bases : Bases) (fdes : List Fde) where
+  -- one of the descriptions contains a claim's range
+  pub record ContainsRange (c : Claim) (fde : Fde) : Type 0 where
+    pub listed : Contains fdes fde
+    pub from : fde.start ≤ c.range.from
+    pub to : c.range.to ≤ fde.start + fde.size
+
+  -- the row of a description at an address of the claim's range differs so
+  pub record DiffersAt (c : Claim) (a : ℕ) (m : Mismatch) : Type 0 where
+    pub fde : Fde
+    pub contains : ContainsRange c fde
+    pub inside : IsTrue (in_range a c.range)
+    pub differs : Differs c.facts (row_at bases fde a) m
+
+  -- why the descriptions don't say a claim: none contains its range; or the one that does is of a signal's frame; or its row at an
+  -- address of the range differs
+  abbrev pub SaysNot : Claim → ℕ → Mismatch → Type 0
+  SaysNot c a mismatch.NoDescription = (a ≡ c.range.from) × ((fde : Fde) → ContainsRange c fde → ⊥)
+  SaysNot c a mismatch.SignalFrame = (a ≡ c.range.from) × (fde : Fde) × ContainsRange c fde × (fde.cie.letters.signal ≡ true)
+  SaysNot c a m = DiffersAt c a m
+
+  abbrev pub IsDifferenceOf : ℕ → Claim → Difference → Type 0
+  IsDifferenceOf i c d = (d.claim ≡ i) × SaysNot c d.address d.mismatch
+
+  -- the differences of one claim: none only where one of the descriptions says it
+  pub record AreDifferencesOf (i : ℕ) (c : Claim) (ds : List Difference) : Type 0 where
+    pub each : AllByRecursion (IsDifferenceOf i c) ds
+    pub said : ds ≡ [] → IsClaimSaid bases fdes c
+
+  -- the differences of claims, one claim's after those of the one before, by their places from one on
+  abbrev pub AreAudited : ℕ → List Claim → List Difference → Type 0
+  AreAudited i [] ds = ds ≡ []
+  AreAudited i (c ∷ cs) ds = (own : List Difference) × (rest : List Difference) × (ds ≡ own ++ rest) × AreDifferencesOf i c own × AreAudited (suc i) cs rest
+
+-- no difference is one of the claim at this place
+abbrev pub NoneOf : ℕ → List Difference → Type 0
+NoneOf i ds = AllByRecursion (λ (d : Difference). d.claim ≢ i) ds
+
+-- the first claim that is out of order; or where all are in order, no frame table is found; or memory ran out
+abbrev pub RefusesAudit : List Span → FrameInfo → List Claim → AuditError → Type 0
+RefusesAudit image frame claims (error.Claim i) = IsFirstOutOfOrder 0 claims i
+RefusesAudit image frame claims error.Tables = AreInOrder 0 claims × (table_by frame image ≡ None)
+RefusesAudit image frame claims error.NoMemory = Unit {0}

@@ -1,0 +1,7 @@
+pub mod ClaimViews
+pub mod RowFacts
+pub mod InOrder
+pub mod Stretches
+pub mod Audits
+pub mod Looking
+pub mod SampleClaims

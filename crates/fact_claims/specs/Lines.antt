@@ -1,0 +1,46 @@
+-- What is written of an audit.
+use Rattle.std.specs.Prelude.{ℕ, ◌+◌, Bool, true, false, ◌||◌, ◌==◌, List, [], ◌∷◌, ◌++◌, Option, Some, None, codes, if◌then◌else◌}
+use Rattle.std.specs.Fmt.{decimal}
+use Rattle.fact_checks.specs.declared.rows.Mismatch.{Mismatch}
+use Rattle.fact_checks.specs.declared.rows.Mismatch.TheVariants as mismatch
+use Rattle.fact_checks.specs.declared.stretches.Difference.{Difference}
+use Rattle.stack_report.specs.Digits.{hexadecimal}
+use Rattle.stack_report.specs.Report.{line}
+
+-- why what is claimed isn't said
+abbrev pub mismatch_text : Mismatch → List ℕ
+mismatch_text mismatch.NoDescription = codes " no description"
+mismatch_text mismatch.SignalFrame = codes " signal frame"
+mismatch_text (mismatch.Fault e) = codes " fault"
+mismatch_text mismatch.Cfa = codes " cfa"
+mismatch_text (mismatch.Rule register) = codes " rule " ++ decimal register.0
+
+unfoldable pub difference_line : Difference → List ℕ
+difference_line d = line (codes "differ " ++ hexadecimal d.address ++ codes " claim " ++ decimal d.claim ++ mismatch_text d.mismatch)
+
+abbrev pub difference_lines : List Difference → List ℕ
+difference_lines [] = []
+difference_lines (d ∷ ds) = difference_line d ++ difference_lines ds
+
+-- no description has rows for the claim, or it is one of a signal's frame
+abbrev pub is_without_row : Mismatch → Bool
+is_without_row mismatch.NoDescription = true
+is_without_row mismatch.SignalFrame = true
+is_without_row m = false
+
+-- how many claims have no row: each is in one difference
+abbrev pub without_row : List Difference → ℕ
+without_row [] = 0
+without_row (d ∷ ds) = (if is_without_row d.mismatch then 1 else 0) + without_row ds
+
+abbrev pub is_claim : Option ℕ → ℕ → Bool
+is_claim None i = false
+is_claim (Some j) i = j == i
+
+-- how many claims have a row that differs, where differences of one claim stand together, after one of this claim
+abbrev pub differing_after : Option ℕ → List Difference → ℕ
+differing_after last [] = 0
+differing_after last (d ∷ ds) = (if is_without_row d.mismatch || is_claim last d.claim then 0 else 1) + differing_after (Some d.claim) ds
+
+abbrev pub audit_report : ℕ → List Difference → List ℕ
+audit_report claims ds = difference_lines ds ++ line (codes "claims " ++ decimal claims) ++ line (codes "differ " ++ decimal (differing_after None ds)) ++ line (codes "without a row " ++ decimal (without_row ds))

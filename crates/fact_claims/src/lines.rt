@@ -1,0 +1,120 @@
+// What an audit finds, as lines.
+ghost use Rattle.std.specs.Prelude.{◌≡◌, ◌≤◌, ◌++◌, ◌∷◌, [], None, length, IfOk, OnOk};
+ghost use Rattle.std.specs.Fmt.{decimal};
+ghost use Rattle.stack_report.specs.Report.{line};
+ghost use Rattle.fact_claims.specs.Lines.{audit_report, difference_line, difference_lines};
+ghost use Rattle.fact_claims.specs.Lines.{differing_after, is_claim, is_without_row, mismatch_text};
+ghost use Rattle.fact_claims.specs.Lines.{without_row};
+
+use fact_checks::{Difference, Mismatch};
+use stack_report::Report;
+use std::alloc::{AllocError, Global};
+
+/// Puts why what is claimed isn't said.
+fn put_mismatch(report: &mut Report, mismatch: Mismatch) -> Result<(), AllocError>
+    ensures { OnOk result (report.new ≡ report.old ++ mismatch_text mismatch) }
+{
+    match mismatch {
+        Mismatch::NoDescription => report.put(" no description"),
+        Mismatch::SignalFrame => report.put(" signal frame"),
+        Mismatch::Fault(_) => report.put(" fault"),
+        Mismatch::Cfa => report.put(" cfa"),
+        Mismatch::Rule(register) => report.put_count(" rule ", usize::from(register.0)),
+    }
+}
+
+/// Puts the line of a difference.
+#[tactic(auto, unfolding(crate::specs::Lines::difference_line))]
+fn put_difference(report: &mut Report, difference: &Difference) -> Result<(), AllocError>
+    ensures { OnOk result (report.new ≡ report.old ++ difference_line difference.now) }
+{
+    report.put_field("differ ", difference.address)?;
+    report.put_count(" claim ", difference.claim)?;
+    put_mismatch(report, difference.mismatch)?;
+    report.end_line()
+}
+
+/// Puts the lines of differences.
+fn put_differences(report: &mut Report, differences: &[Difference]) -> Result<(), AllocError>
+    ensures { OnOk result (report.new ≡ report.old ++ difference_lines differences.now) }
+{
+    for difference in differences {
+        put_difference(report, difference)?;
+    }
+    Ok(())
+}
+
+/// Whether none of the rows of a claim was looked at.
+fn is_without_row(mismatch: Mismatch) -> bool
+    ensures { result ≡ is_without_row mismatch }
+{
+    matches!(mismatch, Mismatch::NoDescription | Mismatch::SignalFrame)
+}
+
+/// Whether this is the claim.
+fn is_claim(last: Option<usize>, claim: usize) -> bool
+    ensures { result ≡ is_claim last claim }
+{
+    match last {
+        Some(before) => before == claim,
+        None => false,
+    }
+}
+
+/// How many claims have no row.
+fn without_row(differences: &[Difference]) -> usize
+    ensures count { result ≡ without_row differences.now }
+    ensures few { result ≤ length differences.now }
+{
+    let mut count = 0;
+    for difference in differences {
+        if is_without_row(difference.mismatch) {
+            count += 1;
+        }
+    }
+    count
+}
+
+/// How many claims have a row that differs.
+fn differing(differences: &[Difference]) -> usize
+    ensures { result ≡ differing_after None differences.now }
+{
+    let mut count = 0;
+    let mut last = None;
+    for difference in differences {
+        if !is_without_row(difference.mismatch) && !is_claim(last, difference.claim) {
+            count += 1;
+        }
+        last = Some(difference.claim);
+    }
+    count
+}
+
+/// Puts a number after a label, in a line.
+fn put_number(report: &mut Report, label: &str, number: usize) -> Result<(), AllocError>
+    ensures { OnOk result (report.new ≡ report.old ++ line (label.now ++ decimal number)) }
+{
+    report.put_count(label, number)?;
+    report.end_line()
+}
+
+/// Says what an audit of so many claims finds: a line for each difference, and how many claims
+/// there are, how many differ, and how many have no row.
+///
+/// # Errors
+///
+/// `AllocError` where memory ran out.
+pub fn audit_report(
+    alloc: Global,
+    claims: usize,
+    differences: &[Difference],
+) -> Result<Report, AllocError>
+    ensures { IfOk result (λ report. report ≡ audit_report claims differences.now) }
+{
+    let mut report = Report::new(alloc);
+    put_differences(&mut report, differences)?;
+    put_number(&mut report, "claims ", claims)?;
+    put_number(&mut report, "differ ", differing(differences))?;
+    put_number(&mut report, "without a row ", without_row(differences))?;
+    Ok(report)
+}
