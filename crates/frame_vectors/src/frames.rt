@@ -333,7 +333,9 @@ fn frames_are_shown(rt: HostRuntime) -> Result<(), Fail> {
     expect_equal(
         &rt,
         text.as_str(),
-        "Frame { fde_result: FDESearchResult { start: 0x401000, len: 0x20, bases: Bases { text: None, data_base: None, func: None, hdr: None, frame: Some(5242880) } }, cfa: RegisterAndOffset { register: Register(7), offset: 32 } }",
+        "Frame { fde_result: FDESearchResult { start: 0x401000, len: 0x20, bases: Bases { text: \
+        None, data_base: None, func: None, hdr: None, frame: Some(5242880) } }, cfa: RegisterAn\
+        dOffset { register: Register(7), offset: 32 } }",
     );
     let refused = format!(in rt.alloc(); "{:?}", SetCustomEhFrameFinderError)?;
     expect_equal(&rt, refused.as_str(), "SetCustomEhFrameFinderError");

@@ -11,11 +11,13 @@ use unwind_arch::x86_64::RSP;
 /// A frame table with one function, 0x401000 to 0x401010, that pushes RBX. Its common information
 /// entry stands at 0, the description at 24.
 const TABLE: [u8; 52] =
-    *b"\x14\0\0\0\0\0\0\0\x01zR\0\x01\x78\x10\x01\x1b\x0c\x07\x08\x90\x01\0\0\x14\0\0\0\x1c\0\0\0\xe0\x0f\xf0\xff\x10\0\0\0\0\x41\x0e\x10\x83\x02\0\0\0\0\0\0";
+    *b"\x14\0\0\0\0\0\0\0\x01zR\0\x01\x78\x10\x01\x1b\x0c\x07\x08\x90\x01\0\0\x14\0\0\0\x1c\0\0\0\
+    \xe0\x0f\xf0\xff\x10\0\0\0\0\x41\x0e\x10\x83\x02\0\0\0\0\0\0";
 
 /// The same, where the description names a common information entry before the table.
 const DAMAGED: [u8; 52] =
-    *b"\x14\0\0\0\0\0\0\0\x01zR\0\x01\x78\x10\x01\x1b\x0c\x07\x08\x90\x01\0\0\x14\0\0\0\xff\0\0\0\xe0\x0f\xf0\xff\x10\0\0\0\0\x41\x0e\x10\x83\x02\0\0\0\0\0\0";
+    *b"\x14\0\0\0\0\0\0\0\x01zR\0\x01\x78\x10\x01\x1b\x0c\x07\x08\x90\x01\0\0\x14\0\0\0\xff\0\0\0\
+    \xe0\x0f\xf0\xff\x10\0\0\0\0\x41\x0e\x10\x83\x02\0\0\0\0\0\0";
 
 /// After a call in the function, after its push.
 const CODE: u64 = 0x40_1006;

@@ -1,7 +1,7 @@
 //! perf.data files: a worked one, byte by byte, and what is cut, damaged or foreign.
 
 use crate::asserting::expect_equal;
-use perf_data::{PerfError, PerfFile, Record, Thread};
+use perf_data::{PerfError, PerfFile, Record, Task, Thread};
 use std::alloc::{AllocError, Global};
 use std::test::Fail;
 use unwind_arch::x86_64::{RBP, RSP};
@@ -29,6 +29,14 @@ const NAME: &[u8] = b"\x03\0\0\0\0\x20\x18\0\x07\0\0\0\x08\0\0\0ab\0\0\0\0\0\0";
 
 // A record that ends a round, which isn't read.
 const ROUND: &[u8] = b"\x44\0\0\0\0\0\x18\0\0\0\0\0\0\0\0\0\0\0\0\0\0\0\0\0";
+
+// Thread 8 of process 7 starts thread 10 of process 9.
+const START: &[u8] = b"\
+    \x07\0\0\0\0\0\x20\0\x09\0\0\0\x07\0\0\0\x0a\0\0\0\x08\0\0\0\x05\0\0\0\0\0\0\0";
+
+// The same thread ends.
+const END: &[u8] = b"\
+    \x04\0\0\0\0\0\x20\0\x09\0\0\0\x07\0\0\0\x0a\0\0\0\x08\0\0\0\x06\0\0\0\0\0\0\0";
 
 // Sixteen bytes of stack, of which eight were copied.
 const SAMPLE: &[u8] = b"\
@@ -106,6 +114,31 @@ fn a_worked_profile_is_read(rt: HostRuntime) -> Result<(), Fail> {
     expect_equal(&rt, context.registers[RBP], 5);
     expect_equal(&rt, context.registers[RSP], 0x7000);
     expect_equal(&rt, records.next().is_none(), true);
+    Ok(())
+}
+
+#[test]
+fn starts_and_ends_of_threads_are_read(rt: HostRuntime) -> Result<(), Fail> {
+    let mut bytes = Vec::from_slice(rt.alloc(), HEADER)?;
+    for part in [ATTRIBUTE, START, END, START, END, SAMPLE] {
+        bytes.extend_from_slice(part)?;
+    }
+    let file = PerfFile::parse(&bytes)?;
+    let mut records = file.records();
+    let mut task = Task {
+        thread: Thread { pid: 9, tid: 10 },
+        parent: Thread { pid: 7, tid: 8 },
+        time: 5,
+    };
+    let Some(Ok(Record::Fork(start))) = records.next() else {
+        return Err("no start".into());
+    };
+    expect_equal(&rt, start, task);
+    task.time = 6;
+    let Some(Ok(Record::Exit(end))) = records.next() else {
+        return Err("no end".into());
+    };
+    expect_equal(&rt, end, task);
     Ok(())
 }
 

@@ -135,7 +135,8 @@ const PRINTED: &[(Machine, u32, &str)] = &[
     (
         X86_64,
         0x030d_f800,
-        "CFA=[function_start+13]+56 reg16=[CFA-8], reg6=[CFA-16], reg15=[CFA-24], reg14=[CFA-32], reg13=[CFA-40], reg12=[CFA-48], reg3=[CFA-56]",
+        "CFA=[function_start+13]+56 reg16=[CFA-8], reg6=[CFA-16], reg15=[CFA-24], \
+        reg14=[CFA-32], reg13=[CFA-40], reg12=[CFA-48], reg3=[CFA-56]",
     ),
     // of small sections: a frame with RBX stored, and a frameless function without registers
     (
@@ -148,12 +149,14 @@ const PRINTED: &[(Machine, u32, &str)] = &[
     (
         X86_64,
         0x0105_58d1,
-        "CFA=reg6+16: reg6=[CFA-16], reg16=[CFA-8], reg3=[CFA-56], reg12=[CFA-48], reg13=[CFA-40], reg14=[CFA-32], reg15=[CFA-24]",
+        "CFA=reg6+16: reg6=[CFA-16], reg16=[CFA-8], reg3=[CFA-56], reg12=[CFA-48], \
+        reg13=[CFA-40], reg14=[CFA-32], reg15=[CFA-24]",
     ),
     (
         X86_64,
         0x020a_1800,
-        "CFA=reg7+80: reg16=[CFA-8], reg6=[CFA-16], reg15=[CFA-24], reg14=[CFA-32], reg13=[CFA-40], reg12=[CFA-48], reg3=[CFA-56]",
+        "CFA=reg7+80: reg16=[CFA-8], reg6=[CFA-16], reg15=[CFA-24], reg14=[CFA-32], \
+        reg13=[CFA-40], reg12=[CFA-48], reg3=[CFA-56]",
     ),
     (
         X86_64,
