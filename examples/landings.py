@@ -12,7 +12,8 @@ return to. Everything is read from the running process.
 
 It stops at the calls that every language makes (Itanium C++ ABI: Exception Handling, "Base ABI"): _Unwind_RaiseException, to
 which a rethrow by _Unwind_Resume_or_Rethrow leads too, _Unwind_SetIP and _Unwind_Resume. A pad is the handler's where its
-stack pointer is the one that the first phase noted in the exception's second private word, as libgcc and LLVM's libunwind do.
+stack pointer isn't below the one that the first phase noted in the exception's second private word, as libgcc and LLVM's
+libunwind do.
 Where _Unwind_RaiseException returns, nothing took the exception. Where the process terminates before a handler's pad, or the
 same exception is raised again, as std::terminate does, the personality ended it, as gcc's tables ask at a function that is
 noexcept. clang's tables have a handler there, whose pad ends the process: that is a landing, and a line after it says so, as
@@ -115,8 +116,9 @@ class Throw:
                 return SET_PLACE
 
     def is_at_handler(self) -> bool:
-        """Whether the pad is that of the frame that the first phase found."""
-        return register("rsp") == word_at(self.word + NOTED_POINTER)
+        """Whether the pad is that of the frame that the first phase found. It is entered past the arguments that the frame has
+        pushed, and pads of frames inside of it further down."""
+        return register("rsp") >= word_at(self.word + NOTED_POINTER)
 
     def ends_in_handler(self) -> bool:
         """Whether the handler's pad ends the process, in place of catching the exception."""
@@ -125,9 +127,12 @@ class Throw:
         return go_on_to(BEGIN_CATCH, CALL_TERMINATE, *ENDS) in (CALL_TERMINATE, *ENDS)
 
     def next_landing(self) -> bool:
-        """Goes on to the next landing pad, prints it, and answers whether it was a cleanup's. Where there is none it prints
-        the outcome."""
-        met = self.next_pad()
+        """Goes on to the next landing pad, and answers as `is_passed` does."""
+        return self.is_passed(self.next_pad())
+
+    def is_passed(self, met: str) -> bool:
+        """Prints the pad that was met, goes on to the end of a cleanup, and answers whether it was one. Where there is no
+        pad it prints the outcome."""
         if met == RAISE or met in ENDS:
             print("outcome fatal phase 2\nthe personality ended the process")
             return False

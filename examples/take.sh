@@ -6,6 +6,7 @@
 #   take.sh formats NAME SNAPSHOT FRAMES     the same of one with a PE and a Mach-O image: what its run showed
 #   take.sh steps NAME COUNT                 before each of so many instructions, into out/NAME.steps
 #   take.sh delivery NAME SNAPSHOT REPORT    where it throws: gdb's frames, the landing pads, the handler
+#   take.sh thrown NAME-FORMAT SNAPSHOT REPORT    the same through a PE and a Mach-O image, whose frames the run showed
 #
 # The program runs without an environment and without a random layout, so that addresses and bytes
 # are the same each time, and nothing of the machine is in its stack.
@@ -91,6 +92,13 @@ take_whole() {
 take_formats() {
     env -i HOME=/nonexistent gdb -nx -q -batch -ix ../../tools/snapshot.py -x ../../tools/stepped.py \
         -ex "stepped_to_wait $1.taken ../$3 $1.pe $1.macho" "$1" > /dev/null
+    for_all "$1" "$2"
+}
+
+take_thrown() {
+    local program=${1%-*}
+    env -i HOME=/nonexistent gdb -nx -q -batch -ix ../../tools/snapshot.py -x ../../tools/frames.py -x ../landings.py -x ../throws.py \
+        -ex "thrown $1.taken ../$3 $program.pe $program.macho" --args "$program" "${1##*-}" > /dev/null
     for_all "$1" "$2"
 }
 

@@ -45,6 +45,14 @@ const DELIVERIES: [&str; 4] = [
     "cleanups-clang-O2",
 ];
 
+/// Snapshots of throws through ELF, PE and Mach-O modules that call one another, to be delivered by frame
+/// tables and unwind data alone. Last in their names is the format of the frame that handles the exception.
+const MORE_DELIVERIES: [&str; 3] = [
+    "thrown_formats-gcc-O2-elf.json",
+    "thrown_formats-clang-O2-macho.json",
+    "thrown_formats-gcc-O2-pe.json",
+];
+
 /// The ends of the names of a program's two snapshots: by its module's frame table, and by its header.
 const FORMS: [&str; 2] = [".json", "-by-header.json"];
 
@@ -119,14 +127,19 @@ fn print_walks(rt: &HostRuntime, program: &str) -> Result<()> {
     Ok(())
 }
 
+/// The delivery of a snapshot.
+fn print_delivery(rt: &HostRuntime, name: &str) -> Result<()> {
+    let snapshot = snapshot_in(rt, name)?;
+    let report = delivery_report(rt.alloc(), &snapshot, false)?;
+    let by_indexes = delivery_report(rt.alloc(), &snapshot, true)?;
+    print_report(rt, name, &report, &by_indexes)
+}
+
 /// The deliveries of a program's snapshots.
 fn print_deliveries(rt: &HostRuntime, program: &str) -> Result<()> {
     for form in FORMS {
         let name = format!(in rt.alloc(); "{program}{form}")?;
-        let snapshot = snapshot_in(rt, &name)?;
-        let report = delivery_report(rt.alloc(), &snapshot, false)?;
-        let by_indexes = delivery_report(rt.alloc(), &snapshot, true)?;
-        print_report(rt, &name, &report, &by_indexes)?;
+        print_delivery(rt, &name)?;
     }
     Ok(())
 }
@@ -141,6 +154,9 @@ fn main(rt: HostRuntime) -> Result<()> {
     println!(rt; "{OF_DELIVERIES}")?;
     for program in DELIVERIES {
         print_deliveries(&rt, program)?;
+    }
+    for name in MORE_DELIVERIES {
+        print_delivery(&rt, name)?;
     }
     Ok(())
 }
