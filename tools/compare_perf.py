@@ -3,7 +3,7 @@
 
     compare_perf.py DUMP FILE ..
 
-DUMP is the built program. Of each FILE what `perf script -D` prints of samples, mappings and names is put in the
+DUMP is the built program. Of each FILE what `perf script -D` prints of samples, mappings, names and threads is put in the
 form of DUMP's lines, in the order of the file, and the two are compared line by line. It ends with 1 where one
 differs.
 """
@@ -19,6 +19,7 @@ NAMES = "AX BX CX DX SI DI BP SP IP FLAGS CS SS DS ES FS GS R8 R9 R10 R11 R12 R1
 # perf's numbers of the registers in the order of their columns
 COLUMNS = [0, 3, 2, 1, 4, 5, 6, 7, *range(16, 24)]
 FORMS = {"32-bit": 1, "64-bit": 2}
+KINDS = ("sample ", "mapping ", "comm ", "exec ", "fork ", "exit ")
 
 RAW = re.compile(r"^(0x[0-9a-f]+)@.* \[0x[0-9a-f]+\]: event: \d+$")
 BYTES = re.compile(r"^\.  [0-9a-f]{4,}: ((?: [0-9a-f]{2})+)")
@@ -29,6 +30,7 @@ REGISTER = re.compile(r"^\.\.\.\. (\w+) +(0x[0-9a-f]+)$")
 STACK = re.compile(r"^\.\.\. ustack: size (\d+), offset (0x[0-9a-f]+)$")
 MAPPING = re.compile(r" (-?\d+/\d+): \[(\S+)\((\S+)\) @ (\S+) (.*)\]: ([-r])([-w])([-x])([ps]) (.*)$")
 COMM = re.compile(r"( exec)?: (.*):(-?\d+/-?\d+)$")
+TASK = re.compile(r"\((-?\d+):(-?\d+)\):\((-?\d+):(-?\d+)\)$")
 
 
 def sum_of(part: bytes) -> int:
@@ -64,6 +66,14 @@ def comm_line(text: str) -> str:
     assert match, text
     exec_, name, thread = match.groups()
     return f"{'exec' if exec_ else 'comm'} thread={thread} name={name}"
+
+
+def task_line(kind: str, text: str) -> str:
+    """The line of the start or the end of a thread that perf prints so."""
+    match = TASK.match(text)
+    assert match, text
+    process, thread, parent_process, parent = match.groups()
+    return f"{kind} thread={process}/{thread} parent={parent_process}/{parent}"
 
 
 class Sample:
@@ -118,6 +128,8 @@ def lines_of_perf(path: str) -> list[str]:
                 told[place] = mapping_line(rest)
             elif kind == "COMM":
                 told[place] = comm_line(rest)
+            elif kind in ("FORK", "EXIT"):
+                told[place] = task_line(kind.lower(), rest)
         elif sample:
             sample.add(line)
     items = [item for _, item in sorted(told.items())]
@@ -125,9 +137,11 @@ def lines_of_perf(path: str) -> list[str]:
 
 
 def lines_of_program(dump: str, path: str) -> list[str]:
-    """The program's lines of samples, mappings and names; of the flags of a mapping only whether it is shared."""
+    """The program's lines of samples, mappings, names and threads; of the flags of a mapping only whether it is
+    shared, and without the time of a thread's start or end, which perf doesn't print."""
     text = subprocess.run([dump, path], check=True, capture_output=True).stdout.decode("latin-1")
-    lines = [line for line in text.splitlines() if line.startswith(("sample", "mapping", "comm", "exec"))]
+    lines = [line for line in text.splitlines() if line.startswith(KINDS)]
+    lines = [re.sub(r"^((?:fork|exit) .*) time=\d+$", r"\1", line) for line in lines]
     return [re.sub(r" flags=(\d+) name=", shared, line, count=1) for line in lines]
 
 

@@ -298,6 +298,9 @@ ALLOWED = {
     9: pattern(b""),
 }
 
+# What stands on the standard error, after a status that leaves no cause on the output.
+COMPLAINTS = {9: b"unwind_cli: out of memory\n"}
+
 
 def fault_of(run: Run, status: int, output: bytes, complaint: bytes) -> str | None:
     """What a run did that it may not do, or None."""
@@ -308,7 +311,7 @@ def fault_of(run: Run, status: int, output: bytes, complaint: bytes) -> str | No
         return f"status {status}"
     if not allowed.fullmatch(output):
         return f"output of status {status}: {output[-200:]!r}"
-    if complaint:
+    if complaint != COMPLAINTS.get(status, b""):
         return f"standard error: {complaint[-200:]!r}"
     if status == 0:
         return fault_of_frames(run, output)

@@ -153,7 +153,8 @@ def macho_symbols(content: bytes, command: int) -> list[tuple[int, str]]:
 
 
 def macho_file(content: bytes) -> ImageFile:
-    """A Mach-O file. A step reads its compact unwinding, and of code the sizes of frames that stand there."""
+    """A Mach-O file. A step reads its compact unwinding, and of code the sizes of frames that stand there; a delivery
+    language tables too."""
     command, count = 32, struct.unpack_from("<I", content, 16)[0]
     sections: dict[str, Range] = {}
     symbols: list[tuple[int, str]] = []
@@ -171,7 +172,8 @@ def macho_file(content: bytes) -> ImageFile:
     unwind_info = sections["__unwind_info"]
     module = {"kind": MACHO, "base": f"{base:#x}", "size": f"{size:#x}", "unwind_info": f"{unwind_info.start:#x}"}
     code = sections["__text"]
-    return ImageFile(module, code, [code, unwind_info], functions_in(code, symbols))
+    places = [code, unwind_info, *(place for name, place in sections.items() if name == "__gcc_except_tab")]
+    return ImageFile(module, code, places, functions_in(code, symbols))
 
 
 def image_file(content: bytes) -> ImageFile:

@@ -234,12 +234,17 @@ def begun(images: list[ImageFile]) -> Run:
     return Run(images)
 
 
-def tables_of(images: list[ImageFile]) -> Object:
+def clear_below() -> None:
+    """Clears the stack below where the program stands, before it is run from there."""
+    gdb.selected_inferior().write_memory(register("rsp") - CLEARED, bytes(CLEARED))
+
+
+def tables_of(images: list[ImageFile], options: str = "--interrupted") -> Object:
     """A snapshot of the program's own module and of images, without its stack."""
     module = os.path.basename(gdb.current_progspace().filename)
     with tempfile.TemporaryDirectory() as folder:
         file = os.path.join(folder, "snapshot.json")
-        gdb.execute(f"snapshot {file} --interrupted --limit 64 --stack-bytes 8 --module {module}", to_string=True)
+        gdb.execute(f"snapshot {file} {options} --limit 64 --stack-bytes 8 --module {module}", to_string=True)
         found = read_snapshot(file)
     pointer = int(found["start"]["rsp"], 16)
     regions = [region for region in regions_of(found) if not region.start <= pointer < region.end]
@@ -280,7 +285,7 @@ true callers there: stepped_to_wait SNAPSHOT FRAMES [IMAGE]..."""
         name, frames, *files = gdb.string_to_argv(argument)
         images = images_in(files)
         run = begun(images)
-        gdb.selected_inferior().write_memory(register("rsp") - CLEARED, bytes(CLEARED))
+        clear_below()
         run.to_wait()
         state, tables = run.state(), tables_of(images)
         run.to_the_end()

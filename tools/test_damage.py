@@ -3,7 +3,7 @@ from __future__ import annotations
 
 import unittest
 
-from damage import MEMORY, Run, fault_of, run_of, shipped_texts
+from damage import COMPLAINTS, MEMORY, Run, fault_of, run_of, shipped_texts
 
 STATE = b"ra=0x%x sp=0x7000 rbx=0x9 rbp=0x0 r12=0x0 r13=0x0 r14=0x0 r15=0x0\n"
 FIRST, LAST = b"frame 0 " + STATE % 0x401006, b"frame 1 " + STATE % 0
@@ -12,7 +12,7 @@ LANDING = b"landing " + STATE[:-1] % 0x401070 + b" rax=0x900000 rdx=0x0\n"
 
 def fault(word: str, status: int, output: bytes, limit: object = 2) -> str | None:
     """What is wrong with such a run."""
-    return fault_of(Run("name", word, b"", limit, MEMORY), status, output, b"")
+    return fault_of(Run("name", word, b"", limit, MEMORY), status, output, COMPLAINTS.get(status, b""))
 
 
 class Runs(unittest.TestCase):
@@ -27,6 +27,12 @@ class Runs(unittest.TestCase):
 
 
 class Ends(unittest.TestCase):
+    def test_standard_error_names_what_failed_after_some_statuses_alone(self) -> None:
+        run = Run("name", "walk", b"", 2, MEMORY)
+        self.assertIsNone(fault_of(run, 9, b"", b"unwind_cli: out of memory\n"))
+        self.assertIsNotNone(fault_of(run, 9, b"", b""))
+        self.assertIsNotNone(fault_of(run, 6, b"not json\n", b"unwind_cli: out of memory\n"))
+
     def test_what_may_come(self) -> None:
         for word, status, output in (
             ("walk", 0, FIRST + LAST + b"end\n"), ("deliver", 0, FIRST + LAST + b"outcome end of stack\n"),

@@ -40,10 +40,12 @@ def macho_section(name: str, start: int, size: int) -> bytes:
     return struct.pack("<16s16sQQIIIIIIII", name.encode(), b"__TEXT", start, size, 0, 0, 0, 0, 0, 0, 0, 0)
 
 
-def small_macho(name: str = "__unwind_info") -> bytes:
-    """A Mach-O file with a segment of two sections, and symbols of two functions and of something else."""
-    sections = macho_section("__text", 0x100000300, 0x40) + macho_section(name, 0x100000340, 0x60)
-    segment = struct.pack("<II16sQQQQIIII", 0x19, 72 + len(sections), b"__TEXT", 0x100000000, 0x1000, 0, 0x1000, 5, 5, 2, 0)
+def small_macho(*names: str) -> bytes:
+    """A Mach-O file with a segment of code and of sections with names, and symbols of two functions and of something else."""
+    places = [(name, 0x100000340 + 0x60 * number, 0x60) for number, name in enumerate(names)]
+    sections = b"".join(macho_section(*section) for section in [("__text", 0x100000300, 0x40), *places])
+    head = (0x19, 72 + len(sections), b"__TEXT", 0x100000000, 0x1000, 0, 0x1000, 5, 5, 1 + len(names), 0)
+    segment = struct.pack("<II16sQQQQIIII", *head)
     place = 32 + len(segment) + len(sections) + 24
     symbols = struct.pack("<IBBHQ", 1, 0xF, 1, 0, 0x100000300) + struct.pack("<IBBHQ", 8, 0xE, 1, 0, 0x100000310)
     symbols += struct.pack("<IBBHQ", 15, 0x1, 0, 0, 0)
@@ -70,7 +72,7 @@ class Images(unittest.TestCase):
         )
 
     def test_a_macho_file(self) -> None:
-        found = image_file(small_macho())
+        found = image_file(small_macho("__unwind_info"))
         self.assertEqual(
             found.module, {"kind": "macho", "base": "0x100000000", "size": "0x1000", "unwind_info": "0x100000340"}
         )
@@ -79,6 +81,11 @@ class Images(unittest.TestCase):
         self.assertEqual(found.function_at(0x100000310), Function("other", Range(0x100000310, 0x100000340)))
         with self.assertRaises(Refused):
             found.function_at(0x100000340)
+
+    def test_language_tables_of_a_macho_file(self) -> None:
+        found = image_file(small_macho("__gcc_except_tab", "__unwind_info", "__const"))
+        code, tables, unwind_info = (Range(0x100000300, 0x100000340), Range(0x100000340, 0x1000003A0), Range(0x1000003A0, 0x100000400))
+        self.assertEqual(found.places, [code, unwind_info, tables])
 
     def test_what_is_no_such_file(self) -> None:
         cases = {"a text": b"#!/bin/sh\n" * 20, "another machine": small_pe(0x14C), "no unwind data": small_macho("__const")}
