@@ -10,16 +10,16 @@ use Rattle.unwind_definitions.specs.Module as described
 use Rattle.unwind_laws.specs.Walked.{CanStep}
 use Rattle.frame_facts.specs.StepFacts.{body_facts}
 use Rattle.frame_facts_laws.proofs.FromFunctions.{body_known, body_said}
-use Rattle.format_definitions.specs.FormatCalls.{IsFormatCall}
-use Rattle.format_definitions.specs.FormatModules.{FormatModule, Elf, Macho, Pe, in_format, convention_of, part_of, DescribesFormat, IsUncoveredBy, LiesInFormat}
-use Rattle.format_definitions.specs.FormatStops.{StandsIn, IsFormatStop}
+use Rattle.format_definitions.specs.Calls.{IsDescribedCall}
+use Rattle.format_definitions.specs.Modules.{FormatModule, Elf, Macho, Pe, in_format, convention_of, part_of, DescribesFormat, IsUncoveredBy, LiesDescribed}
+use Rattle.format_definitions.specs.Stops.{StandsIn, IsDescribedStop}
 use Rattle.unwind_arch.specs.declared.x86_64.Context.{Context}
 use Rattle.stack_steps.specs.Modules.{SpaceValue}
 use Rattle.stack_steps.specs.SpaceViews.{process_of, formats_of}
 use Rattle.stack_steps.specs.Stopped.{StartsStopped}
 use Rattle.stack_steps.specs.KnownStacks.{IsOtherFormat, IsKnownLink, IsKnownStack}
-use Rattle.stack_steps.proofs.FormatHolders.{elf_from_format}
-use Rattle.stack_steps.proofs.StoppedUndone.{IsDescribedStop, HasFacts, stop_facts}
+use Rattle.stack_steps.proofs.Holders.{elf_from_format}
+use Rattle.stack_steps.proofs.StoppedUndone.{IsElfStop, HasFacts, stop_facts}
 use Rattle.stack_walks.specs.Walking.{StartsChain}
 use Rattle.stack_walks.specs.KnownWalks.{StartsKnownStack}
 use Rattle.stack_walks.proofs.LineShows.{call_in}
@@ -33,7 +33,7 @@ module _ (space : SpaceValue) (functions : List Function) (s : State) (call : Ca
 
   -- ---- a call
 
-  call_known : IsFormatCall space.image (formats_of space) functions s call → IsKnownLink space false s call.caller
+  call_known : IsDescribedCall space.image (formats_of space) functions s call → IsKnownLink space false s call.caller
   call_known is = go is.lies.home refl
     where
       in_elf : (m : described.Module) → Lies (Elf m) → IsKnownLink space false s call.caller
@@ -75,12 +75,12 @@ module _ (space : SpaceValue) (functions : List Function) (s : State) (call : Ca
   Stands home = Contains (formats_of space) home × IsTrue (in_format call.callee.start home) × IsFunction (convention_of home) call.callee
       × ((d : DescribesFormat space.image home (part_of home functions)) × StandsIn space.image home (part_of home functions) d s call)
 
-  stop_known : IsFormatStop space.image (formats_of space) functions s call → IsKnownLink space true s call.caller
+  stop_known : IsDescribedStop space.image (formats_of space) functions s call → IsKnownLink space true s call.caller
   stop_known is = go is.lies.home refl
     where
       in_elf : (m : described.Module) → Stands (Elf m) → IsKnownLink space true s call.caller
       in_elf m st =
-          let stop : IsDescribedStop (process_of space) functions s call = record {
+          let stop : IsElfStop (process_of space) functions s call = record {
             is_function = st.2;
             inner = is.inner;
             listed = is.listed;
@@ -106,7 +106,7 @@ module _ (space : SpaceValue) (functions : List Function) (s : State) (call : Ca
 -- ---- chains
 
 chain_known : (space : SpaceValue) (functions : List Function) (s : State) (calls : List Call) → IsChain space.image (IsUncoveredBy space.image (formats_of space)) functions s calls →
-    AllByRecursion (λ (k : Call). LiesInFormat space.image (formats_of space) functions k.callee) calls → IsKnownStack space false s (callers_of calls)
+    AllByRecursion (λ (k : Call). LiesDescribed space.image (formats_of space) functions k.callee) calls → IsKnownStack space false s (callers_of calls)
 chain_known space functions s [] chain lie = record { state = chain.state; ends = chain.ends }
 chain_known space functions s (k ∷ calls) chain lie =
     (inl (call_known space functions s k chain.0.state (call_in space functions s k calls chain lie.0)), chain_known space functions k.caller calls chain.1 lie.1)

@@ -6,7 +6,7 @@ use Rattle.unwind_definitions.specs.State.{State}
 use Rattle.unwind_definitions.specs.Module.{IsUncovered}
 use Rattle.unwind_laws.proofs.OneChain.{one_state}
 use Rattle.frame_facts.specs.FactChains.{FactFrame, address_asked, chain_states, IsFactChain}
-use Rattle.format_definitions.specs.FormatModules.{IsUncoveredBy}
+use Rattle.format_definitions.specs.Modules.{IsUncoveredBy}
 use Rattle.unwind_arch.specs.declared.x86_64.Context.{Context}
 use Rattle.unwind_arch.specs.ContextViews.{columns_of}
 use Rattle.stack_steps.specs.declared.answers.DeliverError.{DeliverError}

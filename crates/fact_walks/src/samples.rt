@@ -3,7 +3,7 @@
 
 ghost use Rattle.std.specs.Prelude.{false, true, [], ◌∷◌};
 ghost use Rattle.memory_image.specs.Image.{IsLaidOut};
-ghost use Rattle.unwind_definitions.specs.Valid.{IsDescribedChain};
+ghost use Rattle.unwind_definitions.specs.Valid.{IsElfChain};
 ghost use Rattle.unwind_laws.specs.Pushing as pushing;
 ghost use Rattle.frame_facts.specs.FactChains.{IsFactLink};
 ghost use Rattle.frame_facts_laws.specs.SampleProgram as sample;
@@ -51,5 +51,5 @@ pub fn walks_from_stops_begin_known_stacks()
 /// What laws of ELF frames ask of a chain over ELF modules alone is met by a call of a function that
 /// pushes RBX.
 pub fn call_of_a_push_is_a_described_chain()
-    ensures { IsDescribedChain pushing.process (pushing.function ∷ []) pushing.start pushing.calls }
+    ensures { IsElfChain pushing.process (pushing.function ∷ []) pushing.start pushing.calls }
 {}

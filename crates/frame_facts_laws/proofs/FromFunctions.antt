@@ -20,7 +20,7 @@ use Rattle.unwind_definitions.specs.LanguageSearch.{personality_address}
 use Rattle.unwind_definitions.specs.Delivery.{frames_of}
 use Rattle.unwind_definitions.specs.Module.{Module, Process, in_module, bases_of, DescribesModule, IsUncovered}
 use Rattle.unwind_definitions.specs.Chain.{Call, IsLink, IsChain, states_of}
-use Rattle.unwind_definitions.specs.Valid.{part_in, LiesDescribed, IsDescribedChain}
+use Rattle.unwind_definitions.specs.Valid.{part_in, LiesInElf, IsElfChain}
 use Rattle.unwind_definitions.specs.Stopped.{StandsAfter}
 use Rattle.unwind_laws.specs.Walked.{CanStep, CanStepInside}
 use Rattle.unwind_laws.proofs.Booleans.{all_contains, contains_filter, filter_contains, first}
@@ -125,7 +125,7 @@ has_sites image bases f fde is read d = record {
 
 module _ (p : Process) where
   -- what the rows of a described function say at an address is said there
-  pub said_in : (functions : List Function) (f : Function) (a : ℕ) (facts : Facts) → Contains functions f → LiesDescribed p functions f → f.start ≤ a → a < f.end →
+  pub said_in : (functions : List Function) (f : Function) (a : ℕ) (facts : Facts) → Contains functions f → LiesInElf p functions f → f.start ≤ a → a < f.end →
       ((bases : Bases) (fde : Fde) → DescribesRows bases f fde → HasRow bases fde a (λ run. SaysFacts facts run × (argument_size run ≡ 0))) → AreSaidAt p a facts
   said_in functions f a facts has lies from below says =
       let m : Module = lies.home in
@@ -208,7 +208,7 @@ module _ (p : Process) where
   state_of functions s (c ∷ calls) chain = chain.0.state
 
   chain_facts : (functions : List Function) → AllByRecursion (IsFunction SystemV) functions → (s : State) (calls : List Call) → IsChain p.image (IsUncovered p) functions s calls →
-      AllByRecursion (λ (c : Call). LiesDescribed p functions c.callee) calls → IsFactChain p false s (called_frames calls)
+      AllByRecursion (λ (c : Call). LiesInElf p functions c.callee) calls → IsFactChain p false s (called_frames calls)
   chain_facts functions are s [] chain lie = record { state = chain.state; ends = chain.ends }
   chain_facts functions are s (c ∷ calls) chain lie =
       let link : IsLink p.image functions s c calls = chain.0 in
@@ -231,21 +231,21 @@ module _ (p : Process) where
       )
 
   chain_asks : (functions : List Function) (are : AllByRecursion (IsFunction SystemV) functions) (s : State) (calls : List Call) (chain : IsChain p.image (IsUncovered p) functions s calls)
-      (lie : AllByRecursion (λ (c : Call). LiesDescribed p functions c.callee) calls) → AreAsked p s (called_frames calls) (chain_facts functions are s calls chain lie) (asked_frames_of (frames_of s calls))
+      (lie : AllByRecursion (λ (c : Call). LiesInElf p functions c.callee) calls) → AreAsked p s (called_frames calls) (chain_facts functions are s calls chain lie) (asked_frames_of (frames_of s calls))
   unfolding chain_facts
   chain_asks functions are s [] chain lie = refl
   chain_asks functions are s (c ∷ calls) chain lie = (refl, body_asks functions (s.ra - 1) s c _, chain_asks functions are c.caller calls chain.1 lie.1)
 
   -- A chain over described functions is one of facts.
-  pub described_facts : (functions : List Function) (s : State) (calls : List Call) → IsDescribedChain p functions s calls → IsFactChain p false s (called_frames calls)
+  pub described_facts : (functions : List Function) (s : State) (calls : List Call) → IsElfChain p functions s calls → IsFactChain p false s (called_frames calls)
   described_facts functions s calls is = chain_facts functions is.are_functions s calls is.chain is.described
 
   -- It asks what the functions do.
-  pub described_asked : (functions : List Function) (s : State) (calls : List Call) → IsDescribedChain p functions s calls → (chain : IsFactChain p false s (called_frames calls)) × AreAsked p s (called_frames calls) chain (asked_frames_of (frames_of s calls))
+  pub described_asked : (functions : List Function) (s : State) (calls : List Call) → IsElfChain p functions s calls → (chain : IsFactChain p false s (called_frames calls)) × AreAsked p s (called_frames calls) chain (asked_frames_of (frames_of s calls))
   described_asked functions s calls is = (chain_facts functions is.are_functions s calls is.chain is.described, chain_asks functions is.are_functions s calls is.chain is.described)
 
   -- The same where the start was stopped where it stands: at an address of its body, or inside its prologue.
-  pub body_stop_facts : (functions : List Function) (s : State) (c : Call) (calls : List Call) → IsState s → s.ra ≢ 0 → CanStep p functions s.ra s c → IsDescribedChain p functions c.caller calls →
+  pub body_stop_facts : (functions : List Function) (s : State) (c : Call) (calls : List Call) → IsState s → s.ra ≢ 0 → CanStep p functions s.ra s c → IsElfChain p functions c.caller calls →
       IsFactChain p true s (called_frames (c ∷ calls))
   body_stop_facts functions s c calls words returns can is = (
     record {
@@ -257,7 +257,7 @@ module _ (p : Process) where
     described_facts functions c.caller calls is,
   )
 
-  pub prologue_stop_facts : (functions : List Function) (done later : List PrologueStep) (s : State) (c : Call) (calls : List Call) → IsState s → s.ra ≢ 0 → CanStepInside p functions done later s c → IsDescribedChain p functions c.caller calls →
+  pub prologue_stop_facts : (functions : List Function) (done later : List PrologueStep) (s : State) (c : Call) (calls : List Call) → IsState s → s.ra ≢ 0 → CanStepInside p functions done later s c → IsElfChain p functions c.caller calls →
       IsFactChain p true s (record { facts = facts_in_prologue (steps_of done); caller = c.caller } ∷ called_frames calls)
   prologue_stop_facts functions done later s c calls words returns can is = (
     record {

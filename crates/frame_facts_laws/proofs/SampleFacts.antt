@@ -5,7 +5,7 @@ use Rattle.memory_image.specs.Image.{word_at}
 use Rattle.unwind_definitions.specs.Instructions.{instruction_of}
 use Rattle.unwind_definitions.specs.Entries.{Fde, AreEntries, entry_at}
 use Rattle.unwind_definitions.specs.Row.{RowInstructions, ColumnAndOffset, covers_pc, row_at}
-use Rattle.unwind_definitions.specs.Module.{AreApart, DescriptionsApart, IsProcess, in_module}
+use Rattle.unwind_definitions.specs.Module.{AreApart, DescriptionsApart, IsElfProcess, in_module}
 use Rattle.unwind_laws.proofs.Booleans.{pairs_one}
 use Rattle.frame_facts.specs.Facts.{Facts, StandsWith}
 use Rattle.frame_facts.specs.FactRows.{SaysFacts}
@@ -37,7 +37,7 @@ tables = record {
 }
 
 -- regions and modules share no address
-pub whole : IsProcess process
+pub whole : IsElfProcess process
 whole = record { regions = (lit≤ tt, lit< tt, lit≤ tt, (lit≤ tt, lit< tt, lit≤ tt, tt)); ranges = ((lit< tt, lit< tt), tt); apart = pairs_one AreApart home }
 
 -- ---- rows say what is known

@@ -11,7 +11,7 @@ use Rattle.unwind_definitions.specs.Operations.{PushColumn, operation, operation
 use Rattle.unwind_definitions.specs.Expressions.{rest_at}
 use Rattle.unwind_definitions.specs.Row.{RowInstructions, ColumnAndOffset, covers_pc, row_at, rule_of}
 use Rattle.unwind_definitions.specs.State.{CalleeSaved, State, column_of, value_of, is_followed}
-use Rattle.unwind_definitions.specs.Module.{AreApart, IsProcess, in_module}
+use Rattle.unwind_definitions.specs.Module.{AreApart, IsElfProcess, in_module}
 use Rattle.unwind_laws.proofs.Booleans.{all_contains, any_contains, not_either, pairs_one}
 use Rattle.unwind_laws.proofs.RowFacts.{by_register}
 use Rattle.frame_facts.specs.Facts.{Facts, StandsWith}
@@ -43,7 +43,7 @@ tables = record {
 }
 
 -- regions and modules share no address
-pub whole : IsProcess process
+pub whole : IsElfProcess process
 whole = record { regions = (lit≤ tt, lit< tt, lit≤ tt, (lit≤ tt, lit< tt, lit≤ tt, (lit≤ tt, lit< tt, lit≤ tt, tt))); ranges = ((lit< tt, lit< tt), tt); apart = pairs_one AreApart home }
 
 -- ---- the row of the code to which the handler returns

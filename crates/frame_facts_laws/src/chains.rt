@@ -5,9 +5,9 @@ ghost use Rattle.unwind_definitions.specs.Caller.{Columns, Evaluates};
 ghost use Rattle.unwind_definitions.specs.State.{State, IsState, Shows};
 ghost use Rattle.unwind_definitions.specs.Prologue.{PrologueStep, steps_of};
 ghost use Rattle.unwind_definitions.specs.Function.{Function};
-ghost use Rattle.unwind_definitions.specs.Module.{Process, IsProcess};
+ghost use Rattle.unwind_definitions.specs.Module.{Process, IsElfProcess};
 ghost use Rattle.unwind_definitions.specs.Chain.{Call, states_of, StacksRise};
-ghost use Rattle.unwind_definitions.specs.Valid.{IsDescribedChain};
+ghost use Rattle.unwind_definitions.specs.Valid.{IsElfChain};
 ghost use Rattle.unwind_laws.specs.Walked.{CanStep, CanStepInside};
 ghost use Rattle.frame_facts.specs.Facts.{Facts, StandsWith};
 ghost use Rattle.frame_facts.specs.FactTables.{AreSaidAt};
@@ -54,7 +54,7 @@ pub fn stack_pointers_rise_by_facts()
 /// same states.
 pub fn described_chain_is_a_fact_chain()
     ensures chain { (p : Process) (functions : List Function) (s : State) (calls : List Call) →
-        IsDescribedChain p functions s calls → IsFactChain p false s (called_frames calls) }
+        IsElfChain p functions s calls → IsFactChain p false s (called_frames calls) }
     ensures states { (s : State) (calls : List Call) →
         chain_states s (called_frames calls) ≡ states_of s calls }
 {}
@@ -65,7 +65,7 @@ pub fn body_stop_begins_a_fact_chain()
     ensures { (p : Process) (functions : List Function) (s : State) (c : Call)
         (calls : List Call) →
         IsState s → s.ra ≢ 0 → CanStep p functions s.ra s c →
-        IsDescribedChain p functions c.caller calls →
+        IsElfChain p functions c.caller calls →
         IsFactChain p true s (called_frames (c ∷ calls)) }
 {}
 
@@ -74,7 +74,7 @@ pub fn prologue_stop_begins_a_fact_chain()
     ensures { (p : Process) (functions : List Function) (done later : List PrologueStep)
         (s : State) (c : Call) (calls : List Call) →
         IsState s → s.ra ≢ 0 → CanStepInside p functions done later s c →
-        IsDescribedChain p functions c.caller calls →
+        IsElfChain p functions c.caller calls →
         IsFactChain p true s
         (record { facts = facts_in_prologue (steps_of done); caller = c.caller } ∷ called_frames calls) }
 {}

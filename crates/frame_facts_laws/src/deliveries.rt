@@ -8,7 +8,7 @@ ghost use Rattle.unwind_definitions.specs.Module.{Process, IsUncovered};
 ghost use Rattle.unwind_definitions.specs.Chain.{Call, IsChain, states_of};
 ghost use Rattle.unwind_definitions.specs.Delivery.{frames_of, delivery_of};
 ghost use Rattle.unwind_definitions.specs.Delivery.{cleanup_pad, resume_of};
-ghost use Rattle.unwind_definitions.specs.Valid.{IsDescribedChain};
+ghost use Rattle.unwind_definitions.specs.Valid.{IsElfChain};
 ghost use Rattle.frame_facts.specs.Facts.{Facts};
 ghost use Rattle.frame_facts.specs.FactTables.{AreSaidAt};
 ghost use Rattle.frame_facts.specs.FactChains.{FactFrame, IsFactChain};
@@ -57,7 +57,7 @@ pub fn calls_are_delivered_alike()
 /// the functions do.
 pub fn described_chain_asks()
     ensures { (p : Process) (functions : List Function) (s : State) (calls : List Call) →
-        IsDescribedChain p functions s calls →
+        IsElfChain p functions s calls →
         (chain : IsFactChain p false s (called_frames calls))
         × AreAsked p s (called_frames calls) chain (asked_frames_of (frames_of s calls)) }
 {}

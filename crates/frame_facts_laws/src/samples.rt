@@ -9,7 +9,7 @@ ghost use Rattle.frame_facts.specs.Claims.{SaysClaims};
 ghost use Rattle.frame_facts.specs.FactDeliveries.{GoesOnAt, ResumesIn, past};
 ghost use Rattle.frame_facts.specs.SignalFrames.{IsSignalFrameAt, SaysSignalFrame, StandsInSignal};
 ghost use Rattle.frame_facts.specs.SignalFrames.{linux_signal_frame};
-ghost use Rattle.unwind_definitions.specs.Module.{IsProcess};
+ghost use Rattle.unwind_definitions.specs.Module.{IsElfProcess};
 ghost use Rattle.frame_facts_laws.specs.SampleProgram as sample;
 ghost use Rattle.frame_facts_laws.specs.SignalProgram as signals;
 
@@ -60,7 +60,7 @@ pub fn start_is_known()
 /// describe it (`examples/signal_frame.c`): the state there stands where the kernel put the
 /// registers of the state that the signal interrupted.
 pub fn signal_frame_is_known()
-    ensures process { IsProcess signals.process }
+    ensures process { IsElfProcess signals.process }
     ensures says { SaysSignalFrame linux_signal_frame signals.row_in_restore }
     ensures said { IsSignalFrameAt signals.process 0x40113f linux_signal_frame }
     ensures stands { StandsInSignal signals.image linux_signal_frame signals.in_trapped
@@ -69,7 +69,7 @@ pub fn signal_frame_is_known()
 
 /// Both stops begin chains of facts, through each of these frames and up to the end of the stack.
 pub fn stops_begin_fact_chains()
-    ensures process { IsProcess sample.process }
+    ensures process { IsElfProcess sample.process }
     ensures prologue { IsFactChain sample.process true sample.overwritten
         (sample.frames_after sample.known_overwritten) }
     ensures epilogue { IsFactChain sample.process true sample.popped

@@ -2,8 +2,8 @@
 use Rattle.std.proofs.Common.{◌≡◌, ℕ, ◌<◌, ◌≤◌, ◌^◌, List, length, refl, sym, ap, subst}
 use Rattle.unwind_definitions.specs.Caller.{Columns}
 use Rattle.unwind_definitions.specs.State.{State, Shows}
-use Rattle.unwind_definitions.specs.Module.{Tables, Process, IsProcess}
-use Rattle.unwind_definitions.specs.Valid.{IsValid}
+use Rattle.unwind_definitions.specs.Module.{Tables, Process, IsElfProcess}
+use Rattle.unwind_definitions.specs.Valid.{IsElfValid}
 use Rattle.generated_chains.specs.declared.outline.Outline.{Outline}
 use Rattle.generated_chains.specs.declared.chain.Chain.{Chain}
 use Rattle.generated_chains.specs.Outlines.{outlines}
@@ -28,17 +28,17 @@ module _ (c : Chain) (seed count : ℕ) (made : IsMade c seed (outlines seed cou
   process_is : (tables : Tables) → process_of tables c count ≡ process_by tables seed os
   process_is tables = rw (spans_are c seed os made, long) refl
 
-  valid_process : (tables : Tables) → IsProcess (process_of tables c count)
-  valid_process tables = subst IsProcess (sym (process_is tables)) (is_process seed lt os (numbered_from seed 0 count) (rw long some) (rw long few) tables)
+  valid_process : (tables : Tables) → IsElfProcess (process_of tables c count)
+  valid_process tables = subst IsElfProcess (sym (process_is tables)) (is_process seed lt os (numbered_from seed 0 count) (rw long some) (rw long few) tables)
 
-  valid_for : (tables : Tables) → ((start : Columns) → Shows start (state_of seed os) → IsValid (process_by tables seed os) start (resumes_of os) (functions_of os) (state_of seed os) (calls_of seed os)) →
-      (start : Columns) → Shows start (state_in c.innermost) → IsValid (process_of tables c count) start c.resumes.items (functions_of os) (state_in c.innermost) (calls_of seed os)
+  valid_for : (tables : Tables) → ((start : Columns) → Shows start (state_of seed os) → IsElfValid (process_by tables seed os) start (resumes_of os) (functions_of os) (state_of seed os) (calls_of seed os)) →
+      (start : Columns) → Shows start (state_in c.innermost) → IsElfValid (process_of tables c count) start c.resumes.items (functions_of os) (state_in c.innermost) (calls_of seed os)
   valid_for tables each start shows =
       let shows' : Shows start (state_of seed os) = subst (Shows start) made.innermost shows in
       let at = each start shows' in
-      subst (λ (s : State). IsValid (process_of tables c count) start c.resumes.items (functions_of os) s (calls_of seed os)) (sym made.innermost)
-      (subst (λ (rs : List (ℕ × ℕ)). IsValid (process_of tables c count) start rs (functions_of os) (state_of seed os) (calls_of seed os)) (sym made.resumes)
-      (subst (λ (p : Process). IsValid p start (resumes_of os) (functions_of os) (state_of seed os) (calls_of seed os)) (sym (process_is tables)) at))
+      subst (λ (s : State). IsElfValid (process_of tables c count) start c.resumes.items (functions_of os) s (calls_of seed os)) (sym made.innermost)
+      (subst (λ (rs : List (ℕ × ℕ)). IsElfValid (process_of tables c count) start rs (functions_of os) (state_of seed os) (calls_of seed os)) (sym made.resumes)
+      (subst (λ (p : Process). IsElfValid p start (resumes_of os) (functions_of os) (state_of seed os) (calls_of seed os)) (sym (process_is tables)) at))
 
   pub made_valid : IsValidChain c seed count
   made_valid = record {

@@ -8,9 +8,9 @@ use Rattle.unwind_definitions.specs.Caller.{Columns}
 use Rattle.unwind_definitions.specs.State.{Shows}
 use Rattle.unwind_definitions.specs.Entries.{Fde}
 use Rattle.unwind_definitions.specs.Function.{Function}
-use Rattle.unwind_definitions.specs.Module.{Tables, in_module, address_in, frame_address, bases_of, DescribesModule, IsUncovered, IsProcess, AreApart, HeaderLists}
+use Rattle.unwind_definitions.specs.Module.{Tables, in_module, address_in, frame_address, bases_of, DescribesModule, IsUncovered, IsElfProcess, AreApart, HeaderLists}
 use Rattle.unwind_definitions.specs.Scan.{fdes_of}
-use Rattle.unwind_definitions.specs.Valid.{IsValid}
+use Rattle.unwind_definitions.specs.Valid.{IsElfValid}
 use Rattle.unwind_laws.proofs.Booleans.{contains_all, first, later, pairs_one}
 use Rattle.unwind_laws.proofs.ByHeader.{mapped_from}
 use Rattle.generated_chains.specs.declared.outline.Outline.{Outline}
@@ -73,7 +73,7 @@ module _ (image : List Span) (os : List Outline) (holds : HoldsTables image os) 
 -- ---- all of it
 module _ (seed : ℕ) (lt : seed < 2 ^ 64) (os : List Outline) (numbered : AreNumbered 0 os) (some : 0 < length os) (few : length os ≤ 100000) where
   valid_by : (tables : Tables) (start : Columns) → Shows start (state_of seed os) → DescribesModule (image_of seed os) (module_by tables os) (functions_of os) →
-      IsValid (process_by tables seed os) start (resumes_of os) (functions_of os) (state_of seed os) (calls_of seed os)
+      IsElfValid (process_by tables seed os) start (resumes_of os) (functions_of os) (state_of seed os) (calls_of seed os)
   valid_by tables start shows described = record {
     are_functions = are_functions os;
     modules = (subst (DescribesModule (image_of seed os) (module_by tables os)) (sym (whole_part (λ (f : Function). in_module f.start (module_by tables os)) (functions_of os) (starts_inside tables os numbered))) described, tt);
@@ -83,12 +83,12 @@ module _ (seed : ℕ) (lt : seed < 2 ^ 64) (os : List Outline) (numbered : AreNu
     resumed = λ f found accepted. inner_resume seed os numbered;
   }
 
-  pub valid_by_frames : (start : Columns) → Shows start (state_of seed os) → IsValid (process_by by_frames seed os) start (resumes_of os) (functions_of os) (state_of seed os) (calls_of seed os)
+  pub valid_by_frames : (start : Columns) → Shows start (state_of seed os) → IsElfValid (process_by by_frames seed os) start (resumes_of os) (functions_of os) (state_of seed os) (calls_of seed os)
   valid_by_frames start shows = valid_by by_frames start shows (described_by_frames (image_of seed os) os (holds_tables seed lt os numbered some few) numbered few)
 
-  pub valid_by_header : (start : Columns) → Shows start (state_of seed os) → IsValid (process_by by_header seed os) start (resumes_of os) (functions_of os) (state_of seed os) (calls_of seed os)
+  pub valid_by_header : (start : Columns) → Shows start (state_of seed os) → IsElfValid (process_by by_header seed os) start (resumes_of os) (functions_of os) (state_of seed os) (calls_of seed os)
   valid_by_header start shows = valid_by by_header start shows (described_by_header (image_of seed os) os (holds_tables seed lt os numbered some few) numbered few)
 
 -- regions and modules share no address
-pub is_process : (seed : ℕ) → seed < 2 ^ 64 → (os : List Outline) → AreNumbered 0 os → 0 < length os → length os ≤ 100000 → (tables : Tables) → IsProcess (process_by tables seed os)
+pub is_process : (seed : ℕ) → seed < 2 ^ 64 → (os : List Outline) → AreNumbered 0 os → 0 < length os → length os ≤ 100000 → (tables : Tables) → IsElfProcess (process_by tables seed os)
 is_process seed lt os numbered some few tables = record { regions = is_laid_out seed lt os numbered some few; ranges = ((omega arith, omega arith), tt); apart = pairs_one AreApart (module_by tables os) }

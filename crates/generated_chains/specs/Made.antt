@@ -3,8 +3,8 @@ use Rattle.std.specs.Prelude.{◌≡◌, ℕ, ◌+◌, ◌*◌, List, [], ◌∷
 use Rattle.memory_image.specs.Image.{Span}
 use Rattle.unwind_definitions.specs.Caller.{Columns}
 use Rattle.unwind_definitions.specs.State.{Shows}
-use Rattle.unwind_definitions.specs.Module.{Tables, Process, IsProcess}
-use Rattle.unwind_definitions.specs.Valid.{IsValid}
+use Rattle.unwind_definitions.specs.Module.{Tables, Process, IsElfProcess}
+use Rattle.unwind_definitions.specs.Valid.{IsElfValid}
 use Rattle.generated_chains.specs.declared.outline.Outline.{Outline}
 use Rattle.generated_chains.specs.declared.chain.Chain.{Chain}
 use Rattle.generated_chains.specs.Outlines.{outlines}
@@ -39,9 +39,9 @@ process_of tables c count =
 
 -- Whatever registers show its innermost state, the process, the resume table, the functions and the calls are valid.
 pub record IsValidBy (tables : Tables) (c : Chain) (seed count : ℕ) : Type 0 where
-  pub process : IsProcess (process_of tables c count)
+  pub process : IsElfProcess (process_of tables c count)
   pub valid : (start : Columns) → Shows start (state_in c.innermost) →
-      IsValid (process_of tables c count) start c.resumes.items
+      IsElfValid (process_of tables c count) start c.resumes.items
       (functions_of (outlines seed count)) (state_in c.innermost) (calls_of seed (outlines seed count))
 
 -- the same by the frame table alone, and by the header table

@@ -44,7 +44,7 @@ abbrev pub IsModuleRange : Module → Type 0
 IsModuleRange m = (m.start < m.end) × (m.end < 2 ^ 64)
 
 -- no address is in two regions, or in two modules
-pub record IsProcess (p : Process) : Type 0 where
+pub record IsElfProcess (p : Process) : Type 0 where
   pub regions : IsLaidOut 0 p.image
   pub ranges : AllByRecursion IsModuleRange p.modules
   pub apart : AllPairs AreApart p.modules

@@ -19,27 +19,27 @@ module _ (p : Process) where
   DescribesPart m functions = DescribesModule p.image m (part_in m functions)
 
   -- a function lies in a module that describes its part of the list
-  pub record LiesDescribed (functions : List Function) (f : Function) : Type 0 where
+  pub record LiesInElf (functions : List Function) (f : Function) : Type 0 where
     pub home : Module
     pub known : Contains p.modules home
     pub inside : IsTrue (in_module f.start home)
     pub describes : DescribesPart home functions
 
   -- an address is in no module, or in one that describes its part of the list
-  abbrev pub IsDescribedAt : List Function → ℕ → Type 0
-  IsDescribedAt functions a = (m : Module) → Contains p.modules m → IsTrue (in_module a m) → DescribesPart m functions
+  abbrev pub IsElfDescribedAt : List Function → ℕ → Type 0
+  IsElfDescribedAt functions a = (m : Module) → Contains p.modules m → IsTrue (in_module a m) → DescribesPart m functions
 
   -- A chain over functions that the modules in its way describe.
-  pub record IsDescribedChain (functions : List Function) (s : State) (calls : List Call) : Type 0 where
+  pub record IsElfChain (functions : List Function) (s : State) (calls : List Call) : Type 0 where
     pub are_functions : AllByRecursion (IsFunction SystemV) functions
     pub chain : IsChain p.image (IsUncovered p) functions s calls
-    pub described : AllByRecursion (λ (c : Call). LiesDescribed functions c.callee) calls
-    pub ends : ((last_state s calls).ra ≡ 0) ⊎ IsDescribedAt functions ((last_state s calls).ra - 1)
+    pub described : AllByRecursion (λ (c : Call). LiesInElf functions c.callee) calls
+    pub ends : ((last_state s calls).ra ≡ 0) ⊎ IsElfDescribedAt functions ((last_state s calls).ra - 1)
 
   -- A start, functions and a chain are valid: each module describes its part of the functions, and there is no other one;
   -- the start shows the chain's innermost state; and where a handler takes the exception, each frame inside it goes on
   -- after its cleanup where the resume table says.
-  pub record IsValid (start : Columns) (resumes : List (ℕ × ℕ)) (functions : List Function) (s : State) (calls : List Call) : Type 0 where
+  pub record IsElfValid (start : Columns) (resumes : List (ℕ × ℕ)) (functions : List Function) (s : State) (calls : List Call) : Type 0 where
     pub are_functions : AllByRecursion (IsFunction SystemV) functions
     pub modules : AllByRecursion (λ (m : Module). DescribesPart m functions) p.modules
     pub no_others : AllByRecursion (λ (f : Function). IsTrue (list_any (in_module f.start) p.modules)) functions

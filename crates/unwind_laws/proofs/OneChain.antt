@@ -14,9 +14,9 @@ use Rattle.unwind_definitions.specs.LanguageTable.{LeadsToLanguage}
 use Rattle.unwind_definitions.specs.Module.{Process, AreApart, IsUncovered}
 use Rattle.unwind_definitions.specs.Chain.{Call, IsEnd, IsChain, states_of}
 use Rattle.unwind_definitions.specs.Delivery.{Frame, frames_of, action_of_frame, is_deciding, decides, cleanup_of, cleanup_pad, states_in, inner_frames, deciding_frame, Delivery, decided_by, delivery_without_handler, landing_at, Installed, EndOfStack, FatalPhase1, delivery_of}
-use Rattle.unwind_definitions.specs.Valid.{IsDescribedChain}
+use Rattle.unwind_definitions.specs.Valid.{IsElfChain}
 use Rattle.unwind_laws.specs.Columns.{columns_of}
-use Rattle.unwind_laws.specs.Walked.{Steps, IsWalk}
+use Rattle.unwind_laws.specs.Walked.{Steps, IsElfWalk}
 use Rattle.unwind_laws.specs.Apart.{FunctionsApart}
 use Rattle.unwind_laws.proofs.Booleans.{all_contains, here_or_later, none_in_nil, tail_pairs, head_pairs}
 use Rattle.unwind_laws.proofs.Found.{body_inside}
@@ -65,14 +65,14 @@ module _ (p : Process) (apart : AllPairs AreApart p.modules) (evaluates : Evalua
   not_ended : (columns : Columns) (s : State) (functions : List Function) (d : Call) → s.ra ≢ 0 → Steps p evaluates columns (s.ra - 1) d → IsEnd p.image (IsUncovered p) functions s → ⊥
   not_ended columns s functions d nonzero y end = elim end.ends [ inl z ↦ nonzero z | inr u ↦ found_is_covered p apart d.callee (s.ra - 1) y.finds u.1 ]
 
-  walks_alike : (functions more : List Function) (s : State) (cs ds : List Call) (columns : Columns) → IsWalk p evaluates functions columns s cs → IsWalk p evaluates more columns s ds → Alike s cs ds
+  walks_alike : (functions more : List Function) (s : State) (cs ds : List Call) (columns : Columns) → IsElfWalk p evaluates functions columns s cs → IsElfWalk p evaluates more columns s ds → Alike s cs ds
   walks_alike functions more s [] [] columns x y = tt
   walks_alike functions more s [] (d ∷ ds) columns x y = absurd (not_ended columns s functions d y.1 y.3.0 x.1)
   walks_alike functions more s (c ∷ cs) [] columns x y = absurd (not_ended columns s more c x.1 x.3.0 y.1)
   walks_alike functions more s (c ∷ cs) (d ∷ ds) columns x y =
       let one = one_step columns s c d x.3.0 y.3.0 in
-      let rest : IsWalk p evaluates more x.3.0.undoes.caller c.caller ds =
-      subst (λ (k : State). IsWalk p evaluates more x.3.0.undoes.caller k ds) (sym one.0) (subst (λ (k : Columns). IsWalk p evaluates more k d.caller ds) (sym one.2) y.3.1) in
+      let rest : IsElfWalk p evaluates more x.3.0.undoes.caller c.caller ds =
+      subst (λ (k : State). IsElfWalk p evaluates more x.3.0.undoes.caller k ds) (sym one.0) (subst (λ (k : Columns). IsElfWalk p evaluates more k d.caller ds) (sym one.2) y.3.1) in
       (one.0, one.1, walks_alike functions more c.caller cs ds x.3.0.undoes.caller x.3.1 rest)
 
 -- ---- what is delivered to such chains
@@ -178,7 +178,7 @@ no_expressions bytes stack columns = Err (Unmapped 0)
 
 -- two described chains of one start
 pub chains_alike : (p : Process) → AllPairs AreApart p.modules → (functions more : List Function) (s : State) (cs ds : List Call) →
-    IsDescribedChain p functions s cs → IsDescribedChain p more s ds → Alike s cs ds
+    IsElfChain p functions s cs → IsElfChain p more s ds → Alike s cs ds
 chains_alike p apart functions more s cs ds x y =
     walks_alike p apart no_expressions functions more s cs ds (columns_of s)
     (chain_walked p no_expressions functions s cs (columns_of s) x (columns_show s)) (chain_walked p no_expressions more s ds (columns_of s) y (columns_show s))
@@ -217,5 +217,5 @@ same_callees image Uncovered functions apart are s (c ∷ cs) (d ∷ ds) x y a =
 
 -- over functions that share no address, two described chains of one start are one
 pub one_chain : (p : Process) → AllPairs AreApart p.modules → (functions : List Function) → AllPairs FunctionsApart functions → (s : State) (cs ds : List Call) →
-    IsDescribedChain p functions s cs → IsDescribedChain p functions s ds → cs ≡ ds
+    IsElfChain p functions s cs → IsElfChain p functions s ds → cs ≡ ds
 one_chain p apart functions alone s cs ds x y = same_callees p.image (IsUncovered p) functions alone x.are_functions s cs ds x.chain y.chain (chains_alike p apart functions functions s cs ds x y)

@@ -12,9 +12,9 @@ use Rattle.unwind_definitions.specs.Entered.{IsEntered}
 use Rattle.unwind_definitions.specs.Function.{in_body, IsFunction}
 use Rattle.unwind_definitions.specs.DescribedRows.{HasRow, IsBodyRow, IsPrologueRow, MayFindLate, FindsRegister, ended_by, DescribesRows}
 use Rattle.unwind_definitions.specs.FrameTable.{DescribesFunction, DescribesFrames}
-use Rattle.unwind_definitions.specs.Module.{IsProcess, AreApart, DescriptionsApart, DescribesModule}
+use Rattle.unwind_definitions.specs.Module.{IsElfProcess, AreApart, DescriptionsApart, DescribesModule}
 use Rattle.unwind_definitions.specs.Chain.{Call, IsCalled, IsLink}
-use Rattle.unwind_definitions.specs.Valid.{IsValid}
+use Rattle.unwind_definitions.specs.Valid.{IsElfValid}
 use Rattle.unwind_laws.specs.Columns.{columns_of}
 use Rattle.unwind_laws.specs.Running.{HasNoFault}
 use Rattle.unwind_laws.specs.Undoes.{AreRules, rule_in}
@@ -170,7 +170,7 @@ link : (memory : List Span) (sp rbx : ℕ) (t : State) (outer : List Call) → s
 link memory sp rbx t outer a b entered = record { state = words 0x401006 sp rbx (lit< tt) a b; listed = (0, lit< tt, refl); called = called memory sp rbx t entered; last = λ outer. absurd cc }
 
 -- one call
-pub one_valid : IsValid process (columns_of start) [] (function ∷ []) start calls
+pub one_valid : IsElfValid process (columns_of start) [] (function ∷ []) start calls
 one_valid = record {
   are_functions = (is_function, tt);
   modules = (module_described, tt);
@@ -209,7 +209,7 @@ are_rules = record { ascend = (lit≤ tt, lit< tt, (lit≤ tt, lit< tt, tt)); ea
         go false e false f = rw (e, f) refl
 
 -- three calls
-pub three_valid : IsValid process_of_three (columns_of start) [] (function ∷ []) start calls_of_three
+pub three_valid : IsElfValid process_of_three (columns_of start) [] (function ∷ []) start calls_of_three
 three_valid = record {
   are_functions = (is_function, tt);
   modules = (module_of_three_described, tt);
@@ -226,8 +226,8 @@ three_valid = record {
 }
 
 -- regions and modules share no address
-pub one_process : IsProcess process
+pub one_process : IsElfProcess process
 one_process = record { regions = (lit≤ tt, lit< tt, lit≤ tt, (lit≤ tt, lit< tt, lit≤ tt, tt)); ranges = ((lit< tt, lit< tt), tt); apart = pairs_one AreApart module_of_it }
 
-pub three_process : IsProcess process_of_three
+pub three_process : IsElfProcess process_of_three
 three_process = record { regions = (lit≤ tt, lit< tt, lit≤ tt, (lit≤ tt, lit< tt, lit≤ tt, tt)); ranges = ((lit< tt, lit< tt), tt); apart = pairs_one AreApart module_of_it }

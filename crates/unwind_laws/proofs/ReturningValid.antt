@@ -13,8 +13,8 @@ use Rattle.unwind_definitions.specs.Entered.{IsEntered}
 use Rattle.unwind_definitions.specs.Function.{in_body, IsFunction}
 use Rattle.unwind_definitions.specs.DescribedRows.{HasRow, IsBodyRow, IsPrologueRow, IsOutermostRow, MayFindLate, FindsRegister, IsUnchanged, ended_by, DescribesRows}
 use Rattle.unwind_definitions.specs.FrameTable.{IsEmittedCie, DescribesFrames, MeetsNot, has_range_of}
-use Rattle.unwind_definitions.specs.Module.{IsProcess, AreApart, DescriptionsApart, DescribesModule}
-use Rattle.unwind_definitions.specs.Valid.{IsValid}
+use Rattle.unwind_definitions.specs.Module.{IsElfProcess, AreApart, DescriptionsApart, DescribesModule}
+use Rattle.unwind_definitions.specs.Valid.{IsElfValid}
 use Rattle.unwind_definitions.specs.Stopped.{StandsAfter}
 use Rattle.unwind_laws.specs.Columns.{columns_of}
 use Rattle.unwind_laws.specs.Walked.{CanStepInside}
@@ -247,7 +247,7 @@ outermost_entered = record { room = lit≤ tt; returns = λ h. absurd cc; leaves
 words : (ra sp rbx r14 : ℕ) → ra < 2 ^ 64 → sp < 2 ^ 64 → rbx < 2 ^ 64 → r14 < 2 ^ 64 → IsState (state ra sp rbx r14)
 words ra sp rbx r14 a b c d = state_fits (state ra sp rbx r14) a b c (lit< tt) (lit< tt) (lit< tt) d (lit< tt)
 
-pub late_valid : IsValid process (columns_of start) [] functions start calls
+pub late_valid : IsElfValid process (columns_of start) [] functions start calls
 late_valid = record {
   are_functions = (callee_function, (outermost_function, tt));
   modules = (module_described, tt);
@@ -291,5 +291,5 @@ interrupted_step = record {
   caller = words 0x402045 0x7020 0x11 0x22 (lit< tt) (lit< tt) (lit< tt) (lit< tt);
 }
 
-pub late_process : IsProcess process
+pub late_process : IsElfProcess process
 late_process = record { regions = (lit≤ tt, lit< tt, lit≤ tt, (lit≤ tt, lit< tt, lit≤ tt, tt)); ranges = ((lit< tt, lit< tt), tt); apart = pairs_one AreApart module_of_them }

@@ -13,8 +13,8 @@ use Rattle.unwind_definitions.specs.Entered.{IsEntered}
 use Rattle.unwind_definitions.specs.Function.{in_body, IsFunction}
 use Rattle.unwind_definitions.specs.DescribedRows.{HasRow, IsBodyRow, IsPrologueRow, MayFindLate, FindsRegister, ended_by, DescribesRows}
 use Rattle.unwind_definitions.specs.FrameTable.{IsEmittedCie, DescribesFrames, MeetsNot, has_range_of}
-use Rattle.unwind_definitions.specs.Module.{IsProcess, AreApart, DescriptionsApart, DescribesModule}
-use Rattle.unwind_definitions.specs.Valid.{IsValid}
+use Rattle.unwind_definitions.specs.Module.{IsElfProcess, AreApart, DescriptionsApart, DescribesModule}
+use Rattle.unwind_definitions.specs.Valid.{IsElfValid}
 use Rattle.unwind_laws.specs.Columns.{columns_of}
 use Rattle.unwind_laws.specs.Storing.{image, table, module_of_them, bases, cie, storing_fde, framed_fde, entries, run_of, allocated, in_storing, pushed, set, in_framed, storing, framed, functions, process, state, start, caller, last, calls}
 use Rattle.unwind_laws.proofs.Booleans.{both_true, either_false, here_or_later, none_in_nil, pairs_one, pairs_two}
@@ -280,7 +280,7 @@ framed_entered = record {
 words : (ra sp rbx rbp r12 : ℕ) → ra < 2 ^ 64 → sp < 2 ^ 64 → rbx < 2 ^ 64 → rbp < 2 ^ 64 → r12 < 2 ^ 64 → IsState (state ra sp rbx rbp r12)
 words ra sp rbx rbp r12 a b c d e = state_fits (state ra sp rbx rbp r12) a b c d e (lit< tt) (lit< tt) (lit< tt)
 
-pub pointed_valid : IsValid process (columns_of start) [] functions start calls
+pub pointed_valid : IsElfValid process (columns_of start) [] functions start calls
 pointed_valid = record {
   are_functions = (storing_function, (framed_function, tt));
   modules = (module_described, tt);
@@ -296,5 +296,5 @@ pointed_valid = record {
   resumed = λ f found accepted. absurd cc;
 }
 
-pub pointed_process : IsProcess process
+pub pointed_process : IsElfProcess process
 pointed_process = record { regions = (lit≤ tt, lit< tt, lit≤ tt, (lit≤ tt, lit< tt, lit≤ tt, tt)); ranges = ((lit< tt, lit< tt), tt); apart = pairs_one AreApart module_of_them }

@@ -15,7 +15,7 @@ use Rattle.unwind_definitions.specs.LanguageTable.{input_at, IsLanguageTable}
 use Rattle.unwind_definitions.specs.FrameTable.{IsEmittedCie, HasDescription, DescribesFrames, HasShortLength, MeetsNot, has_range_of}
 use Rattle.unwind_definitions.specs.Module.{Module, bases_of, in_module, DescribesModule, IsUncovered}
 use Rattle.unwind_definitions.specs.Chain.{Call, IsLink, IsChain}
-use Rattle.unwind_definitions.specs.Valid.{IsValid}
+use Rattle.unwind_definitions.specs.Valid.{IsElfValid}
 use Rattle.unwind_laws.specs.Columns.{columns_of}
 use Rattle.unwind_laws.specs.Three.{image, table, cie_language, fde_a, fde_b, fde_c, fa, fb, fc, functions, entries, module_of_them, start, second, third, last, calls, resumes, module_of_first, module_of_others, process_of_two, process_of_first, first_call, deep_image, deep_process, deep_start, deep_second, deep_calls}
 use Rattle.unwind_laws.proofs.Booleans.{here_or_later, none_in_nil}
@@ -117,7 +117,7 @@ module _ (memory : List Span) (holds : HoldsTables memory) where
 -- ---- calls over the first stack
 
 -- the functions lie in two modules
-pub two_valid : IsValid process_of_two (columns_of start) resumes functions start calls
+pub two_valid : IsElfValid process_of_two (columns_of start) resumes functions start calls
 two_valid = record {
   are_functions = (function_a, (function_b, (function_c, tt)));
   modules = (first_described (image 0x60 []) (holds_image 0x60), (others_described (image 0x60 []) (holds_image 0x60), tt));
@@ -134,7 +134,7 @@ outside m has inside = elim (here_or_later module_of_first [] m has) [
   | inr none ↦ absurd (none_in_nil m none)
 ]
 
-pub first_valid : IsValid process_of_first (columns_of start) [] (fa ∷ []) start (first_call ∷ [])
+pub first_valid : IsElfValid process_of_first (columns_of start) [] (fa ∷ []) start (first_call ∷ [])
 first_valid = record {
   are_functions = (function_a, tt);
   modules = (first_described (image 0x60 []) (holds_image 0x60), tt);
@@ -221,7 +221,7 @@ deep_chain = (
 )
 
 -- the cleanup of the second function runs three times
-pub deep_valid : IsValid deep_process (columns_of deep_start) resumes functions deep_start deep_calls
+pub deep_valid : IsElfValid deep_process (columns_of deep_start) resumes functions deep_start deep_calls
 deep_valid = record {
   are_functions = (function_a, (function_b, (function_c, tt)));
   modules = (all_described deep_image holds_deep, tt);

@@ -15,9 +15,9 @@ use Rattle.unwind_definitions.specs.Entered.{IsEntered}
 use Rattle.unwind_definitions.specs.Function.{Site, Cleanup, Catch, NoAction, IsFunction}
 use Rattle.unwind_definitions.specs.LanguageTable.{IsLanguageTable}
 use Rattle.unwind_definitions.specs.FrameTable.{IsEmittedCie, DescribesFrames, MeetsNot, has_range_of}
-use Rattle.unwind_definitions.specs.Module.{Module, IsProcess, AreApart, bases_of, DescriptionsApart, DescribesModule, CoversNot, IsUncovered, IsHeaderTable, pair_of}
+use Rattle.unwind_definitions.specs.Module.{Module, IsElfProcess, AreApart, bases_of, DescriptionsApart, DescribesModule, CoversNot, IsUncovered, IsHeaderTable, pair_of}
 use Rattle.unwind_definitions.specs.Chain.{IsCalled, IsChain}
-use Rattle.unwind_definitions.specs.Valid.{IsValid}
+use Rattle.unwind_definitions.specs.Valid.{IsElfValid}
 use Rattle.unwind_laws.specs.Columns.{columns_of}
 use Rattle.unwind_laws.specs.Three.{header, image, table, cie_plain, cie_language, fde_a, fde_b, fde_c, fa, fb, fc, functions, entries, module_of_them, process, start, second, third, last, calls_through, calls, resumes, unlisted_process, unlisted_calls, pairs, starts, module_with_header, header_image, header_process, longer_module, longer_process, after}
 use Rattle.unwind_laws.proofs.Booleans.{here_or_later, none_in_nil, pairs_one, pairs_two}
@@ -190,7 +190,7 @@ pub unlisted_chain : (more : List Span) (Uncovered : ℕ → Type 0) → IsChain
 unlisted_chain more Uncovered = let at = unlisted_word more in chain_is 0x70 0x401070 more at Uncovered (lit< tt) (record { returns = λ e. absurd cc; inside = refl; entered = entered_c 0x70 0x401070 more at })
 
 -- an exception in these calls is caught
-pub caught_valid : IsValid process (columns_of start) resumes functions start calls
+pub caught_valid : IsElfValid process (columns_of start) resumes functions start calls
 caught_valid = record {
   are_functions = (function_a, (function_b, (function_c, tt)));
   modules = (module_described 0x60 [], tt);
@@ -201,7 +201,7 @@ caught_valid = record {
 }
 
 -- and in these it ends the program
-pub unlisted_valid : IsValid unlisted_process (columns_of start) resumes functions start unlisted_calls
+pub unlisted_valid : IsElfValid unlisted_process (columns_of start) resumes functions start unlisted_calls
 unlisted_valid = record {
   are_functions = (function_a, (function_b, (function_c, tt)));
   modules = (module_described 0x70 [], tt);
@@ -257,7 +257,7 @@ header_described = record {
   header = header_lists;
 }
 
-pub header_valid : IsValid header_process (columns_of start) resumes functions start calls
+pub header_valid : IsElfValid header_process (columns_of start) resumes functions start calls
 header_valid = record {
   are_functions = (function_a, (function_b, (function_c, tt)));
   modules = (header_described, tt);
@@ -294,7 +294,7 @@ after_uncovered m has inside = elim (here_or_later longer_module [] m has) [
   | inr none ↦ absurd (none_in_nil m none)
 ]
 
-pub after_valid : IsValid longer_process (columns_of after) [] functions after []
+pub after_valid : IsElfValid longer_process (columns_of after) [] functions after []
 after_valid = record {
   are_functions = (function_a, (function_b, (function_c, tt)));
   modules = (longer_described, tt);
@@ -305,10 +305,10 @@ after_valid = record {
 }
 
 -- regions and modules share no address
-pub three_process : IsProcess process
+pub three_process : IsElfProcess process
 three_process = record { regions = (lit≤ tt, lit< tt, lit≤ tt, (lit≤ tt, lit< tt, lit≤ tt, (lit≤ tt, lit< tt, lit≤ tt, (lit≤ tt, lit< tt, lit≤ tt, tt)))); ranges = ((lit< tt, lit< tt), tt); apart = pairs_one AreApart module_of_them }
 
-pub three_header_process : IsProcess header_process
+pub three_header_process : IsElfProcess header_process
 three_header_process = record {
   regions = (lit≤ tt, lit< tt, lit≤ tt, (lit≤ tt, lit< tt, lit≤ tt, (lit≤ tt, lit< tt, lit≤ tt, (lit≤ tt, lit< tt, lit≤ tt, (lit≤ tt, lit< tt, lit≤ tt, tt)))));
   ranges = ((lit< tt, lit< tt), tt);

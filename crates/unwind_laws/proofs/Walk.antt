@@ -9,9 +9,9 @@ use Rattle.unwind_definitions.specs.Prologue.{SystemV, PrologueStep, steps_of}
 use Rattle.unwind_definitions.specs.Function.{Function, IsFunction}
 use Rattle.unwind_definitions.specs.Module.{Module, Process, in_module, bases_of, DescribesModule, IsUncovered}
 use Rattle.unwind_definitions.specs.Chain.{Call, IsLink, IsChain, states_of, StacksRise}
-use Rattle.unwind_definitions.specs.Valid.{part_in, DescribesPart, LiesDescribed, IsDescribedChain, IsValid}
+use Rattle.unwind_definitions.specs.Valid.{part_in, DescribesPart, LiesInElf, IsElfChain, IsElfValid}
 use Rattle.unwind_laws.specs.Found.{FindsFunction}
-use Rattle.unwind_laws.specs.Walked.{Finds, Steps, CanStep, CanStepInside, IsWalk}
+use Rattle.unwind_laws.specs.Walked.{Finds, Steps, CanStep, CanStepInside, IsElfWalk}
 use Rattle.unwind_laws.proofs.Booleans.{all_contains, contains_filter, any_contains}
 use Rattle.unwind_laws.proofs.Undo.{rises}
 use Rattle.unwind_laws.proofs.InPrologue.{stands_inside, stopped_row}
@@ -25,12 +25,12 @@ module _ (p : Process) where
   -- a function of a described part, and an address inside it
   pub record CanFind (functions : List Function) (f : Function) (a : ℕ) : Type 0 where
     pub listed : Contains functions f
-    pub lies : LiesDescribed p functions f
+    pub lies : LiesInElf p functions f
     pub from : f.start ≤ a
     pub below : a < f.end
 
   -- the module of such an address, and the description that is found there
-  pub record FoundAt (functions : List Function) (f : Function) (a : ℕ) (lies : LiesDescribed p functions f) : Type 0 where
+  pub record FoundAt (functions : List Function) (f : Function) (a : ℕ) (lies : LiesInElf p functions f) : Type 0 where
     pub inside : IsTrue (in_module a lies.home)
     pub finds : FindsFunction p.image lies.home lies.describes.frame f a
 
@@ -47,7 +47,7 @@ module _ (p : Process) where
       record { inside = rw (x, y) refl; finds = function_found p.image m part d f a listed from below }
 
   -- what is found, and a row there that undoes the call, make a step
-  step_of : (evaluates : Evaluates) (functions : List Function) (a : ℕ) (c : Call) (columns : Columns) (lies : LiesDescribed p functions c.callee) (x : FoundAt functions c.callee a lies) →
+  step_of : (evaluates : Evaluates) (functions : List Function) (a : ℕ) (c : Call) (columns : Columns) (lies : LiesInElf p functions c.callee) (x : FoundAt functions c.callee a lies) →
       RowUndoes p evaluates lies.home lies.describes.frame x.finds.fde a columns c.caller → Steps p evaluates columns a c
   step_of evaluates functions a c columns lies x u =
       let finds : Finds p c.callee a = record {
@@ -89,7 +89,7 @@ module _ (p : Process) where
       step_of evaluates functions s.ra c columns can.lies x (record { run = row.0; has_row = row.1; no_arguments = row.2.1; undoes = row.2.0 })
 
   walked : (evaluates : Evaluates) (functions : List Function) → AllByRecursion (IsFunction SystemV) functions → (s : State) (calls : List Call) (columns : Columns) →
-      IsChain p.image (IsUncovered p) functions s calls → AllByRecursion (λ (c : Call). LiesDescribed p functions c.callee) calls → Shows columns s → IsWalk p evaluates functions columns s calls
+      IsChain p.image (IsUncovered p) functions s calls → AllByRecursion (λ (c : Call). LiesInElf p functions c.callee) calls → Shows columns s → IsElfWalk p evaluates functions columns s calls
   walked evaluates functions are s [] columns chain lie shows = (shows, chain)
   walked evaluates functions are s (c ∷ calls) columns chain lie shows =
       let link : IsLink p.image functions s c calls = chain.0 in
@@ -110,24 +110,24 @@ module _ (p : Process) where
       )
 
   -- A described chain is walked, from columns that show its start.
-  pub chain_walked : (evaluates : Evaluates) (functions : List Function) (s : State) (calls : List Call) (columns : Columns) → IsDescribedChain p functions s calls → Shows columns s →
-      IsWalk p evaluates functions columns s calls
+  pub chain_walked : (evaluates : Evaluates) (functions : List Function) (s : State) (calls : List Call) (columns : Columns) → IsElfChain p functions s calls → Shows columns s →
+      IsElfWalk p evaluates functions columns s calls
   chain_walked evaluates functions s calls columns is shows = walked evaluates functions is.are_functions s calls columns is.chain is.described shows
 
   -- each function of a valid list lies in a module that describes its part
   lies_described : (functions : List Function) → AllByRecursion (λ (m : Module). DescribesPart p m functions) p.modules → AllByRecursion (λ (f : Function). IsTrue (list_any (in_module f.start) p.modules)) functions →
-      (f : Function) → Contains functions f → LiesDescribed p functions f
+      (f : Function) → Contains functions f → LiesInElf p functions f
   lies_described functions modules others f has =
       let some = any_contains (in_module f.start) p.modules (all_contains (λ (g : Function). IsTrue (list_any (in_module g.start) p.modules)) functions f others has) in
       record { home = some.0; known = some.1; inside = some.2; describes = all_contains (λ (m : Module). DescribesPart p m functions) p.modules some.0 modules some.1 }
 
-  callees_described : (functions : List Function) (s : State) (calls : List Call) → ((f : Function) → Contains functions f → LiesDescribed p functions f) → IsChain p.image (IsUncovered p) functions s calls →
-      AllByRecursion (λ (c : Call). LiesDescribed p functions c.callee) calls
+  callees_described : (functions : List Function) (s : State) (calls : List Call) → ((f : Function) → Contains functions f → LiesInElf p functions f) → IsChain p.image (IsUncovered p) functions s calls →
+      AllByRecursion (λ (c : Call). LiesInElf p functions c.callee) calls
   callees_described functions s [] each chain = tt
   callees_described functions s (c ∷ calls) each chain = (each c.callee chain.0.listed, callees_described functions c.caller calls each chain.1)
 
   -- a valid chain is described
-  pub valid_described : (start : Columns) (resumes : List (ℕ × ℕ)) (functions : List Function) (s : State) (calls : List Call) → IsValid p start resumes functions s calls → IsDescribedChain p functions s calls
+  pub valid_described : (start : Columns) (resumes : List (ℕ × ℕ)) (functions : List Function) (s : State) (calls : List Call) → IsElfValid p start resumes functions s calls → IsElfChain p functions s calls
   valid_described start resumes functions s calls valid = record {
     are_functions = valid.are_functions;
     chain = valid.chain;

@@ -13,7 +13,7 @@ use Rattle.unwind_definitions.specs.LanguageTable.{input_at}
 use Rattle.unwind_definitions.specs.FrameTable.{DescribesFunction}
 use Rattle.unwind_definitions.specs.Module.{Module, Process, in_module, frame_address, bases_of, DescribesModule, IsUncovered}
 use Rattle.unwind_definitions.specs.Chain.{Call, IsEnd}
-use Rattle.unwind_definitions.specs.Valid.{LiesDescribed}
+use Rattle.unwind_definitions.specs.Valid.{LiesInElf}
 use Rattle.unwind_definitions.specs.Stopped.{StandsAfter}
 use Rattle.unwind_laws.specs.Undoes.{Undoes}
 use Rattle.unwind_laws.specs.Found.{FdeRead}
@@ -48,7 +48,7 @@ module _ (p : Process) where
   pub record CanStep (functions : List Function) (a : ℕ) (s : State) (c : Call) : Type 0 where
     pub is_function : IsFunction SystemV c.callee
     pub listed : Contains functions c.callee
-    pub lies : LiesDescribed p functions c.callee
+    pub lies : LiesInElf p functions c.callee
     pub inside : IsTrue (in_body c.callee a)
     pub entered : IsEntered p.image c.callee.outermost (steps_of c.callee.prologue) c.caller s
     pub caller : IsState c.caller
@@ -59,13 +59,13 @@ module _ (p : Process) where
     pub is_function : IsFunction SystemV c.callee
     pub inner : c.callee.outermost ≡ false
     pub listed : Contains functions c.callee
-    pub lies : LiesDescribed p functions c.callee
+    pub lies : LiesInElf p functions c.callee
     pub stands : StandsAfter p.image c.callee done later c.caller s
     pub caller : IsState c.caller
 
   -- Columns that show a state, and step by step those of its callers, each by the address before the return address, up to
   -- the end of the stack; stack pointers strictly rise.
-  abbrev pub IsWalk : Evaluates → List Function → Columns → State → List Call → Type 0
-  IsWalk evaluates functions columns s [] = Shows columns s × IsEnd p.image (IsUncovered p) functions s
-  IsWalk evaluates functions columns s (c ∷ calls) = Shows columns s × (s.ra ≢ 0) × (s.sp < c.caller.sp)
-      × ((step : Steps evaluates columns (s.ra - 1) c) × IsWalk evaluates functions step.undoes.caller c.caller calls)
+  abbrev pub IsElfWalk : Evaluates → List Function → Columns → State → List Call → Type 0
+  IsElfWalk evaluates functions columns s [] = Shows columns s × IsEnd p.image (IsUncovered p) functions s
+  IsElfWalk evaluates functions columns s (c ∷ calls) = Shows columns s × (s.ra ≢ 0) × (s.sp < c.caller.sp)
+      × ((step : Steps evaluates columns (s.ra - 1) c) × IsElfWalk evaluates functions step.undoes.caller c.caller calls)

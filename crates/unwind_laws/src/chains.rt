@@ -9,12 +9,12 @@ ghost use Rattle.unwind_definitions.specs.Prologue.{Convention, Step, PrologueSt
 ghost use Rattle.unwind_definitions.specs.Prologue.{saves};
 ghost use Rattle.unwind_definitions.specs.Entered.{IsEntered, stack_after};
 ghost use Rattle.unwind_definitions.specs.Function.{Function};
-ghost use Rattle.unwind_definitions.specs.Module.{Process, IsProcess, IsUncovered};
+ghost use Rattle.unwind_definitions.specs.Module.{Process, IsElfProcess, IsUncovered};
 ghost use Rattle.unwind_definitions.specs.Chain.{Call, IsChain, states_of, StacksRise};
 ghost use Rattle.unwind_definitions.specs.Delivery.{delivery_of};
-ghost use Rattle.unwind_definitions.specs.Valid.{IsDescribedChain, IsValid};
+ghost use Rattle.unwind_definitions.specs.Valid.{IsElfChain, IsElfValid};
 ghost use Rattle.unwind_laws.specs.Apart.{FunctionsApart, LiesBetween};
-ghost use Rattle.unwind_laws.specs.Walked.{CanStep, CanStepInside, Steps, IsWalk};
+ghost use Rattle.unwind_laws.specs.Walked.{CanStep, CanStepInside, Steps, IsElfWalk};
 
 /// Stopped at an address in the body of a described function, the tables give the caller: a module,
 /// its description of the function, that description's row, and the caller's columns.
@@ -37,15 +37,15 @@ pub fn part_of_a_call_is_undone()
 pub fn chain_is_walked()
     ensures { (p : Process) (evaluates : Evaluates) (functions : List Function) (s : State)
         (calls : List Call) (columns : Columns) →
-        IsDescribedChain p functions s calls → Shows columns s →
-        IsWalk p evaluates functions columns s calls }
+        IsElfChain p functions s calls → Shows columns s →
+        IsElfWalk p evaluates functions columns s calls }
 {}
 
 /// The chain of a valid start is described.
 pub fn valid_chain_is_described()
     ensures { (p : Process) (start : Columns) (resumes : List (ℕ × ℕ))
         (functions : List Function) (s : State) (calls : List Call) →
-        IsValid p start resumes functions s calls → IsDescribedChain p functions s calls }
+        IsElfValid p start resumes functions s calls → IsElfChain p functions s calls }
 {}
 
 /// Stack pointers strictly rise along a chain.
@@ -59,19 +59,19 @@ pub fn stack_pointers_rise()
 pub fn delivery_is_one()
     ensures states { (p : Process) (functions others : List Function) (s : State)
         (calls more : List Call) →
-        IsProcess p → IsDescribedChain p functions s calls → IsDescribedChain p others s more →
+        IsElfProcess p → IsElfChain p functions s calls → IsElfChain p others s more →
         states_of s calls ≡ states_of s more }
     ensures delivery { (p : Process) (functions others : List Function) (s : State)
         (calls more : List Call) (exception : ℕ) →
-        IsProcess p → IsDescribedChain p functions s calls → IsDescribedChain p others s more →
+        IsElfProcess p → IsElfChain p functions s calls → IsElfChain p others s more →
         delivery_of exception s calls ≡ delivery_of exception s more }
 {}
 
 /// Over functions that share no address, two described chains of one start are one.
 pub fn chain_is_one()
     ensures { (p : Process) (functions : List Function) (s : State) (calls more : List Call) →
-        IsProcess p → AllPairs FunctionsApart functions →
-        IsDescribedChain p functions s calls → IsDescribedChain p functions s more → calls ≡ more }
+        IsElfProcess p → AllPairs FunctionsApart functions →
+        IsElfChain p functions s calls → IsElfChain p functions s more → calls ≡ more }
 {}
 
 /// What a prologue saves lies between its last stack pointer and the return address.

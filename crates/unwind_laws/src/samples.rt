@@ -14,9 +14,9 @@ ghost use Rattle.unwind_definitions.specs.LanguageSearch.{search};
 ghost use Rattle.unwind_definitions.specs.Caller.{Table};
 ghost use Rattle.unwind_definitions.specs.HeaderSearch.{IsTableAnswer};
 ghost use Rattle.unwind_definitions.specs.HeaderSearchLaws.{AreStarts};
-ghost use Rattle.unwind_definitions.specs.Module.{IsProcess, bases_of, in_module};
+ghost use Rattle.unwind_definitions.specs.Module.{IsElfProcess, bases_of, in_module};
 ghost use Rattle.unwind_definitions.specs.Delivery.{delivery_of};
-ghost use Rattle.unwind_definitions.specs.Valid.{IsValid};
+ghost use Rattle.unwind_definitions.specs.Valid.{IsElfValid};
 ghost use Rattle.unwind_definitions.specs.Stopped.{StandsAfter};
 ghost use Rattle.unwind_laws.specs.Columns.{columns_of};
 ghost use Rattle.unwind_laws.specs.Pushing as pushing;
@@ -30,8 +30,8 @@ ghost use Rattle.unwind_laws.specs.Windows as windows;
 
 /// A call of a function that pushes RBX, from a caller that returns to 0.
 pub fn one_call_is_valid()
-    ensures process { IsProcess pushing.process }
-    ensures valid { IsValid pushing.process (columns_of pushing.start) [] (pushing.function ∷ [])
+    ensures process { IsElfProcess pushing.process }
+    ensures valid { IsElfValid pushing.process (columns_of pushing.start) [] (pushing.function ∷ [])
         pushing.start pushing.calls }
     ensures delivery { delivery_of 0 pushing.start pushing.calls ≡ pushing.delivery }
     ensures step { CanStep pushing.process (pushing.function ∷ []) (pushing.start.ra - 1)
@@ -52,8 +52,8 @@ pub fn other_slot_is_no_entering()
 
 /// Three calls of that function, by itself.
 pub fn three_calls_are_valid()
-    ensures process { IsProcess pushing.process_of_three }
-    ensures valid { IsValid pushing.process_of_three (columns_of pushing.start) []
+    ensures process { IsElfProcess pushing.process_of_three }
+    ensures valid { IsElfValid pushing.process_of_three (columns_of pushing.start) []
         (pushing.function ∷ []) pushing.start pushing.calls_of_three }
     ensures delivery { delivery_of 0 pushing.start pushing.calls_of_three ≡
         pushing.delivery_of_three }
@@ -62,8 +62,8 @@ pub fn three_calls_are_valid()
 /// A function with late save records and an epilogue in its midst, called by an outermost one, in a
 /// table that also has a description of other code.
 pub fn calls_of_an_outermost_function_are_valid()
-    ensures process { IsProcess returning.process }
-    ensures valid { IsValid returning.process (columns_of returning.start) [] returning.functions
+    ensures process { IsElfProcess returning.process }
+    ensures valid { IsElfValid returning.process (columns_of returning.start) [] returning.functions
         returning.start returning.calls }
     ensures delivery { delivery_of 0 returning.start returning.calls ≡ returning.delivery }
 {}
@@ -80,8 +80,8 @@ pub fn state_stands_inside_a_prologue()
 /// A function that stores R12 into its frame, called by one that sets RBP as its frame pointer and
 /// in its body has a lower stack pointer than its prologue left.
 pub fn calls_through_a_frame_pointer_are_valid()
-    ensures process { IsProcess storing.process }
-    ensures valid { IsValid storing.process (columns_of storing.start) [] storing.functions
+    ensures process { IsElfProcess storing.process }
+    ensures valid { IsElfValid storing.process (columns_of storing.start) [] storing.functions
         storing.start storing.calls }
     ensures lower { storing.caller.sp < stack_after (storing.last.sp - 8)
         (steps_of storing.framed.prologue) }
@@ -90,16 +90,16 @@ pub fn calls_through_a_frame_pointer_are_valid()
 
 /// Three functions, two of them with language tables: the second runs a cleanup, the third catches.
 pub fn calls_are_caught()
-    ensures process { IsProcess three.process }
-    ensures valid { IsValid three.process (columns_of three.start) three.resumes three.functions
+    ensures process { IsElfProcess three.process }
+    ensures valid { IsElfValid three.process (columns_of three.start) three.resumes three.functions
         three.start three.calls }
     ensures delivery { delivery_of three.exception three.start three.calls ≡ three.delivery }
 {}
 
 /// The same by a header table.
 pub fn calls_by_a_header_are_caught()
-    ensures process { IsProcess three.header_process }
-    ensures valid { IsValid three.header_process (columns_of three.start) three.resumes
+    ensures process { IsElfProcess three.header_process }
+    ensures valid { IsElfValid three.header_process (columns_of three.start) three.resumes
         three.functions three.start three.calls }
 {}
 
@@ -114,14 +114,14 @@ pub fn header_table_lists_starts()
 /// A state after these functions, in a module that is longer than they are: none of the
 /// descriptions that its header lists contains the address, and the stack ends there.
 pub fn stack_ends_after_the_functions()
-    ensures whole { IsValid three.longer_process (columns_of three.after) [] three.functions
+    ensures whole { IsElfValid three.longer_process (columns_of three.after) [] three.functions
         three.after [] }
     ensures inside { IsTrue (in_module (three.after.ra - 1) three.longer_module) }
 {}
 
 /// The same where the third function's call is in no site of its language table.
 pub fn unlisted_call_ends_the_program()
-    ensures valid { IsValid three.unlisted_process (columns_of three.start) three.resumes
+    ensures valid { IsElfValid three.unlisted_process (columns_of three.start) three.resumes
         three.functions three.start three.unlisted_calls }
     ensures action { action_at three.fc (0x401070 - 1) ≡ Terminate }
     ensures delivery { delivery_of three.exception three.start three.unlisted_calls ≡
@@ -130,15 +130,15 @@ pub fn unlisted_call_ends_the_program()
 
 /// The same where the functions lie in two modules.
 pub fn calls_through_two_modules_are_caught()
-    ensures process { IsProcess three.process_of_two }
-    ensures valid { IsValid three.process_of_two (columns_of three.start) three.resumes
+    ensures process { IsElfProcess three.process_of_two }
+    ensures valid { IsElfValid three.process_of_two (columns_of three.start) three.resumes
         three.functions three.start three.calls }
 {}
 
 /// The same where the second function calls itself twice: its cleanup runs three times.
 pub fn each_call_is_cleaned()
-    ensures process { IsProcess three.deep_process }
-    ensures valid { IsValid three.deep_process (columns_of three.deep_start) three.resumes
+    ensures process { IsElfProcess three.deep_process }
+    ensures valid { IsElfValid three.deep_process (columns_of three.deep_start) three.resumes
         three.functions three.deep_start three.deep_calls }
     ensures delivery { delivery_of three.exception three.deep_start three.deep_calls ≡
         three.deep_delivery }
@@ -147,8 +147,8 @@ pub fn each_call_is_cleaned()
 /// The first of these functions alone in its module, called from an address that no module holds:
 /// the stack ends there.
 pub fn call_from_outside_is_valid()
-    ensures process { IsProcess three.process_of_first }
-    ensures valid { IsValid three.process_of_first (columns_of three.start) [] (three.fa ∷ [])
+    ensures process { IsElfProcess three.process_of_first }
+    ensures valid { IsElfValid three.process_of_first (columns_of three.start) [] (three.fa ∷ [])
         three.start (three.first_call ∷ []) }
     ensures outside { three.second.ra ≢ 0 }
     ensures delivery { delivery_of three.exception three.start (three.first_call ∷ []) ≡
