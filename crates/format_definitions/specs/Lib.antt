@@ -6,8 +6,8 @@ pub mod PeModules
 pub mod PeEpilogs
 pub mod CompactStep
 pub mod MachoModules
-pub mod FormatModules
-pub mod FormatCalls
-pub mod FormatProcess
-pub mod FormatValid
-pub mod FormatStops
+pub mod Modules
+pub mod Calls
+pub mod Process
+pub mod Valid
+pub mod Stops

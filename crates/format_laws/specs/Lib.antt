@@ -3,5 +3,5 @@ pub mod CompactUndone
 pub mod PeSamples
 pub mod MachoSamples
 pub mod ElfSample
-pub mod FormatUndone
-pub mod FormatSample
+pub mod Undone
+pub mod Sample

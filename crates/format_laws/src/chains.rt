@@ -7,9 +7,9 @@ ghost use Rattle.unwind_definitions.specs.State.{State, Shows};
 ghost use Rattle.unwind_definitions.specs.Function.{Function};
 ghost use Rattle.unwind_definitions.specs.Chain.{Call};
 ghost use Rattle.format_definitions.specs.CompactStep.{MachoModule, macho_step};
-ghost use Rattle.format_definitions.specs.FormatModules.{FormatModule, MachoCoversNot};
-ghost use Rattle.format_definitions.specs.FormatModules.{IsFormatChain};
-ghost use Rattle.format_laws.specs.FormatUndone.{FormatUndone, CanUndo, IsFormatWalk};
+ghost use Rattle.format_definitions.specs.Modules.{FormatModule, MachoCoversNot};
+ghost use Rattle.format_definitions.specs.Modules.{IsDescribedChain};
+ghost use Rattle.format_laws.specs.Undone.{FormatUndone, CanUndo, IsWalk};
 
 /// A call of a function is undone by the module that the function lies in, of whatever format it
 /// is.
@@ -26,9 +26,9 @@ pub fn format_call_is_undone()
 pub fn format_chain_is_walked()
     ensures { (image : List Span) (modules : List FormatModule) (functions : List Function)
         (s : State) (calls : List Call) (columns : Columns)
-        → IsFormatChain image modules functions s calls
+        → IsDescribedChain image modules functions s calls
         → Shows columns s
-        → IsFormatWalk image modules functions columns s calls }
+        → IsWalk image modules functions columns s calls }
 {}
 
 /// At an address that no function of a Mach-O module's listing covers the step finds no function.

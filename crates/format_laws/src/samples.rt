@@ -17,10 +17,10 @@ ghost use Rattle.unwind_laws.specs.Windows as windows;
 ghost use Rattle.macho_unwind_info.specs.X86_64.{opcode_of};
 ghost use Rattle.pe_unwind_info.specs.declared.x86_64.fault.FrameFault.TheVariants.{ChainLimit};
 ghost use Rattle.format_definitions.specs.CompactStep.{compact_step, macho_step};
-ghost use Rattle.format_definitions.specs.FormatModules.{IsFormatChain};
-ghost use Rattle.format_definitions.specs.FormatProcess.{IsFormatProcess};
-ghost use Rattle.format_definitions.specs.FormatStops.{IsFormatStop};
-ghost use Rattle.format_definitions.specs.FormatValid.{IsFormatValid};
+ghost use Rattle.format_definitions.specs.Modules.{IsDescribedChain};
+ghost use Rattle.format_definitions.specs.Process.{IsProcess};
+ghost use Rattle.format_definitions.specs.Stops.{IsDescribedStop};
+ghost use Rattle.format_definitions.specs.Valid.{IsValid};
 ghost use Rattle.format_definitions.specs.MachoModules.{IsOpcodeOf, DescribesMacho};
 ghost use Rattle.format_definitions.specs.PeImage.{memory_of};
 ghost use Rattle.format_definitions.specs.PeStep.{InFrame, pe_step};
@@ -29,8 +29,8 @@ ghost use Rattle.format_definitions.specs.PeModules.{HasRecord, DescribesPe};
 ghost use Rattle.format_definitions.specs.PeEpilogs.{StandsInEpilog};
 ghost use Rattle.format_laws.specs.CompactUndone as compact;
 ghost use Rattle.format_laws.specs.ElfSample as elf;
-ghost use Rattle.format_laws.specs.FormatSample as mixed;
-ghost use Rattle.format_laws.specs.FormatUndone.{CanUndo};
+ghost use Rattle.format_laws.specs.Sample as mixed;
+ghost use Rattle.format_laws.specs.Undone.{CanUndo};
 ghost use Rattle.format_laws.specs.MachoSamples as macho;
 ghost use Rattle.format_laws.specs.PeSamples as pe;
 ghost use Rattle.format_laws.specs.PeUndone.{GivesState};
@@ -163,7 +163,7 @@ pub fn dwarf_opcode_is_described()
 /// module: a described chain.
 pub fn calls_through_formats_are_a_chain()
     ensures memory { IsLaidOut 0 pe.room_image }
-    ensures chain { IsFormatChain pe.room_image mixed.modules mixed.functions
+    ensures chain { IsDescribedChain pe.room_image mixed.modules mixed.functions
         macho.frameless_state mixed.calls }
     ensures step { CanUndo pe.room_image mixed.modules mixed.functions
         (macho.frameless_state.ra - 1) macho.frameless_state
@@ -174,8 +174,8 @@ pub fn calls_through_formats_are_a_chain()
 /// PE module to two of the ELF module: the start is valid, the cleanup of the first ELF function
 /// runs, and the second one's handler takes the exception.
 pub fn calls_through_formats_are_caught()
-    ensures process { IsFormatProcess pe.room_image mixed.modules }
-    ensures valid { IsFormatValid pe.room_image mixed.modules (columns_of mixed.caught_start)
+    ensures process { IsProcess pe.room_image mixed.modules }
+    ensures valid { IsValid pe.room_image mixed.modules (columns_of mixed.caught_start)
         three.resumes mixed.functions mixed.caught_start mixed.caught_calls }
     ensures delivery { delivery_of three.exception mixed.caught_start mixed.caught_calls
         ≡ mixed.caught_delivery }
@@ -185,26 +185,26 @@ pub fn calls_through_formats_are_caught()
 /// and the PE function in its body or after the push of its prologue: its callers' states begin
 /// described chains.
 pub fn stops_in_formats_are_described()
-    ensures macho_body { IsFormatStop pe.room_image mixed.modules mixed.functions
+    ensures macho_body { IsDescribedStop pe.room_image mixed.modules mixed.functions
         mixed.caught_start mixed.caught_frameless }
-    ensures macho_chain { IsFormatChain pe.room_image mixed.modules mixed.functions
+    ensures macho_chain { IsDescribedChain pe.room_image mixed.modules mixed.functions
         mixed.caught_room (mixed.caught_pushing ∷ mixed.outer_calls) }
-    ensures pe_body { IsFormatStop pe.room_image mixed.modules mixed.functions mixed.caught_room
+    ensures pe_body { IsDescribedStop pe.room_image mixed.modules mixed.functions mixed.caught_room
         mixed.caught_pushing }
-    ensures pe_prologue { IsFormatStop pe.room_image mixed.modules mixed.functions
+    ensures pe_prologue { IsDescribedStop pe.room_image mixed.modules mixed.functions
         mixed.pushed_room mixed.caught_pushing }
-    ensures pe_chain { IsFormatChain pe.room_image mixed.modules mixed.functions three.second
+    ensures pe_chain { IsDescribedChain pe.room_image mixed.modules mixed.functions three.second
         mixed.outer_calls }
 {}
 
 /// The function with an epilog in its midst, stopped before the pop of the epilog and after it,
 /// where nobody called its caller.
 pub fn stops_in_a_pe_epilog_are_described()
-    ensures process { IsFormatProcess pe.epilog_image mixed.pe_modules }
-    ensures before { IsFormatStop pe.epilog_image mixed.pe_modules (pe.epilog_function ∷ [])
+    ensures process { IsProcess pe.epilog_image mixed.pe_modules }
+    ensures before { IsDescribedStop pe.epilog_image mixed.pe_modules (pe.epilog_function ∷ [])
         pe.epilog_start mixed.epilog_call }
-    ensures after { IsFormatStop pe.epilog_image mixed.pe_modules (pe.epilog_function ∷ [])
+    ensures after { IsDescribedStop pe.epilog_image mixed.pe_modules (pe.epilog_function ∷ [])
         pe.epilog_state mixed.epilog_call }
-    ensures chain { IsFormatChain pe.epilog_image mixed.pe_modules (pe.epilog_function ∷ [])
+    ensures chain { IsDescribedChain pe.epilog_image mixed.pe_modules (pe.epilog_function ∷ [])
         pe.epilog_caller [] }
 {}

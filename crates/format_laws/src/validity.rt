@@ -9,16 +9,16 @@ ghost use Rattle.unwind_definitions.specs.Function.{Function};
 ghost use Rattle.unwind_definitions.specs.Chain.{Call, states_of};
 ghost use Rattle.unwind_definitions.specs.Delivery.{delivery_of};
 ghost use Rattle.unwind_laws.specs.Apart.{FunctionsApart};
-ghost use Rattle.format_definitions.specs.FormatModules.{FormatModule, in_format};
-ghost use Rattle.format_definitions.specs.FormatModules.{LiesInFormat, IsFormatChain};
-ghost use Rattle.format_definitions.specs.FormatProcess.{IsFormatProcess};
-ghost use Rattle.format_definitions.specs.FormatValid.{IsFormatValid};
+ghost use Rattle.format_definitions.specs.Modules.{FormatModule, in_format};
+ghost use Rattle.format_definitions.specs.Modules.{LiesDescribed, IsDescribedChain};
+ghost use Rattle.format_definitions.specs.Process.{IsProcess};
+ghost use Rattle.format_definitions.specs.Valid.{IsValid};
 
 /// An address lies in one module at most, and each address of a described function in the module
 /// that describes it.
 pub fn address_lies_in_one_module()
     ensures one { (image : List Span) (modules : List FormatModule) (a : ℕ) (m n : FormatModule)
-        → IsFormatProcess image modules
+        → IsProcess image modules
         → Contains modules m
         → Contains modules n
         → IsTrue (in_format a m)
@@ -26,7 +26,7 @@ pub fn address_lies_in_one_module()
         → m ≡ n }
     ensures home { (image : List Span) (modules : List FormatModule) (functions : List Function)
         (f : Function) (a : ℕ)
-        → (lies : LiesInFormat image modules functions f)
+        → (lies : LiesDescribed image modules functions f)
         → Contains functions f
         → f.start ≤ a
         → a < f.end
@@ -37,8 +37,8 @@ pub fn address_lies_in_one_module()
 pub fn valid_format_chain_is_described()
     ensures { (image : List Span) (modules : List FormatModule) (start : Columns)
         (resumes : List (ℕ × ℕ)) (functions : List Function) (s : State) (calls : List Call)
-        → IsFormatValid image modules start resumes functions s calls
-        → IsFormatChain image modules functions s calls }
+        → IsValid image modules start resumes functions s calls
+        → IsDescribedChain image modules functions s calls }
 {}
 
 /// Two described chains of one start go through the same states, and what is delivered to them is
@@ -46,15 +46,15 @@ pub fn valid_format_chain_is_described()
 pub fn format_delivery_is_one()
     ensures states { (image : List Span) (modules : List FormatModule)
         (functions others : List Function) (s : State) (calls more : List Call)
-        → IsFormatProcess image modules
-        → IsFormatChain image modules functions s calls
-        → IsFormatChain image modules others s more
+        → IsProcess image modules
+        → IsDescribedChain image modules functions s calls
+        → IsDescribedChain image modules others s more
         → states_of s calls ≡ states_of s more }
     ensures delivery { (image : List Span) (modules : List FormatModule)
         (functions others : List Function) (s : State) (calls more : List Call) (exception : ℕ)
-        → IsFormatProcess image modules
-        → IsFormatChain image modules functions s calls
-        → IsFormatChain image modules others s more
+        → IsProcess image modules
+        → IsDescribedChain image modules functions s calls
+        → IsDescribedChain image modules others s more
         → delivery_of exception s calls ≡ delivery_of exception s more }
 {}
 
@@ -62,9 +62,9 @@ pub fn format_delivery_is_one()
 pub fn format_chain_is_one()
     ensures { (image : List Span) (modules : List FormatModule) (functions : List Function)
         (s : State) (calls more : List Call)
-        → IsFormatProcess image modules
+        → IsProcess image modules
         → AllPairs FunctionsApart functions
-        → IsFormatChain image modules functions s calls
-        → IsFormatChain image modules functions s more
+        → IsDescribedChain image modules functions s calls
+        → IsDescribedChain image modules functions s more
         → calls ≡ more }
 {}

@@ -21,10 +21,10 @@ use Rattle.pe_unwind_info.specs.Steps.{run, epilog_run}
 use Rattle.format_definitions.specs.PeImage.{memory_of}
 use Rattle.format_definitions.specs.PeStep.{pe_step}
 use Rattle.format_definitions.specs.PeModules.{IsInNoEpilog, HasRecord, DescribesPe}
-use Rattle.format_definitions.specs.FormatModules.{Pe, LiesInFormat, IsFormatChain}
-use Rattle.format_definitions.specs.FormatProcess.{FormatsApart, IsFormatProcess}
-use Rattle.format_definitions.specs.FormatStops.{at_prologue, IsFormatStop}
-use Rattle.format_laws.specs.FormatSample.{pe_modules}
+use Rattle.format_definitions.specs.Modules.{Pe, LiesDescribed, IsDescribedChain}
+use Rattle.format_definitions.specs.Process.{FormatsApart, IsProcess}
+use Rattle.format_definitions.specs.Stops.{at_prologue, IsDescribedStop}
+use Rattle.format_laws.specs.Sample.{pe_modules}
 use Rattle.format_laws.specs.PeSamples.{module_of_one, chained_image, chained_info, inherited_steps, loop_record, table_bytes}
 use Rattle.format_laws.specs.PeUndone.{GivesState}
 use Rattle.format_laws.proofs.PeQuiet.{quiet_at}
@@ -32,7 +32,7 @@ use Rattle.format_laws.proofs.PeChained as chained
 use Rattle.format_samples.proofs.Outside.{ends_outside}
 use Rattle.format_samples.specs.StopSamples.{chained_call, allocation, setting, stores, allocated_state, set_state}
 
-pub is_process : IsFormatProcess chained_image pe_modules
+pub is_process : IsProcess chained_image pe_modules
 is_process = record { regions = (lit≤ tt, lit< tt, lit≤ tt, (lit≤ tt, lit< tt, lit≤ tt, (lit≤ tt, lit< tt, lit≤ tt, (lit≤ tt, lit< tt, lit≤ tt, (lit≤ tt, lit< tt, lit≤ tt, tt))))); ranges = ((lit< tt, lit< tt), tt); apart = pairs_one FormatsApart (Pe module_of_one) }
 
 unfoldable has_record : HasRecord chained_image module_of_one (loop_record ∷ []) windows.function
@@ -41,10 +41,10 @@ has_record = record { function = loop_record; listed = (0, lit< tt, refl); descr
 unfoldable module_described : DescribesPe chained_image module_of_one (windows.function ∷ [])
 module_described = record { bytes = table_bytes 0x00 0x11; mapped = refl; table = loop_record ∷ []; reads = refl; ordered = (lit≤ tt, lit< tt, lit≤ tt, tt); each = (inl has_record, tt) }
 
-lies : LiesInFormat chained_image pe_modules (windows.function ∷ []) windows.function
+lies : LiesDescribed chained_image pe_modules (windows.function ∷ []) windows.function
 lies = record { home = Pe module_of_one; known = (0, lit< tt, refl); inside = refl; is_function = chained.is_function; describes = module_described }
 
-pub nobody_above : IsFormatChain chained_image pe_modules (windows.function ∷ []) windows.caller []
+pub nobody_above : IsDescribedChain chained_image pe_modules (windows.function ∷ []) windows.caller []
 nobody_above = ends_outside chained_image (windows.function ∷ []) windows.caller chained.caller_fits (λ e. absurd cc) refl
 
 -- ---- after the allocation
@@ -71,7 +71,7 @@ allocated_quiet : IsInNoEpilog (memory_of chained_image 0x140000000) loop_record
 unfolding parsed_instruction sequence_from leading_epilogs operations_of
 allocated_quiet = quiet_at (memory_of chained_image 0x140000000) loop_record chained_info 0x1004 refl
 
-pub allocated_stop : IsFormatStop chained_image pe_modules (windows.function ∷ []) allocated_state chained_call
+pub allocated_stop : IsDescribedStop chained_image pe_modules (windows.function ∷ []) allocated_state chained_call
 unfolding lies module_described has_record chained.described
 allocated_stop = record {
   inner = refl;
@@ -110,7 +110,7 @@ set_quiet : IsInNoEpilog (memory_of chained_image 0x140000000) loop_record chain
 unfolding parsed_instruction sequence_from leading_epilogs operations_of
 set_quiet = quiet_at (memory_of chained_image 0x140000000) loop_record chained_info 0x1009 refl
 
-pub set_stop : IsFormatStop chained_image pe_modules (windows.function ∷ []) set_state chained_call
+pub set_stop : IsDescribedStop chained_image pe_modules (windows.function ∷ []) set_state chained_call
 unfolding lies module_described has_record chained.described
 set_stop = record {
   inner = refl;

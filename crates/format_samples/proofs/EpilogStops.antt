@@ -29,10 +29,10 @@ use Rattle.format_definitions.specs.PeImage.{memory_of}
 use Rattle.format_definitions.specs.PeStep.{pe_step}
 use Rattle.format_definitions.specs.PeModules.{IsInNoEpilog, DescribesRecord, HasRecord, DescribesPe}
 use Rattle.format_definitions.specs.PeEpilogs.{AreSpelled, concatenation, StandsAt, before_add, before_pops, StandsInEpilog}
-use Rattle.format_definitions.specs.FormatModules.{Pe, LiesInFormat, IsFormatChain}
-use Rattle.format_definitions.specs.FormatProcess.{FormatsApart, IsFormatProcess}
-use Rattle.format_definitions.specs.FormatStops.{at_epilog, IsFormatStop}
-use Rattle.format_laws.specs.FormatSample.{pe_modules}
+use Rattle.format_definitions.specs.Modules.{Pe, LiesDescribed, IsDescribedChain}
+use Rattle.format_definitions.specs.Process.{FormatsApart, IsProcess}
+use Rattle.format_definitions.specs.Stops.{at_epilog, IsDescribedStop}
+use Rattle.format_laws.specs.Sample.{pe_modules}
 use Rattle.format_laws.specs.PeSamples.{module_of_one, room_info, table_bytes}
 use Rattle.format_laws.specs.PeUndone.{GivesState}
 use Rattle.format_laws.proofs.Tables.{all_from, each_from}
@@ -40,7 +40,7 @@ use Rattle.format_laws.proofs.PeQuiet.{finds_none, quiet_at}
 use Rattle.format_samples.proofs.Outside.{ends_outside}
 use Rattle.format_samples.specs.StopSamples.{returning_image, returning_record, returning_function, returning_caller, returning_call, at_add, at_pop, at_return}
 
-pub is_process : IsFormatProcess returning_image pe_modules
+pub is_process : IsProcess returning_image pe_modules
 is_process = record { regions = (lit≤ tt, lit< tt, lit≤ tt, (lit≤ tt, lit< tt, lit≤ tt, (lit≤ tt, lit< tt, lit≤ tt, (lit≤ tt, lit< tt, lit≤ tt, tt)))); ranges = ((lit< tt, lit< tt), tt); apart = pairs_one FormatsApart (Pe module_of_one) }
 
 is_function : IsFunction Windows returning_function
@@ -98,13 +98,13 @@ has_record = record { function = returning_record; listed = (0, lit< tt, refl); 
 unfoldable module_described : DescribesPe returning_image module_of_one (returning_function ∷ [])
 module_described = record { bytes = table_bytes 0x40 0x10; mapped = refl; table = returning_record ∷ []; reads = refl; ordered = (lit≤ tt, lit< tt, lit≤ tt, tt); each = (inl has_record, tt) }
 
-lies : LiesInFormat returning_image pe_modules (returning_function ∷ []) returning_function
+lies : LiesDescribed returning_image pe_modules (returning_function ∷ []) returning_function
 lies = record { home = Pe module_of_one; known = (0, lit< tt, refl); inside = refl; is_function = is_function; describes = module_described }
 
 caller_fits : IsState returning_caller
 caller_fits = state_fits returning_caller (lit< tt) (lit< tt) (lit< tt) (lit< tt) (lit< tt) (lit< tt) (lit< tt) (lit< tt)
 
-pub nobody_above : IsFormatChain returning_image pe_modules (returning_function ∷ []) returning_caller []
+pub nobody_above : IsDescribedChain returning_image pe_modules (returning_function ∷ []) returning_caller []
 nobody_above = ends_outside returning_image (returning_function ∷ []) returning_caller caller_fits (λ e. absurd cc) refl
 
 -- ---- in the epilog, with so much of it left
@@ -144,7 +144,7 @@ stands_at_add = stands_with at_add (AddSP 40 ∷ Pop pe.RBX ∷ []) (Followed RB
     (by_register (λ q. _ → value_of q at_add ≡ value_of q returning_caller) (λ e. absurd cc) (λ e. refl) (λ e. refl) (λ e. refl) (λ e. refl) (λ e. refl))
     refl refl (add_byte (record { high = refl }), lit< tt, (pop no_rex 0x5b refl, tt, tt)) (lit≤ tt)
 
-pub add_stop : IsFormatStop returning_image pe_modules (returning_function ∷ []) at_add returning_call
+pub add_stop : IsDescribedStop returning_image pe_modules (returning_function ∷ []) at_add returning_call
 unfolding lies module_described has_record described
 add_stop = record { inner = refl; listed = (0, lit< tt, refl); lies = lies; returns = λ e. absurd cc; stands = at_epilog has_record stands_at_add; caller = caller_fits }
 
@@ -158,7 +158,7 @@ stands_at_pop = stands_with at_pop (Pop pe.RBX ∷ []) (Followed RBX ∷ []) ((0
     (by_register (λ q. _ → value_of q at_pop ≡ value_of q returning_caller) (λ e. absurd cc) (λ e. refl) (λ e. refl) (λ e. refl) (λ e. refl) (λ e. refl))
     refl refl (pop no_rex 0x5b refl, tt, tt) (lit≤ tt)
 
-pub pop_stop : IsFormatStop returning_image pe_modules (returning_function ∷ []) at_pop returning_call
+pub pop_stop : IsDescribedStop returning_image pe_modules (returning_function ∷ []) at_pop returning_call
 unfolding lies module_described has_record described
 pop_stop = record { inner = refl; listed = (0, lit< tt, refl); lies = lies; returns = λ e. absurd cc; stands = at_epilog has_record stands_at_pop; caller = caller_fits }
 
@@ -172,7 +172,7 @@ stands_at_return = stands_with at_return [] [] [] (before_pops (Followed RBX ∷
     (by_register (λ q. _ → value_of q at_return ≡ value_of q returning_caller) (λ e. refl) (λ e. refl) (λ e. refl) (λ e. refl) (λ e. refl) (λ e. refl))
     refl refl tt (lit≤ tt)
 
-pub return_stop : IsFormatStop returning_image pe_modules (returning_function ∷ []) at_return returning_call
+pub return_stop : IsDescribedStop returning_image pe_modules (returning_function ∷ []) at_return returning_call
 unfolding lies module_described has_record described
 return_stop = record { inner = refl; listed = (0, lit< tt, refl); lies = lies; returns = λ e. absurd cc; stands = at_epilog has_record stands_at_return; caller = caller_fits }
 

@@ -10,19 +10,19 @@ use Rattle.unwind_laws.specs.Three as three
 use Rattle.unwind_laws.proofs.PushingValid.{columns_show}
 use Rattle.unwind_laws.proofs.RowFacts.{state_fits}
 use Rattle.unwind_laws.proofs.ThreeValid.{function_a, function_b, function_c, words}
-use Rattle.format_definitions.specs.FormatModules.{Elf, Macho, Pe, IsUncoveredBy}
-use Rattle.format_definitions.specs.FormatProcess.{IsFormatProcess}
-use Rattle.format_definitions.specs.FormatValid.{DescribesItsPart, IsFormatValid}
-use Rattle.format_laws.specs.FormatSample.{modules}
+use Rattle.format_definitions.specs.Modules.{Elf, Macho, Pe, IsUncoveredBy}
+use Rattle.format_definitions.specs.Process.{IsProcess}
+use Rattle.format_definitions.specs.Valid.{DescribesItsPart, IsValid}
+use Rattle.format_laws.specs.Sample.{modules}
 use Rattle.format_laws.specs.MachoSamples.{sample_module}
 use Rattle.format_laws.specs.PeSamples.{module_of_one}
-use Rattle.format_laws.proofs.FormatCaught.{modules_apart}
+use Rattle.format_laws.proofs.Caught.{modules_apart}
 use Rattle.format_laws.proofs.ElfThree as elf
 use Rattle.format_samples.specs.Handlers.{image, functions, in_macho, in_pe, calls_from_macho, calls_from_pe}
 use Rattle.format_samples.proofs.MachoHandler as macho
 use Rattle.format_samples.proofs.PeHandler as pe
 
-pub is_process : IsFormatProcess image modules
+pub is_process : IsProcess image modules
 is_process = record {
   regions = (lit≤ tt, lit< tt, lit≤ tt, (lit≤ tt, lit< tt, lit≤ tt, (lit≤ tt, lit< tt, lit≤ tt, (lit≤ tt, lit< tt, lit≤ tt, (lit≤ tt, lit< tt, lit≤ tt, (lit≤ tt, lit< tt, lit≤ tt, (lit≤ tt, lit< tt, lit≤ tt, (lit≤ tt, lit< tt, lit≤ tt, (lit≤ tt, lit< tt, lit≤ tt, tt)))))))));
   ranges = ((lit< tt, lit< tt), ((lit< tt, lit< tt), ((lit< tt, lit< tt), tt)));
@@ -77,7 +77,7 @@ chain_from_pe = (
 chain_from_macho : IsChain image (IsUncoveredBy image modules) functions in_macho calls_from_macho
 chain_from_macho = (record { state = macho_fits; listed = (1, lit< tt, refl); called = record { returns = λ e. absurd cc; inside = refl; entered = macho.entered }; last = λ outer. absurd cc }, chain_from_pe)
 
-pub valid_from_macho : IsFormatValid image modules (columns_of in_macho) [] functions in_macho calls_from_macho
+pub valid_from_macho : IsValid image modules (columns_of in_macho) [] functions in_macho calls_from_macho
 valid_from_macho = record {
   parts = (elf_part, (macho_part, (pe_part, tt)));
   no_others = (refl, (refl, (refl, (refl, (refl, tt)))));
@@ -86,5 +86,5 @@ valid_from_macho = record {
   resumed = λ f found accepted. tt;
 }
 
-pub valid_from_pe : IsFormatValid image modules (columns_of in_pe) [] functions in_pe calls_from_pe
+pub valid_from_pe : IsValid image modules (columns_of in_pe) [] functions in_pe calls_from_pe
 valid_from_pe = record { parts = valid_from_macho.parts; no_others = valid_from_macho.no_others; shows = columns_show in_pe; chain = chain_from_pe; resumed = λ f found accepted. tt }

@@ -27,10 +27,10 @@ use Rattle.format_definitions.specs.PeImage.{memory_of}
 use Rattle.format_definitions.specs.PeStep.{pe_step}
 use Rattle.format_definitions.specs.PeModules.{IsInNoEpilog, DescribesRecord, HasRecord, DescribesPe}
 use Rattle.format_definitions.specs.PeEpilogs.{before_lea, StandsInEpilog}
-use Rattle.format_definitions.specs.FormatModules.{Pe, LiesInFormat, IsFormatChain}
-use Rattle.format_definitions.specs.FormatProcess.{FormatsApart, IsFormatProcess}
-use Rattle.format_definitions.specs.FormatStops.{at_epilog, IsFormatStop}
-use Rattle.format_laws.specs.FormatSample.{pe_modules}
+use Rattle.format_definitions.specs.Modules.{Pe, LiesDescribed, IsDescribedChain}
+use Rattle.format_definitions.specs.Process.{FormatsApart, IsProcess}
+use Rattle.format_definitions.specs.Stops.{at_epilog, IsDescribedStop}
+use Rattle.format_laws.specs.Sample.{pe_modules}
 use Rattle.format_laws.specs.PeSamples.{module_of_one, table_bytes}
 use Rattle.format_laws.specs.PeUndone.{GivesState}
 use Rattle.format_laws.proofs.Tables.{all_from, each_from}
@@ -39,7 +39,7 @@ use Rattle.format_samples.proofs.Outside.{ends_outside}
 use Rattle.format_samples.specs.StopSamples.{returning_record, returning_caller}
 use Rattle.format_samples.specs.EpilogSamples.{framed_image, framed_info, framed_function, framed_call, at_lea}
 
-pub is_process : IsFormatProcess framed_image pe_modules
+pub is_process : IsProcess framed_image pe_modules
 is_process = record { regions = (lit≤ tt, lit< tt, lit≤ tt, (lit≤ tt, lit< tt, lit≤ tt, (lit≤ tt, lit< tt, lit≤ tt, (lit≤ tt, lit< tt, lit≤ tt, tt)))); ranges = ((lit< tt, lit< tt), tt); apart = pairs_one FormatsApart (Pe module_of_one) }
 
 is_function : IsFunction Windows framed_function
@@ -97,13 +97,13 @@ has_record = record { function = returning_record; listed = (0, lit< tt, refl); 
 unfoldable module_described : DescribesPe framed_image module_of_one (framed_function ∷ [])
 module_described = record { bytes = table_bytes 0x40 0x10; mapped = refl; table = returning_record ∷ []; reads = refl; ordered = (lit≤ tt, lit< tt, lit≤ tt, tt); each = (inl has_record, tt) }
 
-lies : LiesInFormat framed_image pe_modules (framed_function ∷ []) framed_function
+lies : LiesDescribed framed_image pe_modules (framed_function ∷ []) framed_function
 lies = record { home = Pe module_of_one; known = (0, lit< tt, refl); inside = refl; is_function = is_function; describes = module_described }
 
 caller_fits : IsState returning_caller
 caller_fits = state_fits returning_caller (lit< tt) (lit< tt) (lit< tt) (lit< tt) (lit< tt) (lit< tt) (lit< tt) (lit< tt)
 
-pub nobody_above : IsFormatChain framed_image pe_modules (framed_function ∷ []) returning_caller []
+pub nobody_above : IsDescribedChain framed_image pe_modules (framed_function ∷ []) returning_caller []
 nobody_above = ends_outside framed_image (framed_function ∷ []) returning_caller caller_fits (λ e. absurd cc) refl
 
 -- ---- before the lea
@@ -134,7 +134,7 @@ stands = record {
   listed = inl refl;
 }
 
-pub stop : IsFormatStop framed_image pe_modules (framed_function ∷ []) at_lea framed_call
+pub stop : IsDescribedStop framed_image pe_modules (framed_function ∷ []) at_lea framed_call
 unfolding lies module_described has_record described
 stop = record { inner = refl; listed = (0, lit< tt, refl); lies = lies; returns = λ e. absurd cc; stands = at_epilog has_record stands; caller = caller_fits }
 

@@ -12,18 +12,18 @@ use Rattle.unwind_laws.proofs.RowFacts.{by_register}
 use Rattle.pe_unwind_info.specs.FunctionTable.{lookup_of}
 use Rattle.format_definitions.specs.PeStep.{pe_step}
 use Rattle.format_definitions.specs.PeModules.{DescribesLeaf, DescribesPe}
-use Rattle.format_definitions.specs.FormatModules.{Pe, LiesInFormat, IsFormatChain}
-use Rattle.format_definitions.specs.FormatProcess.{FormatsApart, IsFormatProcess}
-use Rattle.format_definitions.specs.FormatStops.{at_leaf, IsFormatStop}
-use Rattle.format_laws.specs.FormatSample.{pe_modules}
+use Rattle.format_definitions.specs.Modules.{Pe, LiesDescribed, IsDescribedChain}
+use Rattle.format_definitions.specs.Process.{FormatsApart, IsProcess}
+use Rattle.format_definitions.specs.Stops.{at_leaf, IsDescribedStop}
+use Rattle.format_laws.specs.Sample.{pe_modules}
 use Rattle.format_laws.specs.PeSamples.{module_of_one, room_image, loop_record, leaf_state, room_caller, table_bytes}
 use Rattle.format_laws.specs.PeUndone.{GivesState}
-use Rattle.format_laws.proofs.FormatValid.{laid_out}
+use Rattle.format_laws.proofs.Valid.{laid_out}
 use Rattle.format_laws.proofs.PeRoom.{leaf_entered, caller_fits}
 use Rattle.format_samples.proofs.Outside.{ends_outside}
 use Rattle.format_samples.specs.StopSamples.{waiting_leaf, leaf_call}
 
-pub is_process : IsFormatProcess room_image pe_modules
+pub is_process : IsProcess room_image pe_modules
 is_process = record { regions = laid_out; ranges = ((lit< tt, lit< tt), tt); apart = pairs_one FormatsApart (Pe module_of_one) }
 
 is_function : IsFunction Windows waiting_leaf
@@ -45,13 +45,13 @@ pub leaf : (d : DescribesPe room_image module_of_one (waiting_leaf ∷ [])) × D
 unfolding module_described
 leaf = (module_described, leaf_described)
 
-lies : LiesInFormat room_image pe_modules (waiting_leaf ∷ []) waiting_leaf
+lies : LiesDescribed room_image pe_modules (waiting_leaf ∷ []) waiting_leaf
 lies = record { home = Pe module_of_one; known = (0, lit< tt, refl); inside = refl; is_function = is_function; describes = module_described }
 
 stands : StandsAfter room_image waiting_leaf [] [] room_caller leaf_state
 stands = record { steps = refl; entered = leaf_entered; intact = λ r h. by_register (λ q. value_of q leaf_state ≡ value_of q room_caller) refl refl refl refl refl refl r; after = lit≤ tt; below = lit< tt }
 
-pub stop : IsFormatStop room_image pe_modules (waiting_leaf ∷ []) leaf_state leaf_call
+pub stop : IsDescribedStop room_image pe_modules (waiting_leaf ∷ []) leaf_state leaf_call
 unfolding lies module_described
 stop = record {
   inner = refl;
@@ -62,7 +62,7 @@ stop = record {
   caller = caller_fits;
 }
 
-pub nobody_above : IsFormatChain room_image pe_modules (waiting_leaf ∷ []) room_caller []
+pub nobody_above : IsDescribedChain room_image pe_modules (waiting_leaf ∷ []) room_caller []
 nobody_above = ends_outside room_image (waiting_leaf ∷ []) room_caller caller_fits (λ e. absurd cc) refl
 
 pub computed : GivesState (pe_step room_image module_of_one 0x1104 (columns_of leaf_state)) room_caller

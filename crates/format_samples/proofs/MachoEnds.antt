@@ -8,13 +8,13 @@ use Rattle.macho_unwind_info.specs.declared.error.Error.{Error}
 use Rattle.macho_unwind_info.specs.declared.function.Function.{Function as Listed}
 use Rattle.macho_unwind_info.specs.Listing.{Section, section_of, listing}
 use Rattle.macho_unwind_info.specs.Sample.{described_bytes, described_functions}
-use Rattle.format_definitions.specs.FormatModules.{FormatModule, Macho, part_of, DescribesFormat, MachoCoversNot, IsUncoveredIn, IsFormatChain}
-use Rattle.format_definitions.specs.FormatProcess.{FormatsApart, IsFormatProcess}
+use Rattle.format_definitions.specs.Modules.{FormatModule, Macho, part_of, DescribesFormat, MachoCoversNot, IsUncoveredIn, IsDescribedChain}
+use Rattle.format_definitions.specs.Process.{FormatsApart, IsProcess}
 use Rattle.format_laws.specs.MachoSamples.{sample_module, image}
 use Rattle.format_laws.proofs.MachoValid.{described}
 use Rattle.format_samples.specs.MachoWhole.{ending_modules, ending_functions, past_the_last}
 
-pub is_process : IsFormatProcess image ending_modules
+pub is_process : IsProcess image ending_modules
 is_process = record { regions = (lit≤ tt, lit< tt, lit≤ tt, (lit≤ tt, lit< tt, lit≤ tt, tt)); ranges = ((lit< tt, lit< tt), tt); apart = pairs_one FormatsApart (Macho sample_module) }
 
 -- ---- no function of the listing covers the address
@@ -57,7 +57,7 @@ only P h m known = elim (here_or_later (Macho sample_module) [] m known) [ inl s
 fits : IsState past_the_last
 fits = state_fits past_the_last (lit< tt) (lit< tt) (lit< tt) (lit< tt) (lit< tt) (lit< tt) (lit< tt) (lit< tt)
 
-pub ends : IsFormatChain image ending_modules ending_functions past_the_last []
+pub ends : IsDescribedChain image ending_modules ending_functions past_the_last []
 ends = record {
   chain = record { state = fits; ends = inr (λ e. absurd cc, λ m known inside. only (λ h. IsUncoveredIn image h 0x100003000) uncovered_end m known) };
   described = tt;

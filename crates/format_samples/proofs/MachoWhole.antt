@@ -23,12 +23,12 @@ use Rattle.unwind_laws.proofs.RowFacts.{by_register, state_fits, unnamed}
 use Rattle.unwind_laws.proofs.Steady.{is_steady, same_row_at}
 use Rattle.macho_unwind_info.specs.X86_64.{opcode_of}
 use Rattle.format_definitions.specs.CompactStep.{frame_bases}
-use Rattle.format_definitions.specs.FormatModules.{Macho, IsUncoveredBy, LiesInFormat, IsFormatChain}
-use Rattle.format_definitions.specs.FormatProcess.{FormatsApart, IsFormatProcess}
+use Rattle.format_definitions.specs.Modules.{Macho, IsUncoveredBy, LiesDescribed, IsDescribedChain}
+use Rattle.format_definitions.specs.Process.{FormatsApart, IsProcess}
 use Rattle.format_definitions.specs.MachoModules.{IsOpcodeOf, DescribesMacho}
 use Rattle.format_samples.specs.MachoWhole.{module_of_them, image, indirect, functions, modules}
 
-pub is_process : IsFormatProcess image modules
+pub is_process : IsProcess image modules
 is_process = record { regions = (lit≤ tt, lit< tt, lit≤ tt, (lit≤ tt, lit< tt, lit≤ tt, (lit≤ tt, lit< tt, lit≤ tt, (lit≤ tt, lit< tt, lit≤ tt, tt)))); ranges = ((lit< tt, lit< tt), tt); apart = pairs_one FormatsApart (Macho module_of_them) }
 
 -- ---- functions that frame data describes
@@ -156,7 +156,7 @@ apart (suc (suc i)) (suc zero) d lt below = absurd (omega arith)
 apart (suc (suc i)) (suc (suc zero)) d lt below = absurd (omega arith)
 apart i (suc (suc (suc j))) d lt below = absurd (omega arith)
 
-lies : (f : Function) → 0x400000 ≤ f.start → f.start < 0x404000 → IsFunction SystemV f → LiesInFormat image modules functions f
+lies : (f : Function) → 0x400000 ≤ f.start → f.start < 0x404000 → IsFunction SystemV f → LiesDescribed image modules functions f
 lies f low high is = record { home = Macho module_of_them; known = (0, lit< tt, refl); inside = rw (le-leb 0x400000 f.start low, lt-ltb f.start 0x404000 high) refl; is_function = is; describes = described }
 
 callee_entered : IsEntered image false (steps_of callee.prologue) caller start
@@ -184,5 +184,5 @@ whole = (
   ),
 )
 
-pub chain : IsFormatChain image modules functions start calls
+pub chain : IsDescribedChain image modules functions start calls
 chain = record { chain = whole; described = (lies callee (lit≤ tt) (lit< tt) late_valid.are_functions.0, (lies outermost (lit≤ tt) (lit< tt) late_valid.are_functions.1.0, tt)); ends = inl refl }

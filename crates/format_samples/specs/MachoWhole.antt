@@ -7,7 +7,7 @@ use Rattle.unwind_definitions.specs.Function.{Function}
 use Rattle.unwind_laws.specs.Returning as returning
 use Rattle.macho_unwind_info.specs.Sample.{le}
 use Rattle.format_definitions.specs.CompactStep.{MachoModule}
-use Rattle.format_definitions.specs.FormatModules.{FormatModule, Macho}
+use Rattle.format_definitions.specs.Modules.{FormatModule, Macho}
 use Rattle.format_laws.specs.MachoSamples.{sample_module, frameless_function, framed_function, frameless_state, indirect_function}
 
 abbrev pub module_of_them : MachoModule

@@ -1,4 +1,4 @@
-use Rattle.format_laws.proofs.FormatSteps.{call_undone}
+use Rattle.format_laws.proofs.Steps.{call_undone}
 use Rattle.format_laws.proofs.chains.format_call_is_undone.Goals as goal
 
 pub returns : goal.returns

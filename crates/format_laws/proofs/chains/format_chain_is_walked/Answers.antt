@@ -1,4 +1,4 @@
-use Rattle.format_laws.proofs.FormatSteps.{chain_walked}
+use Rattle.format_laws.proofs.Steps.{chain_walked}
 use Rattle.format_laws.proofs.chains.format_chain_is_walked.Goals as goal
 
 pub returns : goal.returns

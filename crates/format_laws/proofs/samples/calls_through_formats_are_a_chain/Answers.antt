@@ -1,4 +1,4 @@
-use Rattle.format_laws.proofs.FormatValid.{laid_out, innermost, is_chain}
+use Rattle.format_laws.proofs.Valid.{laid_out, innermost, is_chain}
 use Rattle.format_laws.proofs.samples.calls_through_formats_are_a_chain.Goals as goal
 
 pub returns-clause-memory : goal.returns-clause-memory

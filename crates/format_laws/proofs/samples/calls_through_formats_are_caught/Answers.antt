@@ -1,5 +1,5 @@
 use Rattle.std.proofs.Common.{refl}
-use Rattle.format_laws.proofs.FormatCaught.{is_process, caught_valid}
+use Rattle.format_laws.proofs.Caught.{is_process, caught_valid}
 use Rattle.format_laws.proofs.samples.calls_through_formats_are_caught.Goals as goal
 
 pub returns-clause-process : goal.returns-clause-process

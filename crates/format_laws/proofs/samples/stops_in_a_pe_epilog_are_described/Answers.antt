@@ -1,4 +1,4 @@
-use Rattle.format_laws.proofs.FormatStops.{epilog_process, before_pop, after_pop, nobody_above}
+use Rattle.format_laws.proofs.Stops.{epilog_process, before_pop, after_pop, nobody_above}
 use Rattle.format_laws.proofs.samples.stops_in_a_pe_epilog_are_described.Goals as goal
 
 pub returns-clause-process : goal.returns-clause-process

@@ -1,4 +1,4 @@
-use Rattle.format_laws.proofs.FormatStops.{macho_body, room_described, pe_body, pe_prologue, outer_described}
+use Rattle.format_laws.proofs.Stops.{macho_body, room_described, pe_body, pe_prologue, outer_described}
 use Rattle.format_laws.proofs.samples.stops_in_formats_are_described.Goals as goal
 
 pub returns-clause-macho_body : goal.returns-clause-macho_body

@@ -1,4 +1,4 @@
-use Rattle.format_laws.proofs.FormatHomes.{one_home, in_home}
+use Rattle.format_laws.proofs.Homes.{one_home, in_home}
 use Rattle.format_laws.proofs.validity.address_lies_in_one_module.Goals as goal
 
 pub returns-clause-one : goal.returns-clause-one

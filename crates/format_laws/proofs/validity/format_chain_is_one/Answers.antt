@@ -1,4 +1,4 @@
-use Rattle.format_laws.proofs.FormatOne.{one_chain}
+use Rattle.format_laws.proofs.One.{one_chain}
 use Rattle.format_laws.proofs.validity.format_chain_is_one.Goals as goal
 
 pub returns : goal.returns

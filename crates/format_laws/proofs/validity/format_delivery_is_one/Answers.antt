@@ -1,5 +1,5 @@
 use Rattle.unwind_laws.proofs.OneChain.{same_states, same_delivery}
-use Rattle.format_laws.proofs.FormatOne.{chains_alike}
+use Rattle.format_laws.proofs.One.{chains_alike}
 use Rattle.format_laws.proofs.validity.format_delivery_is_one.Goals as goal
 
 pub returns-clause-states : goal.returns-clause-states

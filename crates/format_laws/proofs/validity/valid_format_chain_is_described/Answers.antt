@@ -1,4 +1,4 @@
-use Rattle.format_laws.proofs.FormatParts.{valid_described}
+use Rattle.format_laws.proofs.Parts.{valid_described}
 use Rattle.format_laws.proofs.validity.valid_format_chain_is_described.Goals as goal
 
 pub returns : goal.returns

@@ -2,7 +2,7 @@
 use Rattle.std.specs.Prelude.{◌⊎◌, ℕ, ◌+◌, ◌^◌, ◌<◌, ◌≤◌, List}
 use Rattle.std.specs.List.{AllPairs, AllByRecursion}
 use Rattle.memory_image.specs.Image.{Span, IsLaidOut}
-use Rattle.format_definitions.specs.FormatModules.{FormatModule, Elf, Macho, Pe}
+use Rattle.format_definitions.specs.Modules.{FormatModule, Elf, Macho, Pe}
 
 abbrev pub start_of : FormatModule → ℕ
 start_of (Elf m) = m.start
@@ -23,7 +23,7 @@ abbrev pub IsFormatRange : FormatModule → Type 0
 IsFormatRange m = (start_of m < end_of m) × (end_of m < 2 ^ 64)
 
 -- no address is in two regions, or in two modules
-pub record IsFormatProcess (image : List Span) (modules : List FormatModule) : Type 0 where
+pub record IsProcess (image : List Span) (modules : List FormatModule) : Type 0 where
   pub regions : IsLaidOut 0 image
   pub ranges : AllByRecursion IsFormatRange modules
   pub apart : AllPairs FormatsApart modules

@@ -6,7 +6,7 @@ use Rattle.unwind_definitions.specs.Function.{Function}
 use Rattle.unwind_definitions.specs.Chain.{Call}
 use Rattle.unwind_definitions.specs.Delivery.{Delivery, Installed}
 use Rattle.unwind_laws.specs.Three as three
-use Rattle.format_definitions.specs.FormatModules.{FormatModule, Elf, Macho, Pe}
+use Rattle.format_definitions.specs.Modules.{FormatModule, Elf, Macho, Pe}
 use Rattle.format_laws.specs.MachoSamples.{sample_module, frameless_function, framed_function, frameless_caller}
 use Rattle.format_laws.specs.PeSamples.{module_of_one, room_function, leaf_function, room_caller, epilog_function, epilog_caller}
 

@@ -74,7 +74,7 @@ module _ (image : List Span) where
     IsUncoveredBy a = (m : FormatModule) → Contains modules m → IsTrue (in_format a m) → IsUncoveredIn m a
 
     -- a function lies in a module that describes its part of a list, and keeps the rules of that module's platform
-    pub record LiesInFormat (functions : List Function) (f : Function) : Type 0 where
+    pub record LiesDescribed (functions : List Function) (f : Function) : Type 0 where
       pub home : FormatModule
       pub known : Contains modules home
       pub inside : IsTrue (in_format f.start home)
@@ -82,11 +82,11 @@ module _ (image : List Span) where
       pub describes : DescribesFormat home (part_of home functions)
 
     -- an address is in no module, or in one that describes its part of the list
-    abbrev pub IsDescribedBy : List Function → ℕ → Type 0
-    IsDescribedBy functions a = (m : FormatModule) → Contains modules m → IsTrue (in_format a m) → DescribesFormat m (part_of m functions)
+    abbrev pub IsDescribedAt : List Function → ℕ → Type 0
+    IsDescribedAt functions a = (m : FormatModule) → Contains modules m → IsTrue (in_format a m) → DescribesFormat m (part_of m functions)
 
     -- A chain over functions that the modules in its way describe, of whatever format each is.
-    pub record IsFormatChain (functions : List Function) (s : State) (calls : List Call) : Type 0 where
+    pub record IsDescribedChain (functions : List Function) (s : State) (calls : List Call) : Type 0 where
       pub chain : IsChain image IsUncoveredBy functions s calls
-      pub described : AllByRecursion (λ (c : Call). LiesInFormat functions c.callee) calls
-      pub ends : ((last_state s calls).ra ≡ 0) ⊎ IsDescribedBy functions ((last_state s calls).ra - 1)
+      pub described : AllByRecursion (λ (c : Call). LiesDescribed functions c.callee) calls
+      pub ends : ((last_state s calls).ra ≡ 0) ⊎ IsDescribedAt functions ((last_state s calls).ra - 1)

@@ -14,8 +14,8 @@ use Rattle.format_definitions.specs.CompactStep.{MachoModule}
 use Rattle.format_definitions.specs.MachoModules.{HasListed, DescribesMacho}
 use Rattle.format_definitions.specs.PeImage.{PeModule}
 use Rattle.format_definitions.specs.PeModules.{HasRecord, DescribesLeaf, DescribesPe}
-use Rattle.format_definitions.specs.FormatModules.{FormatModule, Elf, Macho, Pe, in_format, part_of, DescribesFormat, LiesInFormat}
-use Rattle.format_definitions.specs.FormatProcess.{start_of, end_of, FormatsApart}
+use Rattle.format_definitions.specs.Modules.{FormatModule, Elf, Macho, Pe, in_format, part_of, DescribesFormat, LiesDescribed}
+use Rattle.format_definitions.specs.Process.{start_of, end_of, FormatsApart}
 
 pub inside_is : (a : ℕ) (m : FormatModule) → IsTrue (in_format a m) → (start_of m ≤ a) × (a < end_of m)
 inside_is a (Elf m) h = let both = lists.both_true (leb m.start a) (ltb a m.end) h in (leb-true m.start a both.0, ltb-true a m.end both.1)
@@ -79,7 +79,7 @@ pub in_part : (functions : List Function) (f : Function) (home : FormatModule) �
 in_part functions f home listed inside = lists.contains_filter (λ (g : Function). in_format g.start home) functions f listed inside
 
 -- an address of a described function lies in its module
-pub in_home : (image : List Span) (modules : List FormatModule) (functions : List Function) (f : Function) (lies : LiesInFormat image modules functions f) → Contains functions f → (a : ℕ) → f.start ≤ a → a < f.end → IsTrue (in_format a lies.home)
+pub in_home : (image : List Span) (modules : List FormatModule) (functions : List Function) (f : Function) (lies : LiesDescribed image modules functions f) → Contains functions f → (a : ℕ) → f.start ≤ a → a < f.end → IsTrue (in_format a lies.home)
 in_home image modules functions f lies listed a low high =
     let from = (inside_is f.start lies.home lies.inside).0 in
     let to = ends_inside image lies.home (part_of lies.home functions) f lies.describes (in_part functions f lies.home listed lies.inside) in

@@ -18,14 +18,14 @@ use Rattle.pe_unwind_info.specs.declared.x86_64.epilog.FunctionEpilogInstruction
 use Rattle.format_definitions.specs.PeImage.{PeModule}
 use Rattle.format_definitions.specs.PeModules.{DescribesLeaf, HasRecord}
 use Rattle.format_definitions.specs.PeEpilogs.{concatenation, StandsAt, before_add, before_lea, before_pops, StandsInEpilog}
-use Rattle.format_definitions.specs.FormatModules.{FormatModule, Elf, Macho, Pe, in_format, convention_of, part_of, DescribesFormat}
-use Rattle.format_definitions.specs.FormatStops.{StandsInPrologue, StandsInBody, StandsInPe, at_body, at_prologue, at_leaf, at_epilog, StandsIn, IsFormatStop}
-use Rattle.format_laws.specs.FormatUndone.{FormatUndone, CanUndo}
+use Rattle.format_definitions.specs.Modules.{FormatModule, Elf, Macho, Pe, in_format, convention_of, part_of, DescribesFormat}
+use Rattle.format_definitions.specs.Stops.{StandsInPrologue, StandsInBody, StandsInPe, at_body, at_prologue, at_leaf, at_epilog, StandsIn, IsDescribedStop}
+use Rattle.format_laws.specs.Undone.{FormatUndone, CanUndo}
 use Rattle.format_laws.proofs.PeEpilogs.{terminator_length}
 use Rattle.format_laws.proofs.PeMachine.{stack_falls}
 use Rattle.format_laws.proofs.PeSteps.{first_inside, stands_inside, leaf_call_undone, prologue_call_undone, epilog_call_undone}
-use Rattle.format_laws.proofs.FormatSteps.{undone_in}
-use Rattle.format_laws.proofs.FormatHomes.{body_lies}
+use Rattle.format_laws.proofs.Steps.{undone_in}
+use Rattle.format_laws.proofs.Homes.{body_lies}
 
 -- ---- a leaf has no steps
 none_done : (done later : List PrologueStep) → [] ≡ done ++ later → done ≡ []
@@ -89,7 +89,7 @@ module _ (image : List Span) (s : State) (c : Call) where
   stop_below (Pe m) part d (at_leaf leaf p) = early_below p
   stop_below (Pe m) part d (at_epilog r st) = epilog_below st.pushed st.rooms r.describes.grouped.set st.todo st.left st.room st.stands
 
-module _ (image : List Span) (modules : List FormatModule) (functions : List Function) (s : State) (c : Call) (stop : IsFormatStop image modules functions s c)
+module _ (image : List Span) (modules : List FormatModule) (functions : List Function) (s : State) (c : Call) (stop : IsDescribedStop image modules functions s c)
     (columns : Columns) (shows : Shows columns s) where
   -- ---- by each format
 

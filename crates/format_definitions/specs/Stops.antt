@@ -12,7 +12,7 @@ use Rattle.pe_unwind_info.specs.declared.x86_64.function_table.RuntimeFunction.{
 use Rattle.format_definitions.specs.PeImage.{PeModule, memory_of}
 use Rattle.format_definitions.specs.PeModules.{IsInNoEpilog, DescribesLeaf, HasRecord}
 use Rattle.format_definitions.specs.PeEpilogs.{StandsInEpilog}
-use Rattle.format_definitions.specs.FormatModules.{FormatModule, Elf, Macho, Pe, part_of, DescribesFormat, LiesInFormat}
+use Rattle.format_definitions.specs.Modules.{FormatModule, Elf, Macho, Pe, part_of, DescribesFormat, LiesDescribed}
 
 -- A state stands in the prologue of a function, after some of its steps, perhaps none or all, and before the others.
 pub record StandsInPrologue (image : List Span) (s : State) (c : Call) : Type 0 where
@@ -45,10 +45,10 @@ module _ (image : List Span) where
   module _ (modules : List FormatModule) where
     -- A state was stopped at an instruction, which its address is, of a listed function that a module describes: in the body, in
     -- the prologue or in an epilog. The function was called from its caller's state, and is not an outermost one.
-    pub record IsFormatStop (functions : List Function) (s : State) (c : Call) : Type 0 where
+    pub record IsDescribedStop (functions : List Function) (s : State) (c : Call) : Type 0 where
       pub inner : IsFalse c.callee.outermost
       pub listed : Contains functions c.callee
-      pub lies : LiesInFormat image modules functions c.callee
+      pub lies : LiesDescribed image modules functions c.callee
       pub returns : s.ra ≢ 0
       pub stands : StandsIn lies.home (part_of lies.home functions) lies.describes s c
       pub caller : IsState c.caller

@@ -22,13 +22,13 @@ use Rattle.unwind_laws.proofs.OneChain.{one_state, Alike}
 use Rattle.unwind_laws.proofs.PushingValid.{columns_show}
 use Rattle.format_definitions.specs.CompactStep.{Stepped, MachoFault, macho_step}
 use Rattle.format_definitions.specs.PeStep.{PeFault}
-use Rattle.format_definitions.specs.FormatModules.{FormatModule, Elf, Macho, Pe, convention_of, part_of, DescribesFormat, IsUncoveredIn, IsUncoveredBy, LiesInFormat, IsFormatChain}
-use Rattle.format_definitions.specs.FormatProcess.{FormatsApart}
-use Rattle.format_laws.specs.FormatUndone.{FormatUndone, CanUndo, columns_after}
-use Rattle.format_laws.proofs.FormatSteps.{uncovered_ends, call_undone, shown_after, can_undo}
+use Rattle.format_definitions.specs.Modules.{FormatModule, Elf, Macho, Pe, convention_of, part_of, DescribesFormat, IsUncoveredIn, IsUncoveredBy, LiesDescribed, IsDescribedChain}
+use Rattle.format_definitions.specs.Process.{FormatsApart}
+use Rattle.format_laws.specs.Undone.{FormatUndone, CanUndo, columns_after}
+use Rattle.format_laws.proofs.Steps.{uncovered_ends, call_undone, shown_after, can_undo}
 use Rattle.format_laws.proofs.MachoLanguage.{one_listed_action}
 use Rattle.format_laws.proofs.PeLanguage.{one_recorded_action}
-use Rattle.format_laws.proofs.FormatHomes.{one_home, in_home, in_part, body_lies}
+use Rattle.format_laws.proofs.Homes.{one_home, in_home, in_part, body_lies}
 
 -- ---- what functions ask
 
@@ -108,7 +108,7 @@ module _ (image : List Span) (modules : List FormatModule) (apart : AllPairs For
       (in_home image modules functions c.callee x.lies x.listed (s.ra - 1) i.0 i.1) (in_home image modules more d.callee y.lies y.listed (s.ra - 1) j.0 j.1)
 
   -- the end of the stack is no call
-  not_ended : (functions : List Function) (s : State) (c : Call) (calls : List Call) (columns : Columns) → IsChain image (IsUncoveredBy image modules) functions s (c ∷ calls) → LiesInFormat image modules functions c.callee → Shows columns s →
+  not_ended : (functions : List Function) (s : State) (c : Call) (calls : List Call) (columns : Columns) → IsChain image (IsUncoveredBy image modules) functions s (c ∷ calls) → LiesDescribed image modules functions c.callee → Shows columns s →
       (s.ra ≡ 0) ⊎ ((s.ra ≢ 0) × IsUncoveredBy image modules (s.ra - 1)) → ⊥
   not_ended functions s c calls columns chain lies shows (inl none) = chain.0.called.returns none
   not_ended functions s c calls columns chain lies shows (inr free) =
@@ -117,8 +117,8 @@ module _ (image : List Span) (modules : List FormatModule) (apart : AllPairs For
       undone_is_covered image can.lies.home columns (s.ra - 1) c (undone_in_home functions s c columns can shows).undone
       (free.1 can.lies.home can.lies.known (in_home image modules functions c.callee can.lies can.listed (s.ra - 1) at.0 at.1))
 
-  alike : (functions more : List Function) (s : State) (cs ds : List Call) (columns : Columns) → IsChain image (IsUncoveredBy image modules) functions s cs → AllByRecursion (λ (c : Call). LiesInFormat image modules functions c.callee) cs →
-      IsChain image (IsUncoveredBy image modules) more s ds → AllByRecursion (λ (c : Call). LiesInFormat image modules more c.callee) ds → Shows columns s → Alike s cs ds
+  alike : (functions more : List Function) (s : State) (cs ds : List Call) (columns : Columns) → IsChain image (IsUncoveredBy image modules) functions s cs → AllByRecursion (λ (c : Call). LiesDescribed image modules functions c.callee) cs →
+      IsChain image (IsUncoveredBy image modules) more s ds → AllByRecursion (λ (c : Call). LiesDescribed image modules more c.callee) ds → Shows columns s → Alike s cs ds
   alike functions more s [] [] columns x lx y ly shows = tt
   alike functions more s [] (d ∷ ds) columns x lx y ly shows = absurd (not_ended more s d ds columns y ly.0 shows x.ends)
   alike functions more s (c ∷ cs) [] columns x lx y ly shows = absurd (not_ended functions s c cs columns x lx.0 shows y.ends)
@@ -135,7 +135,7 @@ module _ (image : List Span) (modules : List FormatModule) (apart : AllPairs For
       let rest : IsChain image (IsUncoveredBy image modules) more c.caller ds = subst (λ (t : State). IsChain image (IsUncoveredBy image modules) more t ds) (sym callers) y.1 in
       (callers, same_actions image home columns a c d u v, alike functions more c.caller cs ds (columns_after image home columns a c u.undone) x.1 lx.1 rest ly.1 shown)
 
-  pub chains_alike : (functions more : List Function) (s : State) (cs ds : List Call) → IsFormatChain image modules functions s cs → IsFormatChain image modules more s ds → Alike s cs ds
+  pub chains_alike : (functions more : List Function) (s : State) (cs ds : List Call) → IsDescribedChain image modules functions s cs → IsDescribedChain image modules more s ds → Alike s cs ds
   chains_alike functions more s cs ds x y = alike functions more s cs ds (columns_of s) x.chain x.described y.chain y.described (columns_show s)
 
 -- ---- chains over one list of functions that share no address
@@ -155,8 +155,8 @@ one_function (x ∷ xs) apart a f g p q i j = go (lists.here_or_later x xs f p) 
     go (inr p') (inr q') ih = ih p' q'
 
 module _ (image : List Span) (modules : List FormatModule) (functions : List Function) (alone : AllPairs FunctionsApart functions) where
-  same_callees : (s : State) (cs ds : List Call) → IsChain image (IsUncoveredBy image modules) functions s cs → AllByRecursion (λ (c : Call). LiesInFormat image modules functions c.callee) cs →
-      IsChain image (IsUncoveredBy image modules) functions s ds → AllByRecursion (λ (c : Call). LiesInFormat image modules functions c.callee) ds → Alike s cs ds → cs ≡ ds
+  same_callees : (s : State) (cs ds : List Call) → IsChain image (IsUncoveredBy image modules) functions s cs → AllByRecursion (λ (c : Call). LiesDescribed image modules functions c.callee) cs →
+      IsChain image (IsUncoveredBy image modules) functions s ds → AllByRecursion (λ (c : Call). LiesDescribed image modules functions c.callee) ds → Alike s cs ds → cs ≡ ds
   same_callees s [] [] x lx y ly a = refl
   same_callees s [] (d ∷ ds) x lx y ly a = absurd a
   same_callees s (c ∷ cs) [] x lx y ly a = absurd a
@@ -170,5 +170,5 @@ module _ (image : List Span) (modules : List FormatModule) (functions : List Fun
       ap (λ (k : Call). k ∷ cs) call ∙ ap (λ (l : List Call). d ∷ l) rest
 
   -- two described chains of one start are one
-  pub one_chain : AllPairs FormatsApart modules → (s : State) (cs ds : List Call) → IsFormatChain image modules functions s cs → IsFormatChain image modules functions s ds → cs ≡ ds
+  pub one_chain : AllPairs FormatsApart modules → (s : State) (cs ds : List Call) → IsDescribedChain image modules functions s cs → IsDescribedChain image modules functions s ds → cs ≡ ds
   one_chain apart s cs ds x y = same_callees s cs ds x.chain x.described y.chain y.described (chains_alike image modules apart functions functions s cs ds x y)

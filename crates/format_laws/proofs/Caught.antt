@@ -11,16 +11,16 @@ use Rattle.unwind_laws.specs.Three as three
 use Rattle.unwind_laws.proofs.PushingValid.{columns_show}
 use Rattle.unwind_laws.proofs.RowFacts.{by_register, state_fits}
 use Rattle.unwind_laws.proofs.ThreeValid.{function_a, function_b, function_c, words}
-use Rattle.format_definitions.specs.FormatModules.{Elf, Macho, Pe, IsUncoveredBy}
-use Rattle.format_definitions.specs.FormatProcess.{FormatsApart, IsFormatProcess}
-use Rattle.format_definitions.specs.FormatValid.{DescribesItsPart, IsFormatValid}
-use Rattle.format_laws.specs.FormatSample.{modules, functions, caught_start, caught_room, outer_calls, caught_calls}
+use Rattle.format_definitions.specs.Modules.{Elf, Macho, Pe, IsUncoveredBy}
+use Rattle.format_definitions.specs.Process.{FormatsApart, IsProcess}
+use Rattle.format_definitions.specs.Valid.{DescribesItsPart, IsValid}
+use Rattle.format_laws.specs.Sample.{modules, functions, caught_start, caught_room, outer_calls, caught_calls}
 use Rattle.format_laws.specs.MachoSamples.{sample_module, frameless_function}
 use Rattle.format_laws.specs.PeSamples.{module_of_one, room_image, room_function}
 use Rattle.format_laws.proofs.MachoValid.{frameless_is_function, framed_is_function, described_in}
 use Rattle.format_laws.proofs.ElfThree as elf
 use Rattle.format_laws.proofs.PeRoom as room
-use Rattle.format_laws.proofs.FormatValid.{laid_out}
+use Rattle.format_laws.proofs.Valid.{laid_out}
 
 -- ---- the process
 
@@ -34,7 +34,7 @@ modules_apart (suc (suc i)) (suc zero) d lt below = absurd (omega arith)
 modules_apart (suc (suc i)) (suc (suc zero)) d lt below = absurd (omega arith)
 modules_apart i (suc (suc (suc j))) d lt below = absurd (omega arith)
 
-pub is_process : IsFormatProcess room_image modules
+pub is_process : IsProcess room_image modules
 is_process = record { regions = laid_out; ranges = ((lit< tt, lit< tt), ((lit< tt, lit< tt), ((lit< tt, lit< tt), tt))); apart = modules_apart }
 
 -- ---- what its modules describe
@@ -104,7 +104,7 @@ room_chain = (record { state = room_fits; listed = (0, lit< tt, refl); called = 
 chain : IsChain room_image (IsUncoveredBy room_image modules) functions caught_start caught_calls
 chain = (record { state = start_fits; listed = (2, lit< tt, refl); called = record { returns = λ e. absurd cc; inside = refl; entered = frameless_entered }; last = λ outer. absurd cc }, room_chain)
 
-pub caught_valid : IsFormatValid room_image modules (columns_of caught_start) three.resumes functions caught_start caught_calls
+pub caught_valid : IsValid room_image modules (columns_of caught_start) three.resumes functions caught_start caught_calls
 caught_valid = record {
   parts = (elf_part, (macho_part, (pe_part, tt)));
   no_others = (refl, (refl, (refl, (refl, (refl, (refl, (refl, tt)))))));

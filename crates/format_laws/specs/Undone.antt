@@ -12,7 +12,7 @@ use Rattle.unwind_definitions.specs.Chain.{Call, IsEnd}
 use Rattle.unwind_laws.specs.Walked.{Steps}
 use Rattle.format_definitions.specs.CompactStep.{macho_step}
 use Rattle.format_definitions.specs.PeStep.{pe_step}
-use Rattle.format_definitions.specs.FormatModules.{FormatModule, Elf, Macho, Pe, IsUncoveredBy, LiesInFormat}
+use Rattle.format_definitions.specs.Modules.{FormatModule, Elf, Macho, Pe, IsUncoveredBy, LiesDescribed}
 use Rattle.format_laws.specs.CompactUndone.{MachoUndone}
 use Rattle.format_laws.specs.PeUndone.{CallUndone}
 
@@ -33,7 +33,7 @@ module _ (image : List Span) where
     -- what is asked of a call whose step is taken, at an address in the body of its function
     pub record CanUndo (functions : List Function) (a : ℕ) (s : State) (c : Call) : Type 0 where
       pub listed : Contains functions c.callee
-      pub lies : LiesInFormat image modules functions c.callee
+      pub lies : LiesDescribed image modules functions c.callee
       pub inside : IsTrue (in_body c.callee a)
       pub entered : IsEntered image c.callee.outermost (steps_of c.callee.prologue) c.caller s
       pub caller : IsState c.caller
@@ -41,8 +41,8 @@ module _ (image : List Span) where
 
     -- Columns that show a state, and step by step those of its callers, each by the module that its function lies in, up to the
     -- end of the stack; stack pointers strictly rise.
-    abbrev pub IsFormatWalk : List Function → Columns → State → List Call → Type 0
-    IsFormatWalk functions columns s [] = Shows columns s × IsEnd image (IsUncoveredBy image modules) functions s
-    IsFormatWalk functions columns s (c ∷ calls) = Shows columns s × (s.ra ≢ 0) × (s.sp < c.caller.sp)
-        × ((lies : LiesInFormat image modules functions c.callee) × (step : FormatUndone lies.home columns (s.ra - 1) c)
-        × IsFormatWalk functions (columns_after lies.home columns (s.ra - 1) c step) c.caller calls)
+    abbrev pub IsWalk : List Function → Columns → State → List Call → Type 0
+    IsWalk functions columns s [] = Shows columns s × IsEnd image (IsUncoveredBy image modules) functions s
+    IsWalk functions columns s (c ∷ calls) = Shows columns s × (s.ra ≢ 0) × (s.sp < c.caller.sp)
+        × ((lies : LiesDescribed image modules functions c.callee) × (step : FormatUndone lies.home columns (s.ra - 1) c)
+        × IsWalk functions (columns_after lies.home columns (s.ra - 1) c step) c.caller calls)

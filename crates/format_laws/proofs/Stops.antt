@@ -14,34 +14,34 @@ use Rattle.pe_unwind_info.specs.EpilogList.{leading_epilogs}
 use Rattle.pe_unwind_info.specs.Operations.{operations_of}
 use Rattle.format_definitions.specs.PeImage.{memory_of}
 use Rattle.format_definitions.specs.PeModules.{IsInNoEpilog}
-use Rattle.format_definitions.specs.FormatModules.{Elf, Pe, LiesInFormat, IsFormatChain}
-use Rattle.format_definitions.specs.FormatProcess.{FormatsApart, IsFormatProcess}
-use Rattle.format_definitions.specs.FormatStops.{at_body, at_prologue, at_epilog, IsFormatStop}
-use Rattle.format_laws.specs.FormatSample.{modules, functions, caught_start, caught_room, caught_frameless, caught_pushing, outer_calls, pushed_room, pe_modules, epilog_call}
+use Rattle.format_definitions.specs.Modules.{Elf, Pe, LiesDescribed, IsDescribedChain}
+use Rattle.format_definitions.specs.Process.{FormatsApart, IsProcess}
+use Rattle.format_definitions.specs.Stops.{at_body, at_prologue, at_epilog, IsDescribedStop}
+use Rattle.format_laws.specs.Sample.{modules, functions, caught_start, caught_room, caught_frameless, caught_pushing, outer_calls, pushed_room, pe_modules, epilog_call}
 use Rattle.format_laws.specs.PeSamples.{module_of_one, room_image, room_info, room_function, loop_record, epilog_image, epilog_function, epilog_start, epilog_state, epilog_caller}
 use Rattle.format_laws.proofs.ElfThree as elf
 use Rattle.format_laws.proofs.PeQuiet.{quiet_at}
 use Rattle.format_laws.proofs.PeRoom as room
 use Rattle.format_laws.proofs.PeListed as listed
-use Rattle.format_laws.proofs.FormatValid.{frameless_lies, room_lies, third_lies}
-use Rattle.format_laws.proofs.FormatCaught.{frameless_entered, room_entered, room_fits, second_fits, outer_chain, room_chain}
+use Rattle.format_laws.proofs.Valid.{frameless_lies, room_lies, third_lies}
+use Rattle.format_laws.proofs.Caught.{frameless_entered, room_entered, room_fits, second_fits, outer_chain, room_chain}
 
 -- ---- the chains
-second_lies : LiesInFormat room_image modules functions three.fb
+second_lies : LiesDescribed room_image modules functions three.fb
 second_lies = record { home = Elf three.module_of_them; known = (0, lit< tt, refl); inside = refl; is_function = function_b; describes = elf.described }
 
-pub outer_described : IsFormatChain room_image modules functions three.second outer_calls
+pub outer_described : IsDescribedChain room_image modules functions three.second outer_calls
 outer_described = record { chain = outer_chain; described = (second_lies, (third_lies, tt)); ends = inl refl }
 
-pub room_described : IsFormatChain room_image modules functions caught_room (caught_pushing ∷ outer_calls)
+pub room_described : IsDescribedChain room_image modules functions caught_room (caught_pushing ∷ outer_calls)
 room_described = record { chain = room_chain; described = (room_lies, (second_lies, (third_lies, tt))); ends = inl refl }
 
 -- ---- in a body
-pub macho_body : IsFormatStop room_image modules functions caught_start caught_frameless
+pub macho_body : IsDescribedStop room_image modules functions caught_start caught_frameless
 unfolding frameless_lies
 macho_body = record { inner = refl; listed = (2, lit< tt, refl); lies = frameless_lies; returns = λ e. absurd cc; stands = record { inside = refl; entered = frameless_entered }; caller = room_fits }
 
-pub pe_body : IsFormatStop room_image modules functions caught_room caught_pushing
+pub pe_body : IsDescribedStop room_image modules functions caught_room caught_pushing
 unfolding room_lies room.module_described
 pe_body = record { inner = refl; listed = (0, lit< tt, refl); lies = room_lies; returns = λ e. absurd cc; stands = at_body (record { inside = refl; entered = room_entered }); caller = second_fits }
 
@@ -75,7 +75,7 @@ quiet_here : IsInNoEpilog (memory_of room_image 0x140000000) loop_record room_in
 unfolding parsed_instruction sequence_from leading_epilogs operations_of
 quiet_here = quiet_at (memory_of room_image 0x140000000) loop_record room_info 0x1001 refl
 
-pub pe_prologue : IsFormatStop room_image modules functions pushed_room caught_pushing
+pub pe_prologue : IsDescribedStop room_image modules functions pushed_room caught_pushing
 unfolding room_lies room.module_described room.described
 pe_prologue = record {
   inner = refl;
@@ -87,19 +87,19 @@ pe_prologue = record {
 }
 
 -- ---- in an epilog
-pub epilog_process : IsFormatProcess epilog_image pe_modules
+pub epilog_process : IsProcess epilog_image pe_modules
 epilog_process = record { regions = (lit≤ tt, lit< tt, lit≤ tt, (lit≤ tt, lit< tt, lit≤ tt, (lit≤ tt, lit< tt, lit≤ tt, (lit≤ tt, lit< tt, lit≤ tt, tt)))); ranges = ((lit< tt, lit< tt), tt); apart = pairs_one FormatsApart (Pe module_of_one) }
 
-epilog_lies : LiesInFormat epilog_image pe_modules (epilog_function ∷ []) epilog_function
+epilog_lies : LiesDescribed epilog_image pe_modules (epilog_function ∷ []) epilog_function
 epilog_lies = record { home = Pe module_of_one; known = (0, lit< tt, refl); inside = refl; is_function = listed.is_function; describes = listed.module_described }
 
-pub before_pop : IsFormatStop epilog_image pe_modules (epilog_function ∷ []) epilog_start epilog_call
+pub before_pop : IsDescribedStop epilog_image pe_modules (epilog_function ∷ []) epilog_start epilog_call
 unfolding epilog_lies listed.module_described listed.has_record listed.described
 before_pop = record { inner = refl; listed = (0, lit< tt, refl); lies = epilog_lies; returns = λ e. absurd cc; stands = at_epilog listed.has_record listed.stands_before; caller = listed.caller_fits }
 
-pub after_pop : IsFormatStop epilog_image pe_modules (epilog_function ∷ []) epilog_state epilog_call
+pub after_pop : IsDescribedStop epilog_image pe_modules (epilog_function ∷ []) epilog_state epilog_call
 unfolding epilog_lies listed.module_described listed.has_record listed.described
 after_pop = record { inner = refl; listed = (0, lit< tt, refl); lies = epilog_lies; returns = λ e. absurd cc; stands = at_epilog listed.has_record listed.stands_after; caller = listed.caller_fits }
 
-pub nobody_above : IsFormatChain epilog_image pe_modules (epilog_function ∷ []) epilog_caller []
+pub nobody_above : IsDescribedChain epilog_image pe_modules (epilog_function ∷ []) epilog_caller []
 nobody_above = record { chain = record { state = listed.caller_fits; ends = inl refl }; described = tt; ends = inl refl }

@@ -5,9 +5,9 @@ use Rattle.unwind_definitions.specs.Chain.{IsChain}
 use Rattle.unwind_laws.specs.Three as three
 use Rattle.unwind_laws.proofs.RowFacts.{state_fits}
 use Rattle.unwind_laws.proofs.ThreeValid.{function_c, words}
-use Rattle.format_definitions.specs.FormatModules.{Elf, Macho, Pe, IsUncoveredBy, LiesInFormat, IsFormatChain}
-use Rattle.format_laws.specs.FormatSample.{modules, functions, calls}
-use Rattle.format_laws.specs.FormatUndone.{CanUndo}
+use Rattle.format_definitions.specs.Modules.{Elf, Macho, Pe, IsUncoveredBy, LiesDescribed, IsDescribedChain}
+use Rattle.format_laws.specs.Sample.{modules, functions, calls}
+use Rattle.format_laws.specs.Undone.{CanUndo}
 use Rattle.format_laws.specs.MachoSamples.{sample_module, frameless_function, frameless_state, frameless_caller}
 use Rattle.format_laws.specs.PeSamples.{module_of_one, room_image, room_function, room_state}
 use Rattle.format_laws.proofs.MachoValid.{frameless_is_function, described_in, frameless_entered}
@@ -17,13 +17,13 @@ use Rattle.format_laws.proofs.PeRoom as room
 pub laid_out : IsLaidOut 0 room_image
 laid_out = (lit≤ tt, lit< tt, lit≤ tt, (lit≤ tt, lit< tt, lit≤ tt, (lit≤ tt, lit< tt, lit≤ tt, (lit≤ tt, lit< tt, lit≤ tt, (lit≤ tt, lit< tt, lit≤ tt, (lit≤ tt, lit< tt, lit≤ tt, (lit≤ tt, lit< tt, lit≤ tt, (lit≤ tt, lit< tt, lit≤ tt, tt))))))))
 
-unfoldable pub frameless_lies : LiesInFormat room_image modules functions frameless_function
+unfoldable pub frameless_lies : LiesDescribed room_image modules functions frameless_function
 frameless_lies = record { home = Macho sample_module; known = (1, lit< tt, refl); inside = refl; is_function = frameless_is_function; describes = described_in room_image refl }
 
-unfoldable pub room_lies : LiesInFormat room_image modules functions room_function
+unfoldable pub room_lies : LiesDescribed room_image modules functions room_function
 room_lies = record { home = Pe module_of_one; known = (2, lit< tt, refl); inside = refl; is_function = room.is_function; describes = room.module_described }
 
-pub third_lies : LiesInFormat room_image modules functions three.fc
+pub third_lies : LiesDescribed room_image modules functions three.fc
 third_lies = record { home = Elf three.module_of_them; known = (0, lit< tt, refl); inside = refl; is_function = function_c; describes = elf.described }
 
 return_at : word_at room_image 0x70a0 ≡ Some 0x140001050
@@ -42,7 +42,7 @@ chain = (
   ),
 )
 
-pub is_chain : IsFormatChain room_image modules functions frameless_state calls
+pub is_chain : IsDescribedChain room_image modules functions frameless_state calls
 is_chain = record { chain = chain; described = (frameless_lies, (room_lies, (third_lies, tt))); ends = inl refl }
 
 -- the step of its innermost call may be taken

@@ -17,8 +17,8 @@ use Rattle.macho_unwind_info.specs.Lookup.{lookup_of, range_start, range_end}
 use Rattle.macho_unwind_info.proofs.Covering.{inside, outside}
 use Rattle.macho_unwind_info.proofs.LookupLemmas.{lookup_of-is}
 use Rattle.format_definitions.specs.CompactStep.{MachoModule, stepped_by, found_in, macho_step}
-use Rattle.format_definitions.specs.FormatModules.{FormatModule, Elf, Macho, Pe, in_format, convention_of, part_of, MachoCoversNot, DescribesFormat, IsUncoveredBy, LiesInFormat, IsFormatChain}
-use Rattle.format_laws.specs.FormatUndone.{FormatUndone, columns_after, CanUndo, IsFormatWalk}
+use Rattle.format_definitions.specs.Modules.{FormatModule, Elf, Macho, Pe, in_format, convention_of, part_of, MachoCoversNot, DescribesFormat, IsUncoveredBy, LiesDescribed, IsDescribedChain}
+use Rattle.format_laws.specs.Undone.{FormatUndone, columns_after, CanUndo, IsWalk}
 use Rattle.format_laws.proofs.MachoSteps.{macho_undone}
 use Rattle.format_laws.proofs.PeSteps.{body_call_undone}
 
@@ -72,7 +72,7 @@ module _ (image : List Span) (modules : List FormatModule) where
   state_in functions s (c ∷ calls) chain = chain.0.state
 
   -- what a link of a chain asks is what its step asks
-  pub can_undo : (functions : List Function) (s : State) (c : Call) (calls : List Call) → IsChain image (IsUncoveredBy image modules) functions s (c ∷ calls) → LiesInFormat image modules functions c.callee → CanUndo image modules functions (s.ra - 1) s c
+  pub can_undo : (functions : List Function) (s : State) (c : Call) (calls : List Call) → IsChain image (IsUncoveredBy image modules) functions s (c ∷ calls) → LiesDescribed image modules functions c.callee → CanUndo image modules functions (s.ra - 1) s c
   can_undo functions s c calls chain lies =
       let link : IsLink image functions s c calls = chain.0 in
       record {
@@ -85,7 +85,7 @@ module _ (image : List Span) (modules : List FormatModule) where
       }
 
   walked : (functions : List Function) (s : State) (calls : List Call) (columns : Columns) → IsChain image (IsUncoveredBy image modules) functions s calls →
-      AllByRecursion (λ (c : Call). LiesInFormat image modules functions c.callee) calls → Shows columns s → IsFormatWalk image modules functions columns s calls
+      AllByRecursion (λ (c : Call). LiesDescribed image modules functions c.callee) calls → Shows columns s → IsWalk image modules functions columns s calls
   unfolding can_undo
   walked functions s [] columns chain lie shows = (shows, chain)
   walked functions s (c ∷ calls) columns chain lie shows =
@@ -98,5 +98,5 @@ module _ (image : List Span) (modules : List FormatModule) where
       )
 
   -- A described chain is walked, from columns that show its start.
-  pub chain_walked : (functions : List Function) (s : State) (calls : List Call) (columns : Columns) → IsFormatChain image modules functions s calls → Shows columns s → IsFormatWalk image modules functions columns s calls
+  pub chain_walked : (functions : List Function) (s : State) (calls : List Call) (columns : Columns) → IsDescribedChain image modules functions s calls → Shows columns s → IsWalk image modules functions columns s calls
   chain_walked functions s calls columns is shows = walked functions s calls columns is.chain is.described shows
