@@ -6,6 +6,7 @@ mod Claimed
 mod Reduced
 mod Quiet
 mod RuleEntries
+mod Noting
 mod RowFits
 mod Nops
 mod WalkEnds

@@ -6,6 +6,7 @@ pub mod Functions
 pub mod Ranges
 pub mod Scanned
 pub mod FrameRows
+pub mod FrameRules
 pub mod Programs
 pub mod Emitted
 pub mod Numbers

@@ -17,6 +17,7 @@ mod descriptions;
 mod entries;
 mod extras;
 mod findings;
+mod frame_rules;
 mod functions;
 mod header_tables;
 mod language;

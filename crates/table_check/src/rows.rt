@@ -8,21 +8,20 @@ ghost use Rattle.unwind_definitions.specs.Instructions.{Offset, Undefined};
 ghost use Rattle.unwind_definitions.specs.Row.{ColumnAndOffset};
 ghost use Rattle.unwind_definitions.specs.State.{CalleeSaved as Kept, column_of};
 ghost use Rattle.unwind_definitions.specs.Prologue.{Step};
-ghost use Rattle.unwind_definitions.specs.DescribedRows.{IsUnchanged, cfa_after, may_have_rule};
+ghost use Rattle.unwind_definitions.specs.DescribedRows.{IsUnchanged, cfa_after};
 ghost use Rattle.frame_rows.specs.Rules.{cfa_meaning, rule_in, rule_meaning};
 ghost use Rattle.table_check.specs.Frames.{IsFrameAfter, callee_saved_of};
 ghost use Rattle.table_check.specs.FrameRows.{FindsIn, FindsLateIn, HasNoOthers, IsFrameRow};
 ghost use Rattle.table_check.specs.FrameRows.{HasSmallOffset, IsBodyValue, IsOutermostValue};
 ghost use Rattle.table_check.specs.FrameRows.{IsPrologueValue};
 
+use crate::frame_rules::FrameRow;
 use crate::prologue::{CalleeSaved, FrameSoFar};
 use eh_frame::{CfaRule, Register, RegisterRule, RowRef};
 
 const RBP: Register = Register(6);
 
 const RSP: Register = Register(7);
-
-const RETURN_ADDRESS: Register = Register(16);
 
 // How many words of 64 bits there are.
 const WORDS: u128 = 1 << 64;
@@ -32,7 +31,10 @@ pub(crate) fn is_body_row(row: &RowRef<'_, '_>, frame: &FrameSoFar) -> bool
     ensures { (steps : List Step) → IsFrameAfter frame.now steps →
         Decides result (IsBodyValue steps row.now) }
 {
-    is_frame_row(row, frame) && finds_all(row, frame)
+    match FrameRow::of(row) {
+        Some(known) => is_known_body_row(&known, frame),
+        None => false,
+    }
 }
 
 /// Whether a row is that of a frame inside its prologue, of which these steps have run.
@@ -40,34 +42,61 @@ pub(crate) fn is_prologue_row(row: &RowRef<'_, '_>, frame: &FrameSoFar) -> bool
     ensures { (steps : List Step) → IsFrameAfter frame.now steps →
         Decides result (IsPrologueValue steps row.now) }
 {
-    is_frame_row(row, frame) && may_find_all_late(row, frame)
+    match FrameRow::of(row) {
+        Some(known) => is_known_prologue_row(&known, frame),
+        None => false,
+    }
 }
 
 /// Whether a row is that of an outermost frame, which has no caller to return to.
 pub(crate) fn is_outermost_row(row: &RowRef<'_, '_>) -> bool
     ensures { Decides result (IsOutermostValue row.now) }
 {
+    match FrameRow::of(row) {
+        Some(known) => is_known_outermost_row(&known),
+        None => false,
+    }
+}
+
+fn is_known_body_row(row: &FrameRow<'_, '_, '_>, frame: &FrameSoFar) -> bool
+    requires { HasNoOthers row.now.rules }
+    ensures { (steps : List Step) → IsFrameAfter frame.now steps →
+        Decides result (IsBodyValue steps row.now) }
+{
+    is_frame_row(row, frame) && finds_all(row, frame)
+}
+
+fn is_known_prologue_row(row: &FrameRow<'_, '_, '_>, frame: &FrameSoFar) -> bool
+    requires { HasNoOthers row.now.rules }
+    ensures { (steps : List Step) → IsFrameAfter frame.now steps →
+        Decides result (IsPrologueValue steps row.now) }
+{
+    is_frame_row(row, frame) && may_find_all_late(row, frame)
+}
+
+fn is_known_outermost_row(row: &FrameRow<'_, '_, '_>) -> bool
+    requires { HasNoOthers row.now.rules }
+    ensures { Decides result (IsOutermostValue row.now) }
+{
     has_cfa(row, RSP, 8)
-        && is_undefined(rule_of(row, RETURN_ADDRESS))
+        && is_undefined(row.return_address())
         && row.saved_args_size() == 0
-        && has_no_others(row)
         && keeps_all(row)
 }
 
-// Whether a row finds the caller's stack pointer and the return address of a frame, and has rules
-// for no registers but those that functions keep.
-fn is_frame_row(row: &RowRef<'_, '_>, frame: &FrameSoFar) -> bool
+// Whether a row finds the caller's stack pointer and the return address of a frame.
+fn is_frame_row(row: &FrameRow<'_, '_, '_>, frame: &FrameSoFar) -> bool
+    requires { HasNoOthers row.now.rules }
     ensures { (steps : List Step) → IsFrameAfter frame.now steps →
         Decides result (IsFrameRow steps row.now) }
 {
     has_frame_cfa(row, frame)
-        && is_offset(rule_of(row, RETURN_ADDRESS), WORDS - 8)
+        && is_offset(row.return_address(), WORDS - 8)
         && row.saved_args_size() == 0
-        && has_no_others(row)
 }
 
 // Whether the CFA is RBP, once it is set, or else RSP, as far below as it is in the frame.
-fn has_frame_cfa(row: &RowRef<'_, '_>, frame: &FrameSoFar) -> bool
+fn has_frame_cfa(row: &FrameRow<'_, '_, '_>, frame: &FrameSoFar) -> bool
     ensures { (steps : List Step) → IsFrameAfter frame.now steps →
         Decides result (row.now.cfa ≡ cfa_after steps) }
 {
@@ -78,7 +107,7 @@ fn has_frame_cfa(row: &RowRef<'_, '_>, frame: &FrameSoFar) -> bool
 }
 
 // Whether the CFA is a register plus so many bytes.
-fn has_cfa(row: &RowRef<'_, '_>, base: Register, distance: u128) -> bool
+fn has_cfa(row: &FrameRow<'_, '_, '_>, base: Register, distance: u128) -> bool
     ensures decides { Decides result (row.now.cfa ≡ ColumnAndOffset base.0 distance) }
     ensures small { HasSmallOffset row.now.cfa }
 {
@@ -90,7 +119,7 @@ fn has_cfa(row: &RowRef<'_, '_>, base: Register, distance: u128) -> bool
     }
 }
 
-fn finds_all(row: &RowRef<'_, '_>, frame: &FrameSoFar) -> bool
+fn finds_all(row: &FrameRow<'_, '_, '_>, frame: &FrameSoFar) -> bool
     ensures { (steps : List Step) → IsFrameAfter frame.now steps →
         Decides result ((r : Kept) → FindsIn row.now steps r) }
 {
@@ -102,7 +131,7 @@ fn finds_all(row: &RowRef<'_, '_>, frame: &FrameSoFar) -> bool
         && finds(row, frame, CalleeSaved::R15)
 }
 
-fn may_find_all_late(row: &RowRef<'_, '_>, frame: &FrameSoFar) -> bool
+fn may_find_all_late(row: &FrameRow<'_, '_, '_>, frame: &FrameSoFar) -> bool
     ensures { (steps : List Step) → IsFrameAfter frame.now steps →
         Decides result ((r : Kept) → FindsLateIn row.now steps r) }
 {
@@ -124,7 +153,7 @@ fn may_find_all_late(row: &RowRef<'_, '_>, frame: &FrameSoFar) -> bool
     may_find_late(row, frame, CalleeSaved::R15)
 }
 
-fn keeps_all(row: &RowRef<'_, '_>) -> bool
+fn keeps_all(row: &FrameRow<'_, '_, '_>) -> bool
     ensures { Decides result
         ((r : Kept) → IsUnchanged (rule_in row.now.rules (column_of r))) }
 {
@@ -147,21 +176,21 @@ fn keeps_all(row: &RowRef<'_, '_>) -> bool
 }
 
 // Whether a row finds a register where the frame saves it, or leaves it where it isn't saved.
-fn finds(row: &RowRef<'_, '_>, frame: &FrameSoFar, register: CalleeSaved) -> bool
+fn finds(row: &FrameRow<'_, '_, '_>, frame: &FrameSoFar, register: CalleeSaved) -> bool
     ensures { (steps : List Step) → IsFrameAfter frame.now steps →
         Decides result (FindsIn row.now steps (callee_saved_of register)) }
 {
     match frame.slot(register) {
         Some(distance) => {
             let offset = WORDS.saturating_sub(distance);
-            is_offset(rule_of(row, register.column()), offset)
+            is_offset(row.rule(register), offset)
         }
         None => keeps(row, register),
     }
 }
 
 // The same where a register that is saved may have no rule yet, but RBP once it is set.
-fn may_find_late(row: &RowRef<'_, '_>, frame: &FrameSoFar, register: CalleeSaved) -> bool
+fn may_find_late(row: &FrameRow<'_, '_, '_>, frame: &FrameSoFar, register: CalleeSaved) -> bool
     ensures { (steps : List Step) → IsFrameAfter frame.now steps →
         Decides result (FindsLateIn row.now steps (callee_saved_of register)) }
 {
@@ -171,15 +200,15 @@ fn may_find_late(row: &RowRef<'_, '_>, frame: &FrameSoFar, register: CalleeSaved
     if register.is_rbp() && frame.frame_depth.is_some() {
         return false;
     }
-    rule_of(row, register.column()).is_none()
+    row.rule(register).is_none()
 }
 
 // Whether a row leaves a register.
-fn keeps(row: &RowRef<'_, '_>, register: CalleeSaved) -> bool
+fn keeps(row: &FrameRow<'_, '_, '_>, register: CalleeSaved) -> bool
     ensures { Decides result
         (IsUnchanged (rule_in row.now.rules (column_of (callee_saved_of register)))) }
 {
-    is_unchanged(rule_of(row, register.column()))
+    is_unchanged(row.rule(register))
 }
 
 fn is_offset(rule: Option<RegisterRule<'_>>, offset: u128) -> bool
@@ -201,34 +230,4 @@ fn is_unchanged(rule: Option<RegisterRule<'_>>) -> bool
     ensures { Decides result (IsUnchanged (option_map rule_meaning rule.entry)) }
 {
     matches!(rule, None | Some(RegisterRule::SameValue))
-}
-
-// The rule of a column, `None` where it has none.
-fn rule_of<'a>(row: &RowRef<'_, 'a>, column: Register) -> Option<RegisterRule<'a>>
-    ensures { option_map rule_meaning result ≡ rule_in row.now.rules column.0 }
-{
-    for (register, rule) in row.registers() {
-        if register.0 == column.0 {
-            return Some(rule);
-        }
-    }
-    None
-}
-
-// Whether a row has rules for no registers but those that functions keep, and the return address.
-fn has_no_others(row: &RowRef<'_, '_>) -> bool
-    ensures { Decides result (HasNoOthers row.now.rules) }
-{
-    for (register, _) in row.registers() {
-        if !may_have_rule(register) {
-            return false;
-        }
-    }
-    true
-}
-
-fn may_have_rule(register: Register) -> bool
-    ensures { result ≡ may_have_rule register.0 }
-{
-    matches!(register.0, 3 | 6 | 12 | 13 | 14 | 15 | 16)
 }

@@ -1,7 +1,0 @@
-use Rattle.std.proofs.Common.{◌≡◌, map}
-use Rattle.frame_rows.specs.Left.{registers_left}
-use Rattle.frame_rows.specs.Rules.{entry_of, rule_in}
-use Rattle.table_check.proofs.rows.rule_of.Given as goal
-
-abbrev pub invariant-loop-register : goal.invariant-loop-register
-invariant-loop-register l = rule_in (map entry_of (registers_left l.register-iterator)) l.column.0 ≡ rule_in l.row.rules l.column.0
