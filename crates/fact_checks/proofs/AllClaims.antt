@@ -80,3 +80,12 @@ module _ (bases : Bases) (fdes : List Fde) where
       subst (NoneOf (n + suc i)) (sym is) (all_both _ own rest
       (all_as (IsDifferenceOf bases fdes n x) (λ (d : Difference). d.claim ≢ n + suc i) own (λ d of same. let at = of.0 in omega (arith, at, same)) here.each)
       (subst (λ k. NoneOf k rest) (omega arith) more))
+
+  -- where all are said, there is no difference
+  pub all_passed : AllPairs DescriptionsApart fdes → (n low : ℕ) (cs : List Claim) (ds : List Difference) → AreInOrder low cs → AreAudited bases fdes n cs ds → AllByRecursion (IsClaimSaid bases fdes) cs → ds ≡ []
+  all_passed apart n low [] ds order done said = done
+  all_passed apart n low (c ∷ cs) ds order (own, rest, is, here, later) said = go own is here.each (all_passed apart (suc n) c.range.to cs rest order.1 later said.1)
+    where
+      go : (own : List Difference) → ds ≡ own ++ rest → AllByRecursion (IsDifferenceOf bases fdes n c) own → rest ≡ [] → ds ≡ []
+      go [] is each none = is ∙ none
+      go (d ∷ more) is each none = absurd (not_said bases fdes apart c order.0.1 d.address d.mismatch each.0.1 said.0)

@@ -1,7 +1,7 @@
 -- What an audit lists, of a module whose tables read.
 use Rattle.std.proofs.Common.{◌≡◌, ℕ, List, [], ◌∷◌, Some, subst, arith}
 use Rattle.std.specs.Prelude.{◌↔◌, IsTrue, slice_get}
-use Rattle.std.specs.List.{AllPairs}
+use Rattle.std.specs.List.{AllByRecursion, AllPairs}
 use Rattle.memory_image.specs.Image.{Span, IsLaidOut}
 use Rattle.unwind_definitions.specs.Entries.{Fde}
 use Rattle.unwind_definitions.specs.Function.{in_range}
@@ -19,7 +19,7 @@ use Rattle.fact_checks.specs.declared.stretches.Difference.{Difference}
 use Rattle.fact_checks.specs.Audits.{AreAudited, NoneOf}
 use Rattle.fact_checks.specs.InOrder.{AreInOrder}
 use Rattle.fact_checks.specs.Looking.{FindsAmong}
-use Rattle.fact_checks.proofs.AllClaims.{passed_said, said_passed}
+use Rattle.fact_checks.proofs.AllClaims.{all_passed, passed_said, said_passed}
 use Rattle.fact_checks.proofs.Named.{is_named}
 
 module _ (image : List Span) (laid : IsLaidOut 0 image) (frame : FrameInfo) (t : FrameTable) (named : table_by frame image ≡ Some t) (claims : List Claim) (ds : List Difference)
@@ -39,6 +39,9 @@ module _ (image : List Span) (laid : IsLaidOut 0 image) (frame : FrameInfo) (t :
 
   pub exact_by : AreInOrder 0 claims → (i : ℕ) (c : Claim) → slice_get claims i ≡ Some c → NoneOf i ds ↔ IsClaimSaid bases fdes c
   exact_by order i c at = (passed i c at, λ said. subst (λ k. NoneOf k ds) (omega arith) (said_passed bases fdes d.apart 0 i 0 claims c ds order at audited_by said))
+
+  pub said_by : AreInOrder 0 claims → AllByRecursion (IsClaimSaid bases fdes) claims → ds ≡ []
+  said_by order said = all_passed bases fdes d.apart 0 0 claims ds order audited_by said
 
   pub facts_by : (i a : ℕ) (c : Claim) → slice_get claims i ≡ Some c → NoneOf i ds → IsTrue (in_range a c.range) → SaysFactsAt image (module_of start end frame) a c.facts
   facts_by i a c at none inside =

@@ -2,6 +2,7 @@ mod Deciding
 mod Left
 mod Known
 mod Rules
+mod Asked
 mod OneRow
 mod Spans
 mod Unique

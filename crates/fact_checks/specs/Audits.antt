@@ -1,6 +1,6 @@
 -- What an audit answers: where a module's tables don't say what is claimed, and why. DWARF 5 section 6.4.1; LSB, sections on the
 -- .eh_frame and .eh_frame_hdr sections.
-use Rattle.std.specs.Prelude.{◌≡◌, ◌≢◌, ℕ, suc, ◌+◌, ◌≤◌, true, List, [], ◌∷◌, ◌++◌, None, IsTrue}
+use Rattle.std.specs.Prelude.{◌≡◌, ◌≢◌, ℕ, suc, ◌+◌, ◌≤◌, true, List, [], ◌∷◌, ◌++◌, Option, Some, None, IsTrue}
 use Rattle.std.specs.List.{AllByRecursion, Contains}
 use Rattle.memory_image.specs.Image.{Span}
 use Rattle.unwind_definitions.specs.Pointers.{Bases}
@@ -9,13 +9,13 @@ use Rattle.unwind_definitions.specs.Row.{row_at}
 use Rattle.unwind_definitions.specs.Function.{in_range}
 use Rattle.frame_facts.specs.Claims.{Claim, IsClaimSaid}
 use Rattle.fde_finders.specs.declared.custom.FrameInfo.{FrameInfo}
-use Rattle.fde_finders.specs.FrameTables.{table_by}
+use Rattle.fde_finders.specs.FrameTables.{FrameTable, table_by}
 use Rattle.fact_checks.specs.declared.auditing.AuditError.{AuditError}
 use Rattle.fact_checks.specs.declared.auditing.AuditError.TheVariants as error
 use Rattle.fact_checks.specs.declared.rows.Mismatch.{Mismatch}
 use Rattle.fact_checks.specs.declared.rows.Mismatch.TheVariants as mismatch
 use Rattle.fact_checks.specs.declared.stretches.Difference.{Difference}
-use Rattle.fact_checks.specs.InOrder.{AreInOrder, IsFirstOutOfOrder}
+use Rattle.fact_checks.specs.InOrder.{first_out_of_order}
 use Rattle.fact_checks.specs.RowFacts.{Differs}
 
 module _ (bases : Bases) (fdes : List Fde) where
@@ -56,8 +56,12 @@ module _ (bases : Bases) (fdes : List Fde) where
 abbrev pub NoneOf : ℕ → List Difference → Type 0
 NoneOf i ds = AllByRecursion (λ (d : Difference). d.claim ≢ i) ds
 
--- the first claim that is out of order; or where all are in order, no frame table is found; or memory ran out
-abbrev pub RefusesAudit : List Span → FrameInfo → List Claim → AuditError → Type 0
-RefusesAudit image frame claims (error.Claim i) = IsFirstOutOfOrder 0 claims i
-RefusesAudit image frame claims error.Tables = AreInOrder 0 claims × (table_by frame image ≡ None)
-RefusesAudit image frame claims error.NoMemory = Unit {0}
+-- Why nothing is audited: the first claim is out of order whose range is empty or begins below the end of the one before; or where
+-- all are in order, no frame table is found.
+abbrev pub refusal_by : Option FrameTable → Option ℕ → Option AuditError
+refusal_by table (Some i) = Some (error.Claim i)
+refusal_by None None = Some error.Tables
+refusal_by (Some table) None = None
+
+abbrev pub refusal_of : List Span → FrameInfo → List Claim → Option AuditError
+refusal_of image frame claims = refusal_by (table_by frame image) (first_out_of_order 0 claims)

@@ -1,5 +1,5 @@
 -- Claims in order.
-use Rattle.std.specs.Prelude.{ℕ, zero, suc, ◌<◌, ◌≤◌, List, [], ◌∷◌}
+use Rattle.std.specs.Prelude.{ℕ, suc, ◌<◌, ◌≤◌, nat_le, nat_lt, Bool, ◌&&◌, List, [], ◌∷◌, Option, Some, None, option_map, if◌then◌else◌}
 use Rattle.frame_facts.specs.Claims.{Claim}
 
 -- a claim's range isn't empty, and begins at an address or above it
@@ -11,8 +11,10 @@ abbrev pub AreInOrder : ℕ → List Claim → Type 0
 AreInOrder low [] = Unit {0}
 AreInOrder low (c ∷ cs) = IsInOrder low c × AreInOrder c.range.to cs
 
--- the first one that isn't so
-abbrev pub IsFirstOutOfOrder : ℕ → List Claim → ℕ → Type 0
-IsFirstOutOfOrder low [] i = ⊥
-IsFirstOutOfOrder low (c ∷ cs) zero = IsInOrder low c → ⊥
-IsFirstOutOfOrder low (c ∷ cs) (suc i) = IsInOrder low c × IsFirstOutOfOrder c.range.to cs i
+abbrev pub is_in_order : ℕ → Claim → Bool
+is_in_order low c = nat_le low c.range.from && nat_lt c.range.from c.range.to
+
+-- the place of the first one that isn't so
+abbrev pub first_out_of_order : ℕ → List Claim → Option ℕ
+first_out_of_order low [] = None
+first_out_of_order low (c ∷ cs) = if is_in_order low c then option_map suc (first_out_of_order c.range.to cs) else Some 0

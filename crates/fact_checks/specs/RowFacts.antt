@@ -1,5 +1,5 @@
 -- Which rows say facts, as rows are kept; and why one doesn't. DWARF 5 section 6.4.1.
-use Rattle.std.specs.Prelude.{◌≡◌, ◌⊎◌, ℕ, false, true, List, Option, Some, None, Result, Ok, Err, IsFalse, ◌==◌, if◌then◌else◌}
+use Rattle.std.specs.Prelude.{◌≡◌, ◌⊎◌, ℕ, Bool, false, true, not, ◌&&◌, List, Option, Some, None, is_none, Result, Ok, Err, IsFalse, ◌==◌, if◌then◌else◌}
 use Rattle.unwind_definitions.specs.declared.error.Error.{Error as Fault}
 use Rattle.unwind_definitions.specs.Columns as column
 use Rattle.unwind_definitions.specs.Instructions.{Rule, Offset, Undefined}
@@ -24,19 +24,25 @@ abbrev pub IsAsDue : Due → Option Rule → Type 0
 IsAsDue due.Undefined rule = rule ≡ Some Undefined
 IsAsDue (due.Found k) rule = IsFound k rule
 
--- no column has a rule but those that may have one
-abbrev pub HasNoOthers : List (ℕ × Rule) → Type 0
-HasNoOthers rules = (c : ℕ) → IsFalse (may_have_rule c) → rule_in rules c ≡ None
-
--- a column has a rule that may have none
-abbrev pub IsUnasked : List (ℕ × Rule) → ℕ → Type 0
-IsUnasked rules c = (may_have_rule c ≡ false) × (rule_in rules c ≡ None → ⊥)
-
 -- the rules of a row say facts
 pub record RulesSay (facts : Facts) (rules : List (ℕ × Rule)) : Type 0 where
   pub ret : rule_in rules column.ra ≡ Some (return_rule facts.outermost)
   pub registers : (r : CalleeSaved) → FindsKnown facts r (rule_in rules (column_of r))
-  pub others : HasNoOthers rules
+  pub others : (c : ℕ) → IsFalse (may_have_rule c) → rule_in rules c ≡ None
+
+-- a column's rule, if it has one, is as facts ask
+pub record IsAsked (facts : Facts) (c : ℕ) (rule : Option Rule) : Type 0 where
+  pub ret : c ≡ column.ra → rule ≡ Some (return_rule facts.outermost)
+  pub register : (r : CalleeSaved) → c ≡ column_of r → FindsKnown facts r rule
+  pub other : IsFalse (may_have_rule c) → rule ≡ None
+
+-- no column lacks a rule that it has to have: that of the return address, or of a register that isn't known to be kept
+pub record LacksNone (facts : Facts) (rules : List (ℕ × Rule)) : Type 0 where
+  pub ret : rule_in rules column.ra ≡ None → ⊥
+  pub registers : (r : CalleeSaved) → rule_in rules (column_of r) ≡ None → FindsKnown facts r None
+
+abbrev pub lacks : KnownRegister → Option Rule → Bool
+lacks k rule = not k.is_kept && is_none rule
 
 -- the rule of a column is another than what is known asks: that of the return address, of a callee-saved register, or of a column
 -- that has none

@@ -1,6 +1,7 @@
 //! Which claims a module's tables don't say.
 
-ghost use Rattle.std.specs.Prelude.{◌≡◌, ◌↔◌, ◌++◌, ◌∷◌, ◌<◌, ◌≤◌, ℕ, List, [], Some, true};
+ghost use Rattle.std.specs.Prelude.{◌≡◌, ◌⊎◌, ◌↔◌, ◌++◌, ◌∷◌, ◌<◌, ◌≤◌, ℕ, List, [], Some, None};
+ghost use Rattle.std.specs.Prelude.{true};
 ghost use Rattle.std.specs.Prelude.{map, slice_get, IfErr, IfOk, IfSome, IsTrue, MatchOption, OnOk};
 ghost use Rattle.std.specs.List.{AllPairs};
 ghost use Rattle.unwind_definitions.specs.Entries.{Fde as Description};
@@ -9,14 +10,14 @@ ghost use Rattle.unwind_definitions.specs.Module.{DescriptionsApart, bases_of};
 ghost use Rattle.unwind_definitions.specs.Row.{covers_pc};
 ghost use Rattle.unwind_definitions.specs.Scan.{fdes_of};
 ghost use Rattle.frame_facts.specs.FactTables.{HasTables, SaysFactsAt};
-ghost use Rattle.frame_facts.specs.Claims.{Claim, IsClaimSaid};
+ghost use Rattle.frame_facts.specs.Claims.{Claim, IsClaimSaid, SaysClaims};
 ghost use Rattle.encoded_pointers.specs.PointerViews.{bases_of as relative_of};
 ghost use Rattle.eh_frame.specs.EntryViews.{fde_of};
 ghost use Rattle.fde_finders.specs.NamedTables.{named_of};
 ghost use Rattle.table_check.specs.Modules.{module_of};
 ghost use Rattle.fact_checks.specs.declared.auditing.AuditError.TheVariants.{NoMemory};
 ghost use Rattle.fact_checks.specs.declared.stretches.Difference.{Difference as Found};
-ghost use Rattle.fact_checks.specs.Audits.{AreAudited, AreDifferencesOf, NoneOf, RefusesAudit};
+ghost use Rattle.fact_checks.specs.Audits.{AreAudited, AreDifferencesOf, NoneOf, refusal_of};
 ghost use Rattle.fact_checks.specs.Looking.{FindsAmong, IsBegun, IsIndexOf, IsListed};
 ghost use Rattle.fact_checks.specs.Looking.{IsListedAt, MayAsk, RefusesRange};
 ghost use Rattle.fact_checks.specs.ClaimViews.{claim_of};
@@ -82,9 +83,11 @@ pub fn audit(
     frame: FrameInfo,
     claims: &[ClaimedFacts],
 ) -> Result<Vec<Difference>, AuditError>
-    ensures refused { IfErr result (λ error.
-        RefusesAudit image.now frame (map claim_of claims.now) error) }
-    ensures taken { IfOk result (λ differences. AreInOrder 0 (map claim_of claims.now)) }
+    ensures refused { IfErr result (λ error. (error ≡ NoMemory) ⊎
+        (refusal_of image.now frame (map claim_of claims.now) ≡ Some error)) }
+    ensures taken { IfOk result (λ differences.
+        refusal_of image.now frame (map claim_of claims.now) ≡ None) }
+    ensures order { IfOk result (λ differences. AreInOrder 0 (map claim_of claims.now)) }
     ensures audited { IfOk result (λ differences. (start end : ℕ)
         (d : HasTables image.now (module_of start end frame)) →
         AreAudited (bases_of (module_of start end frame) d.frame) (fdes_of d.entries) 0
@@ -94,6 +97,9 @@ pub fn audit(
         slice_get (map claim_of claims.now) i ≡ Some claim →
         NoneOf i differences.items ↔
         IsClaimSaid (bases_of (module_of start end frame) d.frame) (fdes_of d.entries) claim) }
+    ensures said { IfOk result (λ differences. (start end : ℕ) →
+        SaysClaims image.now (module_of start end frame) (map claim_of claims.now) →
+        differences.items ≡ []) }
     ensures facts { IfOk result (λ differences. (start end : ℕ) (i a : ℕ) (claim : Claim) →
         HasTables image.now (module_of start end frame) →
         slice_get (map claim_of claims.now) i ≡ Some claim → NoneOf i differences.items →

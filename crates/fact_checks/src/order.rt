@@ -1,16 +1,14 @@
 //! Claims by ascending address.
 
-ghost use Rattle.std.specs.Prelude.{map, MatchOption};
-ghost use Rattle.std.specs.Bool.{Decides};
+ghost use Rattle.std.specs.Prelude.{◌≡◌, map};
 ghost use Rattle.fact_checks.specs.ClaimViews.{claim_of};
-ghost use Rattle.fact_checks.specs.InOrder.{AreInOrder, IsFirstOutOfOrder, IsInOrder};
+ghost use Rattle.fact_checks.specs.InOrder.{first_out_of_order, is_in_order};
 
 use crate::facts::ClaimedFacts;
 
 /// The first claim whose range is empty or begins before the end of the one before it.
 pub(crate) fn first_out_of_order(claims: &[ClaimedFacts]) -> Option<usize>
-    ensures { MatchOption result (AreInOrder 0 (map claim_of claims.now))
-        (λ i. IsFirstOutOfOrder 0 (map claim_of claims.now) i) }
+    ensures { result ≡ first_out_of_order 0 (map claim_of claims.now) }
 {
     let mut end = 0;
     for (i, claim) in claims.iter().enumerate() {
@@ -23,7 +21,7 @@ pub(crate) fn first_out_of_order(claims: &[ClaimedFacts]) -> Option<usize>
 }
 
 fn is_in_order(claim: &ClaimedFacts, low: u64) -> bool
-    ensures { Decides result (IsInOrder low (claim_of claim.now)) }
+    ensures { result ≡ is_in_order low (claim_of claim.now) }
 {
     low <= claim.from && claim.from < claim.to
 }

@@ -1,8 +1,8 @@
 //! Rows beside what is known. DWARF 5 section 6.4.1; System V x86-64 psABI for the registers.
 
-ghost use Rattle.std.specs.Prelude.{◌≡◌, ◌≤◌, ◌↔◌, ℕ, MatchOption, None, Ok, Option, Result, Some};
+ghost use Rattle.std.specs.Prelude.{◌≡◌, ◌≤◌, ◌↔◌, ℕ, MatchOption, Ok, Option, Result, Some, false};
+ghost use Rattle.std.specs.Prelude.{is_some};
 ghost use Rattle.std.specs.Bool.{Decides};
-ghost use Rattle.std.specs.Option.{option_map};
 ghost use Rattle.unwind_definitions.specs.declared.error.Error.{Error as Fault};
 ghost use Rattle.unwind_definitions.specs.Instructions.{Coding, Rule};
 ghost use Rattle.unwind_definitions.specs.Row.{RowInstructions};
@@ -12,8 +12,8 @@ ghost use Rattle.frame_rows.specs.Rules.{cfa_meaning, rule_in, rule_meaning};
 ghost use Rattle.frame_rows.specs.Walks.{IsBefore, IsWalking, end_of};
 ghost use Rattle.frame_facts.specs.FactRows.{IsKnownCfa, return_rule};
 ghost use Rattle.fact_checks.specs.ClaimViews.{facts_of};
-ghost use Rattle.fact_checks.specs.RowFacts.{Differs, HasNoOthers, IsAsDue, IsFound, IsOtherRule};
-ghost use Rattle.fact_checks.specs.RowFacts.{IsUnasked, RulesSay, SaysDue, known_distance};
+ghost use Rattle.fact_checks.specs.RowFacts.{Differs, IsAsDue, IsAsked, IsFound, IsOtherRule};
+ghost use Rattle.fact_checks.specs.RowFacts.{LacksNone, RulesSay, SaysDue, known_distance, lacks};
 
 use crate::facts::{ClaimedFacts, KnownRegister};
 use eh_frame::{CfaRule, Error, Register, RegisterRule, RowRef, RowWalk};
@@ -121,36 +121,47 @@ fn is_distance(known: Option<u64>, distance: u64) -> bool
     }
 }
 
-// The first column whose rule is another than what is known asks: of the return address, of the
-// callee-saved registers, and of the others.
+// The first column whose rule is another than what is known asks, or has none and has to have one.
 fn first_other_rule(row: &RowRef<'_, '_>, known: &ClaimedFacts) -> Option<Register>
     ensures { MatchOption result (RulesSay (facts_of known.now) row.now.rules)
         (λ column. IsOtherRule (facts_of known.now) column.0
         (rule_in row.now.rules column.0)) }
 {
+    for (column, rule) in row.registers() {
+        if !is_asked(known, column, rule) {
+            return Some(column);
+        }
+    }
+    first_lacking(row, known)
+}
+
+// Whether the rule of a column is one that what is known asks.
+fn is_asked(known: &ClaimedFacts, column: Register, rule: RegisterRule<'_>) -> bool
+    ensures { Decides result (IsAsked (facts_of known.now) column.0 (Some (rule_meaning rule.entry))) }
+{
+    match due_of(known, column) {
+        Some(due) => is_rule_due(rule, due),
+        None => false,
+    }
+}
+
+// What the rule of a column has to be: of the return address or a callee-saved register.
+fn due_of(known: &ClaimedFacts, column: Register) -> Option<Due>
+    ensures { MatchOption result (may_have_rule column.0 ≡ false)
+        (λ due. (rule : Option Rule) →
+        IsAsDue due rule ↔ IsAsked (facts_of known.now) column.0 rule) }
+{
     let registers = &known.registers;
-    if !is_as_due(row, RETURN_ADDRESS, due_return(known.is_outermost)) {
-        return Some(RETURN_ADDRESS);
+    match column.0 {
+        3 => Some(Due::Found(registers.rbx)),
+        6 => Some(Due::Found(registers.rbp)),
+        12 => Some(Due::Found(registers.r12)),
+        13 => Some(Due::Found(registers.r13)),
+        14 => Some(Due::Found(registers.r14)),
+        15 => Some(Due::Found(registers.r15)),
+        16 => Some(due_return(known.is_outermost)),
+        _ => None,
     }
-    if !is_as_due(row, RBX, Due::Found(registers.rbx)) {
-        return Some(RBX);
-    }
-    if !is_as_due(row, RBP, Due::Found(registers.rbp)) {
-        return Some(RBP);
-    }
-    if !is_as_due(row, R12, Due::Found(registers.r12)) {
-        return Some(R12);
-    }
-    if !is_as_due(row, R13, Due::Found(registers.r13)) {
-        return Some(R13);
-    }
-    if !is_as_due(row, R14, Due::Found(registers.r14)) {
-        return Some(R14);
-    }
-    if !is_as_due(row, R15, Due::Found(registers.r15)) {
-        return Some(R15);
-    }
-    first_unasked(row)
 }
 
 // What the rule of the return address has to be.
@@ -167,35 +178,23 @@ fn due_return(is_outermost: bool) -> Due
     })
 }
 
-// Whether the rule of a column, or that it has none, is what is due.
-fn is_as_due(row: &RowRef<'_, '_>, column: Register, due: Due) -> bool
-    ensures { Decides result (IsAsDue due (rule_in row.now.rules column.0)) }
-{
-    for (register, rule) in row.registers() {
-        if register.0 == column.0 {
-            return is_rule_due(Some(rule), due);
-        }
-    }
-    is_rule_due(None, due)
-}
-
-fn is_rule_due(rule: Option<RegisterRule<'_>>, due: Due) -> bool
-    ensures { Decides result (IsAsDue due (option_map rule_meaning rule.entry)) }
+fn is_rule_due(rule: RegisterRule<'_>, due: Due) -> bool
+    ensures { Decides result (IsAsDue due (Some (rule_meaning rule.entry))) }
 {
     match due {
-        Due::Undefined => matches!(rule, Some(RegisterRule::Undefined)),
+        Due::Undefined => matches!(rule, RegisterRule::Undefined),
         Due::Found(register) => finds(rule, register),
     }
 }
 
 // Whether a rule finds a register where it is known to be.
-fn finds(rule: Option<RegisterRule<'_>>, register: KnownRegister) -> bool
-    ensures { Decides result (IsFound register (option_map rule_meaning rule.entry)) }
+fn finds(rule: RegisterRule<'_>, register: KnownRegister) -> bool
+    ensures { Decides result (IsFound register (Some (rule_meaning rule.entry))) }
 {
     match rule {
-        None | Some(RegisterRule::SameValue) => register.is_kept,
-        Some(RegisterRule::Offset(offset)) => is_slot(register.slot, offset),
-        Some(_) => false,
+        RegisterRule::SameValue => register.is_kept,
+        RegisterRule::Offset(offset) => is_slot(register.slot, offset),
+        _ => false,
     }
 }
 
@@ -209,21 +208,52 @@ fn is_slot(slot: Option<u64>, offset: u64) -> bool
     }
 }
 
-// The first column that has a rule and may have none.
-fn first_unasked(row: &RowRef<'_, '_>) -> Option<Register>
-    ensures { MatchOption result (HasNoOthers row.now.rules)
-        (λ column. IsUnasked row.now.rules column.0) }
+// The first column that has to have a rule and has none: the return address, or a callee-saved
+// register that isn't kept.
+fn first_lacking(row: &RowRef<'_, '_>, known: &ClaimedFacts) -> Option<Register>
+    ensures { MatchOption result (LacksNone (facts_of known.now) row.now.rules)
+        (λ column. IsOtherRule (facts_of known.now) column.0
+        (rule_in row.now.rules column.0)) }
 {
-    for (register, _) in row.registers() {
-        if !may_have_rule(register) {
-            return Some(register);
-        }
+    let registers = &known.registers;
+    if !has_rule(row, RETURN_ADDRESS) {
+        return Some(RETURN_ADDRESS);
+    }
+    if lacks(row, RBX, registers.rbx) {
+        return Some(RBX);
+    }
+    if lacks(row, RBP, registers.rbp) {
+        return Some(RBP);
+    }
+    if lacks(row, R12, registers.r12) {
+        return Some(R12);
+    }
+    if lacks(row, R13, registers.r13) {
+        return Some(R13);
+    }
+    if lacks(row, R14, registers.r14) {
+        return Some(R14);
+    }
+    if lacks(row, R15, registers.r15) {
+        return Some(R15);
     }
     None
 }
 
-fn may_have_rule(column: Register) -> bool
-    ensures { result ≡ may_have_rule column.0 }
+// Whether a register that isn't kept has no rule.
+fn lacks(row: &RowRef<'_, '_>, column: Register, register: KnownRegister) -> bool
+    ensures { result ≡ lacks register (rule_in row.now.rules column.0) }
 {
-    matches!(column.0, 3 | 6 | 12 | 13 | 14 | 15 | 16)
+    !register.is_kept && !has_rule(row, column)
+}
+
+fn has_rule(row: &RowRef<'_, '_>, column: Register) -> bool
+    ensures { result ≡ is_some (rule_in row.now.rules column.0) }
+{
+    for (register, _) in row.registers() {
+        if register.0 == column.0 {
+            return true;
+        }
+    }
+    false
 }

@@ -1,6 +1,8 @@
 -- What is written of an audit.
 use Rattle.std.specs.Prelude.{ℕ, ◌+◌, Bool, true, false, ◌||◌, ◌==◌, List, [], ◌∷◌, ◌++◌, Option, Some, None, codes, if◌then◌else◌}
 use Rattle.std.specs.Fmt.{decimal}
+use Rattle.fact_checks.specs.declared.auditing.AuditError.{AuditError}
+use Rattle.fact_checks.specs.declared.auditing.AuditError.TheVariants as error
 use Rattle.fact_checks.specs.declared.rows.Mismatch.{Mismatch}
 use Rattle.fact_checks.specs.declared.rows.Mismatch.TheVariants as mismatch
 use Rattle.fact_checks.specs.declared.stretches.Difference.{Difference}
@@ -44,3 +46,9 @@ differing_after last (d ∷ ds) = (if is_without_row d.mismatch || is_claim last
 
 abbrev pub audit_report : ℕ → List Difference → List ℕ
 audit_report claims ds = difference_lines ds ++ line (codes "claims " ++ decimal claims) ++ line (codes "differ " ++ decimal (differing_after None ds)) ++ line (codes "without a row " ++ decimal (without_row ds))
+
+-- why claims aren't audited
+abbrev pub refused_line : AuditError → List ℕ
+refused_line (error.Claim i) = line (codes "refused: claim " ++ decimal i)
+refused_line error.Tables = line (codes "refused: no frame table")
+refused_line error.NoMemory = []

@@ -1,33 +1,36 @@
 // A module and what is claimed of its code.
-ghost use Rattle.std.specs.Prelude.{◌≡◌, ◌↔◌, ℕ, [], Some, IfErr, IfOk, map, slice_get};
-ghost use Rattle.unwind_definitions.specs.Module.{bases_of};
-ghost use Rattle.unwind_definitions.specs.Scan.{fdes_of};
-ghost use Rattle.frame_facts.specs.FactTables.{HasTables};
-ghost use Rattle.frame_facts.specs.Claims.{Claim, IsClaimSaid};
-ghost use Rattle.table_check.specs.Modules.{module_of};
-ghost use Rattle.fact_checks.specs.Audits.{AreAudited, NoneOf, RefusesAudit};
-ghost use Rattle.fact_checks.specs.ClaimViews.{claim_of};
-ghost use Rattle.stack_snapshot.specs.Content.{image_of};
+ghost use Rattle.std.specs.Prelude.{◌≡◌, ◌⊎◌, Some, None, IfErr, IfOk};
+ghost use Rattle.serde_json.specs.View.{view};
+ghost use Rattle.fact_checks.specs.declared.auditing.AuditError.{AuditError as Refusal};
 ghost use Rattle.stack_snapshot.specs.declared.errors.SnapshotError.TheVariants.{NoMemory};
 ghost use Rattle.fact_claims.specs.declared.code.ClaimsError.TheVariants.{Snapshot};
-ghost use Rattle.fact_claims.specs.Code.{IsReadAs, one_frame};
+ghost use Rattle.fact_claims.specs.Code.{AreDifferencesIn, GivesCode, code_in, code_of, one_frame};
+ghost use Rattle.fact_claims.specs.Code.{refusal_in};
 
 use crate::reading::claims_in;
 use fact_checks::{AuditError, ClaimedFacts, Difference, audit};
 use fde_finders::FrameInfo;
+use serde_json::Value;
 use stack_snapshot::{Field, MemorySnapshot, SnapshotError, memory_of, value_in};
 use stack_steps::{Module, ModuleTables};
 use std::alloc::{AllocError, Global};
+use std::marker::Model;
 
-/// Memory with one ELF module in it, and what is claimed of the module's code.
+/// Memory with one ELF module in it, where the module's frame table is, and what is claimed of the
+/// module's code.
 #[derive(Drop)]
 pub struct ClaimedCode {
-    /// The memory, and the module.
-    pub memory: MemorySnapshot,
-    /// Where the module's frame table is.
-    pub frame: FrameInfo,
-    /// The claims.
-    pub claims: Vec<ClaimedFacts>,
+    memory: MemorySnapshot,
+    frame: FrameInfo,
+    claims: Vec<ClaimedFacts>,
+}
+
+impl Model for ClaimedCode {
+    ghost use Rattle.fact_claims.specs.Code.{CodeContent};
+
+    ghost Value = { CodeContent };
+
+    ghost view = { λ c. record { memory = c.memory; frame = c.frame; claims = c.claims.items } };
 }
 
 /// Why bytes say no claims.
@@ -58,26 +61,24 @@ impl From<AllocError> for ClaimsError {
 }
 
 impl ClaimedCode {
+    /// What is claimed.
+    pub fn claims(&self) -> &[ClaimedFacts]
+        ensures { result.now ≡ self.now.claims }
+    {
+        &self.claims
+    }
+
     /// Where the module's tables don't say what is claimed, as `audit` of `fact_checks` finds it.
     ///
     /// # Errors
     ///
     /// Those of that call.
     pub fn audit(&self, alloc: Global) -> Result<Vec<Difference>, AuditError>
-        ensures refused { IfErr result (λ error. RefusesAudit (image_of [] self.now.memory.regions)
-            self.now.frame (map claim_of self.now.claims.items) error) }
-        ensures audited { IfOk result (λ differences. (start end : ℕ)
-            (d : HasTables (image_of [] self.now.memory.regions)
-            (module_of start end self.now.frame)) →
-            AreAudited (bases_of (module_of start end self.now.frame) d.frame) (fdes_of d.entries) 0
-            (map claim_of self.now.claims.items) differences.items) }
-        ensures exact { IfOk result (λ differences. (start end : ℕ)
-            (d : HasTables (image_of [] self.now.memory.regions)
-            (module_of start end self.now.frame)) (i : ℕ) (claim : Claim) →
-            slice_get (map claim_of self.now.claims.items) i ≡ Some claim →
-            NoneOf i differences.items ↔
-            IsClaimSaid (bases_of (module_of start end self.now.frame) d.frame) (fdes_of d.entries)
-            claim) }
+        ensures refused { IfErr result (λ error.
+            (error ≡ Refusal.NoMemory) ⊎ (refusal_in self.now ≡ Some error)) }
+        ensures taken { IfOk result (λ differences. refusal_in self.now ≡ None) }
+        ensures audited { IfOk result (λ differences.
+            AreDifferencesIn self.now differences.items) }
     {
         let image = self.memory.image(alloc)?;
         audit(alloc, &image, self.frame, &self.claims)
@@ -97,6 +98,22 @@ fn one_frame(modules: &[Module]) -> Option<FrameInfo>
     }
 }
 
+/// The module and the claims that a value says, or what is faulty first. The claims are read first, so
+/// that the value can be let go with the memory's.
+#[tactic(auto, unfolding(crate::specs::Code::code_of))]
+fn code_of(alloc: Global, value: Value) -> Result<ClaimedCode, ClaimsError>
+    ensures { GivesCode result (code_of (view value)) }
+{
+    let claims = claims_in(alloc, &value)?;
+    let memory = memory_of(alloc, value)?;
+    let frame = one_frame(memory.modules()).ok_or(SnapshotError::Bad(Field::Modules))?;
+    Ok(ClaimedCode {
+        memory,
+        frame,
+        claims: claims.ok_or(ClaimsError::Claims)?,
+    })
+}
+
 /// Reads a module and what is claimed of its code.
 ///
 /// # Errors
@@ -104,20 +121,8 @@ fn one_frame(modules: &[Module]) -> Option<FrameInfo>
 /// In this order: `Snapshot` with `NotJson` where the bytes are no JSON text, or with `Bad` and the
 /// first faulty field of memory and modules; `Claims`. `NoMemory` may come in the place of each.
 pub fn read_code(alloc: Global, bytes: &[u8]) -> Result<ClaimedCode, ClaimsError>
-    ensures { IsReadAs bytes.now result }
+    ensures { GivesCode result (code_in bytes.now) }
 {
     let value = value_in(alloc, bytes)?;
-    let claims = claims_in(alloc, &value)?;
-    let memory = memory_of(alloc, value)?;
-    let Some(frame) = one_frame(memory.modules()) else {
-        return Err(ClaimsError::Snapshot(SnapshotError::Bad(Field::Modules)));
-    };
-    match claims {
-        Some(claims) => Ok(ClaimedCode {
-            memory,
-            frame,
-            claims,
-        }),
-        None => Err(ClaimsError::Claims),
-    }
+    code_of(alloc, value)
 }

@@ -9,4 +9,4 @@ mod reading;
 mod tests;
 
 pub use code::{ClaimedCode, ClaimsError, read_code};
-pub use lines::audit_report;
+pub use lines::{audit_report, refused_line};

@@ -4,10 +4,10 @@ ghost use Rattle.std.specs.Fmt.{decimal};
 ghost use Rattle.stack_report.specs.Report.{line};
 ghost use Rattle.fact_claims.specs.Lines.{audit_report, difference_line, difference_lines};
 ghost use Rattle.fact_claims.specs.Lines.{differing_after, is_claim, is_without_row, mismatch_text};
-ghost use Rattle.fact_claims.specs.Lines.{without_row};
+ghost use Rattle.fact_claims.specs.Lines.{refused_line, without_row};
 
-use fact_checks::{Difference, Mismatch};
-use stack_report::Report;
+use fact_checks::{AuditError, Difference, Mismatch};
+use stack_report::{Report, line_of};
 use std::alloc::{AllocError, Global};
 
 /// Puts why what is claimed isn't said.
@@ -117,4 +117,28 @@ pub fn audit_report(
     put_number(&mut report, "differ ", differing(differences))?;
     put_number(&mut report, "without a row ", without_row(differences))?;
     Ok(report)
+}
+
+/// A line with a number after a label.
+fn numbered_line(alloc: Global, label: &str, number: usize) -> Result<Report, AllocError>
+    ensures { IfOk result (λ report. report ≡ line (label.now ++ decimal number)) }
+{
+    let mut report = Report::new(alloc);
+    put_number(&mut report, label, number)?;
+    Ok(report)
+}
+
+/// Says why claims aren't audited, in a line; nothing where memory ran out.
+///
+/// # Errors
+///
+/// `AllocError` where memory ran out.
+pub fn refused_line(alloc: Global, error: AuditError) -> Result<Report, AllocError>
+    ensures { IfOk result (λ report. report ≡ refused_line error) }
+{
+    match error {
+        AuditError::Claim(i) => numbered_line(alloc, "refused: claim ", i),
+        AuditError::Tables => line_of(alloc, "refused: no frame table"),
+        AuditError::NoMemory => Ok(Report::new(alloc)),
+    }
 }

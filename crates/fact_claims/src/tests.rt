@@ -34,7 +34,7 @@ fn reports(alloc: Global, parts: &[&str], expected: &str) -> Result<bool, Claims
     let code = read_code(alloc, &joined(alloc, parts)?)?;
     match code.audit(alloc) {
         Ok(differences) => {
-            let report = audit_report(alloc, code.claims.len(), &differences)?;
+            let report = audit_report(alloc, code.claims().len(), &differences)?;
             Ok(report.bytes() == expected.as_bytes())
         }
         Err(_) => Ok(false),

@@ -1,45 +1,39 @@
-use Rattle.std.proofs.Common.{refl, inl, inr}
-use Rattle.unwind_definitions.specs.Columns as column
-use Rattle.unwind_definitions.specs.State.{RBX, RBP, R12, R13, R14, R15, column_of}
-use Rattle.frame_rows.specs.Rules.{rule_in}
-use Rattle.frame_facts.specs.FactRows.{FindsKnown}
+use Rattle.std.proofs.Common.{◌≡◌, ℕ, List, map, sym, subst, ap}
+use Rattle.unwind_definitions.specs.Instructions.{Rule}
+use Rattle.frame_rows.specs.Left.{registers_left}
+use Rattle.frame_rows.specs.Rules.{entry_of, rule_meaning}
 use Rattle.fact_checks.specs.ClaimViews.{facts_of}
+use Rattle.fact_checks.specs.RowFacts.{IsOtherRule}
+use Rattle.fact_checks.proofs.Asked.{AreAskedBelow, all_say, first_is, more_asked, none_asked, other_by, or_lacking}
 use Rattle.fact_checks.proofs.Deciding.{fails}
-use Rattle.fact_checks.proofs.Known.{found_known, known_found}
-use Rattle.fact_checks.proofs.Rules.{all_say, each_register}
 use Rattle.fact_checks.proofs.rows.first_other_rule.Goals as goal
 
-pub returns-then-not-is_as_due : goal.returns-then-not-is_as_due
-returns-then-not-is_as_due c = inl (refl, λ said. fails c.is_as_due.result c.is_as_due.ensures c.if-not-is_as_due.true ((c.due_return.ensures (rule_in c.args.row.now.rules column.ra)).1 said))
+pub loop-column-init : goal.loop-column-init
+loop-column-init c =
+    let facts = facts_of c.args.known.now in
+    let rules = c.args.row.now.rules in
+    let same = c.into_iter-column-iterator.ensures.into_iter_gives in
+    let is : map entry_of (registers_left c.into_iter-column-iterator.result) ≡ rules = rw same c.registers-column-items.ensures.rules in
+    (0, subst (λ (left : List (ℕ × Rule)). AreAskedBelow facts rules left 0) (sym is) (none_asked facts rules c.registers-column-items.ensures.ascending))
 
-pub returns-then-not-is_as_due-2 : goal.returns-then-not-is_as_due-2
-returns-then-not-is_as_due-2 c = inr (inl (RBX, refl, λ finds. fails c.is_as_due-2.result c.is_as_due-2.ensures c.if-not-is_as_due-2.true (known_found c.args.known.now RBX (rule_in c.args.row.now.rules (column_of RBX)) finds)))
+pub loop-column-preserved : goal.loop-column-preserved
+loop-column-preserved c =
+    let facts = facts_of c.args.known.now in
+    let rules = c.args.row.now.rules in
+    let before = subst (λ (left : List (ℕ × Rule)). AreAskedBelow facts rules left c.loop-column.invariant.0) (ap (map entry_of) c.in-Some.ensures.steps) c.loop-column.invariant.1 in
+    (_, more_asked facts rules c.loop-column.invariant.0 c.in-Some.column.0 (rule_meaning c.in-Some.rule) _ before (c.is_asked.ensures.0 c.if-not-is_asked.false))
 
-pub returns-then-not-is_as_due-3 : goal.returns-then-not-is_as_due-3
-returns-then-not-is_as_due-3 c = inr (inl (RBP, refl, λ finds. fails c.is_as_due-3.result c.is_as_due-3.ensures c.if-not-is_as_due-3.true (known_found c.args.known.now RBP (rule_in c.args.row.now.rules (column_of RBP)) finds)))
-
-pub returns-then-not-is_as_due-4 : goal.returns-then-not-is_as_due-4
-returns-then-not-is_as_due-4 c = inr (inl (R12, refl, λ finds. fails c.is_as_due-4.result c.is_as_due-4.ensures c.if-not-is_as_due-4.true (known_found c.args.known.now R12 (rule_in c.args.row.now.rules (column_of R12)) finds)))
-
-pub returns-then-not-is_as_due-5 : goal.returns-then-not-is_as_due-5
-returns-then-not-is_as_due-5 c = inr (inl (R13, refl, λ finds. fails c.is_as_due-5.result c.is_as_due-5.ensures c.if-not-is_as_due-5.true (known_found c.args.known.now R13 (rule_in c.args.row.now.rules (column_of R13)) finds)))
-
-pub returns-then-not-is_as_due-6 : goal.returns-then-not-is_as_due-6
-returns-then-not-is_as_due-6 c = inr (inl (R14, refl, λ finds. fails c.is_as_due-6.result c.is_as_due-6.ensures c.if-not-is_as_due-6.true (known_found c.args.known.now R14 (rule_in c.args.row.now.rules (column_of R14)) finds)))
-
-pub returns-then-not-is_as_due-7 : goal.returns-then-not-is_as_due-7
-returns-then-not-is_as_due-7 c = inr (inl (R15, refl, λ finds. fails c.is_as_due-7.result c.is_as_due-7.ensures c.if-not-is_as_due-7.true (known_found c.args.known.now R15 (rule_in c.args.row.now.rules (column_of R15)) finds)))
+pub returns-then-not-is_asked : goal.returns-then-not-is_asked
+returns-then-not-is_asked c =
+    let facts = facts_of c.args.known.now in
+    let rules = c.args.row.now.rules in
+    let before = subst (λ (left : List (ℕ × Rule)). AreAskedBelow facts rules left c.loop-column.invariant.0) (ap (map entry_of) c.in-Some.ensures.steps) c.loop-column.invariant.1 in
+    let is = first_is facts rules c.loop-column.invariant.0 c.in-Some.column.0 (rule_meaning c.in-Some.rule) _ before in
+    subst (IsOtherRule facts c.in-Some.column.0) (sym is) (other_by c.args.known.now c.in-Some.column.0 (rule_meaning c.in-Some.rule) (fails c.is_asked.result c.is_asked.ensures c.if-not-is_asked.true))
 
 pub returns : goal.returns
 returns c =
-    let known = c.args.known.now in
+    let facts = facts_of c.args.known.now in
     let rules = c.args.row.now.rules in
-    all_say (facts_of known) rules c.first_unasked.result ((c.due_return.ensures (rule_in rules column.ra)).0 (c.is_as_due.ensures.0 c.if-not-is_as_due.false))
-    (each_register (λ r. FindsKnown (facts_of known) r (rule_in rules (column_of r)))
-    (found_known known RBX (rule_in rules (column_of RBX)) (c.is_as_due-2.ensures.0 c.if-not-is_as_due-2.false))
-    (found_known known RBP (rule_in rules (column_of RBP)) (c.is_as_due-3.ensures.0 c.if-not-is_as_due-3.false))
-    (found_known known R12 (rule_in rules (column_of R12)) (c.is_as_due-4.ensures.0 c.if-not-is_as_due-4.false))
-    (found_known known R13 (rule_in rules (column_of R13)) (c.is_as_due-5.ensures.0 c.if-not-is_as_due-5.false))
-    (found_known known R14 (rule_in rules (column_of R14)) (c.is_as_due-6.ensures.0 c.if-not-is_as_due-6.false))
-    (found_known known R15 (rule_in rules (column_of R15)) (c.is_as_due-7.ensures.0 c.if-not-is_as_due-7.false)))
-    c.first_unasked.ensures
+    let below = subst (λ (left : List (ℕ × Rule)). AreAskedBelow facts rules left c.loop-column.invariant.0) (ap (map entry_of) c.in-None.ensures.steps.0) c.loop-column.invariant.1 in
+    or_lacking facts rules c.first_lacking.result (all_say facts rules c.loop-column.invariant.0 below) c.first_lacking.ensures
