@@ -6,7 +6,7 @@ use Rattle.std.proofs.lemmas.Bool.{ltb-true, leb-true}
 use Rattle.memory_image.specs.Image.{IsLaidOut}
 use Rattle.memory_image.specs.Results.{result_map}
 use Rattle.unwind_definitions.specs.Pointers.{Bases}
-use Rattle.unwind_definitions.specs.Row.{row_at}
+use Rattle.unwind_definitions.specs.Row.{argument_size, row_at}
 use Rattle.unwind_definitions.specs.LanguageTable.{input_at}
 use Rattle.unwind_definitions.specs.Function.{Action, NoAction}
 use Rattle.unwind_definitions.specs.LanguageSearch.{address_of_call, personality_address, language_action}
@@ -40,11 +40,13 @@ use Rattle.stack_steps.specs.Modules.{SpaceValue, AreApart, module_at}
 use Rattle.stack_steps.specs.SpaceViews.{tables_of, elf_module, process_of}
 use Rattle.stack_steps.specs.Stepping.{step_of, FrameAt, Described, frame_of, caller_by}
 use Rattle.stack_steps.specs.Asking.{action_if_named, described_action, table_if_named}
+use Rattle.stack_steps.specs.declared.asking.FrameAction.{FrameAction}
+use Rattle.stack_steps.specs.Languages.{Languages, described_asks, found_in}
 use Rattle.stack_steps.specs.Undoing.{Undone}
 use Rattle.stack_steps.specs.Interrupting.{Interrupted}
 use Rattle.stack_steps.proofs.HeaderFinds.{header_finds}
 use Rattle.stack_steps.proofs.StepParts.{some_next, stepped_by, step_is}
-use Rattle.stack_steps.specs.KnownFrames.{MeetsFrame}
+use Rattle.stack_steps.specs.KnownFrames.{MeetsAsked, MeetsFrame}
 use Rattle.stack_steps.proofs.StepUndone.{IsOf, contains_map, module_at-contains, context_of-holds}
 
 -- By the tables that the module of an address names, the description that a scan of its frame table has for the address is found.
@@ -214,6 +216,25 @@ module _ (space : SpaceValue) (c : Context) (interrupted : Bool) (s t : State) (
         framed = left.framed;
         asks = asked_there (found_by false step.finds) a known.routine x asked known.personality known.silent known.asks;
         size = sym asks.size;
+        next = left.next;
+        called = left.called;
+        unmarked = left.unmarked;
+        shows = left.caller_shows;
+      }
+
+  -- The same by the rules of languages: what the description that says the facts asks there.
+  pub facts_asked : (languages : Languages) (facts : Facts) (fits : IsState t) (said : AreSaidAt (process_of space) (address_asked interrupted s) facts) (stands : StandsWith space.image facts t s) (action : FrameAction) (arguments : ℕ) →
+      described_asks languages space.image (address_asked interrupted s) (found_in said) ≡ Ok action → arguments ≡ argument_size said.says.row.0 → MeetsAsked languages space c interrupted action arguments t
+  facts_asked languages facts fits said stands action arguments asks size =
+      let a : ℕ = address_asked interrupted s in
+      let step : StepsOut (process_of space) (evaluation space.image) (columns_of c) a t = steps_out (process_of space) (evaluation space.image) a facts s t (columns_of c) said stands fits shows in
+      let left : IsLeft (frame_by false step.finds) = is_left step in
+      let at : address_of_call c.ra interrupted ≡ a = ap (λ (ra : ℕ). address_of_call ra interrupted) ra_is ∙ asked in
+      record {
+        frame = frame_by false step.finds;
+        framed = left.framed;
+        asks = ap (λ (b : ℕ). described_asks languages space.image b (found_by false step.finds)) at ∙ asks;
+        size = sym size;
         next = left.next;
         called = left.called;
         unmarked = left.unmarked;

@@ -16,7 +16,7 @@ use Rattle.unwind_definitions.specs.Prologue.{SystemV}
 use Rattle.unwind_definitions.specs.Function.{Action, Function, IsFunction, action_at}
 use Rattle.unwind_definitions.specs.Chain.{Call, IsCalled}
 use Rattle.unwind_definitions.specs.Module as described
-use Rattle.unwind_definitions.specs.Valid.{LiesDescribed}
+use Rattle.unwind_definitions.specs.Valid.{LiesInElf}
 use Rattle.unwind_laws.specs.Found.{AsksAs}
 use Rattle.unwind_laws.specs.Walked.{Steps}
 use Rattle.unwind_laws.proofs.Asked.{asks_as, ends_below}
@@ -46,10 +46,10 @@ use Rattle.stack_steps.proofs.StepParts.{some_next, stepped_by, step_is}
 use Rattle.stack_steps.proofs.StepUndone.{IsOf, contains_map, module_at-contains, context_of-holds}
 
 -- A call of a function that one of the ELF modules of a process describes.
-pub record IsDescribedCall (p : described.Process) (functions : List Function) (s : State) (c : Call) : Type 0 where
+pub record IsElfCall (p : described.Process) (functions : List Function) (s : State) (c : Call) : Type 0 where
   pub is_function : IsFunction SystemV c.callee
   pub listed : Contains functions c.callee
-  pub lies : LiesDescribed p functions c.callee
+  pub lies : LiesInElf p functions c.callee
   pub called : IsCalled p.image s c
   pub caller : IsState c.caller
   pub ends : IsTrue c.callee.outermost → c.caller.ra ≡ 0
@@ -84,7 +84,7 @@ asked_as image c interrupted found f a asks at = ap asked asks.personality ∙ g
     go (Some routine) silent = rw (at, asks.action a) refl
 
 module _ (space : SpaceValue) (c : Context) (functions : List Function) (s : State) (call : Call) (apart : AreApart 0 space.modules) (laid : IsLaidOut 0 space.image)
-    (is : IsDescribedCall (process_of space) functions s call) (shows : Shows (columns_of c) s) where
+    (is : IsElfCall (process_of space) functions s call) (shows : Shows (columns_of c) s) where
   abbrev step : Steps (process_of space) (evaluation space.image) (columns_of c) (s.ra - 1) call
   step = one_step (process_of space) (evaluation space.image) functions (s.ra - 1) s call (columns_of c)
       record { is_function = is.is_function; listed = is.listed; lies = is.lies; inside = is.called.inside; entered = is.called.entered; caller = is.caller; ends = is.ends } shows

@@ -56,7 +56,7 @@ use Rattle.stack_steps.specs.Stepping.{next_with, described_caller, compact_next
 use Rattle.stack_steps.specs.Stepping.{FindsNone, FindsNoneIn, HasNoDescription, EndsAt, IsHeldBy, RowFaults, DescriptionFaults, TablesFault, FaultsAt, SectionFaults, IsUnreadSection, HasNoForm, IsWithoutForm}
 use Rattle.stack_steps.specs.Stepping.{SaysUnread, RecordsUnread, IsUnreadInfo, ChainsTooMany, IsChainedTooLong, DescriptionReads, TablesRead, ReadIsUnmapped, DescriptionGives, TablesGive, GivesCaller}
 use Rattle.stack_steps.proofs.RowReads.{unmapped_caller, caller_is_unmapped, reads_no_word}
-use Rattle.stack_steps.proofs.FormatWords.{macho_word, pe_word}
+use Rattle.stack_steps.proofs.Words.{macho_word, pe_word}
 use Rattle.stack_steps.proofs.StepParts.{some_next, stepped_by, step_is, none_framed}
 
 -- the errors that a step may have

@@ -23,9 +23,9 @@ use Rattle.unwind_laws.proofs.RowFacts.{by_register, state_fits, unnamed, same_e
 use Rattle.unwind_laws.proofs.Steady.{is_steady, same_row_at}
 use Rattle.unwind_laws.proofs.PushingValid.{one_valid}
 use Rattle.unwind_arch.specs.ContextViews.{columns_of}
-use Rattle.format_definitions.specs.FormatModules.{FormatModule, in_format, LiesInFormat}
-use Rattle.format_definitions.specs.FormatModules as formats
-use Rattle.format_definitions.specs.FormatStops.{IsFormatStop}
+use Rattle.format_definitions.specs.Modules.{FormatModule, in_format, LiesDescribed}
+use Rattle.format_definitions.specs.Modules as formats
+use Rattle.format_definitions.specs.Stops.{IsDescribedStop}
 use Rattle.stack_steps.specs.StopSample.{image, home, modules, fde, entries, in_body_run, function, call, before_steps, after_push, after_set, after_late_push, after_allocation, after_store, in_body_of_it, pushing_space, stopped_at, before_push, after_the_push}
 use Rattle.stack_steps.specs.SpaceViews.{formats_of}
 use Rattle.stack_steps.specs.Stopped.{StartsStopped}
@@ -235,7 +235,7 @@ caller_fits : IsState call.caller
 caller_fits = state_fits call.caller (lit< tt) (lit< tt) (lit< tt) (lit< tt) (lit< tt) (lit< tt) (lit< tt) (lit< tt)
 
 -- a stop in the prologue of the function
-stop_in_prologue : (done later : List PrologueStep) (s : State) → s.ra ≢ 0 → StandsAfter image function done later call.caller s → IsFormatStop image modules (function ∷ []) s call
+stop_in_prologue : (done later : List PrologueStep) (s : State) → s.ra ≢ 0 → StandsAfter image function done later call.caller s → IsDescribedStop image modules (function ∷ []) s call
 stop_in_prologue done later s returns stands = record {
   inner = refl;
   listed = (0, lit< tt, refl);
@@ -264,7 +264,7 @@ stands_before_steps = record {
   below = lit< tt;
 }
 
-pub stopped_before_steps : IsFormatStop image modules (function ∷ []) before_steps call
+pub stopped_before_steps : IsDescribedStop image modules (function ∷ []) before_steps call
 stopped_before_steps = stop_in_prologue done_before_steps (record { step = Push (Followed RBP); end = 1 } ∷ record { step = SetFrame 0; end = 4 } ∷ record { step = Push (Followed RBX); end = 5 } ∷ record { step = Allocate 24; end = 9 } ∷ record { step = Store (Followed R12) 8; end = 14 } ∷ []) before_steps (λ e. absurd cc) stands_before_steps
 
 abbrev done_after_push : List PrologueStep
@@ -286,7 +286,7 @@ stands_after_push = record {
   below = lit< tt;
 }
 
-pub stopped_after_push : IsFormatStop image modules (function ∷ []) after_push call
+pub stopped_after_push : IsDescribedStop image modules (function ∷ []) after_push call
 stopped_after_push = stop_in_prologue done_after_push (record { step = SetFrame 0; end = 4 } ∷ record { step = Push (Followed RBX); end = 5 } ∷ record { step = Allocate 24; end = 9 } ∷ record { step = Store (Followed R12) 8; end = 14 } ∷ []) after_push (λ e. absurd cc) stands_after_push
 
 abbrev done_after_set : List PrologueStep
@@ -308,7 +308,7 @@ stands_after_set = record {
   below = lit< tt;
 }
 
-pub stopped_after_set : IsFormatStop image modules (function ∷ []) after_set call
+pub stopped_after_set : IsDescribedStop image modules (function ∷ []) after_set call
 stopped_after_set = stop_in_prologue done_after_set (record { step = Push (Followed RBX); end = 5 } ∷ record { step = Allocate 24; end = 9 } ∷ record { step = Store (Followed R12) 8; end = 14 } ∷ []) after_set (λ e. absurd cc) stands_after_set
 
 abbrev done_after_late_push : List PrologueStep
@@ -330,7 +330,7 @@ stands_after_late_push = record {
   below = lit< tt;
 }
 
-pub stopped_after_late_push : IsFormatStop image modules (function ∷ []) after_late_push call
+pub stopped_after_late_push : IsDescribedStop image modules (function ∷ []) after_late_push call
 stopped_after_late_push = stop_in_prologue done_after_late_push (record { step = Allocate 24; end = 9 } ∷ record { step = Store (Followed R12) 8; end = 14 } ∷ []) after_late_push (λ e. absurd cc) stands_after_late_push
 
 abbrev done_after_allocation : List PrologueStep
@@ -352,7 +352,7 @@ stands_after_allocation = record {
   below = lit< tt;
 }
 
-pub stopped_after_allocation : IsFormatStop image modules (function ∷ []) after_allocation call
+pub stopped_after_allocation : IsDescribedStop image modules (function ∷ []) after_allocation call
 stopped_after_allocation = stop_in_prologue done_after_allocation (record { step = Store (Followed R12) 8; end = 14 } ∷ []) after_allocation (λ e. absurd cc) stands_after_allocation
 
 abbrev done_after_store : List PrologueStep
@@ -374,7 +374,7 @@ stands_after_store = record {
   below = lit< tt;
 }
 
-pub stopped_after_store : IsFormatStop image modules (function ∷ []) after_store call
+pub stopped_after_store : IsDescribedStop image modules (function ∷ []) after_store call
 stopped_after_store = stop_in_prologue done_after_store ([]) after_store (λ e. absurd cc) stands_after_store
 
 entered : IsEntered image false (steps_of function.prologue) call.caller in_body_of_it
@@ -387,7 +387,7 @@ entered = record {
   keeps = by_register (λ r. distance r (steps_of function.prologue) ≡ None → value_of r in_body_of_it ≡ value_of r call.caller) (λ e. absurd cc) (λ e. absurd cc) (λ e. absurd cc) (λ e. refl) (λ e. refl) (λ e. refl);
 }
 
-pub stopped_in_body : IsFormatStop image modules (function ∷ []) in_body_of_it call
+pub stopped_in_body : IsDescribedStop image modules (function ∷ []) in_body_of_it call
 stopped_in_body = record {
   inner = refl;
   listed = (0, lit< tt, refl);
@@ -398,7 +398,7 @@ stopped_in_body = record {
 }
 
 -- ---- walks from a function that pushes RBX
-pushing_lies : LiesInFormat pushing.image (formats_of pushing_space) (pushing.function ∷ []) pushing.function
+pushing_lies : LiesDescribed pushing.image (formats_of pushing_space) (pushing.function ∷ []) pushing.function
 pushing_lies = record { home = formats.Elf pushing.module_of_it; known = (0, lit< tt, refl); inside = refl; is_function = one_valid.are_functions.0; describes = one_valid.modules.0 }
 
 pushing_shows : (ra : ℕ) → Shows (columns_of (stopped_at ra)) (pushing.state ra 0x7000 9)

@@ -8,7 +8,7 @@ use Rattle.unwind_definitions.specs.Prologue.{SystemV, steps_of}
 use Rattle.unwind_definitions.specs.Function.{Function, IsFunction}
 use Rattle.unwind_definitions.specs.Chain.{Call}
 use Rattle.unwind_definitions.specs.Module.{Process}
-use Rattle.unwind_definitions.specs.Valid.{LiesDescribed}
+use Rattle.unwind_definitions.specs.Valid.{LiesInElf}
 use Rattle.unwind_laws.specs.Walked.{CanStep, CanStepInside}
 use Rattle.frame_facts.specs.Facts.{Facts, StandsWith}
 use Rattle.frame_facts.specs.FactTables.{AreSaidAt}
@@ -20,21 +20,21 @@ use Rattle.stack_steps.specs.Modules.{SpaceValue, AreApart}
 use Rattle.stack_steps.specs.SpaceViews.{process_of}
 use Rattle.stack_steps.specs.Stepping.{step_of}
 use Rattle.stack_steps.specs.Undoing.{Undone}
-use Rattle.format_definitions.specs.FormatStops.{StandsInPrologue, StandsInBody}
+use Rattle.format_definitions.specs.Stops.{StandsInPrologue, StandsInBody}
 use Rattle.stack_steps.proofs.FactSteps.{facts_undone}
 
 -- A stop in a function that one of the ELF modules of a process describes.
-pub record IsDescribedStop (p : Process) (functions : List Function) (s : State) (c : Call) : Type 0 where
+pub record IsElfStop (p : Process) (functions : List Function) (s : State) (c : Call) : Type 0 where
   pub is_function : IsFunction SystemV c.callee
   pub inner : IsFalse c.callee.outermost
   pub listed : Contains functions c.callee
-  pub lies : LiesDescribed p functions c.callee
+  pub lies : LiesInElf p functions c.callee
   pub returns : s.ra ≢ 0
   pub stands : StandsInPrologue p.image s c ⊎ StandsInBody p.image s c
   pub caller : IsState c.caller
 
 -- What is known where a described function was stopped: by the steps that have run in its prologue, or in its body.
-module _ (space : SpaceValue) (s : State) (call : Call) (functions : List Function) (is : IsDescribedStop (process_of space) functions s call) where
+module _ (space : SpaceValue) (s : State) (call : Call) (functions : List Function) (is : IsElfStop (process_of space) functions s call) where
   pub record HasFacts : Type 0 where
     pub facts : Facts
     pub said : AreSaidAt (process_of space) s.ra facts
@@ -63,7 +63,7 @@ module _ (space : SpaceValue) (s : State) (call : Call) (functions : List Functi
 
 -- The step answers its caller.
 pub stopped_undone : (space : SpaceValue) (c : Context) (s : State) (call : Call) → AreApart 0 space.modules → IsLaidOut 0 space.image → s.ra ≢ 0 → Shows (columns_of c) s →
-    (functions : List Function) → IsDescribedStop (process_of space) functions s call → Undone (step_of space c true) (columns_of c) call.caller
+    (functions : List Function) → IsElfStop (process_of space) functions s call → Undone (step_of space c true) (columns_of c) call.caller
 stopped_undone space c s call apart laid some shows functions is =
     let known : HasFacts space s call functions is = stop_facts space s call functions is in
     facts_undone space c true s call.caller apart laid some refl shows known.facts is.caller known.said known.stands

@@ -29,9 +29,9 @@ IsKeptRow (Ok row) run = IsRowOf row run
 IsKeptRow (Err e) run = ⊥
 
 -- a frame is that of a description, with such a row
-abbrev pub IsDescribedBy : FoundFde → (RowInstructions → Type 0) → FrameAt → Type 0
-IsDescribedBy found IsRow (Described f) = (found ≡ f.found) × IsRow f.run
-IsDescribedBy found IsRow _ = ⊥
+abbrev pub IsDescribedAt : FoundFde → (RowInstructions → Type 0) → FrameAt → Type 0
+IsDescribedAt found IsRow (Described f) = (found ≡ f.found) × IsRow f.run
+IsDescribedAt found IsRow _ = ⊥
 
 abbrev pub compact_frame_of : CompactFrame → FrameAt
 compact_frame_of f = Compact (macho_module f.container) f.function
@@ -41,8 +41,8 @@ recorded_frame_of f = Recorded (pe_module f.container) f.rva (lookup_of (functio
 
 -- what was found, and its row, as a frame of the definitions
 abbrev pub IsFrameOf : FoundFrame → FrameAt → Type 0
-IsFrameOf (code.Searched frame) due = IsDescribedBy (found_fde_of frame.found.now) (IsRowOf frame.row) due
-IsFrameOf (code.Prepared table frame) due = IsDescribedBy (prepared_fde table.now frame.fde) (IsKeptRow frame.row) due
+IsFrameOf (code.Searched frame) due = IsDescribedAt (found_fde_of frame.found.now) (IsRowOf frame.row) due
+IsFrameOf (code.Prepared table frame) due = IsDescribedAt (prepared_fde table.now frame.fde) (IsKeptRow frame.row) due
 IsFrameOf (code.Compact frame) due = due ≡ compact_frame_of frame
 IsFrameOf (code.Recorded frame) due = due ≡ recorded_frame_of frame
 

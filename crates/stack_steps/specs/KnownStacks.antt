@@ -10,9 +10,9 @@ use Rattle.unwind_definitions.specs.Chain.{Call}
 use Rattle.frame_facts.specs.Facts.{Facts}
 use Rattle.frame_facts.specs.FactChains.{address_asked, IsFactLink}
 use Rattle.frame_facts.specs.SignalFrames.{SignalFrame, IsSignalLink}
-use Rattle.format_definitions.specs.FormatCalls.{IsFormatCall}
-use Rattle.format_definitions.specs.FormatModules.{FormatModule, Elf, Macho, Pe, IsUncoveredBy}
-use Rattle.format_definitions.specs.FormatStops.{IsFormatStop}
+use Rattle.format_definitions.specs.Calls.{IsDescribedCall}
+use Rattle.format_definitions.specs.Modules.{FormatModule, Elf, Macho, Pe, IsUncoveredBy}
+use Rattle.format_definitions.specs.Stops.{IsDescribedStop}
 use Rattle.stack_steps.specs.Modules.{SpaceValue}
 use Rattle.stack_steps.specs.SpaceViews.{process_of, formats_of}
 
@@ -32,7 +32,7 @@ module _ (space : SpaceValue) where
     pub state : IsState s
     pub functions : List Function
     pub call : Call
-    pub called : IsFormatCall space.image (formats_of space) functions s call
+    pub called : IsDescribedCall space.image (formats_of space) functions s call
     pub other : IsOtherFormat called.lies.home
     pub caller : call.caller ≡ t
 
@@ -40,7 +40,7 @@ module _ (space : SpaceValue) where
   pub record IsOtherStop (s t : State) : Type 0 where
     pub functions : List Function
     pub call : Call
-    pub stopped : IsFormatStop space.image (formats_of space) functions s call
+    pub stopped : IsDescribedStop space.image (formats_of space) functions s call
     pub other : IsOtherFormat stopped.lies.home
     pub caller : call.caller ≡ t
 

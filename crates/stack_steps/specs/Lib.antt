@@ -1,4 +1,5 @@
 pub mod Asking
+pub mod Languages
 pub mod FrameViews
 pub mod Growing
 pub mod GrownSample
@@ -12,7 +13,7 @@ pub mod StopSample
 pub mod Stopped
 pub mod Ticking
 pub mod Undoing
-pub mod FormatViews
+pub mod Views
 pub mod FormatStopSample
 pub mod KnownStacks
 pub mod Interrupting

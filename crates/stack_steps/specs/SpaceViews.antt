@@ -8,8 +8,8 @@ use Rattle.fde_finders.specs.declared.custom.FrameInfoKind.TheVariants.{EhFrame,
 use Rattle.stack_steps.specs.declared.space.Module.{Module}
 use Rattle.stack_steps.specs.declared.space.ModuleTables.{ModuleTables}
 use Rattle.stack_steps.specs.declared.space.ModuleTables.TheVariants.{Elf, Macho, Pe}
-use Rattle.format_definitions.specs.FormatModules.{FormatModule}
-use Rattle.format_definitions.specs.FormatModules as formats
+use Rattle.format_definitions.specs.Modules.{FormatModule}
+use Rattle.format_definitions.specs.Modules as formats
 use Rattle.stack_steps.specs.Modules.{SpaceValue}
 use Rattle.stack_steps.specs.Stepping.{macho_of, pe_of}
 

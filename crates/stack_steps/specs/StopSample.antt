@@ -12,8 +12,8 @@ use Rattle.unwind_definitions.specs.Columns as column
 use Rattle.unwind_laws.specs.Pushing as pushing
 use Rattle.unwind_laws.specs.Storing.{cie, state}
 use Rattle.unwind_arch.specs.declared.x86_64.Context.{Context}
-use Rattle.format_definitions.specs.FormatModules.{FormatModule}
-use Rattle.format_definitions.specs.FormatModules as formats
+use Rattle.format_definitions.specs.Modules.{FormatModule}
+use Rattle.format_definitions.specs.Modules as formats
 use Rattle.fde_finders.specs.declared.custom.FrameInfoKind.TheVariants.{EhFrame}
 use Rattle.stack_steps.specs.declared.space.ModuleTables.TheVariants.{Elf}
 use Rattle.stack_steps.specs.Modules.{SpaceValue, without_index}

@@ -70,7 +70,7 @@ impl From<StepError> for DeliverError {
 }
 
 impl From<FrameError> for DeliverError {
-    ghost use Rattle.stack_steps.specs.FormatViews.{format_error};
+    ghost use Rattle.stack_steps.specs.Views.{format_error};
 
     ghost from_gives = { λ e r. r ≡ format_error e };
 

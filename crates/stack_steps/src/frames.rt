@@ -1,5 +1,6 @@
 // Frames of Mach-O and PE modules: what is found for an address, and the caller by it.
-ghost use Rattle.std.specs.Prelude.{◌≡◌, ◌-◌, ◌<◌, ◌≤◌, ◌^◌, Bool, List, OnErr};
+ghost use Rattle.std.specs.Prelude.{◌≡◌, ◌-◌, ◌<◌, ◌≤◌, ◌^◌, Bool, List, Ok, OnErr};
+ghost use Rattle.std.specs.Option.{option_map};
 ghost use Rattle.memory_image.specs.Image.{Span};
 ghost use Rattle.unwind_arch.specs.declared.x86_64.Context.{Context as Registers};
 ghost use Rattle.unwinding_frames.specs.LanguageViews.{action_of};
@@ -7,7 +8,7 @@ ghost use Rattle.unwinding_frames.specs.ContextSeen.{language_place_of};
 ghost use Rattle.unwind_definitions.specs.LanguageSearch.{address_of_call, place_action};
 ghost use Rattle.format_frames.specs.FrameData.{description_of};
 ghost use Rattle.format_frames.specs.Modules.{macho_module};
-ghost use Rattle.stack_steps.specs.Asking.{action_asked, or_terminate};
+ghost use Rattle.stack_steps.specs.Asking.{action_asked, named_table, or_terminate};
 ghost use Rattle.stack_steps.specs.FrameViews.{GivesFrameAt, compact_frame_of, recorded_frame_of};
 ghost use Rattle.memory_image.specs.Results.{result_map};
 ghost use Rattle.stack_steps.specs.Stepping.{caller_by, frame_by_tables, opcode_frame};
@@ -37,6 +38,18 @@ pub struct CompactFrame {
 }
 
 impl CompactFrame {
+    /// Where the function's language table stands, `None` where it has none.
+    #[inline(never)]
+    pub(crate) fn place(&self, image: &MemoryImage<'_>) -> Result<Option<Place>, DeliverError>
+        ensures { result_map (option_map (λ p. Ok (language_place_of p))) result ≡
+            named_table image.now (compact_frame_of self.now) }
+    {
+        match macho_place(image, &self.container, &self.function) {
+            Ok(place) => Ok(place),
+            Err(error) => Err(DeliverError::MachO(error)),
+        }
+    }
+
     /// What the function asks at an address: what its language table says, or nothing where it has
     /// none. A table that can't be read ends the program.
     #[inline(never)]
@@ -96,6 +109,16 @@ pub struct RecordedFrame<'a> {
 }
 
 impl<'a> RecordedFrame<'a> {
+    /// Where the function's language table stands: the data of the handler that a record of it names.
+    /// `None` where none does.
+    #[inline(never)]
+    pub(crate) fn place(&self, image: &MemoryImage<'_>) -> Result<Option<Place>, DeliverError>
+        ensures { result_map (option_map (λ p. Ok (language_place_of p))) result ≡
+            named_table image.now (recorded_frame_of self.now) }
+    {
+        Ok(pe_place(image, &self.container, &self.functions, self.rva)?)
+    }
+
     /// What the function asks at an address: what the language table of the handler that a record of it
     /// names says, or nothing where none does. A table that can't be read ends the program.
     #[inline(never)]

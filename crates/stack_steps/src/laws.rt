@@ -1,7 +1,12 @@
-//! A space whose module becomes prepared, as a function with an empty body: what stands in its
-//! contract is proved.
+//! Laws as functions with empty bodies: what stands in their contracts is proved.
 
-ghost use Rattle.std.specs.Prelude.{◌≡◌, ◌<◌, ℕ};
+ghost use Rattle.std.specs.Prelude.{◌≡◌, ◌<◌, ℕ, Bool, List};
+ghost use Rattle.memory_image.specs.Image.{Span};
+ghost use Rattle.memory_image.specs.Results.{result_map};
+ghost use Rattle.unwind_arch.specs.declared.x86_64.Context.{Context};
+ghost use Rattle.stack_steps.specs.Asking.{action_asked};
+ghost use Rattle.stack_steps.specs.Languages.{asked_by_rust, frame_asks, rust_alone};
+ghost use Rattle.stack_steps.specs.Stepping.{FrameAt};
 ghost use Rattle.stack_steps.specs.Modules.{SpaceValue};
 ghost use Rattle.stack_steps.specs.Preparing.{Prepares, prepared_len};
 ghost use Rattle.stack_steps.specs.PreparedSample.{prepared_space, unprepared_space};
@@ -14,4 +19,12 @@ pub fn a_module_is_prepared()
     ensures always { (count : ℕ) (space : SpaceValue) → Prepares unprepared_space count space →
         0 < prepared_len space 0x401006 }
     ensures indexed { prepared_len prepared_space 0x401006 ≡ 1 }
+{}
+
+/// Where no routine is C++'s, each frame asks what its language table says by the rule of Rust. The
+/// function does nothing.
+pub fn rust_alone_asks_by_rust()
+    ensures { (image : List Span) (c : Context) (interrupted : Bool) (f : FrameAt) →
+        frame_asks rust_alone image c interrupted f ≡
+        result_map asked_by_rust (action_asked image c interrupted f) }
 {}

@@ -16,8 +16,8 @@ ghost use Rattle.fde_finders.specs.FoundViews.{found_fde_of};
 ghost use Rattle.fde_finders.specs.Named.{found_by, pairs_by};
 ghost use Rattle.frame_rows.specs.Rows.{IsRowOf};
 ghost use Rattle.macho_unwind_info.specs.declared.error.Error.{Error as MachoFault};
-ghost use Rattle.format_definitions.specs.FormatCalls.{IsFormatCall};
-ghost use Rattle.format_definitions.specs.FormatStops.{IsFormatStop};
+ghost use Rattle.format_definitions.specs.Calls.{IsDescribedCall};
+ghost use Rattle.format_definitions.specs.Stops.{IsDescribedStop};
 ghost use Rattle.stack_steps.specs.Asking.{arguments_of};
 ghost use Rattle.stack_steps.specs.Held.{IsHeld, IsTableOf, added_of};
 ghost use Rattle.stack_steps.specs.Modules.{AreApart, IsPlaced};
@@ -571,13 +571,13 @@ pub fn step<L: Ledger>(
         IsChainedTooLong space.now context.now interrupted }
     // A call of a function that its module describes, of whatever format that is, is undone.
     ensures undone { (functions : List Function) (s : State) (call : Call) →
-        (calls : IsFormatCall space.now.image (formats_of space.now) functions s call) →
+        (calls : IsDescribedCall space.now.image (formats_of space.now) functions s call) →
         Shows (columns_of context.now) s → IsFalse interrupted →
         UndoneIn calls.lies.home result (columns_of context.now) call.caller }
     // So is one that was stopped at an instruction: in the body of a function of whatever format,
     // in the prologue of one of an ELF or a PE module, or in an epilog of one of a PE module.
     ensures stopped { (functions : List Function) (s : State) (call : Call) →
-        (stop : IsFormatStop space.now.image (formats_of space.now) functions s call) →
+        (stop : IsDescribedStop space.now.image (formats_of space.now) functions s call) →
         Shows (columns_of context.now) s → IsTrue interrupted →
         UndoneIn stop.lies.home result (columns_of context.now) call.caller }
     // At any address of an ELF module, asked after a call or where the state was interrupted, that

@@ -4,9 +4,9 @@
 ghost use Rattle.std.specs.Prelude.{◌∷◌, []};
 ghost use Rattle.memory_image.specs.Image.{IsLaidOut};
 ghost use Rattle.unwind_laws.specs.Pushing as pushing;
-ghost use Rattle.format_definitions.specs.FormatCalls.{IsFormatCall};
-ghost use Rattle.format_definitions.specs.FormatStops.{IsFormatStop};
-ghost use Rattle.format_laws.specs.FormatSample as mixed;
+ghost use Rattle.format_definitions.specs.Calls.{IsDescribedCall};
+ghost use Rattle.format_definitions.specs.Stops.{IsDescribedStop};
+ghost use Rattle.format_laws.specs.Sample as mixed;
 ghost use Rattle.format_laws.specs.PeSamples.{epilog_function, epilog_start, epilog_state};
 ghost use Rattle.stack_steps.specs.FormatStopSample.{space_of_three, space_with_epilog};
 ghost use Rattle.stack_steps.specs.Modules.{AreApart};
@@ -22,13 +22,13 @@ ghost use Rattle.stack_steps.specs.StopSample.{stopped_at, before_push, after_th
 /// it is stopped: before its first step, after each one, and in its body. Its table tells of RBX
 /// and R12 only where the body begins.
 pub fn stops_after_each_step_are_described()
-    ensures before { IsFormatStop image modules (function ∷ []) before_steps call }
-    ensures push { IsFormatStop image modules (function ∷ []) after_push call }
-    ensures set { IsFormatStop image modules (function ∷ []) after_set call }
-    ensures late_push { IsFormatStop image modules (function ∷ []) after_late_push call }
-    ensures allocation { IsFormatStop image modules (function ∷ []) after_allocation call }
-    ensures store { IsFormatStop image modules (function ∷ []) after_store call }
-    ensures body { IsFormatStop image modules (function ∷ []) in_body_of_it call }
+    ensures before { IsDescribedStop image modules (function ∷ []) before_steps call }
+    ensures push { IsDescribedStop image modules (function ∷ []) after_push call }
+    ensures set { IsDescribedStop image modules (function ∷ []) after_set call }
+    ensures late_push { IsDescribedStop image modules (function ∷ []) after_late_push call }
+    ensures allocation { IsDescribedStop image modules (function ∷ []) after_allocation call }
+    ensures store { IsDescribedStop image modules (function ∷ []) after_store call }
+    ensures body { IsDescribedStop image modules (function ∷ []) in_body_of_it call }
 {}
 
 /// A walk may start at the push of a function that pushes RBX, before which the word at the stack
@@ -46,16 +46,16 @@ pub fn walks_from_stops_are_described()
 pub fn calls_and_stops_in_formats_are_described()
     ensures laid_out { IsLaidOut 0 space_of_three.image }
     ensures apart { AreApart 0 space_of_three.modules }
-    ensures called { IsFormatCall space_of_three.image (formats_of space_of_three)
+    ensures called { IsDescribedCall space_of_three.image (formats_of space_of_three)
         mixed.functions mixed.caught_start mixed.caught_frameless }
-    ensures macho_body { IsFormatStop space_of_three.image (formats_of space_of_three)
+    ensures macho_body { IsDescribedStop space_of_three.image (formats_of space_of_three)
         mixed.functions mixed.caught_start mixed.caught_frameless }
-    ensures pe_body { IsFormatStop space_of_three.image (formats_of space_of_three)
+    ensures pe_body { IsDescribedStop space_of_three.image (formats_of space_of_three)
         mixed.functions mixed.caught_room mixed.caught_pushing }
-    ensures pe_prologue { IsFormatStop space_of_three.image (formats_of space_of_three)
+    ensures pe_prologue { IsDescribedStop space_of_three.image (formats_of space_of_three)
         mixed.functions mixed.pushed_room mixed.caught_pushing }
-    ensures before_pop { IsFormatStop space_with_epilog.image (formats_of space_with_epilog)
+    ensures before_pop { IsDescribedStop space_with_epilog.image (formats_of space_with_epilog)
         (epilog_function ∷ []) epilog_start mixed.epilog_call }
-    ensures after_pop { IsFormatStop space_with_epilog.image (formats_of space_with_epilog)
+    ensures after_pop { IsDescribedStop space_with_epilog.image (formats_of space_with_epilog)
         (epilog_function ∷ []) epilog_state mixed.epilog_call }
 {}

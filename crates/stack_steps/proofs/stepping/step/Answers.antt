@@ -7,7 +7,7 @@ use Rattle.stack_steps.specs.Stepping.{step_of}
 use Rattle.stack_steps.specs.Interrupting.{Interrupted}
 use Rattle.stack_steps.proofs.Counted.{index_is_searched, scan_is_free, ticks_rise}
 use Rattle.stack_steps.proofs.FactSteps.{asked_at, facts_undone, signal_left}
-use Rattle.stack_steps.proofs.FormatMet.{format_undone, format_stopped}
+use Rattle.stack_steps.proofs.MetCalls.{format_undone, format_stopped}
 use Rattle.stack_steps.proofs.StepAnswers.{step_ends, ends_step, step_unmapped, step_read, read_step, step_table, table_step, step_caller, caller_step}
 use Rattle.stack_steps.proofs.StepAnswers.{step_section, section_step, step_form, form_step, step_info, info_step, step_limit, limit_step}
 use Rattle.stack_steps.proofs.stepping.step.Goals as goal

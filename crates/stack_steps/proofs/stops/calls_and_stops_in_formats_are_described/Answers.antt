@@ -1,5 +1,5 @@
-use Rattle.format_laws.proofs.FormatStops as laws
-use Rattle.format_laws.proofs.FormatValid.{laid_out}
+use Rattle.format_laws.proofs.Stops as laws
+use Rattle.format_laws.proofs.Valid.{laid_out}
 use Rattle.stack_steps.proofs.FormatStopSamples.{apart, called}
 use Rattle.stack_steps.proofs.stops.calls_and_stops_in_formats_are_described.Goals as goal
 

@@ -12,22 +12,22 @@ use Rattle.unwind_definitions.specs.Chain.{Call}
 use Rattle.unwind_definitions.specs.Module as described
 use Rattle.unwind_arch.specs.declared.x86_64.Context.{Context}
 use Rattle.unwind_arch.specs.ContextViews.{columns_of}
-use Rattle.format_definitions.specs.FormatCalls.{IsFormatCall}
-use Rattle.format_definitions.specs.FormatModules.{FormatModule, Elf, Macho, Pe, in_format, convention_of, part_of, DescribesFormat}
-use Rattle.format_definitions.specs.FormatStops.{StandsIn, IsFormatStop}
-use Rattle.format_laws.specs.FormatUndone.{FormatUndone, CanUndo}
-use Rattle.format_laws.proofs.FormatHomes.{in_home, in_part, body_lies}
-use Rattle.format_laws.proofs.FormatSteps.{undone_in}
-use Rattle.format_laws.proofs.FormatStopped.{stop_lies, undone_at}
+use Rattle.format_definitions.specs.Calls.{IsDescribedCall}
+use Rattle.format_definitions.specs.Modules.{FormatModule, Elf, Macho, Pe, in_format, convention_of, part_of, DescribesFormat}
+use Rattle.format_definitions.specs.Stops.{StandsIn, IsDescribedStop}
+use Rattle.format_laws.specs.Undone.{FormatUndone, CanUndo}
+use Rattle.format_laws.proofs.Homes.{in_home, in_part, body_lies}
+use Rattle.format_laws.proofs.Steps.{undone_in}
+use Rattle.format_laws.proofs.Stopped.{stop_lies, undone_at}
 use Rattle.stack_steps.specs.Modules.{SpaceValue, AreApart}
 use Rattle.stack_steps.specs.SpaceViews.{process_of, formats_of}
 use Rattle.stack_steps.specs.Stepping.{step_of}
 use Rattle.stack_steps.specs.Undoing.{Undone, UndoneIn}
-use Rattle.stack_steps.proofs.FormatFrames.{FormatFrame, macho_framed, pe_framed}
-use Rattle.stack_steps.proofs.FormatHolders.{elf_from_format, HoldsAt, held_at}
-use Rattle.stack_steps.proofs.MetFrames.{IsDescribedCall, Met, met, step_undone}
+use Rattle.stack_steps.proofs.FoundFrames.{FormatFrame, macho_framed, pe_framed}
+use Rattle.stack_steps.proofs.Holders.{elf_from_format, HoldsAt, held_at}
+use Rattle.stack_steps.proofs.MetFrames.{IsElfCall, Met, met, step_undone}
 use Rattle.stack_steps.proofs.StepParts.{some_next, stepped_by, step_is}
-use Rattle.stack_steps.proofs.StoppedUndone.{IsDescribedStop, stopped_undone}
+use Rattle.stack_steps.proofs.StoppedUndone.{IsElfStop, stopped_undone}
 
 module _ (space : SpaceValue) (c : Context) (functions : List Function) (s : State) (call : Call) (apart : AreApart 0 space.modules) (laid : IsLaidOut 0 space.image) where
   abbrev Lies : FormatModule → Type 0
@@ -36,7 +36,7 @@ module _ (space : SpaceValue) (c : Context) (functions : List Function) (s : Sta
   -- ---- ELF modules
 
   -- a call of a function in an ELF module is one of the process
-  call_in_elf : (m : described.Module) → Lies (Elf m) → DescribesFormat space.image (Elf m) (part_of (Elf m) functions) → IsFormatCall space.image (formats_of space) functions s call → IsDescribedCall (process_of space) functions s call
+  call_in_elf : (m : described.Module) → Lies (Elf m) → DescribesFormat space.image (Elf m) (part_of (Elf m) functions) → IsDescribedCall space.image (formats_of space) functions s call → IsElfCall (process_of space) functions s call
   call_in_elf m lies d is = record {
     is_function = lies.2;
     listed = is.listed;
@@ -47,7 +47,7 @@ module _ (space : SpaceValue) (c : Context) (functions : List Function) (s : Sta
   }
 
   stop_in_elf : (m : described.Module) → Lies (Elf m) → (d : DescribesFormat space.image (Elf m) (part_of (Elf m) functions)) → StandsIn space.image (Elf m) (part_of (Elf m) functions) d s call →
-      IsFormatStop space.image (formats_of space) functions s call → IsDescribedStop (process_of space) functions s call
+      IsDescribedStop space.image (formats_of space) functions s call → IsElfStop (process_of space) functions s call
   stop_in_elf m lies d stands is = record {
     is_function = lies.2;
     inner = is.inner;
@@ -104,7 +104,7 @@ module _ (space : SpaceValue) (c : Context) (functions : List Function) (s : Sta
 
   -- ---- calls
 
-  module _ (is : IsFormatCall space.image (formats_of space) functions s call) (shows : Shows (columns_of c) s) (low : s.ra < 2 ^ 64) where
+  module _ (is : IsDescribedCall space.image (formats_of space) functions s call) (shows : Shows (columns_of c) s) (low : s.ra < 2 ^ 64) where
     can : CanUndo space.image (formats_of space) functions (s.ra - 1) s call
     can = record { listed = is.listed; lies = is.lies; inside = is.called.inside; entered = is.called.entered; caller = is.caller; ends = is.ends }
 
@@ -136,16 +136,16 @@ module _ (space : SpaceValue) (c : Context) (functions : List Function) (s : Sta
     undone_at_call (Pe m) lies d = undone_by (Pe m) false (s.ra - 1) (pe_call m lies d)
 
   -- The frame of a call.
-  pub format_met : IsFormatCall space.image (formats_of space) functions s call → Shows (columns_of c) s → s.ra < 2 ^ 64 → Met space c s call
+  pub format_met : IsDescribedCall space.image (formats_of space) functions s call → Shows (columns_of c) s → s.ra < 2 ^ 64 → Met space c s call
   format_met is shows low = met_in is shows low is.lies.home (is.lies.known, is.lies.inside, is.lies.is_function) is.lies.describes
 
   -- The step undoes a call.
-  pub format_undone : (is : IsFormatCall space.image (formats_of space) functions s call) → Shows (columns_of c) s → s.ra < 2 ^ 64 → UndoneIn is.lies.home (step_of space c false) (columns_of c) call.caller
+  pub format_undone : (is : IsDescribedCall space.image (formats_of space) functions s call) → Shows (columns_of c) s → s.ra < 2 ^ 64 → UndoneIn is.lies.home (step_of space c false) (columns_of c) call.caller
   format_undone is shows low = undone_at_call is shows low is.lies.home (is.lies.known, is.lies.inside, is.lies.is_function) is.lies.describes
 
   -- ---- stops
 
-  module _ (is : IsFormatStop space.image (formats_of space) functions s call) (shows : Shows (columns_of c) s) where
+  module _ (is : IsDescribedStop space.image (formats_of space) functions s call) (shows : Shows (columns_of c) s) where
     undone_at_stop : (home : FormatModule) → Lies home → (d : DescribesFormat space.image home (part_of home functions)) → StandsIn space.image home (part_of home functions) d s call →
         UndoneIn home (step_of space c true) (columns_of c) call.caller
     undone_at_stop (Elf m) lies d stands =
@@ -163,5 +163,5 @@ module _ (space : SpaceValue) (c : Context) (functions : List Function) (s : Sta
         (undone_at space.image (formats_of space) functions s call is (columns_of c) shows (Pe m) lies.1 lies.2 d stands))
 
   -- The step from a stopped state answers its caller.
-  pub format_stopped : (is : IsFormatStop space.image (formats_of space) functions s call) → Shows (columns_of c) s → UndoneIn is.lies.home (step_of space c true) (columns_of c) call.caller
+  pub format_stopped : (is : IsDescribedStop space.image (formats_of space) functions s call) → Shows (columns_of c) s → UndoneIn is.lies.home (step_of space c true) (columns_of c) call.caller
   format_stopped is shows = undone_at_stop is shows is.lies.home (is.lies.known, is.lies.inside, is.lies.is_function) is.lies.describes is.stands

@@ -13,7 +13,7 @@ use Rattle.format_frames.specs.declared.error.FrameError.TheVariants as frame
 use Rattle.format_frames.specs.declared.machine.Stepped.{Stepped as CodeStepped}
 use Rattle.format_frames.specs.Callers.{stepped_of}
 use Rattle.format_frames.specs.Refusals.{macho_due, pe_due}
-use Rattle.stack_steps.specs.FormatViews.{format_error}
+use Rattle.stack_steps.specs.Views.{format_error}
 use Rattle.stack_steps.specs.Stepping.{next_with, opcode_caller, pe_refusal}
 use Rattle.std.specs.Result.{result_map_both}
 use Rattle.stack_steps.proofs.ContextLemmas.{IsWhole, context_of-columns}

@@ -26,8 +26,8 @@ use Rattle.format_definitions.specs.PeModules.{DescribesLeaf, HasRecord, Describ
 use Rattle.format_definitions.specs.PeRegisters.{registers_in, columns_with}
 use Rattle.format_definitions.specs.PeStep.{PeFault, columns_at, pe_step}
 use Rattle.format_definitions.specs.PeStep as pe_steps
-use Rattle.format_definitions.specs.FormatModules.{FormatModule, KeepsIn}
-use Rattle.format_definitions.specs.FormatModules as formats
+use Rattle.format_definitions.specs.Modules.{FormatModule, KeepsIn}
+use Rattle.format_definitions.specs.Modules as formats
 use Rattle.format_frames.specs.Handlers.{pe_place}
 use Rattle.format_frames.specs.Refusals.{looked_up, function_at}
 use Rattle.format_laws.specs.CompactUndone.{MachoUndone}
@@ -45,7 +45,7 @@ use Rattle.stack_steps.specs.Modules.{SpaceValue, module_at}
 use Rattle.stack_steps.specs.SpaceViews.{format_by}
 use Rattle.stack_steps.specs.Stepping.{FrameAt, Recorded, macho_of, pe_of, compact_frame, recorded_frame, frame_by_tables, frame_of, next_with, compact_next, recorded_columns, pe_refusal, caller_by}
 use Rattle.stack_steps.proofs.ContextLemmas.{IsWhole}
-use Rattle.stack_steps.proofs.FormatHolders.{HoldsAt}
+use Rattle.stack_steps.proofs.Holders.{HoldsAt}
 use Rattle.stack_steps.proofs.MachoFrames.{listed_frame}
 use Rattle.stack_steps.proofs.PeFrames.{recorded_asks}
 use Rattle.stack_steps.proofs.StepAnswers.{macho_answer, macho_is}

@@ -4,9 +4,9 @@ use Rattle.std.specs.Prelude.{◌⊎◌, IsTrue, map}
 use Rattle.std.specs.List.{Contains, cons_option, filter_map}
 use Rattle.unwind_definitions.specs.Module as described
 use Rattle.unwind_laws.proofs.Booleans as lists
-use Rattle.format_definitions.specs.FormatModules.{FormatModule, in_format}
-use Rattle.format_definitions.specs.FormatModules as formats
-use Rattle.format_laws.proofs.FormatHomes.{inside_is}
+use Rattle.format_definitions.specs.Modules.{FormatModule, in_format}
+use Rattle.format_definitions.specs.Modules as formats
+use Rattle.format_laws.proofs.Homes.{inside_is}
 use Rattle.stack_steps.specs.declared.space.Module.{Module}
 use Rattle.stack_steps.specs.declared.space.ModuleTables.{ModuleTables}
 use Rattle.stack_steps.specs.declared.space.ModuleTables.TheVariants.{Elf, Macho, Pe}
