@@ -12,8 +12,8 @@ use Rattle.unwind_definitions.specs.Function.{Function}
 use Rattle.unwind_definitions.specs.Chain.{Call, IsEnd, IsChain, last_state}
 use Rattle.unwind_definitions.specs.Module as described
 use Rattle.unwind_laws.proofs.Found.{none_first}
-use Rattle.format_definitions.specs.FormatModules.{IsUncoveredIn, IsUncoveredBy, LiesInFormat}
-use Rattle.format_definitions.specs.FormatStops.{IsFormatStop}
+use Rattle.format_definitions.specs.Modules.{IsUncoveredIn, IsUncoveredBy, LiesDescribed}
+use Rattle.format_definitions.specs.Stops.{IsDescribedStop}
 use Rattle.unwind_arch.specs.declared.x86_64.Context.{Context}
 use Rattle.unwind_arch.specs.ContextViews.{columns_of}
 use Rattle.eh_frame.specs.Search.{NoneContains}
@@ -32,7 +32,7 @@ use Rattle.stack_steps.specs.SpaceViews.{tables_of, elf_module, format_by, forma
 use Rattle.stack_steps.specs.Stepping.{step_of}
 use Rattle.stack_steps.specs.Stopped.{StartsStopped}
 use Rattle.stack_steps.specs.Undoing.{UndoneIn}
-use Rattle.stack_steps.proofs.FormatMet.{format_undone, format_stopped}
+use Rattle.stack_steps.proofs.MetCalls.{format_undone, format_stopped}
 use Rattle.stack_walks.specs.Lines.{line_of}
 use Rattle.stack_walks.specs.Walking.{StartsChain}
 use Rattle.stack_walks.specs.Fronts.{reached_by, caller_from, start_state, IsUndescribed, IsUnknownIn, IsUnknown, EndsFor, ComesTo, front_uncovered, front_of_chain}
@@ -101,7 +101,7 @@ module _ (space : SpaceValue) (apart : AreApart 0 space.modules) (laid : IsLaidO
 
   -- The last state that is reached from the start of a chain, where there is room for it, is the outermost, after a call.
   last_shown : (functions : List Function) (s : State) (calls : List Call) (t : Stepped) (room : ℕ) →
-      IsChain space.image (IsUncoveredBy space.image (formats_of space)) functions s calls → AllByRecursion (λ (k : Call). LiesInFormat space.image (formats_of space) functions k.callee) calls → Shows (columns_of t.context) s → t.signal ≡ false → length calls < room →
+      IsChain space.image (IsUncoveredBy space.image (formats_of space)) functions s calls → AllByRecursion (λ (k : Call). LiesDescribed space.image (formats_of space) functions k.callee) calls → Shows (columns_of t.context) s → t.signal ≡ false → length calls < room →
       Shows (columns_of (reached_by (caller_from space) room t).state.context) (last_state s calls) × ((reached_by (caller_from space) room t).state.signal ≡ false)
   unfolding call_in
   last_shown functions s [] t zero chain lie shows unmarked less = absurd (omega arith)
@@ -130,7 +130,7 @@ module _ (space : SpaceValue) (apart : AreApart 0 space.modules) (laid : IsLaidO
       let short = is.shorter in
       let fewer : length calls < room = omega arith in
       let line = stopped_walked space functions s call calls c apart laid (suc room) is in
-      let stop : IsFormatStop space.image (formats_of space) functions s call = is.stopped in
+      let stop : IsDescribedStop space.image (formats_of space) functions s call = is.stopped in
       let step : UndoneIn stop.lies.home (step_of space c true) (columns_of c) call.caller = format_stopped space c functions s call apart laid stop is.shows in
       let last = last_shown functions call.caller calls step.next room is.described.chain is.described.described step.shows step.unmarked fewer in
       comes (front_of_chain space.modules (last_state call.caller calls)) space (suc room) (start_state c true) (not_refused (line_of space (suc room) c true) line.0 line.1)

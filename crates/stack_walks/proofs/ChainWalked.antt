@@ -5,7 +5,7 @@ use Rattle.unwind_definitions.specs.State.{State}
 use Rattle.unwind_definitions.specs.Function.{Function}
 use Rattle.unwind_definitions.specs.Chain.{Call, IsChain, states_of, StacksRise}
 use Rattle.unwind_definitions.specs.Prologue.{steps_of}
-use Rattle.format_definitions.specs.FormatModules.{IsUncoveredBy, IsFormatChain}
+use Rattle.format_definitions.specs.Modules.{IsUncoveredBy, IsDescribedChain}
 use Rattle.unwind_laws.proofs.Undo.{rises}
 use Rattle.unwind_arch.specs.declared.x86_64.Context.{Context}
 use Rattle.stack_steps.specs.Modules.{SpaceValue, AreApart}
@@ -25,6 +25,6 @@ chain_rises image Uncovered functions s (c ∷ d ∷ calls) chain =
 pub chain_walked : (space : SpaceValue) (c : Context) (limit : ℕ) (functions : List Function) (s : State) (calls : List Call) → AreApart 0 space.modules → IsLaidOut 0 space.image → StartsChain space c limit functions s calls →
     (cs : List Context) × (line_of space limit c false ≡ Ok cs) × ShowChain cs s calls
 chain_walked space c limit functions s calls apart laid is =
-    let chain : IsFormatChain space.image (formats_of space) functions s calls = is.described in
+    let chain : IsDescribedChain space.image (formats_of space) functions s calls = is.described in
     let line = line_shows space apart laid functions s calls c limit chain.chain chain.described is.shows is.shorter in
     (line.0, line.1, record { states = line.2; rise = chain_rises space.image (IsUncoveredBy space.image (formats_of space)) functions s calls chain.chain })

@@ -7,19 +7,19 @@ use Rattle.unwind_definitions.specs.Prologue.{SystemV}
 use Rattle.unwind_definitions.specs.Function.{Function, IsFunction}
 use Rattle.unwind_definitions.specs.Chain.{Call, IsChain, last_state}
 use Rattle.unwind_definitions.specs.Module as described
-use Rattle.unwind_definitions.specs.Valid.{DescribesPart, LiesDescribed, IsDescribedAt, IsDescribedChain}
+use Rattle.unwind_definitions.specs.Valid.{DescribesPart, LiesInElf, IsElfDescribedAt, IsElfChain}
 use Rattle.unwind_laws.proofs.Booleans as lists
 use Rattle.unwind_arch.specs.declared.x86_64.Context.{Context}
 use Rattle.unwind_arch.specs.ContextViews.{columns_of}
-use Rattle.format_definitions.specs.FormatModules.{FormatModule, in_format, part_of, IsUncoveredIn, IsUncoveredBy, LiesInFormat, DescribesFormat, IsDescribedBy, IsFormatChain}
-use Rattle.format_definitions.specs.FormatModules as formats
-use Rattle.format_definitions.specs.FormatValid.{DescribesItsPart}
+use Rattle.format_definitions.specs.Modules.{FormatModule, in_format, part_of, IsUncoveredIn, IsUncoveredBy, LiesDescribed, DescribesFormat, IsDescribedAt, IsDescribedChain}
+use Rattle.format_definitions.specs.Modules as formats
+use Rattle.format_definitions.specs.Valid.{DescribesItsPart}
 use Rattle.stack_steps.specs.declared.space.Module.{Module}
 use Rattle.stack_steps.specs.declared.space.ModuleTables.{ModuleTables}
 use Rattle.stack_steps.specs.declared.space.ModuleTables.TheVariants.{Elf, Macho, Pe}
 use Rattle.stack_steps.specs.Modules.{SpaceValue, AreElf, HasElfTables}
 use Rattle.stack_steps.specs.SpaceViews.{elf_module, elf_of, process_of, format_by, format_of, formats_of}
-use Rattle.stack_steps.proofs.FormatHolders.{IsFormatOf, format_named, elf_to_format, elf_from_format}
+use Rattle.stack_steps.proofs.Holders.{IsFormatOf, format_named, elf_to_format, elf_from_format}
 use Rattle.stack_walks.specs.Walking.{StartsChain}
 
 -- a module of whatever format is one of the ELF modules of a process
@@ -51,7 +51,7 @@ contains_any p (x ∷ xs) y has e = go (p x) refl (lists.here_or_later x xs y ha
     go false is (inr more) later = rw is (later more)
 
 module _ (space : SpaceValue) (functions : List Function) where
-  lies_in : AllByRecursion (IsFunction SystemV) functions → (f : Function) → Contains functions f → LiesDescribed (process_of space) functions f → LiesInFormat space.image (formats_of space) functions f
+  lies_in : AllByRecursion (IsFunction SystemV) functions → (f : Function) → Contains functions f → LiesInElf (process_of space) functions f → LiesDescribed space.image (formats_of space) functions f
   lies_in are f has lies = record {
     home = formats.Elf lies.home;
     known = elf_to_format space.modules lies.home lies.known;
@@ -66,7 +66,7 @@ module _ (space : SpaceValue) (functions : List Function) where
         let is : IsElf space.modules m = elf_home space.modules elf m has in
         subst (λ (home : FormatModule). IsUncoveredIn space.image home a) (sym is.same) (free is.named is.known (subst (λ (home : FormatModule). IsTrue (in_format a home)) is.same inside))
 
-    described_by : (a : ℕ) → IsDescribedAt (process_of space) functions a → IsDescribedBy space.image (formats_of space) functions a
+    described_by : (a : ℕ) → IsElfDescribedAt (process_of space) functions a → IsDescribedAt space.image (formats_of space) functions a
     described_by a known m has inside =
         let is : IsElf space.modules m = elf_home space.modules elf m has in
         subst (λ (home : FormatModule). DescribesFormat space.image home (part_of home functions)) (sym is.same) (known is.named is.known (subst (λ (home : FormatModule). IsTrue (in_format a home)) is.same inside))
@@ -80,18 +80,18 @@ module _ (space : SpaceValue) (functions : List Function) where
     chain_in s (k ∷ calls) chain = (chain.0, chain_in k.caller calls chain.1)
 
     callees_lie : AllByRecursion (IsFunction SystemV) functions → (s : State) (calls : List Call) → IsChain space.image (described.IsUncovered (process_of space)) functions s calls →
-        AllByRecursion (λ (k : Call). LiesDescribed (process_of space) functions k.callee) calls → AllByRecursion (λ (k : Call). LiesInFormat space.image (formats_of space) functions k.callee) calls
+        AllByRecursion (λ (k : Call). LiesInElf (process_of space) functions k.callee) calls → AllByRecursion (λ (k : Call). LiesDescribed space.image (formats_of space) functions k.callee) calls
     callees_lie are s [] chain lie = tt
     callees_lie are s (k ∷ calls) chain lie = (lies_in are k.callee chain.0.listed lie.0, callees_lie are k.caller calls chain.1 lie.1)
 
-    elf_chain : (s : State) (calls : List Call) → IsDescribedChain (process_of space) functions s calls → IsFormatChain space.image (formats_of space) functions s calls
+    elf_chain : (s : State) (calls : List Call) → IsElfChain (process_of space) functions s calls → IsDescribedChain space.image (formats_of space) functions s calls
     elf_chain s calls is = record {
       chain = chain_in s calls is.chain;
       described = callees_lie is.are_functions s calls is.chain is.described;
       ends = go is.ends;
     }
       where
-        go : ((last_state s calls).ra ≡ 0) ⊎ IsDescribedAt (process_of space) functions ((last_state s calls).ra - 1) → ((last_state s calls).ra ≡ 0) ⊎ IsDescribedBy space.image (formats_of space) functions ((last_state s calls).ra - 1)
+        go : ((last_state s calls).ra ≡ 0) ⊎ IsElfDescribedAt (process_of space) functions ((last_state s calls).ra - 1) → ((last_state s calls).ra ≡ 0) ⊎ IsDescribedAt space.image (formats_of space) functions ((last_state s calls).ra - 1)
         go (inl none) = inl none
         go (inr known) = inr (described_by ((last_state s calls).ra - 1) known)
 
@@ -121,5 +121,5 @@ module _ (space : SpaceValue) (functions : List Function) where
 
   -- ---- starts
 
-  pub elf_starts : AreElf space.modules → (s : State) (calls : List Call) → IsDescribedChain (process_of space) functions s calls → (c : Context) (limit : ℕ) → Shows (columns_of c) s → length calls < limit → StartsChain space c limit functions s calls
+  pub elf_starts : AreElf space.modules → (s : State) (calls : List Call) → IsElfChain (process_of space) functions s calls → (c : Context) (limit : ℕ) → Shows (columns_of c) s → length calls < limit → StartsChain space c limit functions s calls
   elf_starts elf s calls is c limit shows shorter = record { described = elf_chain elf s calls is; shows = shows; shorter = shorter }

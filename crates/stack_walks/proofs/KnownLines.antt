@@ -9,8 +9,8 @@ use Rattle.unwind_definitions.specs.Chain.{StacksRise}
 use Rattle.unwind_definitions.specs.LanguageSearch.{address_of_call}
 use Rattle.unwind_laws.proofs.Undo.{rises}
 use Rattle.frame_facts.specs.FactChains.{address_asked}
-use Rattle.format_definitions.specs.FormatModules.{part_of, IsUncoveredBy}
-use Rattle.format_laws.proofs.FormatStopped.{stop_below}
+use Rattle.format_definitions.specs.Modules.{part_of, IsUncoveredBy}
+use Rattle.format_laws.proofs.Stopped.{stop_below}
 use Rattle.format_frames.specs.declared.machine.Stepped.{Stepped}
 use Rattle.unwind_arch.specs.declared.x86_64.Context.{Context}
 use Rattle.unwind_arch.specs.ContextViews.{columns_of}
@@ -23,7 +23,7 @@ use Rattle.stack_steps.specs.Undoing.{Undone, UndoneIn}
 use Rattle.stack_steps.specs.Interrupting.{Interrupted}
 use Rattle.stack_steps.specs.KnownStacks.{IsLinkByFacts, IsLinkByFunction, IsLinkBySignal, IsStackLink, is_by_signal, IsKnownEnd, IsKnownStack, HasNoSignals}
 use Rattle.stack_steps.proofs.FactSteps.{asked_at, facts_undone, signal_left}
-use Rattle.stack_steps.proofs.FormatMet.{format_undone, format_stopped}
+use Rattle.stack_steps.proofs.MetCalls.{format_undone, format_stopped}
 use Rattle.stack_steps.proofs.StepParts.{stepped_by, step_is}
 use Rattle.stack_walks.specs.Lines.{line_of}
 use Rattle.stack_walks.specs.Fronts.{reached_by, caller_from, start_state, EndsFor, ComesTo, front_uncovered}

@@ -11,8 +11,8 @@ use Rattle.unwind_definitions.specs.LanguageTable.{input_at}
 use Rattle.unwind_definitions.specs.LanguageSearch.{address_of_call}
 use Rattle.unwind_definitions.specs.Function.{Function}
 use Rattle.unwind_definitions.specs.Chain.{Call, IsLink, IsEnd, IsChain, states_of}
-use Rattle.format_definitions.specs.FormatCalls.{IsFormatCall}
-use Rattle.format_definitions.specs.FormatModules.{in_format, MachoCoversNot, IsUncoveredIn, IsUncoveredBy, LiesInFormat}
+use Rattle.format_definitions.specs.Calls.{IsDescribedCall}
+use Rattle.format_definitions.specs.Modules.{in_format, MachoCoversNot, IsUncoveredIn, IsUncoveredBy, LiesDescribed}
 use Rattle.format_definitions.specs.CompactStep.{MachoModule, compact_step, answered_by, found_in, macho_step}
 use Rattle.format_definitions.specs.CompactStep.{stepped_by as stepped_in}
 use Rattle.format_definitions.specs.CompactStep as compact
@@ -21,7 +21,7 @@ use Rattle.macho_unwind_info.specs.declared.function.Function.{Function as Liste
 use Rattle.macho_unwind_info.specs.Lookup.{lookup_of}
 use Rattle.macho_unwind_info.specs.X86_64.{opcode_of}
 use Rattle.unwind_definitions.specs.Caller.{Columns, StepFault}
-use Rattle.format_laws.proofs.FormatSteps.{uncovered_ends, state_in}
+use Rattle.format_laws.proofs.Steps.{uncovered_ends, state_in}
 use Rattle.format_frames.specs.Refusals.{looked_up, function_at}
 use Rattle.unwind_definitions.specs.Module as described
 use Rattle.unwind_laws.proofs.Booleans as lists
@@ -45,8 +45,8 @@ use Rattle.stack_walks.specs.Lines.{line_of}
 use Rattle.stack_steps.specs.Undoing.{UndoneIn}
 use Rattle.stack_walks.specs.Walking.{EachShows}
 use Rattle.stack_steps.proofs.HeaderFinds.{header_finds_none}
-use Rattle.stack_steps.proofs.FormatHolders.{in_formats}
-use Rattle.stack_steps.proofs.FormatMet.{format_undone}
+use Rattle.stack_steps.proofs.Holders.{in_formats}
+use Rattle.stack_steps.proofs.MetCalls.{format_undone}
 
 -- a module that is found is one of the space's, and contains the address
 module_at-found : (modules : List Module) (m : Module) (a : ℕ) → module_at modules a ≡ Some m → Contains modules m × IsTrue (contains m a)
@@ -152,8 +152,8 @@ module _ (space : SpaceValue) where
   step_ends apart laid functions c s shows end = step_is space c false ∙ ap (stepped_by space.image c) (ends apart laid functions c s shows end)
 
   -- a call of a chain is described
-  unfoldable pub call_in : (functions : List Function) (s : State) (k : Call) (calls : List Call) → IsChain space.image (IsUncoveredBy space.image (formats_of space)) functions s (k ∷ calls) → LiesInFormat space.image (formats_of space) functions k.callee →
-      IsFormatCall space.image (formats_of space) functions s k
+  unfoldable pub call_in : (functions : List Function) (s : State) (k : Call) (calls : List Call) → IsChain space.image (IsUncoveredBy space.image (formats_of space)) functions s (k ∷ calls) → LiesDescribed space.image (formats_of space) functions k.callee →
+      IsDescribedCall space.image (formats_of space) functions s k
   call_in functions s k calls chain lies =
       let link : IsLink space.image functions s k calls = chain.0 in
       record {
@@ -166,7 +166,7 @@ module _ (space : SpaceValue) where
 
   -- The line from a context that shows the start of a chain, where there is room for it.
   pub line_shows : AreApart 0 space.modules → IsLaidOut 0 space.image → (functions : List Function) (s : State) (calls : List Call) (c : Context) (room : ℕ) →
-      IsChain space.image (IsUncoveredBy space.image (formats_of space)) functions s calls → AllByRecursion (λ (k : Call). LiesInFormat space.image (formats_of space) functions k.callee) calls → Shows (columns_of c) s → length calls < room →
+      IsChain space.image (IsUncoveredBy space.image (formats_of space)) functions s calls → AllByRecursion (λ (k : Call). LiesDescribed space.image (formats_of space) functions k.callee) calls → Shows (columns_of c) s → length calls < room →
       (cs : List Context) × (line_of space room c false ≡ Ok cs) × EachShows cs (states_of s calls)
   unfolding call_in
   line_shows apart laid functions s [] c zero chain lie shows less = absurd (omega arith)

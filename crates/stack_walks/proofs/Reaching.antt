@@ -1,16 +1,15 @@
 -- How far the way outwards comes, turn by turn.
 use Rattle.std.proofs.Common.{◌≡◌, ℕ, zero, suc, Bool, List, [], ◌∷◌, ◌++◌, Option, Some, None, Result, Ok, Err, refl, sym, ap, subst, ◌∙◌, append_assoc, append-nil}
-use Rattle.unwind_definitions.specs.Function.{Action}
+use Rattle.stack_steps.specs.declared.asking.FrameAction.{FrameAction}
 use Rattle.unwind_arch.specs.declared.x86_64.Context.{Context}
 use Rattle.format_frames.specs.declared.machine.Stepped.{Stepped}
 use Rattle.stack_steps.specs.declared.answers.DeliverError.{DeliverError}
-use Rattle.stack_walks.specs.declared.outward.Phase.{Phase}
 use Rattle.stack_steps.specs.Growing.{advanced_to}
 use Rattle.stack_steps.specs.Modules.{SpaceValue}
 use Rattle.memory_image.specs.Results.{◌>>=◌, result_map}
 use Rattle.stack_steps.specs.Stepping.{FrameAt, frame_of, caller_by, caller_at, step_of}
 use Rattle.stack_walks.specs.Walking.{RoomValue}
-use Rattle.stack_walks.specs.Turns.{Turn, Ends, Stops, Goes, turn_in, turn_for}
+use Rattle.stack_walks.specs.Turns.{Pass, Turn, Ends, Stops, Goes, turn_in, turn_for}
 use Rattle.stack_walks.specs.TurnViews.{AreVisited}
 use Rattle.stack_walks.specs.Fronts.{Reached, reached_after, reached_by, caller_in, caller_from, caller_turned, turned_from, IsReached}
 
@@ -40,17 +39,17 @@ module _ (next : Stepped → Option Stepped) (room n : ℕ) (s : Stepped) (front
 
 -- ---- what a turn comes to
 
-module _ (phase : Option Phase) (space : SpaceValue) (s : Stepped) where
-  pub turned_faults : (e : DeliverError) → turn_for phase space s.context s.signal ≡ Err e → turned_from phase space s ≡ None
+module _ (pass : Option Pass) (space : SpaceValue) (s : Stepped) where
+  pub turned_faults : (e : DeliverError) → turn_for pass space s.context s.signal ≡ Err e → turned_from pass space s ≡ None
   turned_faults e is = rw is refl
 
-  pub turned_ends : turn_for phase space s.context s.signal ≡ Ok Ends → turned_from phase space s ≡ None
+  pub turned_ends : turn_for pass space s.context s.signal ≡ Ok Ends → turned_from pass space s ≡ None
   turned_ends is = rw is refl
 
-  pub turned_stops : (action : Action) (past : Context) → turn_for phase space s.context s.signal ≡ Ok (Stops action past) → turned_from phase space s ≡ None
+  pub turned_stops : (action : FrameAction) (past : Context) → turn_for pass space s.context s.signal ≡ Ok (Stops action past) → turned_from pass space s ≡ None
   turned_stops action past is = rw is refl
 
-  pub turned_goes : (t : Stepped) → turn_for phase space s.context s.signal ≡ Ok (Goes t) → turned_from phase space s ≡ Some t
+  pub turned_goes : (t : Stepped) → turn_for pass space s.context s.signal ≡ Ok (Goes t) → turned_from pass space s ≡ Some t
   turned_goes t is = rw is refl
 
 -- ---- what is left

@@ -4,8 +4,8 @@ use Rattle.memory_image.specs.Image.{IsLaidOut}
 use Rattle.unwind_definitions.specs.State.{State}
 use Rattle.unwind_definitions.specs.Function.{Function}
 use Rattle.unwind_definitions.specs.Chain.{Call, states_of, StacksRise}
-use Rattle.format_definitions.specs.FormatModules.{part_of, IsUncoveredBy}
-use Rattle.format_definitions.specs.FormatStops.{IsFormatStop}
+use Rattle.format_definitions.specs.Modules.{part_of, IsUncoveredBy}
+use Rattle.format_definitions.specs.Stops.{IsDescribedStop}
 use Rattle.unwind_arch.specs.declared.x86_64.Context.{Context}
 use Rattle.unwind_arch.specs.ContextViews.{columns_of}
 use Rattle.stack_steps.specs.Modules.{SpaceValue, AreApart}
@@ -17,8 +17,8 @@ use Rattle.stack_walks.specs.Walking.{ShowChain}
 use Rattle.stack_steps.specs.Stopped.{StartsStopped}
 use Rattle.stack_walks.proofs.ChainWalked.{chain_rises}
 use Rattle.stack_walks.proofs.LineShows.{line_shows}
-use Rattle.format_laws.proofs.FormatStopped.{stop_below}
-use Rattle.stack_steps.proofs.FormatMet.{format_stopped}
+use Rattle.format_laws.proofs.Stopped.{stop_below}
+use Rattle.stack_steps.proofs.MetCalls.{format_stopped}
 
 -- one more state below a chain
 rise_from : (s t : State) (calls : List Call) → s.sp < t.sp → StacksRise (states_of t calls) → StacksRise (s ∷ states_of t calls)
@@ -32,7 +32,7 @@ module _ (space : SpaceValue) (functions : List Function) (s : State) (call : Ca
   stopped_walked (suc room) is =
       let short = is.shorter in
       let fewer : length calls < room = omega arith in
-      let stop : IsFormatStop space.image (formats_of space) functions s call = is.stopped in
+      let stop : IsDescribedStop space.image (formats_of space) functions s call = is.stopped in
       let step : UndoneIn stop.lies.home (step_of space c true) (columns_of c) call.caller = format_stopped space c functions s call apart laid stop is.shows in
       let rest = line_shows space apart laid functions call.caller calls step.next.context room is.described.chain is.described.described step.shows fewer in
       let below = stop_below space.image s call stop.lies.home (part_of stop.lies.home functions) stop.lies.describes stop.stands in

@@ -3,10 +3,9 @@ use Rattle.std.proofs.Common.{◌≡◌, ℕ, zero, suc, ◌+◌, ◌≤◌, Boo
 use Rattle.unwind_arch.specs.declared.x86_64.Context.{Context}
 use Rattle.format_frames.specs.declared.machine.Stepped.{Stepped}
 use Rattle.stack_steps.specs.declared.answers.DeliverError.{DeliverError}
-use Rattle.stack_walks.specs.declared.outward.Phase.{Phase}
 use Rattle.stack_steps.specs.Modules.{SpaceValue}
 use Rattle.stack_walks.specs.Fronts.{Reached, reached_after, reached_by, caller_from, caller_turned, start_state, turned_from, front_of}
-use Rattle.stack_walks.specs.Turns.{Line, Turn, Ends, Stops, Goes, turn_for, with_context, line_turn, line_for}
+use Rattle.stack_walks.specs.Turns.{Line, Pass, Turn, Ends, Stops, Goes, turn_for, with_context, line_turn, line_for}
 use Rattle.stack_walks.specs.ContextsMet.{contexts_met}
 use Rattle.stack_walks.proofs.Reaching.{reached, met_before, same_reached, turned_called}
 
@@ -31,7 +30,7 @@ few_reached next (suc room) s = go (next s) (few_reached next room)
     go (Some t) few = let less = few t in omega arith
 
 -- no more than there may be
-pub few_met : (p : Option Phase) (space : SpaceValue) (limit : ℕ) (c : Context) (interrupted : Bool) → contexts_met p space limit c interrupted ≤ limit
+pub few_met : (p : Option Pass) (space : SpaceValue) (limit : ℕ) (c : Context) (interrupted : Bool) → contexts_met p space limit c interrupted ≤ limit
 few_met p space limit c interrupted = few_reached (turned_from p space) limit (start_state c interrupted)
 
 -- those of a walk
@@ -39,7 +38,7 @@ pub walk_met : (space : SpaceValue) (limit : ℕ) (c : Context) (interrupted : B
 walk_met space limit c interrupted = ap (λ (r : Reached). length r.contexts) (same_reached (turned_from None space) (caller_from space) (turned_called space) limit (start_state c interrupted))
 
 -- the contexts of the line
-pub line_met : (p : Option Phase) (space : SpaceValue) (room : ℕ) (c : Context) (interrupted : Bool) (line : Line) → line_for p space room c interrupted ≡ Ok line → contexts_met p space room c interrupted ≡ length line.contexts
+pub line_met : (p : Option Pass) (space : SpaceValue) (room : ℕ) (c : Context) (interrupted : Bool) (line : Line) → line_for p space room c interrupted ≡ Ok line → contexts_met p space room c interrupted ≡ length line.contexts
 line_met p space zero c interrupted line is = absurd cc
 line_met p space (suc room) c interrupted line is = go (turn_for p space c interrupted) (λ d i l. line_met p space room d i l) is
   where
@@ -57,6 +56,6 @@ line_met p space (suc room) c interrupted line is = go (turn_for p space c inter
     go (Err f) later e = absurd cc
 
 -- one more than from the caller on
-pub met_beyond : (p : Option Phase) (space : SpaceValue) (room n : ℕ) (c : Context) (interrupted : Bool) (next : Stepped) → room ≡ suc n → turn_for p space c interrupted ≡ Ok (Goes next) →
+pub met_beyond : (p : Option Pass) (space : SpaceValue) (room n : ℕ) (c : Context) (interrupted : Bool) (next : Stepped) → room ≡ suc n → turn_for p space c interrupted ≡ Ok (Goes next) →
     contexts_met p space room c interrupted ≡ suc (contexts_met p space n next.context next.signal)
 met_beyond p space room n c interrupted next turns goes = rw (turns, goes) refl

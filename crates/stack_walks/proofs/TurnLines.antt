@@ -1,11 +1,9 @@
 -- One turn on the way outwards: what it leaves.
 use Rattle.std.proofs.Common.{◌≡◌, ℕ, zero, suc, ◌+◌, length, length-append, Bool, true, false, List, [], ◌∷◌, ◌++◌, Option, Some, None, Result, Ok, Err, refl, sym, ap, ◌∙◌, append_assoc, arith}
-use Rattle.unwind_definitions.specs.Function.{Action}
+use Rattle.stack_steps.specs.declared.asking.FrameAction.{FrameAction}
 use Rattle.unwind_arch.specs.declared.x86_64.Context.{Context}
 use Rattle.format_frames.specs.declared.machine.Stepped.{Stepped}
 use Rattle.stack_steps.specs.declared.answers.DeliverError.{DeliverError}
-use Rattle.unwinding_frames.specs.declared.language_table.EhAction.{EhAction}
-use Rattle.stack_walks.specs.declared.outward.Phase.{Phase}
 use Rattle.stack_walks.specs.declared.outward.Stop.{Stop as CodeStop}
 use Rattle.stack_walks.specs.declared.outward.Turn.TheVariants as code
 use Rattle.stack_steps.specs.Modules.{SpaceValue}
@@ -13,7 +11,7 @@ use Rattle.memory_image.specs.Results.{◌>>=◌, result_map}
 use Rattle.stack_steps.specs.Stepping.{FrameAt, frame_of, caller_by, caller_at, step_of}
 use Rattle.stack_walks.specs.Lines.{with_first, line_after, line_of}
 use Rattle.stack_walks.specs.Walking.{RoomValue, IsWalked}
-use Rattle.stack_walks.specs.Turns.{Line, Stop, Ends, Goes, turn_in, turn_for, line_turn, with_context, line_for}
+use Rattle.stack_walks.specs.Turns.{Line, Pass, Stop, Ends, Goes, turn_in, turn_for, line_turn, with_context, line_for}
 use Rattle.stack_walks.specs.TurnViews.{with_contexts, turn_shown, line_shown, AreVisited, IsOutward, visited_with}
 
 -- where a pass stops, without the contexts
@@ -36,26 +34,26 @@ pub no_contexts : (r : Result Line DeliverError) → with_contexts [] r ≡ r
 no_contexts (Ok line) = refl
 no_contexts (Err e) = refl
 
-abbrev pub stop_at : Context → Bool → Action → Context → Stop
+abbrev pub stop_at : Context → Bool → FrameAction → Context → Stop
 stop_at c interrupted action past = record { context = c; interrupted = interrupted; action = action; past = past }
 
-module _ (phase : Option Phase) (space : SpaceValue) (room n : ℕ) (at : Stepped) (front : List Context) (whole : Result Line DeliverError) (turns : room ≡ suc n)
-    (is : with_contexts front (line_for phase space room at.context at.signal) ≡ whole) where
-  turned : with_contexts front (line_turn at.context at.signal (turn_for phase space at.context at.signal) (line_for phase space n)) ≡ whole
+module _ (pass : Option Pass) (space : SpaceValue) (room n : ℕ) (at : Stepped) (front : List Context) (whole : Result Line DeliverError) (turns : room ≡ suc n)
+    (is : with_contexts front (line_for pass space room at.context at.signal) ≡ whole) where
+  turned : with_contexts front (line_turn at.context at.signal (turn_for pass space at.context at.signal) (line_for pass space n)) ≡ whole
   turned = rw turns at is
 
-  pub line_faults : (e : DeliverError) → turn_for phase space at.context at.signal ≡ Err e → whole ≡ Err e
+  pub line_faults : (e : DeliverError) → turn_for pass space at.context at.signal ≡ Err e → whole ≡ Err e
   line_faults e fails = sym (rw fails at turned)
 
-  pub line_ends : turn_for phase space at.context at.signal ≡ Ok Ends → whole ≡ Ok (line_shown (front ++ at.context ∷ []) None)
+  pub line_ends : turn_for pass space at.context at.signal ≡ Ok Ends → whole ≡ Ok (line_shown (front ++ at.context ∷ []) None)
   line_ends ends = sym (rw ends at turned)
 
-  pub line_stops : (state : Stepped) (action : EhAction) (arguments : ℕ) → state ≡ at → turn_for phase space at.context at.signal ≡ Ok (turn_shown state (code.Stop action arguments)) →
+  pub line_stops : (state : Stepped) (action : FrameAction) (arguments : ℕ) → state ≡ at → turn_for pass space at.context at.signal ≡ Ok (turn_shown state (code.Stop action arguments)) →
       whole ≡ Ok (line_shown (front ++ at.context ∷ []) (Some (record { state = state; action = action; arguments = arguments })))
   line_stops state action arguments same stops = rw same (sym (rw (stops, same) at turned))
 
-  pub line_goes : (next : Stepped) → turn_for phase space at.context at.signal ≡ Ok (Goes next) → with_contexts (front ++ at.context ∷ []) (line_for phase space n next.context next.signal) ≡ whole
-  line_goes next goes = sym (front_first front at.context (line_for phase space n next.context next.signal)) ∙ rw goes at turned
+  pub line_goes : (next : Stepped) → turn_for pass space at.context at.signal ≡ Ok (Goes next) → with_contexts (front ++ at.context ∷ []) (line_for pass space n next.context next.signal) ≡ whole
+  line_goes next goes = sym (front_first front at.context (line_for pass space n next.context next.signal)) ∙ rw goes at turned
 
 -- ---- the contexts that are visited
 

@@ -18,7 +18,6 @@ use Rattle.stack_steps.specs.declared.answers.DeliverError.{DeliverError}
 use Rattle.stack_steps.specs.declared.answers.DeliverError.TheVariants.{FrameLimit}
 use Rattle.stack_walks.specs.declared.front.Front.{Front}
 use Rattle.stack_walks.specs.declared.front.Front.TheVariants.{Outermost, NoModule, NoDescription, UnreadableTable, Refused, Limit}
-use Rattle.stack_walks.specs.declared.outward.Phase.{Phase}
 use Rattle.stack_walks.specs.declared.outward.Stop.{Stop}
 use Rattle.stack_steps.specs.declared.space.Module.{Module}
 use Rattle.stack_steps.specs.declared.space.ModuleTables.{ModuleTables}
@@ -28,7 +27,7 @@ use Rattle.format_frames.specs.Refusals.{function_at}
 use Rattle.stack_steps.specs.Modules.{SpaceValue, module_at}
 use Rattle.stack_steps.specs.Stepping.{macho_of, step_of}
 use Rattle.stack_walks.specs.Lines.{NeedsMore}
-use Rattle.stack_walks.specs.Turns.{Turn, Ends, Stops, Goes, turn_for, line_for}
+use Rattle.stack_walks.specs.Turns.{Pass, Turn, Ends, Stops, Goes, turn_for, line_for}
 use Rattle.stack_walks.specs.TurnViews.{AreVisited, IsOutward}
 use Rattle.stack_walks.specs.Walking.{RoomValue}
 
@@ -71,8 +70,8 @@ caller_turned (Ok (Stops _ _)) = None
 caller_turned (Ok (Goes next)) = Some next
 caller_turned (Err e) = None
 
-abbrev pub turned_from : Option Phase → SpaceValue → Stepped → Option Stepped
-turned_from phase space s = caller_turned (turn_for phase space s.context s.signal)
+abbrev pub turned_from : Option Pass → SpaceValue → Stepped → Option Stepped
+turned_from pass space s = caller_turned (turn_for pass space s.context s.signal)
 
 -- what the way outwards leaves: the contexts in a room, where they are visited, and the state
 abbrev pub IsReached : Bool → RoomValue → Stepped → Reached → Type 0

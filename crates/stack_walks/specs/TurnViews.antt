@@ -3,21 +3,29 @@ use Rattle.std.specs.Prelude.{◌≡◌, ◌++◌, ◌∷◌, [], Bool, true, fa
 use Rattle.std.specs.Option.{option_map}
 use Rattle.memory_image.specs.Results.{result_map}
 use Rattle.unwind_arch.specs.declared.x86_64.Context.{Context}
-use Rattle.unwinding_frames.specs.LanguageViews.{action_of}
 use Rattle.stack_steps.specs.declared.answers.DeliverError.{DeliverError}
 use Rattle.format_frames.specs.declared.machine.Stepped.{Stepped}
+use Rattle.stack_walks.specs.declared.outward.Pass.{Pass as CodePass}
 use Rattle.stack_walks.specs.declared.outward.Phase.{Phase}
 use Rattle.stack_walks.specs.declared.outward.Phase.TheVariants as phase
 use Rattle.stack_walks.specs.declared.outward.Stop.{Stop as CodeStop}
 use Rattle.stack_walks.specs.declared.outward.Turn.{Turn as CodeTurn}
 use Rattle.stack_walks.specs.declared.outward.Turn.TheVariants as code
-use Rattle.stack_walks.specs.Turns.{Line, Stop, Turn, Ends, Stops, Goes, past_arguments}
+use Rattle.stack_steps.specs.Languages.{languages_of}
+use Rattle.stack_walks.specs.Turns.{Line, Pass, Stop, Turn, Ends, Stops, Goes, past_arguments}
 use Rattle.stack_walks.specs.Walking.{RoomValue}
+
+-- the code's pass
+abbrev pub pass_shown : CodePass → Pass
+pass_shown p = record { phase = p.phase; languages = languages_of p.languages }
+
+abbrev pub passing : Option CodePass → Option Pass
+passing = option_map pass_shown
 
 -- a turn, and the state that it leaves
 abbrev pub turn_shown : Stepped → CodeTurn → Turn
 turn_shown state code.End = Ends
-turn_shown state (code.Stop action arguments) = Stops (action_of action) (past_arguments state.context arguments)
+turn_shown state (code.Stop action arguments) = Stops action (past_arguments state.context arguments)
 turn_shown state code.Caller = Goes state
 
 -- a turn that isn't the caller's leaves the state
@@ -29,7 +37,7 @@ abbrev pub stop_shown : CodeStop → Stop
 stop_shown s = record {
   context = s.state.context;
   interrupted = s.state.signal;
-  action = action_of s.action;
+  action = s.action;
   past = past_arguments s.state.context s.arguments;
 }
 
@@ -38,10 +46,13 @@ abbrev pub line_shown : List Context → Option CodeStop → Line
 line_shown contexts stop = record { contexts = contexts; stop = option_map stop_shown stop }
 
 -- contexts are visited by a walk and by the search; a cleanup pass meets them again
-abbrev pub visits : Option Phase → Bool
+abbrev pub visits_in : Phase → Bool
+visits_in phase.Search = true
+visits_in phase.Cleanup = false
+
+abbrev pub visits : Option Pass → Bool
 visits None = true
-visits (Some phase.Search) = true
-visits (Some phase.Cleanup) = false
+visits (Some p) = visits_in p.phase
 
 -- the room after one more context
 abbrev pub visited_with : Bool → RoomValue → Context → RoomValue

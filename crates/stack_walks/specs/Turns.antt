@@ -2,8 +2,6 @@
 -- Itanium C++ ABI, exception handling, level I, section 1.3.
 use Rattle.std.specs.Prelude.{ℕ, zero, suc, ◌+◌, ◌%◌, ◌^◌, Bool, true, false, List, [], ◌∷◌, Option, Some, None, Result, Ok, Err, slice_index, slice_set, if◌then◌else◌}
 use Rattle.memory_image.specs.Image.{Span}
-use Rattle.unwind_definitions.specs.Function.{Action, NoAction, Cleanup, Catch, Filter}
-use Rattle.unwind_definitions.specs.Delivery.{decides}
 use Rattle.unwind_arch.specs.declared.x86_64.Context.{Context}
 use Rattle.unwind_definitions.specs.Columns.{rax, rdx, rsp}
 use Rattle.unwinding_frames.specs.Passes.{frame_mark}
@@ -14,15 +12,37 @@ use Rattle.stack_walks.specs.declared.outward.Phase.{Phase}
 use Rattle.stack_walks.specs.declared.outward.Phase.TheVariants as phase
 use Rattle.stack_steps.specs.Modules.{SpaceValue}
 use Rattle.memory_image.specs.Results.{◌>>=◌, result_map}
-use Rattle.stack_steps.specs.Asking.{action_asked, arguments_of}
+use Rattle.stack_steps.specs.declared.asking.FrameAction.{FrameAction}
+use Rattle.stack_steps.specs.declared.asking.FrameAction.TheVariants.{Nothing, Cleanup, Handler, Terminate, TerminateAfterCleanups}
+use Rattle.stack_steps.specs.Asking.{arguments_of}
+use Rattle.stack_steps.specs.Languages.{Languages, frame_asks}
 use Rattle.stack_steps.specs.Stepping.{FrameAt, frame_of, caller_by}
 
 -- ---- a pass
 
+-- a pass: what it is for, and the languages of the functions that it asks
+pub record Pass : Type 0 where
+  pub phase : Phase
+  pub languages : Languages
+
+abbrev pub searching : Languages → Pass
+searching languages = record { phase = phase.Search; languages = languages }
+
+abbrev pub cleaning : Languages → Pass
+cleaning languages = record { phase = phase.Cleanup; languages = languages }
+
+-- a handler takes the exception, or the program ends
+abbrev pub decides : FrameAction → Bool
+decides Nothing = false
+decides (Cleanup pad) = false
+decides (Handler pad number) = true
+decides Terminate = true
+decides TerminateAfterCleanups = true
+
 -- the search stops where a frame decides, and a cleanup pass where anything is asked
-abbrev pub stops : Phase → Action → Bool
+abbrev pub stops : Phase → FrameAction → Bool
 stops phase.Search action = decides action
-stops phase.Cleanup NoAction = false
+stops phase.Cleanup Nothing = false
 stops phase.Cleanup _ = true
 
 -- a context whose stack pointer is past the arguments that the callee removes
@@ -34,39 +54,39 @@ past_arguments c size = record c { registers = slice_set c.registers rsp ((slice
 pub record Stop : Type 0 where
   pub context : Context
   pub interrupted : Bool
-  pub action : Action
+  pub action : FrameAction
   pub past : Context
 
 -- what a pass meets at a context: the end of the stack, an action for which it stops, or the caller
 pub data Turn : Type 0 where
   Ends : Turn
-  Stops : Action → Context → Turn
+  Stops : FrameAction → Context → Turn
   Goes : Stepped → Turn
 
 -- the action, where the pass stops for it
-abbrev pub stop_by : Phase → Action → Option Action
+abbrev pub stop_by : Phase → FrameAction → Option FrameAction
 stop_by p action = if stops p action then Some action else None
 
--- For which action a frame stops who goes outwards: a walk, which has no phase, for none, and a pass for what the frame asks.
-abbrev pub stop_of : Option Phase → List Span → Context → Bool → FrameAt → Result (Option Action) DeliverError
+-- For which action a frame stops who goes outwards: a walk, which is no pass, for none, and a pass for what the frame asks.
+abbrev pub stop_of : Option Pass → List Span → Context → Bool → FrameAt → Result (Option FrameAction) DeliverError
 stop_of None image c interrupted f = Ok None
-stop_of (Some p) image c interrupted f = result_map (stop_by p) (action_asked image c interrupted f)
+stop_of (Some p) image c interrupted f = result_map (stop_by p.phase) (frame_asks p.languages image c interrupted f)
 
 -- at a frame: it stops there for an action, or its caller is next
-abbrev pub turn_at : List Span → Context → FrameAt → Option Action → Result Turn DeliverError
+abbrev pub turn_at : List Span → Context → FrameAt → Option FrameAction → Result Turn DeliverError
 turn_at image c f None = result_map Goes (caller_by image c f)
 turn_at image c f (Some action) = Ok (Stops action (past_arguments c (arguments_of f)))
 
-abbrev pub turn_in : Option Phase → List Span → Context → Bool → Option FrameAt → Result Turn DeliverError
-turn_in phase image c interrupted None = Ok Ends
-turn_in phase image c interrupted (Some f) = stop_of phase image c interrupted f >>= turn_at image c f
+abbrev pub turn_in : Option Pass → List Span → Context → Bool → Option FrameAt → Result Turn DeliverError
+turn_in pass image c interrupted None = Ok Ends
+turn_in pass image c interrupted (Some f) = stop_of pass image c interrupted f >>= turn_at image c f
 
 -- A walk or a pass at a context. What is found there is read first, a row among it, then what names the handler, then the language
 -- table, and the caller last.
-unfoldable pub turn_for : Option Phase → SpaceValue → Context → Bool → Result Turn DeliverError
-turn_for phase space c interrupted = frame_of space c interrupted >>= turn_in phase space.image c interrupted
+unfoldable pub turn_for : Option Pass → SpaceValue → Context → Bool → Result Turn DeliverError
+turn_for pass space c interrupted = frame_of space c interrupted >>= turn_in pass space.image c interrupted
 
-abbrev pub turn_of : Phase → SpaceValue → Context → Bool → Result Turn DeliverError
+abbrev pub turn_of : Pass → SpaceValue → Context → Bool → Result Turn DeliverError
 turn_of p = turn_for (Some p)
 
 -- the contexts that are met on the way outwards, and where it stops, None at the end of the stack
@@ -84,23 +104,17 @@ line_turn c interrupted (Ok (Goes next)) outer = with_context c (outer next.cont
 line_turn c interrupted (Err e) outer = Err e
 
 -- From a context outwards, where there is room for so many contexts.
-abbrev pub line_for : Option Phase → SpaceValue → ℕ → Context → Bool → Result Line DeliverError
-line_for phase space zero c interrupted = Err FrameLimit
-line_for phase space (suc room) c interrupted = line_turn c interrupted (turn_for phase space c interrupted) (line_for phase space room)
+abbrev pub line_for : Option Pass → SpaceValue → ℕ → Context → Bool → Result Line DeliverError
+line_for pass space zero c interrupted = Err FrameLimit
+line_for pass space (suc room) c interrupted = line_turn c interrupted (turn_for pass space c interrupted) (line_for pass space room)
 
-abbrev pub pass_of : Phase → SpaceValue → ℕ → Context → Bool → Result Line DeliverError
+abbrev pub pass_of : Pass → SpaceValue → ℕ → Context → Bool → Result Line DeliverError
 pass_of p = line_for (Some p)
 
 -- the mark by which a pass knows the frame that the search decided for: its stack pointer, less 1 after a signal's frame
 abbrev pub mark_at : Context → Bool → ℕ
 mark_at c interrupted = frame_mark interrupted (slice_index c.registers rsp)
 
-abbrev pub pad_of : Action → Option ℕ
-pad_of (Cleanup pad) = Some pad
-pad_of (Catch pad) = Some pad
-pad_of (Filter pad) = Some pad
-pad_of _ = None
-
--- a context that enters a landing pad: RAX holds the exception, and RDX 0
-abbrev pub enters : Context → ℕ → ℕ → Context
-enters c exception pad = record c { registers = slice_set (slice_set c.registers rax exception) rdx 0; ra = pad }
+-- a context that enters a landing pad: RAX holds the exception, and RDX the number of the handler, or 0
+abbrev pub enters : Context → ℕ → ℕ → ℕ → Context
+enters c exception number pad = record c { registers = slice_set (slice_set c.registers rax exception) rdx number; ra = pad }

@@ -3,7 +3,7 @@ use Rattle.std.specs.Prelude.{◌≡◌, ◌⊎◌, ℕ, zero, suc, ◌<◌, Boo
 use Rattle.unwind_definitions.specs.State.{State, Shows}
 use Rattle.unwind_definitions.specs.Function.{Function}
 use Rattle.unwind_definitions.specs.Chain.{Call, states_of, StacksRise}
-use Rattle.format_definitions.specs.FormatModules.{IsFormatChain}
+use Rattle.format_definitions.specs.Modules.{IsDescribedChain}
 use Rattle.unwind_arch.specs.declared.x86_64.Context.{Context}
 use Rattle.unwind_arch.specs.ContextViews.{columns_of}
 use Rattle.stack_walks.specs.declared.room.Trail.{Trail}
@@ -43,7 +43,7 @@ StepFails space (suc room) c interrupted e = (step_of space c interrupted ≡ Er
 -- A context shows the innermost state of a chain of calls that is shorter than the limit. The modules are of whatever format each,
 -- ELF, Mach-O or PE: the unwind data that each module has by its format describe the functions of the chain that lie in it.
 pub record StartsChain (space : SpaceValue) (c : Context) (limit : ℕ) (functions : List Function) (s : State) (calls : List Call) : Type 0 where
-  pub described : IsFormatChain space.image (formats_of space) functions s calls
+  pub described : IsDescribedChain space.image (formats_of space) functions s calls
   pub shows : Shows (columns_of c) s
   pub shorter : length calls < limit
 

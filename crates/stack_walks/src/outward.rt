@@ -2,14 +2,13 @@
 // handling, level I, section 1.3.
 ghost use Rattle.std.specs.Prelude.{◌≡◌, ◌≤◌, ◌<◌, ◌*◌, Err, [], true, false};
 ghost use Rattle.std.specs.Prelude.{length, None, Some, OnErr, IfOk};
-ghost use Rattle.std.specs.Option.{option_map};
-ghost use Rattle.unwinding_frames.specs.LanguageViews.{action_of};
 ghost use Rattle.stack_walks.specs.Turns.{stops, stop_of, past_arguments, turn_for, line_for};
-ghost use Rattle.stack_walks.specs.Turns.{mark_at, pad_of, enters};
+ghost use Rattle.stack_walks.specs.Turns.{mark_at, enters};
+ghost use Rattle.stack_steps.specs.Languages.{selector_of};
 ghost use Rattle.stack_walks.specs.Fronts.{reached_by, turned_from, IsReached, WalksOutwards};
 ghost use Rattle.stack_steps.specs.FrameViews.{IsFrameOf};
 ghost use Rattle.stack_steps.specs.Stepping.{FrameAt};
-ghost use Rattle.stack_walks.specs.TurnViews.{turn_shown, visits};
+ghost use Rattle.stack_walks.specs.TurnViews.{passing, turn_shown, visits};
 ghost use Rattle.stack_walks.specs.TurnViews.{visited_with, StaysAt, IsOutward};
 ghost use Rattle.memory_image.specs.Results.{result_map};
 ghost use Rattle.stack_walks.specs.ContextsMet.{contexts_met};
@@ -19,9 +18,12 @@ use crate::room::Room;
 use eh_frame::RowRoom;
 use fde_finders::FDESearchResult;
 use memory_image::{Ledger, MemoryImage, Steps};
-use stack_steps::{DeliverError, FoundFrame, GrownSpace, Space, Stepped, Stepper, action_asked};
+use stack_steps::{
+    DeliverError, FoundFrame, FrameAction, GrownSpace, Languages, Space, Stepped, Stepper,
+    frame_asks,
+};
 use unwind_arch::x86_64::{Context, RAX, RDX, RSP};
-use unwinding_frames::{EhAction, frame_mark};
+use unwinding_frames::frame_mark;
 
 /// What a pass over the stack is for.
 #[derive(Clone, Copy)]
@@ -34,35 +36,43 @@ pub enum Phase {
 
 impl Phase {
     /// Whether a pass stops at a frame of which this is asked.
-    fn stops(self, action: EhAction) -> bool
-        ensures { result ≡ stops self (action_of action) }
+    fn stops(self, action: FrameAction) -> bool
+        ensures { result ≡ stops self action }
     {
         match action {
-            EhAction::None => false,
-            EhAction::Cleanup(_) => matches!(self, Phase::Cleanup),
-            EhAction::Catch(_) | EhAction::Filter(_) | EhAction::Terminate => true,
+            FrameAction::Nothing => false,
+            FrameAction::Cleanup(_) => matches!(self, Phase::Cleanup),
+            FrameAction::Handler(_, _)
+            | FrameAction::Terminate
+            | FrameAction::TerminateAfterCleanups => true,
         }
     }
+}
+
+/// A pass over the stack.
+#[derive(Clone, Copy)]
+pub struct Pass<'l> {
+    /// What it is for.
+    pub phase: Phase,
+    /// The languages of the functions that it asks.
+    pub languages: Languages<'l>,
 }
 
 /// Where a pass stops.
 #[derive(Clone, Copy)]
 pub struct Stop {
     state: Stepped,
-    action: EhAction,
+    action: FrameAction,
     // how many bytes of arguments the frame's callee removes
     arguments: u64,
 }
 
 impl Stop {
-    /// The landing pad that is asked for, `None` where the program is to end.
-    pub fn pad(&self) -> Option<u64>
-        ensures { result ≡ pad_of (action_of self.now.action) }
+    /// What is asked there.
+    pub fn action(&self) -> FrameAction
+        ensures { result ≡ self.now.action }
     {
-        match self.action {
-            EhAction::Cleanup(pad) | EhAction::Catch(pad) | EhAction::Filter(pad) => Some(pad),
-            EhAction::None | EhAction::Terminate => None,
-        }
+        self.action
     }
 
     /// The mark by which a later pass knows the frame.
@@ -75,13 +85,13 @@ impl Stop {
     /// The registers with which a landing pad is entered.
     pub fn entering(&self, exception: u64, pad: u64) -> Context
         ensures { result ≡ enters (past_arguments self.now.state.context self.now.arguments)
-            exception pad }
+            exception (selector_of self.now.action) pad }
     {
         let mut context = self.state.context;
         // Past the arguments that the callee removes.
         context.registers[RSP] = context.registers[RSP].wrapping_add(self.arguments);
         context.registers[RAX] = exception;
-        context.registers[RDX] = 0;
+        context.registers[RDX] = self.action.selector();
         context.ra = pad;
         context
     }
@@ -93,28 +103,28 @@ enum Turn {
     /// The end of the stack.
     End,
     /// An action for which the pass stops, and how many bytes of arguments the callee removes.
-    Stop(EhAction, u64),
+    Stop(FrameAction, u64),
     /// The caller, which stands in the state's place.
     Caller,
 }
 
-/// The action for which a pass stops at a frame. A walk, which has no phase, stops for none.
+/// The action for which a pass stops at a frame. A walk, which is no pass, stops for none.
 #[inline(always)]
 fn stop_action(
-    phase: Option<Phase>,
+    pass: Option<Pass<'_>>,
     image: &MemoryImage<'_>,
     state: &Stepped,
     frame: &FoundFrame<'_, '_>,
-) -> Result<Option<EhAction>, DeliverError>
+) -> Result<Option<FrameAction>, DeliverError>
     ensures { (f : FrameAt) → IsFrameOf frame.now f →
-        result_map (option_map action_of) result ≡ stop_of phase image.now state.now.context
+        result ≡ stop_of (passing pass.entry) image.now state.now.context
         state.now.signal f }
 {
-    let Some(phase) = phase else {
+    let Some(pass) = pass else {
         return Ok(None);
     };
-    let action = action_asked(image, state, frame)?;
-    if phase.stops(action) {
+    let action = frame_asks(&pass.languages, image, state, frame)?;
+    if pass.phase.stops(action) {
         Ok(Some(action))
     } else {
         Ok(None)
@@ -125,7 +135,7 @@ fn stop_action(
 /// place. `place` is for what a search finds.
 #[tactic(auto, unfolding(crate::specs::Turns::turn_for))]
 fn meet<'t, 'a, L: Ledger>(
-    phase: Option<Phase>,
+    pass: Option<Pass<'_>>,
     stepper: &mut Stepper<'_, 't, 'a>,
     state: &mut Stepped,
     place: &mut Option<FDESearchResult<'a>>,
@@ -135,8 +145,8 @@ fn meet<'t, 'a, L: Ledger>(
 where
     't: 'a,
     ensures same { stepper.new ≡ stepper.old }
-    ensures met { result_map (turn_shown state.new) result ≡ turn_for phase stepper.old
-        state.old.context state.old.signal }
+    ensures met { result_map (turn_shown state.new) result ≡
+        turn_for (passing pass.entry) stepper.old state.old.context state.old.signal }
     ensures stays { IfOk result (λ turn. StaysAt turn state.old state.new) }
     ensures unmoved { OnErr result (state.new ≡ state.old) }
     ensures ticks { TicksAt stepper.old state.old.context state.old.signal steps.old.number
@@ -146,7 +156,7 @@ where
     let found = stepper.frame_at(state, place, rows, steps);
     match &found {
         Ok(Some(frame)) => {
-            if let Some(action) = stop_action(phase, stepper.image(), state, frame)? {
+            if let Some(action) = stop_action(pass, stepper.image(), state, frame)? {
                 return Ok(Turn::Stop(action, frame.arguments()));
             }
             stepper.leave(state, frame)?;
@@ -157,25 +167,35 @@ where
     }
 }
 
-/// Puts a state into the room, but in a cleanup pass: the search put it there.
-fn visit(phase: Option<Phase>, state: &Stepped, room: &mut Room)
-    requires { visits phase ≡ true → length room.old.visited < room.old.limit }
-    ensures { room.new ≡ visited_with (visits phase) room.old state.now.context }
+/// Whether states are put into the room: not by a cleanup pass, as the search put them there.
+fn visits(pass: Option<Pass<'_>>) -> bool
+    ensures { result ≡ visits (passing pass.entry) }
 {
-    match phase {
-        Some(Phase::Cleanup) => {}
-        None | Some(Phase::Search) => {
-            let _ = room.visit(state.context);
-        }
+    match pass {
+        None => true,
+        Some(pass) => match pass.phase {
+            Phase::Search => true,
+            Phase::Cleanup => false,
+        },
     }
 }
 
-/// Goes from a state outwards: a walk, which has no phase and puts each state into the room, the
+/// Puts a state into the room, but in a cleanup pass.
+fn visit(pass: Option<Pass<'_>>, state: &Stepped, room: &mut Room)
+    requires { visits (passing pass) ≡ true → length room.old.visited < room.old.limit }
+    ensures { room.new ≡ visited_with (visits (passing pass.entry)) room.old state.now.context }
+{
+    if visits(pass) {
+        let _ = room.visit(state.context);
+    }
+}
+
+/// Goes from a state outwards: a walk, which is no pass and puts each state into the room, the
 /// search, which does so too, or a cleanup pass. It answers where it stops, `None` at the end of
 /// the stack. `state` is then the last state that was met or, after `FrameLimit`, the next. The space
 /// may be seen over an image that has grown.
 pub fn outwards_over<'t, 'a, L: Ledger>(
-    phase: Option<Phase>,
+    pass: Option<Pass<'_>>,
     space: &GrownSpace<'_, 't, 'a>,
     state: &mut Stepped,
     limit: u32,
@@ -186,22 +206,24 @@ pub fn outwards_over<'t, 'a, L: Ledger>(
 where
     't: 'a,
     requires within { limit ≤ room.old.limit }
-    requires empty { visits phase ≡ true → room.old.visited ≡ [] }
-    ensures exact { IsOutward (visits phase) result room.new
-        (line_for phase space.now limit state.old.context state.old.signal) }
-    ensures reached { IsReached (visits phase) room.new state.new
-        (reached_by (turned_from phase space.now) limit state.old) }
+    requires empty { visits (passing pass) ≡ true → room.old.visited ≡ [] }
+    ensures exact { IsOutward (visits (passing pass.entry)) result room.new
+        (line_for (passing pass.entry) space.now limit state.old.context
+        state.old.signal) }
+    ensures reached { IsReached (visits (passing pass.entry)) room.new state.new
+        (reached_by (turned_from (passing pass.entry) space.now) limit state.old) }
     ensures kept { (room.new.trail ≡ room.old.trail) × (room.new.limit ≡ room.old.limit) }
-    ensures stays { visits phase ≡ false → room.new ≡ room.old }
+    ensures stays { visits (passing pass.entry) ≡ false → room.new ≡ room.old }
     ensures ticks { RisesWithin space.now
-        (contexts_met phase space.now limit state.old.context state.old.signal)
+        (contexts_met (passing pass.entry) space.now limit state.old.context
+        state.old.signal)
         steps.old.number steps.new.number }
 {
     let mut stepper = Stepper::over(space, state.context.registers[RSP]);
     let mut place = None;
     for _ in 0..limit {
-        visit(phase, state, room);
-        match meet(phase, &mut stepper, state, &mut place, rows, steps)? {
+        visit(pass, state, room);
+        match meet(pass, &mut stepper, state, &mut place, rows, steps)? {
             Turn::End => return Ok(None),
             Turn::Stop(action, arguments) => {
                 return Ok(Some(Stop {
@@ -246,7 +268,7 @@ where
 
 /// Goes from a state outwards over a space, as [`outwards_over`] does.
 pub fn outwards<'a, L: Ledger>(
-    phase: Option<Phase>,
+    pass: Option<Pass<'_>>,
     space: &Space<'a>,
     state: &mut Stepped,
     limit: u32,
@@ -255,17 +277,19 @@ pub fn outwards<'a, L: Ledger>(
     steps: &mut Steps<L>,
 ) -> Result<Option<Stop>, DeliverError>
     requires within { limit ≤ room.old.limit }
-    requires empty { visits phase ≡ true → room.old.visited ≡ [] }
-    ensures exact { IsOutward (visits phase) result room.new
-        (line_for phase space.now limit state.old.context state.old.signal) }
-    ensures reached { IsReached (visits phase) room.new state.new
-        (reached_by (turned_from phase space.now) limit state.old) }
+    requires empty { visits (passing pass) ≡ true → room.old.visited ≡ [] }
+    ensures exact { IsOutward (visits (passing pass.entry)) result room.new
+        (line_for (passing pass.entry) space.now limit state.old.context
+        state.old.signal) }
+    ensures reached { IsReached (visits (passing pass.entry)) room.new state.new
+        (reached_by (turned_from (passing pass.entry) space.now) limit state.old) }
     ensures kept { (room.new.trail ≡ room.old.trail) × (room.new.limit ≡ room.old.limit) }
-    ensures stays { visits phase ≡ false → room.new ≡ room.old }
+    ensures stays { visits (passing pass.entry) ≡ false → room.new ≡ room.old }
     ensures ticks { RisesWithin space.now
-        (contexts_met phase space.now limit state.old.context state.old.signal)
+        (contexts_met (passing pass.entry) space.now limit state.old.context
+        state.old.signal)
         steps.old.number steps.new.number }
 {
     let own = space.over_own_image();
-    outwards_over(phase, &own, state, limit, room, rows, steps)
+    outwards_over(pass, &own, state, limit, room, rows, steps)
 }
