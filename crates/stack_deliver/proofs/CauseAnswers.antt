@@ -1,7 +1,8 @@
 -- When a delivery answers that the trail is full or a cleanup has no return address.
 use Rattle.std.proofs.Common.{inl, inr, ◌≡◌, ℕ, zero, suc, Bool, true, false, cond, List, Option, Some, None, Result, Ok, Err, refl, sym, ap, subst, ◌∙◌, arith}
 use Rattle.std.specs.Prelude.{◌⊎◌}
-use Rattle.unwind_definitions.specs.Function.{Action}
+use Rattle.stack_steps.specs.declared.asking.FrameAction.{FrameAction}
+use Rattle.stack_steps.specs.Languages.{Languages, asks_if_named, frame_asks, is_taken, routine_of}
 use Rattle.memory_image.specs.Results.{result_map}
 use Rattle.unwind_definitions.specs.LanguageSearch.{LanguagePlace, address_of_call, personality_address}
 use Rattle.unwind_definitions.specs.Caller as calls
@@ -11,8 +12,6 @@ use Rattle.stack_walks.specs.declared.room.Trail.{Trail}
 use Rattle.format_frames.specs.declared.machine.Stepped.{Stepped}
 use Rattle.stack_steps.specs.declared.answers.DeliverError.{DeliverError}
 use Rattle.stack_steps.specs.declared.answers.DeliverError.TheVariants.{FrameLimit, PassLimit, NoResume}
-use Rattle.stack_walks.specs.declared.outward.Phase.{Phase}
-use Rattle.stack_walks.specs.declared.outward.Phase.TheVariants as phase
 use Rattle.stack_steps.specs.Modules.{SpaceValue}
 use Rattle.stack_deliver.specs.Resumes.{return_of}
 use Rattle.stack_steps.specs.Stepping.{step_of, refusal_of, frame_refusal, FrameAt, Described, Compact, Recorded, frame_of, caller_by}
@@ -20,25 +19,25 @@ use Rattle.pe_unwind_info.specs.declared.x86_64.fault.FrameFault.{FrameFault}
 use Rattle.pe_unwind_info.specs.declared.x86_64.fault.FrameFault.TheVariants as pe
 use Rattle.macho_unwind_info.specs.declared.error.Error.{Error}
 use Rattle.format_frames.specs.Handlers.{macho_place, pe_place}
-use Rattle.stack_steps.specs.Asking.{action_if_named, action_asked, compact_table, named_table, recorded_table, table_if_named}
-use Rattle.stack_walks.specs.Turns.{turn_at, stops, Line, Stop, Turn, Ends, Stops, Goes, turn_of, with_context, line_turn, pass_of, mark_at, pad_of, turn_for}
+use Rattle.stack_steps.specs.Asking.{compact_table, named_table, recorded_table, table_if_named}
+use Rattle.stack_walks.specs.Turns.{Pass, cleaning, searching, turn_at, stops, Line, Stop, Turn, Ends, Stops, Goes, turn_of, with_context, line_turn, pass_of, mark_at, turn_for}
 use Rattle.stack_deliver.specs.Passes.{PassEnd, Finishes, Elsewhere, end_of, cleanup_of, cleanup_at, resume_at, CleanupsRun, with_cleanup, cleanup_and_rest, after_pass, passes_of}
-use Rattle.stack_deliver.specs.StackDelivery.{delivery_after, delivery_at, delivery_to, delivery_by, stack_delivery}
+use Rattle.stack_deliver.specs.StackDelivery.{delivery_after, delivery_at, delivery_to, delivery_by, delivery_through}
 use Rattle.stack_steps.proofs.StepParts.{some_next, stepped_by, step_is}
 use Rattle.stack_deliver.proofs.TurnParts.{goes, turn_asked, turn_by}
 use Rattle.stack_walks.proofs.LineAnswers.{IsStepFault, OnStepFault, step_faults}
 use Rattle.stack_deliver.specs.Causes.{TakenAt, SomePass, TrailIsFull, HasNoReturn, InPasses}
 
-module _ (space : SpaceValue) (exception kept : ℕ) (resumes : List (ℕ × ℕ)) (limit : ℕ) where
+module _ (languages : Languages) (space : SpaceValue) (exception kept : ℕ) (resumes : List (ℕ × ℕ)) (limit : ℕ) where
   abbrev passes : ℕ → Context → Result CleanupsRun DeliverError
-  passes = passes_of space exception kept resumes limit
+  passes = passes_of languages space exception kept resumes limit
 
   abbrev later : ℕ → ℕ → Context → Result CleanupsRun DeliverError
   later n pad entered = cleanup_and_rest (cleanup_at pad entered) (resume_at pad entered (return_of resumes pad)) (passes n)
 
   -- the pass from a context is refused so, or the cleanup that it enters is
   abbrev pub RefusesNow : DeliverError → ℕ → Context → Type 0
-  RefusesNow e places c = (cleanup_of space exception kept limit c ≡ Err e) ⊎ ((e ≡ PassLimit) × TrailIsFull space exception kept resumes limit places c) ⊎ ((pad : ℕ) × (e ≡ NoResume pad) × HasNoReturn space exception kept resumes limit pad places c)
+  RefusesNow e places c = (cleanup_of languages space exception kept limit c ≡ Err e) ⊎ ((e ≡ PassLimit) × TrailIsFull languages space exception kept resumes limit places c) ⊎ ((pad : ℕ) × (e ≡ NoResume pad) × HasNoReturn languages space exception kept resumes limit pad places c)
 
   cleanup_error : (t : Trail) (r : Result CleanupsRun DeliverError) (e : DeliverError) → with_cleanup t r ≡ Err e → r ≡ Err e
   cleanup_error t (Ok x) e is = absurd cc
@@ -48,34 +47,34 @@ module _ (space : SpaceValue) (exception kept : ℕ) (resumes : List (ℕ × ℕ
   same_error x e is = cc
 
   -- what refuses passes refuses one of them
-  pub refused_in : (places : ℕ) (c : Context) (e : DeliverError) → passes places c ≡ Err e → SomePass space exception kept resumes limit (RefusesNow e) places c
-  refused_in zero c e fails = go (cleanup_of space exception kept limit c) refl fails
+  pub refused_in : (places : ℕ) (c : Context) (e : DeliverError) → passes places c ≡ Err e → SomePass languages space exception kept resumes limit (RefusesNow e) places c
+  refused_in zero c e fails = go (cleanup_of languages space exception kept limit c) refl fails
     where
-      go : (r : Result PassEnd DeliverError) → cleanup_of space exception kept limit c ≡ r → after_pass r (λ pad entered. Err PassLimit) ≡ Err e → RefusesNow e zero c
+      go : (r : Result PassEnd DeliverError) → cleanup_of languages space exception kept limit c ≡ r → after_pass r (λ pad entered. Err PassLimit) ≡ Err e → RefusesNow e zero c
       go (Ok (Finishes ending)) is h = absurd cc
       go (Ok (Elsewhere pad entered)) is h = inr (inl (sym (same_error PassLimit e h), (refl, (pad, entered, is))))
       go (Err x) is h = inl (is ∙ ap (λ (y : DeliverError). failed y) (same_error x e h))
         where
           failed : DeliverError → Result PassEnd DeliverError
           failed y = Err y
-  refused_in (suc n) c e fails = go (cleanup_of space exception kept limit c) refl (λ d h. refused_in n d e h) fails
+  refused_in (suc n) c e fails = go (cleanup_of languages space exception kept limit c) refl (λ d h. refused_in n d e h) fails
     where
-      at_return : (pad : ℕ) (entered : Context) (o : Option ℕ) → cleanup_of space exception kept limit c ≡ Ok (Elsewhere pad entered) → return_of resumes pad ≡ o → ((d : Context) → passes n d ≡ Err e → SomePass space exception kept resumes limit (RefusesNow e) n d) →
-          cleanup_and_rest (cleanup_at pad entered) (resume_at pad entered o) (passes n) ≡ Err e → SomePass space exception kept resumes limit (RefusesNow e) (suc n) c
+      at_return : (pad : ℕ) (entered : Context) (o : Option ℕ) → cleanup_of languages space exception kept limit c ≡ Ok (Elsewhere pad entered) → return_of resumes pad ≡ o → ((d : Context) → passes n d ≡ Err e → SomePass languages space exception kept resumes limit (RefusesNow e) n d) →
+          cleanup_and_rest (cleanup_at pad entered) (resume_at pad entered o) (passes n) ≡ Err e → SomePass languages space exception kept resumes limit (RefusesNow e) (suc n) c
       at_return pad entered None is found outer h = inl (inr (inr (pad, sym (same_error (NoResume pad) e h), (omega arith, (entered, is, found)))))
       at_return pad entered (Some ret) is found outer h = inr (pad, entered, ret, is, found, outer (record entered { ra = ret }) (cleanup_error (cleanup_at pad entered) (passes n (record entered { ra = ret })) e h))
 
       failed : DeliverError → Result PassEnd DeliverError
       failed y = Err y
 
-      go : (r : Result PassEnd DeliverError) → cleanup_of space exception kept limit c ≡ r → ((d : Context) → passes n d ≡ Err e → SomePass space exception kept resumes limit (RefusesNow e) n d) → after_pass r (later n) ≡ Err e →
-          SomePass space exception kept resumes limit (RefusesNow e) (suc n) c
+      go : (r : Result PassEnd DeliverError) → cleanup_of languages space exception kept limit c ≡ r → ((d : Context) → passes n d ≡ Err e → SomePass languages space exception kept resumes limit (RefusesNow e) n d) → after_pass r (later n) ≡ Err e →
+          SomePass languages space exception kept resumes limit (RefusesNow e) (suc n) c
       go (Ok (Finishes ending)) is outer h = absurd cc
       go (Ok (Elsewhere pad entered)) is outer h = at_return pad entered (return_of resumes pad) is refl outer h
       go (Err x) is outer h = inl (inl (is ∙ ap failed (same_error x e h)))
 
   -- a pass that is refused refuses all
-  pub some_refused : (P : ℕ → Context → Type 0) (e : DeliverError) → ((places : ℕ) (d : Context) → P places d → passes places d ≡ Err e) → (places : ℕ) (c : Context) → SomePass space exception kept resumes limit P places c → passes places c ≡ Err e
+  pub some_refused : (P : ℕ → Context → Type 0) (e : DeliverError) → ((places : ℕ) (d : Context) → P places d → passes places d ≡ Err e) → (places : ℕ) (c : Context) → SomePass languages space exception kept resumes limit P places c → passes places c ≡ Err e
   some_refused P e each zero c holds = each zero c holds
   some_refused P e each (suc n) c (inl holds) = each (suc n) c holds
   some_refused P e each (suc n) c (inr r) =
@@ -84,18 +83,18 @@ module _ (space : SpaceValue) (exception kept : ℕ) (resumes : List (ℕ × ℕ
       let rest : passes n d ≡ Err e = some_refused P e each n d r.5 in
       ap (λ x. after_pass x (later n)) r.3 ∙ ap (λ (o : Option ℕ). cleanup_and_rest (cleanup_at pad entered) (resume_at pad entered o) (passes n)) r.4 ∙ ap (with_cleanup (cleanup_at pad entered)) rest
 
-  pub full_refuses : (places : ℕ) (c : Context) → TrailIsFull space exception kept resumes limit places c → passes places c ≡ Err PassLimit
+  pub full_refuses : (places : ℕ) (c : Context) → TrailIsFull languages space exception kept resumes limit places c → passes places c ≡ Err PassLimit
   full_refuses zero c full = ap (λ x. after_pass x (λ pad entered. Err PassLimit)) full.1.2
   full_refuses (suc n) c full = let none = full.0 in absurd (omega arith)
 
-  pub no_return_refuses : (pad places : ℕ) (c : Context) → HasNoReturn space exception kept resumes limit pad places c → passes places c ≡ Err (NoResume pad)
+  pub no_return_refuses : (pad places : ℕ) (c : Context) → HasNoReturn languages space exception kept resumes limit pad places c → passes places c ≡ Err (NoResume pad)
   no_return_refuses pad zero c none = let some = none.0 in absurd (omega arith)
   no_return_refuses pad (suc n) c none =
       let entered : Context = none.1.0 in
       ap (λ x. after_pass x (later n)) none.1.1 ∙ ap (λ (o : Option ℕ). cleanup_and_rest (cleanup_at pad entered) (resume_at pad entered o) (passes n)) none.1.2
 
   -- one pass is of a kind where one of another is
-  pub some_pass : (P Q : ℕ → Context → Type 0) → ((places : ℕ) (d : Context) → P places d → Q places d) → (places : ℕ) (c : Context) → SomePass space exception kept resumes limit P places c → SomePass space exception kept resumes limit Q places c
+  pub some_pass : (P Q : ℕ → Context → Type 0) → ((places : ℕ) (d : Context) → P places d → Q places d) → (places : ℕ) (c : Context) → SomePass languages space exception kept resumes limit P places c → SomePass languages space exception kept resumes limit Q places c
   some_pass P Q each zero c holds = each zero c holds
   some_pass P Q each (suc n) c (inl holds) = inl (each (suc n) c holds)
   some_pass P Q each (suc n) c (inr r) = inr (r.0, r.1, r.2, r.3, r.4, some_pass P Q each n (record r.1 { ra = r.2 }) r.5)
@@ -103,7 +102,7 @@ module _ (space : SpaceValue) (exception kept : ℕ) (resumes : List (ℕ × ℕ
 -- ---- a pass's own errors are faults and its limit
 
 module _ (space : SpaceValue) where
-  pub turn_faults : (p : Phase) (c : Context) (interrupted : Bool) → OnStepFault (turn_of p space c interrupted)
+  pub turn_faults : (p : Pass) (c : Context) (interrupted : Bool) → OnStepFault (turn_of p space c interrupted)
   unfolding turn_for
   turn_faults p c interrupted = by_frame (frame_of space c interrupted) refl
     where
@@ -114,12 +113,12 @@ module _ (space : SpaceValue) where
       by_caller f framed (Ok next) is = tt
       by_caller f framed (Err e) is = of_step e (step_is space c interrupted ∙ ap (stepped_by space.image c) framed ∙ ap some_next is)
 
-      by_test : (f : FrameAt) → frame_of space c interrupted ≡ Ok (Some f) → (asked : Action) (b : Bool) → OnStepFault (turn_at space.image c f (cond b (Some asked) None))
+      by_test : (f : FrameAt) → frame_of space c interrupted ≡ Ok (Some f) → (asked : FrameAction) (b : Bool) → OnStepFault (turn_at space.image c f (cond b (Some asked) None))
       by_test f framed asked true = tt
       by_test f framed asked false = by_caller f framed (caller_by space.image c f) refl
 
-      by_action : (f : FrameAt) → frame_of space c interrupted ≡ Ok (Some f) → (r : Result Action DeliverError) → OnStepFault r → OnStepFault (turn_asked p space.image c f r)
-      by_action f framed (Ok asked) on = by_test f framed asked (stops p asked)
+      by_action : (f : FrameAt) → frame_of space c interrupted ≡ Ok (Some f) → (r : Result FrameAction DeliverError) → OnStepFault r → OnStepFault (turn_asked p space.image c f r)
+      by_action f framed (Ok asked) on = by_test f framed asked (stops p.phase asked)
       by_action f framed (Err e) on = on
 
       refused : (e : calls.StepFault) → IsStepFault (refusal_of e)
@@ -151,16 +150,16 @@ module _ (space : SpaceValue) where
       named (Compact m listed) = compacted (macho_place space.image m listed)
       named (Recorded m rva function) = recorded (pe_place space.image m function)
 
-      by_named : (r : Result (Option (Result LanguagePlace calls.StepFault)) DeliverError) → OnStepFault r → OnStepFault (result_map (action_if_named space.image (address_of_call c.ra interrupted)) r)
-      by_named (Ok place) on = tt
-      by_named (Err e) on = on
+      by_named : (f : FrameAt) (r : Result (Option (Result LanguagePlace calls.StepFault)) DeliverError) → OnStepFault r → OnStepFault (result_map (asks_if_named p.languages space.image (address_of_call c.ra interrupted) (routine_of space.image f)) r)
+      by_named f (Ok place) on = tt
+      by_named f (Err e) on = on
 
-      asks : (f : FrameAt) → OnStepFault (action_asked space.image c interrupted f)
-      asks f = by_named (named_table space.image f) (named f)
+      asks : (f : FrameAt) → OnStepFault (frame_asks p.languages space.image c interrupted f)
+      asks f = by_named f (named_table space.image f) (named f)
 
       by_frame : (r : Result (Option FrameAt) DeliverError) → frame_of space c interrupted ≡ r → OnStepFault (turn_by p space.image c interrupted r)
       by_frame (Ok None) is = tt
-      by_frame (Ok (Some f)) is = by_action f is (action_asked space.image c interrupted f) (asks f)
+      by_frame (Ok (Some f)) is = by_action f is (frame_asks p.languages space.image c interrupted f) (asks f)
       by_frame (Err e) is = of_step e (step_is space c interrupted ∙ ap (stepped_by space.image c) is)
 
   abbrev IsOfPass : DeliverError → Type 0
@@ -174,7 +173,7 @@ module _ (space : SpaceValue) where
   context_on c (Ok line) on = tt
   context_on c (Err e) on = on
 
-  pass_faults_only : (p : Phase) (room : ℕ) (c : Context) (interrupted : Bool) → OnPass (pass_of p space room c interrupted)
+  pass_faults_only : (p : Pass) (room : ℕ) (c : Context) (interrupted : Bool) → OnPass (pass_of p space room c interrupted)
   pass_faults_only p zero c interrupted = inl refl
   pass_faults_only p (suc room) c interrupted = go (turn_of p space c interrupted) (turn_faults p c interrupted) (λ d mark. pass_faults_only p room d mark)
     where
@@ -184,18 +183,18 @@ module _ (space : SpaceValue) where
       go (Ok (Goes next)) on outer = context_on c (pass_of p space room next.context next.signal) (outer next.context next.signal)
       go (Err e) on outer = inr on
 
-  pass_error : (p : Phase) (room : ℕ) (c : Context) (e : DeliverError) → pass_of p space room c false ≡ Err e → IsOfPass e
+  pass_error : (p : Pass) (room : ℕ) (c : Context) (e : DeliverError) → pass_of p space room c false ≡ Err e → IsOfPass e
   pass_error p room c e is = subst (λ (r : Result Line DeliverError). OnPass r) is (pass_faults_only p room c false)
 
-  pub never_pass : (p : Phase) (room : ℕ) (c : Context) (e : DeliverError) → (IsOfPass e → ⊥) → pass_of p space room c false ≡ Err e → ⊥
+  pub never_pass : (p : Pass) (room : ℕ) (c : Context) (e : DeliverError) → (IsOfPass e → ⊥) → pass_of p space room c false ≡ Err e → ⊥
   never_pass p room c e never is = never (pass_error p room c e is)
 
-  pub never_cleanup : (exception kept limit : ℕ) (c : Context) (e : DeliverError) → (IsOfPass e → ⊥) → cleanup_of space exception kept limit c ≡ Err e → ⊥
-  never_cleanup exception kept limit c e never is = go (pass_of phase.Cleanup space limit c false) refl is
+  pub never_cleanup : (languages : Languages) (exception kept limit : ℕ) (c : Context) (e : DeliverError) → (IsOfPass e → ⊥) → cleanup_of languages space exception kept limit c ≡ Err e → ⊥
+  never_cleanup languages exception kept limit c e never is = go (pass_of (cleaning languages) space limit c false) refl is
     where
-      go : (r : Result Line DeliverError) → pass_of phase.Cleanup space limit c false ≡ r → end_of exception kept r ≡ Err e → ⊥
+      go : (r : Result Line DeliverError) → pass_of (cleaning languages) space limit c false ≡ r → end_of exception kept r ≡ Err e → ⊥
       go (Ok line) at h = absurd cc
-      go (Err x) at h = let same : x ≡ e = cc in never_pass phase.Cleanup limit c e never (at ∙ ap failed same)
+      go (Err x) at h = let same : x ≡ e = cc in never_pass (cleaning languages) limit c e never (at ∙ ap failed same)
         where
           failed : DeliverError → Result Line DeliverError
           failed y = Err y
@@ -210,85 +209,85 @@ module _ (space : SpaceValue) where
 
 -- ---- the delivery
 
-module _ (space : SpaceValue) (c : Context) (exception : ℕ) (resumes : List (ℕ × ℕ)) (limit : ℕ) where
+module _ (languages : Languages) (space : SpaceValue) (c : Context) (exception : ℕ) (resumes : List (ℕ × ℕ)) (limit : ℕ) where
   abbrev pub toward : ℕ → Result CleanupsRun DeliverError
-  toward kept = passes_of space exception kept resumes limit limit c
+  toward kept = passes_of languages space exception kept resumes limit limit c
 
   after_error : (visited : List Context) (r : Result CleanupsRun DeliverError) (e : DeliverError) → delivery_after visited r ≡ Err e → r ≡ Err e
   after_error visited (Ok x) e is = absurd cc
   after_error visited (Err x) e is = cc
 
   -- what refuses a delivery refuses the search or the passes
-  pub refused_either : (e : DeliverError) → stack_delivery space c exception resumes limit ≡ Err e → (pass_of phase.Search space limit c false ≡ Err e) ⊎ ((kept : ℕ) × TakenAt space limit c kept × (toward kept ≡ Err e))
-  unfolding stack_delivery
-  refused_either e fails = go (pass_of phase.Search space limit c false) refl fails
+  pub refused_either : (e : DeliverError) → delivery_through languages space c exception resumes limit ≡ Err e → (pass_of (searching languages) space limit c false ≡ Err e) ⊎ ((kept : ℕ) × TakenAt languages space limit c kept × (toward kept ≡ Err e))
+  unfolding delivery_through
+  refused_either e fails = go (pass_of (searching languages) space limit c false) refl fails
     where
-      at_pad : (line : Line) → pass_of phase.Search space limit c false ≡ Ok line → (stop : Stop) → line.stop ≡ Some stop → (o : Option ℕ) → pad_of stop.action ≡ o → delivery_at line.contexts o (toward (mark_at stop.context stop.interrupted)) ≡ Err e →
-          (kept : ℕ) × TakenAt space limit c kept × (toward kept ≡ Err e)
-      at_pad line is stop stops None named h = absurd cc
-      at_pad line is stop stops (Some pad) named h = (
+      at_pad : (line : Line) → pass_of (searching languages) space limit c false ≡ Ok line → (stop : Stop) → line.stop ≡ Some stop → (b : Bool) → is_taken stop.action ≡ b → delivery_at line.contexts b (toward (mark_at stop.context stop.interrupted)) ≡ Err e →
+          (kept : ℕ) × TakenAt languages space limit c kept × (toward kept ≡ Err e)
+      at_pad line is stop stops false named h = absurd cc
+      at_pad line is stop stops true named h = (
         mark_at stop.context stop.interrupted,
-        record { line = line; searched = is; stop = stop; stops = stops; pad = pad; takes = named; mark = refl },
+        record { line = line; searched = is; stop = stop; stops = stops; takes = named; mark = refl },
         after_error line.contexts (toward (mark_at stop.context stop.interrupted)) e h,
       )
 
-      at_stop : (line : Line) → pass_of phase.Search space limit c false ≡ Ok line → (o : Option Stop) → line.stop ≡ o → delivery_to line.contexts o toward ≡ Err e → (kept : ℕ) × TakenAt space limit c kept × (toward kept ≡ Err e)
+      at_stop : (line : Line) → pass_of (searching languages) space limit c false ≡ Ok line → (o : Option Stop) → line.stop ≡ o → delivery_to line.contexts o toward ≡ Err e → (kept : ℕ) × TakenAt languages space limit c kept × (toward kept ≡ Err e)
       at_stop line is None stops h = absurd cc
-      at_stop line is (Some stop) stops h = at_pad line is stop stops (pad_of stop.action) refl h
+      at_stop line is (Some stop) stops h = at_pad line is stop stops (is_taken stop.action) refl h
 
-      go : (r : Result Line DeliverError) → pass_of phase.Search space limit c false ≡ r → delivery_by r toward ≡ Err e → (pass_of phase.Search space limit c false ≡ Err e) ⊎ ((kept : ℕ) × TakenAt space limit c kept × (toward kept ≡ Err e))
+      go : (r : Result Line DeliverError) → pass_of (searching languages) space limit c false ≡ r → delivery_by r toward ≡ Err e → (pass_of (searching languages) space limit c false ≡ Err e) ⊎ ((kept : ℕ) × TakenAt languages space limit c kept × (toward kept ≡ Err e))
       go (Ok line) is h = inr (at_stop line is line.stop refl h)
       go (Err x) is h = let same : x ≡ e = cc in inl (is ∙ ap failed same)
         where
           failed : DeliverError → Result Line DeliverError
           failed y = Err y
 
-  refused_by : (e : DeliverError) → (pass_of phase.Search space limit c false ≡ Err e → ⊥) → stack_delivery space c exception resumes limit ≡ Err e → (kept : ℕ) × TakenAt space limit c kept × (toward kept ≡ Err e)
+  refused_by : (e : DeliverError) → (pass_of (searching languages) space limit c false ≡ Err e → ⊥) → delivery_through languages space c exception resumes limit ≡ Err e → (kept : ℕ) × TakenAt languages space limit c kept × (toward kept ≡ Err e)
   refused_by e never fails = go (refused_either e fails)
     where
-      go : (pass_of phase.Search space limit c false ≡ Err e) ⊎ ((kept : ℕ) × TakenAt space limit c kept × (toward kept ≡ Err e)) → (kept : ℕ) × TakenAt space limit c kept × (toward kept ≡ Err e)
+      go : (pass_of (searching languages) space limit c false ≡ Err e) ⊎ ((kept : ℕ) × TakenAt languages space limit c kept × (toward kept ≡ Err e)) → (kept : ℕ) × TakenAt languages space limit c kept × (toward kept ≡ Err e)
       go (inl is) = absurd (never is)
       go (inr r) = r
 
-  pub search_refuses : (e : DeliverError) → pass_of phase.Search space limit c false ≡ Err e → stack_delivery space c exception resumes limit ≡ Err e
-  unfolding stack_delivery
+  pub search_refuses : (e : DeliverError) → pass_of (searching languages) space limit c false ≡ Err e → delivery_through languages space c exception resumes limit ≡ Err e
+  unfolding delivery_through
   search_refuses e is = ap (λ r. delivery_by r toward) is
 
-  pub refuses : (e : DeliverError) (kept : ℕ) → TakenAt space limit c kept → toward kept ≡ Err e → stack_delivery space c exception resumes limit ≡ Err e
-  unfolding stack_delivery
+  pub refuses : (e : DeliverError) (kept : ℕ) → TakenAt languages space limit c kept → toward kept ≡ Err e → delivery_through languages space c exception resumes limit ≡ Err e
+  unfolding delivery_through
   refuses e kept taken fails =
       let own : toward (mark_at taken.stop.context taken.stop.interrupted) ≡ Err e = ap toward (sym taken.mark) ∙ fails in
       ap (λ r. delivery_by r toward) taken.searched ∙ ap (λ o. delivery_to taken.line.contexts o toward) taken.stops
       ∙ ap (λ o. delivery_at taken.line.contexts o (toward (mark_at taken.stop.context taken.stop.interrupted))) taken.takes ∙ ap (delivery_after taken.line.contexts) own
 
   abbrev full_at : ℕ → ℕ → Context → Type 0
-  full_at kept = TrailIsFull space exception kept resumes limit
+  full_at kept = TrailIsFull languages space exception kept resumes limit
 
   abbrev without_return : ℕ → ℕ → ℕ → Context → Type 0
-  without_return pad kept = HasNoReturn space exception kept resumes limit pad
+  without_return pad kept = HasNoReturn languages space exception kept resumes limit pad
 
-  pub limit_met : stack_delivery space c exception resumes limit ≡ Err PassLimit → InPasses space c exception resumes limit full_at
+  pub limit_met : delivery_through languages space c exception resumes limit ≡ Err PassLimit → InPasses languages space c exception resumes limit full_at
   limit_met fails =
-      let r = refused_by PassLimit (never_pass space phase.Search limit c PassLimit (not_full space)) fails in
-      (r.0, r.1, some_pass space exception r.0 resumes limit (RefusesNow space exception r.0 resumes limit PassLimit) (full_at r.0) (narrow r.0) limit c (refused_in space exception r.0 resumes limit limit c PassLimit r.2))
+      let r = refused_by PassLimit (never_pass space (searching languages) limit c PassLimit (not_full space)) fails in
+      (r.0, r.1, some_pass languages space exception r.0 resumes limit (RefusesNow languages space exception r.0 resumes limit PassLimit) (full_at r.0) (narrow r.0) limit c (refused_in languages space exception r.0 resumes limit limit c PassLimit r.2))
     where
-      narrow : (kept places : ℕ) (d : Context) → RefusesNow space exception kept resumes limit PassLimit places d → full_at kept places d
-      narrow kept places d (inl is) = absurd (never_cleanup space exception kept limit d PassLimit (not_full space) is)
+      narrow : (kept places : ℕ) (d : Context) → RefusesNow languages space exception kept resumes limit PassLimit places d → full_at kept places d
+      narrow kept places d (inl is) = absurd (never_cleanup space languages exception kept limit d PassLimit (not_full space) is)
       narrow kept places d (inr (inl full)) = full.1
       narrow kept places d (inr (inr none)) = let bad = none.1 in absurd cc
 
-  pub met_limit : InPasses space c exception resumes limit full_at → stack_delivery space c exception resumes limit ≡ Err PassLimit
-  met_limit r = refuses PassLimit r.0 r.1 (some_refused space exception r.0 resumes limit (full_at r.0) PassLimit (full_refuses space exception r.0 resumes limit) limit c r.2)
+  pub met_limit : InPasses languages space c exception resumes limit full_at → delivery_through languages space c exception resumes limit ≡ Err PassLimit
+  met_limit r = refuses PassLimit r.0 r.1 (some_refused languages space exception r.0 resumes limit (full_at r.0) PassLimit (full_refuses languages space exception r.0 resumes limit) limit c r.2)
 
-  pub unresumed : (pad : ℕ) → stack_delivery space c exception resumes limit ≡ Err (NoResume pad) → InPasses space c exception resumes limit (without_return pad)
+  pub unresumed : (pad : ℕ) → delivery_through languages space c exception resumes limit ≡ Err (NoResume pad) → InPasses languages space c exception resumes limit (without_return pad)
   unresumed pad fails =
-      let r = refused_by (NoResume pad) (never_pass space phase.Search limit c (NoResume pad) (not_resumed space pad)) fails in
-      (r.0, r.1, some_pass space exception r.0 resumes limit (RefusesNow space exception r.0 resumes limit (NoResume pad)) (without_return pad r.0) (narrow r.0) limit c (refused_in space exception r.0 resumes limit limit c (NoResume pad) r.2))
+      let r = refused_by (NoResume pad) (never_pass space (searching languages) limit c (NoResume pad) (not_resumed space pad)) fails in
+      (r.0, r.1, some_pass languages space exception r.0 resumes limit (RefusesNow languages space exception r.0 resumes limit (NoResume pad)) (without_return pad r.0) (narrow r.0) limit c (refused_in languages space exception r.0 resumes limit limit c (NoResume pad) r.2))
     where
-      narrow : (kept places : ℕ) (d : Context) → RefusesNow space exception kept resumes limit (NoResume pad) places d → without_return pad kept places d
-      narrow kept places d (inl is) = absurd (never_cleanup space exception kept limit d (NoResume pad) (not_resumed space pad) is)
+      narrow : (kept places : ℕ) (d : Context) → RefusesNow languages space exception kept resumes limit (NoResume pad) places d → without_return pad kept places d
+      narrow kept places d (inl is) = absurd (never_cleanup space languages exception kept limit d (NoResume pad) (not_resumed space pad) is)
       narrow kept places d (inr (inl full)) = let bad = full.0 in absurd cc
       narrow kept places d (inr (inr none)) = let e = none.1 in let named : pad ≡ none.0 = cc in subst (λ (q : ℕ). without_return q kept places d) (sym named) none.2
 
-  pub no_return : (pad : ℕ) → InPasses space c exception resumes limit (without_return pad) → stack_delivery space c exception resumes limit ≡ Err (NoResume pad)
-  no_return pad r = refuses (NoResume pad) r.0 r.1 (some_refused space exception r.0 resumes limit (without_return pad r.0) (NoResume pad) (no_return_refuses space exception r.0 resumes limit pad) limit c r.2)
+  pub no_return : (pad : ℕ) → InPasses languages space c exception resumes limit (without_return pad) → delivery_through languages space c exception resumes limit ≡ Err (NoResume pad)
+  no_return pad r = refuses (NoResume pad) r.0 r.1 (some_refused languages space exception r.0 resumes limit (without_return pad r.0) (NoResume pad) (no_return_refuses languages space exception r.0 resumes limit pad) limit c r.2)

@@ -4,7 +4,6 @@ use Rattle.std.specs.Option.{option_map, option_map_or}
 use Rattle.memory_image.specs.Image.{Span, word_at}
 use Rattle.memory_image.specs.Results.{result_map}
 use Rattle.unwind_definitions.specs.Pointers.{Pointer, Direct, Indirect}
-use Rattle.unwind_definitions.specs.Function.{Action}
 use Rattle.unwind_definitions.specs.LanguageSearch as tables
 use Rattle.unwind_definitions.specs.Caller as calls
 use Rattle.unwind_arch.specs.declared.x86_64.Context.{Context}
@@ -25,15 +24,15 @@ use Rattle.format_frames.specs.declared.machine.Stepped.{Stepped}
 use Rattle.stack_walks.specs.declared.room.Trail.{Trail}
 use Rattle.stack_steps.specs.declared.answers.DeliverError.{DeliverError}
 use Rattle.stack_steps.specs.declared.answers.DeliverError.TheVariants.{NoMemory, Unmapped, FrameLimit, PassLimit, NoResume, Table, MachO, CompactForm, PeInfo, ChainLimit}
-use Rattle.stack_walks.specs.declared.outward.Phase.{Phase}
-use Rattle.stack_walks.specs.declared.outward.Phase.TheVariants as phase
+use Rattle.stack_steps.specs.declared.asking.FrameAction.{FrameAction}
+use Rattle.stack_steps.specs.Languages.{Languages, asks_if_named, frame_asks, is_taken, routine_of}
 use Rattle.stack_steps.specs.Modules.{SpaceValue}
 use Rattle.stack_deliver.specs.Resumes.{return_of}
 use Rattle.stack_steps.specs.Stepping.{step_of, refusal_of, FrameAt, Described, Compact, Recorded, frame_of, caller_by}
-use Rattle.stack_steps.specs.Asking.{action_if_named, action_asked, compact_table, described_table, named_table, recorded_table, table_if_named}
-use Rattle.stack_walks.specs.Turns.{turn_at, stops, Turn, Ends, Stops, Goes, turn_of, Line, with_context, line_turn, pass_of, mark_at, pad_of, Stop, turn_for}
+use Rattle.stack_steps.specs.Asking.{compact_table, described_table, named_table, recorded_table, table_if_named}
+use Rattle.stack_walks.specs.Turns.{Pass, cleaning, searching, turn_at, stops, Turn, Ends, Stops, Goes, turn_of, Line, with_context, line_turn, pass_of, mark_at, Stop, turn_for}
 use Rattle.stack_deliver.specs.Passes.{PassEnd, Finishes, Elsewhere, end_of, cleanup_of, cleanup_at, resume_at, CleanupsRun, with_cleanup, cleanup_and_rest, after_pass, passes_of}
-use Rattle.stack_deliver.specs.StackDelivery.{delivery_after, delivery_at, delivery_to, delivery_by, stack_delivery}
+use Rattle.stack_deliver.specs.StackDelivery.{delivery_after, delivery_at, delivery_to, delivery_by, delivery_through}
 use Rattle.stack_steps.proofs.StepParts.{some_next, stepped_by, step_is}
 use Rattle.stack_deliver.proofs.TurnParts.{goes, turn_asked, turn_by}
 use Rattle.stack_walks.proofs.LineAnswers.{IsStepFault, OnStepFault, step_faults}
@@ -165,17 +164,17 @@ named_cause image (Described f) = described_cause image f.found
 named_cause image (Compact m listed) = compact_cause image (macho_place image m listed)
 named_cause image (Recorded m rva function) = recorded_cause image m function
 
-asked_cause : (image : List Span) (c : Context) (interrupted : Bool) (f : FrameAt) → OnCause image (action_asked image c interrupted f)
-asked_cause image c interrupted f = go (named_table image f) (named_cause image f)
+asked_cause : (languages : Languages) (image : List Span) (c : Context) (interrupted : Bool) (f : FrameAt) → OnCause image (frame_asks languages image c interrupted f)
+asked_cause languages image c interrupted f = go (named_table image f) (named_cause image f)
   where
-    go : (r : Result (Option (Result tables.LanguagePlace calls.StepFault)) DeliverError) → OnCause image r → OnCause image (result_map (action_if_named image (tables.address_of_call c.ra interrupted)) r)
+    go : (r : Result (Option (Result tables.LanguagePlace calls.StepFault)) DeliverError) → OnCause image r → OnCause image (result_map (asks_if_named languages image (tables.address_of_call c.ra interrupted) (routine_of image f)) r)
     go (Ok place) on = tt
     go (Err e) on = on
 
 -- ---- passes
 
 module _ (space : SpaceValue) where
-  turn_cause : (p : Phase) (c : Context) (interrupted : Bool) → OnCause space.image (turn_of p space c interrupted)
+  turn_cause : (p : Pass) (c : Context) (interrupted : Bool) → OnCause space.image (turn_of p space c interrupted)
   unfolding turn_for
   turn_cause p c interrupted = by_frame (frame_of space c interrupted) refl
     where
@@ -183,24 +182,24 @@ module _ (space : SpaceValue) where
       by_caller f framed (Ok next) is = tt
       by_caller f framed (Err e) is = step_cause space c interrupted e (step_is space c interrupted ∙ ap (stepped_by space.image c) framed ∙ ap some_next is)
 
-      by_test : (f : FrameAt) → frame_of space c interrupted ≡ Ok (Some f) → (asked : Action) (b : Bool) → OnCause space.image (turn_at space.image c f (cond b (Some asked) None))
+      by_test : (f : FrameAt) → frame_of space c interrupted ≡ Ok (Some f) → (asked : FrameAction) (b : Bool) → OnCause space.image (turn_at space.image c f (cond b (Some asked) None))
       by_test f framed asked true = tt
       by_test f framed asked false = by_caller f framed (caller_by space.image c f) refl
 
-      by_action : (f : FrameAt) → frame_of space c interrupted ≡ Ok (Some f) → (r : Result Action DeliverError) → OnCause space.image r → OnCause space.image (turn_asked p space.image c f r)
-      by_action f framed (Ok asked) on = by_test f framed asked (stops p asked)
+      by_action : (f : FrameAt) → frame_of space c interrupted ≡ Ok (Some f) → (r : Result FrameAction DeliverError) → OnCause space.image r → OnCause space.image (turn_asked p space.image c f r)
+      by_action f framed (Ok asked) on = by_test f framed asked (stops p.phase asked)
       by_action f framed (Err e) on = on
 
       by_frame : (r : Result (Option FrameAt) DeliverError) → frame_of space c interrupted ≡ r → OnCause space.image (turn_by p space.image c interrupted r)
       by_frame (Ok None) is = tt
-      by_frame (Ok (Some f)) is = by_action f is (action_asked space.image c interrupted f) (asked_cause space.image c interrupted f)
+      by_frame (Ok (Some f)) is = by_action f is (frame_asks p.languages space.image c interrupted f) (asked_cause p.languages space.image c interrupted f)
       by_frame (Err e) is = step_cause space c interrupted e (step_is space c interrupted ∙ ap (stepped_by space.image c) is)
 
   context_cause : (c : Context) (r : Result Line DeliverError) → OnCause space.image r → OnCause space.image (with_context c r)
   context_cause c (Ok line) on = tt
   context_cause c (Err e) on = on
 
-  pub pass_cause : (p : Phase) (room : ℕ) (c : Context) (interrupted : Bool) → OnCause space.image (pass_of p space room c interrupted)
+  pub pass_cause : (p : Pass) (room : ℕ) (c : Context) (interrupted : Bool) → OnCause space.image (pass_of p space room c interrupted)
   pass_cause p zero c interrupted = tt
   pass_cause p (suc room) c interrupted = go (turn_of p space c interrupted) (turn_cause p c interrupted) (λ d mark. pass_cause p room d mark)
     where
@@ -218,22 +217,22 @@ module _ (space : SpaceValue) where
   cleanup_cause t (Ok passed) on = tt
   cleanup_cause t (Err e) on = on
 
-  module _ (exception kept : ℕ) (resumes : List (ℕ × ℕ)) (limit : ℕ) where
-    pub passes_cause : (places : ℕ) (c : Context) → OnCause space.image (passes_of space exception kept resumes limit places c)
-    passes_cause zero c = go (cleanup_of space exception kept limit c) (end_cause exception kept (pass_of phase.Cleanup space limit c false) (pass_cause phase.Cleanup limit c false))
+  module _ (languages : Languages) (exception kept : ℕ) (resumes : List (ℕ × ℕ)) (limit : ℕ) where
+    pub passes_cause : (places : ℕ) (c : Context) → OnCause space.image (passes_of languages space exception kept resumes limit places c)
+    passes_cause zero c = go (cleanup_of languages space exception kept limit c) (end_cause exception kept (pass_of (cleaning languages) space limit c false) (pass_cause (cleaning languages) limit c false))
       where
         go : (r : Result PassEnd DeliverError) → OnCause space.image r → OnCause space.image (after_pass r (λ pad entered. Err PassLimit))
         go (Ok (Finishes ending)) on = tt
         go (Ok (Elsewhere pad d)) on = tt
         go (Err e) on = on
-    passes_cause (suc n) c = go (cleanup_of space exception kept limit c) (end_cause exception kept (pass_of phase.Cleanup space limit c false) (pass_cause phase.Cleanup limit c false)) (λ d. passes_cause n d)
+    passes_cause (suc n) c = go (cleanup_of languages space exception kept limit c) (end_cause exception kept (pass_of (cleaning languages) space limit c false) (pass_cause (cleaning languages) limit c false)) (λ d. passes_cause n d)
       where
-        by_resume : (pad : ℕ) (entered : Context) (o : Option ℕ) → ((d : Context) → OnCause space.image (passes_of space exception kept resumes limit n d)) → OnCause space.image (cleanup_and_rest (cleanup_at pad entered) (resume_at pad entered o) (passes_of space exception kept resumes limit n))
+        by_resume : (pad : ℕ) (entered : Context) (o : Option ℕ) → ((d : Context) → OnCause space.image (passes_of languages space exception kept resumes limit n d)) → OnCause space.image (cleanup_and_rest (cleanup_at pad entered) (resume_at pad entered o) (passes_of languages space exception kept resumes limit n))
         by_resume pad entered None later = tt
-        by_resume pad entered (Some ret) later = cleanup_cause (cleanup_at pad entered) (passes_of space exception kept resumes limit n (record entered { ra = ret })) (later (record entered { ra = ret }))
+        by_resume pad entered (Some ret) later = cleanup_cause (cleanup_at pad entered) (passes_of languages space exception kept resumes limit n (record entered { ra = ret })) (later (record entered { ra = ret }))
 
-        go : (r : Result PassEnd DeliverError) → OnCause space.image r → ((d : Context) → OnCause space.image (passes_of space exception kept resumes limit n d)) →
-            OnCause space.image (after_pass r (λ pad entered. cleanup_and_rest (cleanup_at pad entered) (resume_at pad entered (return_of resumes pad)) (passes_of space exception kept resumes limit n)))
+        go : (r : Result PassEnd DeliverError) → OnCause space.image r → ((d : Context) → OnCause space.image (passes_of languages space exception kept resumes limit n d)) →
+            OnCause space.image (after_pass r (λ pad entered. cleanup_and_rest (cleanup_at pad entered) (resume_at pad entered (return_of resumes pad)) (passes_of languages space exception kept resumes limit n)))
         go (Ok (Finishes ending)) on later = tt
         go (Ok (Elsewhere pad d)) on later = by_resume pad d (return_of resumes pad) later
         go (Err e) on later = on
@@ -242,24 +241,24 @@ module _ (space : SpaceValue) where
   after_cause visited (Ok passed) on = tt
   after_cause visited (Err e) on = on
 
-  pub delivery_cause : (c : Context) (exception : ℕ) (resumes : List (ℕ × ℕ)) (limit : ℕ) → OnCause space.image (stack_delivery space c exception resumes limit)
-  unfolding stack_delivery
-  delivery_cause c exception resumes limit = go (pass_of phase.Search space limit c false) (pass_cause phase.Search limit c false)
+  pub delivery_cause : (languages : Languages) (c : Context) (exception : ℕ) (resumes : List (ℕ × ℕ)) (limit : ℕ) → OnCause space.image (delivery_through languages space c exception resumes limit)
+  unfolding delivery_through
+  delivery_cause languages c exception resumes limit = go (pass_of (searching languages) space limit c false) (pass_cause (searching languages) limit c false)
     where
-      at_pad : (visited : List Context) (o : Option ℕ) (kept : ℕ) → OnCause space.image (delivery_at visited o (passes_of space exception kept resumes limit limit c))
-      at_pad visited None kept = tt
-      at_pad visited (Some pad) kept = after_cause visited (passes_of space exception kept resumes limit limit c) (passes_cause exception kept resumes limit limit c)
+      at_pad : (visited : List Context) (b : Bool) (kept : ℕ) → OnCause space.image (delivery_at visited b (passes_of languages space exception kept resumes limit limit c))
+      at_pad visited false kept = tt
+      at_pad visited true kept = after_cause visited (passes_of languages space exception kept resumes limit limit c) (passes_cause languages exception kept resumes limit limit c)
 
-      to_stop : (visited : List Context) (o : Option Stop) → OnCause space.image (delivery_to visited o (λ kept. passes_of space exception kept resumes limit limit c))
+      to_stop : (visited : List Context) (o : Option Stop) → OnCause space.image (delivery_to visited o (λ kept. passes_of languages space exception kept resumes limit limit c))
       to_stop visited None = tt
-      to_stop visited (Some stop) = at_pad visited (pad_of stop.action) (mark_at stop.context stop.interrupted)
+      to_stop visited (Some stop) = at_pad visited (is_taken stop.action) (mark_at stop.context stop.interrupted)
 
-      go : (r : Result Line DeliverError) → OnCause space.image r → OnCause space.image (delivery_by r (λ kept. passes_of space exception kept resumes limit limit c))
+      go : (r : Result Line DeliverError) → OnCause space.image r → OnCause space.image (delivery_by r (λ kept. passes_of languages space exception kept resumes limit limit c))
       go (Ok line) on = to_stop line.contexts line.stop
       go (Err e) on = on
 
-  pub delivery_unmapped : (c : Context) (exception : ℕ) (resumes : List (ℕ × ℕ)) (limit a : ℕ) → stack_delivery space c exception resumes limit ≡ Err (Unmapped a) → word_at space.image a ≡ None
-  delivery_unmapped c exception resumes limit a fails = subst (OnCause space.image) fails (delivery_cause c exception resumes limit)
+  pub delivery_unmapped : (languages : Languages) (c : Context) (exception : ℕ) (resumes : List (ℕ × ℕ)) (limit a : ℕ) → delivery_through languages space c exception resumes limit ≡ Err (Unmapped a) → word_at space.image a ≡ None
+  delivery_unmapped languages c exception resumes limit a fails = subst (OnCause space.image) fails (delivery_cause languages c exception resumes limit)
 
-  pub delivery_memory : (c : Context) (exception : ℕ) (resumes : List (ℕ × ℕ)) (limit : ℕ) → stack_delivery space c exception resumes limit ≢ Err NoMemory
-  delivery_memory c exception resumes limit fails = subst (OnCause space.image) fails (delivery_cause c exception resumes limit)
+  pub delivery_memory : (languages : Languages) (c : Context) (exception : ℕ) (resumes : List (ℕ × ℕ)) (limit : ℕ) → delivery_through languages space c exception resumes limit ≢ Err NoMemory
+  delivery_memory languages c exception resumes limit fails = subst (OnCause space.image) fails (delivery_cause languages c exception resumes limit)

@@ -19,15 +19,15 @@ use Rattle.frame_facts.specs.StepFacts.{body_facts}
 use Rattle.frame_facts.specs.FactDeliveries.{AskedFrame, past, frame_decides, asked_frame_of, asked_frames_of, delivery_to}
 use Rattle.frame_facts_laws.proofs.FromFunctions.{body_known, body_said, body_asks}
 use Rattle.frame_facts_laws.proofs.FactsAsked.{frames_fit, same_delivered}
-use Rattle.format_definitions.specs.FormatCalls.{IsFormatCall}
-use Rattle.format_definitions.specs.FormatModules.{FormatModule, Elf, Macho, Pe, in_format, convention_of, part_of, DescribesFormat, IsUncoveredBy, LiesInFormat}
-use Rattle.format_laws.proofs.FormatParts.{valid_described}
+use Rattle.format_definitions.specs.Calls.{IsDescribedCall}
+use Rattle.format_definitions.specs.Modules.{FormatModule, Elf, Macho, Pe, in_format, convention_of, part_of, DescribesFormat, IsUncoveredBy, LiesDescribed}
+use Rattle.format_laws.proofs.Parts.{valid_described}
 use Rattle.unwind_arch.specs.declared.x86_64.Context.{Context}
 use Rattle.unwind_arch.specs.ContextViews.{columns_of}
 use Rattle.stack_steps.specs.Modules.{SpaceValue, AreApart}
 use Rattle.stack_steps.specs.SpaceViews.{process_of, formats_of}
 use Rattle.stack_steps.specs.KnownStacks.{IsOtherFormat, IsKnownLink, IsKnownStack}
-use Rattle.stack_steps.proofs.FormatHolders.{elf_from_format}
+use Rattle.stack_steps.proofs.Holders.{elf_from_format}
 use Rattle.stack_steps.proofs.MetFrames.{Met}
 use Rattle.stack_walks.proofs.LineShows.{call_in}
 use Rattle.stack_deliver.specs.Delivering.{StartsValidChain}
@@ -65,7 +65,7 @@ module _ (space : SpaceValue) (functions : List Function) (s : State) (call : Ca
   abbrev Asked : Type 0
   Asked = AskedLink space s call.caller (action_at call.callee (s.ra - 1))
 
-  call_asked : IsFormatCall space.image (formats_of space) functions s call → Asked
+  call_asked : IsDescribedCall space.image (formats_of space) functions s call → Asked
   call_asked is = go is.lies.home refl
     where
       in_elf : (m : Module) → Lies (Elf m) → Asked
@@ -119,7 +119,7 @@ state_at s ret is low = record { ra = low; sp = is.sp; registers = λ r. subst (
 entered_at : (image : List Span) (s : State) (k : Call) (ret : ℕ) → IsEntered image k.callee.outermost (steps_of k.callee.prologue) k.caller s → IsEntered image k.callee.outermost (steps_of k.callee.prologue) k.caller (returning s ret)
 entered_at image s k ret entered = record { room = entered.room; returns = entered.returns; leaves = entered.leaves; stack = entered.stack; keeps = λ r none. kept_value s ret r ∙ entered.keeps r none }
 
-call_at : (space : SpaceValue) (functions : List Function) (s : State) (k : Call) (ret : ℕ) → IsFormatCall space.image (formats_of space) functions s k → ret ≢ 0 → IsTrue (in_body k.callee (ret - 1)) → IsFormatCall space.image (formats_of space) functions (returning s ret) k
+call_at : (space : SpaceValue) (functions : List Function) (s : State) (k : Call) (ret : ℕ) → IsDescribedCall space.image (formats_of space) functions s k → ret ≢ 0 → IsTrue (in_body k.callee (ret - 1)) → IsDescribedCall space.image (formats_of space) functions (returning s ret) k
 call_at space functions s k ret is returns inside = record {
   listed = is.listed;
   lies = is.lies;
@@ -133,7 +133,7 @@ past_none : (sp : ℕ) → sp < 2 ^ 64 → sp +w 0 ≡ sp
 past_none sp low = omega arith
 
 module _ (space : SpaceValue) (functions : List Function) (apart : AreApart 0 space.modules) (laid : IsLaidOut 0 space.image) (resumes : List (ℕ × ℕ)) where
-  goes_on : (s : State) (k : Call) (pad ret : ℕ) → IsState s → IsFormatCall space.image (formats_of space) functions s k → action_at k.callee (s.ra - 1) ≡ Cleanup pad → ret ≢ 0 → IsTrue (in_body k.callee (ret - 1)) → action_at k.callee (ret - 1) ≡ NoAction →
+  goes_on : (s : State) (k : Call) (pad ret : ℕ) → IsState s → IsDescribedCall space.image (formats_of space) functions s k → action_at k.callee (s.ra - 1) ≡ Cleanup pad → ret ≢ 0 → IsTrue (in_body k.callee (ret - 1)) → action_at k.callee (ret - 1) ≡ NoAction →
       MayGoOnAt space (record (past (asked_frame_of (record { state = s; function = k.callee }))) { ra = ret }) k.caller
   goes_on s k pad ret state is asks returns inside silent =
       let there : State = returning s ret in
@@ -143,7 +143,7 @@ module _ (space : SpaceValue) (functions : List Function) (apart : AreApart 0 sp
       let goes : MayGoOnAt space there k.caller = record { link = known.link; arguments = 0; silent = quiet } in
       subst (λ (n : ℕ). MayGoOnAt space (record there { sp = n }) k.caller) (sym (past_none s.sp state.sp)) goes
 
-  resumes_there : (s : State) (k : Call) → IsState s → IsFormatCall space.image (formats_of space) functions s k → Resumes resumes (record { state = s; function = k.callee }) → ResumesBy space resumes (asked_frame_of (record { state = s; function = k.callee })) k.caller
+  resumes_there : (s : State) (k : Call) → IsState s → IsDescribedCall space.image (formats_of space) functions s k → Resumes resumes (record { state = s; function = k.callee }) → ResumesBy space resumes (asked_frame_of (record { state = s; function = k.callee })) k.caller
   resumes_there s k state is resume = go (action_at k.callee (s.ra - 1)) refl resume
     where
       at : (pad : ℕ) → action_at k.callee (s.ra - 1) ≡ Cleanup pad → (o : Option ℕ) → resume_of resumes pad ≡ o → GoesOn k.callee o →
@@ -167,7 +167,7 @@ module _ (space : SpaceValue) (functions : List Function) (apart : AreApart 0 sp
   Chain s calls = IsChain space.image (IsUncoveredBy space.image (formats_of space)) functions s calls
 
   abbrev Lie : List Call → Type 0
-  Lie calls = AllByRecursion (λ (k : Call). LiesInFormat space.image (formats_of space) functions k.callee) calls
+  Lie calls = AllByRecursion (λ (k : Call). LiesDescribed space.image (formats_of space) functions k.callee) calls
 
   chain_asked : (s : State) (calls : List Call) → Chain s calls → Lie calls → (stack : IsKnownStack space false s (callers_of calls)) × AreAsked space s (callers_of calls) stack (asked_frames_of (frames_of s calls))
   chain_asked s [] chain lie = (record { state = chain.state; ends = chain.ends }, refl)

@@ -4,7 +4,7 @@ use Rattle.unwind_definitions.specs.Caller.{Columns}
 use Rattle.unwind_definitions.specs.State.{State, Shows}
 use Rattle.unwind_definitions.specs.Function.{Function}
 use Rattle.unwind_definitions.specs.Chain.{Call}
-use Rattle.unwind_definitions.specs.Valid.{IsValid}
+use Rattle.unwind_definitions.specs.Valid.{IsElfValid}
 use Rattle.unwind_arch.specs.declared.x86_64.Context.{Context}
 use Rattle.unwind_arch.specs.ContextViews.{columns_of}
 use Rattle.stack_steps.specs.Modules.{AreElf, SpaceValue}
@@ -12,7 +12,7 @@ use Rattle.stack_steps.specs.SpaceViews.{process_of}
 use Rattle.stack_walks.proofs.ElfChains.{parts_described, no_others, chain_in}
 use Rattle.stack_deliver.specs.Delivering.{StartsValidChain}
 
-pub elf_starts_valid : (space : SpaceValue) (functions : List Function) (s : State) (resumes : List (ℕ × ℕ)) (calls : List Call) (columns : Columns) → AreElf space.modules → IsValid (process_of space) columns resumes functions s calls →
+pub elf_starts_valid : (space : SpaceValue) (functions : List Function) (s : State) (resumes : List (ℕ × ℕ)) (calls : List Call) (columns : Columns) → AreElf space.modules → IsElfValid (process_of space) columns resumes functions s calls →
     (c : Context) (limit : ℕ) → Shows (columns_of c) s → length calls < limit → StartsValidChain space c resumes limit functions s calls
 elf_starts_valid space functions s resumes calls columns elf is c limit shows shorter = record {
   valid = record {

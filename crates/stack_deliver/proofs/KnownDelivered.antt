@@ -1,93 +1,184 @@
 -- What is delivered to a stack, of each of whose frames it is known how its caller's state follows and what it asks, is what the
--- definition says of these frames.
-use Rattle.std.proofs.Common.{inl, inr, ◌≡◌, ℕ, length, ◌+◌, ◌*◌, ◌≤◌, length-append, Bool, true, false, List, [], ◌∷◌, ◌++◌, get_or, Option, Some, None, Result, Ok, refl, sym, ap, subst, ◌∙◌, arith}
+-- definition says of these frames: it is a delivery by the rule of Rust alone.
+use Rattle.std.proofs.Common.{inl, inr, ◌≡◌, ℕ, ◌+◌, ◌*◌, ◌-◌, ◌≤◌, length, Bool, true, false, List, [], ◌∷◌, ◌++◌, Option, Some, None, Result, Ok, refl, sym, ap, subst, ◌∙◌}
 use Rattle.std.specs.Prelude.{IsTrue, IfSome, map}
-use Rattle.std.specs.Option.{option_map_or}
+use Rattle.std.specs.List.{cons_option, filter_map, find, before_first}
+use Rattle.std.specs.Option.{option_map, option_map_or}
 use Rattle.memory_image.specs.Image.{IsLaidOut}
-use Rattle.unwind_definitions.specs.State.{State, IsState}
+use Rattle.unwind_definitions.specs.State.{State}
 use Rattle.unwind_definitions.specs.Function.{Action, NoAction, Cleanup, Catch, Filter, Terminate}
 use Rattle.unwind_definitions.specs.Delivery as described
+use Rattle.unwind_laws.proofs.OneChain.{before_cons, before_now}
 use Rattle.frame_facts.specs.FactDeliveries as asked
-use Rattle.frame_facts.specs.FactDeliveries.{AskedFrame, past, frame_decides, asked_states, delivery_decided_by, delivery_to_handler}
+use Rattle.frame_facts.specs.FactDeliveries.{AskedFrame, AsksAt}
+use Rattle.frame_facts_laws.specs.FactWalks.{DescriptionAsks}
+use Rattle.frame_facts_laws.proofs.FactsAsked.{facts_ask}
 use Rattle.unwind_arch.specs.declared.x86_64.Context.{Context}
-use Rattle.unwind_arch.specs.ContextViews.{columns_of}
 use Rattle.stack_steps.specs.declared.answers.DeliverError.{DeliverError}
+use Rattle.stack_steps.specs.declared.asking.FrameAction.{FrameAction}
+use Rattle.stack_steps.specs.Languages.{asked_by_rust, found_in, is_taken, rust_alone}
 use Rattle.stack_steps.specs.Modules.{SpaceValue, AreApart}
-use Rattle.stack_steps.specs.KnownStacks.{IsKnownStack, HasNoSignals}
+use Rattle.stack_steps.specs.SpaceViews.{process_of}
+use Rattle.stack_steps.specs.KnownStacks.{IsKnownLink, IsKnownStack}
 use Rattle.stack_steps.proofs.ContextLemmas.{IsWhole}
-use Rattle.stack_walks.specs.declared.outward.Phase.TheVariants as phase
-use Rattle.stack_walks.specs.Walking.{EachShows}
-use Rattle.stack_walks.specs.Turns.{Stop, pass_of, mark_at, pad_of}
-use Rattle.stack_walks.proofs.KnownLines.{called_state, calls_rise}
-use Rattle.stack_deliver.specs.declared.answers.Outcome.TheVariants.{EndOfStack, FatalPhase1}
-use Rattle.stack_deliver.specs.KnownDeliveries.{AreAsked, MayGoOnAt, ResumesBy, EachResumesBy, StartsKnownDelivery, ShowsKnownDelivery}
-use Rattle.stack_deliver.specs.Passes.{CleanupsRun, passes_of}
-use Rattle.stack_deliver.specs.Searches.{met_in_passes, met_after_stop, met_in_delivery}
-use Rattle.stack_walks.proofs.TurnCounts.{line_met}
-use Rattle.std.proofs.lemmas.List.{length-map}
-use Rattle.stack_deliver.specs.StackDelivery.{DeliveryValue, delivery_after, no_delivery, delivery_at, delivery_to, stack_delivery}
-use Rattle.stack_deliver.specs.StateViews.{state_of, outcome_of}
-use Rattle.stack_deliver.proofs.Chains.{shown_states}
-use Rattle.stack_deliver.proofs.KnownPasses.{deciding, inside, seen, StopIs, StopShows, SearchShows, AreMet, GoesOnMet, EachGoesOn, search_shows, lands_in, passes_show}
-use Rattle.stack_deliver.proofs.KnownTurns.{IsMet, link_met}
-use Rattle.stack_deliver.proofs.PassRuns.{by_pass, by_count}
-use Rattle.stack_deliver.proofs.Turns.{pass_ends_at}
+use Rattle.stack_steps.proofs.LanguageAsks.{described_by_rust}
+use Rattle.stack_walks.specs.Turns.{decides}
+use Rattle.stack_deliver.specs.KnownDeliveries as known
+use Rattle.stack_deliver.specs.KnownDeliveries.{StartsKnownDelivery, ShowsKnownDelivery}
+use Rattle.stack_deliver.specs.KnownThrows as thrown
+use Rattle.stack_deliver.specs.KnownThrows.{AskingFrame, StartsKnownThrow, decided_by, delivery_taken}
+use Rattle.stack_deliver.specs.Searches.{met_in_delivery}
+use Rattle.stack_deliver.specs.StackDelivery.{DeliveryValue, stack_delivery}
+use Rattle.stack_deliver.proofs.KnownThrown.{DeliversThrow, throw_delivered}
 
--- ---- what is known of a stack is met
+-- ---- frames that ask by the rule of Rust
 
-module _ (space : SpaceValue) (apart : AreApart 0 space.modules) (laid : IsLaidOut 0 space.image) where
-  frames_met : (s : State) (callers : List State) (stack : IsKnownStack space false s callers) (frames : List AskedFrame) → AreAsked space s callers stack frames → AreMet space s callers frames
-  frames_met s [] stack frames asks = (asks, λ c p room some shows. pass_ends_at space apart laid [] c s p room some shows (record { state = stack.state; ends = stack.ends }))
-  frames_met s (t ∷ callers) stack [] asks = absurd asks
-  frames_met s (t ∷ callers) (inl link, outer) (f ∷ frames) asks =
-      (asks.0, link_met space apart laid s t link f.action f.arguments (called_state space t callers outer) asks.1, frames_met t callers outer frames asks.2)
-  frames_met s (t ∷ callers) (inr signal, outer) (f ∷ frames) asks = absurd asks
+abbrev pub asking_of : AskedFrame → AskingFrame
+asking_of f = record { state = f.state; action = asked_by_rust f.action; arguments = f.arguments }
 
-  -- a stack whose frames ask has no signal's frame
-  asked_by_calls : (s : State) (callers : List State) (stack : IsKnownStack space false s callers) (frames : List AskedFrame) → AreAsked space s callers stack frames → HasNoSignals space false s callers stack
-  asked_by_calls s [] stack frames asks = tt
-  asked_by_calls s (t ∷ callers) stack [] asks = absurd asks
-  asked_by_calls s (t ∷ callers) (inl link, outer) (f ∷ frames) asks = (refl, asked_by_calls t callers outer frames asks.2)
-  asked_by_calls s (t ∷ callers) (inr signal, outer) (f ∷ frames) asks = absurd asks
+abbrev pub asking : List AskedFrame → List AskingFrame
+asking fs = map asking_of fs
 
-  resumes_met : (resumes : List (ℕ × ℕ)) (f : AskedFrame) (t : State) → IsState t → ResumesBy space resumes f t → GoesOnMet space resumes f t
-  resumes_met resumes f t fits goes = go (described.cleanup_pad f.action) goes
-    where
-      go : (o : Option ℕ) → IfSome o (λ pad. (ret : ℕ) × (described.resume_of resumes pad ≡ Some ret) × MayGoOnAt space (record (past f) { ra = ret }) t) →
-          IfSome o (λ pad. (ret : ℕ) × (described.resume_of resumes pad ≡ Some ret) × ((size : ℕ) × IsMet space (record (past f) { ra = ret }) NoAction size t))
-      go None goes = tt
-      go (Some pad) goes =
-          let on : MayGoOnAt space (record (past f) { ra = goes.0 }) t = goes.2 in
-          (goes.0, goes.1, (on.arguments, link_met space apart laid (record (past f) { ra = goes.0 }) t on.link NoAction on.arguments fits on.silent))
+decides_same : (x : Action) → decides (asked_by_rust x) ≡ described.decides x
+decides_same NoAction = refl
+decides_same (Cleanup pad) = refl
+decides_same (Catch pad) = refl
+decides_same (Filter pad) = refl
+decides_same Terminate = refl
 
-  each_met : (resumes : List (ℕ × ℕ)) (s : State) (callers : List State) (stack : IsKnownStack space false s callers) → HasNoSignals space false s callers stack → (frames : List AskedFrame) → EachResumesBy space resumes callers frames →
-      EachGoesOn space resumes callers frames
-  each_met resumes s [] stack calls [] each = tt
-  each_met resumes s [] stack calls (f ∷ frames) each = absurd each
-  each_met resumes s (t ∷ callers) (inl link, outer) calls [] each = tt
-  each_met resumes s (t ∷ callers) (inl link, outer) calls (f ∷ frames) each = (resumes_met resumes f t (called_state space t callers outer) each.0, each_met resumes t callers outer calls.1 frames each.1)
-  each_met resumes s (t ∷ callers) (inr signal, outer) calls frames each = let by_call : true ≡ false = calls.0 in absurd cc
+pad_same : (x : Action) → thrown.cleanup_pad (asked_by_rust x) ≡ described.cleanup_pad x
+pad_same NoAction = refl
+pad_same (Cleanup pad) = refl
+pad_same (Catch pad) = refl
+pad_same (Filter pad) = refl
+pad_same Terminate = refl
 
--- ---- the delivery
+takes_same : (x : Action) → is_taken (asked_by_rust x) ≡ described.accepts x
+takes_same NoAction = refl
+takes_same (Cleanup pad) = refl
+takes_same (Catch pad) = refl
+takes_same (Filter pad) = refl
+takes_same Terminate = refl
 
--- a frame that is found decides
-decides_found : (fs : List AskedFrame) (f : AskedFrame) → deciding fs ≡ Some f → frame_decides f ≡ true
-decides_found [] f found = absurd cc
-decides_found (g ∷ gs) f found = go (λ e. decides_found gs f e) (frame_decides g) refl
+cleanup_same : (f : AskedFrame) → thrown.cleanup_asked (asking_of f) ≡ asked.cleanup_asked f
+cleanup_same f = ap (option_map (λ (pad : ℕ). (pad, (asked.past f).sp))) (pad_same f.action)
+
+states_same : (fs : List AskedFrame) → thrown.asking_states (asking fs) ≡ asked.asked_states fs
+states_same [] = refl
+states_same (f ∷ fs) = ap (λ (ss : List State). f.state ∷ ss) (states_same fs)
+
+cleanups_same : (fs : List AskedFrame) → filter_map thrown.cleanup_asked (asking fs) ≡ filter_map asked.cleanup_asked fs
+cleanups_same [] = refl
+cleanups_same (f ∷ fs) = ap (λ (o : Option (ℕ × ℕ)). cons_option o (filter_map thrown.cleanup_asked (asking fs))) (cleanup_same f) ∙ ap (cons_option (asked.cleanup_asked f)) (cleanups_same fs)
+
+found_same : (fs : List AskedFrame) → find thrown.frame_decides (asking fs) ≡ option_map asking_of (find asked.frame_decides fs)
+found_same [] = refl
+found_same (f ∷ fs) = go (asked.frame_decides f) refl (found_same fs)
   where
-    go : (deciding gs ≡ Some f → frame_decides f ≡ true) → (b : Bool) → frame_decides g ≡ b → frame_decides f ≡ true
-    go later true is =
-        let here : deciding (g ∷ gs) ≡ Some g = rw is refl in
-        let both : ◌≡◌ {A = Option AskedFrame} (Some g) (Some f) = sym here ∙ found in
-        let same : g ≡ f = cc in
-        ap frame_decides (sym same) ∙ is
-    go later false is = let beyond : deciding (g ∷ gs) ≡ deciding gs = rw is refl in later (sym beyond ∙ found)
+    go : (b : Bool) → asked.frame_decides f ≡ b → find thrown.frame_decides (asking fs) ≡ option_map asking_of (find asked.frame_decides fs) → find thrown.frame_decides (asking (f ∷ fs)) ≡ option_map asking_of (find asked.frame_decides (f ∷ fs))
+    go true is later = rw (decides_same f.action, is) refl
+    go false is later = rw (decides_same f.action, is) later
 
-abbrev made : List State → List (ℕ × ℕ) → Option described.Landing → described.Outcome → described.Delivery
+before_same : (fs : List AskedFrame) → before_first thrown.frame_decides (asking fs) ≡ asking (before_first asked.frame_decides fs)
+before_same [] = refl
+before_same (f ∷ fs) = go (asked.frame_decides f) refl (before_same fs)
+  where
+    go : (b : Bool) → asked.frame_decides f ≡ b → before_first thrown.frame_decides (asking fs) ≡ asking (before_first asked.frame_decides fs) → before_first thrown.frame_decides (asking (f ∷ fs)) ≡ asking (before_first asked.frame_decides (f ∷ fs))
+    go true is later = before_now thrown.frame_decides (asking_of f) (asking fs) (decides_same f.action ∙ is) ∙ sym (ap asking (before_now asked.frame_decides f fs is))
+    go false is later =
+        before_cons thrown.frame_decides (asking_of f) (asking fs) (decides_same f.action ∙ is) ∙ ap (λ (gs : List AskingFrame). asking_of f ∷ gs) later
+        ∙ sym (ap asking (before_cons asked.frame_decides f fs is))
+
+-- ---- what is delivered to them
+
+made : List State → List (ℕ × ℕ) → Option described.Landing → described.Outcome → described.Delivery
 made visited trail landing outcome = record { visited = visited; trail = trail; landing = landing; outcome = outcome }
 
-same_made : (v w : List State) (t u : List (ℕ × ℕ)) (l m : Option described.Landing) (o q : described.Outcome) → v ≡ w → t ≡ u → l ≡ m → o ≡ q → made v t l o ≡ made w u m q
-same_made v w t u l m o q a b c d = ap (λ x. made x t l o) a ∙ ap (λ x. made w x l o) b ∙ ap (λ x. made w u x o) c ∙ ap (λ x. made w u m x) d
+decided_same : (exception : ℕ) (inside : List AskedFrame) (f : AskedFrame) (x : Action) → decided_by exception (asking inside) (asking_of f) (asked_by_rust x) ≡ asked.delivery_decided_by exception inside f x
+decided_same exception inside f x = by_action x
+  where
+    states : thrown.asking_states (asking inside) ++ f.state ∷ [] ≡ asked.asked_states inside ++ f.state ∷ []
+    states = ap (λ (ss : List State). ss ++ f.state ∷ []) (states_same inside)
+
+    ends : described.delivery_without_handler (thrown.asking_states (asking inside) ++ f.state ∷ []) described.FatalPhase1 ≡ described.delivery_without_handler (asked.asked_states inside ++ f.state ∷ []) described.FatalPhase1
+    ends = ap (λ (ss : List State). described.delivery_without_handler ss described.FatalPhase1) states
+
+    lands : (pad : ℕ) → delivery_taken (asking inside) (asking_of f) (Some (thrown.lands_at exception (asked.past f) pad 0)) ≡ asked.delivery_to_handler exception inside f pad
+    lands pad = rw (states_same inside, cleanups_same inside) refl
+
+    by_action : (y : Action) → decided_by exception (asking inside) (asking_of f) (asked_by_rust y) ≡ asked.delivery_decided_by exception inside f y
+    by_action NoAction = ends
+    by_action (Cleanup pad) = ends
+    by_action (Catch pad) = lands pad
+    by_action (Filter pad) = lands pad
+    by_action Terminate = ends
+
+delivered_same : (exception : ℕ) (states : List State) (fs : List AskedFrame) → thrown.delivery_to exception states (asking fs) ≡ asked.delivery_to exception states fs
+delivered_same exception states fs = rw (found_same fs, before_same fs) (go (find asked.frame_decides fs))
+  where
+    none : described.Delivery
+    none = described.delivery_without_handler states described.EndOfStack
+
+    go : (o : Option AskedFrame) →
+        option_map_or (λ (g : AskingFrame). decided_by exception (asking (before_first asked.frame_decides fs)) g g.action) (option_map asking_of o) none
+        ≡ option_map_or (λ (g : AskedFrame). asked.delivery_decided_by exception (before_first asked.frame_decides fs) g g.action) o none
+    go None = refl
+    go (Some f) = decided_same exception (before_first asked.frame_decides fs) f f.action
+
+-- ---- a known delivery is one by the rule of Rust alone
+
+module _ (space : SpaceValue) where
+  asks_there : (s t : State) (link : IsKnownLink space false s t) (x : Action) (arguments : ℕ) → known.AsksThere space s t link x arguments → thrown.AsksThere rust_alone space s t link (asked_by_rust x) arguments
+  asks_there s t (inl facts) x arguments asks =
+      let is : DescriptionAsks (process_of space) (s.ra - 1) facts.0 facts.1.said x = facts_ask (process_of space) (s.ra - 1) facts.0 facts.1.said x arguments asks in
+      (described_by_rust space.image (s.ra - 1) (found_in facts.1.said) is.routine x is.personality is.silent is.asks, asks.size)
+  asks_there s t (inr described) x arguments asks = (ap asked_by_rust asks.0, refl, asks.1)
+
+  are_asked : (s : State) (callers : List State) (stack : IsKnownStack space false s callers) (fs : List AskedFrame) → known.AreAsked space s callers stack fs → thrown.AreAsked rust_alone space s callers stack (asking fs)
+  are_asked s [] stack fs asks = ap asking asks
+  are_asked s (t ∷ callers) stack [] asks = absurd asks
+  are_asked s (t ∷ callers) (inl link, outer) (f ∷ fs) asks = (asks.0, asks_there s t link f.action f.arguments asks.1, are_asked t callers outer fs asks.2)
+  are_asked s (t ∷ callers) (inr signal, outer) (f ∷ fs) asks = absurd asks
+
+  may_go_on : (s t : State) → known.MayGoOnAt space s t → thrown.MayGoOnAt rust_alone space s t
+  may_go_on s t on = record { link = on.link; arguments = on.arguments; silent = asks_there s t on.link NoAction on.arguments on.silent }
+
+  resumes_by : (resumes : List (ℕ × ℕ)) (f : AskedFrame) (t : State) → known.ResumesBy space resumes f t → thrown.ResumesBy rust_alone space resumes (asking_of f) t
+  resumes_by resumes f t goes = rw (pad_same f.action) (go (described.cleanup_pad f.action) goes)
+    where
+      go : (o : Option ℕ) → IfSome o (λ pad. (ret : ℕ) × (described.resume_of resumes pad ≡ Some ret) × known.MayGoOnAt space (record (asked.past f) { ra = ret }) t) →
+          IfSome o (λ pad. (ret : ℕ) × (described.resume_of resumes pad ≡ Some ret) × thrown.MayGoOnAt rust_alone space (record (asked.past f) { ra = ret }) t)
+      go None goes = tt
+      go (Some pad) goes = (goes.0, goes.1, may_go_on (record (asked.past f) { ra = goes.0 }) t goes.2)
+
+  each_resumes : (resumes : List (ℕ × ℕ)) (callers : List State) (fs : List AskedFrame) → known.EachResumesBy space resumes callers fs → thrown.EachResumesBy rust_alone space resumes callers (asking fs)
+  each_resumes resumes callers [] each = tt
+  each_resumes resumes [] (f ∷ fs) each = each
+  each_resumes resumes (t ∷ callers) (f ∷ fs) each = (resumes_by resumes f t each.0, each_resumes resumes callers fs each.1)
+
+  found_back : (o : Option AskedFrame) (g : AskingFrame) → option_map asking_of o ≡ Some g → (f : AskedFrame) × (o ≡ Some f) × (asking_of f ≡ g)
+  found_back None g is = absurd cc
+  found_back (Some f) g is = (f, refl, cc)
+
+  starts_thrown : (c : Context) (resumes : List (ℕ × ℕ)) (limit : ℕ) (s : State) (callers : List State) (fs : List AskedFrame) → StartsKnownDelivery space c resumes limit s callers fs → StartsKnownThrow rust_alone space c resumes limit s callers (asking fs)
+  starts_thrown c resumes limit s callers fs is = record {
+    starts = is.starts;
+    asked = are_asked s callers is.starts.stack fs is.asked;
+    resumed = resumed;
+  }
+    where
+      true_is : (b : Bool) → b ≡ true → IsTrue b
+      true_is true e = refl
+      true_is false e = absurd cc
+
+      resumed : (g : AskingFrame) → find thrown.frame_decides (asking fs) ≡ Some g → is_taken g.action ≡ true → thrown.EachResumesBy rust_alone space resumes callers (before_first thrown.frame_decides (asking fs))
+      resumed g found takes =
+          let r = found_back (find asked.frame_decides fs) g (sym (found_same fs) ∙ found) in
+          let f : AskedFrame = r.0 in
+          let accepts : described.accepts f.action ≡ true = sym (takes_same f.action) ∙ ap (λ (h : AskingFrame). is_taken h.action) r.2 ∙ takes in
+          rw (before_same fs) (each_resumes resumes callers (before_first asked.frame_decides fs) (is.resumed f r.1 (true_is (described.accepts f.action) accepts)))
+
+-- ---- the delivery
 
 -- a delivery that is what the definition says, and how many contexts it meets
 pub record DeliversKnown (exception : ℕ) (s : State) (callers : List State) (frames : List AskedFrame) (r : Result DeliveryValue DeliverError) (met : ℕ) : Type 0 where
@@ -96,113 +187,15 @@ pub record DeliversKnown (exception : ℕ) (s : State) (callers : List State) (f
   pub shows : ShowsKnownDelivery delivered exception s callers frames
   pub few : met ≤ 2 * length delivered.visited + length delivered.trail
 
-module _ (space : SpaceValue) (c : Context) (exception : ℕ) (resumes : List (ℕ × ℕ)) (limit : ℕ) (s : State) (callers : List State) (frames : List AskedFrame) (apart : AreApart 0 space.modules) (laid : IsLaidOut 0 space.image) (whole : IsWhole c)
-    (is : StartsKnownDelivery space c resumes limit s callers frames) where
-  are : AreMet space s callers frames
-  are = frames_met space apart laid s callers is.starts.stack frames is.asked
-
-  abbrev passes : ℕ → Result CleanupsRun DeliverError
-  passes kept = passes_of space exception kept resumes limit limit c
-
-  abbrev Delivers : Result DeliveryValue DeliverError → ℕ → Type 0
-  Delivers = DeliversKnown exception s callers frames
-
-  -- how many contexts are met by a search that visits these, and by the passes toward where it stopped
-  abbrev met : List Context → Option Stop → ℕ
-  met contexts stop = length contexts + met_after_stop stop (λ kept. met_in_passes space exception kept resumes limit limit c)
-
-  due : Option AskedFrame → described.Delivery
-  due o = option_map_or (λ (f : AskedFrame). delivery_decided_by exception (inside frames) f f.action) o (described.delivery_without_handler (s ∷ callers) described.EndOfStack)
-
-  -- no frame decides
-  undecided : (contexts : List Context) → deciding frames ≡ None → EachShows contexts (s ∷ callers) → Delivers (delivery_to contexts None passes) (met contexts None)
-  unfolding due
-  undecided contexts none states = record {
-    delivered = no_delivery contexts EndOfStack;
-    is = refl;
-    shows = ap (λ (visited : List State). made visited [] None described.EndOfStack) (shown_states contexts (s ∷ callers) states) ∙ sym (ap due none);
-    few = omega arith;
-  }
-
-  module _ (contexts : List Context) (stop : Stop) (f : AskedFrame) (decided : deciding frames ≡ Some f) (stops : StopIs stop f) (states : EachShows contexts (seen (s ∷ callers) frames (Some f))) where
-    visited : map state_of contexts ≡ asked_states (inside frames) ++ f.state ∷ []
-    visited = shown_states contexts (seen (s ∷ callers) frames (Some f)) states
-
-    -- the frames inside the one that decides, and that one
-    visited_count : length contexts ≡ length (inside frames) + 1
-    visited_count =
-        sym (length-map contexts state_of) ∙ ap (λ (ss : List State). length ss) visited
-        ∙ length-append (asked_states (inside frames)) (f.state ∷ [])
-        ∙ ap (λ (n : ℕ). n + 1) (length-map (inside frames) (λ (g : AskedFrame). g.state))
-
-    due_is : (x : Action) → f.action ≡ x → asked.delivery_to exception (s ∷ callers) frames ≡ delivery_decided_by exception (inside frames) f x
-    unfolding due
-    due_is x acts = ap due decided ∙ ap (delivery_decided_by exception (inside frames) f) acts
-
-    pad_is : (x : Action) → f.action ≡ x → pad_of stop.action ≡ pad_of x
-    pad_is x acts = ap pad_of (stops.action ∙ acts)
-
-    terminates : (x : Action) → f.action ≡ x → pad_of x ≡ None → delivery_decided_by exception (inside frames) f x ≡ described.delivery_without_handler (asked_states (inside frames) ++ f.state ∷ []) described.FatalPhase1 →
-        Delivers (delivery_to contexts (Some stop) passes) (met contexts (Some stop))
-    terminates x acts none ends = record {
-      delivered = no_delivery contexts FatalPhase1;
-      is = ap (λ (o : Option ℕ). delivery_at contexts o (passes (mark_at stop.context stop.interrupted))) (pad_is x acts ∙ none);
-      shows = ap (λ (v : List State). made v [] None described.FatalPhase1) visited ∙ sym (due_is x acts ∙ ends);
-      few = let here : met_after_stop (Some stop) (λ kept. met_in_passes space exception kept resumes limit limit c) ≡ 0 = rw (pad_is x acts, none) refl in omega arith;
+-- What is delivered is what the definition says.
+pub known_delivered : (space : SpaceValue) (c : Context) (exception : ℕ) (resumes : List (ℕ × ℕ)) (limit : ℕ) (s : State) (callers : List State) (frames : List AskedFrame) → AreApart 0 space.modules → IsLaidOut 0 space.image → IsWhole c →
+    StartsKnownDelivery space c resumes limit s callers frames → DeliversKnown exception s callers frames (stack_delivery space c exception resumes limit) (met_in_delivery space c exception resumes limit)
+known_delivered space c exception resumes limit s callers frames apart laid whole is =
+    let d : DeliversThrow exception s callers (asking frames) (stack_delivery space c exception resumes limit) (met_in_delivery space c exception resumes limit) =
+    throw_delivered rust_alone space c exception resumes limit s callers (asking frames) apart laid whole (starts_thrown space c resumes limit s callers frames is) in
+    record {
+      delivered = d.delivered;
+      is = d.is;
+      shows = d.shows ∙ delivered_same exception (s ∷ callers) frames;
+      few = d.few;
     }
-
-    kept_is : mark_at stop.context stop.interrupted ≡ f.state.sp
-    kept_is = ap (mark_at stop.context) stops.unmarked ∙ sp
-      where
-        sp : get_or stop.context.registers 7 0 ≡ f.state.sp
-        sp = let e : columns_of stop.context 7 ≡ Some f.state.sp = stops.shows.sp in cc
-
-    accepted : (x : Action) (pad : ℕ) → f.action ≡ x → IsTrue (described.accepts x) → pad_of x ≡ Some pad → delivery_decided_by exception (inside frames) f x ≡ delivery_to_handler exception (inside frames) f pad →
-        lands_in space exception (mark_at stop.context stop.interrupted) resumes limit (past f) x ≡ Some (described.landing_at exception (past f) pad) →
-        Delivers (delivery_to contexts (Some stop) passes) (met contexts (Some stop))
-    accepted x pad acts accepts named handles lands =
-        let kept : ℕ = mark_at stop.context stop.interrupted in
-        let accepting : IsTrue (described.accepts f.action) = subst (λ (y : Action). IsTrue (described.accepts y)) (sym acts) accepts in
-        let within = is.starts.shorter in
-        let calls = asked_by_calls space apart laid s callers is.starts.stack frames is.asked in
-        let shown = passes_show space exception kept resumes limit s callers frames c limit limit f are (calls_rise space false s callers is.starts.stack calls) is.starts.shows whole within within (omega arith) decided accepting kept_is
-        (each_met space apart laid resumes s callers is.starts.stack calls (inside frames) (is.resumed f decided accepting)) in
-        let toward : met_after_stop (Some stop) (λ kept. met_in_passes space exception kept resumes limit limit c) ≡ met_in_passes space exception kept resumes limit limit c = rw (pad_is x acts, named) refl in
-        let counted = by_count space exception kept resumes limit limit c in
-        let run_met = shown.met in
-        let long = visited_count in
-        let run : passes kept ≡ Ok shown.passed = by_pass space exception kept resumes limit limit c ∙ shown.is in
-        record {
-          delivered = record { visited = contexts; trail = shown.passed.trail; outcome = shown.passed.ending.outcome; landing = shown.passed.ending.landing };
-          is = ap (λ (o : Option ℕ). delivery_at contexts o (passes kept)) (pad_is x acts ∙ named) ∙ ap (delivery_after contexts) run;
-          shows = same_made _ _ _ _ _ _ _ _ visited shown.trail (shown.landing ∙ ap (lands_in space exception kept resumes limit (past f)) acts ∙ lands) (ap outcome_of shown.outcome) ∙ sym (due_is x acts ∙ handles);
-          few = omega arith;
-        }
-
-    -- the frame that decides
-    by_action : (x : Action) → f.action ≡ x → Delivers (delivery_to contexts (Some stop) passes) (met contexts (Some stop))
-    by_action NoAction acts =
-        let decides : frame_decides f ≡ true = decides_found frames f decided in
-        let not : frame_decides f ≡ false = ap described.decides acts in
-        absurd cc
-    by_action (Cleanup pad) acts =
-        let decides : frame_decides f ≡ true = decides_found frames f decided in
-        let not : frame_decides f ≡ false = ap described.decides acts in
-        absurd cc
-    by_action (Catch pad) acts = accepted (Catch pad) pad acts refl refl refl refl
-    by_action (Filter pad) acts = accepted (Filter pad) pad acts refl refl refl refl
-    by_action Terminate acts = terminates Terminate acts refl refl
-
-  by_stop : (contexts : List Context) (o : Option AskedFrame) (stop : Option Stop) → deciding frames ≡ o → StopShows stop o → EachShows contexts (seen (s ∷ callers) frames o) → Delivers (delivery_to contexts stop passes) (met contexts stop)
-  by_stop contexts None None decided stops states = undecided contexts decided states
-  by_stop contexts (Some f) (Some stop) decided stops states = by_action contexts stop f decided stops states f.action refl
-  by_stop contexts None (Some stop) decided stops states = absurd stops
-  by_stop contexts (Some f) None decided stops states = absurd stops
-
-  -- What is delivered is what the definition says.
-  pub known_delivered : Delivers (stack_delivery space c exception resumes limit) (met_in_delivery space c exception resumes limit)
-  unfolding stack_delivery met_in_delivery
-  known_delivered =
-      let search : SearchShows (pass_of phase.Search space limit c false) (s ∷ callers) frames = search_shows space s callers frames c limit are is.starts.shows is.starts.shorter in
-      let counted = line_met (Some phase.Search) space limit c false search.line search.is in
-      rw (search.is, counted) (by_stop search.line.contexts (deciding frames) search.line.stop refl search.stop search.states)

@@ -4,10 +4,11 @@ use Rattle.std.proofs.lemmas.List.{get_or-set_same, get_or-set_other}
 use Rattle.std.proofs.Math.ListN.{length-set}
 use Rattle.memory_image.specs.Image.{Span, IsLaidOut}
 use Rattle.std.specs.Result.{result_map_both}
+use Rattle.memory_image.specs.Results.{result_map}
 use Rattle.unwind_definitions.specs.Caller.{◌+w◌, StepFault, x86_64, caller_of}
 use Rattle.unwind_definitions.specs.Expressions.{evaluation}
 use Rattle.unwind_definitions.specs.State.{CalleeSaved, RBX, RBP, R12, R13, R14, R15, State, IsState, value_of, column_of, Shows}
-use Rattle.unwind_definitions.specs.Function.{Action}
+use Rattle.unwind_definitions.specs.Function.{action_at}
 use Rattle.format_definitions.specs.CompactStep.{opcode_step}
 use Rattle.format_definitions.specs.CompactStep as compact
 use Rattle.macho_unwind_info.specs.X86_64.{opcode_of}
@@ -17,45 +18,52 @@ use Rattle.format_frames.specs.declared.machine.Stepped.{Stepped}
 use Rattle.stack_steps.specs.declared.answers.DeliverError.{DeliverError}
 use Rattle.stack_steps.specs.Modules.{SpaceValue, AreApart}
 use Rattle.stack_steps.specs.Stepping.{FrameAt, Described, Compact, Recorded, caller_by, next_with, compact_next, opcode_caller, recorded_columns, refusal_of, pe_refusal}
-use Rattle.stack_steps.specs.KnownFrames.{MeetsFrame}
+use Rattle.stack_steps.specs.declared.asking.FrameAction.{FrameAction}
+use Rattle.stack_steps.specs.Languages.{Languages, asked_by_rust}
+use Rattle.stack_steps.specs.KnownFrames.{MeetsAsked}
 use Rattle.stack_steps.specs.KnownStacks.{IsKnownLink}
 use Rattle.stack_steps.proofs.ContextLemmas.{IsWhole}
-use Rattle.stack_steps.proofs.FactSteps.{asked_at, facts_met}
-use Rattle.stack_steps.proofs.FormatMet.{format_met}
+use Rattle.stack_steps.proofs.FactSteps.{asked_at, facts_asked}
+use Rattle.stack_steps.proofs.LanguageAsks.{asks_without_cxx}
+use Rattle.stack_steps.proofs.MetCalls.{format_met}
 use Rattle.stack_steps.proofs.MetFrames.{Met}
 use Rattle.stack_walks.specs.declared.outward.Phase.{Phase}
-use Rattle.stack_walks.specs.Turns.{stops, past_arguments, Stops, Goes, turn_of, with_context, pass_of, turn_for}
+use Rattle.stack_walks.specs.Turns.{Pass, stops, past_arguments, Stops, Goes, turn_of, with_context, pass_of, turn_for}
 use Rattle.stack_walks.specs.ContextsMet.{contexts_met}
 use Rattle.stack_walks.proofs.TurnLines.{stop_at}
 use Rattle.stack_walks.proofs.TurnCounts.{met_beyond}
-use Rattle.stack_deliver.specs.KnownDeliveries.{AsksThere}
+use Rattle.stack_deliver.specs.KnownThrows.{AsksThere}
 
 -- ---- a turn
 
-module _ (space : SpaceValue) (c : Context) (action : Action) (arguments : ℕ) (t : State) (m : MeetsFrame space c false action arguments t) where
-  turn_stops : (p : Phase) → stops p action ≡ true → turn_of p space c false ≡ Ok (Stops action (past_arguments c arguments))
+module _ (languages : Languages) (space : SpaceValue) (c : Context) (action : FrameAction) (arguments : ℕ) (t : State) (m : MeetsAsked languages space c false action arguments t) where
+  -- a pass for this
+  abbrev pub by : Phase → Pass
+  by p = record { phase = p; languages = languages }
+
+  turn_stops : (p : Phase) → stops p action ≡ true → turn_of (by p) space c false ≡ Ok (Stops action (past_arguments c arguments))
   unfolding turn_for
   turn_stops p asks = rw (m.framed, m.asks, asks, m.size) refl
 
-  turn_goes : (p : Phase) → stops p action ≡ false → turn_of p space c false ≡ Ok (Goes m.next)
+  turn_goes : (p : Phase) → stops p action ≡ false → turn_of (by p) space c false ≡ Ok (Goes m.next)
   unfolding turn_for
   turn_goes p asks = rw (m.framed, m.asks, asks, m.called) refl
 
   -- a pass that stops there
-  pub stops_there : (p : Phase) (room : ℕ) → 0 < room → stops p action ≡ true → pass_of p space room c false ≡ Ok (record { contexts = c ∷ []; stop = Some (stop_at c false action (past_arguments c arguments)) })
+  pub stops_there : (p : Phase) (room : ℕ) → 0 < room → stops p action ≡ true → pass_of (by p) space room c false ≡ Ok (record { contexts = c ∷ []; stop = Some (stop_at c false action (past_arguments c arguments)) })
   stops_there p zero some asks = absurd (omega arith)
   stops_there p (suc n) some asks = rw (turn_stops p asks) refl
 
   -- a pass that goes on there
-  pub goes_there : (p : Phase) (room : ℕ) → 0 < room → stops p action ≡ false → pass_of p space room c false ≡ with_context c (pass_of p space (room - 1) m.next.context false)
+  pub goes_there : (p : Phase) (room : ℕ) → 0 < room → stops p action ≡ false → pass_of (by p) space room c false ≡ with_context c (pass_of (by p) space (room - 1) m.next.context false)
   goes_there p zero some asks = absurd (omega arith)
   goes_there p (suc n) some asks = let less : suc n - 1 ≡ n = omega arith in rw (less, turn_goes p asks, m.unmarked) refl
 
   -- and meets one context more than from there on
-  pub met_there : (p : Phase) (room : ℕ) → 0 < room → stops p action ≡ false → contexts_met (Some p) space room c false ≡ suc (contexts_met (Some p) space (room - 1) m.next.context false)
+  pub met_there : (p : Phase) (room : ℕ) → 0 < room → stops p action ≡ false → contexts_met (Some (by p)) space room c false ≡ suc (contexts_met (Some (by p)) space (room - 1) m.next.context false)
   met_there p room some asks =
-      met_beyond (Some p) space room (room - 1) c false m.next (omega arith) (turn_goes p asks)
-      ∙ ap (λ (marked : Bool). suc (contexts_met (Some p) space (room - 1) m.next.context marked)) m.unmarked
+      met_beyond (Some (by p)) space room (room - 1) c false m.next (omega arith) (turn_goes p asks)
+      ∙ ap (λ (marked : Bool). suc (contexts_met (Some (by p)) space (room - 1) m.next.context marked)) m.unmarked
 
 -- ---- contexts
 
@@ -108,25 +116,25 @@ module _ (c : Context) (s : State) (size : ℕ) (shows : Shows (columns_of c) s)
 -- ---- frames of which it is known what they ask
 
 -- at every context that shows a state there is a frame that asks this
-abbrev pub IsMet : SpaceValue → State → Action → ℕ → State → Type 0
-IsMet space s action arguments t = (c : Context) → Shows (columns_of c) s → MeetsFrame space c false action arguments t
+abbrev pub IsMet : Languages → SpaceValue → State → FrameAction → ℕ → State → Type 0
+IsMet languages space s action arguments t = (c : Context) → Shows (columns_of c) s → MeetsAsked languages space c false action arguments t
 
-module _ (space : SpaceValue) (apart : AreApart 0 space.modules) (laid : IsLaidOut 0 space.image) where
-  pub link_met : (s t : State) (link : IsKnownLink space false s t) (action : Action) (arguments : ℕ) → IsState t → AsksThere space s t link action arguments → IsMet space s action arguments t
+module _ (languages : Languages) (space : SpaceValue) (apart : AreApart 0 space.modules) (laid : IsLaidOut 0 space.image) where
+  pub link_met : (s t : State) (link : IsKnownLink space false s t) (action : FrameAction) (arguments : ℕ) → IsState t → AsksThere languages space s t link action arguments → IsMet languages space s action arguments t
   link_met s t (inl known) wanted arguments fits asks c shows =
-      facts_met space c false s t apart laid known.1.returns (asked_at false s known.1.returns known.1.state.ra) shows known.0 fits known.1.said known.1.stands wanted arguments asks
+      facts_asked space c false s t apart laid known.1.returns (asked_at false s known.1.returns known.1.state.ra) shows languages known.0 fits known.1.said known.1.stands wanted arguments asks.0 asks.1
   link_met s t (inr described) wanted arguments fits asks c shows =
       let m : Met space c s described.call = format_met space c described.functions s described.call apart laid described.called shows described.state.ra in
       record {
         frame = m.frame;
         framed = m.framed;
-        asks = m.asks ∙ ap ok (sym asks.0);
-        size = m.no_arguments ∙ sym asks.1;
+        asks = asks_without_cxx languages space.image c false m.frame asks.1 ∙ ap (result_map asked_by_rust) m.asks ∙ ap ok (sym asks.0);
+        size = m.no_arguments ∙ sym asks.2;
         next = m.next;
         called = m.called;
         unmarked = m.unmarked;
         shows = subst (λ (u : State). Shows (columns_of m.next.context) u) described.caller m.shows;
       }
     where
-      ok : Action → Result Action DeliverError
+      ok : FrameAction → Result FrameAction DeliverError
       ok x = Ok x

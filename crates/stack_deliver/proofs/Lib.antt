@@ -10,6 +10,7 @@ pub mod ElfDeliveries
 pub mod FirstEntry
 pub mod KnownDelivered
 pub mod KnownPasses
+pub mod KnownThrown
 pub mod KnownTurns
 pub mod MeetAnswers
 pub mod OneHeader

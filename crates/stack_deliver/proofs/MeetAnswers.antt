@@ -1,8 +1,8 @@
 -- What a pass answers, in the words of what it meets.
 use Rattle.std.proofs.Common.{inl, inr, ◌≡◌, ℕ, zero, suc, Bool, true, false, cond, List, Option, Some, None, Result, Ok, Err, refl, sym, ap, subst, ◌∙◌}
-use Rattle.std.specs.Prelude.{◌⊎◌}
+use Rattle.std.specs.Prelude.{◌≢◌, ◌⊎◌, MatchBool}
 use Rattle.unwind_definitions.specs.Caller as calls
-use Rattle.unwind_definitions.specs.Function.{Action, NoAction, Terminate}
+use Rattle.unwind_definitions.specs.Function as rust
 use Rattle.unwind_definitions.specs.LanguageSearch.{LanguagePlace, address_of_call, table_action}
 use Rattle.memory_image.specs.Image.{Span}
 use Rattle.memory_image.specs.Results.{result_map}
@@ -10,35 +10,40 @@ use Rattle.unwind_arch.specs.declared.x86_64.Context.{Context}
 use Rattle.format_frames.specs.declared.machine.Stepped.{Stepped}
 use Rattle.stack_steps.specs.declared.answers.DeliverError.{DeliverError}
 use Rattle.stack_steps.specs.declared.answers.DeliverError.TheVariants.{FrameLimit}
-use Rattle.stack_walks.specs.declared.outward.Phase.{Phase}
 use Rattle.stack_steps.specs.Modules.{SpaceValue}
 use Rattle.stack_steps.specs.Stepping.{step_of, FrameAt, frame_of, caller_by}
-use Rattle.stack_steps.specs.Asking.{or_terminate, action_if_named, action_asked, arguments_of, named_table}
-use Rattle.stack_walks.specs.Turns.{turn_at, stops, past_arguments, Line, Stop, Turn, Ends, Stops, Goes, turn_of, with_context, line_turn, pass_of, turn_for}
+use Rattle.stack_steps.specs.declared.asking.FrameAction.{FrameAction}
+use Rattle.stack_steps.specs.declared.asking.FrameAction.TheVariants.{Nothing, Terminate, TerminateAfterCleanups}
+use Rattle.stack_steps.specs.Asking.{or_terminate, arguments_of, named_table}
+use Rattle.stack_steps.specs.Languages.{Languages, asked_by_cxx, asked_by_rust, asks_if_named, frame_asks, is_cxx, routine_of, table_asks}
+use Rattle.unwinding_frames.specs.CxxTables.{CxxAction, cxx_table_action}
+use Rattle.unwinding_frames.specs.CxxTables as cxx
+use Rattle.unwinding_frames.specs.declared.cxx.error.CxxError.{CxxError}
+use Rattle.stack_walks.specs.Turns.{Pass, turn_at, stops, past_arguments, Line, Stop, Turn, Ends, Stops, Goes, turn_of, with_context, line_turn, pass_of, turn_for}
 use Rattle.stack_walks.proofs.TurnLines.{stop_in}
-use Rattle.stack_deliver.specs.Causes.{Asks, GoesTo, EndsProgram, StackEnds, CantRead, Meets, GoesOnFrom}
+use Rattle.stack_deliver.specs.Causes.{Asks, EndsAtOnce, EndsLater, GoesTo, EndsProgram, EndsProgramLater, StackEnds, CantRead, Meets, GoesOnFrom}
 use Rattle.stack_steps.proofs.StepParts.{some_next, stepped_by, step_is, none_framed}
 use Rattle.stack_deliver.proofs.TurnParts.{goes, turn_asked, turn_by}
 
 -- ---- what names a language table
 
-module _ (image : List Span) (c : Context) (interrupted : Bool) where
-  abbrev action_by : Option (Result LanguagePlace calls.StepFault) → Action
-  action_by = action_if_named image (address_of_call c.ra interrupted)
+module _ (languages : Languages) (image : List Span) (c : Context) (interrupted : Bool) where
+  abbrev action_by : FrameAt → Option (Result LanguagePlace calls.StepFault) → FrameAction
+  action_by f = asks_if_named languages image (address_of_call c.ra interrupted) (routine_of image f)
 
-  asked_refused : (f : FrameAt) (e : DeliverError) → action_asked image c interrupted f ≡ Err e → named_table image f ≡ Err e
+  asked_refused : (f : FrameAt) (e : DeliverError) → frame_asks languages image c interrupted f ≡ Err e → named_table image f ≡ Err e
   asked_refused f e = go (named_table image f)
     where
-      go : (r : Result (Option (Result LanguagePlace calls.StepFault)) DeliverError) → result_map action_by r ≡ Err e → r ≡ Err e
+      go : (r : Result (Option (Result LanguagePlace calls.StepFault)) DeliverError) → result_map (action_by f) r ≡ Err e → r ≡ Err e
       go (Ok named) fails = absurd cc
       go (Err fault) fails = cc
 
-  refused_asked : (f : FrameAt) (e : DeliverError) → named_table image f ≡ Err e → action_asked image c interrupted f ≡ Err e
-  refused_asked f e is = ap (result_map action_by) is
+  refused_asked : (f : FrameAt) (e : DeliverError) → named_table image f ≡ Err e → frame_asks languages image c interrupted f ≡ Err e
+  refused_asked f e is = ap (result_map (action_by f)) is
 
 -- ---- a turn
 
-module _ (p : Phase) (space : SpaceValue) (c : Context) (interrupted : Bool) where
+module _ (p : Pass) (space : SpaceValue) (c : Context) (interrupted : Bool) where
   abbrev framed : Result (Option FrameAt) DeliverError
   framed = frame_of space c interrupted
 
@@ -71,28 +76,28 @@ module _ (p : Phase) (space : SpaceValue) (c : Context) (interrupted : Bool) whe
   -- what a turn is, by what it meets
   abbrev pub IsTurn : Result Turn DeliverError → Type 0
   IsTurn (Ok Ends) = StackEnds space c interrupted
-  IsTurn (Ok (Stops wanted past)) = Asks space c interrupted wanted × (stops p wanted ≡ true)
+  IsTurn (Ok (Stops wanted past)) = Asks p.languages space c interrupted wanted × (stops p.phase wanted ≡ true)
   IsTurn (Ok (Goes next)) = GoesTo p space c interrupted next
   IsTurn (Err e) = CantRead p e space c interrupted
 
-  by_caller : (f : FrameAt) (wanted : Action) → Asks space c interrupted wanted → stops p wanted ≡ false → framed ≡ Ok (Some f) → (r : Result Stepped DeliverError) → caller_by space.image c f ≡ r → IsTurn (goes r)
+  by_caller : (f : FrameAt) (wanted : FrameAction) → Asks p.languages space c interrupted wanted → stops p.phase wanted ≡ false → framed ≡ Ok (Some f) → (r : Result Stepped DeliverError) → caller_by space.image c f ≡ r → IsTurn (goes r)
   by_caller f wanted asks silent is (Ok next) called = record { action = wanted; asks = asks; silent = silent; caller = next_is f next is called }
   by_caller f wanted asks silent is (Err e) called = inr (inr (wanted, asks, silent, next_fails f e is called))
 
-  by_test : (f : FrameAt) (wanted : Action) → Asks space c interrupted wanted → framed ≡ Ok (Some f) → (b : Bool) → stops p wanted ≡ b → IsTurn (turn_at space.image c f (cond b (Some wanted) None))
+  by_test : (f : FrameAt) (wanted : FrameAction) → Asks p.languages space c interrupted wanted → framed ≡ Ok (Some f) → (b : Bool) → stops p.phase wanted ≡ b → IsTurn (turn_at space.image c f (cond b (Some wanted) None))
   by_test f wanted asks is true stopped = (asks, stopped)
   by_test f wanted asks is false silent = by_caller f wanted asks silent is (caller_by space.image c f) refl
 
-  handler_fails : (f : FrameAt) (e : DeliverError) → framed ≡ Ok (Some f) → action_asked space.image c interrupted f ≡ Err e → CantRead p e space c interrupted
-  handler_fails f e is fails = inr (inl (f, is, asked_refused space.image c interrupted f e fails))
+  handler_fails : (f : FrameAt) (e : DeliverError) → framed ≡ Ok (Some f) → frame_asks p.languages space.image c interrupted f ≡ Err e → CantRead p e space c interrupted
+  handler_fails f e is fails = inr (inl (f, is, asked_refused p.languages space.image c interrupted f e fails))
 
-  by_asked : (f : FrameAt) → framed ≡ Ok (Some f) → (r : Result Action DeliverError) → action_asked space.image c interrupted f ≡ r → IsTurn (turn_asked p space.image c f r)
-  by_asked f is (Ok wanted) asked = by_test f wanted (record { frame = f; framed = is; asked = asked }) is (stops p wanted) refl
+  by_asked : (f : FrameAt) → framed ≡ Ok (Some f) → (r : Result FrameAction DeliverError) → frame_asks p.languages space.image c interrupted f ≡ r → IsTurn (turn_asked p space.image c f r)
+  by_asked f is (Ok wanted) asked = by_test f wanted (record { frame = f; framed = is; asked = asked }) is (stops p.phase wanted) refl
   by_asked f is (Err e) asked = handler_fails f e is asked
 
   by_frame : (r : Result (Option FrameAt) DeliverError) → framed ≡ r → IsTurn (turn_by p space.image c interrupted r)
   by_frame (Ok None) is = step_is space c interrupted ∙ ap (stepped_by space.image c) is
-  by_frame (Ok (Some f)) is = by_asked f is (action_asked space.image c interrupted f) refl
+  by_frame (Ok (Some f)) is = by_asked f is (frame_asks p.languages space.image c interrupted f) refl
   by_frame (Err e) is = inl is
 
   turn_is : IsTurn (turn_of p space c interrupted)
@@ -103,7 +108,7 @@ module _ (p : Phase) (space : SpaceValue) (c : Context) (interrupted : Bool) whe
   turn_meets r is = subst IsTurn is turn_is
 
   -- a frame that asks for something for which the pass stops
-  pub turn_stops : (wanted : Action) → (asks : Asks space c interrupted wanted) → stops p wanted ≡ true → turn_of p space c interrupted ≡ Ok (Stops wanted (past_arguments c (arguments_of asks.frame)))
+  pub turn_stops : (wanted : FrameAction) → (asks : Asks p.languages space c interrupted wanted) → stops p.phase wanted ≡ true → turn_of p space c interrupted ≡ Ok (Stops wanted (past_arguments c (arguments_of asks.frame)))
   unfolding turn_for
   turn_stops wanted asks stopped = rw (asks.framed, asks.asked, stopped) refl
 
@@ -118,42 +123,124 @@ module _ (p : Phase) (space : SpaceValue) (c : Context) (interrupted : Bool) whe
   turn_fails e (inl row) = rw row refl
   turn_fails e (inr (inl refused)) =
       let f : FrameAt = refused.0 in
-      rw (refused.1, refused_asked space.image c interrupted f e refused.2) refl
+      rw (refused.1, refused_asked p.languages space.image c interrupted f e refused.2) refl
   turn_fails e (inr (inr caller)) =
-      let wanted : Action = caller.0 in let asks : Asks space c interrupted wanted = caller.1 in
+      let wanted : FrameAction = caller.0 in let asks : Asks p.languages space c interrupted wanted = caller.1 in
       rw (asks.framed, asks.asked, caller.2, fails_next asks.frame e asks.framed caller.3) refl
 
 -- ---- the language's answer to end the program
 
-module _ (space : SpaceValue) (c : Context) (interrupted : Bool) where
-  abbrev asked_at : Result LanguagePlace calls.StepFault → Result Action calls.StepFault
-  asked_at place = table_action space.image (address_of_call c.ra interrupted) place
+-- a table that ends the program so
+module _ (languages : Languages) (image : List Span) (a : ℕ) (routine : Option ℕ) (place : Result LanguagePlace calls.StepFault) where
+  abbrev by_cxx : Result CxxAction CxxError
+  by_cxx = cxx_table_action image languages.exception a place
 
-  pub ends_asks : EndsProgram space c interrupted → Asks space c interrupted Terminate
-  ends_asks ends = record { frame = ends.frame; framed = ends.framed; asked = ap (result_map (action_by space.image c interrupted)) ends.named ∙ fatal ends.fatal }
+  abbrev by_rust : Result rust.Action calls.StepFault
+  by_rust = table_action image a place
+
+  abbrev chosen : Bool → FrameAction
+  chosen b = cond b (asked_by_cxx by_cxx) (asked_by_rust (or_terminate by_rust))
+
+  abbrev EndsSo : Bool → Type 0
+  EndsSo b = MatchBool b ((e : CxxError) × (by_cxx ≡ Err e)) ((by_rust ≡ Ok rust.Terminate) ⊎ ((e : calls.StepFault) × (by_rust ≡ Err e)))
+
+  pub at_once_asks : EndsAtOnce languages image a routine place → table_asks languages image a routine place ≡ Terminate
+  at_once_asks = go (is_cxx languages routine)
     where
-      answer : Result Action calls.StepFault → Result Action DeliverError
-      answer r = Ok (or_terminate r)
+      go : (b : Bool) → EndsSo b → chosen b ≡ Terminate
+      go true ends = ap asked_by_cxx ends.1
+      go false (inl is) = ap (λ r. asked_by_rust (or_terminate r)) is
+      go false (inr fails) = ap (λ r. asked_by_rust (or_terminate r)) fails.1
 
-      fatal : (asked_at ends.place ≡ Ok Terminate) ⊎ ((e : calls.StepFault) × (asked_at ends.place ≡ Err e)) → answer (asked_at ends.place) ≡ Ok Terminate
-      fatal (inl is) = ap answer is
-      fatal (inr fails) = ap answer fails.1
-
-  pub asks_ends : Asks space c interrupted Terminate → EndsProgram space c interrupted
-  asks_ends asks = go (named_table space.image asks.frame) refl asks.asked
+  pub asks_at_once : table_asks languages image a routine place ≡ Terminate → EndsAtOnce languages image a routine place
+  asks_at_once = go (is_cxx languages routine)
     where
-      by_table : (place : Result LanguagePlace calls.StepFault) → named_table space.image asks.frame ≡ Ok (Some place) → (r : Result Action calls.StepFault) → asked_at place ≡ r → or_terminate r ≡ Terminate → EndsProgram space c interrupted
-      by_table place named (Ok wanted) is e = record { frame = asks.frame; framed = asks.framed; place = place; named = named; fatal = inl (is ∙ ap Ok e) }
-      by_table place named (Err fault) is e = record { frame = asks.frame; framed = asks.framed; place = place; named = named; fatal = inr (fault, is) }
+      cxx_ends : (r : Result CxxAction CxxError) → by_cxx ≡ r → asked_by_cxx r ≡ Terminate → (e : CxxError) × (by_cxx ≡ Err e)
+      cxx_ends (Ok cxx.NoAction) is ends = absurd cc
+      cxx_ends (Ok (cxx.Cleanup pad)) is ends = absurd cc
+      cxx_ends (Ok (cxx.Handler pad filter)) is ends = absurd cc
+      cxx_ends (Ok cxx.Terminate) is ends = absurd cc
+      cxx_ends (Err e) is ends = (e, is)
 
-      go : (r : Result (Option (Result LanguagePlace calls.StepFault)) DeliverError) → named_table space.image asks.frame ≡ r → result_map (action_by space.image c interrupted) r ≡ Ok Terminate → EndsProgram space c interrupted
-      go (Ok None) named e = let bad : NoAction ≡ Terminate = cc in absurd cc
-      go (Ok (Some place)) named e = by_table place named (asked_at place) refl cc
-      go (Err fault) named e = absurd cc
+      rust_ends : (r : Result rust.Action calls.StepFault) → by_rust ≡ r → asked_by_rust (or_terminate r) ≡ Terminate → (by_rust ≡ Ok rust.Terminate) ⊎ ((e : calls.StepFault) × (by_rust ≡ Err e))
+      rust_ends (Ok rust.NoAction) is ends = absurd cc
+      rust_ends (Ok (rust.Cleanup pad)) is ends = absurd cc
+      rust_ends (Ok (rust.Catch pad)) is ends = absurd cc
+      rust_ends (Ok (rust.Filter pad)) is ends = absurd cc
+      rust_ends (Ok rust.Terminate) is ends = inl is
+      rust_ends (Err e) is ends = inr (e, is)
+
+      go : (b : Bool) → chosen b ≡ Terminate → EndsSo b
+      go true ends = cxx_ends by_cxx refl ends
+      go false ends = rust_ends by_rust refl ends
+
+  pub later_asks : EndsLater languages image a routine place → table_asks languages image a routine place ≡ TerminateAfterCleanups
+  later_asks ends = ap chosen ends.0 ∙ ap asked_by_cxx ends.1
+
+  pub asks_later : table_asks languages image a routine place ≡ TerminateAfterCleanups → EndsLater languages image a routine place
+  asks_later = go (is_cxx languages routine) refl
+    where
+      cxx_ends : (r : Result CxxAction CxxError) → asked_by_cxx r ≡ TerminateAfterCleanups → r ≡ Ok cxx.Terminate
+      cxx_ends (Ok cxx.NoAction) ends = absurd cc
+      cxx_ends (Ok (cxx.Cleanup pad)) ends = absurd cc
+      cxx_ends (Ok (cxx.Handler pad filter)) ends = absurd cc
+      cxx_ends (Ok cxx.Terminate) ends = refl
+      cxx_ends (Err e) ends = absurd cc
+
+      never : (x : rust.Action) → asked_by_rust x ≡ TerminateAfterCleanups → ⊥
+      never rust.NoAction ends = absurd cc
+      never (rust.Cleanup pad) ends = absurd cc
+      never (rust.Catch pad) ends = absurd cc
+      never (rust.Filter pad) ends = absurd cc
+      never rust.Terminate ends = absurd cc
+
+      go : (b : Bool) → is_cxx languages routine ≡ b → chosen b ≡ TerminateAfterCleanups → EndsLater languages image a routine place
+      go true is ends = (is, cxx_ends by_cxx ends)
+      go false is ends = absurd (never (or_terminate by_rust) ends)
+
+module _ (languages : Languages) (space : SpaceValue) (c : Context) (interrupted : Bool) where
+  abbrev a : ℕ
+  a = address_of_call c.ra interrupted
+
+  -- what is asked where a table is named
+  abbrev by_named : FrameAt → Result LanguagePlace calls.StepFault → FrameAction
+  by_named f place = table_asks languages space.image a (routine_of space.image f) place
+
+  abbrev ok : FrameAction → Result FrameAction DeliverError
+  ok x = Ok x
+
+  named_asks : (f : FrameAt) (place : Result LanguagePlace calls.StepFault) (x : FrameAction) → frame_of space c interrupted ≡ Ok (Some f) → named_table space.image f ≡ Ok (Some place) → by_named f place ≡ x → Asks languages space c interrupted x
+  named_asks f place x framed named is = record { frame = f; framed = framed; asked = ap (result_map (action_by languages space.image c interrupted f)) named ∙ ap ok is }
+
+  -- a frame that asks for something names a table
+  asks_named : (x : FrameAction) (f : FrameAt) → frame_asks languages space.image c interrupted f ≡ Ok x → x ≢ Nothing → (place : Result LanguagePlace calls.StepFault) × (named_table space.image f ≡ Ok (Some place)) × (by_named f place ≡ x)
+  asks_named x f = go (named_table space.image f) refl
+    where
+      go : (r : Result (Option (Result LanguagePlace calls.StepFault)) DeliverError) → named_table space.image f ≡ r → result_map (action_by languages space.image c interrupted f) r ≡ Ok x → x ≢ Nothing →
+          (place : Result LanguagePlace calls.StepFault) × (named_table space.image f ≡ Ok (Some place)) × (by_named f place ≡ x)
+      go (Ok None) named e some = let same : Nothing ≡ x = cc in absurd (some (sym same))
+      go (Ok (Some place)) named e some = (place, named, cc)
+      go (Err fault) named e some = absurd cc
+
+  pub ends_asks : EndsProgram languages space c interrupted → Asks languages space c interrupted Terminate
+  ends_asks ends = named_asks ends.frame ends.place Terminate ends.framed ends.named (at_once_asks languages space.image a (routine_of space.image ends.frame) ends.place ends.fatal)
+
+  pub asks_ends : Asks languages space c interrupted Terminate → EndsProgram languages space c interrupted
+  asks_ends asks =
+      let r = asks_named Terminate asks.frame asks.asked (λ e. cc) in
+      record { frame = asks.frame; framed = asks.framed; place = r.0; named = r.1; fatal = asks_at_once languages space.image a (routine_of space.image asks.frame) r.0 r.2 }
+
+  pub ends_later_asks : EndsProgramLater languages space c interrupted → Asks languages space c interrupted TerminateAfterCleanups
+  ends_later_asks ends = named_asks ends.frame ends.place TerminateAfterCleanups ends.framed ends.named (later_asks languages space.image a (routine_of space.image ends.frame) ends.place ends.fatal)
+
+  pub asks_ends_later : Asks languages space c interrupted TerminateAfterCleanups → EndsProgramLater languages space c interrupted
+  asks_ends_later asks =
+      let r = asks_named TerminateAfterCleanups asks.frame asks.asked (λ e. cc) in
+      record { frame = asks.frame; framed = asks.framed; place = r.0; named = r.1; fatal = asks_later languages space.image a (routine_of space.image asks.frame) r.0 r.2 }
 
 -- ---- a pass
 
-module _ (p : Phase) (space : SpaceValue) where
+module _ (p : Pass) (space : SpaceValue) where
   -- the last turn of a pass gives this
   abbrev pub Last : Result (Option Stop) DeliverError → Context → Bool → Type 0
   Last (Ok None) c interrupted = turn_of p space c interrupted ≡ Ok Ends
@@ -228,14 +315,14 @@ module _ (p : Phase) (space : SpaceValue) where
       go (inr meets) = inr (inr (later.0, later.1, meets))
 
   -- a frame that asks for something for which the pass stops
-  abbrev pub StopsFor : (Context → Bool → Action → Type 0) → Context → Bool → Type 0
-  StopsFor Q c interrupted = (wanted : Action) × Asks space c interrupted wanted × (stops p wanted ≡ true) × Q c interrupted wanted
+  abbrev pub StopsFor : (Context → Bool → FrameAction → Type 0) → Context → Bool → Type 0
+  StopsFor Q c interrupted = (wanted : FrameAction) × Asks p.languages space c interrupted wanted × (stops p.phase wanted ≡ true) × Q c interrupted wanted
 
   -- the pass stops at the first of them
-  pub meets_stop : (Q : Context → Bool → Action → Type 0) (room : ℕ) (c : Context) (interrupted : Bool) → Meets p space (StopsFor Q) room c interrupted → (stop : Stop) × Meets p space (Last (Ok (Some stop))) room c interrupted × Q stop.context stop.interrupted stop.action
+  pub meets_stop : (Q : Context → Bool → FrameAction → Type 0) (room : ℕ) (c : Context) (interrupted : Bool) → Meets p space (StopsFor Q) room c interrupted → (stop : Stop) × Meets p space (Last (Ok (Some stop))) room c interrupted × Q stop.context stop.interrupted stop.action
   meets_stop Q zero c interrupted meets = absurd meets
   meets_stop Q (suc room) c interrupted (inl now) =
-      let wanted : Action = now.0 in let asks : Asks space c interrupted wanted = now.1 in
+      let wanted : FrameAction = now.0 in let asks : Asks p.languages space c interrupted wanted = now.1 in
       let past : Context = past_arguments c (arguments_of asks.frame) in
       (record { context = c; interrupted = interrupted; action = wanted; past = past }, inl (refl, refl, turn_stops p space c interrupted wanted asks now.2), now.3)
   meets_stop Q (suc room) c interrupted (inr later) =

@@ -5,10 +5,10 @@ use Rattle.unwind_definitions.specs.Delivery.{resume_of}
 use Rattle.unwind_arch.specs.declared.x86_64.Context.{Context}
 use Rattle.stack_steps.specs.declared.answers.DeliverError.{DeliverError}
 use Rattle.stack_steps.specs.declared.answers.DeliverError.TheVariants.{PassLimit}
+use Rattle.stack_steps.specs.Languages.{Languages}
 use Rattle.stack_steps.specs.Modules.{SpaceValue}
-use Rattle.stack_walks.specs.declared.outward.Phase.TheVariants as phase
 use Rattle.stack_walks.specs.ContextsMet.{contexts_met}
-use Rattle.stack_walks.specs.Turns.{Line, with_context, pass_of}
+use Rattle.stack_walks.specs.Turns.{Line, cleaning, with_context, pass_of}
 use Rattle.stack_deliver.specs.declared.answers.Ending.{Ending}
 use Rattle.stack_deliver.specs.Passes.{Finishes, Elsewhere, end_of, cleanup_at, resume_at, CleanupsRun, with_cleanup, cleanup_and_rest, after_pass, passes_of}
 use Rattle.stack_deliver.specs.Resumes.{return_of}
@@ -23,16 +23,16 @@ resume_same (e ∷ es) pad = go (e.0 == pad) refl (resume_same es pad)
     go true is later = rw is refl
     go false is later = rw is later
 
-module _ (space : SpaceValue) (exception kept : ℕ) (resumes : List (ℕ × ℕ)) (limit : ℕ) where
+module _ (languages : Languages) (space : SpaceValue) (exception kept : ℕ) (resumes : List (ℕ × ℕ)) (limit : ℕ) where
   abbrev pub passes : ℕ → Context → Result CleanupsRun DeliverError
-  passes = passes_of space exception kept resumes limit
+  passes = passes_of languages space exception kept resumes limit
 
   -- what follows a pass
   abbrev pub from_pass : ℕ → Result Line DeliverError → Result CleanupsRun DeliverError
   from_pass zero r = after_pass (end_of exception kept r) (λ pad entered. Err PassLimit)
   from_pass (suc n) r = after_pass (end_of exception kept r) (λ pad entered. cleanup_and_rest (cleanup_at pad entered) (resume_at pad entered (return_of resumes pad)) (passes n))
 
-  pub by_pass : (places : ℕ) (c : Context) → passes places c ≡ from_pass places (pass_of phase.Cleanup space limit c false)
+  pub by_pass : (places : ℕ) (c : Context) → passes places c ≡ from_pass places (pass_of (cleaning languages) space limit c false)
   by_pass zero c = refl
   by_pass (suc n) c = refl
 
@@ -58,13 +58,13 @@ module _ (space : SpaceValue) (exception kept : ℕ) (resumes : List (ℕ × ℕ
   -- by a pass that meets so many, and by those that follow it
   abbrev pub met_from : ℕ → ℕ → Result Line DeliverError → ℕ
   met_from zero met r = met
-  met_from (suc n) met r = met + met_after (end_of exception kept r) (λ pad entered. met_after_resume (resume_at pad entered (return_of resumes pad)) (met_in_passes space exception kept resumes limit n))
+  met_from (suc n) met r = met + met_after (end_of exception kept r) (λ pad entered. met_after_resume (resume_at pad entered (return_of resumes pad)) (met_in_passes languages space exception kept resumes limit n))
 
   -- by passes the first of which may have another limit
   abbrev pub met_by : ℕ → ℕ → Context → ℕ
-  met_by places room c = met_from places (contexts_met (Some phase.Cleanup) space room c false) (pass_of phase.Cleanup space room c false)
+  met_by places room c = met_from places (contexts_met (Some (cleaning languages)) space room c false) (pass_of (cleaning languages) space room c false)
 
-  pub by_count : (places : ℕ) (c : Context) → met_in_passes space exception kept resumes limit places c ≡ met_by places limit c
+  pub by_count : (places : ℕ) (c : Context) → met_in_passes languages space exception kept resumes limit places c ≡ met_by places limit c
   by_count zero c = refl
   by_count (suc n) c = refl
 
@@ -80,5 +80,5 @@ module _ (space : SpaceValue) (exception kept : ℕ) (resumes : List (ℕ × ℕ
   finishes_met (suc n) met r ending e = rw e (omega arith)
 
   pub cleans_met : (n met pad ret : ℕ) (entered : Context) (r : Result Line DeliverError) → end_of exception kept r ≡ Ok (Elsewhere pad entered) → return_of resumes pad ≡ Some ret →
-      met_from (suc n) met r ≡ met + met_in_passes space exception kept resumes limit n (record entered { ra = ret })
+      met_from (suc n) met r ≡ met + met_in_passes languages space exception kept resumes limit n (record entered { ra = ret })
   cleans_met n met pad ret entered r e found = rw (e, found) refl

@@ -11,27 +11,26 @@ use Rattle.unwind_definitions.specs.Entered.{IsEntered}
 use Rattle.unwind_definitions.specs.Function.{Function, IsFunction, NoAction, Cleanup, in_body, action_at}
 use Rattle.unwind_definitions.specs.Module.{Module}
 use Rattle.unwind_definitions.specs.Chain.{Call, IsEnd}
-use Rattle.format_definitions.specs.FormatCalls.{IsFormatCall}
-use Rattle.format_definitions.specs.FormatModules.{FormatModule, Elf, Macho, Pe, in_format, convention_of, part_of, DescribesFormat, IsUncoveredBy}
-use Rattle.format_laws.proofs.FormatHomes.{in_part, body_lies}
+use Rattle.format_definitions.specs.Calls.{IsDescribedCall}
+use Rattle.format_definitions.specs.Modules.{FormatModule, Elf, Macho, Pe, in_format, convention_of, part_of, DescribesFormat, IsUncoveredBy}
+use Rattle.format_laws.proofs.Homes.{in_part, body_lies}
 use Rattle.format_laws.proofs.Silent.{silent_action}
 use Rattle.unwind_arch.specs.declared.x86_64.Context.{Context}
 use Rattle.unwind_arch.specs.ContextViews.{columns_of}
-use Rattle.stack_walks.specs.declared.outward.Phase.{Phase}
 use Rattle.stack_steps.specs.Modules.{AreApart, SpaceValue}
 use Rattle.stack_steps.specs.SpaceViews.{process_of, formats_of}
-use Rattle.stack_steps.proofs.FormatHolders.{elf_from_format}
-use Rattle.stack_walks.specs.Turns.{pass_of, enters, turn_for}
+use Rattle.stack_steps.proofs.Holders.{elf_from_format}
+use Rattle.stack_walks.specs.Turns.{Pass, pass_of, enters, turn_for}
 use Rattle.stack_steps.proofs.ContextLemmas.{IsWhole}
 use Rattle.stack_walks.proofs.LineShows.{ends}
-use Rattle.stack_steps.proofs.FormatMet.{format_met}
-use Rattle.stack_steps.proofs.MetFrames.{IsDescribedCall, Met, met}
+use Rattle.stack_steps.proofs.MetCalls.{format_met}
+use Rattle.stack_steps.proofs.MetFrames.{IsElfCall, Met, met}
 use Rattle.stack_deliver.proofs.TabledEnds.{tabled_end, recorded_end}
 
 -- ---- the end of the stack
 
 -- a pass ends there
-pub pass_ends_at : (space : SpaceValue) → AreApart 0 space.modules → IsLaidOut 0 space.image → (functions : List Function) (c : Context) (s : State) (p : Phase) (room : ℕ) → 0 < room → Shows (columns_of c) s →
+pub pass_ends_at : (space : SpaceValue) → AreApart 0 space.modules → IsLaidOut 0 space.image → (functions : List Function) (c : Context) (s : State) (p : Pass) (room : ℕ) → 0 < room → Shows (columns_of c) s →
     IsEnd space.image (IsUncoveredBy space.image (formats_of space)) functions s →
     pass_of p space room c false ≡ Ok (record { contexts = c ∷ []; stop = None })
 unfolding turn_for
@@ -61,12 +60,12 @@ asks_some f a pad asks none = let silent : action_at f a ≡ NoAction = silent_a
 entered_again : (image : List Span) (s : State) (k : Call) (ret : ℕ) → IsEntered image k.callee.outermost (steps_of k.callee.prologue) k.caller s → IsEntered image k.callee.outermost (steps_of k.callee.prologue) k.caller (returning s ret)
 entered_again image s k ret entered = record { room = entered.room; returns = entered.returns; leaves = entered.leaves; stack = entered.stack; keeps = λ r none. kept_value s ret r ∙ entered.keeps r none }
 
-module _ (space : SpaceValue) (apart : AreApart 0 space.modules) (laid : IsLaidOut 0 space.image) (functions : List Function) (s : State) (k : Call) (ret : ℕ) (is : IsFormatCall space.image (formats_of space) functions s k)
+module _ (space : SpaceValue) (apart : AreApart 0 space.modules) (laid : IsLaidOut 0 space.image) (functions : List Function) (s : State) (k : Call) (ret : ℕ) (is : IsDescribedCall space.image (formats_of space) functions s k)
     (returns : ret ≢ 0) (inside : IsTrue (in_body k.callee (ret - 1))) where
   abbrev part : FormatModule → List Function
   part home = part_of home functions
 
-  resumed : IsFormatCall space.image (formats_of space) functions (returning s ret) k
+  resumed : IsDescribedCall space.image (formats_of space) functions (returning s ret) k
   resumed = record {
     listed = is.listed;
     lies = is.lies;
@@ -75,7 +74,7 @@ module _ (space : SpaceValue) (apart : AreApart 0 space.modules) (laid : IsLaidO
     ends = is.ends;
   }
 
-  in_elf : (m : Module) → is.lies.home ≡ Elf m → IsDescribedCall (process_of space) functions (returning s ret) k
+  in_elf : (m : Module) → is.lies.home ≡ Elf m → IsElfCall (process_of space) functions (returning s ret) k
   in_elf m home = record {
     is_function = subst (λ (h : FormatModule). IsFunction (convention_of h) k.callee) home is.lies.is_function;
     listed = is.listed;
@@ -112,22 +111,22 @@ module _ (space : SpaceValue) (apart : AreApart 0 space.modules) (laid : IsLaidO
 
 -- ---- contexts that enter a landing pad
 
-module _ (c : Context) (s : State) (exception pad : ℕ) (shows : Shows (columns_of c) s) where
-  entered_at : (k : ℕ) → k ≢ 0 → k ≢ 1 → get_or (set (set c.registers 0 exception) 1 0) k 0 ≡ get_or c.registers k 0
-  entered_at k not_rax not_rdx = get_or-set_other (set c.registers 0 exception) 1 k 0 0 not_rdx ∙ get_or-set_other c.registers 0 k exception 0 not_rax
+module _ (c : Context) (s : State) (exception number pad : ℕ) (shows : Shows (columns_of c) s) where
+  entered_at : (k : ℕ) → k ≢ 0 → k ≢ 1 → get_or (set (set c.registers 0 exception) 1 number) k 0 ≡ get_or c.registers k 0
+  entered_at k not_rax not_rdx = get_or-set_other (set c.registers 0 exception) 1 k number 0 not_rdx ∙ get_or-set_other c.registers 0 k exception 0 not_rax
 
   abbrev some_number : ℕ → Option ℕ
   some_number n = Some n
 
   -- the state of the frame, at whatever return address
-  pub entered_shows : (ret : ℕ) → Shows (columns_of (record (enters c exception pad) { ra = ret })) (returning s ret)
+  pub entered_shows : (ret : ℕ) → Shows (columns_of (record (enters c exception number pad) { ra = ret })) (returning s ret)
   entered_shows ret = record {
     ra = refl;
     sp = ap some_number (entered_at 7 (λ e. cc) (λ e. cc)) ∙ shows.sp;
     saved = each;
   }
     where
-      each : (r : CalleeSaved) → columns_of (record (enters c exception pad) { ra = ret }) (column_of r) ≡ Some (value_of r (returning s ret))
+      each : (r : CalleeSaved) → columns_of (record (enters c exception number pad) { ra = ret }) (column_of r) ≡ Some (value_of r (returning s ret))
       each RBX = ap some_number (entered_at 3 (λ e. cc) (λ e. cc)) ∙ shows.saved RBX
       each RBP = ap some_number (entered_at 6 (λ e. cc) (λ e. cc)) ∙ shows.saved RBP
       each R12 = ap some_number (entered_at 12 (λ e. cc) (λ e. cc)) ∙ shows.saved R12
@@ -135,11 +134,11 @@ module _ (c : Context) (s : State) (exception pad : ℕ) (shows : Shows (columns
       each R14 = ap some_number (entered_at 14 (λ e. cc) (λ e. cc)) ∙ shows.saved R14
       each R15 = ap some_number (entered_at 15 (λ e. cc) (λ e. cc)) ∙ shows.saved R15
 
-  pub entered_sp : get_or (enters c exception pad).registers 7 0 ≡ s.sp
+  pub entered_sp : get_or (enters c exception number pad).registers 7 0 ≡ s.sp
   entered_sp = let e : Some (get_or c.registers 7 0) ≡ Some s.sp = shows.sp in let sp : get_or c.registers 7 0 ≡ s.sp = cc in entered_at 7 (λ e. cc) (λ e. cc) ∙ sp
 
-  pub entered_rax : IsWhole c → get_or (enters c exception pad).registers 0 0 ≡ exception
-  entered_rax whole = get_or-set_other (set c.registers 0 exception) 1 0 0 0 (λ e. cc) ∙ get_or-set_same c.registers 0 exception 0 (omega arith)
+  pub entered_rax : IsWhole c → get_or (enters c exception number pad).registers 0 0 ≡ exception
+  entered_rax whole = get_or-set_other (set c.registers 0 exception) 1 0 number 0 (λ e. cc) ∙ get_or-set_same c.registers 0 exception 0 (omega arith)
 
-  pub entered_rdx : IsWhole c → get_or (enters c exception pad).registers 1 0 ≡ 0
-  entered_rdx whole = let long : length (set c.registers 0 exception) ≡ length c.registers = length-set c.registers 0 exception in get_or-set_same (set c.registers 0 exception) 1 0 0 (omega arith)
+  pub entered_rdx : IsWhole c → get_or (enters c exception number pad).registers 1 0 ≡ number
+  entered_rdx whole = let long : length (set c.registers 0 exception) ≡ length c.registers = length-set c.registers 0 exception in get_or-set_same (set c.registers 0 exception) 1 number 0 (omega arith)

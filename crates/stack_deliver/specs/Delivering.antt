@@ -3,7 +3,7 @@ use Rattle.std.specs.Prelude.{◌≡◌, ℕ, ◌<◌, List, length, Result, Ok,
 use Rattle.unwind_definitions.specs.State.{State}
 use Rattle.unwind_definitions.specs.Function.{Function}
 use Rattle.unwind_definitions.specs.Chain.{Call}
-use Rattle.format_definitions.specs.FormatValid.{IsFormatValid}
+use Rattle.format_definitions.specs.Valid.{IsValid}
 use Rattle.unwind_arch.specs.declared.x86_64.Context.{Context}
 use Rattle.unwind_arch.specs.ContextViews.{columns_of}
 use Rattle.stack_deliver.specs.declared.answers.Ending.{Ending}
@@ -28,7 +28,7 @@ IsDelivered (Err e) room due = due ≡ Err e
 -- its part of the functions by the data of its format, and where a handler takes the exception, the resume table says where each frame
 -- inside it goes on after its cleanup.
 pub record StartsValidChain (space : SpaceValue) (c : Context) (resumes : List (ℕ × ℕ)) (limit : ℕ) (functions : List Function) (s : State) (calls : List Call) : Type 0 where
-  pub valid : IsFormatValid space.image (formats_of space) (columns_of c) resumes functions s calls
+  pub valid : IsValid space.image (formats_of space) (columns_of c) resumes functions s calls
   pub shorter : length calls < limit
 
 -- what a delivery did is what the definition says of a chain of calls

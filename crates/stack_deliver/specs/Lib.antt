@@ -1,6 +1,7 @@
 pub mod Causes
 pub mod Delivering
 pub mod KnownDeliveries
+pub mod KnownThrows
 pub mod PassViews
 pub mod Passes
 pub mod Resumes

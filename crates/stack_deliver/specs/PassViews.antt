@@ -4,12 +4,12 @@ use Rattle.memory_image.specs.Results.{result_map}
 use Rattle.stack_steps.specs.declared.answers.DeliverError.{DeliverError}
 use Rattle.stack_deliver.specs.declared.answers.Ending.{Ending}
 use Rattle.stack_walks.specs.declared.room.Trail.{Trail}
-use Rattle.stack_deliver.specs.declared.passes.Pass.{Pass}
-use Rattle.stack_deliver.specs.declared.passes.Pass.TheVariants as pass
+use Rattle.stack_deliver.specs.declared.passes.PassEnd.{PassEnd as CodeEnd}
+use Rattle.stack_deliver.specs.declared.passes.PassEnd.TheVariants as pass
 use Rattle.stack_deliver.specs.Passes.{CleanupsRun, PassEnd, Finishes, Elsewhere}
 use Rattle.stack_walks.specs.Walking.{RoomValue}
 
-abbrev pub end_shown : Pass → PassEnd
+abbrev pub end_shown : CodeEnd → PassEnd
 end_shown (pass.Finished ending) = Finishes ending
 end_shown (pass.Elsewhere pad c) = Elsewhere pad c
 

@@ -9,10 +9,10 @@ use Rattle.stack_deliver.specs.declared.answers.Ending.{Ending}
 use Rattle.stack_deliver.specs.declared.answers.Outcome.TheVariants.{Installed, FatalPhase2}
 use Rattle.stack_steps.specs.declared.answers.DeliverError.{DeliverError}
 use Rattle.stack_steps.specs.declared.answers.DeliverError.TheVariants.{PassLimit, NoResume}
-use Rattle.stack_walks.specs.declared.outward.Phase.TheVariants as phase
 use Rattle.stack_steps.specs.Modules.{SpaceValue}
 use Rattle.stack_deliver.specs.Resumes.{return_of}
-use Rattle.stack_walks.specs.Turns.{Stop, Line, pass_of, mark_at, pad_of, enters}
+use Rattle.stack_steps.specs.Languages.{Languages, pad_of, selector_of}
+use Rattle.stack_walks.specs.Turns.{Stop, Line, cleaning, pass_of, mark_at, enters}
 
 -- ---- the passes of a delivery
 
@@ -31,8 +31,8 @@ pub data PassEnd : Type 0 where
 abbrev pub end_at : ℕ → ℕ → Stop → Option ℕ → PassEnd
 end_at exception kept stop None = Finishes fatal
 end_at exception kept stop (Some pad) =
-    if mark_at stop.context stop.interrupted == kept then Finishes (ending_at (enters stop.past exception pad))
-    else Elsewhere pad (enters stop.past exception pad)
+    if mark_at stop.context stop.interrupted == kept then Finishes (ending_at (enters stop.past exception (selector_of stop.action) pad))
+    else Elsewhere pad (enters stop.past exception (selector_of stop.action) pad)
 
 abbrev pub end_by : ℕ → ℕ → Option Stop → PassEnd
 end_by exception kept None = Finishes fatal
@@ -42,8 +42,8 @@ abbrev pub end_of : ℕ → ℕ → Result Line DeliverError → Result PassEnd 
 end_of exception kept = result_map (λ (line : Line). end_by exception kept line.stop)
 
 -- A cleanup pass from a context toward the kept frame, of at most so many contexts.
-abbrev pub cleanup_of : SpaceValue → ℕ → ℕ → ℕ → Context → Result PassEnd DeliverError
-cleanup_of space exception kept limit c = end_of exception kept (pass_of phase.Cleanup space limit c false)
+abbrev pub cleanup_of : Languages → SpaceValue → ℕ → ℕ → ℕ → Context → Result PassEnd DeliverError
+cleanup_of languages space exception kept limit c = end_of exception kept (pass_of (cleaning languages) space limit c false)
 
 -- the cleanup at a pad that is entered
 abbrev pub cleanup_at : ℕ → Context → Trail
@@ -70,8 +70,8 @@ after_pass (Ok (Finishes ending)) later = Ok (record { trail = []; ending = endi
 after_pass (Ok (Elsewhere pad c)) later = later pad c
 after_pass (Err e) later = Err e
 
-module _ (space : SpaceValue) (exception kept : ℕ) (resumes : List (ℕ × ℕ)) (limit : ℕ) where
+module _ (languages : Languages) (space : SpaceValue) (exception kept : ℕ) (resumes : List (ℕ × ℕ)) (limit : ℕ) where
   -- The passes from a context on toward the kept frame, where the trail has places for so many cleanups.
   abbrev pub passes_of : ℕ → Context → Result CleanupsRun DeliverError
-  passes_of zero c = after_pass (cleanup_of space exception kept limit c) (λ pad entered. Err PassLimit)
-  passes_of (suc places) c = after_pass (cleanup_of space exception kept limit c) (λ pad entered. cleanup_and_rest (cleanup_at pad entered) (resume_at pad entered (return_of resumes pad)) (passes_of places))
+  passes_of zero c = after_pass (cleanup_of languages space exception kept limit c) (λ pad entered. Err PassLimit)
+  passes_of (suc places) c = after_pass (cleanup_of languages space exception kept limit c) (λ pad entered. cleanup_and_rest (cleanup_at pad entered) (resume_at pad entered (return_of resumes pad)) (passes_of places))

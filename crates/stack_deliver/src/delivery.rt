@@ -5,14 +5,17 @@ ghost use Rattle.memory_image.specs.Image.{word_at};
 ghost use Rattle.unwind_definitions.specs.State.{State};
 ghost use Rattle.unwind_definitions.specs.Function.{Function};
 ghost use Rattle.unwind_definitions.specs.Chain.{Call};
-ghost use Rattle.stack_deliver.specs.Causes.{IsRefused, EndsBy};
-ghost use Rattle.stack_deliver.specs.Searches.{HasOneHeader, met_in_delivery};
+ghost use Rattle.stack_steps.specs.Languages.{languages_of};
+ghost use Rattle.stack_deliver.specs.Causes.{IsRefused, IsRefusedThrough, EndsBy, EndsThrough};
+ghost use Rattle.stack_deliver.specs.Searches.{HasOneHeader, met_in_delivery, met_through};
 ghost use Rattle.stack_walks.specs.Lines.{GivesUnlessNoMemory};
-ghost use Rattle.stack_deliver.specs.StackDelivery.{stack_delivery};
+ghost use Rattle.stack_deliver.specs.StackDelivery.{delivery_through, stack_delivery};
 ghost use Rattle.stack_steps.specs.Ticking.{RisesWithin};
 ghost use Rattle.stack_deliver.specs.Delivering.{StartsValidChain, ShowsDelivery, IsDelivered};
 ghost use Rattle.stack_deliver.specs.Delivering.{delivery_in};
 ghost use Rattle.frame_facts.specs.FactDeliveries.{AskedFrame};
+ghost use Rattle.stack_deliver.specs.KnownThrows.{AskingFrame, StartsKnownThrow};
+ghost use Rattle.stack_deliver.specs.KnownThrows.{ShowsKnownThrow};
 ghost use Rattle.stack_deliver.specs.KnownDeliveries.{StartsKnownDelivery, ShowsKnownDelivery};
 
 use crate::answers::{Delivery, Ending, Outcome};
@@ -20,14 +23,15 @@ use crate::passes::passes;
 use crate::resumes::Resumes;
 use eh_frame::RowRoom;
 use memory_image::{Ledger, NoLedger, Steps};
-use stack_steps::{DeliverError, GrownSpace, Space, Stepped};
-use stack_walks::{Phase, Room, outwards_over};
+use stack_steps::{DeliverError, GrownSpace, Languages, Space, Stepped};
+use stack_walks::{Pass, Phase, Room, outwards_over};
 use std::alloc::Global;
 use unwind_arch::x86_64::Context;
 
 /// The search for a handler, and where a frame takes the exception the passes toward it.
-#[tactic(auto, unfolding(crate::specs::StackDelivery::stack_delivery))]
+#[tactic(auto, unfolding(crate::specs::StackDelivery::delivery_through))]
 fn delivery_in_room<'t, 'a, L: Ledger>(
+    languages: &Languages<'_>,
     space: &GrownSpace<'_, 't, 'a>,
     start: Context,
     exception: u64,
@@ -41,10 +45,11 @@ where
     requires within { limit ≤ room.old.limit }
     requires empty { (room.old.visited ≡ []) × (room.old.trail ≡ []) }
     ensures exact { IsDelivered result room.new
-        (stack_delivery space.now start exception resumes.now limit) }
+        (delivery_through (languages_of languages.now) space.now start exception resumes.now
+        limit) }
     ensures places { room.new.limit ≡ room.old.limit }
     ensures ticks { RisesWithin space.now
-        (met_in_delivery space.now start exception resumes.now limit)
+        (met_through (languages_of languages.now) space.now start exception resumes.now limit)
         steps.old.number steps.new.number }
 {
     let mut rows = RowRoom::new();
@@ -52,14 +57,18 @@ where
         context: start,
         signal: false,
     };
-    let phase = Some(Phase::Search);
-    let Some(stop) = outwards_over(phase, space, &mut state, limit, room, &mut rows, steps)? else {
+    let pass = Some(Pass {
+        phase: Phase::Search,
+        languages: *languages,
+    });
+    let Some(stop) = outwards_over(pass, space, &mut state, limit, room, &mut rows, steps)? else {
         return Ok(without_landing(Outcome::EndOfStack));
     };
-    if stop.pad().is_none() {
+    if !stop.action().is_taken() {
         return Ok(without_landing(Outcome::FatalPhase1));
     }
     passes(
+        languages,
         space,
         &start,
         exception,
@@ -73,6 +82,43 @@ where
 }
 
 /// The same in a room that is emptied first, and after an error again.
+fn fresh_throw<'t, 'a, L: Ledger>(
+    languages: &Languages<'_>,
+    space: &GrownSpace<'_, 't, 'a>,
+    start: Context,
+    exception: u64,
+    resumes: &Resumes,
+    limit: u32,
+    room: &mut Room,
+    steps: &mut Steps<L>,
+) -> Result<Ending, DeliverError>
+where
+    't: 'a,
+    requires { limit ≤ room.old.limit }
+    ensures exact { IsDelivered result room.new
+        (delivery_through (languages_of languages.now) space.now start exception resumes.now
+        limit) }
+    ensures emptied { OnErr result ((room.new.visited ≡ []) × (room.new.trail ≡ [])) }
+    ensures places { room.new.limit ≡ room.old.limit }
+    ensures whole { length start.registers ≡ 16 }
+    ensures ticks { RisesWithin space.now
+        (met_through (languages_of languages.now) space.now start exception resumes.now limit)
+        steps.old.number steps.new.number }
+{
+    room.clear();
+    let delivered = delivery_in_room(
+        languages, space, start, exception, resumes, limit, room, steps,
+    );
+    match delivered {
+        Ok(ending) => Ok(ending),
+        Err(error) => {
+            room.clear();
+            Err(error)
+        }
+    }
+}
+
+/// The same by the rule of Rust alone.
 fn fresh_delivery<'t, 'a, L: Ledger>(
     space: &GrownSpace<'_, 't, 'a>,
     start: Context,
@@ -94,14 +140,10 @@ where
         (met_in_delivery space.now start exception resumes.now limit)
         steps.old.number steps.new.number }
 {
-    room.clear();
-    match delivery_in_room(space, start, exception, resumes, limit, room, steps) {
-        Ok(ending) => Ok(ending),
-        Err(error) => {
-            room.clear();
-            Err(error)
-        }
-    }
+    let languages = Languages::rust_alone();
+    fresh_throw(
+        &languages, space, start, exception, resumes, limit, room, steps,
+    )
 }
 
 fn without_landing(outcome: Outcome) -> Ending
@@ -257,6 +299,73 @@ where
     // No two of its modules share an address, as a space's type says.
     let _ = space.image();
     fresh_delivery(space, *start, exception, resumes, limit, room, steps)
+}
+
+/// Delivers an exception as [`deliver_into`] does, by the rules of the languages of the functions on
+/// the stack.
+///
+/// A frame whose description names a personality routine that is C++'s is asked by the rule of C++: the
+/// first record of the chain of actions that takes the exception decides, and its number is what the
+/// landing pad finds in RDX. A call of C++ that no exception may leave ends the program, but not before
+/// the cleanups of the frames inside it have run: the search ends there as it does at a handler, and
+/// the outcome is `FatalPhase2`. Every other frame is asked as in `deliver_into`.
+/// Source: Itanium C++ ABI, exception handling, levels I and II.
+///
+/// # Errors
+///
+/// Those of [`deliver_into`]; the room is then empty.
+pub fn throw_into<L: Ledger>(
+    space: &Space<'_>,
+    languages: &Languages<'_>,
+    start: &Context,
+    exception: u64,
+    resumes: &Resumes,
+    limit: u32,
+    room: &mut Room,
+    steps: &mut Steps<L>,
+) -> Result<Ending, DeliverError>
+    requires { limit ≤ room.old.limit }
+    // The room's states and cleanups and the ending are the delivery, and an error is its first
+    // fault.
+    ensures exact { IsDelivered result room.new
+        (delivery_through (languages_of languages.now) space.now start.now exception resumes.now
+        limit) }
+    ensures emptied { OnErr result ((room.new.visited ≡ []) × (room.new.trail ≡ [])) }
+    ensures places { room.new.limit ≡ room.old.limit }
+    ensures unmapped { (a : ℕ) → result ≡ Err (DeliverError.Unmapped a) →
+        word_at space.now.image a ≡ None }
+    ensures takes_no_memory { result ≢ Err DeliverError.NoMemory }
+    // Each error comes exactly for its cause, and each outcome exactly where the search or a pass
+    // meets what it says.
+    ensures refused { (error : DeliverError) → (result ≡ Err error) ↔
+        IsRefusedThrough (languages_of languages.now) space.now start.now exception resumes.now
+        limit error }
+    ensures ended { (outcome : Outcome) → IsOkAnd result (λ ending. ending.outcome ≡ outcome) ↔
+        EndsThrough (languages_of languages.now) space.now start.now exception resumes.now limit
+        outcome }
+    // What is delivered to a stack of each of whose frames it is known how its caller's state
+    // follows and what its language table says is what the definition says of these frames: each
+    // cleanup inside the frame that takes the exception runs once, in order, and then its handler
+    // is entered with the number of the record that matched, or the program ends there.
+    ensures known { (s : State) (callers : List State) (frames : List AskingFrame) →
+        StartsKnownThrow (languages_of languages.now) space.now start.now resumes.now limit s
+        callers frames →
+        IsOkAnd result
+        (λ ending. ShowsKnownThrow (delivery_in room.new ending) exception s callers frames) }
+    // Each state that the search or a pass meets is searched for at most once.
+    ensures searches { RisesWithin space.now
+        (met_through (languages_of languages.now) space.now start.now exception resumes.now limit)
+        steps.old.number steps.new.number }
+    // These are the search and at most one pass more than the limit, each through as many states as
+    // the limit allows.
+    ensures ticks { RisesWithin space.now ((limit + 2) * limit) steps.old.number steps.new.number }
+{
+    // No two of its modules share an address, as a space's type says.
+    let _ = space.image();
+    let own = space.over_own_image();
+    fresh_throw(
+        languages, &own, *start, exception, resumes, limit, room, steps,
+    )
 }
 
 /// Delivers an exception to the stack whose innermost frame has the registers `start`.

@@ -40,15 +40,17 @@ mod passes;
 mod resumes;
 
 pub use answers::{Delivery, Ending, Outcome};
-pub use delivery::{deliver, deliver_into, deliver_over};
+pub use delivery::{deliver, deliver_into, deliver_over, throw_into};
 pub use eh_frame::Error;
 pub use fde_finders::{FrameInfo, FrameInfoKind};
 pub use resumes::{Resumes, first_entry_counts};
 pub use stack_steps::{
-    DeliverError, MachoTables, Module, ModuleTables, PeTables, Space, SpaceError, Stepped, step,
+    DeliverError, Languages, MachoTables, Module, ModuleTables, PeTables, Space, SpaceError,
+    Stepped, step,
 };
 pub use stack_walks::{
     Front, Room, RowRoom, Trail, Visited, each_reason_is_given, walk, walk_front_into, walk_into,
     walk_with_rows,
 };
 pub use unwind_arch::x86_64::Context;
+pub use unwinding_frames::Exception;

@@ -9,6 +9,8 @@ ghost use Rattle.stack_deliver.specs.PassViews.{end_shown};
 ghost use Rattle.stack_deliver.specs.PassViews.{GivesCleanupsRun};
 ghost use Rattle.memory_image.specs.Results.{result_map};
 ghost use Rattle.stack_deliver.specs.Resumes.{return_of};
+ghost use Rattle.stack_steps.specs.Languages.{languages_of};
+ghost use Rattle.stack_walks.specs.Turns.{cleaning};
 ghost use Rattle.stack_walks.specs.ContextsMet.{contexts_met};
 ghost use Rattle.stack_deliver.specs.Searches.{met_in_passes};
 ghost use Rattle.stack_steps.specs.Ticking.{RisesWithin};
@@ -17,13 +19,13 @@ use crate::answers::{Ending, Outcome};
 use crate::resumes::Resumes;
 use eh_frame::RowRoom;
 use memory_image::{Ledger, Steps};
-use stack_steps::{DeliverError, GrownSpace, Stepped};
-use stack_walks::{Phase, Room, Stop, Trail, outwards_over};
+use stack_steps::{DeliverError, GrownSpace, Languages, Stepped};
+use stack_walks::{Pass, Phase, Room, Stop, Trail, outwards_over};
 use unwind_arch::x86_64::{Context, RSP};
 
 /// How a cleanup pass ends.
 #[derive(Clone, Copy)]
-enum Pass {
+enum PassEnd {
     /// The delivery ends with it.
     Finished(Ending),
     /// The landing pad of a frame inside the handler's is entered.
@@ -36,25 +38,26 @@ const FATAL: Ending = Ending {
 };
 
 /// How a pass ends where it stops, toward the frame with the kept mark.
-fn pass_end(stop: &Stop, exception: u64, kept: u64) -> Pass
+fn pass_end(stop: &Stop, exception: u64, kept: u64) -> PassEnd
     ensures { end_shown result ≡ end_by exception kept (Some (stop_shown stop.now)) }
 {
-    let Some(pad) = stop.pad() else {
-        return Pass::Finished(FATAL);
+    let Some(pad) = stop.action().pad() else {
+        return PassEnd::Finished(FATAL);
     };
     let entered = stop.entering(exception, pad);
     if stop.kept() == kept {
-        Pass::Finished(Ending {
+        PassEnd::Finished(Ending {
             outcome: Outcome::Installed,
             landing: Some(entered),
         })
     } else {
-        Pass::Elsewhere(pad, entered)
+        PassEnd::Elsewhere(pad, entered)
     }
 }
 
 /// A cleanup pass toward the frame with the kept mark.
 fn cleanup<'t, 'a, L: Ledger>(
+    languages: &Languages<'_>,
     space: &GrownSpace<'_, 't, 'a>,
     start: &Context,
     exception: u64,
@@ -63,24 +66,27 @@ fn cleanup<'t, 'a, L: Ledger>(
     room: &mut Room,
     rows: &mut RowRoom<'a>,
     steps: &mut Steps<L>,
-) -> Result<Pass, DeliverError>
+) -> Result<PassEnd, DeliverError>
 where
     't: 'a,
     requires within { limit ≤ room.old.limit }
-    ensures exact { result_map end_shown result ≡ cleanup_of space.now exception kept limit
-        start.now }
+    ensures exact { result_map end_shown result ≡
+        cleanup_of (languages_of languages.now) space.now exception kept limit start.now }
     ensures stays { room.new ≡ room.old }
     ensures ticks { RisesWithin space.now
-        (contexts_met (Some Phase.Cleanup) space.now limit start.now false)
-        steps.old.number steps.new.number }
+        (contexts_met (Some (cleaning (languages_of languages.now))) space.now limit start.now
+        false) steps.old.number steps.new.number }
 {
     let mut state = Stepped {
         context: *start,
         signal: false,
     };
-    let phase = Some(Phase::Cleanup);
-    match outwards_over(phase, space, &mut state, limit, room, rows, steps)? {
-        None => Ok(Pass::Finished(FATAL)),
+    let pass = Pass {
+        phase: Phase::Cleanup,
+        languages: *languages,
+    };
+    match outwards_over(Some(pass), space, &mut state, limit, room, rows, steps)? {
+        None => Ok(PassEnd::Finished(FATAL)),
         Some(stop) => Ok(pass_end(&stop, exception, kept)),
     }
 }
@@ -121,6 +127,7 @@ fn resume(
 /// The cleanup passes from the start on, each but the first from after the cleanup before it, until
 /// one enters the handler of the frame with the kept mark or ends the program.
 pub(crate) fn passes<'t, 'a, L: Ledger>(
+    languages: &Languages<'_>,
     space: &GrownSpace<'_, 't, 'a>,
     start: &Context,
     exception: u64,
@@ -136,17 +143,21 @@ where
     requires within { limit ≤ room.old.limit }
     requires empty { room.old.trail ≡ [] }
     ensures exact { GivesCleanupsRun result room.new
-        (passes_of space.now exception kept resumes.now limit limit start.now) }
+        (passes_of (languages_of languages.now) space.now exception kept resumes.now limit limit
+        start.now) }
     ensures kept { (room.new.visited ≡ room.old.visited) × (room.new.limit ≡ room.old.limit) }
     ensures ticks { RisesWithin space.now
-        (met_in_passes space.now exception kept resumes.now limit limit start.now)
-        steps.old.number steps.new.number }
+        (met_in_passes (languages_of languages.now) space.now exception kept resumes.now limit
+        limit start.now) steps.old.number steps.new.number }
 {
     let mut context = *start;
     loop {
-        match cleanup(space, &context, exception, kept, limit, room, rows, steps)? {
-            Pass::Finished(ending) => return Ok(ending),
-            Pass::Elsewhere(pad, entered) => {
+        let end = cleanup(
+            languages, space, &context, exception, kept, limit, room, rows, steps,
+        )?;
+        match end {
+            PassEnd::Finished(ending) => return Ok(ending),
+            PassEnd::Elsewhere(pad, entered) => {
                 context = resume(pad, entered, resumes, limit, room)?;
             }
         }
