@@ -1,7 +1,7 @@
 -- The passes of a delivery are those over any stack, by the step of its space and the personality of Rust.
 use Rattle.std.proofs.Common.{inl, inr, ◌≡◌, ℕ, zero, suc, Bool, true, false, List, ◌∷◌, length, map, set, Option, Some, None, Result, Ok, Err, refl, sym, ap, subst, ◌∙◌, ◌+◌, ◌%◌, ◌^◌, arith}
-use Rattle.std.specs.Prelude.{◌⊎◌, ◌↔◌, is_some, if◌then◌else◌, ◌==◌, slice_index}
-use Rattle.std.specs.Option.{option_map, option_map_or}
+use Rattle.std.specs.Prelude.{◌⊎◌, ◌↔◌, if◌then◌else◌, ◌==◌, slice_index}
+use Rattle.std.specs.Option.{option_map}
 use Rattle.std.specs.Result.{result_map_both}
 use Rattle.std.proofs.Math.ListN.{length-set}
 use Rattle.unwind_definitions.specs.Row.{RowInstructions}
@@ -31,9 +31,13 @@ use Rattle.stack_walks.specs.declared.outward.Phase.TheVariants as phase
 use Rattle.delivery_laws.specs.AnyPasses.{marked_of, placed_routine, place_named, asked_with, seen_at, undoing_in, sees_in, stepping_in, rust_in, answer_left, Search, TakenBy, Untaken, search_end, search_stop, search_line, search_of, pass_end, FollowedBy, ResumedBy, IsSearchBy, IsPassBy, ArePassesBy, IsDeliveredAfter, IsDeliveredBy, IsDeliveryBy}
 use Rattle.stack_steps.specs.Modules.{SpaceValue}
 use Rattle.stack_steps.specs.Asking.{action_if_named, action_asked, arguments_of, compact_table, named_table, or_terminate, recorded_table, table_if_named}
-use Rattle.stack_walks.specs.Turns.{Line, Stop, Turn, Ends, Stops, Goes, stops, stop_by, turn_at, turn_in, turn_for, line_turn, line_for, pass_of, past_arguments, pad_of, enters, mark_at, with_context}
+use Rattle.stack_steps.specs.declared.asking.FrameAction.{FrameAction}
+use Rattle.stack_steps.specs.declared.asking.FrameAction.TheVariants.{Nothing}
+use Rattle.stack_steps.specs.Languages.{asked_by_rust, frame_asks, is_taken, pad_of, rust_alone, selector_of}
+use Rattle.stack_steps.proofs.LanguageAsks.{asks_without_cxx}
+use Rattle.stack_walks.specs.Turns.{Line, Pass, Stop, cleaning, searching, Turn, Ends, Stops, Goes, stops, stop_by, turn_at, turn_in, turn_for, line_turn, line_for, pass_of, past_arguments, enters, mark_at, with_context}
 use Rattle.stack_deliver.specs.Passes.{PassEnd, Finishes, Elsewhere, end_at, end_by, end_of, cleanup_of, ending_at, cleanup_at, resume_at, CleanupsRun, with_cleanup, cleanup_and_rest, after_pass, passes_of}
-use Rattle.stack_deliver.specs.StackDelivery.{DeliveryValue, delivery_after, delivery_at, delivery_to, delivery_by, stack_delivery}
+use Rattle.stack_deliver.specs.StackDelivery.{DeliveryValue, delivery_after, delivery_at, delivery_to, delivery_by, delivery_through, stack_delivery}
 use Rattle.stack_deliver.specs.Resumes.{return_of}
 use Rattle.delivery_laws.specs.Personality.{landing_columns, InCleanup, AnswersCleanup}
 use Rattle.memory_image.specs.Results.{◌>>=◌, result_map}
@@ -52,15 +56,15 @@ use Rattle.stack_steps.proofs.ContextLemmas.{IsWhole, context_of-columns}
 use Rattle.delivery_laws.proofs.PersonalityAsks.{seen_search, seen_cleanup}
 
 -- a landing pad is entered past the arguments
-past_then_enters : (c : Context) (size exception pad : ℕ) → IsWhole c → past_arguments (enters c exception pad) size ≡ enters (past_arguments c size) exception pad
-past_then_enters c size exception pad whole = go c.registers whole
+past_then_enters : (c : Context) (size exception number pad : ℕ) → IsWhole c → past_arguments (enters c exception number pad) size ≡ enters (past_arguments c size) exception number pad
+past_then_enters c size exception number pad whole = go c.registers whole
   where
-    go : (xs : List ℕ) → length xs ≡ 16 → past_arguments (enters (record c { registers = xs }) exception pad) size ≡ enters (past_arguments (record c { registers = xs }) size) exception pad
+    go : (xs : List ℕ) → length xs ≡ 16 → past_arguments (enters (record c { registers = xs }) exception number pad) size ≡ enters (past_arguments (record c { registers = xs }) size) exception number pad
     go (x0 ∷ x1 ∷ x2 ∷ x3 ∷ x4 ∷ x5 ∷ x6 ∷ x7 ∷ xs) e = refl
     go _ e = absurd (omega arith)
 
-enters_whole : (c : Context) (exception pad : ℕ) → IsWhole c → IsWhole (enters c exception pad)
-enters_whole c exception pad whole = length-set (set c.registers 0 exception) 1 0 ∙ length-set c.registers 0 exception ∙ whole
+enters_whole : (c : Context) (exception number pad : ℕ) → IsWhole c → IsWhole (enters c exception number pad)
+enters_whole c exception number pad whole = length-set (set c.registers 0 exception) 1 number ∙ length-set c.registers 0 exception ∙ whole
 
 past_whole : (c : Context) (size : ℕ) → IsWhole c → IsWhole (past_arguments c size)
 past_whole c size whole = length-set c.registers rsp ((slice_index c.registers rsp + size) % 2 ^ 64) ∙ whole
@@ -74,15 +78,15 @@ module _ (space : SpaceValue) (row : RowInstructions → RowValue) (thrown : Thr
   -- a cleanup pass enters a pad where one is asked for
   abbrev Enters : Option ℕ → Stop → UnwindReasonCode → Context → Type 0
   Enters None stop code past = is_code code INSTALL_CONTEXT ≡ false
-  Enters (Some pad) stop code past = (is_code code INSTALL_CONTEXT ≡ true) × (past ≡ enters stop.past thrown.word pad) × IsWhole past
+  Enters (Some pad) stop code past = (is_code code INSTALL_CONTEXT ≡ true) × (past ≡ enters stop.past thrown.word (selector_of stop.action) pad) × IsWhole past
 
   -- an answer other than to go on is what the pass stops for
   abbrev Agrees : Phase → Stop → UnwindReasonCode → Context → Context → Type 0
-  Agrees phase.Search stop code left past = (left ≡ stop.context) × (is_code code HANDLER_FOUND ≡ is_some (pad_of stop.action))
+  Agrees phase.Search stop code left past = (left ≡ stop.context) × (is_code code HANDLER_FOUND ≡ is_taken stop.action)
   Agrees phase.Cleanup stop code left past = Enters (pad_of stop.action) stop code past
 
   abbrev stop_for : Marked Context → FrameAt → Action → Stop
-  stop_for x f action = record { context = x.context; interrupted = x.signal; action = action; past = past_arguments x.context (arguments_of f) }
+  stop_for x f action = record { context = x.context; interrupted = x.signal; action = asked_by_rust action; past = past_arguments x.context (arguments_of f) }
 
   abbrev Answers : Phase → Marked Context → FrameAt → Action → Bool → UnwindReasonCode → Context → Type 0
   Answers ph x f wanted true code left = (is_code code CONTINUE_UNWIND ≡ false) × Agrees ph (stop_for x f wanted) code left (past_arguments left (arguments_of f))
@@ -92,7 +96,7 @@ module _ (space : SpaceValue) (row : RowInstructions → RowValue) (thrown : Thr
     pub code : UnwindReasonCode
     pub left : Context
     pub is : p.answers routine acts f x ≡ (code, left)
-    pub agrees : Answers ph x f action (stops ph action) code left
+    pub agrees : Answers ph x f action (stops ph (asked_by_rust action)) code left
 
   abbrev value_of : DescribedFrame → FrameValue
   value_of f = record { found = f.found; row = row f.run }
@@ -111,7 +115,7 @@ module _ (space : SpaceValue) (row : RowInstructions → RowValue) (thrown : Thr
     pub told : or_terminate (action_seen space.image frame place (address_of_call x.context.ra x.signal)) ≡ action
 
   module _ (x : Marked Context) (f : FrameAt) (routine : ℕ) (action : Action) (whole : IsWhole x.context) (is : IsSeen x f routine action) where
-    search_answers : (a : Action) → Answers phase.Search x f a (stops phase.Search a) (search_answer a) x.context
+    search_answers : (a : Action) → Answers phase.Search x f a (stops phase.Search (asked_by_rust a)) (search_answer a) x.context
     search_answers NoAction = (refl, refl)
     search_answers (Cleanup pad) = (refl, refl)
     search_answers (Catch pad) = (refl, (refl, refl))
@@ -132,19 +136,19 @@ module _ (space : SpaceValue) (row : RowInstructions → RowValue) (thrown : Thr
     cleans : (acts : UnwindAction) → InCleanup (asked_with thrown acts routine) → Answered phase.Cleanup acts x f routine action
     cleans acts in_cleanup = go action (answer_to acts) refl (seen_cleanup space.image x.context x.signal is.frame is.place action (asked_with thrown acts routine) is.told in_cleanup whole)
       where
-        stays : (a : Action) (code : UnwindReasonCode) → answer_to acts ≡ (code, columns_of x.context) → Answers phase.Cleanup x f a (stops phase.Cleanup a) code x.context → Answered phase.Cleanup acts x f routine a
+        stays : (a : Action) (code : UnwindReasonCode) → answer_to acts ≡ (code, columns_of x.context) → Answers phase.Cleanup x f a (stops phase.Cleanup (asked_by_rust a)) code x.context → Answered phase.Cleanup acts x f routine a
         stays a code same agrees = record { code = code; left = x.context; is = is.answers acts ∙ ap answer_left same ∙ ap (left_with code) (whole_left x.context whole); agrees = agrees }
 
-        installs : (a : Action) (pad : ℕ) → answer_to acts ≡ (INSTALL_CONTEXT, columns_of (enters x.context thrown.word pad)) → Answers phase.Cleanup x f a (stops phase.Cleanup a) INSTALL_CONTEXT (enters x.context thrown.word pad) → Answered phase.Cleanup acts x f routine a
+        installs : (a : Action) (pad : ℕ) → answer_to acts ≡ (INSTALL_CONTEXT, columns_of (enters x.context thrown.word 0 pad)) → Answers phase.Cleanup x f a (stops phase.Cleanup (asked_by_rust a)) INSTALL_CONTEXT (enters x.context thrown.word 0 pad) → Answered phase.Cleanup acts x f routine a
         installs a pad same agrees = record {
           code = INSTALL_CONTEXT;
-          left = enters x.context thrown.word pad;
-          is = is.answers acts ∙ ap answer_left same ∙ ap (left_with INSTALL_CONTEXT) (whole_left (enters x.context thrown.word pad) (enters_whole x.context thrown.word pad whole));
+          left = enters x.context thrown.word 0 pad;
+          is = is.answers acts ∙ ap answer_left same ∙ ap (left_with INSTALL_CONTEXT) (whole_left (enters x.context thrown.word 0 pad) (enters_whole x.context thrown.word 0 pad whole));
           agrees = agrees;
         }
 
-        entered : (pad : ℕ) → (is_code INSTALL_CONTEXT INSTALL_CONTEXT ≡ true) × (past_arguments (enters x.context thrown.word pad) (arguments_of f) ≡ enters (past_arguments x.context (arguments_of f)) thrown.word pad) × IsWhole (past_arguments (enters x.context thrown.word pad) (arguments_of f))
-        entered pad = (refl, past_then_enters x.context (arguments_of f) thrown.word pad whole, past_whole (enters x.context thrown.word pad) (arguments_of f) (enters_whole x.context thrown.word pad whole))
+        entered : (pad : ℕ) → (is_code INSTALL_CONTEXT INSTALL_CONTEXT ≡ true) × (past_arguments (enters x.context thrown.word 0 pad) (arguments_of f) ≡ enters (past_arguments x.context (arguments_of f)) thrown.word 0 pad) × IsWhole (past_arguments (enters x.context thrown.word 0 pad) (arguments_of f))
+        entered pad = (refl, past_then_enters x.context (arguments_of f) thrown.word 0 pad whole, past_whole (enters x.context thrown.word 0 pad) (arguments_of f) (enters_whole x.context thrown.word 0 pad whole))
 
         go : (a : Action) (r : Answer) → answer_to acts ≡ r → AnswersCleanup a thrown.word x.context r → Answered phase.Cleanup acts x f routine a
         go NoAction r same so = stays NoAction CONTINUE_UNWIND (same ∙ so) (refl, refl)
@@ -169,6 +173,10 @@ module _ (space : SpaceValue) (row : RowInstructions → RowValue) (thrown : Thr
   Turned ph x (Err e) g = g ≡ any.Ends tt (Fails e)
 
   module _ (ph : Phase) (acts : Marked Context → UnwindAction) (answered : AreAnswered ph acts) where
+    -- a pass by the rule of Rust alone
+    abbrev pass : Pass
+    pass = record { phase = ph; languages = rust_alone }
+
     module _ (x : Marked Context) (whole : IsWhole x.context) where
       called : (f : FrameAt) → Turned ph x (result_map Goes (caller_by space.image x.context f)) (goes tt ((undoing_in space).caller f x.context))
       called (Described f) = go (caller_of x86_64 (evaluation space.image) space.image (columns_of x.context) f.run)
@@ -189,16 +197,16 @@ module _ (space : SpaceValue) (row : RowInstructions → RowValue) (thrown : Thr
           go (Err e) = refl
 
       abbrev Framed : FrameAt → Result Action DeliverError → Result (UnwindReasonCode × Context) DeliverError → Type 0
-      Framed f due answer = Turned ph x (result_map (stop_by ph) due >>= turn_at space.image x.context f) (turn_asked (undoing_in space) f x (tt, answer))
+      Framed f due answer = Turned ph x (result_map (stop_by ph) (result_map asked_by_rust due) >>= turn_at space.image x.context f) (turn_asked (undoing_in space) f x (tt, answer))
 
       abbrev acted : Result (Option (Result LanguagePlace StepFault)) DeliverError → Result Action DeliverError
       acted named = result_map (action_if_named space.image (address_of_call x.context.ra x.signal)) named
 
-      spoken : (f : FrameAt) (action : Action) (code : UnwindReasonCode) (left : Context) (t : Bool) → stops ph action ≡ t → Answers ph x f action t code left → Framed f (Ok action) (Ok (code, left))
+      spoken : (f : FrameAt) (action : Action) (code : UnwindReasonCode) (left : Context) (t : Bool) → stops ph (asked_by_rust action) ≡ t → Answers ph x f action t code left → Framed f (Ok action) (Ok (code, left))
       spoken f wanted code left true is (other, agrees) = rw (is, other) (code, left, past_arguments left (arguments_of f), refl, agrees)
       spoken f wanted code left false is (same, stays) = rw (is, same, stays) (called f)
 
-      quiet : (k : Phase) → stops k NoAction ≡ false
+      quiet : (k : Phase) → stops k Nothing ≡ false
       quiet phase.Search = refl
       quiet phase.Cleanup = refl
 
@@ -211,7 +219,7 @@ module _ (space : SpaceValue) (row : RowInstructions → RowValue) (thrown : Thr
         named routine is =
             let action : Action = or_terminate (language_action space.image f.found.bases f.found.fde (address_of_call x.context.ra x.signal)) in
             let a = answered x (Described f) routine action whole (record { frame = Some (value_of f); place = None; answers = λ acts. refl; told = refl }) in
-            subst (λ (r : UnwindReasonCode × Context). Framed (Described f) (Ok action) (Ok r)) (sym a.is) (spoken (Described f) action a.code a.left (stops ph action) refl a.agrees)
+            subst (λ (r : UnwindReasonCode × Context). Framed (Described f) (Ok action) (Ok r)) (sym a.is) (spoken (Described f) action a.code a.left (stops ph (asked_by_rust action)) refl a.agrees)
 
         described : Framed (Described f) (action_asked space.image x.context x.signal (Described f)) (answer_of_personality p (acts x) (Described f) x)
         described = go (personality_address space.image f.found.fde) refl
@@ -237,7 +245,7 @@ module _ (space : SpaceValue) (row : RowInstructions → RowValue) (thrown : Thr
             answers = λ k. answers k ∙ ap (λ (o : Option LanguagePlace). answer_left (rust_answers landing_columns (asked_with thrown k 0) (seen_at space x None o))) named;
             told = refl;
           }) in
-          subst (λ (q : UnwindReasonCode × Context). Framed f (Ok action) (Ok q)) (sym a.is) (spoken f action a.code a.left (stops ph action) refl a.agrees)
+          subst (λ (q : UnwindReasonCode × Context). Framed f (Ok action) (Ok q)) (sym a.is) (spoken f action a.code a.left (stops ph (asked_by_rust action)) refl a.agrees)
 
       compacted : (m : MachoModule) (listed : Listed) (r : Result (Option LanguagePlace) Error) → macho_place space.image m listed ≡ r →
           Framed (Compact m listed) (acted (compact_table r)) (any.asked_if_named p (acts x) (Compact m listed) x (placed_routine (compact_table r)))
@@ -254,13 +262,20 @@ module _ (space : SpaceValue) (row : RowInstructions → RowValue) (thrown : Thr
       framed (Compact m listed) = compacted m listed (macho_place space.image m listed) refl
       framed (Recorded m rva function) = recorded m rva function (pe_place space.image m function) refl
 
-      turned : Turned ph x (turn_for (Some ph) space x.context x.signal) (turn_seen (undoing_in space) (by_personality p acts) tt x (sees_in space x))
+      -- what the frame asks is what its table says by the rule of Rust
+      asks_so : (f : FrameAt) → Framed f (action_asked space.image x.context x.signal f) (answer_of_personality p (acts x) f x) →
+          Turned ph x (turn_in (Some pass) space.image x.context x.signal (Some f)) (turn_asked (undoing_in space) f x (tt, answer_of_personality p (acts x) f x))
+      asks_so f is =
+          subst (λ (r : Result FrameAction DeliverError). Turned ph x (result_map (stop_by ph) r >>= turn_at space.image x.context f) (turn_asked (undoing_in space) f x (tt, answer_of_personality p (acts x) f x)))
+          (sym (asks_without_cxx rust_alone space.image x.context x.signal f refl)) is
+
+      turned : Turned ph x (turn_for (Some pass) space x.context x.signal) (turn_seen (undoing_in space) (by_personality p acts) tt x (sees_in space x))
       unfolding turn_for
       turned = go (frame_of space x.context x.signal)
         where
-          go : (r : Result (Option FrameAt) DeliverError) → Turned ph x (r >>= turn_in (Some ph) space.image x.context x.signal) (turn_seen (undoing_in space) (by_personality p acts) tt x r)
+          go : (r : Result (Option FrameAt) DeliverError) → Turned ph x (r >>= turn_in (Some pass) space.image x.context x.signal) (turn_seen (undoing_in space) (by_personality p acts) tt x r)
           go (Ok None) = refl
-          go (Ok (Some f)) = framed f
+          go (Ok (Some f)) = asks_so f (framed f)
           go (Err e) = refl
 
     -- ---- a line
@@ -284,15 +299,15 @@ module _ (space : SpaceValue) (row : RowInstructions → RowValue) (thrown : Thr
     preceded x (Ok found) line (same, end) = (ap (λ (cs : List Context). x.context ∷ cs) same, end)
     preceded x (Err e) line is = is
 
-    lined : (room : ℕ) (x : Marked Context) → IsWhole x.context → Lined (line_for (Some ph) space room x.context x.signal) (line_of room x)
+    lined : (room : ℕ) (x : Marked Context) → IsWhole x.context → Lined (line_for (Some pass) space room x.context x.signal) (line_of room x)
     lined zero x whole = inr (refl, refl)
-    lined (suc room) x whole = go (turn_for (Some ph) space x.context x.signal) (turn_seen (undoing_in space) (by_personality p acts) tt x (sees_in space x)) (turned x whole) (λ y whole. lined room y whole)
+    lined (suc room) x whole = go (turn_for (Some pass) space x.context x.signal) (turn_seen (undoing_in space) (by_personality p acts) tt x (sees_in space x)) (turned x whole) (λ y whole. lined room y whole)
       where
-        go : (t : Result Turn DeliverError) (g : any.Turn Context DeliverError (Unit {0})) → Turned ph x t g → ((y : Marked Context) → IsWhole y.context → Lined (line_for (Some ph) space room y.context y.signal) (line_of room y)) →
-            Lined (line_turn x.context x.signal t (line_for (Some ph) space room)) (one.line_after (one.line_of (sees_in space) (undoing_in space) (by_personality p acts) room) x g)
+        go : (t : Result Turn DeliverError) (g : any.Turn Context DeliverError (Unit {0})) → Turned ph x t g → ((y : Marked Context) → IsWhole y.context → Lined (line_for (Some pass) space room y.context y.signal) (line_of room y)) →
+            Lined (line_turn x.context x.signal t (line_for (Some pass) space room)) (one.line_after (one.line_of (sees_in space) (undoing_in space) (by_personality p acts) room) x g)
         go (Ok Ends) g is later = rw is (refl, (x, refl))
         go (Ok (Stops wanted past)) g (code, left, entered, is, agrees) later = rw is (refl, (code, left, entered, refl, agrees))
-        go (Ok (Goes next)) g (is, whole) later = rw is (preceded x (line_for (Some ph) space room next.context next.signal) (line_of room (marked_of next)) (later (marked_of next) whole))
+        go (Ok (Goes next)) g (is, whole) later = rw is (preceded x (line_for (Some pass) space room next.context next.signal) (line_of room (marked_of next)) (later (marked_of next) whole))
         go (Err e) g is later = rw is (inl refl)
 
   abbrev stack_pointer : Context → ℕ
@@ -313,20 +328,14 @@ module _ (space : SpaceValue) (row : RowInstructions → RowValue) (thrown : Thr
       search_end stack_pointer (map (λ x. x.context) line.contexts) line.end ≡ result_map search_line r
   search_same (Ok found) line (same, end) = go found.stop refl end
     where
-      pads : (contexts : List Context) (stop : Stop) (o : Option ℕ) →
-          ◌≡◌ {A = Result Search DeliverError} (Ok (record { visited = contexts; end = if is_some o then TakenBy (mark_at stop.context stop.interrupted) else Untaken FatalPhase1 }))
-          (Ok (record { visited = contexts; end = option_map_or (λ pad. TakenBy (mark_at stop.context stop.interrupted)) o (Untaken FatalPhase1) }))
-      pads contexts stop None = refl
-      pads contexts stop (Some pad) = refl
-
       go : (o : Option Stop) → found.stop ≡ o → Stopped phase.Search search_acts answers_to_search o line.end → search_end stack_pointer (map (λ x. x.context) line.contexts) line.end ≡ Ok (search_line found)
       go None none (x, is) = rw (is, none, same) refl
-      go (Some stop) some (code, left, entered, is, (stays, test)) = rw (is, some, same, stays, test) (pads (map (λ x. x.context) line.contexts) stop (pad_of stop.action))
+      go (Some stop) some (code, left, entered, is, (stays, test)) = rw (is, some, same, stays, test) refl
   search_same (Err e) line (inl is) = rw is refl
   search_same (Err e) line (inr (is, same)) = rw (is, same) refl
 
   search_by_line : (limit : ℕ) (start : Context) → IsWhole start → search_end stack_pointer (map (λ x. x.context) (searched_line limit start).contexts) (searched_line limit start).end ≡ search_of space limit start
-  search_by_line limit start whole = search_same (pass_of phase.Search space limit start false) (searched_line limit start) (lined phase.Search search_acts answers_to_search limit (without_mark start) whole)
+  search_by_line limit start whole = search_same (pass_of (searching rust_alone) space limit start false) (searched_line limit start) (lined phase.Search search_acts answers_to_search limit (without_mark start) whole)
 
   pub searches_are : (limit : ℕ) (start : Context) (due : Result Search DeliverError) → IsWhole start → IsSearchBy (stepping_in space) p limit start due ↔ (due ≡ search_of space limit start)
   searches_are limit start due whole = (
@@ -366,7 +375,7 @@ module _ (space : SpaceValue) (row : RowInstructions → RowValue) (thrown : Thr
         at_pad stop code left entered None other = rw other (refl, tt)
         at_pad stop code left entered (Some pad) (installs, is, whole) = rw installs (marks (mark_at stop.context stop.interrupted == kept))
           where
-            marks : (b : Bool) → Passes (Ok (if b then Finishes (ending_at (enters stop.past thrown.word pad)) else Elsewhere pad (enters stop.past thrown.word pad))) (any.Installs entered b)
+            marks : (b : Bool) → Passes (Ok (if b then Finishes (ending_at (enters stop.past thrown.word (selector_of stop.action) pad)) else Elsewhere pad (enters stop.past thrown.word (selector_of stop.action) pad))) (any.Installs entered b)
             marks true = rw is (refl, tt)
             marks false = rw is (refl, subst IsWhole is whole)
 
@@ -376,35 +385,35 @@ module _ (space : SpaceValue) (row : RowInstructions → RowValue) (thrown : Thr
     pass_same (Err e) line (inl is) = rw is (refl, tt)
     pass_same (Err e) line (inr (is, same)) = rw (is, same) (refl, tt)
 
-    passes_by_line : (limit : ℕ) (start : Context) → IsWhole start → Passes (cleanup_of space thrown.word kept limit start) (cleanup_end stack_pointer kept (cleaned_line limit start).end)
-    passes_by_line limit start whole = pass_same (pass_of phase.Cleanup space limit start false) (cleaned_line limit start) (lined phase.Cleanup cleanup_acts answers_to_cleanup limit (without_mark start) whole)
+    passes_by_line : (limit : ℕ) (start : Context) → IsWhole start → Passes (cleanup_of rust_alone space thrown.word kept limit start) (cleanup_end stack_pointer kept (cleaned_line limit start).end)
+    passes_by_line limit start whole = pass_same (pass_of (cleaning rust_alone) space limit start false) (cleaned_line limit start) (lined phase.Cleanup cleanup_acts answers_to_cleanup limit (without_mark start) whole)
 
-    pub pass_is : (limit : ℕ) (start : Context) (due : Result PassEnd DeliverError) → IsWhole start → IsPassBy (stepping_in space) p limit kept start due → due ≡ cleanup_of space thrown.word kept limit start
+    pub pass_is : (limit : ℕ) (start : Context) (due : Result PassEnd DeliverError) → IsWhole start → IsPassBy (stepping_in space) p limit kept start due → due ≡ cleanup_of rust_alone space thrown.word kept limit start
     pass_is limit start due whole (outcome, (line, is, ends), e) =
         e ∙ ap pass_end ends ∙ ap (λ (l : any.Line Context DeliverError (Unit {0})). pass_end (cleanup_end stack_pointer kept l.end)) (one.line_is (sees_in space) (undoing_in space) (by_personality p cleanup_acts) limit tt (without_mark start) line is)
         ∙ (passes_by_line limit start whole).0
 
-    pub is_pass : (limit : ℕ) (start : Context) → IsWhole start → IsPassBy (stepping_in space) p limit kept start (cleanup_of space thrown.word kept limit start)
+    pub is_pass : (limit : ℕ) (start : Context) → IsWhole start → IsPassBy (stepping_in space) p limit kept start (cleanup_of rust_alone space thrown.word kept limit start)
     is_pass limit start whole = (
       cleanup_end stack_pointer kept (cleaned_line limit start).end,
       (cleaned_line limit start, one.is_line (sees_in space) (undoing_in space) (by_personality p cleanup_acts) limit tt (without_mark start), refl),
       sym (passes_by_line limit start whole).0,
     )
 
-    pub passes_are : (limit : ℕ) (start : Context) (due : Result PassEnd DeliverError) → IsWhole start → IsPassBy (stepping_in space) p limit kept start due ↔ (due ≡ cleanup_of space thrown.word kept limit start)
+    pub passes_are : (limit : ℕ) (start : Context) (due : Result PassEnd DeliverError) → IsWhole start → IsPassBy (stepping_in space) p limit kept start due ↔ (due ≡ cleanup_of rust_alone space thrown.word kept limit start)
     passes_are limit start due whole = (pass_is limit start due whole, λ e. subst (IsPassBy (stepping_in space) p limit kept start) (sym e) (is_pass limit start whole))
 
     -- ---- the cleanup passes
 
     module _ (resumes : List (ℕ × ℕ)) (limit : ℕ) where
       abbrev passes : ℕ → Context → Result CleanupsRun DeliverError
-      passes places start = passes_of space thrown.word kept resumes limit places start
+      passes places start = passes_of rust_alone space thrown.word kept resumes limit places start
 
       abbrev ArePasses : ℕ → Context → Result CleanupsRun DeliverError → Type 0
       ArePasses places start passed = ArePassesBy (stepping_in space) p limit resumes kept places start passed
 
       abbrev end_from : Context → Result PassEnd DeliverError
-      end_from start = cleanup_of space thrown.word kept limit start
+      end_from start = cleanup_of rust_alone space thrown.word kept limit start
 
       -- what follows a cleanup where the trail has a place for it
       abbrev Later : ℕ → ℕ → Context → Result CleanupsRun DeliverError → Type 0
@@ -456,40 +465,40 @@ module _ (space : SpaceValue) (row : RowInstructions → RowValue) (thrown : Thr
 
   module _ (resumes : List (ℕ × ℕ)) (limit : ℕ) (start : Context) (whole : IsWhole start) where
     abbrev toward : ℕ → Result CleanupsRun DeliverError
-    toward kept = passes_of space thrown.word kept resumes limit limit start
+    toward kept = passes_of rust_alone space thrown.word kept resumes limit limit start
 
     abbrev Delivered_by : Result Search DeliverError → Result DeliveryValue DeliverError → Type 0
     Delivered_by found due = IsDeliveredBy (stepping_in space) p limit resumes start found due
 
-    holds_at : (visited : List Context) (stop : Stop) (o : Option ℕ) →
-        IsDeliveredAfter (stepping_in space) p limit resumes start visited (option_map_or (λ pad. TakenBy (mark_at stop.context stop.interrupted)) o (Untaken FatalPhase1)) (delivery_at visited o (toward (mark_at stop.context stop.interrupted)))
-    holds_at visited stop None = refl
-    holds_at visited stop (Some pad) = let kept : ℕ = mark_at stop.context stop.interrupted in (toward kept, hold kept resumes limit limit start whole, refl)
+    holds_at : (visited : List Context) (stop : Stop) (b : Bool) →
+        IsDeliveredAfter (stepping_in space) p limit resumes start visited (if b then TakenBy (mark_at stop.context stop.interrupted) else Untaken FatalPhase1) (delivery_at visited b (toward (mark_at stop.context stop.interrupted)))
+    holds_at visited stop false = refl
+    holds_at visited stop true = let kept : ℕ = mark_at stop.context stop.interrupted in (toward kept, hold kept resumes limit limit start whole, refl)
 
     holds_to : (visited : List Context) (o : Option Stop) → IsDeliveredAfter (stepping_in space) p limit resumes start visited (search_stop o) (delivery_to visited o toward)
     holds_to visited None = refl
-    holds_to visited (Some stop) = holds_at visited stop (pad_of stop.action)
+    holds_to visited (Some stop) = holds_at visited stop (is_taken stop.action)
 
     holds_by : (r : Result Line DeliverError) → Delivered_by (result_map search_line r) (delivery_by r toward)
     holds_by (Ok line) = holds_to line.contexts line.stop
     holds_by (Err e) = refl
 
-    only_at : (due : Result DeliveryValue DeliverError) (visited : List Context) (stop : Stop) (o : Option ℕ) →
-        IsDeliveredAfter (stepping_in space) p limit resumes start visited (option_map_or (λ pad. TakenBy (mark_at stop.context stop.interrupted)) o (Untaken FatalPhase1)) due → due ≡ delivery_at visited o (toward (mark_at stop.context stop.interrupted))
-    only_at due visited stop None e = e
-    only_at due visited stop (Some pad) (passed, are, e) = e ∙ ap (delivery_after visited) (only (mark_at stop.context stop.interrupted) resumes limit limit start passed whole are)
+    only_at : (due : Result DeliveryValue DeliverError) (visited : List Context) (stop : Stop) (b : Bool) →
+        IsDeliveredAfter (stepping_in space) p limit resumes start visited (if b then TakenBy (mark_at stop.context stop.interrupted) else Untaken FatalPhase1) due → due ≡ delivery_at visited b (toward (mark_at stop.context stop.interrupted))
+    only_at due visited stop false e = e
+    only_at due visited stop true (passed, are, e) = e ∙ ap (delivery_after visited) (only (mark_at stop.context stop.interrupted) resumes limit limit start passed whole are)
 
     only_to : (due : Result DeliveryValue DeliverError) (visited : List Context) (o : Option Stop) → IsDeliveredAfter (stepping_in space) p limit resumes start visited (search_stop o) due → due ≡ delivery_to visited o toward
     only_to due visited None e = e
-    only_to due visited (Some stop) e = only_at due visited stop (pad_of stop.action) e
+    only_to due visited (Some stop) e = only_at due visited stop (is_taken stop.action) e
 
     only_by : (due : Result DeliveryValue DeliverError) (r : Result Line DeliverError) → Delivered_by (result_map search_line r) due → due ≡ delivery_by r toward
     only_by due (Ok line) is = only_to due line.contexts line.stop is
     only_by due (Err e) is = is
 
     pub deliveries_are : (due : Result DeliveryValue DeliverError) → IsDeliveryBy (stepping_in space) p limit resumes start due ↔ (due ≡ stack_delivery space start thrown.word resumes limit)
-    unfolding stack_delivery
+    unfolding delivery_through
     deliveries_are due = (
-      λ d. only_by due (pass_of phase.Search space limit start false) (subst (λ (found : Result Search DeliverError). Delivered_by found due) ((searches_are limit start d.0 whole).0 d.1) d.2),
-      λ e. subst (IsDeliveryBy (stepping_in space) p limit resumes start) (sym e) (search_of space limit start, (searches_are limit start (search_of space limit start) whole).1 refl, holds_by (pass_of phase.Search space limit start false)),
+      λ d. only_by due (pass_of (searching rust_alone) space limit start false) (subst (λ (found : Result Search DeliverError). Delivered_by found due) ((searches_are limit start d.0 whole).0 d.1) d.2),
+      λ e. subst (IsDeliveryBy (stepping_in space) p limit resumes start) (sym e) (search_of space limit start, (searches_are limit start (search_of space limit start) whole).1 refl, holds_by (pass_of (searching rust_alone) space limit start false)),
     )

@@ -10,7 +10,7 @@ use Rattle.stack_steps.specs.Ticking.{IsScannedAt, CountsWithin, module_pairs}
 use Rattle.stack_deliver.specs.Delivering.{StartsValidChain}
 use Rattle.stack_deliver.specs.Searches.{HasOneHeader}
 use Rattle.stack_deliver.proofs.ElfDeliveries.{elf_starts_valid}
-use Rattle.delivery_laws.proofs.FormatStarts.{registers_show}
+use Rattle.delivery_laws.proofs.Starts.{registers_show}
 use Rattle.delivery_laws.specs.CountedSpaces.{header_tables, header_loaded, space_by_header}
 use Rattle.delivery_laws.specs.StateRegisters.{registers_of}
 

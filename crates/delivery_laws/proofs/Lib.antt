@@ -1,5 +1,5 @@
 pub mod AnyPassesAre
 pub mod PersonalityAsks
 pub mod SameAnswers
-pub mod FormatStarts
+pub mod Starts
 pub mod CountedStarts

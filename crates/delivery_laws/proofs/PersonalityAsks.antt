@@ -1,6 +1,6 @@
 -- What the personality of Rust answers for a frame is what the passes ask of it.
 use Rattle.std.proofs.Common.{inl, inr, ◌≡◌, ◌≢◌, ℕ, Bool, true, false, cond, eqb, List, set, Option, Some, None, Result, Ok, Err, refl, sym, ap, subst, ◌∙◌, arith}
-use Rattle.std.specs.Prelude.{pos, IsSome, ◌↔◌}
+use Rattle.std.specs.Prelude.{pos, ◌↔◌}
 use Rattle.std.proofs.lemmas.Bool.Decides.{nat_tests}
 use Rattle.memory_image.specs.Image.{Span}
 use Rattle.memory_image.specs.Results.{result_map}
@@ -17,7 +17,8 @@ use Rattle.unwinding_frames.specs.Personalities.{Asked, Answer, columns_at_pad, 
 use Rattle.stack_steps.specs.declared.answers.DeliverError.{DeliverError}
 use Rattle.stack_walks.specs.declared.outward.Phase.TheVariants as phase
 use Rattle.stack_steps.specs.Asking.{or_terminate, action_if_named, table_if_named}
-use Rattle.stack_walks.specs.Turns.{enters, stops, pad_of}
+use Rattle.stack_steps.specs.Languages.{asked_by_rust, is_taken}
+use Rattle.stack_walks.specs.Turns.{enters, stops}
 use Rattle.delivery_laws.specs.Personality.{landing_columns, InSearch, InCleanup, IsAsked, AnswersCleanup, answer_for, code_of}
 use Rattle.stack_steps.proofs.ContextLemmas.{IsWhole, Holds, with_column-holds}
 
@@ -39,16 +40,16 @@ holds_columns c d k v holds = λ i j. each j i
     each : (j : ℕ) → with_value (columns_of c) k v j ≡ columns_of d j
     each j = by_test j (eqb j k) refl
 
-pub landed_columns : (c : Context) (exception pad : ℕ) → IsWhole c → columns_at_pad landing_columns exception pad (columns_of c) ≡ columns_of (enters c exception pad)
+pub landed_columns : (c : Context) (exception pad : ℕ) → IsWhole c → columns_at_pad landing_columns exception pad (columns_of c) ≡ columns_of (enters c exception 0 pad)
 landed_columns c exception pad whole =
     let c1 : Context = record c { registers = set c.registers 0 exception } in
     let h1 : Holds c c1 0 exception = (with_column-holds c 0 exception whole).1 in
     let c2 : Context = record c1 { registers = set c1.registers 1 0 } in
     let h2 : Holds c1 c2 1 0 = (with_column-holds c1 1 0 h1.whole).1 in
-    let h3 : Holds c2 (enters c exception pad) 16 pad = (with_column-holds c2 16 pad h2.whole).1 in
+    let h3 : Holds c2 (enters c exception 0 pad) 16 pad = (with_column-holds c2 16 pad h2.whole).1 in
     ap (λ (columns : Columns). with_value (with_value columns 1 0) 16 pad) (holds_columns c c1 0 exception h1)
     ∙ ap (λ (columns : Columns). with_value columns 16 pad) (holds_columns c1 c2 1 0 h2)
-    ∙ holds_columns c2 (enters c exception pad) 16 pad h3
+    ∙ holds_columns c2 (enters c exception 0 pad) 16 pad h3
 
 -- ---- answers
 
@@ -100,27 +101,27 @@ module _ (image : List Span) (c : Context) (interrupted : Bool) (frame : FrameVa
   other_code : (a b : ℕ) → a ≢ b → {x y : UnwindReasonCode} → x.0 ≡ pos a → y.0 ≡ pos b → x ≢ y
   other_code a b apart left right same = let e : pos a ≡ pos b = sym left ∙ ap (λ (code : UnwindReasonCode). code.0) same ∙ right in apart cc
 
-  search_code : (x : Action) → (stops phase.Search x ≡ true) ↔ (search_answer x ≢ CONTINUE_UNWIND)
+  search_code : (x : Action) → (stops phase.Search (asked_by_rust x) ≡ true) ↔ (search_answer x ≢ CONTINUE_UNWIND)
   search_code NoAction = (λ e. cc, λ other. absurd (other refl))
   search_code (Cleanup pad) = (λ e. cc, λ other. absurd (other refl))
   search_code (Catch pad) = (λ e. other_code 6 8 (λ h. omega arith) refl refl, λ other. refl)
   search_code (Filter pad) = (λ e. other_code 6 8 (λ h. omega arith) refl refl, λ other. refl)
   search_code Terminate = (λ e. other_code 3 8 (λ h. omega arith) refl refl, λ other. refl)
 
-  takes_code : (x : Action) → ((stops phase.Search x ≡ true) × IsSome (pad_of x)) ↔ (search_answer x ≡ HANDLER_FOUND)
-  takes_code NoAction = (λ e. let bad : false ≡ true = e.0 in absurd cc, λ found. absurd (other_code 8 6 (λ h. omega arith) refl refl found))
-  takes_code (Cleanup pad) = (λ e. let bad : false ≡ true = e.0 in absurd cc, λ found. absurd (other_code 8 6 (λ h. omega arith) refl refl found))
-  takes_code (Catch pad) = (λ e. refl, λ found. (refl, refl))
-  takes_code (Filter pad) = (λ e. refl, λ found. (refl, refl))
-  takes_code Terminate = (λ e. let bad : false ≡ true = e.1 in absurd cc, λ found. absurd (other_code 3 6 (λ h. omega arith) refl refl found))
+  takes_code : (x : Action) → (is_taken (asked_by_rust x) ≡ true) ↔ (search_answer x ≡ HANDLER_FOUND)
+  takes_code NoAction = (λ e. let bad : false ≡ true = e in absurd cc, λ found. absurd (other_code 8 6 (λ h. omega arith) refl refl found))
+  takes_code (Cleanup pad) = (λ e. let bad : false ≡ true = e in absurd cc, λ found. absurd (other_code 8 6 (λ h. omega arith) refl refl found))
+  takes_code (Catch pad) = (λ e. refl, λ found. refl)
+  takes_code (Filter pad) = (λ e. refl, λ found. refl)
+  takes_code Terminate = (λ e. let bad : false ≡ true = e in absurd cc, λ found. absurd (other_code 3 6 (λ h. omega arith) refl refl found))
 
-  pub stops_search : InSearch asked → (stops phase.Search action ≡ true) ↔ (code_of (answer_for asked image frame c interrupted) ≢ CONTINUE_UNWIND)
+  pub stops_search : InSearch asked → (stops phase.Search (asked_by_rust action) ≡ true) ↔ (code_of (answer_for asked image frame c interrupted) ≢ CONTINUE_UNWIND)
   stops_search in_search = rw (answers_search in_search) (search_code action)
 
-  pub takes_search : InSearch asked → ((stops phase.Search action ≡ true) × IsSome (pad_of action)) ↔ (code_of (answer_for asked image frame c interrupted) ≡ HANDLER_FOUND)
+  pub takes_search : InSearch asked → (is_taken (asked_by_rust action) ≡ true) ↔ (code_of (answer_for asked image frame c interrupted) ≡ HANDLER_FOUND)
   takes_search in_search = rw (answers_search in_search) (takes_code action)
 
-  cleanup_code : (x : Action) (answer : Answer) → AnswersCleanup x asked.exception c answer → (stops phase.Cleanup x ≡ true) ↔ (code_of answer ≢ CONTINUE_UNWIND)
+  cleanup_code : (x : Action) (answer : Answer) → AnswersCleanup x asked.exception c answer → (stops phase.Cleanup (asked_by_rust x) ≡ true) ↔ (code_of answer ≢ CONTINUE_UNWIND)
   cleanup_code NoAction answer is = (λ e. let bad : false ≡ true = e in absurd cc, λ other. absurd (other (ap code_of is)))
   cleanup_code (Cleanup pad) answer is = (λ e same. other_code 7 8 (λ h. omega arith) refl refl (sym (ap code_of is) ∙ same), λ other. refl)
   cleanup_code (Catch pad) answer is = (λ e same. other_code 7 8 (λ h. omega arith) refl refl (sym (ap code_of is) ∙ same), λ other. refl)
@@ -128,5 +129,5 @@ module _ (image : List Span) (c : Context) (interrupted : Bool) (frame : FrameVa
   cleanup_code Terminate answer (inl is) = (λ e same. other_code 2 8 (λ h. omega arith) refl refl (sym (ap code_of is) ∙ same), λ other. refl)
   cleanup_code Terminate answer (inr is) = (λ e same. other_code 3 8 (λ h. omega arith) refl refl (sym (ap code_of is) ∙ same), λ other. refl)
 
-  pub stops_cleanup : InCleanup asked → IsWhole c → (stops phase.Cleanup action ≡ true) ↔ (code_of (answer_for asked image frame c interrupted) ≢ CONTINUE_UNWIND)
+  pub stops_cleanup : InCleanup asked → IsWhole c → (stops phase.Cleanup (asked_by_rust action) ≡ true) ↔ (code_of (answer_for asked image frame c interrupted) ≢ CONTINUE_UNWIND)
   stops_cleanup in_cleanup whole = cleanup_code action (answer_for asked image frame c interrupted) (answers_cleanup in_cleanup whole)

@@ -5,12 +5,11 @@ use Rattle.stack_steps.specs.declared.answers.DeliverError.{DeliverError}
 use Rattle.stack_steps.specs.declared.answers.DeliverError.TheVariants.{PassLimit}
 use Rattle.format_frames.specs.declared.machine.Stepped.{Stepped}
 use Rattle.stack_walks.specs.declared.room.Trail.{Trail}
-use Rattle.stack_walks.specs.declared.outward.Phase.{Phase}
-use Rattle.stack_walks.specs.declared.outward.Phase.TheVariants as phase
+use Rattle.stack_steps.specs.Languages.{Languages, is_taken}
 use Rattle.stack_walks.specs.Lines.{line_after, line_of, with_first}
-use Rattle.stack_deliver.specs.StackDelivery.{delivery_at, delivery_by, delivery_to, stack_delivery}
+use Rattle.stack_deliver.specs.StackDelivery.{delivery_at, delivery_by, delivery_to, delivery_through}
 use Rattle.stack_steps.specs.Modules.{Added, SpaceValue}
-use Rattle.stack_walks.specs.Turns.{Ends, Stops, Goes, Line, Stop, Turn, mark_at, line_for, line_turn, pad_of, pass_of, turn_for, with_context}
+use Rattle.stack_walks.specs.Turns.{Ends, Stops, Goes, Line, Pass, Stop, cleaning, searching, Turn, mark_at, line_for, line_turn, pass_of, turn_for, with_context}
 use Rattle.stack_deliver.specs.Passes.{Elsewhere, Finishes, CleanupsRun, PassEnd, cleanup_at, cleanup_of, end_of, after_pass, passes_of, resume_at, cleanup_and_rest, with_cleanup}
 use Rattle.stack_deliver.specs.Resumes.{return_of}
 use Rattle.stack_steps.specs.Stepping.{frame_of, step_of}
@@ -32,11 +31,11 @@ module _ (s : SpaceValue) (added : List Added) where
       go (Ok None) outer = refl
       go (Ok (Some n)) outer = ap (with_first c) (outer n.context n.signal)
 
-  turn_same : (p : Option Phase) (c : Context) (interrupted : Bool) → turn_for p other c interrupted ≡ turn_for p s c interrupted
+  turn_same : (p : Option Pass) (c : Context) (interrupted : Bool) → turn_for p other c interrupted ≡ turn_for p s c interrupted
   unfolding turn_for frame_of
   turn_same p c interrupted = refl
 
-  pass_same : (p : Option Phase) (limit : ℕ) (c : Context) (interrupted : Bool) → line_for p other limit c interrupted ≡ line_for p s limit c interrupted
+  pass_same : (p : Option Pass) (limit : ℕ) (c : Context) (interrupted : Bool) → line_for p other limit c interrupted ≡ line_for p s limit c interrupted
   pass_same p zero c interrupted = refl
   pass_same p (suc room) c interrupted = ap (λ (r : Result Turn DeliverError). line_turn c interrupted r (line_for p other room)) (turn_same p c interrupted) ∙ go (turn_for p s c interrupted) (pass_same p room)
     where
@@ -46,32 +45,32 @@ module _ (s : SpaceValue) (added : List Added) where
       go (Ok (Stops action past)) outer = refl
       go (Ok (Goes next)) outer = ap (with_context c) (outer next.context next.signal)
 
-  module _ (exception kept : ℕ) (resumes : List (ℕ × ℕ)) (limit : ℕ) where
-    cleanup_same : (c : Context) → cleanup_of other exception kept limit c ≡ cleanup_of s exception kept limit c
-    cleanup_same c = ap (end_of exception kept) (pass_same (Some phase.Cleanup) limit c false)
+  module _ (languages : Languages) (exception kept : ℕ) (resumes : List (ℕ × ℕ)) (limit : ℕ) where
+    cleanup_same : (c : Context) → cleanup_of languages other exception kept limit c ≡ cleanup_of languages s exception kept limit c
+    cleanup_same c = ap (end_of exception kept) (pass_same (Some (cleaning languages)) limit c false)
 
-    passes_same : (places : ℕ) (c : Context) → passes_of other exception kept resumes limit places c ≡ passes_of s exception kept resumes limit places c
+    passes_same : (places : ℕ) (c : Context) → passes_of languages other exception kept resumes limit places c ≡ passes_of languages s exception kept resumes limit places c
     passes_same zero c = ap (λ (r : Result PassEnd DeliverError). after_pass r (λ pad entered. Err PassLimit)) (cleanup_same c)
-    passes_same (suc places) c = ap (λ (r : Result PassEnd DeliverError). after_pass r (λ pad entered. cleanup_and_rest (cleanup_at pad entered) (resume_at pad entered (return_of resumes pad)) (passes_of other exception kept resumes limit places))) (cleanup_same c) ∙ go (cleanup_of s exception kept limit c) (passes_same places)
+    passes_same (suc places) c = ap (λ (r : Result PassEnd DeliverError). after_pass r (λ pad entered. cleanup_and_rest (cleanup_at pad entered) (resume_at pad entered (return_of resumes pad)) (passes_of languages other exception kept resumes limit places))) (cleanup_same c) ∙ go (cleanup_of languages s exception kept limit c) (passes_same places)
       where
-        again : (t : Trail) (r : Result Context DeliverError) → ((d : Context) → passes_of other exception kept resumes limit places d ≡ passes_of s exception kept resumes limit places d) → cleanup_and_rest t r (passes_of other exception kept resumes limit places) ≡ cleanup_and_rest t r (passes_of s exception kept resumes limit places)
+        again : (t : Trail) (r : Result Context DeliverError) → ((d : Context) → passes_of languages other exception kept resumes limit places d ≡ passes_of languages s exception kept resumes limit places d) → cleanup_and_rest t r (passes_of languages other exception kept resumes limit places) ≡ cleanup_and_rest t r (passes_of languages s exception kept resumes limit places)
         again t (Ok c) later = ap (with_cleanup t) (later c)
         again t (Err e) later = refl
 
-        go : (r : Result PassEnd DeliverError) → ((d : Context) → passes_of other exception kept resumes limit places d ≡ passes_of s exception kept resumes limit places d) → after_pass r (λ pad entered. cleanup_and_rest (cleanup_at pad entered) (resume_at pad entered (return_of resumes pad)) (passes_of other exception kept resumes limit places)) ≡ after_pass r (λ pad entered. cleanup_and_rest (cleanup_at pad entered) (resume_at pad entered (return_of resumes pad)) (passes_of s exception kept resumes limit places))
+        go : (r : Result PassEnd DeliverError) → ((d : Context) → passes_of languages other exception kept resumes limit places d ≡ passes_of languages s exception kept resumes limit places d) → after_pass r (λ pad entered. cleanup_and_rest (cleanup_at pad entered) (resume_at pad entered (return_of resumes pad)) (passes_of languages other exception kept resumes limit places)) ≡ after_pass r (λ pad entered. cleanup_and_rest (cleanup_at pad entered) (resume_at pad entered (return_of resumes pad)) (passes_of languages s exception kept resumes limit places))
         go (Ok (Finishes ending)) later = refl
         go (Ok (Elsewhere pad entered)) later = again (cleanup_at pad entered) (resume_at pad entered (return_of resumes pad)) later
         go (Err e) later = refl
 
-  pub delivery_same : (c : Context) (exception : ℕ) (resumes : List (ℕ × ℕ)) (limit : ℕ) → stack_delivery other c exception resumes limit ≡ stack_delivery s c exception resumes limit
-  unfolding stack_delivery
-  delivery_same c exception resumes limit =
-      ap (λ (r : Result Line DeliverError). delivery_by r (λ kept. passes_of other exception kept resumes limit limit c)) (pass_same (Some phase.Search) limit c false) ∙ go (pass_of phase.Search s limit c false)
+  pub delivery_same : (languages : Languages) (c : Context) (exception : ℕ) (resumes : List (ℕ × ℕ)) (limit : ℕ) → delivery_through languages other c exception resumes limit ≡ delivery_through languages s c exception resumes limit
+  unfolding delivery_through
+  delivery_same languages c exception resumes limit =
+      ap (λ (r : Result Line DeliverError). delivery_by r (λ kept. passes_of languages other exception kept resumes limit limit c)) (pass_same (Some (searching languages)) limit c false) ∙ go (pass_of (searching languages) s limit c false)
     where
-      stopped : (line : Line) (o : Option Stop) → delivery_to line.contexts o (λ kept. passes_of other exception kept resumes limit limit c) ≡ delivery_to line.contexts o (λ kept. passes_of s exception kept resumes limit limit c)
+      stopped : (line : Line) (o : Option Stop) → delivery_to line.contexts o (λ kept. passes_of languages other exception kept resumes limit limit c) ≡ delivery_to line.contexts o (λ kept. passes_of languages s exception kept resumes limit limit c)
       stopped line None = refl
-      stopped line (Some stop) = ap (λ (p : Result CleanupsRun DeliverError). delivery_at line.contexts (pad_of stop.action) p) (passes_same exception (mark_at stop.context stop.interrupted) resumes limit limit c)
+      stopped line (Some stop) = ap (λ (p : Result CleanupsRun DeliverError). delivery_at line.contexts (is_taken stop.action) p) (passes_same languages exception (mark_at stop.context stop.interrupted) resumes limit limit c)
 
-      go : (r : Result Line DeliverError) → delivery_by r (λ kept. passes_of other exception kept resumes limit limit c) ≡ delivery_by r (λ kept. passes_of s exception kept resumes limit limit c)
+      go : (r : Result Line DeliverError) → delivery_by r (λ kept. passes_of languages other exception kept resumes limit limit c) ≡ delivery_by r (λ kept. passes_of languages s exception kept resumes limit limit c)
       go (Ok line) = stopped line line.stop
       go (Err e) = refl

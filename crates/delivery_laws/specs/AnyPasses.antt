@@ -1,7 +1,7 @@
 -- A delivery in the words of the passes over any stack: by the step of a space, and with the personality of Rust at its frames.
 -- Itanium C++ ABI, exception handling, level I, section 1.3.
 use Rattle.std.specs.Prelude.{◌≡◌, ℕ, zero, suc, pos, true, false, List, [], Option, Some, None, Result, Ok, Err, map, slice_index, if◌then◌else◌}
-use Rattle.std.specs.Option.{option_map, option_map_or}
+use Rattle.std.specs.Option.{option_map}
 use Rattle.std.specs.Result.{result_map_both}
 use Rattle.unwind_definitions.specs.LanguageSearch.{LanguagePlace}
 use Rattle.unwind_definitions.specs.Row.{RowInstructions}
@@ -25,10 +25,9 @@ use Rattle.stack_deliver.specs.declared.answers.Outcome.{Outcome}
 use Rattle.stack_deliver.specs.declared.answers.Outcome.TheVariants.{EndOfStack, FatalPhase1}
 use Rattle.stack_steps.specs.declared.answers.DeliverError.{DeliverError}
 use Rattle.stack_steps.specs.declared.answers.DeliverError.TheVariants.{FrameLimit, PassLimit}
-use Rattle.stack_walks.specs.declared.outward.Phase.TheVariants as phase
 use Rattle.stack_deliver.specs.StackDelivery.{DeliveryValue, delivery_after, no_delivery}
 use Rattle.stack_steps.specs.Modules.{SpaceValue}
-use Rattle.stack_walks.specs.Turns.{Stop, past_arguments, pass_of, mark_at, pad_of}
+use Rattle.stack_walks.specs.Turns.{Stop, past_arguments, pass_of, mark_at, searching}
 use Rattle.stack_deliver.specs.Passes.{PassEnd, Finishes, Elsewhere, CleanupsRun, fatal, ending_at, cleanup_at, resume_at, with_cleanup}
 use Rattle.stack_walks.specs.Turns as stopped
 use Rattle.delivery_laws.specs.Personality.{landing_columns}
@@ -36,6 +35,7 @@ use Rattle.stack_deliver.specs.Resumes.{return_of}
 use Rattle.memory_image.specs.Results.{result_map}
 use Rattle.stack_steps.specs.Stepping.{FrameAt, DescribedFrame, Described, Compact, Recorded, frame_of, caller_by, refusal_of}
 use Rattle.stack_steps.specs.Asking.{arguments_of, named_table}
+use Rattle.stack_steps.specs.Languages.{is_taken, rust_alone}
 use Rattle.unwinding_frames.specs.declared.abi.UnwindAction.{UnwindAction}
 
 -- ---- the step of a space
@@ -186,11 +186,11 @@ module _ (step : Stepping Context FrameAt DeliverError) (p : Answering Context F
 
 abbrev pub search_stop : Option Stop → SearchEnd
 search_stop None = Untaken EndOfStack
-search_stop (Some stop) = option_map_or (λ pad. TakenBy (mark_at stop.context stop.interrupted)) (pad_of stop.action) (Untaken FatalPhase1)
+search_stop (Some stop) = if is_taken stop.action then TakenBy (mark_at stop.context stop.interrupted) else Untaken FatalPhase1
 
 abbrev pub search_line : stopped.Line → Search
 search_line line = record { visited = line.contexts; end = search_stop line.stop }
 
 -- What the search of a delivery visits, and where it ends.
 abbrev pub search_of : SpaceValue → ℕ → Context → Result Search DeliverError
-search_of space limit c = result_map search_line (pass_of phase.Search space limit c false)
+search_of space limit c = result_map search_line (pass_of (searching rust_alone) space limit c false)

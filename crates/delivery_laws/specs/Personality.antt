@@ -34,7 +34,7 @@ pub record InCleanup (asked : Asked) : Type 0 where
 
 -- a landing pad is entered with the registers of the context
 abbrev pub Installs : ℕ → ℕ → Context → Answer → Type 0
-Installs pad exception c answer = answer ≡ (INSTALL_CONTEXT, columns_of (enters c exception pad))
+Installs pad exception c answer = answer ≡ (INSTALL_CONTEXT, columns_of (enters c exception 0 pad))
 
 -- what the answer in a cleanup phase is, by what the frame asks for
 abbrev pub AnswersCleanup : Action → ℕ → Context → Answer → Type 0

@@ -3,7 +3,7 @@ ghost use Rattle.std.specs.Prelude.{◌≡◌, ◌∷◌};
 ghost use Rattle.memory_image.specs.Image.{IsLaidOut};
 ghost use Rattle.unwind_definitions.specs.Delivery.{delivery_of};
 ghost use Rattle.unwind_laws.specs.Three as three;
-ghost use Rattle.format_laws.specs.FormatSample as mixed;
+ghost use Rattle.format_laws.specs.Sample as mixed;
 ghost use Rattle.stack_steps.specs.Modules.{AreApart};
 ghost use Rattle.stack_steps.specs.SpaceViews.{formats_of};
 ghost use Rattle.stack_steps.specs.Stopped.{StartsStopped};

@@ -1,6 +1,5 @@
 // How the passes of a delivery and the personality of Rust hang together.
 ghost use Rattle.std.specs.Prelude.{◌≡◌, ◌≢◌, ◌↔◌, ℕ, Bool, true, false, List, Result, length};
-ghost use Rattle.std.specs.Prelude.{IsSome};
 ghost use Rattle.memory_image.specs.Image.{Span};
 ghost use Rattle.unwind_definitions.specs.Function.{Action, Catch};
 ghost use Rattle.unwind_definitions.specs.Row.{RowInstructions};
@@ -17,7 +16,8 @@ ghost use Rattle.delivery_laws.specs.AnyPasses.{IsSearchBy, IsPassBy, IsDelivery
 ghost use Rattle.stack_walks.specs.declared.outward.Phase.TheVariants as phase;
 ghost use Rattle.stack_deliver.specs.StackDelivery.{DeliveryValue, stack_delivery};
 ghost use Rattle.stack_steps.specs.Modules.{SpaceValue};
-ghost use Rattle.stack_walks.specs.Turns.{stops, pad_of};
+ghost use Rattle.stack_steps.specs.Languages.{asked_by_rust, is_taken, rust_alone};
+ghost use Rattle.stack_walks.specs.Turns.{stops};
 ghost use Rattle.stack_deliver.specs.Passes.{PassEnd, cleanup_of};
 ghost use Rattle.delivery_laws.specs.Personality.{InSearch, InCleanup, IsAsked, AnswersCleanup};
 ghost use Rattle.delivery_laws.specs.Personality.{answer_for, code_of};
@@ -46,17 +46,17 @@ pub fn passes_ask_the_personality()
     ensures search_stops { (image : List Span) (c : Context) (interrupted : Bool)
         (frame : FrameValue) (action : Action) (asked : Asked) →
         IsAsked image c interrupted frame action → InSearch asked →
-        (stops phase.Search action ≡ true) ↔
+        (stops phase.Search (asked_by_rust action) ≡ true) ↔
         (code_of (answer_for asked image frame c interrupted) ≢ CONTINUE_UNWIND) }
     ensures search_takes { (image : List Span) (c : Context) (interrupted : Bool)
         (frame : FrameValue) (action : Action) (asked : Asked) →
         IsAsked image c interrupted frame action → InSearch asked →
-        ((stops phase.Search action ≡ true) × IsSome (pad_of action)) ↔
+        (is_taken (asked_by_rust action) ≡ true) ↔
         (code_of (answer_for asked image frame c interrupted) ≡ HANDLER_FOUND) }
     ensures cleanup_stops { (image : List Span) (c : Context) (interrupted : Bool)
         (frame : FrameValue) (action : Action) (asked : Asked) →
         IsAsked image c interrupted frame action → InCleanup asked → length c.registers ≡ 16 →
-        (stops phase.Cleanup action ≡ true) ↔
+        (stops phase.Cleanup (asked_by_rust action) ≡ true) ↔
         (code_of (answer_for asked image frame c interrupted) ≢ CONTINUE_UNWIND) }
 {}
 
@@ -89,7 +89,7 @@ pub fn deliveries_are_passes()
         (limit kept : ℕ)
         (start : Context) (due : Result PassEnd DeliverError) → length start.registers ≡ 16 →
         IsPassBy (stepping_in space) (rust_in space row thrown) limit kept start due
-        ↔ (due ≡ cleanup_of space thrown.word kept limit start) }
+        ↔ (due ≡ cleanup_of rust_alone space thrown.word kept limit start) }
     ensures delivery { (space : SpaceValue) (row : RowInstructions → RowValue) (thrown : Thrown)
         (limit : ℕ)
         (resumes : List (ℕ × ℕ)) (start : Context) (due : Result DeliveryValue DeliverError) →

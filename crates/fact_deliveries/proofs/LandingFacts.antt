@@ -13,6 +13,11 @@ use Rattle.frame_facts.specs.FactRows.{SaysFacts}
 use Rattle.frame_facts.specs.FactTables.{HasTables, AreSaidAt}
 use Rattle.frame_facts.specs.FactDeliveries.{AsksAt}
 use Rattle.frame_facts_laws.proofs.SampleTests.{lie_apart, row_says, state_stands}
+use Rattle.unwind_definitions.specs.Row.{argument_size}
+use Rattle.unwinding_frames.specs.CxxTables.{cxx_search}
+use Rattle.stack_steps.specs.declared.asking.FrameAction.TheVariants.{Nothing, Cleanup as Cleans, Handler}
+use Rattle.stack_steps.specs.Languages.{described_asks, found_in}
+use Rattle.fact_deliveries.specs.CxxLanding.{languages}
 use Rattle.fact_deliveries.specs.LandingProgram as sample
 use Rattle.fact_deliveries.specs.LandingProgram.{bases, entries, fdes, home, image, process, table}
 
@@ -155,3 +160,25 @@ asks_in_catches = record {
 pub asks_in_start : AsksAt process 0x40117d sample.known_in_start said_in_start NoAction 0
 unfolding said_in_start
 asks_in_start = record { sites = None; has = record { each = tt; leads = refl; personality = refl }; asked = refl; size = refl }
+
+-- ---- what is asked by the rules of its languages
+
+pub says_in_raises_cxx : (described_asks languages image 0x4010ad (found_in said_in_raises) ≡ Ok Nothing) × (0 ≡ argument_size said_in_raises.says.row.0)
+unfolding said_in_raises
+says_in_raises_cxx = (refl, refl)
+
+pub says_in_cleans_cxx : (described_asks languages image 0x4010f4 (found_in said_in_cleans) ≡ Ok (Cleans 0x401111)) × (16 ≡ argument_size said_in_cleans.says.row.0)
+unfolding word_at cxx_search said_in_cleans
+says_in_cleans_cxx = (refl, refl)
+
+pub says_in_part_cxx : (described_asks languages image 0x40100f (found_in said_in_part) ≡ Ok Nothing) × (0 ≡ argument_size said_in_part.says.row.0)
+unfolding word_at cxx_search said_in_part
+says_in_part_cxx = (refl, refl)
+
+pub says_in_catches_cxx : (described_asks languages image 0x401151 (found_in said_in_catches) ≡ Ok (Handler 0x40115a 1)) × (16 ≡ argument_size said_in_catches.says.row.0)
+unfolding word_at cxx_search said_in_catches
+says_in_catches_cxx = (refl, refl)
+
+pub says_in_start_cxx : (described_asks languages image 0x40117d (found_in said_in_start) ≡ Ok Nothing) × (0 ≡ argument_size said_in_start.says.row.0)
+unfolding said_in_start
+says_in_start_cxx = (refl, refl)

@@ -8,15 +8,18 @@ use Rattle.unwind_laws.proofs.Booleans.{all_contains}
 use Rattle.frame_facts.specs.Facts.{Facts, StandsWith}
 use Rattle.frame_facts.specs.FactTables.{AreSaidAt}
 use Rattle.frame_facts_laws.proofs.SampleTests.{are_words, words_fit}
-use Rattle.format_definitions.specs.FormatModules.{FormatModule, in_format, IsUncoveredBy, IsUncoveredIn}
+use Rattle.format_definitions.specs.Modules.{FormatModule, in_format, IsUncoveredBy, IsUncoveredIn}
 use Rattle.stack_steps.specs.Modules.{AreApart}
 use Rattle.stack_steps.specs.SpaceViews.{formats_of}
 use Rattle.stack_steps.specs.KnownStacks.{IsKnownLink, IsKnownEnd, IsKnownStack}
 use Rattle.stack_deliver.specs.KnownDeliveries.{MayGoOnAt, StartsKnownDelivery}
-use Rattle.delivery_laws.proofs.FormatStarts.{registers_show}
+use Rattle.stack_deliver.specs.KnownThrows as throws
+use Rattle.stack_deliver.specs.KnownThrows.{StartsKnownThrow}
+use Rattle.fact_deliveries.specs.CxxLanding as cxx
+use Rattle.delivery_laws.proofs.Starts.{registers_show}
 use Rattle.fact_deliveries.specs.LandingProgram as sample
 use Rattle.fact_deliveries.specs.LandingSpace.{space, start}
-use Rattle.fact_deliveries.proofs.LandingFacts.{said_in_raises, said_in_cleans, said_in_part, said_in_catches, said_in_start, stands_in_raises, stands_in_cleans, stands_when_cleaned, stands_in_catches, stands_in_start, asks_in_raises, asks_in_cleans, asks_in_part, asks_in_catches, asks_in_start}
+use Rattle.fact_deliveries.proofs.LandingFacts.{said_in_raises, said_in_cleans, said_in_part, said_in_catches, said_in_start, stands_in_raises, stands_in_cleans, stands_when_cleaned, stands_in_catches, stands_in_start, asks_in_raises, asks_in_cleans, asks_in_part, asks_in_catches, asks_in_start, says_in_raises_cxx, says_in_cleans_cxx, says_in_part_cxx, says_in_catches_cxx, says_in_start_cxx}
 
 pub laid_out : IsLaidOut 0 space.image
 laid_out = (lit≤ tt, lit< tt, lit≤ tt, (lit≤ tt, lit< tt, lit≤ tt, (lit≤ tt, lit< tt, lit≤ tt, (lit≤ tt, lit< tt, lit≤ tt, tt))))
@@ -63,4 +66,19 @@ landings_start = record {
   starts = record { stack = stack; shows = registers_show sample.in_raises; shorter = lit< tt };
   asked = (refl, asks_in_raises, (refl, asks_in_cleans, (refl, asks_in_catches, (refl, asks_in_start, refl))));
   resumed = λ f found accepted. (tt, ((0x401010, refl, goes_on), tt));
+}
+
+-- by the rules of its languages
+goes_on_cxx : throws.MayGoOnAt cxx.languages space sample.cleaned sample.in_catches
+goes_on_cxx = record {
+  link = link sample.cleaned sample.in_catches sample.known_when_cleaned refl refl stands_when_cleaned said_in_part;
+  arguments = 0;
+  silent = says_in_part_cxx;
+}
+
+pub throw_starts : StartsKnownThrow cxx.languages space start sample.resumes 5 sample.in_raises sample.callers cxx.asking
+throw_starts = record {
+  starts = record { stack = stack; shows = registers_show sample.in_raises; shorter = lit< tt };
+  asked = (refl, says_in_raises_cxx, (refl, says_in_cleans_cxx, (refl, says_in_catches_cxx, (refl, says_in_start_cxx, refl))));
+  resumed = λ f found taken. (tt, ((0x401010, refl, goes_on_cxx), tt));
 }

@@ -1,2 +1,3 @@
 pub mod LandingProgram
 pub mod LandingSpace
+pub mod CxxLanding

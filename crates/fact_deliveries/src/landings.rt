@@ -6,13 +6,16 @@ ghost use Rattle.std.specs.Prelude.{◌≡◌, ◌∷◌};
 ghost use Rattle.memory_image.specs.Image.{IsLaidOut};
 ghost use Rattle.unwind_definitions.specs.Delivery.{frames_of};
 ghost use Rattle.unwind_laws.specs.Three as three;
-ghost use Rattle.format_laws.specs.FormatSample as mixed;
+ghost use Rattle.format_laws.specs.Sample as mixed;
 ghost use Rattle.frame_facts.specs.FactDeliveries.{asked_frames_of, delivery_to};
 ghost use Rattle.stack_steps.specs.Modules.{AreApart};
 ghost use Rattle.stack_steps.specs.FormatStopSample.{space_of_three};
 ghost use Rattle.delivery_laws.specs.StateRegisters.{registers_of};
 ghost use Rattle.fact_walks.specs.Callers.{callers_of};
 ghost use Rattle.stack_deliver.specs.KnownDeliveries.{StartsKnownDelivery};
+ghost use Rattle.stack_deliver.specs.KnownThrows as throws;
+ghost use Rattle.stack_deliver.specs.KnownThrows.{StartsKnownThrow};
+ghost use Rattle.fact_deliveries.specs.CxxLanding as cxx;
 ghost use Rattle.fact_deliveries.specs.LandingProgram as sample;
 ghost use Rattle.fact_deliveries.specs.LandingSpace.{space, start};
 
@@ -27,6 +30,15 @@ pub fn landings_past_arguments_are_known()
         sample.callers sample.asked }
     ensures delivered { delivery_to sample.exception (sample.in_raises ∷ sample.callers)
         sample.asked ≡ sample.delivery }
+{}
+
+/// By the rules of its languages, of which the program's personality is C++'s, an exception whose type
+/// no handler names is taken by the handler of no type, which finds its number in RDX.
+pub fn a_throw_of_cxx_is_known()
+    ensures starts { StartsKnownThrow cxx.languages space start sample.resumes 5 sample.in_raises
+        sample.callers cxx.asking }
+    ensures delivered { throws.delivery_to sample.exception (sample.in_raises ∷ sample.callers)
+        cxx.asking ≡ cxx.delivery }
 {}
 
 /// So may a delivery where a function of a Mach-O module was called by one of a PE module, and that by

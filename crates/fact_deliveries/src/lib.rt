@@ -7,4 +7,6 @@ mod deliveries;
 mod landings;
 
 pub use deliveries::{described_deliveries_are_known, known_delivery_is_one};
-pub use landings::{landings_past_arguments_are_known, landings_through_formats_are_known};
+pub use landings::{
+    a_throw_of_cxx_is_known, landings_past_arguments_are_known, landings_through_formats_are_known,
+};

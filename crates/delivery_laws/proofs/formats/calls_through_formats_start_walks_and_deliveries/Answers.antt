@@ -1,6 +1,6 @@
 use Rattle.std.proofs.Common.{refl, lit<, lit≤}
-use Rattle.format_laws.proofs.FormatValid.{laid_out}
-use Rattle.delivery_laws.proofs.FormatStarts.{chain_starts, valid_starts}
+use Rattle.format_laws.proofs.Valid.{laid_out}
+use Rattle.delivery_laws.proofs.Starts.{chain_starts, valid_starts}
 use Rattle.delivery_laws.proofs.formats.calls_through_formats_start_walks_and_deliveries.Goals as goal
 
 pub returns-clause-memory : goal.returns-clause-memory

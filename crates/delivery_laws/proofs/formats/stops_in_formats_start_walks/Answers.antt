@@ -1,4 +1,4 @@
-use Rattle.delivery_laws.proofs.FormatStarts.{macho_body_starts, pe_body_starts, pe_prologue_starts}
+use Rattle.delivery_laws.proofs.Starts.{macho_body_starts, pe_body_starts, pe_prologue_starts}
 use Rattle.delivery_laws.proofs.formats.stops_in_formats_start_walks.Goals as goal
 
 pub returns-clause-macho_body : goal.returns-clause-macho_body

@@ -1,3 +1,4 @@
+use Rattle.stack_steps.specs.Languages.{rust_alone}
 use Rattle.delivery_laws.proofs.SameAnswers.{delivery_same, line_same, step_same}
 use Rattle.delivery_laws.proofs.preparing.answers_stay_as_modules_are_prepared.Goals as goal
 
@@ -8,4 +9,4 @@ pub returns-clause-lines : goal.returns-clause-lines
 returns-clause-lines c space added limit state interrupted = line_same space added limit state interrupted
 
 pub returns-clause-deliveries : goal.returns-clause-deliveries
-returns-clause-deliveries c space added state exception resumes limit = delivery_same space added state exception resumes limit
+returns-clause-deliveries c space added state exception resumes limit = delivery_same space added rust_alone state exception resumes limit

@@ -1,10 +1,10 @@
 use Rattle.std.proofs.Common.{refl, lit<, lit≤}
 use Rattle.unwind_laws.specs.Three as three
-use Rattle.format_laws.specs.FormatSample as mixed
-use Rattle.format_laws.proofs.FormatValid.{laid_out}
+use Rattle.format_laws.specs.Sample as mixed
+use Rattle.format_laws.proofs.Valid.{laid_out}
 use Rattle.stack_steps.specs.FormatStopSample.{space_of_three}
 use Rattle.delivery_laws.specs.StateRegisters.{registers_of}
-use Rattle.delivery_laws.proofs.FormatStarts.{valid_starts}
+use Rattle.delivery_laws.proofs.Starts.{valid_starts}
 use Rattle.stack_deliver.proofs.DescribedDeliveries.{delivery_starts}
 use Rattle.fact_deliveries.proofs.landings.landings_through_formats_are_known.Goals as goal
 

@@ -4,11 +4,11 @@ use Rattle.unwind_definitions.specs.State.{CalleeSaved, RBX, RBP, R12, R13, R14,
 use Rattle.unwind_laws.specs.Three as three
 use Rattle.unwind_laws.specs.Columns as states
 use Rattle.unwind_arch.specs.ContextViews.{columns_of}
-use Rattle.format_laws.specs.FormatSample as mixed
+use Rattle.format_laws.specs.Sample as mixed
 use Rattle.format_laws.specs.PeSamples.{room_image}
-use Rattle.format_laws.proofs.FormatCaught.{caught_valid}
-use Rattle.format_laws.proofs.FormatStops.{macho_body, room_described, pe_body, pe_prologue, outer_described}
-use Rattle.format_laws.proofs.FormatParts.{valid_described}
+use Rattle.format_laws.proofs.Caught.{caught_valid}
+use Rattle.format_laws.proofs.Stops.{macho_body, room_described, pe_body, pe_prologue, outer_described}
+use Rattle.format_laws.proofs.Parts.{valid_described}
 use Rattle.stack_steps.specs.Stopped.{StartsStopped}
 use Rattle.stack_walks.specs.Walking.{StartsChain}
 use Rattle.stack_deliver.specs.Delivering.{StartsValidChain}
