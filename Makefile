@@ -10,6 +10,7 @@ include embedding.mk
 PREFIX ?= /usr/local
 INCLUDES := $(DESTDIR)$(PREFIX)/include
 LIBRARIES := $(DESTDIR)$(PREFIX)/lib
+VERSION := $(shell sed -n 's/^.define KZ_VERSION //p' include/kalzurenk.h)
 
 .DEFAULT_GOAL := lib
 .PHONY: lib install examples check
@@ -20,7 +21,7 @@ install: $(ARCHIVE)
 	install -d $(INCLUDES) $(LIBRARIES)/pkgconfig
 	install -m 644 include/kalzurenk.h $(INCLUDES)/
 	install -m 644 $(ARCHIVE) $(LIBRARIES)/libkalzurenk.a
-	sed 's|@prefix@|$(PREFIX)|' include/kalzurenk.pc.in >$(LIBRARIES)/pkgconfig/kalzurenk.pc
+	sed 's|@prefix@|$(PREFIX)|; s|@version@|$(VERSION)|' include/kalzurenk.pc.in >$(LIBRARIES)/pkgconfig/kalzurenk.pc
 
 examples: $(ARCHIVE)
 	$(MAKE) -C examples/embedding

@@ -10,9 +10,9 @@
  *   - What a call writes (frames, end, cleanups, delivery, place, a session) overlaps nothing else that is handed in, and
  *     nobody changes memory that is handed in while a call runs.
  *   - A `bool` is 0 or 1.
- *   - kz_walk, kz_deliver, kz_session_open and kz_session_close take memory by malloc and realloc, or give it back by
- *     free: they aren't called from a signal handler, or from the forked child of a process with threads.
- *     kz_session_walk takes none. A handler may call it for a session that no interrupted call uses.
+ *   - kz_walk, kz_deliver, kz_session_deliver, kz_session_open and kz_session_close take memory by malloc and realloc,
+ *     or give it back by free: they aren't called from a signal handler, or from the forked child of a process with
+ *     threads. kz_session_walk takes none. A handler may call it for a session that no interrupted call uses.
  *   - Calls may run side by side in several threads; a session is used by one call at a time, and in
  *     the thread that opened it, or in a handler that runs there.
  */
@@ -74,10 +74,10 @@ typedef struct kz_registers {
 } kz_registers;
 
 /* A frame: of the first, and of one that a signal interrupted, the instruction pointer, of each other the
- * address to which its callee returns; the stack pointer, which is the canonical frame address of the frame before; the registers that
- * calls keep; and whether it was interrupted where it stands, and not stopped in a call: of the first as
- * the call says, and of each other whether the frame before is a signal's. The address to look up
- * is `ra` where it was, else `ra` - 1. */
+ * address to which its callee returns; the stack pointer, which is the canonical frame address of the frame
+ * before; the registers that calls keep; and whether it was interrupted where it stands, and not stopped in a
+ * call: of the first as the call says, and of each other whether the frame before is a signal's. The address
+ * to look up is `ra` where it was, else `ra` - 1. */
 typedef struct kz_frame {
     uint64_t ra;
     uint64_t sp;

@@ -1,7 +1,7 @@
-/* A C++ exception that is delivered by kz_deliver, and over a session, compared with what the process does. The program's own functions of the
- * base ABI stand before libgcc's, which they call: they note each landing pad, its stack pointer and its registers as the
- * runtime enters it, and where each cleanup goes on. The first throw fills the resume table; each further one is delivered
- * by both before it is thrown. */
+/* A C++ exception that is delivered by kz_deliver, and over a session, compared with what the process does. The program's
+ * own functions of the base ABI stand before libgcc's, which they call: they note each landing pad, its stack pointer and
+ * its registers as the runtime enters it, and where each cleanup goes on. The first throw fills the resume table; each
+ * further one is delivered by both before it is thrown. */
 #include <cinttypes>
 #include <cstdio>
 #include <cstring>

@@ -9,9 +9,13 @@ use Rattle.std_heap.proofs.Global.TheLaws as heap
 use Rattle.kalzurenk_c.specs.contracts.session.Session as Session
 use Rattle.kalzurenk_c.proofs.session.Session.TheLaws as session
 use Rattle.kalzurenk_c.specs.contracts.handle.SessionHandle as SessionHandle
+use Rattle.kalzurenk_c.specs.contracts.handle.parts.Parts as Parts
 
 abbrev pub E : Bx
 E = record { row = Session.the_row; laws = session.the_row_laws; al = record { row = Heap.the_row; laws = heap.the_row_laws; g = ghosts; d = dict; drops = impl [] tnil dnil } }
 
 abbrev pub FromHandle : Slot 0
 FromHandle = plain (λ _. SessionHandle.the_row)
+
+abbrev pub FromParts : Slot 0
+FromParts = plain (λ _. Parts.the_row Session.the_row Heap.the_row ghosts)

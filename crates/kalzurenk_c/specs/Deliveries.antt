@@ -1,5 +1,5 @@
 -- What a delivery tells its caller.
-use Rattle.std.specs.Prelude.{◌≡◌, ◌⊎◌, ℕ, ◌+◌, List, [], ◌∷◌, ◌++◌, length, map, take, drop, replicate, Option, Some, None, Result, Ok, Err}
+use Rattle.std.specs.Prelude.{◌≡◌, ◌⊎◌, ◌≤◌, ℕ, ◌+◌, List, [], ◌∷◌, ◌++◌, length, map, take, drop, replicate, Option, Some, None, Result, Ok, Err}
 use Rattle.memory_image.specs.Results.{◌>>=◌, result_map}
 use Rattle.unwind_definitions.specs.State.{State}
 use Rattle.frame_facts.specs.FactDeliveries.{AskedFrame}
@@ -14,6 +14,7 @@ use Rattle.stack_deliver.specs.Resumes.{with_resume}
 use Rattle.stack_deliver.specs.StackDelivery.{DeliveryValue, stack_delivery}
 use Rattle.kalzurenk_c.specs.declared.delivery.Cleanup.{Cleanup}
 use Rattle.kalzurenk_c.specs.declared.delivery.DeliveryTold.{DeliveryTold}
+use Rattle.kalzurenk_c.specs.declared.delivery.PendingDelivery.{PendingDelivery}
 use Rattle.kalzurenk_c.specs.declared.delivery.ResumePair.{ResumePair}
 use Rattle.kalzurenk_c.specs.declared.given.GivenModule.{GivenModule}
 use Rattle.kalzurenk_c.specs.declared.given.Region.{Region}
@@ -128,6 +129,12 @@ TellsDelivery given c exception limit before cleanups told =
     (told ≡ due_told (stack_delivery given.space c exception given.resumes limit))
     × (cleanups ≡ cleanups_over (trail_due (stack_delivery given.space c exception given.resumes limit)) before)
     × DeliversKnown given c exception limit
+
+-- the table that is due, what is raised, and room for as many states as it may visit; or there is no table, or no memory
+abbrev pub IsPending : Result PendingDelivery Refusal → Result (List (ℕ × ℕ)) Refusal → Context → ℕ → ℕ → Type 0
+IsPending (Ok d) due c exception limit =
+    (due ≡ Ok d.resumes) × (d.raised ≡ record { context = c; exception = exception; limit = limit }) × (d.raised.limit ≤ d.room.limit)
+IsPending (Err e) due c exception limit = (e ≡ refused.NoMemory) ⊎ (due ≡ Err e)
 
 -- ---- what a call leaves
 

@@ -10,3 +10,4 @@ pub mod SessionValues
 pub mod Sessions
 pub mod Sizes
 pub mod Told
+pub mod Unwindings

@@ -9,7 +9,7 @@ use Rattle.stack_walks.specs.declared.front.Front.{Front}
 use Rattle.stack_walks.specs.declared.front.Front.TheVariants.{Limit}
 use Rattle.stack_walks.specs.Fronts.{EndsFor, Meets, caller_from}
 use Rattle.stack_walks.specs.Lines.{NeedsMore}
-use Rattle.kalzurenk_c.specs.declared.outward.Stop.{Stop}
+use Rattle.kalzurenk_c.specs.declared.outward.WalkStop.{WalkStop}
 
 abbrev pub states_after : Option Stepped → (Stepped → List Stepped) → List Stepped
 states_after None outer = []
@@ -40,7 +40,7 @@ ComesAt (Ok true) space limit s t = NeedsMore space limit s.context s.signal
 ComesAt (Ok false) space limit s t = Meets space (IsAt t) limit s.context s.signal
 ComesAt (Err e) space limit s t = Meets space (IsAt t) limit s.context s.signal
 
-abbrev pub IsStop : Stop → SpaceValue → ℕ → Stepped → Stepped → Type 0
+abbrev pub IsStop : WalkStop → SpaceValue → ℕ → Stepped → Stepped → Type 0
 IsStop stop space limit s t =
     (stop.count ≡ length (states_from space limit s)) × ComesAt stop.last space limit s t × HasNoNext stop.last space t
 

@@ -1,5 +1,5 @@
 -- Sessions: what they are opened with, and what they walk over.
-use Rattle.std.specs.Prelude.{◌≡◌, ◌⊎◌, ℕ, List, Result, Ok, Err}
+use Rattle.std.specs.Prelude.{◌≡◌, ◌⊎◌, ℕ, List, Option, Some, Result, Ok, Err}
 use Rattle.memory_image.specs.Results.{result_map}
 use Rattle.stack_steps.specs.Growing.{over_image}
 use Rattle.stack_steps.specs.Modules.{SpaceValue}
@@ -26,11 +26,24 @@ abbrev pub OpensBox : {B : Type 0} → (B → SessionValue) → Result B Refusal
 OpensBox value (Ok boxed) due limit = OpensSession (Ok (value boxed)) due limit
 OpensBox value (Err e) due limit = OpensSession (Err e) due limit
 
--- a refusal is told
-abbrev pub IsRefused : Refusal → ℕ → Place → Place → Type 0
-IsRefused refusal status before after = (status ≡ status_of refusal) × (after ≡ place_after refusal before)
+-- the status that opening one answers, and what stands in its caller's places after it
+pub record SessionLeft : Type 0 where
+  pub status : ℕ
+  pub session : Option SessionValue
+  pub place : Place
 
--- a session is opened where there is a space; or the status says why there is none, or that memory ran out
-abbrev pub IsOpened : Result SpaceValue Refusal → ℕ → Place → Place → Type 0
-IsOpened (Ok space) status before after = IsRefused NoMemory status before after ⊎ ((status ≡ 0) × (after ≡ before))
-IsOpened (Err refusal) status before after = IsRefused NoMemory status before after ⊎ IsRefused refusal status before after
+-- a refusal is told, and no session is written
+abbrev pub RefusesSession : Refusal → SessionLeft → SessionLeft → Type 0
+RefusesSession refusal before after =
+    (after.status ≡ status_of refusal) × (after.place ≡ place_after refusal before.place) × (after.session ≡ before.session)
+
+-- a session over this space is written, in which each module that can be is prepared, and of whose walks each has so many frames at most
+abbrev pub WritesSession : SpaceValue → ℕ → SessionLeft → SessionLeft → Type 0
+WritesSession space limit before after =
+    (after.status ≡ 0) × (after.place ≡ before.place)
+    × ((session : SessionValue) × (after.session ≡ Some session) × (session.limit ≡ limit) × ((prepared : ℕ) × Prepares space prepared session.space))
+
+-- A session is opened where there is a space; or the status says why there is none, or that memory ran out.
+abbrev pub IsOpened : Result SpaceValue Refusal → ℕ → SessionLeft → SessionLeft → Type 0
+IsOpened (Ok space) limit before after = RefusesSession NoMemory before after ⊎ WritesSession space limit before after
+IsOpened (Err refusal) limit before after = RefusesSession NoMemory before after ⊎ RefusesSession refusal before after

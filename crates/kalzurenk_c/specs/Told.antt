@@ -17,6 +17,7 @@ use Rattle.kalzurenk_c.specs.Numbers.{refused_detail, refused_number, table_numb
 use Rattle.kalzurenk_c.specs.Outward.{states_from}
 use Rattle.kalzurenk_c.specs.Refusals.{place_after, place_of, status_of}
 use Rattle.kalzurenk_c.specs.Sizes.{end_size, frame_size}
+use Rattle.kalzurenk_c.specs.Unwindings.{Unwinds}
 
 -- whether a state was interrupted where it stands, and wasn't stopped in a call
 abbrev pub mark_told : Bool → ℕ
@@ -127,10 +128,7 @@ TellsUnlessNoMemory space limit start before after = RunsOut before after ⊎ Te
 
 -- a walk is told over the space that is due, or there is none, and nothing is told
 abbrev pub GivesWalk : {A : Type 0} → Result A Refusal → Result SpaceValue Refusal → ℕ → Stepped → List StackFrame → List StackFrame → WalkEnd → WalkEnd → Type 0
-GivesWalk (Ok done) due limit start frames frames_after end end_after =
-    (space : SpaceValue) × (due ≡ Ok space) × TellsFront space limit start frames frames_after end_after
-GivesWalk (Err e) due limit start frames frames_after end end_after =
-    (due ≡ Err e) × (frames_after ≡ frames) × (end_after ≡ end)
+GivesWalk result due limit start = Unwinds (λ space before frames end. TellsFront space limit start before frames end) result due
 
 -- the same, unless memory ran out
 abbrev pub WalksOver : {A : Type 0} → Result A Refusal → Result SpaceValue Refusal → ℕ → Stepped → List StackFrame → List StackFrame → WalkEnd → WalkEnd → Type 0

@@ -6,7 +6,7 @@ ghost use Rattle.kalzurenk_c.specs.Deliveries.{cleanups_over, delivery_given, de
 ghost use Rattle.kalzurenk_c.specs.Deliveries.{delivery_told, resumes_after};
 ghost use Rattle.kalzurenk_c.specs.Deliveries.{cleanup_of, due_told, ip_told, outcome_number};
 ghost use Rattle.kalzurenk_c.specs.Deliveries.{registers_told};
-ghost use Rattle.kalzurenk_c.specs.Deliveries.{TellsDelivery};
+ghost use Rattle.kalzurenk_c.specs.Deliveries.{IsPending, TellsDelivery, with_space};
 ghost use Rattle.stack_deliver.specs.Delivering.{IsDelivered, delivery_in};
 ghost use Rattle.stack_deliver.specs.StackDelivery.{DeliveryValue};
 ghost use Rattle.stack_steps.specs.declared.answers.DeliverError.{DeliverError};
@@ -14,6 +14,7 @@ ghost use Rattle.stack_steps.specs.declared.answers.DeliverError.{DeliverError};
 use crate::given::{GivenModule, Region, Registers, context_of, space_of};
 use crate::numbers::refused_end;
 use crate::refusal::{Place, Refusal, answered};
+use crate::sample::Unwinding;
 use crate::sizes::{
     CLEANUP_SIZE, DELIVERY_SIZE, REGISTERS_SIZE, RESUME_SIZE, THROW_SIZE, place_sized,
 };
@@ -86,14 +87,23 @@ pub struct DeliveryTold {
 
 /// An exception, and the state from which it is raised.
 #[derive(Clone, Copy, Drop)]
-pub(crate) struct Raised {
-    pub(crate) context: Context,
-    pub(crate) exception: u64,
-    pub(crate) limit: u32,
+struct Raised {
+    context: Context,
+    exception: u64,
+    limit: u32,
+}
+
+/// A delivery that is to be made: what is raised, the table of return addresses, and room for its states
+/// and cleanups.
+#[derive(Drop)]
+pub(crate) struct PendingDelivery {
+    raised: Raised,
+    resumes: Resumes,
+    room: Room,
 }
 
 /// What is thrown from a start.
-pub(crate) fn raised_from(start: &Registers, thrown: &Throw) -> Raised
+fn raised_from(start: &Registers, thrown: &Throw) -> Raised
     ensures { result ≡ record {
       context = context_of start.now;
       exception = thrown.now.exception;
@@ -134,7 +144,7 @@ pub(crate) fn delivery_sized(
 }
 
 /// The table of these pairs.
-pub(crate) fn resumes_of(alloc: Global, pairs: &[ResumePair]) -> Result<Resumes, Refusal>
+fn resumes_of(alloc: Global, pairs: &[ResumePair]) -> Result<Resumes, Refusal>
     ensures { GivesUnlessNoMemory result (resumes_after 0 [] pairs.now) }
 {
     let mut resumes = Resumes::new(alloc);
@@ -248,7 +258,7 @@ fn told_of(room: &Room, delivered: Result<Ending, DeliverError>) -> DeliveryTold
 }
 
 /// Delivers over a space, and tells the cleanups and the ending.
-pub(crate) fn tell_delivery<'t, 'a>(
+fn tell_delivery<'t, 'a>(
     space: &GrownSpace<'_, 't, 'a>,
     resumes: &Resumes,
     raised: &Raised,
@@ -274,6 +284,57 @@ where
     *delivery = told_of(room, delivered);
 }
 
+impl PendingDelivery {
+    /// The delivery of what is thrown from a start, with the table of these pairs.
+    pub(crate) fn new(
+        alloc: Global,
+        start: &Registers,
+        thrown: &Throw,
+        pairs: &[ResumePair],
+    ) -> Result<PendingDelivery, Refusal>
+        ensures { IsPending result (resumes_after 0 [] pairs.now) (context_of start.now)
+            thrown.now.exception thrown.now.limit }
+    {
+        let resumes = resumes_of(alloc, pairs)?;
+        let Ok(room) = Room::new(alloc, thrown.limit) else {
+            return Err(Refusal::NoMemory);
+        };
+        Ok(PendingDelivery {
+            raised: raised_from(start, thrown),
+            resumes,
+            room,
+        })
+    }
+}
+
+impl Unwinding for PendingDelivery {
+    type Entry = Cleanup;
+
+    type Ending = DeliveryTold;
+
+    ghost fits = { λ d places. d.raised.limit ≤ d.room.limit };
+
+    ghost leaves = { λ d space before cleanups told.
+        TellsDelivery (with_space space d.resumes) d.raised.context d.raised.exception
+        d.raised.limit before cleanups told };
+
+    fn unwind(
+        &mut self,
+        space: &GrownSpace<'_, 'static, '_>,
+        cleanups: &mut [Cleanup],
+        delivery: &mut DeliveryTold,
+    ) {
+        tell_delivery(
+            space,
+            &self.resumes,
+            &self.raised,
+            &mut self.room,
+            cleanups,
+            delivery,
+        );
+    }
+}
+
 /// Delivers over what is handed in, and tells the cleanups and the ending. Nothing is told otherwise.
 fn deliver_given(
     alloc: Global,
@@ -290,13 +351,16 @@ fn deliver_given(
         cleanups.old cleanups.new delivery.old delivery.new }
 {
     let space = space_of(alloc, regions, modules)?;
-    let resumes = resumes_of(alloc, pairs)?;
-    let Ok(mut room) = Room::new(alloc, thrown.limit) else {
-        return Err(Refusal::NoMemory);
-    };
-    let raised = raised_from(start, thrown);
+    let mut pending = PendingDelivery::new(alloc, start, thrown, pairs)?;
     let own = space.over_own_image();
-    tell_delivery(&own, &resumes, &raised, &mut room, cleanups, delivery);
+    tell_delivery(
+        &own,
+        &pending.resumes,
+        &pending.raised,
+        &mut pending.room,
+        cleanups,
+        delivery,
+    );
     Ok(())
 }
 

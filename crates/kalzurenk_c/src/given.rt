@@ -194,8 +194,8 @@ pub(crate) fn space_of<'a>(
     Ok(space)
 }
 
-/// Each refusal of a region and of a module but that of memory can be met; and a region and a module are taken, one byte at 0x1000
-/// and an ELF module there. The function does nothing.
+/// Each refusal of a region and of a module but that of memory can be met; and a region and a module are
+/// taken, one byte at 0x1000 and an ELF module there. The function does nothing.
 pub fn each_refusal_is_given()
     ensures sized { image_after 0 [] (sized_as 24 (at_start []) ∷ []) ≡ Err (Refusal.RegionSize 0) }
     ensures empty { image_after 0 [] (at_start [] ∷ []) ≡

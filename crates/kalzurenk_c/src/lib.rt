@@ -10,6 +10,7 @@ mod handle;
 mod numbers;
 mod outward;
 mod refusal;
+mod sample;
 mod session;
 mod session_calls;
 mod session_delivery;
@@ -20,7 +21,7 @@ mod walks;
 
 pub use delivery::{Cleanup, DeliveryTold, ResumePair, Throw, kz_deliver};
 pub use given::{GivenModule, Region, Registers, each_refusal_is_given};
-pub use handle::SessionHandle;
+pub use handle::{SessionHandle, SessionSlot};
 pub use refusal::{Place, Refusal, refusals_are_told_apart};
 pub use session::Session;
 pub use session_calls::{kz_session_close, kz_session_open, kz_session_walk};

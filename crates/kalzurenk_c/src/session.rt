@@ -1,18 +1,15 @@
 // Modules that are kept and prepared, and the stacks that are walked one after another.
-ghost use Rattle.std.specs.Prelude.{◌≡◌, ◌+◌, ◌<◌, ◌≤◌, ◌^◌, length, min};
-ghost use Rattle.memory_image.specs.Results.{result_map};
-ghost use Rattle.stack_steps.specs.Growing.{Grows, over_image};
-ghost use Rattle.kalzurenk_c.specs.Given.{image_after, space_given, spans_of, start_given};
+ghost use Rattle.std.specs.Prelude.{◌≡◌, length, min};
+ghost use Rattle.kalzurenk_c.specs.Given.{space_given, spans_of, start_given};
 ghost use Rattle.kalzurenk_c.specs.Sessions.{OpensSession, space_over};
-ghost use Rattle.kalzurenk_c.specs.Told.{GivesWalk, TellsFront, frame_limit};
+ghost use Rattle.kalzurenk_c.specs.Told.{GivesWalk, frame_limit};
 
 use crate::given::{GivenModule, Region, Registers, space_of, start_of};
-use crate::outward::{WalkStart, tell_walk};
+use crate::outward::WalkStart;
 use crate::refusal::Refusal;
-use crate::sizes::REGION_SIZE;
+use crate::sample::unwind_sample;
 use crate::told::{StackFrame, WalkEnd, frame_limit};
-use memory_image::MemoryImage;
-use stack_steps::{GrownSpace, Space};
+use stack_steps::Space;
 use std::alloc::Global;
 use std::marker::Model;
 
@@ -71,77 +68,10 @@ impl Session {
             (min (frame_limit (length frames.old)) self.now.limit) (start_given start.now interrupted)
             frames.old frames.new end.old end.new }
     {
-        let start = WalkStart {
+        let mut start = WalkStart {
             state: start_of(start, interrupted),
             limit: frame_limit(frames).min(self.limit),
         };
-        walk_sample(&self.space, regions, &start, frames, end)
+        unwind_sample(&self.space, regions, &mut start, frames, end)
     }
-}
-
-/// Walks a stack that lies in these regions, over the modules of a space and its memory.
-fn walk_sample<'s>(
-    space: &'s Space<'static>,
-    regions: &[Region<'_>],
-    start: &WalkStart,
-    frames: &mut [StackFrame],
-    end: &mut WalkEnd,
-) -> Result<(), Refusal>
-    requires limit { start.now.limit ≤ length frames.old }
-    ensures { GivesWalk result (space_over space.now (spans_of regions.now))
-        start.now.limit start.now.state frames.old frames.new end.old end.new }
-{
-    let image: &'s MemoryImage<'s> = space.image();
-    walk_over(&*space, image, 0, regions, start, frames, end)
-}
-
-/// Walks a stack that lies in these regions, of which the first is at a place of its list, over a
-/// space that is seen over an image which maps what the space's own does. Each region is laid over
-/// the image before it.
-fn walk_over<'i>(
-    space: &Space<'static>,
-    image: &'i MemoryImage<'i>,
-    place: u64,
-    regions: &[Region<'_>],
-    start: &WalkStart,
-    frames: &mut [StackFrame],
-    end: &mut WalkEnd,
-) -> Result<(), Refusal>
-    requires grown { Grows space.now.image image.now }
-    requires fits { place + length regions.now < 2 ^ 64 }
-    requires limit { start.now.limit ≤ length frames.old }
-    ensures { GivesWalk result
-        (result_map (over_image space.now) (image_after place image.now (spans_of regions.now)))
-        start.now.limit start.now.state frames.old frames.new end.old end.new }
-{
-    let Some((region, later)) = regions.split_first() else {
-        walk_grown(&*space, &*image, start, frames, end);
-        return Ok(());
-    };
-    if region.size != REGION_SIZE {
-        return Err(Refusal::RegionSize(place));
-    }
-    match MemoryImage::over(&*image, region.address, &*region.bytes) {
-        Ok(over) => walk_over(space, &over, place + 1, later, start, frames, end),
-        Err(error) => Err(Refusal::Region(place, error)),
-    }
-}
-
-/// Walks over a space that is seen over an image which maps what the space's own does.
-fn walk_grown(
-    space: &Space<'static>,
-    image: &MemoryImage<'_>,
-    start: &WalkStart,
-    frames: &mut [StackFrame],
-    end: &mut WalkEnd,
-)
-    requires grown { Grows space.now.image image.now }
-    requires limit { start.now.limit ≤ length frames.old }
-    ensures { TellsFront (over_image space.now image.now) start.now.limit start.now.state
-        frames.old frames.new end.new }
-{
-    // No two of its modules share an address, as a space's type says.
-    let _ = space.image();
-    let grown = GrownSpace::new(&*space, &*image);
-    tell_walk(&grown, start, frames, end);
 }

@@ -6,7 +6,7 @@ ghost use Rattle.kalzurenk_c.specs.Sizes.{place_sized, walk_sized};
 ghost use Rattle.kalzurenk_c.specs.Told.{GivesWalk, TellsWalk, frame_limit};
 
 use crate::given::{GivenModule, Region, Registers};
-use crate::handle::SessionHandle;
+use crate::handle::{SessionHandle, SessionSlot};
 use crate::refusal::{Place, Refusal, answered};
 use crate::session::Session;
 use crate::sizes::{place_sized, walk_sized};
@@ -32,19 +32,20 @@ fn boxed_session(
 /// Opens a session over these modules, of whose walks each has at most `limit` frames.
 ///
 /// The bytes of the regions stay as they are for ever. Each ELF module that can be is prepared. The
-/// number that is answered is a status, as of [`kz_walk`](crate::kz_walk), and `session` is written
-/// where it is 0.
+/// number that is answered is a status, as of [`kz_walk`](crate::kz_walk). Where it is 0 the session is in
+/// `session`, which is as before otherwise.
 #[unsafe(no_mangle)]
 pub extern "C" fn kz_session_open(
     alloc: Global,
     regions: &[Region<'static>],
     modules: &[GivenModule],
     limit: u32,
-    session: &mut *mut u8,
+    session: &mut SessionSlot,
     place: &mut Place,
 ) -> u32
-    ensures { IsOpened
-        (place_sized place.old.size (space_given regions.now modules.now)) result place.old place.new }
+    ensures { IsOpened (place_sized place.old.size (space_given regions.now modules.now)) limit
+        (record { status = 0; session = session.old.value; place = place.old })
+        (record { status = result; session = session.new.value; place = place.new }) }
 {
     let opened = match place_sized(place) {
         Ok(()) => boxed_session(alloc, regions, modules, limit),
@@ -52,7 +53,7 @@ pub extern "C" fn kz_session_open(
     };
     match opened {
         Ok(boxed) => {
-            *session = Box::into_raw(boxed).cast::<u8>();
+            *session = SessionSlot::of(boxed);
             0
         }
         Err(refusal) => refusal.told(place),

@@ -26,8 +26,6 @@ fn walk_given(
         frames.old frames.new end.old end.new }
 {
     let space = space_of(alloc, regions, modules)?;
-    // No two of its modules share an address, as a space's type says.
-    let _ = space.image();
     let start = WalkStart {
         state: start_of(start, interrupted),
         limit: frame_limit(frames),

@@ -16,17 +16,17 @@ returns c =
     let space = c.args.space.now in
     let limit = c.args.start.now.limit in
     let start = c.args.start.now.state in
-    let stop = c.put_frames-stop.ensures.stop in
-    let came : ComesTo c.front_at-why.result space limit start.context start.signal = stop_comes space limit start c.put_frames-stop.new.state c.put_frames-stop.result.last c.front_at-why.result stop.1 c.front_at-why.ensures in
+    let stop = c.stack_frames-stop.ensures.stop in
+    let came : ComesTo c.front_at-why.result space limit start.context start.signal = stop_comes space limit start c.stack_frames-stop.new.state c.stack_frames-stop.result.last c.front_at-why.result stop.1 c.front_at-why.ensures in
     let count : c.from.result ≡ length (states_from space limit start) = c.from.ensures ∙ stop.0 in
     let told : (why : Front) → ComesTo why space limit start.context start.signal → c.end_told.result ≡ end_told (length (states_from space limit start)) why =
     λ why comes. c.end_told.ensures ∙ ap (λ (n : ℕ). end_told n c.front_at-why.result) count ∙ ap (end_told (length (states_from space limit start))) (one_front space limit start c.front_at-why.result why came comes) in (
-      c.put_frames-stop.ensures.frames,
+      c.stack_frames-stop.ensures.frames,
       told,
       λ s callers starts.
-          let known = known_told space c.requires.apart c.image.ensures.laid_out limit start s callers c.args.frames.now starts in
-          let comes = known_comes space c.requires.apart c.image.ensures.laid_out start.context limit start.signal s callers starts in (
-            c.put_frames-stop.ensures.frames ∙ known.0,
+          let known = known_told space c.image.ensures.apart c.image.ensures.laid_out limit start s callers c.args.frames.now starts in
+          let comes = known_comes space c.image.ensures.apart c.image.ensures.laid_out start.context limit start.signal s callers starts in (
+            c.stack_frames-stop.ensures.frames ∙ known.0,
             told (front_of_stack space start.signal s callers starts.stack) comes ∙ ap (λ (n : ℕ). end_told n (front_of_stack space start.signal s callers starts.stack)) known.1,
           ),
     )
