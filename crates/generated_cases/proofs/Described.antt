@@ -3,7 +3,7 @@ use Rattle.std.proofs.Common.{◌≡◌, ℕ, zero, suc, ◌+◌, ◌<◌, ◌�
 use Rattle.std.proofs.lemmas.Bool.{le-leb, lt-leb}
 use Rattle.unwind_definitions.specs.State.{CalleeSaved, RBX, RBP, R12, R13, R14, R15, column_of, value_of, State, Shows}
 use Rattle.unwind_definitions.specs.Module.{Process}
-use Rattle.unwind_definitions.specs.Valid.{IsValid}
+use Rattle.unwind_definitions.specs.Valid.{IsElfValid}
 use Rattle.unwind_arch.specs.ContextViews.{columns_of}
 use Rattle.stack_steps.specs.SpaceViews.{process_of}
 use Rattle.stack_deliver.specs.Resumes.{resume_table}
@@ -96,11 +96,11 @@ module _ (c : Chain) (count seed : ℕ) (some : 0 < count) (few : count ≤ 1000
 
   pub case_described : DescribesChain (content_with c count) (functions_of os) (state_of seed os) (calls_of seed os)
   case_described =
-      let by : State → Type 0 = λ s. IsValid (made.process_of by_header c count) (columns_of (context_in c.innermost)) c.resumes.items (functions_of os) s (calls_of seed os) in
+      let by : State → Type 0 = λ s. IsElfValid (made.process_of by_header c count) (columns_of (context_in c.innermost)) c.resumes.items (functions_of os) s (calls_of seed os) in
       let v = subst by is_made.innermost (valid.header.valid (columns_of (context_in c.innermost)) (shows c.innermost)) in
-      let by_table : List (ℕ × ℕ) → Type 0 = λ rs. IsValid (made.process_of by_header c count) (columns_of (context_in c.innermost)) rs (functions_of os) (state_of seed os) (calls_of seed os) in
+      let by_table : List (ℕ × ℕ) → Type 0 = λ rs. IsElfValid (made.process_of by_header c count) (columns_of (context_in c.innermost)) rs (functions_of os) (state_of seed os) (calls_of seed os) in
       let w = subst by_table (is_made.resumes ∙ sym resumes_made) v in
-      let in_process : Process → Type 0 = λ p. IsValid p (columns_of (context_in c.innermost)) (resume_table c.resumes.items) (functions_of os) (state_of seed os) (calls_of seed os) in
+      let in_process : Process → Type 0 = λ p. IsElfValid p (columns_of (context_in c.innermost)) (resume_table c.resumes.items) (functions_of os) (state_of seed os) (calls_of seed os) in
       let n = length-calls seed os in
       let m = length-outlines seed 0 count in
       elf_starts_valid (space_of (content_with c count)) (functions_of os) (state_of seed os) (resume_table c.resumes.items) (calls_of seed os) (columns_of (context_in c.innermost)) (tt, tt) (subst in_process (sym process_is) w)

@@ -44,5 +44,5 @@ pub use memory::{MemorySnapshot, memory_of};
 pub use origins::{Origin, Origins};
 pub use parts::SnapshotParts;
 pub use reading::{read_named_snapshot, read_snapshot, value_in};
-pub use sampled::{SampledSnapshot, read_sampled_snapshot};
+pub use sampled::{SampledSnapshot, read_named_samples, read_sampled_snapshot};
 pub use snapshot::{Region, Snapshot};
