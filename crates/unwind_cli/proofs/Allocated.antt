@@ -21,8 +21,8 @@ use Rattle.unwind_laws.proofs.Steady.{is_steady, same_row_at}
 use Rattle.unwind_laws.proofs.StoringValid.{pointed_valid}
 use Rattle.unwind_arch.specs.ContextViews.{columns_of}
 use Rattle.stack_steps.specs.SpaceViews.{process_of}
-use Rattle.format_definitions.specs.FormatCalls.{IsFormatCall}
-use Rattle.format_definitions.specs.FormatModules as formats
+use Rattle.format_definitions.specs.Calls.{IsDescribedCall}
+use Rattle.format_definitions.specs.Modules as formats
 use Rattle.stack_steps.specs.SpaceViews.{formats_of}
 use Rattle.stack_snapshot.specs.Content.{space_of}
 use Rattle.unwind_cli.specs.Allocated.{snapshot, entries, start, caller, call}
@@ -149,7 +149,7 @@ entered = record {
   keeps = by_register (λ r. distance r (steps_of storing.prologue) ≡ None → value_of r start ≡ value_of r caller) (λ e. refl) (λ e. refl) (λ e. absurd cc) (λ e. refl) (λ e. refl) (λ e. refl);
 }
 
-pub call_described : IsFormatCall process.image (formats_of (space_of snapshot)) (storing ∷ []) start call
+pub call_described : IsDescribedCall process.image (formats_of (space_of snapshot)) (storing ∷ []) start call
 call_described = record {
   listed = (0, lit< tt, refl);
   lies = record { home = formats.Elf home; known = (0, lit< tt, refl); inside = refl; is_function = pointed_valid.are_functions.0; describes = module_described };

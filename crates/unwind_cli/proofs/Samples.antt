@@ -4,12 +4,12 @@ use Rattle.unwind_definitions.specs.Caller.{Columns}
 use Rattle.unwind_definitions.specs.State.{State, Shows, column_of, value_of}
 use Rattle.unwind_definitions.specs.Function.{Function}
 use Rattle.unwind_definitions.specs.Chain.{Call}
-use Rattle.unwind_definitions.specs.Valid.{IsValid}
+use Rattle.unwind_definitions.specs.Valid.{IsElfValid}
 use Rattle.unwind_laws.specs.Three as three
 use Rattle.unwind_laws.specs.Storing as storing
 use Rattle.unwind_laws.proofs.RowFacts.{by_register}
-use Rattle.format_definitions.specs.FormatCalls.{IsFormatCall}
-use Rattle.format_laws.proofs.FormatParts.{valid_described}
+use Rattle.format_definitions.specs.Calls.{IsDescribedCall}
+use Rattle.format_laws.proofs.Parts.{valid_described}
 use Rattle.unwind_arch.specs.ContextViews.{columns_of}
 use Rattle.stack_steps.specs.Modules.{AreElf}
 use Rattle.stack_steps.specs.SpaceViews.{process_of, formats_of}
@@ -21,7 +21,7 @@ use Rattle.unwind_cli.specs.Caught as caught
 use Rattle.unwind_cli.specs.FramePointer as frame_pointer
 use Rattle.stack_snapshot.specs.Described.{DescribesChain}
 
-pub described : (s : Content) (functions : List Function) (start : State) (calls : List Call) (columns : Columns) → IsValid (process_of (space_of s)) columns s.resumes functions start calls
+pub described : (s : Content) (functions : List Function) (start : State) (calls : List Call) (columns : Columns) → IsElfValid (process_of (space_of s)) columns s.resumes functions start calls
     → AreElf (space_of s).modules → Shows (columns_of s.start) start → length calls < s.limit → DescribesChain s functions start calls
 described s functions start calls columns w elf shows shorter = elf_starts_valid (space_of s) functions start s.resumes calls columns elf w s.start s.limit shows shorter
 
@@ -34,7 +34,7 @@ walk_described s functions start calls is = record {
 }
 
 -- the innermost call of a described chain is described
-pub first_described : (s : Content) (functions : List Function) (start : State) (c : Call) (calls : List Call) → DescribesChain s functions start (c ∷ calls) → IsFormatCall (space_of s).image (formats_of (space_of s)) functions start c
+pub first_described : (s : Content) (functions : List Function) (start : State) (c : Call) (calls : List Call) → DescribesChain s functions start (c ∷ calls) → IsDescribedCall (space_of s).image (formats_of (space_of s)) functions start c
 unfolding call_in
 first_described s functions start c calls is = call_in (space_of s) functions start c calls is.valid.chain (walk_described s functions start (c ∷ calls) is).described.described.0
 

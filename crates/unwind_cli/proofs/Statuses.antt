@@ -1,5 +1,5 @@
 -- When a status comes.
-use Rattle.std.proofs.Common.{inl, inr, ◌≡◌, ◌≢◌, ℕ, ◌^◌, ◌<◌, ◌≤◌, Bool, true, false, List, length, Option, Some, None, Result, Ok, Err, refl, sym, subst, ◌∙◌, ltb, arith}
+use Rattle.std.proofs.Common.{inl, inr, ◌≡◌, ◌≢◌, ℕ, ◌^◌, ◌<◌, ◌≤◌, Bool, true, false, List, length, Option, Some, None, Result, Ok, Err, refl, sym, subst, ap, ◌∙◌, ltb, arith}
 use Rattle.std.specs.Prelude.{◌⊎◌, IsSome, codes, if◌then◌else◌}
 use Rattle.std.specs.Result.{result_err}
 use Rattle.std.proofs.lemmas.Bool.{le-ltb, lt-ltb}
@@ -14,7 +14,7 @@ use Rattle.stack_snapshot.specs.declared.errors.SnapshotError.TheVariants as fau
 use Rattle.command_ends.specs.declared.status.Status.{Status}
 use Rattle.command_ends.specs.declared.status.Status.TheVariants.{Done, ReadFault, WriteFault, TooLong, NotJson, BadSnapshot, Refused, Memory}
 use Rattle.unwind_cli.specs.declared.words.Task.{Task}
-use Rattle.unwind_cli.specs.declared.words.Task.TheVariants.{Deliver, Walk, Fold, Core, Check}
+use Rattle.unwind_cli.specs.declared.words.Task.TheVariants.{Deliver, Walk, Fold, Core, Check, Audit}
 use Rattle.unwind_cli.specs.declared.words.Command.{Command}
 use Rattle.unwind_cli.specs.declared.words.Command.TheVariants.{OnSnapshot, Generate}
 use Rattle.unwind_cli.specs.Commands.{task_in}
@@ -22,30 +22,24 @@ use Rattle.stack_snapshot.specs.Answers.{content_of}
 use Rattle.stack_snapshot.specs.Content.{Content}
 use Rattle.stack_snapshot.specs.Sampled.{SampledContent, sampled_in}
 use Rattle.stack_report.specs.Report.{line}
-use Rattle.command_ends.specs.Verdicts.{Verdict, verdict, Tells, Yields, ComesExactly}
+use Rattle.command_ends.specs.Verdicts.{Verdict, verdict, Tells, ComesExactly}
+use Rattle.command_ends.proofs.VerdictLemmas.{comes, told_as}
 use Rattle.stack_snapshot.specs.Cores.{CoreContent, core_content_of}
 use Rattle.stack_snapshot.specs.declared.cores.CoreSnapshotError.{CoreSnapshotError}
 use Rattle.stack_snapshot.specs.declared.cores.CoreSnapshotError.TheVariants as causes
 use Rattle.command_ends.specs.Answers.{fault_due}
-use Rattle.table_check.specs.declared.verdict.Verdict.{Verdict as Answer}
 use Rattle.claim_checks.specs.Claimed.{claimed_in}
 use Rattle.claim_checks.specs.declared.claimed.ClaimedModule.{ClaimedModule}
-use Rattle.unwind_cli.specs.Due.{checked_due, delivery_from, walk_from, refused_due, delivery_due, walk_due, folded_due, fault_of, read_due, core_due, core_fault, task_due, bytes_due, command_due, Refuses, RefusesCore}
-
--- ---- what is answered
-
-due_told : (due : Verdict) (result status : Status) (before after : Option (List ℕ)) → Tells due result before after → due.status ≡ status → (result ≡ status) ⊎ Yields result
-due_told due Memory status before after told is = inr tt
-due_told due ReadFault status before after told is = inr tt
-due_told due WriteFault status before after told is = inr tt
-due_told due result status before after told is = inl (told.0 ∙ is)
-
-told_as : (due : Verdict) (result status : Status) (before after : Option (List ℕ)) → Tells due result before after → result ≡ status → Tells due status before after
-told_as due result status before after told is = subst (λ (s : Status). Tells due s before after) is told
-
--- a status that is due just where this holds
-comes : (P : Type 0) (due : Verdict) (result status : Status) (before after : Option (List ℕ)) → Tells due result before after → (result ≡ status → due.status ≡ status) → (due.status ≡ status → P) → (P → due.status ≡ status) → ComesExactly result status P
-comes P due result status before after told answered cause due_for = (λ is. cause (answered is), λ p. due_told due result status before after told (due_for p))
+use Rattle.fact_checks.specs.declared.auditing.AuditError.{AuditError}
+use Rattle.fact_checks.specs.declared.auditing.AuditError.TheVariants as audits
+use Rattle.fact_checks.specs.declared.stretches.Difference.{Difference}
+use Rattle.fact_checks.specs.Audits.{refusal_by}
+use Rattle.fact_checks.specs.InOrder.{first_out_of_order}
+use Rattle.fde_finders.specs.FrameTables.{FrameTable, table_by}
+use Rattle.fact_claims.specs.Code.{CodeContent, claims_of, code_in, image_in, refusal_in}
+use Rattle.fact_claims.specs.declared.code.ClaimsError.{ClaimsError}
+use Rattle.fact_claims.specs.declared.code.ClaimsError.TheVariants.{Snapshot, Claims}
+use Rattle.unwind_cli.specs.Due.{Findings, LacksClaims, RefusesAudit, audited_by, claims_fault_due, code_due, code_fault, unaudited_due, checked_due, delivery_from, walk_from, refused_due, delivery_due, walk_due, folded_due, fault_of, read_due, core_due, core_fault, task_due, bytes_due, command_due, Refuses, RefusesCore}
 
 -- ---- what is due for a snapshot
 
@@ -73,124 +67,159 @@ core_is P done refused bad (Err (causes.Snapshot e)) = bad e
 core_is P done refused bad (Err (causes.Core e)) = refused
 core_is P done refused bad (Err (causes.Region i)) = refused
 
-task_is : (P : Status → Option SnapshotError → Type 0) → P Done None → P Memory None → P Refused None → ((e : SnapshotError) → P (fault_due e).status (Some e)) → (answer : Answer) (task : Task) (bytes : List ℕ)
-    → P (task_due task bytes answer).status (fault_of (Some task) bytes)
-task_is P done memory refused bad answer Deliver bytes = read_is P (λ s. delivery_due (delivery_from s)) (λ s. delivery_is (λ x. P x None) done memory refused (delivery_from s)) bad (content_of bytes)
-task_is P done memory refused bad answer Walk bytes = read_is P (λ s. walk_due (walk_from s)) (λ s. walk_is (λ x. P x None) done memory refused (walk_from s)) bad (content_of bytes)
-task_is P done memory refused bad answer Fold bytes = read_is P folded_due (λ s. done) bad (sampled_in bytes)
-task_is P done memory refused bad answer Core bytes = core_is P done refused bad (core_content_of bytes)
-task_is P done memory refused bad answer Check bytes = read_is P (λ c. checked_due answer) (λ c. done) bad (claimed_in bytes)
+audited_is : (P : Status → Type 0) → P Done → P Memory → P Refused → (c : CodeContent) (ds : List Difference) (o : Option AuditError) → P (audited_by c ds o).status
+audited_is P done memory refused c ds None = done
+audited_is P done memory refused c ds (Some audits.NoMemory) = memory
+audited_is P done memory refused c ds (Some (audits.Claim i)) = refused
+audited_is P done memory refused c ds (Some audits.Tables) = refused
 
-task_short : (answer : Answer) (task : Task) (bytes : List ℕ) → (task_due task bytes answer).status ≢ TooLong
-task_short = task_is (λ x o. x ≢ TooLong) (λ e. cc) (λ e. cc) (λ e. cc) bad
+code_is : (P : Status → Option SnapshotError → Type 0) → P Done None → P Memory None → P Refused None → ((e : SnapshotError) → P (fault_due e).status (Some e)) → (ds : List Difference) (r : Result CodeContent ClaimsError) → (r ≡ Err Claims → P BadSnapshot None)
+    → P (code_due ds r).status (code_fault r)
+code_is P done memory refused bad ds (Ok c) lacking = audited_is (λ x. P x None) done memory refused c ds (refusal_in c)
+code_is P done memory refused bad ds (Err (Snapshot e)) lacking = bad e
+code_is P done memory refused bad ds (Err Claims) lacking = lacking refl
+
+task_is : (P : Status → Option SnapshotError → Type 0) → P Done None → P Memory None → P Refused None → ((e : SnapshotError) → P (fault_due e).status (Some e)) → (found : Findings) (task : Task) (bytes : List ℕ) → (LacksClaims (Some task) bytes → P BadSnapshot None)
+    → P (task_due task bytes found).status (fault_of (Some task) bytes)
+task_is P done memory refused bad found Deliver bytes lacking = read_is P (λ s. delivery_due (delivery_from s)) (λ s. delivery_is (λ x. P x None) done memory refused (delivery_from s)) bad (content_of bytes)
+task_is P done memory refused bad found Walk bytes lacking = read_is P (λ s. walk_due (walk_from s)) (λ s. walk_is (λ x. P x None) done memory refused (walk_from s)) bad (content_of bytes)
+task_is P done memory refused bad found Fold bytes lacking = read_is P folded_due (λ s. done) bad (sampled_in bytes)
+task_is P done memory refused bad found Core bytes lacking = core_is P done refused bad (core_content_of bytes)
+task_is P done memory refused bad found Check bytes lacking = read_is P (λ c. checked_due found.verdict) (λ c. done) bad (claimed_in bytes)
+task_is P done memory refused bad found Audit bytes lacking = code_is P done memory refused bad found.differences (code_in bytes) lacking
+
+task_short : (found : Findings) (task : Task) (bytes : List ℕ) → (task_due task bytes found).status ≢ TooLong
+task_short found task bytes = task_is (λ x o. x ≢ TooLong) (λ e. cc) (λ e. cc) (λ e. cc) bad found task bytes (λ lacking e. cc)
   where
     bad : (e : SnapshotError) → (fault_due e).status ≢ TooLong
     bad (faults.Bad field) = λ e. cc
     bad faults.NotJson = λ e. cc
     bad faults.NoMemory = λ e. cc
 
-task_unread : (answer : Answer) (task : Task) (bytes : List ℕ) → (task_due task bytes answer).status ≡ NotJson → fault_of (Some task) bytes ≡ Some faults.NotJson
-task_unread = task_is (λ x o. x ≡ NotJson → o ≡ Some faults.NotJson) (λ e. absurd cc) (λ e. absurd cc) (λ e. absurd cc) bad
+task_unread : (found : Findings) (task : Task) (bytes : List ℕ) → (task_due task bytes found).status ≡ NotJson → fault_of (Some task) bytes ≡ Some faults.NotJson
+task_unread found task bytes = task_is (λ x o. x ≡ NotJson → o ≡ Some faults.NotJson) (λ e. absurd cc) (λ e. absurd cc) (λ e. absurd cc) bad found task bytes (λ lacking e. absurd cc)
   where
     bad : (e : SnapshotError) → (fault_due e).status ≡ NotJson → Some e ≡ Some faults.NotJson
     bad (faults.Bad field) e = absurd cc
     bad faults.NotJson e = refl
     bad faults.NoMemory e = absurd cc
 
-unread_task : (answer : Answer) (task : Task) (bytes : List ℕ) → fault_of (Some task) bytes ≡ Some faults.NotJson → (task_due task bytes answer).status ≡ NotJson
-unread_task = task_is (λ x o. o ≡ Some faults.NotJson → x ≡ NotJson) (λ e. absurd cc) (λ e. absurd cc) (λ e. absurd cc) bad
+unread_task : (found : Findings) (task : Task) (bytes : List ℕ) → fault_of (Some task) bytes ≡ Some faults.NotJson → (task_due task bytes found).status ≡ NotJson
+unread_task found task bytes = task_is (λ x o. o ≡ Some faults.NotJson → x ≡ NotJson) (λ e. absurd cc) (λ e. absurd cc) (λ e. absurd cc) bad found task bytes (λ lacking e. absurd cc)
   where
     bad : (e : SnapshotError) → Some e ≡ Some faults.NotJson → (fault_due e).status ≡ NotJson
     bad (faults.Bad field) e = absurd cc
     bad faults.NotJson e = refl
     bad faults.NoMemory e = absurd cc
 
-task_faulty : (answer : Answer) (task : Task) (bytes : List ℕ) → (task_due task bytes answer).status ≡ BadSnapshot → (field : Field) × (fault_of (Some task) bytes ≡ Some (faults.Bad field))
-task_faulty = task_is (λ x o. x ≡ BadSnapshot → (field : Field) × (o ≡ Some (faults.Bad field))) (λ e. absurd cc) (λ e. absurd cc) (λ e. absurd cc) bad
+-- a field is faulty, or claims are
+abbrev pub IsFaultIn : Option Task → List ℕ → Type 0
+IsFaultIn task bytes = ((field : Field) × (fault_of task bytes ≡ Some (faults.Bad field))) ⊎ LacksClaims task bytes
+
+task_faulty : (found : Findings) (task : Task) (bytes : List ℕ) → (task_due task bytes found).status ≡ BadSnapshot → IsFaultIn (Some task) bytes
+task_faulty found task bytes = task_is (λ x o. x ≡ BadSnapshot → ((field : Field) × (o ≡ Some (faults.Bad field))) ⊎ LacksClaims (Some task) bytes) (λ e. absurd cc) (λ e. absurd cc) (λ e. absurd cc) bad found task bytes (λ lacking e. inr lacking)
   where
-    bad : (e : SnapshotError) → (fault_due e).status ≡ BadSnapshot → (field : Field) × (Some e ≡ Some (faults.Bad field))
-    bad (faults.Bad field) e = (field, refl)
+    bad : (e : SnapshotError) → (fault_due e).status ≡ BadSnapshot → ((field : Field) × (Some e ≡ Some (faults.Bad field))) ⊎ LacksClaims (Some task) bytes
+    bad (faults.Bad field) e = inl (field, refl)
     bad faults.NotJson e = absurd cc
     bad faults.NoMemory e = absurd cc
 
-faulty_task : (field : Field) (answer : Answer) (task : Task) (bytes : List ℕ) → fault_of (Some task) bytes ≡ Some (faults.Bad field) → (task_due task bytes answer).status ≡ BadSnapshot
-faulty_task field = task_is (λ x o. o ≡ Some (faults.Bad field) → x ≡ BadSnapshot) (λ e. absurd cc) (λ e. absurd cc) (λ e. absurd cc) bad
+faulty_task : (field : Field) (found : Findings) (task : Task) (bytes : List ℕ) → fault_of (Some task) bytes ≡ Some (faults.Bad field) → (task_due task bytes found).status ≡ BadSnapshot
+faulty_task field found task bytes = task_is (λ x o. o ≡ Some (faults.Bad field) → x ≡ BadSnapshot) (λ e. absurd cc) (λ e. absurd cc) (λ e. absurd cc) bad found task bytes (λ lacking e. refl)
   where
     bad : (e : SnapshotError) → Some e ≡ Some (faults.Bad field) → (fault_due e).status ≡ BadSnapshot
     bad (faults.Bad other) e = refl
     bad faults.NotJson e = absurd cc
     bad faults.NoMemory e = absurd cc
 
+lacking_task : (found : Findings) (task : Task) (bytes : List ℕ) → LacksClaims (Some task) bytes → (task_due task bytes found).status ≡ BadSnapshot
+lacking_task found Deliver bytes is = absurd is
+lacking_task found Walk bytes is = absurd is
+lacking_task found Fold bytes is = absurd is
+lacking_task found Core bytes is = absurd is
+lacking_task found Check bytes is = absurd is
+lacking_task found Audit bytes is = rw is refl
+
+faults_task : (found : Findings) (task : Task) (bytes : List ℕ) → IsFaultIn (Some task) bytes → (task_due task bytes found).status ≡ BadSnapshot
+faults_task found task bytes (inl (field, is)) = faulty_task field found task bytes is
+faults_task found task bytes (inr is) = lacking_task found task bytes is
+
 -- ---- what is due for all bytes
 
 -- either too many bytes, or what they say
-bytes_are : (P : Status → Type 0) (answer : Answer) (task : Task) (bytes : List ℕ) → (2 ^ 26 < length bytes → P TooLong) → (length bytes ≤ 2 ^ 26 → P (task_due task bytes answer).status) → P (bytes_due task bytes answer).status
-bytes_are P answer task bytes long short = go (ltb (2 ^ 26) (length bytes)) refl
+bytes_are : (P : Status → Type 0) (found : Findings) (task : Task) (bytes : List ℕ) → (2 ^ 26 < length bytes → P TooLong) → (length bytes ≤ 2 ^ 26 → P (task_due task bytes found).status) → P (bytes_due task bytes found).status
+bytes_are P found task bytes long short = go (ltb (2 ^ 26) (length bytes)) refl
   where
-    go : (b : Bool) → ltb (2 ^ 26) (length bytes) ≡ b → P (if b then verdict TooLong (line (codes "too long")) else task_due task bytes answer).status
+    go : (b : Bool) → ltb (2 ^ 26) (length bytes) ≡ b → P (if b then verdict TooLong (line (codes "too long")) else task_due task bytes found).status
     go true is = long (grind (arith, nat_tests))
     go false is = short (grind (arith, nat_tests))
 
-short_due : (answer : Answer) (task : Task) (bytes : List ℕ) → length bytes ≤ 2 ^ 26 → bytes_due task bytes answer ≡ task_due task bytes answer
-short_due answer task bytes short = rw (le-ltb (2 ^ 26) (length bytes) short) refl
+short_due : (found : Findings) (task : Task) (bytes : List ℕ) → length bytes ≤ 2 ^ 26 → bytes_due task bytes found ≡ task_due task bytes found
+short_due found task bytes short = rw (le-ltb (2 ^ 26) (length bytes) short) refl
 
 -- ---- too many bytes
 
 abbrev pub IsTooLong : Option Task → List ℕ → Type 0
 IsTooLong task bytes = IsSome task × (2 ^ 26 < length bytes)
 
-long_cause : (o : Option Command) (bytes : List ℕ) (probes : ℕ) (answer : Answer) → (command_due o bytes probes answer).status ≡ TooLong → IsTooLong (task_in o) bytes
-long_cause None bytes probes answer is = absurd cc
-long_cause (Some (OnSnapshot task)) bytes probes answer is =
-    (refl, bytes_are (λ x. x ≡ TooLong → 2 ^ 26 < length bytes) answer task bytes (λ long e. long) (λ short e. absurd (task_short answer task bytes e)) is)
-long_cause (Some (Generate count seed)) bytes probes answer is = absurd cc
+long_cause : (o : Option Command) (bytes : List ℕ) (probes : ℕ) (found : Findings) → (command_due o bytes probes found).status ≡ TooLong → IsTooLong (task_in o) bytes
+long_cause None bytes probes found is = absurd cc
+long_cause (Some (OnSnapshot task)) bytes probes found is =
+    (refl, bytes_are (λ x. x ≡ TooLong → 2 ^ 26 < length bytes) found task bytes (λ long e. long) (λ short e. absurd (task_short found task bytes e)) is)
+long_cause (Some (Generate count seed)) bytes probes found is = absurd cc
 
-long_due : (o : Option Command) (bytes : List ℕ) (probes : ℕ) (answer : Answer) → IsTooLong (task_in o) bytes → (command_due o bytes probes answer).status ≡ TooLong
-long_due None bytes probes answer is = absurd (let some : IsSome {T = Task} None = is.0 in cc)
-long_due (Some (OnSnapshot task)) bytes probes answer is = rw (lt-ltb (2 ^ 26) (length bytes) is.1) refl
-long_due (Some (Generate count seed)) bytes probes answer is = absurd (let some : IsSome {T = Task} None = is.0 in cc)
+long_due : (o : Option Command) (bytes : List ℕ) (probes : ℕ) (found : Findings) → IsTooLong (task_in o) bytes → (command_due o bytes probes found).status ≡ TooLong
+long_due None bytes probes found is = absurd (let some : IsSome {T = Task} None = is.0 in cc)
+long_due (Some (OnSnapshot task)) bytes probes found is = rw (lt-ltb (2 ^ 26) (length bytes) is.1) refl
+long_due (Some (Generate count seed)) bytes probes found is = absurd (let some : IsSome {T = Task} None = is.0 in cc)
 
 -- ---- no JSON text
 
 abbrev pub IsUnread : Option Task → List ℕ → Type 0
 IsUnread task bytes = IsSome task × (length bytes ≤ 2 ^ 26) × (fault_of task bytes ≡ Some faults.NotJson)
 
-unread_cause : (o : Option Command) (bytes : List ℕ) (probes : ℕ) (answer : Answer) → (command_due o bytes probes answer).status ≡ NotJson → IsUnread (task_in o) bytes
-unread_cause None bytes probes answer is = absurd cc
-unread_cause (Some (OnSnapshot task)) bytes probes answer is =
-    bytes_are (λ x. x ≡ NotJson → IsUnread (Some task) bytes) answer task bytes (λ long e. absurd cc) (λ short e. (refl, short, task_unread answer task bytes e)) is
-unread_cause (Some (Generate count seed)) bytes probes answer is = absurd cc
+unread_cause : (o : Option Command) (bytes : List ℕ) (probes : ℕ) (found : Findings) → (command_due o bytes probes found).status ≡ NotJson → IsUnread (task_in o) bytes
+unread_cause None bytes probes found is = absurd cc
+unread_cause (Some (OnSnapshot task)) bytes probes found is =
+    bytes_are (λ x. x ≡ NotJson → IsUnread (Some task) bytes) found task bytes (λ long e. absurd cc) (λ short e. (refl, short, task_unread found task bytes e)) is
+unread_cause (Some (Generate count seed)) bytes probes found is = absurd cc
 
-unread_due : (o : Option Command) (bytes : List ℕ) (probes : ℕ) (answer : Answer) → IsUnread (task_in o) bytes → (command_due o bytes probes answer).status ≡ NotJson
-unread_due None bytes probes answer is = absurd (let some : IsSome {T = Task} None = is.0 in cc)
-unread_due (Some (OnSnapshot task)) bytes probes answer is = rw (le-ltb (2 ^ 26) (length bytes) is.1) (unread_task answer task bytes is.2)
-unread_due (Some (Generate count seed)) bytes probes answer is = absurd (let some : IsSome {T = Task} None = is.0 in cc)
+unread_due : (o : Option Command) (bytes : List ℕ) (probes : ℕ) (found : Findings) → IsUnread (task_in o) bytes → (command_due o bytes probes found).status ≡ NotJson
+unread_due None bytes probes found is = absurd (let some : IsSome {T = Task} None = is.0 in cc)
+unread_due (Some (OnSnapshot task)) bytes probes found is = rw (le-ltb (2 ^ 26) (length bytes) is.1) (unread_task found task bytes is.2)
+unread_due (Some (Generate count seed)) bytes probes found is = absurd (let some : IsSome {T = Task} None = is.0 in cc)
 
 -- ---- a faulty field
 
 abbrev pub IsFaulty : Option Task → List ℕ → Type 0
-IsFaulty task bytes = IsSome task × (length bytes ≤ 2 ^ 26) × ((field : Field) × (fault_of task bytes ≡ Some (faults.Bad field)))
+IsFaulty task bytes = IsSome task × (length bytes ≤ 2 ^ 26) × IsFaultIn task bytes
 
-faulty_cause : (o : Option Command) (bytes : List ℕ) (probes : ℕ) (answer : Answer) → (command_due o bytes probes answer).status ≡ BadSnapshot → IsFaulty (task_in o) bytes
-faulty_cause None bytes probes answer is = absurd cc
-faulty_cause (Some (OnSnapshot task)) bytes probes answer is =
-    bytes_are (λ x. x ≡ BadSnapshot → IsFaulty (Some task) bytes) answer task bytes (λ long e. absurd cc) (λ short e. (refl, short, task_faulty answer task bytes e)) is
-faulty_cause (Some (Generate count seed)) bytes probes answer is = absurd cc
+faulty_cause : (o : Option Command) (bytes : List ℕ) (probes : ℕ) (found : Findings) → (command_due o bytes probes found).status ≡ BadSnapshot → IsFaulty (task_in o) bytes
+faulty_cause None bytes probes found is = absurd cc
+faulty_cause (Some (OnSnapshot task)) bytes probes found is =
+    bytes_are (λ x. x ≡ BadSnapshot → IsFaulty (Some task) bytes) found task bytes (λ long e. absurd cc) (λ short e. (refl, short, task_faulty found task bytes e)) is
+faulty_cause (Some (Generate count seed)) bytes probes found is = absurd cc
 
-faulty_due : (o : Option Command) (bytes : List ℕ) (probes : ℕ) (answer : Answer) → IsFaulty (task_in o) bytes → (command_due o bytes probes answer).status ≡ BadSnapshot
-faulty_due None bytes probes answer is = absurd (let some : IsSome {T = Task} None = is.0 in cc)
-faulty_due (Some (OnSnapshot task)) bytes probes answer is = let f = is.2 in rw (le-ltb (2 ^ 26) (length bytes) is.1) (faulty_task f.0 answer task bytes f.1)
-faulty_due (Some (Generate count seed)) bytes probes answer is = absurd (let some : IsSome {T = Task} None = is.0 in cc)
+faulty_due : (o : Option Command) (bytes : List ℕ) (probes : ℕ) (found : Findings) → IsFaulty (task_in o) bytes → (command_due o bytes probes found).status ≡ BadSnapshot
+faulty_due None bytes probes found is = absurd (let some : IsSome {T = Task} None = is.0 in cc)
+faulty_due (Some (OnSnapshot task)) bytes probes found is = rw (le-ltb (2 ^ 26) (length bytes) is.1) (faults_task found task bytes is.2)
+faulty_due (Some (Generate count seed)) bytes probes found is = absurd (let some : IsSome {T = Task} None = is.0 in cc)
 
 -- ---- a task that is refused
+
+abbrev status_of : Verdict → Status
+status_of due = due.status
 
 -- a snapshot was read, and the task on it meets an error other than out of memory
 abbrev pub RefusesSnapshot : Option Task → List ℕ → Type 0
 RefusesSnapshot task bytes = (s : Content) × (content_of bytes ≡ Ok s) × ((error : DeliverError) × (error ≢ NoMemory) × Refuses task s error)
 
--- so it is, or a core file isn't taken
+-- so it is, or a core file isn't taken, or claims aren't audited
+abbrev pub IsRefusalOf : Option Task → List ℕ → Type 0
+IsRefusalOf task bytes = RefusesSnapshot task bytes ⊎ (RefusesCore task bytes ⊎ RefusesAudit task bytes)
+
 abbrev pub IsRefused : Option Task → List ℕ → Type 0
-IsRefused task bytes = IsSome task × (length bytes ≤ 2 ^ 26) × (RefusesSnapshot task bytes ⊎ RefusesCore task bytes)
+IsRefused task bytes = IsSome task × (length bytes ≤ 2 ^ 26) × IsRefusalOf task bytes
 
 some_error : (e : DeliverError) → (refused_due e).status ≡ Refused → e ≢ NoMemory
 some_error e is same = let m : (refused_due NoMemory).status ≡ Refused = subst (λ (x : DeliverError). (refused_due x).status ≡ Refused) same is in absurd cc
@@ -207,29 +236,29 @@ walk_refused : (r : Result (List Context) DeliverError) → (walk_due r).status 
 walk_refused (Ok cs) is = absurd cc
 walk_refused (Err e) is = (e, some_error e is, refl)
 
-task_refused : (answer : Answer) (task : Task) (bytes : List ℕ) → (task_due task bytes answer).status ≡ Refused → RefusesSnapshot (Some task) bytes ⊎ RefusesCore (Some task) bytes
-task_refused answer Deliver bytes is = go (content_of bytes) refl is
+task_refused : (found : Findings) (task : Task) (bytes : List ℕ) → (task_due task bytes found).status ≡ Refused → IsRefusalOf (Some task) bytes
+task_refused found Deliver bytes is = go (content_of bytes) refl is
   where
-    go : (r : Result Content SnapshotError) → content_of bytes ≡ r → (read_due (λ s. delivery_due (delivery_from s)) r).status ≡ Refused → RefusesSnapshot (Some Deliver) bytes ⊎ ⊥
+    go : (r : Result Content SnapshotError) → content_of bytes ≡ r → (read_due (λ s. delivery_due (delivery_from s)) r).status ≡ Refused → IsRefusalOf (Some Deliver) bytes
     go (Ok s) at is = inl (s, at, delivery_refused (delivery_from s) is)
     go (Err (faults.Bad field)) at is = absurd cc
     go (Err faults.NotJson) at is = absurd cc
     go (Err faults.NoMemory) at is = absurd cc
-task_refused answer Walk bytes is = go (content_of bytes) refl is
+task_refused found Walk bytes is = go (content_of bytes) refl is
   where
-    go : (r : Result Content SnapshotError) → content_of bytes ≡ r → (read_due (λ s. walk_due (walk_from s)) r).status ≡ Refused → RefusesSnapshot (Some Walk) bytes ⊎ ⊥
+    go : (r : Result Content SnapshotError) → content_of bytes ≡ r → (read_due (λ s. walk_due (walk_from s)) r).status ≡ Refused → IsRefusalOf (Some Walk) bytes
     go (Ok s) at is = inl (s, at, walk_refused (walk_from s) is)
     go (Err (faults.Bad field)) at is = absurd cc
     go (Err faults.NotJson) at is = absurd cc
     go (Err faults.NoMemory) at is = absurd cc
-task_refused answer Fold bytes is = absurd (go (sampled_in bytes) is)
+task_refused found Fold bytes is = absurd (go (sampled_in bytes) is)
   where
     go : (r : Result SampledContent SnapshotError) → (read_due folded_due r).status ≡ Refused → ⊥
     go (Ok s) is = cc
     go (Err (faults.Bad field)) is = cc
     go (Err faults.NotJson) is = cc
     go (Err faults.NoMemory) is = cc
-task_refused answer Core bytes is = inr (go (core_content_of bytes) refl is)
+task_refused found Core bytes is = inr (inl (go (core_content_of bytes) refl is))
   where
     go : (r : Result CoreContent CoreSnapshotError) → core_content_of bytes ≡ r → (core_due r).status ≡ Refused → RefusesCore (Some Core) bytes
     go (Ok c) at is = absurd cc
@@ -238,52 +267,80 @@ task_refused answer Core bytes is = inr (go (core_content_of bytes) refl is)
     go (Err (causes.Snapshot faults.NoMemory)) at is = absurd cc
     go (Err (causes.Core error)) at is = inl (error, at)
     go (Err (causes.Region i)) at is = inr (i, at)
-task_refused answer Check bytes is = absurd (go (claimed_in bytes) is)
+task_refused found Check bytes is = absurd (go (claimed_in bytes) is)
   where
-    go : (r : Result ClaimedModule SnapshotError) → (read_due (λ c. checked_due answer) r).status ≡ Refused → ⊥
+    go : (r : Result ClaimedModule SnapshotError) → (read_due (λ c. checked_due found.verdict) r).status ≡ Refused → ⊥
     go (Ok c) is = cc
     go (Err (faults.Bad field)) is = cc
     go (Err faults.NotJson) is = cc
     go (Err faults.NoMemory) is = cc
+task_refused found Audit bytes is = inr (inr (go (code_in bytes) refl is))
+  where
+    refusal : (c : CodeContent) (o : Option AuditError) → refusal_in c ≡ o → (audited_by c found.differences o).status ≡ Refused → (error : AuditError) × (refusal_in c ≡ Some error)
+    refusal c None at is = absurd cc
+    refusal c (Some error) at is = (error, at)
 
-refused_cause : (o : Option Command) (bytes : List ℕ) (probes : ℕ) (answer : Answer) → (command_due o bytes probes answer).status ≡ Refused → IsRefused (task_in o) bytes
-refused_cause None bytes probes answer is = absurd cc
-refused_cause (Some (OnSnapshot task)) bytes probes answer is =
-    bytes_are (λ x. x ≡ Refused → IsRefused (Some task) bytes) answer task bytes (λ long e. absurd cc) (λ short e. (refl, short, task_refused answer task bytes e)) is
-refused_cause (Some (Generate count seed)) bytes probes answer is = absurd cc
+    go : (r : Result CodeContent ClaimsError) → code_in bytes ≡ r → (code_due found.differences r).status ≡ Refused → RefusesAudit (Some Audit) bytes
+    go (Ok c) at is = (c, at, refusal c (refusal_in c) refl is)
+    go (Err (Snapshot (faults.Bad field))) at is = absurd cc
+    go (Err (Snapshot faults.NotJson)) at is = absurd cc
+    go (Err (Snapshot faults.NoMemory)) at is = absurd cc
+    go (Err Claims) at is = absurd cc
 
-refused_task : (answer : Answer) (task : Task) (bytes : List ℕ) → RefusesSnapshot (Some task) bytes ⊎ RefusesCore (Some task) bytes → (task_due task bytes answer).status ≡ Refused
-refused_task answer Deliver bytes (inl (s, reads, (error, other, is))) = rw (reads, is) (error_due error other)
-refused_task answer Deliver bytes (inr is) = absurd is
-refused_task answer Walk bytes (inl (s, reads, (error, other, is))) = rw (reads, is) (error_due error other)
-refused_task answer Walk bytes (inr is) = absurd is
-refused_task answer Fold bytes (inl (s, reads, (error, other, is))) = absurd is
-refused_task answer Fold bytes (inr is) = absurd is
-refused_task answer Core bytes (inl (s, reads, (error, other, is))) = absurd is
-refused_task answer Core bytes (inr (inl (error, is))) = rw is refl
-refused_task answer Core bytes (inr (inr (i, is))) = rw is refl
-refused_task answer Check bytes (inl (s, reads, (error, other, is))) = absurd is
-refused_task answer Check bytes (inr is) = absurd is
+refused_cause : (o : Option Command) (bytes : List ℕ) (probes : ℕ) (found : Findings) → (command_due o bytes probes found).status ≡ Refused → IsRefused (task_in o) bytes
+refused_cause None bytes probes found is = absurd cc
+refused_cause (Some (OnSnapshot task)) bytes probes found is =
+    bytes_are (λ x. x ≡ Refused → IsRefused (Some task) bytes) found task bytes (λ long e. absurd cc) (λ short e. (refl, short, task_refused found task bytes e)) is
+refused_cause (Some (Generate count seed)) bytes probes found is = absurd cc
 
-refused_for : (o : Option Command) (bytes : List ℕ) (probes : ℕ) (answer : Answer) → IsRefused (task_in o) bytes → (command_due o bytes probes answer).status ≡ Refused
-refused_for None bytes probes answer is = absurd (let some : IsSome {T = Task} None = is.0 in cc)
-refused_for (Some (OnSnapshot task)) bytes probes answer is = rw (le-ltb (2 ^ 26) (length bytes) is.1) (refused_task answer task bytes is.2)
-refused_for (Some (Generate count seed)) bytes probes answer is = absurd (let some : IsSome {T = Task} None = is.0 in cc)
+-- a refusal of claims isn't that memory ran out
+unaudited_is : (table : Option FrameTable) (o : Option ℕ) (error : AuditError) → refusal_by table o ≡ Some error → (unaudited_due error).status ≡ Refused
+unaudited_is table (Some i) error is = let same : audits.Claim i ≡ error = cc in subst (λ (e : AuditError). (unaudited_due e).status ≡ Refused) same refl
+unaudited_is None None error is = let same : audits.Tables ≡ error = cc in subst (λ (e : AuditError). (unaudited_due e).status ≡ Refused) same refl
+unaudited_is (Some table) None error is = absurd cc
+
+refused_task : (found : Findings) (task : Task) (bytes : List ℕ) → IsRefusalOf (Some task) bytes → (task_due task bytes found).status ≡ Refused
+refused_task found Deliver bytes (inl (s, reads, (error, other, is))) = rw (reads, is) (error_due error other)
+refused_task found Deliver bytes (inr (inl is)) = absurd is
+refused_task found Deliver bytes (inr (inr is)) = absurd is
+refused_task found Walk bytes (inl (s, reads, (error, other, is))) = rw (reads, is) (error_due error other)
+refused_task found Walk bytes (inr (inl is)) = absurd is
+refused_task found Walk bytes (inr (inr is)) = absurd is
+refused_task found Fold bytes (inl (s, reads, (error, other, is))) = absurd is
+refused_task found Fold bytes (inr (inl is)) = absurd is
+refused_task found Fold bytes (inr (inr is)) = absurd is
+refused_task found Core bytes (inl (s, reads, (error, other, is))) = absurd is
+refused_task found Core bytes (inr (inl (inl (error, is)))) = rw is refl
+refused_task found Core bytes (inr (inl (inr (i, is)))) = rw is refl
+refused_task found Core bytes (inr (inr is)) = absurd is
+refused_task found Check bytes (inl (s, reads, (error, other, is))) = absurd is
+refused_task found Check bytes (inr (inl is)) = absurd is
+refused_task found Check bytes (inr (inr is)) = absurd is
+refused_task found Audit bytes (inl (s, reads, (error, other, is))) = absurd is
+refused_task found Audit bytes (inr (inl is)) = absurd is
+refused_task found Audit bytes (inr (inr (c, reads, (error, is)))) =
+    let due : task_due Audit bytes found ≡ unaudited_due error = ap (code_due found.differences) reads ∙ ap (audited_by c found.differences) is in
+    ap status_of due ∙ unaudited_is (table_by c.frame (image_in c)) (first_out_of_order 0 (claims_of c)) error is
+
+refused_for : (o : Option Command) (bytes : List ℕ) (probes : ℕ) (found : Findings) → IsRefused (task_in o) bytes → (command_due o bytes probes found).status ≡ Refused
+refused_for None bytes probes found is = absurd (let some : IsSome {T = Task} None = is.0 in cc)
+refused_for (Some (OnSnapshot task)) bytes probes found is = rw (le-ltb (2 ^ 26) (length bytes) is.1) (refused_task found task bytes is.2)
+refused_for (Some (Generate count seed)) bytes probes found is = absurd (let some : IsSome {T = Task} None = is.0 in cc)
 
 -- ---- when each of them is answered
 
-module _ (o : Option Command) (bytes : List ℕ) (probes : ℕ) (answer : Answer) (result : Status) (before after : Option (List ℕ)) (told : Tells (command_due o bytes probes answer) result before after) where
+module _ (o : Option Command) (bytes : List ℕ) (probes : ℕ) (found : Findings) (result : Status) (before after : Option (List ℕ)) (told : Tells (command_due o bytes probes found) result before after) where
   abbrev due : Verdict
-  due = command_due o bytes probes answer
+  due = command_due o bytes probes found
 
   pub long_told : ComesExactly result TooLong (IsTooLong (task_in o) bytes)
-  long_told = comes (IsTooLong (task_in o) bytes) due result TooLong before after told (λ is. sym (told_as due result TooLong before after told is).0) (long_cause o bytes probes answer) (long_due o bytes probes answer)
+  long_told = comes (IsTooLong (task_in o) bytes) due result TooLong before after told (λ is. sym (told_as due result TooLong before after told is).0) (long_cause o bytes probes found) (long_due o bytes probes found)
 
   pub unread_told : ComesExactly result NotJson (IsUnread (task_in o) bytes)
-  unread_told = comes (IsUnread (task_in o) bytes) due result NotJson before after told (λ is. sym (told_as due result NotJson before after told is).0) (unread_cause o bytes probes answer) (unread_due o bytes probes answer)
+  unread_told = comes (IsUnread (task_in o) bytes) due result NotJson before after told (λ is. sym (told_as due result NotJson before after told is).0) (unread_cause o bytes probes found) (unread_due o bytes probes found)
 
   pub faulty_told : ComesExactly result BadSnapshot (IsFaulty (task_in o) bytes)
-  faulty_told = comes (IsFaulty (task_in o) bytes) due result BadSnapshot before after told (λ is. sym (told_as due result BadSnapshot before after told is).0) (faulty_cause o bytes probes answer) (faulty_due o bytes probes answer)
+  faulty_told = comes (IsFaulty (task_in o) bytes) due result BadSnapshot before after told (λ is. sym (told_as due result BadSnapshot before after told is).0) (faulty_cause o bytes probes found) (faulty_due o bytes probes found)
 
   pub refused_told : ComesExactly result Refused (IsRefused (task_in o) bytes)
-  refused_told = comes (IsRefused (task_in o) bytes) due result Refused before after told (λ is. sym (told_as due result Refused before after told is).0) (refused_cause o bytes probes answer) (refused_for o bytes probes answer)
+  refused_told = comes (IsRefused (task_in o) bytes) due result Refused before after told (λ is. sym (told_as due result Refused before after told is).0) (refused_cause o bytes probes found) (refused_for o bytes probes found)

@@ -2,7 +2,7 @@
 -- ELF module, of which the first has a cleanup and the second a handler for the exception.
 use Rattle.std.specs.Prelude.{ℕ, List, [], ◌++◌, codes, false}
 use Rattle.unwind_laws.specs.Three as three
-use Rattle.format_laws.specs.FormatSample as mixed
+use Rattle.format_laws.specs.Sample as mixed
 use Rattle.format_laws.specs.PeSamples.{room_image}
 use Rattle.stack_steps.specs.FormatStopSample.{three_formats}
 use Rattle.delivery_laws.specs.StateRegisters.{registers_of}

@@ -1,6 +1,6 @@
 // Snapshots whose tables describe a chain, that of the stored run and others, and what is due for
 // them.
-ghost use Rattle.std.specs.Prelude.{◌≡◌, [], ◌∷◌, ◌++◌, Some, IsFalse, IsTrue, codes, slice_get};
+ghost use Rattle.std.specs.Prelude.{◌≡◌, [], ◌∷◌, ◌++◌, Some, None, IsFalse, IsTrue, codes, slice_get};
 ghost use Rattle.std.specs.List.{Contains};
 ghost use Rattle.unwind_definitions.specs.State.{Shows};
 ghost use Rattle.unwind_definitions.specs.Chain.{states_of};
@@ -10,7 +10,7 @@ ghost use Rattle.unwind_laws.specs.Storing as storing;
 ghost use Rattle.frame_facts_laws.specs.SampleProgram as layouts;
 ghost use Rattle.unwind_laws.specs.Three as three;
 ghost use Rattle.unwind_arch.specs.ContextViews.{columns_of};
-ghost use Rattle.format_definitions.specs.FormatCalls.{IsFormatCall};
+ghost use Rattle.format_definitions.specs.Calls.{IsDescribedCall};
 ghost use Rattle.stack_steps.specs.SpaceViews.{formats_of};
 ghost use Rattle.stack_snapshot.specs.Content.{space_of};
 ghost use Rattle.unwind_cli.specs.declared.words.Task.TheVariants as task;
@@ -30,7 +30,7 @@ ghost use Rattle.unwind_cli.specs.Landings as landings;
 ghost use Rattle.fact_deliveries.specs.LandingProgram as program;
 ghost use Rattle.frame_facts.specs.FactDeliveries.{delivery_to};
 ghost use Rattle.stack_deliver.specs.KnownDeliveries.{StartsKnownDelivery};
-ghost use Rattle.format_laws.specs.FormatSample as mixed;
+ghost use Rattle.format_laws.specs.Sample as mixed;
 ghost use Rattle.core_walks.specs.Lines.{stopped_text, text_before, text_after};
 ghost use Rattle.folded_stacks.specs.Folding.{chain_stack};
 ghost use Rattle.folded_stacks.specs.FoldSample.{sample_at};
@@ -44,7 +44,12 @@ ghost use Rattle.stack_walks.specs.Walking.{StartsChain};
 ghost use Rattle.table_check.specs.declared.verdict.Verdict.TheVariants.{Yes};
 ghost use Rattle.claim_checks.specs.Claimed.{Describes};
 ghost use Rattle.unwind_cli.specs.Checked.{claimed, claimed_json};
-ghost use Rattle.unwind_cli.specs.Due.{AsksCheck, AsksCore, AsksFold, checked_due, fold_from};
+ghost use Rattle.unwind_cli.specs.Due.{AsksAudit, AsksCheck, AsksCore, AsksFold, checked_due};
+ghost use Rattle.unwind_cli.specs.Due.{differences_due, fold_from};
+ghost use Rattle.unwind_cli.specs.AuditedSample as audited;
+ghost use Rattle.fact_claims.specs.Code.{claims_of, image_in, refusal_in};
+ghost use Rattle.frame_facts.specs.Claims.{SaysClaims};
+ghost use Rattle.table_check.specs.Modules.{module_of};
 ghost use Rattle.unwind_cli.specs.Stopped.{stopped, stopped_json, core, core_json, core_text};
 ghost use Rattle.unwind_cli.specs.Stopped.{stopped_sample, sampled};
 ghost use Rattle.unwind_cli.specs.Stopped.{sampled_json, sampled_text};
@@ -174,14 +179,14 @@ pub fn handler_of_a_pe_function_is_described()
 /// What a step asks of a call that it undoes is met by that function, which pushes, sets a frame
 /// pointer and allocates.
 pub fn pushed_call_is_described()
-    ensures call { IsFormatCall (space_of caught.first).image (formats_of (space_of caught.first))
+    ensures call { IsDescribedCall (space_of caught.first).image (formats_of (space_of caught.first))
         (three.fa ∷ []) three.start three.first_call }
     ensures shows { Shows (columns_of caught.first.start) three.start }
 {}
 
 /// And by one that allocates and stores a register.
 pub fn stored_call_is_described()
-    ensures call { IsFormatCall (space_of frame_pointer.snapshot).image
+    ensures call { IsDescribedCall (space_of frame_pointer.snapshot).image
         (formats_of (space_of frame_pointer.snapshot)) storing.functions storing.start
         (record { callee = storing.storing; caller = storing.caller }) }
     ensures shows { Shows (columns_of frame_pointer.snapshot.start) storing.start }
@@ -190,7 +195,7 @@ pub fn stored_call_is_described()
 /// And where that function is alone in its module and its frame table, and returns into itself: the
 /// caller is at the same return address, 32 bytes further up, with the R12 that was stored.
 pub fn allocated_call_is_described()
-    ensures call { IsFormatCall (space_of allocated.snapshot).image
+    ensures call { IsDescribedCall (space_of allocated.snapshot).image
         (formats_of (space_of allocated.snapshot)) (storing.storing ∷ []) allocated.start
         allocated.call }
     ensures shows { Shows (columns_of allocated.snapshot.start) allocated.start }
@@ -199,7 +204,7 @@ pub fn allocated_call_is_described()
 
 /// And by a function whose module names the header of its frame table.
 pub fn listed_call_is_described()
-    ensures call { IsFormatCall (space_of caught.by_header).image
+    ensures call { IsDescribedCall (space_of caught.by_header).image
         (formats_of (space_of caught.by_header)) three.functions three.start three.first_call }
     ensures shows { Shows (columns_of caught.by_header.start) three.start }
 {}
@@ -244,6 +249,17 @@ pub fn claimed_push_is_described()
     ensures read { AsksCheck (codes "check" ∷ []) (Some claimed_json) claimed }
     ensures described { Describes claimed }
     ensures written { (checked_due Yes).text ≡ codes "yes\n" }
+{}
+
+/// Claims of a small program's code meet what `run` asks of claims that a module's tables say, from
+/// their bytes on, and this text is then due.
+pub fn claimed_code_is_said()
+    ensures read { AsksAudit (codes "audit" ∷ []) (Some audited.json) audited.code }
+    ensures taken { refusal_in audited.code ≡ None }
+    ensures said { SaysClaims (image_in audited.code) (module_of 0x401000 0x401197
+        audited.code.frame) (claims_of audited.code) }
+    ensures written { (differences_due audited.code []).text ≡
+        codes "claims 4\ndiffer 0\nwithout a row 0\n" }
 {}
 
 /// A snapshot of a program that was stopped in an epilogue after two pops meets what `run` asks of a

@@ -143,7 +143,9 @@ static CASES: [Case; 14] = [
         words: &["check", "all"],
         input: &[],
         number: 2,
-        lines: &["usage: unwind_cli deliver | walk | generate COUNT SEED | fold | core | check"],
+        lines: &[
+            "usage: unwind_cli deliver | walk | generate COUNT SEED | fold | core | check | audit",
+        ],
     },
 ];
 

@@ -14,7 +14,8 @@ const TEXT_MODULE: &str =
 const OTHER_MODULE: &str =
     "\"}],\"modules\":[{\"kind\":\"coff\",\"base\":\"0x401000\",\"size\":\"0x10\",\"unwind_info\":\"0x0\"}],\"start\":";
 
-const USAGE: &str = "usage: unwind_cli deliver | walk | generate COUNT SEED | fold | core | check";
+const USAGE: &str =
+    "usage: unwind_cli deliver | walk | generate COUNT SEED | fold | core | check | audit";
 
 static CASES: [Case; 21] = [
     Case {

@@ -8,7 +8,7 @@ use Rattle.stack_report.specs.Digits.{hexadecimal}
 use Rattle.stack_report.specs.Report.{state_fields, state_line, pad_line, handler_line}
 use Rattle.stack_snapshot.specs.Answers.{value_of}
 use Rattle.stack_snapshot.specs.Snapshot.{regions_of, modules_of, start_of, resumes_of, limit_of, interrupted_of, whole_numbers, snapshot_of}
-use Rattle.delivery_laws.proofs.FormatStarts.{chain_starts, valid_starts}
+use Rattle.delivery_laws.proofs.Starts.{chain_starts, valid_starts}
 use Rattle.unwind_cli.specs.Formats.{json}
 use Rattle.unwind_cli.proofs.sample.calls_through_formats_are_described.Goals as goal
 

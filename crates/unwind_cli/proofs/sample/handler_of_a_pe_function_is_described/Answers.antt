@@ -10,7 +10,7 @@ use Rattle.stack_snapshot.specs.Answers.{value_of}
 use Rattle.stack_snapshot.specs.Snapshot.{regions_of, modules_of, start_of, resumes_of, limit_of, interrupted_of, whole_numbers, snapshot_of}
 use Rattle.format_samples.specs.Handlers.{in_pe}
 use Rattle.format_samples.proofs.HandlersValid.{valid_from_pe}
-use Rattle.delivery_laws.proofs.FormatStarts.{registers_show}
+use Rattle.delivery_laws.proofs.Starts.{registers_show}
 use Rattle.unwind_cli.specs.Handled.{pe_json}
 use Rattle.unwind_cli.proofs.sample.handler_of_a_pe_function_is_described.Goals as goal
 

@@ -10,7 +10,7 @@ use Rattle.stack_snapshot.specs.Answers.{value_of}
 use Rattle.stack_snapshot.specs.Snapshot.{regions_of, modules_of, start_of, resumes_of, limit_of, interrupted_of, whole_numbers, snapshot_of}
 use Rattle.format_samples.specs.Handlers.{in_macho}
 use Rattle.format_samples.proofs.HandlersValid.{valid_from_macho}
-use Rattle.delivery_laws.proofs.FormatStarts.{registers_show}
+use Rattle.delivery_laws.proofs.Starts.{registers_show}
 use Rattle.unwind_cli.specs.Handled.{json}
 use Rattle.unwind_cli.proofs.sample.handlers_of_three_formats_are_described.Goals as goal
 

@@ -1,0 +1,19 @@
+-- What is read of a small program's code (examples/frame_layouts.c), built by gcc at -O2: the claims of a worked example, in its tables.
+use Rattle.std.specs.Prelude.{ℕ, List, [], ◌∷◌, codes}
+use Rattle.frame_facts_laws.specs.SampleProgram as sample
+use Rattle.fact_checks.specs.SampleClaims as claimed
+use Rattle.fact_walks.specs.SampleSpace.{sample_module}
+use Rattle.fact_claims.specs.Code.{CodeContent}
+
+abbrev pub code : CodeContent
+code = record {
+  memory = record {
+    regions = record { start = 0x402008; bytes = sample.frames } ∷ record { start = 0x7fffffffecd8; bytes = sample.stack } ∷ [];
+    modules = sample_module ∷ [];
+  };
+  frame = claimed.frame;
+  claims = claimed.claims;
+}
+
+abbrev pub json : List ℕ
+json = codes "{\"regions\":[{\"address\":\"0x402008\",\"bytes\":\"1400000000000000017a5200017810011b0c070890010710100000001c00000008f0ffff22000000000000001400000000000000017a5200017810011b0c070890010000100000001c0000000cf0ffff0100000000000000100000003000000008f0ffff0100000000000000240000004400000004f0ffff2400000000410e108602440e188303470e20520e18440e10410e0800100000006c0000005cefffff01000000000000002400000080000000f8efffff2600000000410e108602440e188303480e20530e18440e10410e080014000000a800000021efffff18000000000e20830386020018000000c0000000e8efffff1800000000410e108302560e0800000024000000dc000000ecefffff2c00000000450e1083024b0e18500e20460e18410e10440e080000001c00000004010000f4efffff3300000000410e108602430d064183036a0c07081000000024010000c4eeffff0300000000000000100000003801000000f0ffff2700000000470e10\"},{\"address\":\"0x7fffffffecd8\",\"bytes\":\"08000000000000006b00000000000000111040000000000000000000000000000700000000000000b0edffffff7f0000f310400000000000070000000000000025114000000000006b000000000000000700000000000000070000000000000053114000000000000700000000000000000000000000000000000000000000000000000000000000000000000000000000000000000000000000000000000000000000000000000000000000000000000000000000000000000000000000000000000000000000000000000000000000000000000000000000000000000000007f1140000000000000000000000000005110400000000000d8edffffff7f0000\"}],\"modules\":[{\"kind\":\"elf\",\"start\":\"0x401000\",\"end\":\"0x401197\",\"eh_frame\":\"0x402008\"}],\"claims\":[{\"from\":\"0x401001\",\"to\":\"0x401019\",\"rsp\":\"0x20\",\"saved\":{\"rbx\":\"0x18\",\"rbp\":\"0x10\"},\"kept\":[\"r12\",\"r13\",\"r14\",\"r15\"]},{\"from\":\"0x40108c\",\"to\":\"0x40109e\",\"rsp\":\"0x20\",\"saved\":{\"rbx\":\"0x18\",\"rbp\":\"0x10\"},\"kept\":[\"r12\",\"r13\",\"r14\",\"r15\"]},{\"from\":\"0x4010a3\",\"to\":\"0x4010a4\",\"rsp\":\"0x8\",\"saved\":{\"rbx\":\"0x18\",\"rbp\":\"0x10\"},\"kept\":[\"rbx\",\"rbp\",\"r12\",\"r13\",\"r14\",\"r15\"]},{\"from\":\"0x401120\",\"to\":\"0x401126\",\"rsp\":\"0x20\",\"saved\":{\"rbx\":\"0x10\"},\"kept\":[\"rbp\",\"r12\",\"r13\",\"r14\",\"r15\"]}]}"
