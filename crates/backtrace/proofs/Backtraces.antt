@@ -1,5 +1,5 @@
 -- A snapshot has one backtrace, and what is due is by it.
-use Rattle.std.proofs.Common.{inl, inr, ◌≡◌, ℕ, ◌-◌, ◌^◌, Bool, true, false, List, length, Option, Some, None, Result, Ok, Err, refl, sym, ap, ◌∙◌, ltb}
+use Rattle.std.proofs.Common.{inl, inr, ◌≡◌, ℕ, ◌+◌, ◌-◌, ◌^◌, ◌++◌, Bool, true, false, List, [], ◌∷◌, length, Option, Some, None, Result, Ok, Err, refl, sym, ap, ◌∙◌, ltb}
 use Rattle.std.specs.Prelude.{IfSome, codes, if◌then◌else◌}
 use Rattle.std.proofs.lemmas.Bool.{le-ltb}
 use Rattle.unwind_arch.specs.declared.x86_64.Context.{Context}
@@ -14,11 +14,16 @@ use Rattle.stack_snapshot.specs.declared.errors.SnapshotError.TheVariants as fau
 use Rattle.stack_snapshot.specs.Answers.{content_of, value_of}
 use Rattle.stack_snapshot.specs.Content.{Content, space_of}
 use Rattle.stack_snapshot.specs.Origins.{OriginValue, origins_by}
+use Rattle.stack_snapshot.specs.Sampled.{SampledContent, sampled_in, sampled_space}
 use Rattle.stack_report.specs.Report.{line}
+use Rattle.folded_stacks.specs.declared.samples.Sample.{Sample}
 use Rattle.backtrace.specs.declared.words.Options.{Options}
 use Rattle.backtrace.specs.Options.{options_of}
-use Rattle.backtrace.specs.Tracing.{TraceValue, IsTraceFrom, called_from}
-use Rattle.backtrace.specs.Due.{IsTraceOf, IsBacktraceOf, IsBacktraceBy, IsBacktrace, text_of, content_due, options_due, due_of, Asks}
+use Rattle.backtrace.specs.Tracing.{TraceValue, IsTrace, IsTraceFrom, called_from}
+use Rattle.backtrace.specs.Lines.{backtrace_text, thread_line}
+use Rattle.backtrace.specs.Threads.{AreThreads, IsThreadsOf}
+use Rattle.backtrace.specs.Due.{IsTraceOf, IsBacktraceOf, IsBacktraceBy, IsBacktraceIn, IsOfSamples, IsOfSnapshot, IsBacktrace, text_of}
+use Rattle.backtrace.specs.Due.{content_due, error_in, error_of, read_due, options_due, due_of, Asks, AsksSamples}
 
 -- ---- one trace
 
@@ -31,38 +36,60 @@ one_from None space c interrupted limit t u is other =
 one_from (Some d) space c interrupted limit t u is other =
     same_parts t u (is.0 ∙ sym other.0) (is.1.states ∙ sym other.1.states) (one_front space (limit - 1) (start_state d false) t.why u.why is.1.why other.1.why)
 
-pub one_trace : (s : Content) (t u : TraceValue) → IsTraceOf s t → IsTraceOf s u → t ≡ u
-one_trace s t u is other = one_from (called_from (space_of s) s.start s.interrupted) (space_of s) s.start s.interrupted s.limit t u is other
+pub one_traced : (space : SpaceValue) (c : Context) (interrupted : Bool) (limit : ℕ) (t u : TraceValue) → IsTrace space c interrupted limit t → IsTrace space c interrupted limit u → t ≡ u
+one_traced space c interrupted limit t u is other = one_from (called_from space c interrupted) space c interrupted limit t u is other
 
 -- ---- one backtrace
 
-pub one_backtrace : (o : Options) (s : Content) (origins : List OriginValue) (x y : List ℕ) → IsBacktraceOf o s origins x → IsBacktraceOf o s origins y → x ≡ y
-one_backtrace o s origins x y is other = is.2 ∙ (ap (text_of o s origins) (one_trace s is.0 other.0 is.1 other.1) ∙ sym other.2)
+one_backtrace : (o : Options) (s : Content) (origins : List OriginValue) (x y : List ℕ) → IsBacktraceOf o s origins x → IsBacktraceOf o s origins y → x ≡ y
+one_backtrace o s origins x y is other = is.2 ∙ (ap (text_of o s origins) (one_traced (space_of s) s.start s.interrupted s.limit is.0 other.0 is.1 other.1) ∙ sym other.2)
+
+one_of_threads : (o : Options) (space : SpaceValue) (limit : ℕ) (origins : List OriginValue) (index : ℕ) (xs : List Sample) (a b : List ℕ) → AreThreads o space limit origins index xs a → AreThreads o space limit origins index xs b → a ≡ b
+one_of_threads o space limit origins index [] a b is other = is ∙ sym other
+one_of_threads o space limit origins index (x ∷ xs) a b is other =
+    let traced = one_traced space x.start x.interrupted limit is.2.0 other.2.0 is.2.1 other.2.1 in
+    let own : is.0 ≡ other.0 = is.2.2 ∙ (ap (λ t. thread_line index ++ backtrace_text o.registers x.interrupted origins t) traced ∙ sym other.2.2) in
+    let rest : is.1 ≡ other.1 = one_of_threads o space limit origins (index + 1) xs is.1 other.1 is.3 other.3 in
+    is.4 ∙ (ap (λ n. n ++ is.1) own ∙ (ap (λ n. other.0 ++ n) rest ∙ sym other.4))
+
+one_of_snapshot : (o : Options) (r : Result Content SnapshotError) (origins : List OriginValue) (x y : List ℕ) → error_of r ≡ None → IsOfSnapshot o r origins x → IsOfSnapshot o r origins y → x ≡ y
+one_of_snapshot o (Err e) origins x y none is other = absurd cc
+one_of_snapshot o (Ok s) origins x y none is other = one_backtrace o s origins x y is other
+
+one_of_samples : (o : Options) (r : Result SampledContent SnapshotError) (origins : List OriginValue) (x y : List ℕ) → error_of r ≡ None → IsOfSamples o r origins x → IsOfSamples o r origins y → x ≡ y
+one_of_samples o (Err e) origins x y none is other = absurd cc
+one_of_samples o (Ok s) origins x y none is other = one_of_threads o (sampled_space s) s.limit origins 0 s.samples x y is other
+
+pub one_read : (several : Bool) (o : Options) (bytes x y : List ℕ) → error_in several bytes ≡ None → IsBacktraceIn several o bytes x → IsBacktraceIn several o bytes y → x ≡ y
+one_read false o bytes x y none is other = one_of_snapshot o (content_of bytes) (origins_by (value_of bytes)) x y none is other
+one_read true o bytes x y none is other = one_of_samples o (sampled_in bytes) (origins_by (value_of bytes)) x y none is other
 
 -- ---- what is due by it
 
--- an answer that is due by its own text is due by the backtrace, which is that text where the answer is one
-ready_content : (o : Options) (r : Result Content SnapshotError) (origins : List OriginValue) (x text : List ℕ) (status : Status) → IsReadyOrFailed (content_due x r) status x
-    → (status ≡ Done → IsBacktraceBy (Some o) r origins x) → IsBacktraceBy (Some o) r origins text → IsReadyOrFailed (content_due text r) status x
-ready_content o (Err (faults.Bad field)) origins x text status ready done is = ready
-ready_content o (Err faults.NotJson) origins x text status ready done is = ready
-ready_content o (Err faults.NoMemory) origins x text status ready done is = ready
-ready_content o (Ok s) origins x text status (inl failed) done is = inl failed
-ready_content o (Ok s) origins x text status (inr (inl none)) done is = inr (inl none)
-ready_content o (Ok s) origins x text status (inr (inr told)) done is = inr (inr (told.0, one_backtrace o s origins x text (done told.0) is))
+-- an answer that is due by its own text is due by another, which is that text where it is an answer
+ready_content : {X : Type 0} (r : Result X SnapshotError) (x text : List ℕ) (status : Status) → IsReadyOrFailed (content_due x r) status x
+    → (error_of r ≡ None → status ≡ Done → x ≡ text) → IsReadyOrFailed (content_due text r) status x
+ready_content (Err e) x text status ready same = ready
+ready_content (Ok s) x text status (inl failed) same = inl failed
+ready_content (Ok s) x text status (inr (inl none)) same = inr (inl none)
+ready_content (Ok s) x text status (inr (inr told)) same = inr (inr (told.0, same refl told.0))
 
-ready_sized : (b : Bool) (o : Options) (r : Result Content SnapshotError) (origins : List OriginValue) (x text : List ℕ) (status : Status)
-    → IsReadyOrFailed (if b then verdict TooLong (line (codes "too long")) else content_due x r) status x
-    → (status ≡ Done → IsBacktraceBy (Some o) r origins x) → IsBacktraceBy (Some o) r origins text
-    → IsReadyOrFailed (if b then verdict TooLong (line (codes "too long")) else content_due text r) status x
-ready_sized true o r origins x text status ready done is = ready
-ready_sized false o r origins x text status ready done is = ready_content o r origins x text status ready done is
+ready_read : (several : Bool) (o : Options) (bytes x text : List ℕ) (status : Status) → IsReadyOrFailed (read_due several x bytes) status x
+    → (status ≡ Done → IsBacktraceIn several o bytes x) → IsBacktraceIn several o bytes text → IsReadyOrFailed (read_due several text bytes) status x
+ready_read false o bytes x text status ready done is = ready_content (content_of bytes) x text status ready (λ none all. one_read false o bytes x text none (done all) is)
+ready_read true o bytes x text status ready done is = ready_content (sampled_in bytes) x text status ready (λ none all. one_read true o bytes x text none (done all) is)
+
+ready_sized : (b : Bool) (o : Options) (bytes x text : List ℕ) (status : Status)
+    → IsReadyOrFailed (if b then verdict TooLong (line (codes "too long")) else read_due o.samples x bytes) status x
+    → (status ≡ Done → IsBacktraceIn o.samples o bytes x) → IsBacktraceIn o.samples o bytes text
+    → IsReadyOrFailed (if b then verdict TooLong (line (codes "too long")) else read_due o.samples text bytes) status x
+ready_sized true o bytes x text status ready done is = ready
+ready_sized false o bytes x text status ready done is = ready_read o.samples o bytes x text status ready done is
 
 ready_by : (o : Option Options) (bytes x text : List ℕ) (status : Status) → IsReadyOrFailed (options_due x o bytes) status x
-    → (status ≡ Done → IsBacktraceBy o (content_of bytes) (origins_by (value_of bytes)) x) → IsBacktraceBy o (content_of bytes) (origins_by (value_of bytes)) text
-    → IsReadyOrFailed (options_due text o bytes) status x
+    → (status ≡ Done → IsBacktraceBy o bytes x) → IsBacktraceBy o bytes text → IsReadyOrFailed (options_due text o bytes) status x
 ready_by None bytes x text status ready done is = ready
-ready_by (Some o) bytes x text status ready done is = ready_sized (ltb (2 ^ 26) (length bytes)) o (content_of bytes) (origins_by (value_of bytes)) x text status ready done is
+ready_by (Some o) bytes x text status ready done is = ready_sized (ltb (2 ^ 26) (length bytes)) o bytes x text status ready done is
 
 pub ready_with : (words : List (List ℕ)) (bytes x text : List ℕ) (status : Status) → IsReadyOrFailed (due_of words bytes x) status x
     → (status ≡ Done → IsBacktrace words bytes x) → IsBacktrace words bytes text → IsReadyOrFailed (due_of words bytes text) status x
@@ -73,12 +100,20 @@ pub if_some_both : {A : Type 0} (o : Option A) (S : Type 0) (P Q R : A → Type 
 if_some_both None S P Q R h p q = tt
 if_some_both (Some x) S P Q R h p q = h x p q
 
--- ---- of a snapshot that is asked for
+-- ---- of what is asked for
 
 pub asked_due : (o : Options) (words : List (List ℕ)) (source : Option (List ℕ)) (s : Content) (origins : List OriginValue) (text : List ℕ) (asks : Asks o words source s origins) → due_of words asks.bytes text ≡ verdict Done text
 asked_due o words source s origins text asks =
-    let read : due_of words asks.bytes text ≡ content_due text (content_of asks.bytes) = rw (asks.named, le-ltb (2 ^ 26) (length asks.bytes) asks.short) refl in
+    let read : due_of words asks.bytes text ≡ content_due text (content_of asks.bytes) = rw (asks.named, asks.single, le-ltb (2 ^ 26) (length asks.bytes) asks.short) refl in
     read ∙ ap (content_due text) asks.reads
 
 pub asked_backtrace : (o : Options) (words : List (List ℕ)) (source : Option (List ℕ)) (s : Content) (origins : List OriginValue) (t : TraceValue) (asks : Asks o words source s origins) → IsTraceOf s t → IsBacktrace words asks.bytes (text_of o s origins t)
-asked_backtrace o words source s origins t asks is = rw (asks.named, asks.reads, asks.files) (t, is, refl)
+asked_backtrace o words source s origins t asks is = rw (asks.named, asks.single, asks.reads, asks.files) (t, is, refl)
+
+pub sampled_due : (o : Options) (words : List (List ℕ)) (source : Option (List ℕ)) (s : SampledContent) (origins : List OriginValue) (text : List ℕ) (asks : AsksSamples o words source s origins) → due_of words asks.bytes text ≡ verdict Done text
+sampled_due o words source s origins text asks =
+    let read : due_of words asks.bytes text ≡ content_due text (sampled_in asks.bytes) = rw (asks.named, asks.several, le-ltb (2 ^ 26) (length asks.bytes) asks.short) refl in
+    read ∙ ap (content_due text) asks.reads
+
+pub sampled_backtraces : (o : Options) (words : List (List ℕ)) (source : Option (List ℕ)) (s : SampledContent) (origins : List OriginValue) (text : List ℕ) (asks : AsksSamples o words source s origins) → IsThreadsOf o s origins text → IsBacktrace words asks.bytes text
+sampled_backtraces o words source s origins text asks is = rw (asks.named, asks.several, asks.reads, asks.files) is

@@ -9,8 +9,8 @@ use Rattle.unwind_definitions.specs.State.{CalleeSaved, RBX, RBP, R12, R13, R14,
 use Rattle.unwind_definitions.specs.Entered.{IsEntered}
 use Rattle.unwind_definitions.specs.Function.{Function}
 use Rattle.unwind_definitions.specs.Chain.{Call, states_of, last_state, IsChain}
-use Rattle.format_definitions.specs.FormatModules.{IsUncoveredBy}
-use Rattle.format_definitions.specs.FormatStops.{IsFormatStop}
+use Rattle.format_definitions.specs.Modules.{IsUncoveredBy}
+use Rattle.format_definitions.specs.Stops.{IsDescribedStop}
 use Rattle.unwind_arch.specs.declared.x86_64.Context.{Context}
 use Rattle.unwind_arch.specs.ContextViews.{columns_of}
 use Rattle.format_frames.specs.declared.machine.Stepped.{Stepped}
@@ -21,7 +21,7 @@ use Rattle.stack_steps.specs.SpaceViews.{formats_of}
 use Rattle.stack_steps.specs.Stepping.{step_of, EndsAt}
 use Rattle.stack_steps.specs.Undoing.{UndoneIn}
 use Rattle.stack_steps.proofs.ContextLemmas.{IsWhole}
-use Rattle.stack_steps.proofs.FormatMet.{format_stopped}
+use Rattle.stack_steps.proofs.MetCalls.{format_stopped}
 use Rattle.stack_steps.proofs.StepAnswers.{ends_step}
 use Rattle.stack_walks.specs.Fronts.{start_state, front_of, front_of_chain}
 use Rattle.stack_walks.specs.Walking.{StartsChain}
@@ -147,7 +147,7 @@ module _ (s : Content) (apart : AreApart 0 (space_of s).modules) (laid : IsLaidO
       let w = stopped_walked (space_of s) functions start call calls s.start apart laid s.limit is.1 in
       let all : front_of (space_of s) s.limit s.start true ≡ w.0 = line_whole (space_of s) s.limit (start_state s.start true) w.0 w.1 in
       let shown : map state_of (front_of (space_of s) s.limit s.start s.interrupted) ≡ states_of start (call ∷ calls) = rw (is.0, all) (shown_states w.0 (states_of start (call ∷ calls)) w.2.states) in
-      let stop : IsFormatStop (space_of s).image (formats_of (space_of s)) functions start call = is.1.stopped in
+      let stop : IsDescribedStop (space_of s).image (formats_of (space_of s)) functions start call = is.1.stopped in
       let step : UndoneIn stop.lies.home (step_of (space_of s) s.start true) (columns_of s.start) call.caller = format_stopped (space_of s) s.start functions start call apart laid stop is.1.shows in
       let none : called_from (space_of s) s.start true ≡ None = stepped_somewhere (space_of s) s.start step.next step.answered in
       let why = stop_comes (space_of s) apart laid s.start s.limit functions start call calls is.1 in (

@@ -5,3 +5,5 @@ pub mod Ends
 pub mod NullCall
 pub mod Written
 pub mod KnownTraces
+pub mod ThreadLines
+pub mod Faults

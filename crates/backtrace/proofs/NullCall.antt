@@ -6,7 +6,7 @@ use Rattle.unwind_definitions.specs.Entered.{IsEntered}
 use Rattle.unwind_arch.specs.ContextViews.{columns_of}
 use Rattle.unwind_laws.proofs.Booleans.{none_in_nil}
 use Rattle.unwind_laws.proofs.RowFacts.{state_fits}
-use Rattle.format_definitions.specs.FormatModules.{IsFormatChain}
+use Rattle.format_definitions.specs.Modules.{IsDescribedChain}
 use Rattle.stack_steps.specs.SpaceViews.{formats_of}
 use Rattle.stack_snapshot.specs.Content.{space_of}
 use Rattle.backtrace.specs.Sample.{callee, caller, snapshot}
@@ -43,7 +43,7 @@ fits : IsState caller
 fits = state_fits caller (lit< tt) (lit< tt) (lit< tt) (lit< tt) (lit< tt) (lit< tt) (lit< tt) (lit< tt)
 
 -- no module holds the caller's return address
-alone : IsFormatChain (space_of snapshot).image (formats_of (space_of snapshot)) [] caller []
+alone : IsDescribedChain (space_of snapshot).image (formats_of (space_of snapshot)) [] caller []
 alone = record { chain = record { state = fits; ends = inr (returns_somewhere, λ m has. absurd (none_in_nil m has)) }; described = tt; ends = inr (λ m has. absurd (none_in_nil m has)) }
 
 pub described : DescribesCallToNowhere snapshot [] callee caller []

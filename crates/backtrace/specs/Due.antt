@@ -1,10 +1,10 @@
 -- What a run is to answer, and what it is to write.
-use Rattle.std.specs.Prelude.{◌≡◌, ◌≢◌, ℕ, ◌+◌, ◌^◌, ◌<◌, ◌≤◌, true, false, List, [], ◌∷◌, length, Option, Some, None, Result, Ok, Err}
+use Rattle.std.specs.Prelude.{◌≡◌, ◌≢◌, ℕ, ◌+◌, ◌^◌, ◌<◌, ◌≤◌, Bool, true, false, List, [], ◌∷◌, length, Option, Some, None, Result, Ok, Err}
 use Rattle.unwind_definitions.specs.State.{State, Shows}
 use Rattle.unwind_definitions.specs.Entered.{IsEntered}
 use Rattle.unwind_definitions.specs.Function.{Function}
 use Rattle.unwind_definitions.specs.Chain.{Call, states_of, last_state}
-use Rattle.format_definitions.specs.FormatModules.{IsFormatChain}
+use Rattle.format_definitions.specs.Modules.{IsDescribedChain}
 use Rattle.unwind_arch.specs.ContextViews.{columns_of}
 use Rattle.stack_steps.specs.SpaceViews.{formats_of}
 use Rattle.command_ends.specs.declared.status.Status.TheVariants.{Done, Usage}
@@ -15,9 +15,11 @@ use Rattle.stack_snapshot.specs.declared.errors.SnapshotError.{SnapshotError}
 use Rattle.stack_snapshot.specs.Answers.{content_of, value_of}
 use Rattle.stack_snapshot.specs.Content.{Content, space_of}
 use Rattle.stack_snapshot.specs.Origins.{OriginValue, origins_by}
+use Rattle.stack_snapshot.specs.Sampled.{SampledContent, sampled_in}
 use Rattle.backtrace.specs.declared.words.Options.{Options}
 use Rattle.backtrace.specs.Options.{options_of}
 use Rattle.backtrace.specs.Tracing.{TraceValue, IsNowhere, IsTrace}
+use Rattle.backtrace.specs.Threads.{IsThreadsOf}
 use Rattle.backtrace.specs.Lines.{backtrace_text, form_with, states_text, usage_line}
 
 -- the trace of a snapshot
@@ -41,7 +43,7 @@ pub record DescribesCallToNowhere (s : Content) (functions : List Function) (sta
   pub entered : IsEntered (space_of s).image false [] caller start
   pub returns : caller.ra ≢ 0
   pub shows : Shows (columns_of s.start) start
-  pub described : IsFormatChain (space_of s).image (formats_of (space_of s)) functions caller calls
+  pub described : IsDescribedChain (space_of s).image (formats_of (space_of s)) functions caller calls
   pub shorter : length calls + 1 < s.limit
 
 -- the lines of the start and of that chain, where it is said that the return address was read from the stack
@@ -53,37 +55,81 @@ called_text o s origins start caller calls =
 abbrev pub IsBacktraceOf : Options → Content → List OriginValue → List ℕ → Type 0
 IsBacktraceOf o s origins text = (t : TraceValue) × IsTraceOf s t × (text ≡ text_of o s origins t)
 
--- A text is the backtrace that the words ask for of the snapshot that the bytes say. Without either any text is.
-abbrev pub IsBacktraceBy : Option Options → Result Content SnapshotError → List OriginValue → List ℕ → Type 0
-IsBacktraceBy None content origins text = Unit {0}
-IsBacktraceBy (Some o) (Err e) origins text = Unit {0}
-IsBacktraceBy (Some o) (Ok s) origins text = IsBacktraceOf o s origins text
+-- The same of the snapshot that bytes say, and of samples. Where they say neither any text is.
+abbrev pub IsOfSnapshot : Options → Result Content SnapshotError → List OriginValue → List ℕ → Type 0
+IsOfSnapshot o (Err e) origins text = Unit {0}
+IsOfSnapshot o (Ok s) origins text = IsBacktraceOf o s origins text
+
+abbrev pub IsOfSamples : Options → Result SampledContent SnapshotError → List OriginValue → List ℕ → Type 0
+IsOfSamples o (Err e) origins text = Unit {0}
+IsOfSamples o (Ok s) origins text = IsThreadsOf o s origins text
+
+-- by whether samples are asked for
+abbrev pub IsBacktraceIn : Bool → Options → List ℕ → List ℕ → Type 0
+IsBacktraceIn false o bytes text = IsOfSnapshot o (content_of bytes) (origins_by (value_of bytes)) text
+IsBacktraceIn true o bytes text = IsOfSamples o (sampled_in bytes) (origins_by (value_of bytes)) text
+
+-- A text is the backtrace that the words ask for, or those of samples. Without such words any text is.
+abbrev pub IsBacktraceBy : Option Options → List ℕ → List ℕ → Type 0
+IsBacktraceBy None bytes text = Unit {0}
+IsBacktraceBy (Some o) bytes text = IsBacktraceIn o.samples o bytes text
 
 abbrev pub IsBacktrace : List (List ℕ) → List ℕ → List ℕ → Type 0
-IsBacktrace words bytes text = IsBacktraceBy (options_of words) (content_of bytes) (origins_by (value_of bytes)) text
+IsBacktrace words bytes text = IsBacktraceBy (options_of words) bytes text
 
--- what is due by a backtrace of the snapshot, if there is one
-abbrev pub content_due : List ℕ → Result Content SnapshotError → Verdict
-content_due text (Ok s) = verdict Done text
+-- what is due by a text of what was read, if it was
+abbrev pub content_due : {X : Type 0} → List ℕ → Result X SnapshotError → Verdict
+content_due text (Ok x) = verdict Done text
 content_due text (Err error) = fault_due error
 
--- at most 67,108,864 bytes are read as a snapshot
-abbrev pub bytes_due : List ℕ → List ℕ → Verdict
-bytes_due text bytes = within_limit bytes (content_due text (content_of bytes))
+abbrev pub read_due : Bool → List ℕ → List ℕ → Verdict
+read_due false text bytes = content_due text (content_of bytes)
+read_due true text bytes = content_due text (sampled_in bytes)
+
+-- at most 67,108,864 bytes are read
+abbrev pub bytes_due : Options → List ℕ → List ℕ → Verdict
+bytes_due o text bytes = within_limit bytes (read_due o.samples text bytes)
 
 abbrev pub options_due : List ℕ → Option Options → List ℕ → Verdict
 options_due text None bytes = verdict Usage usage_line
-options_due text (Some o) bytes = bytes_due text bytes
+options_due text (Some o) bytes = bytes_due o text bytes
 
--- What is due for the words and all bytes of the source, where the text is the backtrace that they ask for.
+-- What is due for the words and all bytes of the source, where the text is what they ask for.
 abbrev pub due_of : List (List ℕ) → List ℕ → List ℕ → Verdict
 due_of words bytes text = options_due text (options_of words) bytes
+
+-- why bytes say no snapshot, or no samples, where they don't
+abbrev pub error_of : {X : Type 0} → Result X SnapshotError → Option SnapshotError
+error_of (Ok x) = None
+error_of (Err error) = Some error
+
+abbrev pub error_in : Bool → List ℕ → Option SnapshotError
+error_in false bytes = error_of (content_of bytes)
+error_in true bytes = error_of (sampled_in bytes)
+
+-- the words name options, and what these ask for can't be read of the bytes, at most 67,108,864, for this cause
+pub record IsFaulty (words : List (List ℕ)) (bytes : List ℕ) (error : SnapshotError) : Type 0 where
+  pub options : Options
+  pub named : options_of words ≡ Some options
+  pub short : length bytes ≤ 2 ^ 26
+  pub faulty : error_in options.samples bytes ≡ Some error
 
 -- the words name options, and all bytes of the source, at most 67,108,864, are the snapshot of modules from these files
 pub record Asks (o : Options) (words : List (List ℕ)) (source : Option (List ℕ)) (s : Content) (origins : List OriginValue) : Type 0 where
   pub bytes : List ℕ
   pub named : options_of words ≡ Some o
+  pub single : o.samples ≡ false
   pub source_is : source ≡ Some bytes
   pub short : length bytes ≤ 2 ^ 26
   pub reads : content_of bytes ≡ Ok s
+  pub files : origins_by (value_of bytes) ≡ origins
+
+-- the words ask for samples, and all bytes of the source, at most 67,108,864, are these, of modules from these files
+pub record AsksSamples (o : Options) (words : List (List ℕ)) (source : Option (List ℕ)) (s : SampledContent) (origins : List OriginValue) : Type 0 where
+  pub bytes : List ℕ
+  pub named : options_of words ≡ Some o
+  pub several : o.samples ≡ true
+  pub source_is : source ≡ Some bytes
+  pub short : length bytes ≤ 2 ^ 26
+  pub reads : sampled_in bytes ≡ Ok s
   pub files : origins_by (value_of bytes) ≡ origins

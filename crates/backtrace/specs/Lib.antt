@@ -1,8 +1,10 @@
 pub mod Options
 pub mod Tracing
 pub mod Lines
+pub mod Threads
 pub mod Due
 pub mod Sample
 pub mod ChainSample
 pub mod KnownStacks
 pub mod KnownSample
+pub mod SignalSample

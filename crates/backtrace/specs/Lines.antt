@@ -127,7 +127,13 @@ form_of registers interrupted origins t = form_with registers interrupted origin
 unfoldable pub backtrace_text : Bool → Bool → List OriginValue → TraceValue → List ℕ
 backtrace_text registers interrupted origins t = states_text (form_of registers interrupted origins t) (shown_states (contexts_of t)) t.why
 
+-- ---- the whole text of threads
+
+-- the number of a thread, before its backtrace
+unfoldable pub thread_line : ℕ → List ℕ
+thread_line index = line (codes "thread " ++ decimal index)
+
 -- ---- the lines in its place
 
 abbrev pub usage_line : List ℕ
-usage_line = line (codes "usage: backtrace [--registers]")
+usage_line = line (codes "usage: backtrace [--registers] [--samples]")

@@ -1,13 +1,22 @@
 -- What words ask for.
-use Rattle.std.specs.Prelude.{ℕ, true, false, List, [], ◌∷◌, Option, Some, None, codes, if◌then◌else◌}
+use Rattle.std.specs.Prelude.{ℕ, true, false, List, [], ◌∷◌, Option, Some, None, codes, if◌then◌else◌, option_and_then}
 use Rattle.std.specs.Str.{bytes_eq}
 use Rattle.backtrace.specs.declared.words.Options.{Options}
 
-abbrev pub option_named : List ℕ → Option Options
-option_named word = if bytes_eq word (codes "--registers") then Some (record { registers = true }) else None
+-- without words
+abbrev pub plain : Options
+plain = record { registers = false; samples = false }
 
--- no word, or one that names an option
+-- options, and the one that a word names
+abbrev pub with_option : List ℕ → Options → Option Options
+with_option word o =
+    if bytes_eq word (codes "--registers") then Some (record o { registers = true })
+    else if bytes_eq word (codes "--samples") then Some (record o { samples = true })
+    else None
+
+-- no word, or one or two that name options
 abbrev pub options_of : List (List ℕ) → Option Options
-options_of [] = Some (record { registers = false })
-options_of (word ∷ []) = option_named word
-options_of (word ∷ other ∷ more) = None
+options_of [] = Some plain
+options_of (word ∷ []) = with_option word plain
+options_of (word ∷ other ∷ []) = option_and_then (with_option other) (with_option word plain)
+options_of (word ∷ other ∷ third ∷ more) = None

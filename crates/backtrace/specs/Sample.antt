@@ -5,6 +5,7 @@ use Rattle.unwind_definitions.specs.Function.{Function}
 use Rattle.unwind_arch.specs.declared.x86_64.Context.{Context}
 use Rattle.stack_walks.specs.declared.front.Front.TheVariants.{NoModule}
 use Rattle.stack_snapshot.specs.Content.{Content}
+use Rattle.stack_snapshot.specs.Sampled.{SampledContent}
 use Rattle.stack_report.specs.Report.{line}
 use Rattle.backtrace.specs.Tracing.{TraceValue}
 
@@ -50,3 +51,26 @@ caller = state 0x1005 0x7008
 
 abbrev pub entry : Function
 entry = record { start = 0; end = 0x10; prologue = []; bodies = record { from = 4; to = 0x10 } ∷ []; sites = None; outermost = false }
+
+-- ---- two threads: that one, and one that stands after a call in no module
+
+abbrev pub samples : SampledContent
+samples = record {
+  regions = snapshot.regions;
+  modules = [];
+  samples = record { start = context 0 0x7000; interrupted = true } ∷ record { start = context 0x1005 0x7000; interrupted = false } ∷ [];
+  limit = 2;
+}
+
+abbrev pub other_trace : TraceValue
+other_trace = record { first = None; states = context 0x1005 0x7000 ∷ []; why = NoModule 0x1004 }
+
+abbrev pub other_text : List ℕ
+other_text = line (codes "#0  0x0000000000001005")
+    ++ line (codes "end: no module holds 0x0000000000001004")
+
+abbrev pub threads : List ℕ
+threads = (line (codes "thread 0") ++ text) ++ ((line (codes "thread 1") ++ other_text) ++ [])
+
+abbrev pub samples_json : List ℕ
+samples_json = codes "{\"regions\":[{\"address\":\"0x7000\",\"bytes\":\"0510000000000000\"}],\"modules\":[],\"samples\":[{\"start\":{\"rip\":\"0x0\",\"rsp\":\"0x7000\"},\"interrupted\":true},{\"start\":{\"rip\":\"0x1005\",\"rsp\":\"0x7000\"}}],\"limit\":2}"

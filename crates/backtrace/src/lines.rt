@@ -7,7 +7,7 @@ ghost use Rattle.backtrace.specs.Lines.{kept_text, limit_text, no_module_text, n
 ghost use Rattle.backtrace.specs.Lines.{origin_text, place_text, registers_text, rest_text};
 ghost use Rattle.backtrace.specs.Lines.{contexts_of, shown_states, states_text};
 ghost use Rattle.backtrace.specs.Lines.{undescribed_text, unread_text, usage_line};
-ghost use Rattle.backtrace.specs.Lines.{why_text};
+ghost use Rattle.backtrace.specs.Lines.{thread_line, why_text};
 
 use crate::tracing::Trace;
 use stack_deliver::{Context, DeliverError, Error, Front, Stepped};
@@ -307,21 +307,17 @@ fn put_end(report: &mut Report, origins: &Origins, why: Front) -> Result<(), All
     report.end_line()
 }
 
-/// The lines of a trace: one for each frame, and one that says why there are no more.
-///
-/// # Errors
-///
-/// `AllocError` where memory ran out.
+/// Puts the lines of a trace last: one for each frame, and one that says why there are no more.
 #[tactic(auto, unfolding(crate::specs::Lines::backtrace_text, crate::specs::Lines::states_text))]
-pub fn backtrace_of(
-    alloc: Global,
+pub fn put_backtrace(
+    report: &mut Report,
     registers: bool,
     interrupted: bool,
     origins: &Origins,
     trace: &Trace,
-) -> Result<Report, AllocError>
-    ensures { IfOk result
-        (λ report. report ≡ backtrace_text registers interrupted origins.now trace.now) }
+) -> Result<(), AllocError>
+    ensures { OnOk result (report.new ≡ report.old ++
+        backtrace_text registers interrupted origins.now trace.now) }
 {
     let form = Form {
         registers,
@@ -329,15 +325,22 @@ pub fn backtrace_of(
         called: trace.first().is_some(),
         origins,
     };
-    let mut report = Report::new(alloc);
-    put_states(&mut report, &form, trace)?;
-    put_end(&mut report, origins, trace.why())?;
-    Ok(report)
+    put_states(report, &form, trace)?;
+    put_end(report, origins, trace.why())
+}
+
+/// Puts a thread's number last.
+#[tactic(auto, unfolding(crate::specs::Lines::thread_line))]
+pub fn put_thread_line(report: &mut Report, index: usize) -> Result<(), AllocError>
+    ensures { OnOk result (report.new ≡ report.old ++ thread_line index) }
+{
+    report.put_count("thread ", index)?;
+    report.end_line()
 }
 
 /// Says which words there are.
 pub fn usage_line(alloc: Global) -> Result<Report, AllocError>
     ensures { IfOk result (λ report. report ≡ usage_line) }
 {
-    line_of(alloc, "usage: backtrace [--registers]")
+    line_of(alloc, "usage: backtrace [--registers] [--samples]")
 }

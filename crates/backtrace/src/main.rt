@@ -5,6 +5,7 @@
 mod lines;
 mod running;
 mod sample;
+mod threads;
 mod tracing;
 mod words;
 

@@ -21,15 +21,20 @@ ghost use Rattle.backtrace.specs.Tracing.{TraceValue};
 ghost use Rattle.backtrace.specs.Lines.{usage_line};
 ghost use Rattle.backtrace.specs.Due.{Asks, IsBacktrace, IsBacktraceBy, IsBacktraceOf, IsTraceOf};
 ghost use Rattle.backtrace.specs.Due.{DescribesCallToNowhere, called_text, chain_text, text_of};
-ghost use Rattle.backtrace.specs.Due.{bytes_due, content_due, due_of};
+ghost use Rattle.backtrace.specs.Due.{bytes_due, content_due, due_of, read_due};
+ghost use Rattle.backtrace.specs.Due.{AsksSamples, IsBacktraceIn, IsFaulty, IsOfSamples};
+ghost use Rattle.backtrace.specs.Due.{IsOfSnapshot};
+ghost use Rattle.backtrace.specs.Threads.{IsThreadsOf};
+ghost use Rattle.stack_snapshot.specs.Sampled.{SampledContent, sampled_in};
 
-use crate::lines::{backtrace_of, usage_line};
+use crate::lines::{put_backtrace, usage_line};
+use crate::threads::threads_text;
 use crate::tracing::trace_stack;
 use crate::words::{Options, options_of};
 use command_ends::{Answer, Status, Words, fault_answer, read_input, tell, text_answer};
 use memory_image::{Sink, Source};
 use stack_report::Report;
-use stack_snapshot::{Origins, Snapshot, SnapshotError, read_named_snapshot};
+use stack_snapshot::{Origins, Snapshot, SnapshotError, read_named_samples, read_named_snapshot};
 use std::alloc::{AllocError, Global};
 
 /// The backtrace of a snapshot.
@@ -45,14 +50,16 @@ fn backtrace_text(
     let start = snapshot.start();
     let interrupted = snapshot.interrupted();
     let trace = trace_stack(alloc, &space, &start, interrupted, snapshot.limit())?;
-    backtrace_of(alloc, options.registers, interrupted, origins, &trace)
+    let mut report = Report::new(alloc);
+    put_backtrace(&mut report, options.registers, interrupted, origins, &trace)?;
+    Ok(report)
 }
 
-/// The answer to all bytes of the source. They are let go before anything is traced.
-fn bytes_answer(alloc: Global, options: Options, bytes: Vec<u8>) -> Answer
+/// The answer to all bytes of the source, as a snapshot. They are let go before anything is traced.
+fn snapshot_answer(alloc: Global, options: Options, bytes: Vec<u8>) -> Answer
     ensures answer { AnswersBytes (content_due result.text (content_of bytes.items)) result.status
         result.text }
-    ensures backtrace { result.status ≡ Status.Done → IsBacktraceBy (Some options)
+    ensures backtrace { result.status ≡ Status.Done → IsOfSnapshot options
         (content_of bytes.items) (origins_by (value_of bytes.items)) result.text }
     ensures kind { (result.status ≢ Status.TooLong) × (result.status ≢ Status.Refused) }
 {
@@ -68,12 +75,47 @@ fn bytes_answer(alloc: Global, options: Options, bytes: Vec<u8>) -> Answer
     }
 }
 
+/// The same as samples.
+fn samples_answer(alloc: Global, options: Options, bytes: Vec<u8>) -> Answer
+    ensures answer { AnswersBytes (content_due result.text (sampled_in bytes.items)) result.status
+        result.text }
+    ensures backtrace { result.status ≡ Status.Done → IsOfSamples options
+        (sampled_in bytes.items) (origins_by (value_of bytes.items)) result.text }
+    ensures kind { (result.status ≢ Status.TooLong) × (result.status ≢ Status.Refused) }
+{
+    let named = read_named_samples(alloc, &bytes);
+    drop(bytes);
+    match named {
+        Ok((samples, origins)) => text_answer(
+            alloc,
+            Status::Done,
+            threads_text(alloc, options, &samples, &origins),
+        ),
+        Err(error) => fault_answer(alloc, error),
+    }
+}
+
+/// The answer to all bytes of the source, by what the words ask for.
+fn bytes_answer(alloc: Global, options: Options, bytes: Vec<u8>) -> Answer
+    ensures answer { AnswersBytes (read_due options.samples result.text bytes.items) result.status
+        result.text }
+    ensures backtrace { result.status ≡ Status.Done →
+        IsBacktraceIn options.samples options bytes.items result.text }
+    ensures kind { (result.status ≢ Status.TooLong) × (result.status ≢ Status.Refused) }
+{
+    if options.samples {
+        samples_answer(alloc, options, bytes)
+    } else {
+        snapshot_answer(alloc, options, bytes)
+    }
+}
+
 fn input_answer<I: Source>(alloc: Global, options: Options, input: &mut I) -> Answer
     ensures answer { IfSome (I.left input.old)
-        (λ bytes. IsReadyOrFailed (bytes_due result.text bytes) result.status result.text) }
-    ensures backtrace { result.status ≡ Status.Done → IfSome (I.left input.old)
-        (λ bytes. IsBacktraceBy (Some options) (content_of bytes) (origins_by (value_of bytes))
+        (λ bytes. IsReadyOrFailed (bytes_due options result.text bytes) result.status
         result.text) }
+    ensures backtrace { result.status ≡ Status.Done → IfSome (I.left input.old)
+        (λ bytes. IsBacktraceBy (Some options) bytes result.text) }
     ensures kind { (result.status ≢ Status.Usage) × (result.status ≢ Status.WriteFault) ×
         (result.status ≢ Status.Refused) }
     ensures leaves { LeavesSource ⊤ result.status result.text
@@ -105,7 +147,8 @@ fn decide<I: Source>(alloc: Global, words: &Words, input: &mut I) -> Answer
     }
 }
 
-/// Writes the backtrace of the snapshot that the input is, or why there is none, to the output.
+/// Writes the backtrace of the snapshot that the input is, or the backtraces of samples, or why there
+/// are none, to the output.
 ///
 /// The input is read to its end, but for at most one byte after the 67,108,864th, and not at all
 /// where the words name no options. The checks go in this order: words, reading, JSON, snapshot,
@@ -131,6 +174,11 @@ pub fn run<I: Source, O: Sink>(
         Asks o words.now (I.left input.old) s origins → IsTraceOf s t →
         Tells (verdict Status.Done (text_of o s origins t)) result (O.holds output.old)
         (O.holds output.new) }
+    // Of samples the number and the backtrace of each thread are written, in order.
+    ensures threads { (o : Options) (s : SampledContent) (origins : List OriginValue)
+        (text : List ℕ) →
+        AsksSamples o words.now (I.left input.old) s origins → IsThreadsOf o s origins text →
+        Tells (verdict Status.Done text) result (O.holds output.old) (O.holds output.new) }
     // Where its unwind tables describe a chain of calls, through modules of whatever format, these are
     // the lines of the chain's states, and the last says why its outermost state has no caller.
     ensures chain { (o : Options) (s : Content) (origins : List OriginValue)
@@ -189,12 +237,11 @@ pub fn run<I: Source, O: Sink>(
         (λ bytes. ComesExactly result Status.TooLong (IsSome (options_of words.now) ×
         (2 ^ 26 < length bytes))) }
     ensures not_json { IfSome (I.left input.old)
-        (λ bytes. ComesExactly result Status.NotJson (IsSome (options_of words.now) ×
-        (length bytes ≤ 2 ^ 26) × (content_of bytes ≡ Err SnapshotError.NotJson))) }
+        (λ bytes. ComesExactly result Status.NotJson
+        (IsFaulty words.now bytes SnapshotError.NotJson)) }
     ensures bad_snapshot { IfSome (I.left input.old)
-        (λ bytes. ComesExactly result Status.BadSnapshot (IsSome (options_of words.now) ×
-        (length bytes ≤ 2 ^ 26) ×
-        ((field : Field) × (content_of bytes ≡ Err (SnapshotError.Bad field))))) }
+        (λ bytes. ComesExactly result Status.BadSnapshot
+        ((field : Field) × IsFaulty words.now bytes (SnapshotError.Bad field))) }
     ensures no_refusal { result ≢ Status.Refused }
 {
     let answer = decide(alloc, words, input);

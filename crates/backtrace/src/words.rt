@@ -1,6 +1,6 @@
 // What the words ask for.
 ghost use Rattle.std.specs.Prelude.{◌≡◌, map, string_bytes};
-ghost use Rattle.backtrace.specs.Options.{options_of, option_named};
+ghost use Rattle.backtrace.specs.Options.{options_of, plain, with_option};
 
 use command_ends::Words;
 
@@ -9,6 +9,8 @@ use command_ends::Words;
 pub struct Options {
     /// Whether a frame's line has the stack pointer and the registers that calls keep too.
     pub registers: bool,
+    /// Whether the input has many threads, each a sample, and no start of its own.
+    pub samples: bool,
 }
 
 /// The options that the words name.
@@ -22,17 +24,37 @@ fn options_in(words: &[String]) -> Option<Options>
     ensures { result ≡ options_of (map (λ word. string_bytes word) words.now) }
 {
     match words {
-        [] => Some(Options { registers: false }),
-        [word] => option_named(word.as_str()),
+        [] => Some(plain()),
+        [word] => with_option(word.as_str(), plain()),
+        [word, other] => {
+            let options = with_option(word.as_str(), plain())?;
+            with_option(other.as_str(), options)
+        }
         _ => None,
     }
 }
 
-fn option_named(word: &str) -> Option<Options>
-    ensures { result ≡ option_named word.now }
+fn plain() -> Options
+    ensures { result ≡ plain }
+{
+    Options {
+        registers: false,
+        samples: false,
+    }
+}
+
+fn with_option(word: &str, options: Options) -> Option<Options>
+    ensures { result ≡ with_option word.now options }
 {
     match word {
-        "--registers" => Some(Options { registers: true }),
+        "--registers" => Some(Options {
+            registers: true,
+            ..options
+        }),
+        "--samples" => Some(Options {
+            samples: true,
+            ..options
+        }),
         _ => None,
     }
 }

@@ -1,13 +1,14 @@
 use Rattle.std.proofs.Common.{inl, inr, ◌≡◌, ℕ, List, Option, sym, subst, ◌∙◌}
 use Rattle.std.specs.Io.KnownBytes.{Appends}
-use Rattle.command_ends.specs.declared.status.Status.TheVariants.{Done}
-use Rattle.command_ends.specs.Verdicts.{Verdict, IsReadyOrFailed, Tells}
+use Rattle.command_ends.specs.declared.status.Status.TheVariants.{Done, BadSnapshot}
+use Rattle.command_ends.specs.Verdicts.{Verdict, IsReadyOrFailed, Tells, ComesExactly}
 use Rattle.command_ends.proofs.VerdictLemmas.{if_some_weaker, of_some}
 use Rattle.backtrace.specs.Due.{IsBacktrace, due_of, text_of}
-use Rattle.backtrace.proofs.Backtraces.{ready_with, if_some_both, asked_due, asked_backtrace}
+use Rattle.backtrace.proofs.Backtraces.{ready_with, if_some_both, asked_due, asked_backtrace, sampled_due, sampled_backtraces}
 use Rattle.stack_snapshot.proofs.Taken.{content_apart, content_laid_out, content_whole}
 use Rattle.command_ends.specs.Verdicts.{verdict}
 use Rattle.backtrace.proofs.Chains.{called_traced, chain_traced, stop_traced}
+use Rattle.backtrace.proofs.Faults.{IsBad, bad_told}
 use Rattle.backtrace.proofs.KnownTraces.{stack_traced, called_stack_traced}
 use Rattle.backtrace.proofs.running.run.Goals as goal
 
@@ -47,6 +48,23 @@ returns-clause-traced g c = λ o s origins t asks is.
     let text = text_of o s origins t in
     subst P (asked_due o words (g.I.Source.left c.args.input.now) s origins text asks)
     (of_some (g.I.Source.left c.args.input.now) asks.bytes R asks.source_is (returns-clause-told g c) text (asked_backtrace o words (g.I.Source.left c.args.input.now) s origins t asks is))
+
+pub returns-clause-threads : goal.returns-clause-threads
+returns-clause-threads g c = λ o s origins text asks is.
+    let words = c.args.words.now in
+    let P : Verdict → Type 0 = λ due. Tells due c.tell.result (g.O.Sink.holds c.args.output.now) (g.O.Sink.holds c.tell.new.output) in
+    let R : List ℕ → Type 0 = λ bytes. (text : List ℕ) → IsBacktrace words bytes text → P (due_of words bytes text) in
+    subst P (sampled_due o words (g.I.Source.left c.args.input.now) s origins text asks)
+    (of_some (g.I.Source.left c.args.input.now) asks.bytes R asks.source_is (returns-clause-told g c) text (sampled_backtraces o words (g.I.Source.left c.args.input.now) s origins text asks is))
+
+pub returns-clause-bad_snapshot : goal.returns-clause-bad_snapshot
+returns-clause-bad_snapshot g c =
+    let words = c.args.words.now in
+    let before : Option (List ℕ) = g.O.Sink.holds c.args.output.now in
+    let after : Option (List ℕ) = g.O.Sink.holds c.tell.new.output in
+    let R : List ℕ → Type 0 = λ bytes. (text : List ℕ) → IsBacktrace words bytes text → Tells (due_of words bytes text) c.tell.result before after in
+    let Q : List ℕ → Type 0 = λ bytes. ComesExactly c.tell.result BadSnapshot (IsBad words bytes) in
+    if_some_weaker (g.I.Source.left c.args.input.now) R Q (λ bytes told. bad_told words bytes c.tell.result before after told) (returns-clause-told g c)
 
 pub returns-clause-chain : goal.returns-clause-chain
 returns-clause-chain g c = λ o s origins functions start calls asks described.

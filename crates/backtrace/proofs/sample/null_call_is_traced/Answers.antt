@@ -18,7 +18,7 @@ use Rattle.backtrace.proofs.sample.null_call_is_traced.Goals as goal
 
 pub returns-clause-asked : goal.returns-clause-asked
 unfolding is_utf8 chars encode_utf8 decode_pairs serde_json_on_literals value_of regions_of modules_of start_of resumes_of limit_of interrupted_of whole_numbers snapshot_of origins_of
-returns-clause-asked c = record { bytes = json; named = refl; source_is = refl; short = lit≤ tt; reads = refl; files = refl }
+returns-clause-asked c = record { bytes = json; named = refl; single = refl; source_is = refl; short = lit≤ tt; reads = refl; files = refl }
 
 returns_somewhere : ◌≢◌ {A = ℕ} 0x1005 0
 returns_somewhere h = cc

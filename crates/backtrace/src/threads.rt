@@ -1,0 +1,74 @@
+// The backtraces of samples.
+ghost use Rattle.std.specs.Prelude.{◌≡◌, ℕ, List, ◌++◌, IfOk, OnOk};
+ghost use Rattle.backtrace.specs.Threads.{AreThreads, IsThread, IsThreadsOf};
+
+use crate::lines::{put_backtrace, put_thread_line};
+use crate::tracing::trace_stack;
+use crate::words::Options;
+use folded_stacks::Sample;
+use stack_deliver::Space;
+use stack_report::Report;
+use stack_snapshot::{Origins, SampledSnapshot};
+use std::alloc::{AllocError, Global};
+
+/// What the backtraces of threads share.
+#[derive(Clone, Copy)]
+struct Shared<'a, 'm> {
+    options: Options,
+    space: &'a Space<'m>,
+    limit: u32,
+    origins: &'a Origins,
+}
+
+/// Puts the number and the backtrace of a thread last.
+fn put_thread(
+    alloc: Global,
+    report: &mut Report,
+    shared: &Shared<'_, '_>,
+    index: usize,
+    sample: &Sample,
+) -> Result<(), AllocError>
+    ensures { OnOk result ((own : List ℕ) × (report.new ≡ report.old ++ own) ×
+        IsThread shared.now.options shared.now.space.now shared.now.limit shared.now.origins.now
+        index sample.now own) }
+{
+    let interrupted = sample.interrupted;
+    let trace = trace_stack(
+        alloc,
+        shared.space,
+        &sample.start,
+        interrupted,
+        shared.limit,
+    )?;
+    put_thread_line(report, index)?;
+    put_backtrace(
+        report,
+        shared.options.registers,
+        interrupted,
+        shared.origins,
+        &trace,
+    )
+}
+
+/// The number and the backtrace of each thread, in the order of the samples.
+pub fn threads_text(
+    alloc: Global,
+    options: Options,
+    snapshot: &SampledSnapshot,
+    origins: &Origins,
+) -> Result<Report, AllocError>
+    ensures { IfOk result (λ report. IsThreadsOf options snapshot.now origins.now report) }
+{
+    let space = snapshot.space(alloc)?;
+    let shared = Shared {
+        options,
+        space: &space,
+        limit: snapshot.limit(),
+        origins,
+    };
+    let mut report = Report::new(alloc);
+    for (index, sample) in snapshot.samples().as_slice().iter().enumerate() {
+        put_thread(alloc, &mut report, &shared, index, sample)?;
+    }
+    Ok(report)
+}
