@@ -25,7 +25,7 @@ from snapshot_file import Object, read_object, read_snapshot
 
 REPOSITORY = os.path.join(os.path.dirname(os.path.abspath(__file__)), "..")
 SCHEMA = os.path.join(REPOSITORY, "docs", "snapshot.schema.json")
-# Samples, core files and claimed functions, which `unwind_cli fold`, `core` and `check` read, are other objects.
+# Samples, core files and claims, which `unwind_cli fold`, `core`, `check` and `audit` read, are other objects.
 SHIPPED = ("examples/pushed_rbx.json", "crates/real_samples/data/*.json")
 
 READ = set(

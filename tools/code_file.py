@@ -120,7 +120,7 @@ class CodeFile:
             if not found or found[0].address != start:
                 found = instructions_in(self.path, start, end)
             first = len(self.code)
-            self.code += [one if start < one.end <= end else one._replace(end=end) for one in found]
+            self.code += [one if one.address < one.end <= end else one._replace(end=end) for one in found]
             self.owner += [number] * len(found)
             self.bounds.append((first, len(self.code)))
         self.place = {one.address: place for place, one in enumerate(self.code)}

@@ -100,7 +100,9 @@ def stacks_of_perf(path: str, process: Process) -> collections.Counter[Stack]:
 def difference(ours: Stack, theirs: Stack) -> str | None:
     """How two stacks of one sample differ. None where they may be of different samples."""
     a, b = ours.frames, theirs.frames
-    if ours.name != theirs.name or a[:1] != b[:1]:
+    if ours.name != theirs.name:
+        return "another name, the same frames" if a == b else None
+    if a[:1] != b[:1]:
         return None
     if len(a) == 1:
         return "ours ends at the first frame"

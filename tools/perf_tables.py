@@ -52,15 +52,22 @@ class Profile(NamedTuple):
 
 def records_of(content: bytes) -> Iterator[tuple[int, int, bytes]]:
     """The records' types, `misc` and bodies."""
+    for place in record_places(content):
+        kind, misc = struct.unpack_from("<IH", content, place.start)
+        yield kind, misc, content[place.start + 8 : place.end]
+
+
+def record_places(content: bytes) -> Iterator[Range]:
+    """Where the records are."""
     if content[:8] != b"PERFILE2":
         raise Refused("it is no perf.data file of this byte order")
     offset, size = struct.unpack_from("<QQ", content, 40)
     place, end = offset, min(offset + size, len(content))
     while place + 8 <= end:
-        kind, misc, length = struct.unpack_from("<IHH", content, place)
+        (length,) = struct.unpack_from("<H", content, place + 6)
         if length < 8 or place + length > end:
             raise Refused(f"the record at byte {place} is cut off")
-        yield kind, misc, content[place + 8 : place + length]
+        yield Range(place, place + length)
         place += length
 
 

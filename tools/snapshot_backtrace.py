@@ -4,7 +4,7 @@
     snapshot_backtrace.py FILE [--strict] [--backtrace PROGRAM]
 
 FILE is a snapshot, a thread's file of `snapshot DIR --threads`, or samples, whose threads are printed one after another. The built
-program `backtrace` finds the frames, and names.py names them. Where the program refuses a snapshot, or ends for another reason,
+program `backtrace` finds the frames of all in one run, and names.py names them. Where the program refuses a snapshot, or ends for another reason,
 lines on standard error say why: of a text that is no JSON the line and the column, of a field that is faulty the place in it
 by docs/snapshot.schema.json, and of each other status what it means. With --strict a member that the schema doesn't name is
 refused, with the nearest name that it does: a name that was misspelt changes the answer otherwise.
@@ -18,7 +18,7 @@ from typing import Iterator, NamedTuple
 
 from check_schema import faults_of
 from elf_image import Refused
-from names import backtrace
+from names import backtraces
 from process_backtrace import built_path, short_text
 from programs import run_program
 from snapshot_file import MOST_BYTES, Object, read_snapshot
@@ -70,16 +70,24 @@ def said_of(status: int, printed: str, found: Object) -> list[str]:
     return lines
 
 
-def lines_of(stopped: Stopped, options: Options) -> list[str]:
-    """The lines of a thread. Refuses where the program does."""
+def faults_in(threads: list[Stopped], printed: str, status: int) -> list[str]:
+    """Why a program printed nothing of threads: of the first in which the schema finds a fault, or else of the first."""
+    faulty = [stopped.snapshot for stopped in threads if faults_of(stopped.snapshot)] if status == 7 else []
+    return said_of(status, printed, [*faulty, *(stopped.snapshot for stopped in threads)][0] if threads else {})
+
+
+def lines_of(found: Object, threads: list[Stopped], options: Options) -> Iterator[list[str]]:
+    """The lines of each thread. Refuses where the program does."""
+    words = ["--samples"] if "samples" in found else []
     try:
-        done = run_program([options.program], short_text(stopped.snapshot))
+        done = run_program([options.program, *words], short_text(found))
     except OSError:
         raise Refused(f"{options.program} isn't built: run `rt run < stdin` in crates/backtrace")
     printed = done.output.decode("ascii", "replace")
     if done.status != 0:
-        raise Refused("\n".join(said_of(done.status, printed, stopped.snapshot)))
-    return ([stopped.head] if stopped.head else []) + backtrace(printed, stopped.snapshot, [])
+        raise Refused("\n".join(faults_in(threads, printed, done.status)))
+    for stopped, lines in zip(threads, backtraces(printed, found, [])):
+        yield [stopped.head, *lines[1:]] if stopped.head else lines
 
 
 def printed(options: Options) -> str:
@@ -90,7 +98,7 @@ def printed(options: Options) -> str:
         faults = [fault for stopped in threads for fault in faults_of(stopped.snapshot)]
         if faults:
             raise Refused("\n".join(dict.fromkeys(faults)))
-    return "\n\n".join("\n".join(lines_of(stopped, options)) for stopped in threads)
+    return "\n\n".join("\n".join(lines) for lines in lines_of(found, threads, options))
 
 
 def read_words(words: list[str]) -> Options:

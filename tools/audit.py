@@ -1,0 +1,289 @@
+#!/usr/bin/env python3
+"""Says where the frame tables of files don't say what the machine code does, by `unwind_cli audit`, with names.
+
+    audit.py FILE.. [--all | --counts] [--unwind-cli PROGRAM]
+
+Of each FILE, an ELF file of x86-64, claims are made from its code (claimed_facts.py), and the built program says which of them
+the rows of its .eh_frame don't say. A line is printed for each place: its addresses, the function, and why; then what the row
+at its start says, as readelf has it, and what is known there by the code.
+
+    0x4c6e1-0x4c748 __mpn_addmul_1+0x1: cfa; the row: cfa=rsp+8 ra=c-8; the code: cfa rsp+16 saved rbx@16 kept rbx ..
+
+A place is code of one function, one instruction after another, at which the same is amiss. Where the row is of another kind
+than claims are, as one by an expression or by another register, or one of a signal's frame, it may well be right: such places
+are `other`, and they are printed with --all alone. The last line of a file has its descriptions, how many of its calls and of
+its instruction addresses are in reach, which is where a row says what is claimed, the numbers that the program gives, and how
+many places there are of each sort. With --counts it is the only one. docs/AUDITS.md says what is counted.
+
+Claims are given to the program in as many texts as it takes at once. It wants `readelf` and `objdump` (Debian: binutils).
+"""
+from __future__ import annotations
+
+import argparse
+import bisect
+import json
+import os
+import re
+import signal
+import sys
+from collections import Counter
+from typing import Iterator, NamedTuple
+
+from claimed_facts import Claimed, claim_object, claimed_in, tables_of
+from claims import row_text
+from code_file import CodeFile
+from code_flow import CodeFlow
+from elf_image import ElfImage, Refused
+from known_frame import CALLEE_SAVED
+from machine_code import Way
+from plain_names import plain_name
+from process_backtrace import built_path, run
+from snapshot_file import MOST_BYTES, Object
+from symbols import all_functions, demangled, function_at
+from tables import COLUMNS, Row
+
+REGISTERS = {str(column): name for name, column in COLUMNS.items() if name != "rip"}
+LINE = re.compile(r"differ (0x[0-9a-f]+) claim (\d+) (no description|signal frame|fault|cfa|rule \d+)")
+NUMBERS = ("claims", "differ", "without a row")
+WHOLE = ("no description", "signal frame")
+
+# The words of the rows that say what claims can say: the CFA by RSP or RBP, a register in a slot below the CFA or unchanged,
+# and the return address in such a slot or undefined.
+CFA = re.compile(r"r[67]\+\d+$")
+RULE = re.compile(r"c-\d+$|s$|u$")
+SPOKEN = {f"r{COLUMNS[name]}" for name in (*CALLEE_SAVED, "ra")}
+
+
+class Found(NamedTuple):
+    """What the program says: of each claim that isn't said, the stretches in which it isn't, and why; and its numbers."""
+
+    stretches: dict[int, list[tuple[int, str]]]
+    numbers: Counter[str]
+
+
+class Place(NamedTuple):
+    """Instructions one after another at which the same is amiss, and what is claimed at the first of them."""
+
+    start: int
+    end: int
+    why: str
+    claimed: Claimed
+
+
+class Audited(NamedTuple):
+    """A file, and what is found in it: the places, the calls and the addresses in reach, and the program's numbers."""
+
+    flow: CodeFlow
+    places: list[Place]
+    calls: int
+    addresses: int
+    numbers: Counter[str]
+
+
+# ---- the program
+
+
+def texts_of(tables: Object, claims: list[Claimed], most: int) -> Iterator[tuple[int, bytes]]:
+    """The claims with the tables in texts of at most so many bytes, each with the number of its first claim."""
+    head = json.dumps(tables, separators=(",", ":"))[:-1] + ',"claims":['
+    first, parts, size = 0, list[str](), len(head) + 2
+    for number, claimed in enumerate(claims):
+        part = json.dumps(claim_object(claimed), separators=(",", ":"))
+        if parts and size + len(part) + 1 > most:
+            yield first, (head + ",".join(parts) + "]}").encode()
+            first, parts, size = number, [], len(head) + 2
+        parts.append(part)
+        size += len(part) + 1
+    yield first, (head + ",".join(parts) + "]}").encode()
+
+
+def read_report(report: str, first: int, found: Found) -> None:
+    """Adds what a report says of claims that are counted from a number on."""
+    lines = report.splitlines()
+    if len(lines) < len(NUMBERS):
+        raise Refused(f"that is no report of audit: {report!r}")
+    for name, line in zip(NUMBERS, lines[-len(NUMBERS) :]):
+        if not re.fullmatch(rf"{name} \d+", line):
+            raise Refused(f"that is no report of audit: {line!r} doesn't count {name!r}")
+        found.numbers[name] += int(line.rpartition(" ")[2])
+    for line in lines[: -len(NUMBERS)]:
+        match = LINE.fullmatch(line)
+        if match is None:
+            raise Refused(f"that is no report of audit: {line!r}")
+        found.stretches.setdefault(first + int(match[2]), []).append((int(match[1], 16), match[3]))
+
+
+def asked(program: str, tables: Object, claims: list[Claimed], most: int = MOST_BYTES) -> Found:
+    """What the program says of claims."""
+    found = Found({}, Counter())
+    for first, text in texts_of(tables, claims, most):
+        answer = run([program, "audit"], text)
+        if answer.fault is not None:
+            raise Refused(answer.fault)
+        read_report(answer.text, first, found)
+    if found.numbers["claims"] != len(claims):
+        raise Refused(f"{program} counts {found.numbers['claims']} claims, and there are {len(claims)}")
+    return found
+
+
+# ---- the file
+
+
+class Reach:
+    """Why the row at an address of a file doesn't say what is claimed there, by the stretches of a report."""
+
+    def __init__(self, file: CodeFile, claims: list[Claimed], found: Found) -> None:
+        """Notes where claims start."""
+        self.file, self.claims, self.found = file, claims, found
+        self.starts = [claimed.start for claimed in claims]
+        self.met: set[tuple[int, int]] = set()
+
+    def claim_at(self, address: int) -> int | None:
+        """The number of the claim on an address."""
+        number = bisect.bisect_right(self.starts, address) - 1
+        return number if number >= 0 and address < self.claims[number].end else None
+
+    def why(self, number: int, address: int) -> str | None:
+        """Why the row at an address isn't as this claim has it."""
+        stretches = self.found.stretches.get(number)
+        if stretches is None:
+            return None
+        rows = self.file.descriptions[self.claims[number].owner].rows
+        row = bisect.bisect_right(rows, address, key=lambda row: row[0]) - 1
+        start = max(self.claims[number].start, rows[row][0] if row >= 0 else 0)
+        why = next((why for place, why in stretches if place == start or why in WHOLE), None)
+        if why is not None:
+            self.met.add((number, start if why not in WHOLE else stretches[0][0]))
+        return why
+
+    def check(self) -> None:
+        """Refuses a report that has a difference where there is no instruction."""
+        for number, stretches in self.found.stretches.items():
+            for place, _why in stretches:
+                if (number, place) not in self.met:
+                    raise Refused(f"a difference at {place:#x} isn't where a row begins")
+
+
+def places_in(reach: Reach, pieces: list[tuple[int, int]]) -> tuple[list[Place], int]:
+    """The places among pieces of code, by ascending address, at which something is amiss; and how many pieces aren't, of
+    which something is claimed."""
+    places, in_reach = list[Place](), 0
+    for start, end in pieces:
+        number = reach.claim_at(start)
+        if number is None:
+            continue
+        why, claimed = reach.why(number, start), reach.claims[number]
+        if why is None:
+            in_reach += 1
+        elif places and (places[-1].end, places[-1].why, places[-1].claimed.owner) == (start, why, claimed.owner):
+            places[-1] = places[-1]._replace(end=end)
+        else:
+            places.append(Place(start, end, why, claimed))
+    return places, in_reach
+
+
+def audited(path: str, program: str) -> Audited:
+    """Audits a file."""
+    flow = CodeFlow(CodeFile(path))
+    claims = claimed_in(flow)
+    reach = Reach(flow.file, claims, asked(program, tables_of(flow.file), claims))
+    places, addresses = places_in(reach, [(one.address, one.end) for one in flow.file.code])
+    lasts = [(one.end - 1, one.end) for one in flow.file.code if one.way is Way.CALL]
+    in_calls, calls = places_in(reach, lasts)
+    reach.check()
+    ends = [place.end for place in places]
+    for place in in_calls:
+        number = bisect.bisect_right(ends, place.start)
+        if number >= len(ends) or place.start < places[number].start:
+            places.append(place)
+    return Audited(flow, sorted(places), calls, addresses, reach.found.numbers)
+
+
+# ---- lines
+
+
+def is_other(why: str, row: Row | None) -> bool:
+    """Whether a row that isn't as claimed is of another kind than claims are."""
+    if row is None or why in WHOLE:
+        return why == "signal frame"
+    if why == "cfa":
+        return CFA.match(row["cfa"]) is None
+    column = f"r{why.rpartition(' ')[2]}"
+    return why.startswith("rule") and (column not in SPOKEN or RULE.match(row.get(column, "s")) is None)
+
+
+class Names:
+    """The functions of a file by its symbols or, where there are none, by its descriptions."""
+
+    def __init__(self, file: CodeFile) -> None:
+        """Reads the symbols, also those that lie apart."""
+        with open(file.path, "rb") as stream:
+            build_id = ElfImage(stream).build_id()
+        self.file, self.functions = file, all_functions(file.path, build_id)
+
+    def at(self, place: Place) -> str:
+        """The function of a place, and how far after its description's start the place is."""
+        start = self.file.starts[place.claimed.owner]
+        name = function_at(self.functions, place.start)
+        known = f"{os.path.basename(self.file.path)}+{start:#x}" if name is None else plain_name(demangled(name).strip())
+        return f"{known}+{place.start - start:#x}" if place.start > start else known
+
+
+def row_of(place: Place, file: CodeFile) -> Row | None:
+    """The row at the start of a place."""
+    return file.descriptions[place.claimed.owner].row(place.start)
+
+
+def line_of(place: Place, file: CodeFile, names: Names) -> str:
+    """A place's line."""
+    row = row_text(row_of(place, file)) or "none"
+    why = re.sub(r"\d+$", lambda column: f"of {REGISTERS.get(column[0], f'r{column[0]}')}", place.why)
+    return f"{place.start:#x}-{place.end:#x} {names.at(place)}: {why}; the row: {row}; the code: {place.claimed.facts}"
+
+
+def summary_of(found: Audited, others: int) -> str:
+    """A file's last line."""
+    file = found.flow.file
+    calls = sum(one.way is Way.CALL for one in file.code)
+    numbers = ", ".join(f"{name} {found.numbers[name]:,}" for name in NUMBERS)
+    return (
+        f"{file.path}: descriptions {len(file.descriptions):,}, calls {calls:,}, in reach {found.calls:,}, "
+        f"addresses {len(file.code):,}, in reach {found.addresses:,}, {numbers}, "
+        f"places {len(found.places) - others:,}, other {others:,}"
+    )
+
+
+def print_audit(path: str, words: argparse.Namespace) -> None:
+    """Prints what is found of a file."""
+    found = audited(path, words.unwind_cli)
+    file = found.flow.file
+    others = {place for place in found.places if is_other(place.why, row_of(place, file))}
+    printed = [] if words.counts else [place for place in found.places if words.all or place not in others]
+    if printed:
+        names = Names(file)
+        print("\n".join(line_of(place, file, names) for place in printed))
+    print(summary_of(found, len(others)), flush=True)
+
+
+def main() -> None:
+    """Reads the words of the command line."""
+    parser = argparse.ArgumentParser(prog="audit.sh", description="where frame tables don't say what machine code does")
+    parser.add_argument("files", nargs="+", metavar="FILE")
+    kinds = parser.add_mutually_exclusive_group()
+    kinds.add_argument("--all", action="store_true", help="print places at which a row is of another kind, too")
+    kinds.add_argument("--counts", action="store_true", help="print a line for each file alone")
+    default = os.environ.get("UNWIND_CLI") or built_path("unwind_cli")
+    parser.add_argument("--unwind-cli", metavar="PROGRAM", default=default, help="the built program")
+    words = parser.parse_args()
+    signal.signal(signal.SIGPIPE, signal.SIG_DFL)
+    if not os.access(words.unwind_cli, os.X_OK):
+        sys.exit(f"audit.sh: {words.unwind_cli} isn't built: run `rt run < stdin` in crates/unwind_cli")
+    for path in words.files:
+        try:
+            print_audit(path, words)
+        except (Refused, OSError) as fault:
+            sys.exit(f"audit.sh: {path}: {fault}")
+
+
+if __name__ == "__main__":
+    main()

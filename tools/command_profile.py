@@ -1,0 +1,221 @@
+#!/usr/bin/env python3
+"""Takes a profile of a command: records it with perf, finds the stack of each sample, names the frames, and draws them.
+
+    command_profile.py [--svg FILE] [--folded FILE] [--frequency N] [--profile PROGRAM] COMMAND [WORD]...
+
+The picture goes to FILE (profile.svg), by flame_picture.py. With --folded the same stacks are written as flamegraph.pl, inferno
+and speedscope read them: the thread's name, why a stack ends early where it does, and the functions from the outermost
+inwards, with semicolons between them, a space and the number of samples. Both files are written when all is there, and else not
+at all. The command has its own standard streams; lines on standard error say how far the profile is.
+
+perf takes N samples a second (499) of each thread that runs, with 8 KB of its stack. The processes that the command begins
+count, too: the samples of each program are walked over that program's tables, by the built program `profile`. It wants perf
+(Debian: linux-perf).
+"""
+from __future__ import annotations
+
+import argparse
+import os
+import re
+import shlex
+import shutil
+import signal
+import subprocess
+import sys
+import tempfile
+from collections import Counter
+from typing import NamedTuple
+
+from elf_image import WORD, Refused
+from flame_picture import Counts, Drawing, Name, picture_of
+from flamegraph import Frames, Names, Stack, clean, named_lines
+from names import ReportedFrame, trampolines_of
+from perf_parts import Part, parts_of
+from perf_tables import tables_of
+from process_backtrace import built_path, run
+from process_profile import natural
+from snapshot_file import Object, text_of
+
+LINE = re.compile(r"(.*) ([1-9]\d*)$")
+FRAME = re.compile(r"(?:(.*)\+)?0x([0-9a-f]+)$")
+STACK_BYTES = 8192
+
+
+class Line(NamedTuple):
+    """A line of `profile`: the thread's name and why the stack ends early, the addresses from the outermost inwards, and the
+    number of samples."""
+
+    heads: tuple[str, ...]
+    stack: Stack
+
+
+def say(line: str) -> None:
+    """A line for the reader."""
+    print(f"profile.sh: {line}", file=sys.stderr, flush=True)
+
+
+def counted(number: int, noun: str) -> str:
+    """A number with its noun."""
+    return f"{number:,} {noun}" + ("" if number == 1 else "s")
+
+
+# ---- recording
+
+
+def recorded(options: argparse.Namespace, path: str) -> bytes:
+    """What perf records of the command. The command's own faults are said, and its samples count all the same."""
+    perf = shutil.which("perf")
+    if perf is None:
+        raise Refused("there is no perf on the PATH (Debian: linux-perf)")
+    if shutil.which(options.command[0]) is None:
+        raise Refused(f"there is no command {options.command[0]}")
+    words = [perf, "record", "-q", "-B", "-N", "-e", "cpu-clock", "-F", str(options.frequency)]
+    words += ["--call-graph", f"dwarf,{STACK_BYTES}", "-o", path, "--", *options.command]
+    # Those who interrupt the command mean it, and not its profile.
+    signal.signal(signal.SIGINT, lambda _number, _frame: None)
+    status = subprocess.run(words, check=False).returncode
+    signal.signal(signal.SIGINT, signal.SIG_DFL)
+    try:
+        with open(path, "rb") as stream:
+            content = stream.read()
+    except OSError:
+        raise Refused(f"perf record ended with status {status}, and wrote nothing")
+    if not content:
+        raise Refused(f"perf record ended with status {status}, and wrote nothing")
+    if status:
+        say(f"{options.command[0]} ended with status {status}")
+    return content
+
+
+# ---- stacks
+
+
+def line_of(text: str, biases: dict[str, int]) -> Line:
+    """What a line of `profile` says, with the addresses of the process."""
+    found = LINE.fullmatch(text)
+    if found is None:
+        raise Refused(f"that is no line of profile: {text!r}")
+    heads, *rest = found[1].split(";")
+    frames = [FRAME.fullmatch(part) for part in rest]
+    addresses = [(int(frame[2], 16) + biases.get(frame[1], 0)) % WORD for frame in frames if frame is not None]
+    reasons = [part for part, frame in zip(rest, frames) if frame is None]
+    return Line((heads, *reasons), Stack(tuple(addresses), int(found[2])))
+
+
+def lines_of(part: Part, tables: Object, program: str) -> list[Line]:
+    """What `profile` says of a part."""
+    biases = {os.path.basename(module["path"]): int(module["bias"], 16) for module in reversed(tables["modules"])}
+    found = []
+    with tempfile.NamedTemporaryFile("w", suffix=".json") as stream:
+        stream.write(text_of(tables))
+        stream.flush()
+        for content in part.files:
+            answer = run([program, stream.name], content)
+            if answer.fault is not None:
+                raise Refused(answer.fault)
+            found += [line_of(text, biases) for text in answer.text.splitlines()]
+    return found
+
+
+def counts_of(tables: Object, lines: list[Line]) -> Counts:
+    """The samples of each stack of names."""
+    frames = Frames(trampolines_of(tables))
+    framed: list[tuple[Line, list[ReportedFrame]]] = []
+    for line in lines:
+        framed.append((line, frames.of(line.stack, set(line.stack.addresses[-1:]))))
+    names = Names(tables, {frame for _line, of_line in framed for frame in of_line}, [])
+    counts = Counter[tuple[Name, ...]]()
+    for line, of_line in framed:
+        heads = tuple(Name(clean(head)) for head in line.heads)
+        counts[(*heads, *(name for frame in of_line for name in names.of(frame)))] += line.stack.count
+    return dict(counts)
+
+
+def file_of(part: Part) -> str:
+    """The program's file, which is what it mapped first."""
+    return next((os.path.basename(mapping.path) for mapping in part.mappings if mapping.path.startswith("/")), "")
+
+
+def named_counts(content: bytes, program: str) -> tuple[Counts, str]:
+    """The samples of each stack of names of a perf.data file, and the file of the program with the most samples."""
+    parts = parts_of(content)
+    total = sum(part.samples for part in parts)
+    if not total:
+        raise Refused("perf took no sample: the command may have run for too short a time, or have waited")
+    counts = Counter[tuple[Name, ...]]()
+    for number, part in enumerate(parts, 1):
+        say(f"{counted(part.samples, 'sample')} of {file_of(part) or 'no file'}, program {number} of {len(parts)}")
+        tables = tables_of(part.mappings)
+        counts.update(counts_of(tables, lines_of(part, tables, program)))
+    return dict(counts), file_of(parts[0])
+
+
+# ---- the program
+
+
+def options_of(words: list[str]) -> argparse.Namespace:
+    """What the words ask for."""
+    parser = argparse.ArgumentParser(prog="profile.sh", description="Takes a profile of a command.")
+    parser.add_argument("--svg", metavar="FILE", default="profile.svg", help="where the picture goes (profile.svg)")
+    parser.add_argument("--folded", metavar="FILE", help="where the stacks with their counts go")
+    parser.add_argument("--frequency", metavar="N", type=natural, default=499, help="samples a second (499)")
+    default = os.environ.get("PROFILE") or built_path("profile")
+    parser.add_argument("--profile", metavar="PROGRAM", default=default, help="the built program")
+    parser.add_argument("command", metavar="COMMAND", nargs=argparse.REMAINDER, help="the command and its words")
+    options = parser.parse_args(words)
+    if options.command[:1] == ["--"]:
+        options.command = options.command[1:]
+    if not options.command:
+        parser.error("there is no command")
+    return options
+
+
+def write_whole(path: str, text: str) -> None:
+    """Writes a file, whole or not at all."""
+    folder = os.path.dirname(path) or "."
+    with tempfile.NamedTemporaryFile("w", dir=folder, encoding="utf-8", errors="surrogateescape", delete=False) as stream:
+        try:
+            stream.write(text)
+            stream.flush()
+            os.chmod(stream.name, 0o644)
+            os.replace(stream.name, path)
+        except OSError:
+            os.unlink(stream.name)
+            raise
+
+
+def check_folders(paths: list[str]) -> None:
+    """Refuses files that couldn't be written in the end."""
+    for path in paths:
+        folder = os.path.dirname(path) or "."
+        if not os.path.isdir(folder) or not os.access(folder, os.W_OK) or os.path.isdir(path):
+            raise Refused(f"{path} can't be written")
+
+
+def profile(options: argparse.Namespace) -> None:
+    """Takes a profile, and writes its files."""
+    if not os.access(options.profile, os.X_OK):
+        raise Refused(f"{options.profile} isn't built: run `rt run` in crates/profile")
+    files = [options.svg, *([options.folded] if options.folded else [])]
+    check_folders(files)
+    with tempfile.TemporaryDirectory() as folder:
+        say(f"records {shlex.join(options.command)}")
+        content = recorded(options, os.path.join(folder, "perf.data"))
+    counts, program = named_counts(content, options.profile)
+    title = shlex.join(options.command)
+    if options.folded:
+        write_whole(options.folded, "".join(f"{line}\n" for line in named_lines(counts)))
+    write_whole(options.svg, picture_of(counts, Drawing(title, Drawing.width, clean(program))))
+    say(f"{counted(sum(counts.values()), 'sample')} in {counted(len(counts), 'stack')}: {' and '.join(files)}")
+
+
+def main() -> None:
+    """Runs the program."""
+    try:
+        profile(options_of(sys.argv[1:]))
+    except (Refused, OSError) as error:
+        sys.exit(f"profile.sh: {error}")
+
+
+if __name__ == "__main__":
+    main()
