@@ -18,3 +18,4 @@ mod Moved
 mod Serving
 mod Moving
 mod Walking
+mod KnownEnds

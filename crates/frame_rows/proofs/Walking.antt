@@ -30,7 +30,7 @@ module _ (start : ℕ) (run : RowInstructions) (p : Program) (due : ℕ → Resu
   ends_here pc m now from rep is = λ answer ends. (subst (λ o. Makes o (due pc)) is (left pc from)) answer (ends start now rep)
 
   abbrev walk_to : Machine → Instructions → Option ℕ → Option Fault → RowWalk
-  walk_to m i end fault = record { machine = m; instructions = i; end = end; fault = fault }
+  walk_to m i end fault = record { machine = m; instructions = i; end = end; fault = fault; common = tt }
 
   stops : (m : Machine) (i : Instructions) (coding : Coding) → IsLastStretch start run p m → IsWalking (walk_to m i None None) coding here due
   stops m i coding st = record {
@@ -57,12 +57,12 @@ module _ (start : ℕ) (run : RowInstructions) (p : Program) (due : ℕ → Resu
   }
 
   -- the row ends at an address, or holds on
-  pub stops_or_leads : (m : Machine) (i : Instructions) (coding : Coding) (end : Option ℕ) → EndsStretch start run p (Ok end) m (left_of coding i) → IsWalking (record { machine = m; instructions = i; end = end; fault = None }) coding here due
+  pub stops_or_leads : (m : Machine) (i : Instructions) (coding : Coding) (end : Option ℕ) → EndsStretch start run p (Ok end) m (left_of coding i) → IsWalking (record { machine = m; instructions = i; end = end; fault = None; common = tt }) coding here due
   stops_or_leads m i coding None st = stops m i coding st
   stops_or_leads m i coding (Some next) st = leads m i coding next st
 
   -- a fault holds on
-  pub faults : (m : Machine) (i : Instructions) (coding : Coding) (e : Fault) → IsFaultyStretch start run p e → IsWalking (record { machine = m; instructions = i; end = None; fault = Some e }) coding here due
+  pub faults : (m : Machine) (i : Instructions) (coding : Coding) (e : Fault) → IsFaultyStretch start run p e → IsWalking (record { machine = m; instructions = i; end = None; fault = Some e; common = tt }) coding here due
   faults m i coding e st = record {
     holds = λ pc from before. subst (λ o. Makes o (due pc)) (st.stays pc from) (left pc from);
     goes_on = tt;
@@ -70,7 +70,7 @@ module _ (start : ℕ) (run : RowInstructions) (p : Program) (due : ℕ → Resu
 
 -- where the first program can't be run, its fault holds on
 pub never_begins : (start : ℕ) (common own : Program) (m : Machine) (i : Instructions) (coding : Coding) (e : Fault) → outcome 0 None (from_common []) common ≡ Err e →
-    IsWalking (record { machine = m; instructions = i; end = None; fault = Some e }) coding start (λ pc. row start pc common own)
+    IsWalking (record { machine = m; instructions = i; end = None; fault = Some e; common = tt }) coding start (λ pc. row start pc common own)
 never_begins start common own m i coding e is = record {
   holds = λ pc from before. common_stops start pc common own e is;
   goes_on = tt;

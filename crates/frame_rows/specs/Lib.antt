@@ -15,3 +15,4 @@ pub mod Movable
 pub mod KnownRows
 pub mod Again
 pub mod Walks
+pub mod KnownCommons

@@ -2,6 +2,7 @@
 
 ghost use Rattle.std.specs.Prelude.{◌≡◌, ◌*◌};
 ghost use Rattle.unwind_definitions.specs.Instructions.{instruction, Advance, Write};
+ghost use Rattle.unwind_definitions.specs.Pointers.{direct};
 ghost use Rattle.encoded_pointers.specs.Readers.{GivesOr};
 ghost use Rattle.encoded_pointers.specs.CursorViews.{at};
 ghost use Rattle.frame_rows.specs.InstructionViews.{meaning, coding_in, unsigned_offset};
@@ -74,7 +75,19 @@ fn read_signed_offset(input: &mut Cursor, coding: Coding) -> Result<u64, Error>
     Ok(units.wrapping_mul(coding.data_factor))
 }
 
+// The location that an instruction sets, which few do. Not inlined: what tells the encodings apart
+// would cost each program that sets none.
+#[inline(never)]
+fn read_location(input: &mut Cursor, coding: Coding) -> Result<u64, Error>
+    ensures { GivesOr (λ a. a) result
+        (direct (coding_in coding.entry).address (coding_in coding.entry).bases (at input.old))
+        (at input.new) }
+{
+    parse_direct_pointer(coding.address, coding.bases, input)
+}
+
 // The bytes of an expression, after their number.
+#[inline(never)]
 fn read_expression<'a>(input: &mut Cursor<'a>) -> Result<&'a [u8], Error>
     ensures { GivesOr (λ bytes. bytes.now) result (block (at input.old)) (at input.new) }
 {
@@ -97,10 +110,7 @@ fn read_operation<'a>(
         (operation_read (coding_in coding.entry) operation (at input.old)) (at input.new) }
 {
     match operation {
-        DW_CFA_SET_LOC => {
-            let address = parse_direct_pointer(coding.address, coding.bases, input)?;
-            Ok(CallFrameInstruction::SetLocation(address))
-        }
+        DW_CFA_SET_LOC => Ok(CallFrameInstruction::SetLocation(read_location(input, coding)?)),
         DW_CFA_ADVANCE_LOC1 => Ok(advance(coding, input.read_u8()? as u32)),
         DW_CFA_ADVANCE_LOC2 => Ok(advance(coding, input.read_u16()? as u32)),
         DW_CFA_ADVANCE_LOC4 => Ok(advance(coding, input.read_u32()?)),

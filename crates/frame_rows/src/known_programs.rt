@@ -137,9 +137,9 @@ fn is_for(known: &KnownProgram<'_>, own: Cursor<'_>, coding: Coding, size: u64) 
         && are_same(known.bytes, own.bytes())
 }
 
-// Whether two programs have the same bytes.
+/// Whether two programs have the same bytes.
 #[inline(always)]
-fn are_same(a: &[u8], b: &[u8]) -> bool
+pub(crate) fn are_same(a: &[u8], b: &[u8]) -> bool
     ensures { (result ≡ true) ↔ (a.now ≡ b.now) }
 {
     let count = a.len();

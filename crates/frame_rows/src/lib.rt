@@ -15,6 +15,7 @@ mod begun;
 mod coding;
 pub mod constants;
 mod instruction;
+mod known_common;
 mod known_programs;
 mod machine;
 mod program;

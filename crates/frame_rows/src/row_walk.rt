@@ -7,13 +7,14 @@ ghost use Rattle.unwind_definitions.specs.Row.{RowInstructions, location, row};
 ghost use Rattle.encoded_pointers.specs.CursorViews.{at};
 ghost use Rattle.frame_rows.specs.InstructionViews.{coding_in};
 ghost use Rattle.frame_rows.specs.Rows.{GivesRow};
-ghost use Rattle.frame_rows.specs.Running.{Represents};
+ghost use Rattle.frame_rows.specs.Running.{Begins, Represents};
 ghost use Rattle.frame_rows.specs.Stretches.{left_of};
 ghost use Rattle.frame_rows.specs.Walks.{IsBefore, IsWalking, MakesAll, end_of};
 
 use crate::coding::Coding;
+use crate::known_common::KnownCommon;
 use crate::machine::Machine;
-use crate::program::begin_own;
+use crate::program::run_common;
 use crate::row_ref::RowRef;
 use crate::stretch::{Instructions, run_stretch};
 use encoded_pointers::Cursor;
@@ -21,8 +22,9 @@ use unwind_definitions::Error;
 
 /// Goes through the rows of a description, each of which holds from one address up to another.
 ///
-/// Each instruction is run once. What the programs need takes some 2 KB, which aren't cleared again
-/// for another description.
+/// Each instruction is run once, and the program of a common information entry once for all
+/// descriptions in a row that name it, or another with the same program. What the programs need
+/// takes some 4 KB, which aren't cleared again for another description.
 #[derive(Drop)]
 pub struct RowWalk<'a> {
     machine: Machine<'a>,
@@ -31,6 +33,8 @@ pub struct RowWalk<'a> {
     end: Option<u64>,
     // what stands in the row's place
     fault: Option<Error>,
+    // what the program of a common information entry ended with that was begun before
+    common: KnownCommon<'a>,
 }
 
 impl<'a> RowWalk<'a> {
@@ -41,6 +45,7 @@ impl<'a> RowWalk<'a> {
             instructions: Instructions::new(Cursor::new(&[], 0)),
             end: None,
             fault: None,
+            common: KnownCommon::new(),
         }
     }
 
@@ -51,7 +56,7 @@ impl<'a> RowWalk<'a> {
             (λ pc. row start pc (program coding (at common.entry))
             (program coding (at own.entry))) }
     {
-        match begin_own(&mut self.machine, common, coding, start) {
+        match self.begin_own(common, coding, start) {
             Ok(()) => {
                 self.instructions = Instructions::new(own);
                 self.run(coding);
@@ -61,6 +66,33 @@ impl<'a> RowWalk<'a> {
                 self.fault = Some(error);
             }
         }
+    }
+
+    // Begins a description's program at `start`, after that of its common information entry, which
+    // runs only where it isn't known what it ends with.
+    #[inline(always)]
+    fn begin_own(&mut self, common: Cursor<'a>, coding: Coding, start: u64) -> Result<(), Error>
+        ensures { Begins start result self.new.machine
+            (program (coding_in coding.entry) (at common.entry)) }
+    {
+        if let Some(state) = self.common.find(common, coding) {
+            self.machine.begin_after(state, start);
+            return Ok(());
+        }
+        self.begin_unknown(common, coding, start)
+    }
+
+    // The same where that isn't known, and is from now on. Not inlined, as it is for few
+    // descriptions of a table.
+    #[inline(never)]
+    fn begin_unknown(&mut self, common: Cursor<'a>, coding: Coding, start: u64) -> Result<(), Error>
+        ensures { Begins start result self.new.machine
+            (program (coding_in coding.entry) (at common.entry)) }
+    {
+        run_common(&mut self.machine, common, coding)?;
+        self.common.note(common, coding, &self.machine);
+        self.machine.begin(start);
+        Ok(())
     }
 
     /// The row, or the fault, that holds from the address on that the walk has gone to.

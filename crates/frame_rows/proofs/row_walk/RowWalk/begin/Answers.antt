@@ -19,4 +19,4 @@ returns-in-Ok c =
 pub returns-in-Err : goal.returns-in-Err
 returns-in-Err c =
     let coding : Coding = coding_in c.args.coding in
-    never_begins c.args.start (program coding (at c.args.common)) (program coding (at c.args.own)) c.begin_own.new.machine c.args.self.now.instructions coding c.in-Err.error c.in-Err.ensures
+    never_begins c.args.start (program coding (at c.args.common)) (program coding (at c.args.own)) c.begin_own.new.self.machine c.begin_own.new.self.instructions coding c.in-Err.error c.in-Err.ensures
