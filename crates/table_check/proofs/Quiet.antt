@@ -12,7 +12,7 @@ use Rattle.unwind_definitions.specs.Prologue.{PrologueStep, SystemV, steps_of}
 use Rattle.unwind_definitions.specs.Function.{AreWithin, Function, IsFunction, Range, first_body, first_from, in_body, in_range, last_end}
 use Rattle.unwind_definitions.specs.DescribedRows.{DescribesRows, HasRow}
 use Rattle.eh_frame.specs.Walked.{due_row}
-use Rattle.table_check.specs.Programs.{AreEdgesQuiet, AreEndsQuiet, Fits, IsDue, IsQuiet}
+use Rattle.table_check.specs.Programs.{AreEdgesQuiet, Fits, IsDue, IsQuiet}
 
 -- ---- between changes
 
@@ -43,21 +43,11 @@ module _ (pc next a : ℕ) (from : pc ≤ a) (below : a < next) where
       before (inl low) = absurd (omega arith)
       before (inr high) = omega arith
 
-  module _ (start : ℕ) (after : start ≤ pc) where
-    same_end : (x : ℕ) → (x ≤ pc - start) ⊎ (next ≤ start + x) → nat_le x (a - start) ≡ nat_le x (pc - start)
-    same_end x (inl low) = le-leb x (a - start) (omega arith) ∙ sym (le-leb x (pc - start) low)
-    same_end x (inr high) = lt-leb x (a - start) (omega arith) ∙ sym (lt-leb x (pc - start) (omega arith))
-
-    same_filter : (ps : List PrologueStep) → AreEndsQuiet start pc next ps → filter (λ (p : PrologueStep). nat_le p.end (a - start)) ps ≡ filter (λ (p : PrologueStep). nat_le p.end (pc - start)) ps
-    same_filter [] quiet = refl
-    same_filter (p ∷ ps) quiet = ap (λ b. cond b (p ∷ filter (λ (q : PrologueStep). nat_le q.end (a - start)) ps) (filter (λ (q : PrologueStep). nat_le q.end (a - start)) ps)) (same_end p.end quiet.0)
-        ∙ ap (λ l. cond (nat_le p.end (pc - start)) (p ∷ l) l) (same_filter ps quiet.1)
-
 -- where a row fits that is due at an address, one that is due later fits, up to the next change
 pub fits_on : (f : Function) (pc next a : ℕ) (due : Result RowInstructions Fault) → pc ≤ a → a < next → f.start ≤ pc → next ≤ f.end → IsQuiet f pc next → Fits f pc due → Fits f a due
 fits_on f pc next a due from below after inside quiet fits = record {
   body = λ inner is. fits.body inner (subst IsTrue (same_in pc next a from below f.bodies quiet.edges) is);
-  prologue = λ inner is. let ended = ap steps_of (same_filter pc next a from below f.start after f.prologue quiet.ends) in
+  prologue = λ inner is. let ended = quiet.ends a from below in
       let there = fits.prologue inner (before_first pc next a from below f.end f.bodies quiet.edges inside is) in
       rw ended there;
   outermost = λ outer is. fits.outermost outer (subst IsTrue (same_in pc next a from below f.bodies quiet.edges) is);
@@ -119,14 +109,6 @@ module _ (bases : Bases) (f : Function) (fde : Fde) (start : fde.start ≡ f.sta
 
 -- ---- changes, one after another
 
-pub ends_sooner : (start pc m n : ℕ) (ps : List PrologueStep) → m ≤ n → AreEndsQuiet start pc n ps → AreEndsQuiet start pc m ps
-ends_sooner start pc m n [] le quiet = tt
-ends_sooner start pc m n (p ∷ ps) le quiet = (sooner quiet.0, ends_sooner start pc m n ps le quiet.1)
-  where
-    sooner : (p.end ≤ pc - start) ⊎ (n ≤ start + p.end) → (p.end ≤ pc - start) ⊎ (m ≤ start + p.end)
-    sooner (inl low) = inl low
-    sooner (inr high) = inr (omega arith)
-
 pub sooner_than : (pc m n x : ℕ) → m ≤ n → (x ≤ pc) ⊎ (n ≤ x) → (x ≤ pc) ⊎ (m ≤ x)
 sooner_than pc m n x le (inl low) = inl low
 sooner_than pc m n x le (inr high) = inr (omega arith)
@@ -134,8 +116,3 @@ sooner_than pc m n x le (inr high) = inr (omega arith)
 pub edges_sooner : (pc m n : ℕ) (rs : List Range) → m ≤ n → AreEdgesQuiet pc n rs → AreEdgesQuiet pc m rs
 edges_sooner pc m n [] le quiet = tt
 edges_sooner pc m n (r ∷ rs) le quiet = ((sooner_than pc m n r.from le quiet.0.0, sooner_than pc m n r.to le quiet.0.1), edges_sooner pc m n rs le quiet.1)
-
--- an end that is added without passing the highest address
-pub end_quiet : (start pc end sum next limit : ℕ) → start ≤ pc → pc < limit → limit < 2 ^ 64 → sum ≡ min (start + end) (2 ^ 64 - 1) → (sum ≤ pc) ⊎ (next ≤ sum) → (end ≤ pc - start) ⊎ (next ≤ start + end)
-end_quiet start pc end sum next limit after below fits is (inl low) = inl (omega arith)
-end_quiet start pc end sum next limit after below fits is (inr high) = inr (omega arith)

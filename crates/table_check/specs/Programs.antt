@@ -26,15 +26,11 @@ IsPlace f pc place.Prologue = (f.outermost ≡ false) × (in_body f pc ≡ false
 IsPlace f pc place.Outermost = (f.outermost ≡ true) × (in_body f pc ≡ true)
 IsPlace f pc place.Free = (in_body f pc ≡ false) × ((f.outermost ≡ true) ⊎ (first_body f ≤ pc))
 
--- no step has ended after an address and before another
-abbrev pub AreEndsQuiet : ℕ → ℕ → ℕ → List PrologueStep → Type 0
-AreEndsQuiet start pc next prologue = AllByRecursion (λ (p : PrologueStep). (p.end ≤ pc - start) ⊎ (next ≤ start + p.end)) prologue
-
 -- no range begins or ends after an address and before another
 abbrev pub AreEdgesQuiet : ℕ → ℕ → List Range → Type 0
 AreEdgesQuiet pc next ranges = AllByRecursion (λ (r : Range). ((r.from ≤ pc) ⊎ (next ≤ r.from)) × ((r.to ≤ pc) ⊎ (next ≤ r.to))) ranges
 
 -- from an address on, up to another, the same is asked
 pub record IsQuiet (f : Function) (pc next : ℕ) : Type 0 where
-  pub ends : AreEndsQuiet f.start pc next f.prologue
+  pub ends : (a : ℕ) → pc ≤ a → a < next → ended_by (a - f.start) f.prologue ≡ ended_by (pc - f.start) f.prologue
   pub edges : AreEdgesQuiet pc next f.bodies

@@ -1,6 +1,6 @@
 //! The rules of a row that say where a function's caller has its registers. DWARF 5 section 6.4.1.
 
-ghost use Rattle.std.specs.Prelude.{◌≡◌, MatchOption, None, Some, true};
+ghost use Rattle.std.specs.Prelude.{◌≡◌, None, Some, false, true};
 ghost use Rattle.std.specs.Option.{option_map, option_or};
 ghost use Rattle.unwind_definitions.specs.Columns as column;
 ghost use Rattle.unwind_definitions.specs.State.{CalleeSaved as Kept, column_of};
@@ -21,7 +21,7 @@ use std::marker::Model;
 #[derive(Drop)]
 pub(crate) struct FrameRow<'w, 'r, 'a> {
     row: &'w RowRef<'r, 'a>,
-    rules: FrameRules<'a>,
+    rules: &'w FrameRules<'a>,
 }
 
 impl<'w, 'r, 'a> Model for FrameRow<'w, 'r, 'a> {
@@ -32,19 +32,16 @@ impl<'w, 'r, 'a> Model for FrameRow<'w, 'r, 'a> {
 
     ghost view = { λ f. f.row.now };
 
-    ghost invariant = { λ f. AreFrameRules f.row.now.rules f.rules };
+    ghost invariant = { λ f. AreFrameRules f.row.now.rules f.rules.now };
 }
 
 impl<'w, 'r, 'a> FrameRow<'w, 'r, 'a> {
-    /// A row, `None` where it has rules for other registers too.
-    pub(crate) fn of(row: &'w RowRef<'r, 'a>) -> Option<FrameRow<'w, 'r, 'a>>
-        ensures { MatchOption result (HasNoOthers row.now.rules → ⊥)
-            (λ known. (known ≡ row.now) × HasNoOthers row.now.rules) }
+    /// A row that has these rules.
+    pub(crate) fn new(row: &'w RowRef<'r, 'a>, rules: &'w FrameRules<'a>) -> FrameRow<'w, 'r, 'a>
+        requires { AreFrameRules row.now.rules rules.now }
+        ensures { result ≡ row.now }
     {
-        match FrameRules::of(row) {
-            Some(rules) => Some(FrameRow { row, rules }),
-            None => None,
-        }
+        FrameRow { row, rules }
     }
 
     /// How the CFA is found.
@@ -79,7 +76,7 @@ impl<'w, 'r, 'a> FrameRow<'w, 'r, 'a> {
 
 /// The rules that a row has for the registers that functions keep, and for the return address.
 #[derive(Clone, Copy)]
-struct FrameRules<'a> {
+pub(crate) struct FrameRules<'a> {
     rbx: Option<RegisterRule<'a>>,
     rbp: Option<RegisterRule<'a>>,
     r12: Option<RegisterRule<'a>>,
@@ -90,21 +87,8 @@ struct FrameRules<'a> {
 }
 
 impl<'a> FrameRules<'a> {
-    // Those of a row, `None` where it has rules for other registers too.
-    fn of(row: &RowRef<'_, 'a>) -> Option<FrameRules<'a>>
-        ensures { MatchOption result (HasNoOthers row.now.rules → ⊥) (AreFrameRules row.now.rules) }
-    {
-        let mut rules = FrameRules::new();
-        for entry in row.registers() {
-            if !rules.note(entry.0, entry.1) {
-                return None;
-            }
-        }
-        Some(rules)
-    }
-
-    // Those of a row without rules.
-    fn new() -> FrameRules<'a>
+    /// Those of a row without rules.
+    pub(crate) fn new() -> FrameRules<'a>
         ensures saved { (r : Kept) → kept_rule r result ≡ None }
         ensures ret { return_rule result ≡ None }
     {
@@ -117,6 +101,22 @@ impl<'a> FrameRules<'a> {
             r15: None,
             return_address: None,
         }
+    }
+
+    /// Adds those of a row to none. `false` where it has rules for other registers too; which these
+    /// are is then unspecified.
+    pub(crate) fn read(&mut self, row: &RowRef<'_, 'a>) -> bool
+        requires saved { (r : Kept) → kept_rule r self.old ≡ None }
+        requires ret { return_rule self.old ≡ None }
+        ensures known { result ≡ true → AreFrameRules row.now.rules self.new }
+        ensures others { result ≡ false → HasNoOthers row.now.rules → ⊥ }
+    {
+        for entry in row.registers() {
+            if !self.note(entry.0, entry.1) {
+                return false;
+            }
+        }
+        true
     }
 
     // Notes a register's rule, unless it has one. `false` of a register that isn't one of these.

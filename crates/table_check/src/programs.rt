@@ -15,10 +15,10 @@ ghost use Rattle.encoded_pointers.specs.PointerViews.{bases_of};
 ghost use Rattle.eh_frame.specs.EntryViews.{fde_of};
 ghost use Rattle.frame_rows.specs.Rows.{GivesRow};
 ghost use Rattle.frame_rows.specs.Walks.{IsBefore, IsWalking, end_of};
-ghost use Rattle.table_check.specs.ClaimViews.{function_of, prologue_step_of, range_of};
+ghost use Rattle.table_check.specs.ClaimViews.{function_of, range_of};
 ghost use Rattle.table_check.specs.Frames.{IsFrameAfter};
-ghost use Rattle.table_check.specs.Programs.{AreEdgesQuiet, AreEndsQuiet, Fits, IsPlace};
-ghost use Rattle.table_check.specs.Programs.{IsQuiet};
+ghost use Rattle.table_check.specs.Programs.{AreEdgesQuiet, Fits, IsPlace, IsQuiet};
+ghost use Rattle.table_check.specs.Running.{IsRunning, next_end_of};
 
 use crate::claims::{AddressRange, Claim, ClaimedStep};
 use crate::prologue::FrameSoFar;
@@ -63,7 +63,7 @@ pub(crate) fn has_rows<'a>(
         if !fits_at(claim, walk, &running.frame, pc) {
             return false;
         }
-        pc = next_change(claim, walk, pc);
+        pc = next_change(claim, walk, &running, pc);
         if walk.end() == Some(pc) {
             fde.go_on(bases, walk);
         }
@@ -72,10 +72,13 @@ pub(crate) fn has_rows<'a>(
 }
 
 // The next address at which another row may hold, or another be asked.
-fn next_change(claim: &Claim, walk: &RowWalk<'_>, pc: u64) -> u64
+fn next_change(claim: &Claim, walk: &RowWalk<'_>, running: &RunningFrame, pc: u64) -> u64
     requires start { claim.now.start ≤ pc }
     requires inside { pc < claim.now.end }
     requires row { IsBefore pc (end_of walk.now) }
+    requires running { IsRunning running.now (pc - claim.now.start) claim.now.steps.items }
+    requires step { IsBefore (pc - claim.now.start)
+        (next_end_of running.now claim.now.steps.items) }
     ensures ahead { pc < result }
     ensures inside { result ≤ claim.now.end }
     ensures row { MatchOption (end_of walk.now) (Unit {0}) (λ end. result ≤ end) }
@@ -85,23 +88,24 @@ fn next_change(claim: &Claim, walk: &RowWalk<'_>, pc: u64) -> u64
     if let Some(end) = walk.end() {
         next = next.min(end);
     }
-    next = next_end(&claim.steps, claim.start, pc, next);
+    next = next_end(&claim.steps, running, claim.start, pc, next);
     next_edge(&claim.bodies, pc, next)
 }
 
 // The next address at which a step has ended, below another.
-fn next_end(steps: &[ClaimedStep], start: u64, pc: u64, limit: u64) -> u64
+fn next_end(steps: &[ClaimedStep], running: &RunningFrame, start: u64, pc: u64, limit: u64) -> u64
     requires start { start ≤ pc }
     requires inside { pc < limit }
+    requires step { IsBefore (pc - start) (next_end_of running.now steps.now) }
     ensures ahead { pc < result }
     ensures limited { result ≤ limit }
-    ensures quiet { AreEndsQuiet start pc result (map prologue_step_of steps.now) }
+    ensures before { (a : ℕ) → pc ≤ a → a < result →
+        IsBefore (a - start) (next_end_of running.now steps.now) }
 {
-    let mut next = limit;
-    for step in steps {
-        next = nearer(next, start.saturating_add(step.end), pc);
+    match running.next_end(steps) {
+        Some(end) => limit.min(start.saturating_add(end)),
+        None => limit,
     }
-    next
 }
 
 // The next address at which a part of the body begins or ends, below another.

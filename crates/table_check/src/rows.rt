@@ -15,7 +15,7 @@ ghost use Rattle.table_check.specs.FrameRows.{FindsIn, FindsLateIn, HasNoOthers,
 ghost use Rattle.table_check.specs.FrameRows.{HasSmallOffset, IsBodyValue, IsOutermostValue};
 ghost use Rattle.table_check.specs.FrameRows.{IsPrologueValue};
 
-use crate::frame_rules::FrameRow;
+use crate::frame_rules::{FrameRow, FrameRules};
 use crate::prologue::{CalleeSaved, FrameSoFar};
 use eh_frame::{CfaRule, Register, RegisterRule, RowRef};
 
@@ -31,10 +31,11 @@ pub(crate) fn is_body_row(row: &RowRef<'_, '_>, frame: &FrameSoFar) -> bool
     ensures { (steps : List Step) → IsFrameAfter frame.now steps →
         Decides result (IsBodyValue steps row.now) }
 {
-    match FrameRow::of(row) {
-        Some(known) => is_known_body_row(&known, frame),
-        None => false,
+    let mut rules = FrameRules::new();
+    if !rules.read(row) {
+        return false;
     }
+    is_known_body_row(&FrameRow::new(row, &rules), frame)
 }
 
 /// Whether a row is that of a frame inside its prologue, of which these steps have run.
@@ -42,20 +43,22 @@ pub(crate) fn is_prologue_row(row: &RowRef<'_, '_>, frame: &FrameSoFar) -> bool
     ensures { (steps : List Step) → IsFrameAfter frame.now steps →
         Decides result (IsPrologueValue steps row.now) }
 {
-    match FrameRow::of(row) {
-        Some(known) => is_known_prologue_row(&known, frame),
-        None => false,
+    let mut rules = FrameRules::new();
+    if !rules.read(row) {
+        return false;
     }
+    is_known_prologue_row(&FrameRow::new(row, &rules), frame)
 }
 
 /// Whether a row is that of an outermost frame, which has no caller to return to.
 pub(crate) fn is_outermost_row(row: &RowRef<'_, '_>) -> bool
     ensures { Decides result (IsOutermostValue row.now) }
 {
-    match FrameRow::of(row) {
-        Some(known) => is_known_outermost_row(&known),
-        None => false,
+    let mut rules = FrameRules::new();
+    if !rules.read(row) {
+        return false;
     }
+    is_known_outermost_row(&FrameRow::new(row, &rules))
 }
 
 fn is_known_body_row(row: &FrameRow<'_, '_, '_>, frame: &FrameSoFar) -> bool

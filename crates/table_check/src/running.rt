@@ -1,11 +1,12 @@
 //! The frame of a prologue whose steps are run one after another. System V x86-64 psABI, section
 //! 3.2.2.
 
-ghost use Rattle.std.specs.Prelude.{[], map};
+ghost use Rattle.std.specs.Prelude.{◌≡◌, [], map};
 ghost use Rattle.unwind_definitions.specs.DescribedRows.{ended_by};
 ghost use Rattle.table_check.specs.ClaimViews.{prologue_step_of};
 ghost use Rattle.table_check.specs.Frames.{IsFrameAfter, MayGoOn};
-ghost use Rattle.table_check.specs.Running.{IsRunning};
+ghost use Rattle.frame_rows.specs.Walks.{IsBefore};
+ghost use Rattle.table_check.specs.Running.{IsRunning, next_end_of};
 
 use crate::claims::ClaimedStep;
 use crate::prologue::FrameSoFar;
@@ -38,6 +39,7 @@ impl RunningFrame {
         ensures running { IsRunning self.new offset steps.now }
         ensures frame { IsFrameAfter self.new.frame
             (ended_by offset (map prologue_step_of steps.now)) }
+        ensures ahead { IsBefore offset (next_end_of self.new steps.now) }
     {
         for i in self.taken..steps.len() {
             if steps[i].end > offset {
@@ -45,6 +47,17 @@ impl RunningFrame {
             }
             self.frame.take(steps[i].step);
             self.taken = i + 1;
+        }
+    }
+
+    /// How many bytes after the function's start the first step has ended that hasn't run, `None`
+    /// where all have.
+    pub(crate) fn next_end(&self, steps: &[ClaimedStep]) -> Option<u64>
+        ensures { result ≡ next_end_of self.now steps.now }
+    {
+        match steps.get(self.taken) {
+            Some(step) => Some(step.end),
+            None => None,
         }
     }
 }

@@ -8,7 +8,7 @@ use Rattle.eh_frame.specs.Walked.{due_row}
 use Rattle.frame_rows.specs.Walks.{IsBefore, end_of}
 use Rattle.table_check.specs.ClaimViews.{function_of, prologue_step_of}
 use Rattle.table_check.specs.Frames.{MayGoOn}
-use Rattle.table_check.specs.Running.{IsRunning}
+use Rattle.table_check.specs.Running.{IsRunning, next_end_of}
 use Rattle.table_check.proofs.Deciding.{decides_no, decides_not, decides_yes}
 use Rattle.table_check.proofs.Prologues.{goes_on_prologue}
 use Rattle.table_check.proofs.Quiet.{all_fit, fit_all, fits_on}
@@ -108,3 +108,9 @@ loop-pc-preserved c =
             ((c.fits_at.ensures (coding_of bases fde.cie) inv.0 a (due_row bases fde) inv.1 (omega (arith, from, after)) (before_next (end_of c.loop-pc.walk) a next below c.next_change-pc.ensures.row)).0 c.if-not-fits_at.false)
       ],
     )
+
+pub next_change-pc-requires-clause-running : goal.next_change-pc-requires-clause-running
+next_change-pc-requires-clause-running c = subst (IsRunning c.run_to.new.self (c.loop-pc.pc - c.args.claim.now.start)) c.deref-in-loop-pc.ensures.value c.run_to.ensures.running
+
+pub next_change-pc-requires-clause-step : goal.next_change-pc-requires-clause-step
+next_change-pc-requires-clause-step c = subst (λ steps. IsBefore (c.loop-pc.pc - c.args.claim.now.start) (next_end_of c.run_to.new.self steps)) c.deref-in-loop-pc.ensures.value c.run_to.ensures.ahead

@@ -1,26 +1,27 @@
-use Rattle.std.proofs.Common.{◌⊎◌, ◌+◌, ◌-◌, ◌≤◌, List, map, take, arith}
-use Rattle.unwind_definitions.specs.Prologue.{PrologueStep}
-use Rattle.table_check.specs.declared.claims.ClaimedStep.{ClaimedStep}
-use Rattle.table_check.specs.declared.claims.ClaimStep.TheVariants as claimed
-use Rattle.table_check.specs.ClaimViews.{prologue_step_of}
-use Rattle.table_check.proofs.GoneThrough.{all_more}
-use Rattle.table_check.proofs.Quiet.{end_quiet, ends_sooner}
+use Rattle.std.proofs.Common.{◌≡◌, ℕ, ◌-◌, ◌<◌, Some, None, sym, subst, ◌∙◌, arith}
+use Rattle.frame_rows.specs.Walks.{IsBefore}
+use Rattle.table_check.specs.Running.{next_end_of}
 use Rattle.table_check.proofs.programs.next_end.Goals as goal
 
-abbrev unread : ClaimedStep
-unread = record { end = 0; step = claimed.Push (record { 0 = 0 }) }
+pub returns-in-Some-clause-ahead : goal.returns-in-Some-clause-ahead
+returns-in-Some-clause-ahead c =
+    let is : next_end_of c.args.running.now c.args.steps.now ≡ Some c.in-Some.end = sym c.next_end.ensures ∙ c.in-Some.is in
+    let past : c.args.pc - c.args.start < c.in-Some.end = subst (IsBefore (c.args.pc - c.args.start)) is c.requires.step in
+    let start = c.requires.start in
+    let inside = c.requires.inside in
+    let sum = c.saturating_add.ensures in
+    let least = c.min.ensures in
+    let fits = c.ranges.limit.fits in
+    omega (arith, past, start, inside, sum, least, fits)
 
-pub loop-step-preserved : goal.loop-step-preserved
-loop-step-preserved c =
-    let xs : List ClaimedStep = c.args.steps.now in
-    let i = c.loop-step.step-index in
-    let inv = c.loop-step.invariant in
-    let next = c.nearer-next.result in
-    let less = c.nearer-next.ensures.limited in
-    let bound = inv.1 in
-    let so_far = ends_sooner c.args.start c.args.pc next c.loop-step.next (map prologue_step_of (take i xs)) less inv.2 in
-    let here = end_quiet c.args.start c.args.pc _ c.saturating_add.result next c.args.limit c.requires.start c.requires.inside c.ranges.limit.fits c.saturating_add.ensures c.nearer-next.ensures.quiet in (
-      c.nearer-next.ensures.ahead,
-      omega (arith, less, bound),
-      all_more prologue_step_of (λ (p : PrologueStep). (p.end ≤ c.args.pc - c.args.start) ⊎ (next ≤ c.args.start + p.end)) xs i unread c.loop-step-test.true so_far here,
-    )
+pub returns-in-Some-clause-before : goal.returns-in-Some-clause-before
+returns-in-Some-clause-before c a from below =
+    let is : next_end_of c.args.running.now c.args.steps.now ≡ Some c.in-Some.end = sym c.next_end.ensures ∙ c.in-Some.is in
+    let start = c.requires.start in
+    let sum = c.saturating_add.ensures in
+    let least = c.min.ensures in
+    let past : a - c.args.start < c.in-Some.end = omega (arith, from, below, start, sum, least) in
+    subst (IsBefore (a - c.args.start)) (sym is) past
+
+pub returns-in-None-clause-before : goal.returns-in-None-clause-before
+returns-in-None-clause-before c a from below = subst (IsBefore (a - c.args.start)) (sym (sym c.next_end.ensures ∙ c.in-None.is)) tt

@@ -1,7 +1,8 @@
-use Rattle.std.proofs.Common.{◌+◌, List, refl, arith}
+use Rattle.std.proofs.Common.{◌+◌, List, refl, sym, subst, arith}
+use Rattle.frame_rows.specs.Walks.{IsBefore}
 use Rattle.table_check.specs.declared.claims.ClaimedStep.{ClaimedStep}
 use Rattle.table_check.specs.declared.claims.ClaimStep.TheVariants as claimed
-use Rattle.table_check.proofs.Runs.{all_run, next_later, next_may, next_runs}
+use Rattle.table_check.proofs.Runs.{all_run, next_at, next_later, next_may, next_runs, no_next}
 use Rattle.table_check.proofs.running.RunningFrame.run_to.Goals as goal
 
 abbrev unread : ClaimedStep
@@ -27,3 +28,15 @@ returns-clause-frame c =
     let inv = c.loop-i.invariant in
     let done = c.loop-i-test.false in let at = inv.0 in
     all_run c.loop-i.self c.args.offset c.args.steps.now inv.1 (omega (arith, done, at))
+
+pub returns-then-steps-i-clause-ahead : goal.returns-then-steps-i-clause-ahead
+returns-then-steps-i-clause-ahead c =
+    let inv = c.loop-i.invariant in
+    let past = c.if-steps-i.true in
+    subst (IsBefore c.args.offset) (sym (next_at c.loop-i.self c.args.steps.now c.loop-i.i inv.0 unread c.loop-i-test.true)) past
+
+pub returns-clause-ahead : goal.returns-clause-ahead
+returns-clause-ahead c =
+    let inv = c.loop-i.invariant in
+    let done = c.loop-i-test.false in let at = inv.0 in
+    subst (IsBefore c.args.offset) (sym (no_next c.loop-i.self c.args.steps.now (omega (arith, done, at)))) tt

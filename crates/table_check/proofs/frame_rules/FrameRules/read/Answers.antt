@@ -10,14 +10,14 @@ use Rattle.table_check.specs.FrameRows.{HasNoOthers}
 use Rattle.table_check.specs.FrameRules.{kept_rule, return_rule}
 use Rattle.table_check.proofs.Noting.{noted}
 use Rattle.table_check.proofs.RuleEntries.{none_left, none_more}
-use Rattle.table_check.proofs.frame_rules.FrameRules.of.Goals as goal
+use Rattle.table_check.proofs.frame_rules.FrameRules.read.Goals as goal
 
 pub loop-entry-preserved : goal.loop-entry-preserved
 loop-entry-preserved c =
     let e : ℕ × Rule = entry_of c.in-Some.entry in
     let es : List (ℕ × Rule) = map entry_of (registers_left c.next.new.self) in
     let left : map entry_of (registers_left c.loop-entry.entry-iterator) ≡ e ∷ es = ap (map entry_of) c.in-Some.ensures.steps in
-    let before = c.loop-entry.rules in
+    let before = c.loop-entry.self in
     let known = c.loop-entry.invariant in
     let may : may_have_rule e.0 ≡ true = sym c.note.ensures.known ∙ c.if-not-note.false in (
       λ none. known.0 (subst HasNoOthers (sym left) (none_more e es may none)),
