@@ -7,7 +7,6 @@ use Rattle.unwind_definitions.specs.Columns as column
 use Rattle.unwind_definitions.specs.Instructions.{Rule}
 use Rattle.unwind_definitions.specs.DescribedRows.{may_have_rule}
 use Rattle.unwind_definitions.specs.State.{CalleeSaved, RBX, RBP, R12, R13, R14, R15, column_of}
-use Rattle.unwind_arch.specs.declared.register.Register.{Register}
 use Rattle.frame_rows.specs.Rules.{AscendsFrom, rule_in}
 use Rattle.frame_facts.specs.Facts.{Facts}
 use Rattle.frame_facts.specs.FactRows.{FindsKnown, return_rule}
@@ -156,13 +155,16 @@ module _ (facts : Facts) (rules : List (ℕ × Rule)) where
 
 -- ---- what a row lacks
 
-pub lacking_other : (known : ClaimedFacts) (r : CalleeSaved) (rule : Option Rule) → lacks (known_of known.registers r) rule ≡ true → IsOtherRule (facts_of known) (column_of r) rule
-lacking_other known r None is = inr (inl (r, refl, λ finds. unfound (known_found known r None finds)))
+lacking_other : (known : ClaimedFacts) (r : CalleeSaved) → lacks (known_of known.registers r) None ≡ true → IsOtherRule (facts_of known) (column_of r) None
+lacking_other known r is = inr (inl (r, refl, λ finds. unfound (known_found known r None finds)))
   where
     unfound : IsFound (known_of known.registers r) None → ⊥
     unfound (inl (d, slot, is)) = cc
     unfound (inr (kept, unchanged)) = let no : lacks (known_of known.registers r) None ≡ false = rw kept refl in cc
-lacking_other known r (Some rule) is = absurd (go (known_of known.registers r).is_kept refl)
+
+pub lacking_there : (known : ClaimedFacts) (r : CalleeSaved) (rule : Option Rule) → lacks (known_of known.registers r) rule ≡ true → IsOtherRule (facts_of known) (column_of r) rule × (rule ≡ None)
+lacking_there known r None is = (lacking_other known r is, refl)
+lacking_there known r (Some rule) is = absurd (go (known_of known.registers r).is_kept refl)
   where
     go : (b : Bool) → (known_of known.registers r).is_kept ≡ b → ⊥
     go true kept = let no : lacks (known_of known.registers r) (Some rule) ≡ false = rw kept refl in cc
@@ -176,10 +178,9 @@ kept_found known r rule is none = go (known_of known.registers r).is_kept refl
     go false kept = absurd (let yes : lacks (known_of known.registers r) rule ≡ true = rw (kept, none) refl in cc)
 
 -- where none is lacking, all rules say the facts
-pub or_lacking : (facts : Facts) (rules : List (ℕ × Rule)) (o : Option Register) → (LacksNone facts rules → RulesSay facts rules) → MatchOption o (LacksNone facts rules) (λ c. IsOtherRule facts c.0 (rule_in rules c.0)) →
-    MatchOption o (RulesSay facts rules) (λ c. IsOtherRule facts c.0 (rule_in rules c.0))
-or_lacking facts rules None all lacks_none = all lacks_none
-or_lacking facts rules (Some c) all other = other
+pub or_lacking : {X : Type 0} (facts : Facts) (rules : List (ℕ × Rule)) (P : X → Type 0) (o : Option X) → (LacksNone facts rules → RulesSay facts rules) → MatchOption o (LacksNone facts rules) P → MatchOption o (RulesSay facts rules) P
+or_lacking facts rules P None all lacks_none = all lacks_none
+or_lacking facts rules P (Some c) all other = other
 
 -- ---- a rule that isn't as asked
 

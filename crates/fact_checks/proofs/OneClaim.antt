@@ -1,5 +1,5 @@
 -- The differences of one claim.
-use Rattle.std.proofs.Common.{◌≡◌, ℕ, ◌+◌, ◌<◌, ◌≤◌, true, false, List, [], ◌∷◌, Some, Ok, Result, refl, sym, ap, subst, ◌∙◌, inl, inr, arith}
+use Rattle.std.proofs.Common.{◌≡◌, ℕ, ◌+◌, ◌<◌, ◌≤◌, true, false, List, [], ◌∷◌, Some, Ok, Result, refl, sym, ap, subst, ◌∙◌, inl, inr, ◌⊎◌, arith}
 use Rattle.std.specs.Prelude.{IsTrue}
 use Rattle.std.specs.List.{AllPairs, Contains}
 use Rattle.unwind_definitions.specs.declared.error.Error.{Error as Fault}
@@ -16,11 +16,11 @@ use Rattle.frame_facts.specs.Claims.{Claim, IsClaimSaid}
 use Rattle.fact_checks.specs.declared.rows.Mismatch.{Mismatch}
 use Rattle.fact_checks.specs.declared.rows.Mismatch.TheVariants as mismatch
 use Rattle.fact_checks.specs.declared.stretches.Difference.{Difference}
-use Rattle.fact_checks.specs.Audits.{AreDifferencesOf, ContainsRange, IsDifferenceOf, SaysNot}
+use Rattle.fact_checks.specs.Audits.{AreDifferencesOf, ContainsRange, IsDifferenceOf, IsListedAt, SaysNot}
 use Rattle.fact_checks.specs.Looking.{MayAsk, RefusesRange}
 use Rattle.fact_checks.specs.RowFacts.{Differs, IsOtherRule, SaysDue}
-use Rattle.fact_checks.specs.Stretches.{AreDifferences, IsDifference}
-use Rattle.fact_checks.proofs.Spans.{all_as}
+use Rattle.fact_checks.specs.Stretches.{AreDifferences, IsDifference, IsSaidOrListed}
+use Rattle.fact_checks.proofs.Spans.{all_as, none_said}
 use Rattle.fact_checks.proofs.Unique.{in_range_is, one_description, range_holds, row_is_due}
 
 -- ---- a row that differs says no facts
@@ -37,8 +37,8 @@ run_same : (due : Result RowInstructions Fault) (x y : RowInstructions) → due 
 run_same due x y a b = let e : ◌≡◌ {A = Result RowInstructions Fault} (Ok x) (Ok y) = sym a ∙ b in cc
 
 pub differs_says : (facts : Facts) (due : Result RowInstructions Fault) (m : Mismatch) → Differs facts due m → SaysDue facts due → ⊥
-differs_says facts due mismatch.Cfa (run, is, (rule, cfa, fails)) (said, due_is, says) = cfa_says facts run rule cfa fails (subst (SaysFacts facts) (run_same due said run due_is is) says)
-differs_says facts due (mismatch.Rule register) (run, is, other) (said, due_is, says) = other_says facts run register.0 other (subst (SaysFacts facts) (run_same due said run due_is is) says)
+differs_says facts due (mismatch.Cfa by) (run, is, (rule, cfa, fails, same)) (said, due_is, says) = cfa_says facts run rule cfa fails (subst (SaysFacts facts) (run_same due said run due_is is) says)
+differs_says facts due (mismatch.Rule register by) (run, is, other, same) (said, due_is, says) = other_says facts run register.0 other (subst (SaysFacts facts) (run_same due said run due_is is) says)
 differs_says facts due (mismatch.Fault e) is (said, due_is, says) = let h = sym is ∙ due_is in absurd cc
 differs_says facts due mismatch.NoDescription h says = absurd h
 differs_says facts due mismatch.SignalFrame h says = absurd h
@@ -67,8 +67,8 @@ module _ (bases : Bases) (fdes : List Fde) (apart : AllPairs DescriptionsApart f
   not_said a mismatch.SignalFrame (at, fde, contains, signal) said =
       let same = same_fde fde said.fde contains (range_of_said said) in
       let h : true ≡ false = sym signal ∙ ap (λ (x : Fde). x.cie.letters.signal) same ∙ said.says.unmarked in absurd cc
-  not_said a mismatch.Cfa d said = by_row mismatch.Cfa a d.fde d.contains d.inside d.differs said
-  not_said a (mismatch.Rule r) d said = by_row (mismatch.Rule r) a d.fde d.contains d.inside d.differs said
+  not_said a (mismatch.Cfa by) d said = by_row (mismatch.Cfa by) a d.fde d.contains d.inside d.differs said
+  not_said a (mismatch.Rule r by) d said = by_row (mismatch.Rule r by) a d.fde d.contains d.inside d.differs said
   not_said a (mismatch.Fault e) d said = by_row (mismatch.Fault e) a d.fde d.contains d.inside d.differs said
 
   module _ (i : ℕ) where
@@ -76,11 +76,16 @@ module _ (bases : Bases) (fdes : List Fde) (apart : AllPairs DescriptionsApart f
     whole m = record { claim = i; address = c.range.from; mismatch = m }
 
     -- no description contains the range's first address
-    pub none_there : ((fde : Fde) → Contains fdes fde → covers_pc fde c.range.from ≡ false) → AreDifferencesOf bases fdes i c (whole mismatch.NoDescription ∷ [])
-    none_there none = record {
-      each = ((refl, (refl, λ fde x. let h : true ≡ false = sym (covers_from fde x.from x.to) ∙ none fde x.listed in absurd cc)), tt);
-      said = λ e. absurd cc;
-    }
+    module _ (none : (fde : Fde) → Contains fdes fde → covers_pc fde c.range.from ≡ false) where
+      none_contains : (fde : Fde) → ContainsRange bases fdes c fde → ⊥
+      none_contains fde x = let h : true ≡ false = sym (covers_from fde x.from x.to) ∙ none fde x.listed in absurd cc
+
+      pub none_there : AreDifferencesOf bases fdes i c (whole mismatch.NoDescription ∷ [])
+      none_there = record {
+        each = ((refl, (refl, none_contains)), tt);
+        every = λ fde x unmarked a inside. absurd (none_contains fde x);
+        said = λ e. absurd cc;
+      }
 
     module _ (fde : Fde) (listed : Contains fdes fde) (covers : covers_pc fde c.range.from ≡ true) where
       -- the description that contains it isn't asked
@@ -97,14 +102,20 @@ module _ (bases : Bases) (fdes : List Fde) (apart : AllPairs DescriptionsApart f
           ),
           tt,
         );
+        every = λ g x unmarked a inside. absurd
+            (let same = one_description fdes g fde c.range.from apart x.listed listed (covers_from g x.from x.to) covers in
+            short (subst (λ (y : Fde). c.range.to ≤ y.start + y.size) same x.to));
         said = λ e. absurd cc;
       }
       refused_there mismatch.SignalFrame (to, signal) = record {
         each = ((refl, (refl, fde, record { listed = listed; from = (covered fde c.range.from covers).0; to = to }, signal)), tt);
+        every = λ g x unmarked a inside. absurd
+            (let same = one_description fdes g fde c.range.from apart x.listed listed (covers_from g x.from x.to) covers in
+            let h : true ≡ false = sym signal ∙ ap (λ (y : Fde). y.cie.letters.signal) (sym same) ∙ unmarked in cc);
         said = λ e. absurd cc;
       }
-      refused_there mismatch.Cfa h = absurd h
-      refused_there (mismatch.Rule r) h = absurd h
+      refused_there (mismatch.Cfa by) h = absurd h
+      refused_there (mismatch.Rule r by) h = absurd h
       refused_there (mismatch.Fault e) h = absurd h
 
       module _ (may : MayAsk fde c) where
@@ -121,16 +132,30 @@ module _ (bases : Bases) (fdes : List Fde) (apart : AllPairs DescriptionsApart f
             inside = in_range_is c.range a from below
 
             go : (m : Mismatch) → Differs c.facts (row_at bases fde a) m → SaysNot bases fdes c a m
-            go mismatch.Cfa h = record { fde = fde; contains = contains; inside = inside; differs = h }
-            go (mismatch.Rule r) h = record { fde = fde; contains = contains; inside = inside; differs = h }
+            go (mismatch.Cfa by) h = record { fde = fde; contains = contains; inside = inside; differs = h }
+            go (mismatch.Rule r by) h = record { fde = fde; contains = contains; inside = inside; differs = h }
             go (mismatch.Fault e) h = record { fde = fde; contains = contains; inside = inside; differs = h }
             go mismatch.NoDescription h = absurd h
             go mismatch.SignalFrame h = absurd h
+
+        said_or_listed : (ds : List Difference) (a : ℕ) → c.range.from ≤ a → a < c.range.to → IsSaidOrListed bases fde i c ds a → SaysDue c.facts (row_at bases fde a) ⊎ IsListedAt c (row_at bases fde) ds a
+        said_or_listed ds a from below (inl says) = inl (subst (SaysDue c.facts) (sym (due_there a from below)) says)
+        said_or_listed ds a from below (inr is) = inr record {
+          difference = is.difference;
+          listed = is.listed;
+          inside = is.inside;
+          reached = is.reached;
+          differs = λ x after le. let inside = is.inside in subst (λ due. Differs c.facts due is.difference.mismatch) (sym (due_there x (omega (arith, inside, after)) (omega (arith, le, below)))) (is.differs x after le);
+        }
 
         -- its rows are asked
         pub rows_there : (low : ℕ) (ds : List Difference) → low ≤ c.range.from → AreDifferences bases fde i c low c.range.to ds → AreDifferencesOf bases fdes i c ds
         rows_there low ds le are = record {
           each = all_as (IsDifference bases fde i c c.range.to) (IsDifferenceOf bases fdes i c) ds (λ d is. (is.claim, says_not d.address d.mismatch is.from is.below is.differs)) are.each;
+          every = λ g x unmarked a inside.
+              let lies = range_holds c.range a inside in
+              let from = lies.0 in
+              subst (λ (f : Fde). SaysDue c.facts (row_at bases f a) ⊎ IsListedAt c (row_at bases f) ds a) (same_fde fde g contains x) (said_or_listed ds a lies.0 lies.1 (are.every a (omega (arith, from, le)) lies.0 lies.1));
           said = λ none. record {
             fde = fde;
             listed = listed;
@@ -139,7 +164,7 @@ module _ (bases : Bases) (fdes : List Fde) (apart : AllPairs DescriptionsApart f
               to = may.0;
               unmarked = may.1;
               each = λ a inside. let lies = range_holds c.range a inside in let from = lies.0 in
-                  subst (SaysDue c.facts) (sym (due_there a lies.0 lies.1)) (are.said none a (omega (arith, from, le)) lies.0 lies.1);
+                  subst (SaysDue c.facts) (sym (due_there a lies.0 lies.1)) (none_said bases fde i c low c.range.to a ds are none (omega (arith, from, le)) lies.0 lies.1);
             };
           };
         }

@@ -1,5 +1,5 @@
 -- A row says facts exactly where the instructions that it stands for do.
-use Rattle.std.proofs.Common.{Result, Ok, sym, subst, ◌∙◌}
+use Rattle.std.proofs.Common.{◌≡◌, Result, Ok, sym, subst, ◌∙◌}
 use Rattle.unwind_definitions.specs.declared.error.Error.{Error as Fault}
 use Rattle.unwind_definitions.specs.Columns as column
 use Rattle.unwind_definitions.specs.Row.{RowInstructions}
@@ -11,6 +11,9 @@ use Rattle.frame_rows.specs.Rules.{rule_in}
 use Rattle.frame_facts.specs.Facts.{Facts}
 use Rattle.frame_facts.specs.FactRows.{FindsKnown, IsKnownCfa}
 use Rattle.fact_checks.specs.declared.rows.Mismatch.TheVariants as mismatch
+use Rattle.fact_checks.specs.declared.said.SaidCfa.{SaidCfa}
+use Rattle.fact_checks.specs.declared.said.SaidRule.{SaidRule}
+use Rattle.fact_checks.specs.Said.{said_cfa, said_rule}
 use Rattle.fact_checks.specs.RowFacts.{Differs, IsOtherRule, RulesSay, SaysDue}
 
 module _ (facts : Facts) (row : RowValue) (due : Result RowInstructions Fault) (gives : GivesRow (Ok row) due) where
@@ -34,8 +37,8 @@ module _ (facts : Facts) (row : RowValue) (due : Result RowInstructions Fault) (
     },
   )
 
-  pub other_cfa : (IsKnownCfa facts row.cfa → ⊥) → Differs facts due mismatch.Cfa
-  other_cfa fails = (run, gives.1, (row.cfa, is.cfa, fails))
+  pub other_cfa : (said : SaidCfa) → said ≡ said_cfa row.cfa → (IsKnownCfa facts row.cfa → ⊥) → Differs facts due (mismatch.Cfa said)
+  other_cfa said same fails = (run, gives.1, (row.cfa, is.cfa, fails, same))
 
-  pub other_rule : (c : Register) → IsOtherRule facts c.0 (rule_in row.rules c.0) → Differs facts due (mismatch.Rule c)
-  other_rule c other = (run, gives.1, subst (IsOtherRule facts c.0) (is.rules c.0) other)
+  pub other_rule : (c : Register) (said : SaidRule) → IsOtherRule facts c.0 (rule_in row.rules c.0) → said ≡ said_rule (rule_in row.rules c.0) → Differs facts due (mismatch.Rule c said)
+  other_rule c said other same = (run, gives.1, subst (IsOtherRule facts c.0) (is.rules c.0) other, subst (λ rule. said ≡ said_rule rule) (is.rules c.0) same)

@@ -6,7 +6,6 @@ use Rattle.unwind_definitions.specs.Row.{ColumnAndOffset, RowInstructions, row_a
 use Rattle.frame_facts.specs.Facts.{Facts}
 use Rattle.frame_facts.specs.FactRows.{IsKnownCfa}
 use Rattle.frame_facts_laws.specs.SampleProgram as program
-use Rattle.fact_checks.specs.declared.rows.Mismatch.TheVariants.{Cfa}
 use Rattle.fact_checks.specs.Audits.{DiffersAt}
 use Rattle.fact_checks.specs.ClaimViews.{claim_of, facts_of}
 use Rattle.fact_checks.specs.SampleClaims as sample
@@ -19,11 +18,11 @@ not_known : (facts : Facts) → facts.rsp ≡ Some 32 → facts.rbp ≡ None →
 not_known facts rsp rbp (n, inl (is, e)) = let a : ◌≡◌ {A = Option ℕ} (Some 32) (Some n) = sym rsp ∙ is in let x : 32 ≡ n = cc in let y : 24 ≡ n = cc in omega (arith, x, y)
 not_known facts rsp rbp (n, inr (is, e)) = let a : ◌≡◌ {A = Option ℕ} None (Some n) = sym rbp ∙ is in absurd cc
 
-pub longer_differs : DiffersAt program.bases program.fdes (claim_of sample.longer) 0x40109e Cfa
+pub longer_differs : DiffersAt program.bases program.fdes (claim_of sample.longer) 0x40109e sample.mismatch
 unfolding row_at instruction_of
 longer_differs = record {
   fde = program.sums;
   contains = record { listed = (3, lit< tt, refl); from = lit≤ tt; to = lit≤ tt };
   inside = refl;
-  differs = (row_after, refl, (ColumnAndOffset column.rsp 24, refl, not_known (facts_of sample.longer) refl refl));
+  differs = (row_after, refl, (ColumnAndOffset column.rsp 24, refl, not_known (facts_of sample.longer) refl refl, refl));
 }

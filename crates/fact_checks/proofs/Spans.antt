@@ -1,9 +1,11 @@
 -- Differences between addresses, one row after another.
 use Rattle.std.proofs.Common.{◌≡◌, ℕ, ◌<◌, ◌≤◌, true, false, List, [], ◌∷◌, ◌++◌, Option, Some, None, Result, refl, ap, inl, inr, arith}
 use Rattle.std.specs.Prelude.{MatchOption, max}
-use Rattle.std.specs.List.{AllByRecursion}
+use Rattle.std.specs.List.{AllByRecursion, Contains}
 use Rattle.std.specs.Option.{option_eq}
 use Rattle.std.proofs.Common.{nat_eq}
+use Rattle.std.proofs.lemmas.List.Elements.{Contains-append_left, Contains-append_right}
+use Rattle.unwind_laws.proofs.Booleans.{first}
 use Rattle.std.proofs.lemmas.Bool.{cases_lt, eqb-true, eqb-false}
 use Rattle.unwind_definitions.specs.declared.error.Error.{Error as Fault}
 use Rattle.unwind_definitions.specs.Instructions.{Coding}
@@ -17,7 +19,7 @@ use Rattle.frame_facts.specs.Claims.{Claim}
 use Rattle.fact_checks.specs.declared.rows.Mismatch.{Mismatch}
 use Rattle.fact_checks.specs.RowFacts.{Differs, SaysDue}
 use Rattle.fact_checks.specs.declared.stretches.Difference.{Difference}
-use Rattle.fact_checks.specs.Stretches.{AreDifferences, AreSaid, HasRowAt, IsDifference}
+use Rattle.fact_checks.specs.Stretches.{AreDifferences, HasRowAt, IsDifference, IsSaidOrListed}
 
 -- ---- lists
 
@@ -28,10 +30,6 @@ all_both P (x ∷ xs) ys left right = (left.0, all_both P xs ys left.1 right)
 pub all_as : {X : Type 0} (P Q : X → Type 0) (xs : List X) → ((x : X) → P x → Q x) → AllByRecursion P xs → AllByRecursion Q xs
 all_as P Q [] to all = tt
 all_as P Q (x ∷ xs) to all = (to x all.0, all_as P Q xs to all.1)
-
-pub none_joined : {X : Type 0} (xs ys : List X) → xs ++ ys ≡ [] → (xs ≡ []) × (ys ≡ [])
-none_joined [] ys e = (refl, e)
-none_joined (x ∷ xs) ys e = absurd cc
 
 -- ---- where rows end
 
@@ -51,27 +49,37 @@ holds_before (Some x) a next below at = omega (arith, at, below)
 
 module _ (bases : Bases) (fde : Fde) (i : ℕ) (c : Claim) where
   pub no_differences : (low : ℕ) → AreDifferences bases fde i c low low []
-  no_differences low = record { each = tt; said = λ _ a above inside below. absurd (omega (arith, above, below)) }
+  no_differences low = record { each = tt; every = λ a above inside below. absurd (omega (arith, above, below)) }
+
+  -- where there are none, the rows say the facts
+  pub none_said : (low high a : ℕ) (ds : List Difference) → AreDifferences bases fde i c low high ds → ds ≡ [] → low ≤ a → c.range.from ≤ a → a < high → SaysDue c.facts (due_row bases fde a)
+  none_said low high a [] are none above inside below = elim (are.every a above inside below) [
+    | inl says ↦ says
+    | inr is ↦ absurd (let at = is.listed.1 in omega (arith, at))
+  ]
+  none_said low high a (d ∷ ds) are none above inside below = absurd cc
+
+  -- a longer list
+  listed_in : (a : ℕ) (ds es : List Difference) → ((d : Difference) → Contains ds d → Contains es d) → IsSaidOrListed bases fde i c ds a → IsSaidOrListed bases fde i c es a
+  listed_in a ds es into (inl says) = inl says
+  listed_in a ds es into (inr is) = inr record { difference = is.difference; listed = into is.difference is.listed; inside = is.inside; reached = is.reached; differs = is.differs }
 
   -- differences up to an address, and from there on
   pub more_differences : (low middle high : ℕ) (ds es : List Difference) → middle ≤ high → AreDifferences bases fde i c low middle ds → AreDifferences bases fde i c middle high es → AreDifferences bases fde i c low high (ds ++ es)
   more_differences low middle high ds es le left right = record {
     each = all_both (IsDifference bases fde i c high) ds es (all_as (IsDifference bases fde i c middle) (IsDifference bases fde i c high) ds (λ d is. let below = is.below in record { claim = is.claim; from = is.from; below = omega (arith, below, le); differs = is.differs }) left.each) right.each;
-    said = λ none. let both = none_joined ds es none in joined (left.said both.0) (right.said both.1);
+    every = λ a above inside below. elim (cases_lt a middle) [
+      | inl less ↦ listed_in a ds (ds ++ es) (Contains-append_left ds es) (left.every a above inside less)
+      | inr more ↦ listed_in a es (ds ++ es) (Contains-append_right ds es) (right.every a more inside below)
+    ];
   }
-    where
-      joined : AreSaid bases fde i c low middle → AreSaid bases fde i c middle high → AreSaid bases fde i c low high
-      joined before after a above inside below = elim (cases_lt a middle) [
-        | inl less ↦ before a above inside less
-        | inr more ↦ after a more inside below
-      ]
 
   -- the differences of the row that a walk has at an address, up to another
   module _ (walk : RowWalk) (low high : ℕ) (has : HasRowAt bases fde walk low) (row : MatchOption (end_of walk) (Unit {0}) (λ e. high ≤ e)) where
     pub no_difference : ((coding : Coding) (from a : ℕ) (due : ℕ → Result RowInstructions Fault) → IsWalking walk coding from due → from ≤ a → IsBefore a (end_of walk) → SaysDue c.facts (due a)) → AreDifferences bases fde i c low high []
     no_difference says = record {
       each = tt;
-      said = λ _ a above inside below. let reached = has.reached in says (coding_of bases fde.cie) has.from a (due_row bases fde) has.walking (omega (arith, reached, above)) (holds_before (end_of walk) a high below row);
+      every = λ a above inside below. let reached = has.reached in inl (says (coding_of bases fde.cie) has.from a (due_row bases fde) has.walking (omega (arith, reached, above)) (holds_before (end_of walk) a high below row));
     }
 
     pub one_difference : (place : ℕ) (m : Mismatch) → place ≡ max low c.range.from → low < high → c.range.from < high →
@@ -90,7 +98,13 @@ module _ (bases : Bases) (fde : Fde) (i : ℕ) (c : Claim) where
             },
             tt,
           );
-          said = λ e. absurd cc;
+          every = λ a above from limit. inr record {
+            difference = record { claim = i; address = place; mismatch = m };
+            listed = first (record { claim = i; address = place; mismatch = m }) [];
+            inside = omega (arith, at);
+            reached = omega (arith, at, above, from);
+            differs = λ x after le. differs (coding_of bases fde.cie) has.from x (due_row bases fde) has.walking (omega (arith, at, reached, after)) (holds_before (end_of walk) x high (omega (arith, le, limit)) row);
+          };
         }
 
 -- a walk that has gone to an address has the row there

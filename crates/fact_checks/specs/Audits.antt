@@ -1,12 +1,15 @@
 -- What an audit answers: where a module's tables don't say what is claimed, and why. DWARF 5 section 6.4.1; LSB, sections on the
 -- .eh_frame and .eh_frame_hdr sections.
-use Rattle.std.specs.Prelude.{◌≡◌, ◌≢◌, ℕ, suc, ◌+◌, ◌≤◌, true, List, [], ◌∷◌, ◌++◌, Option, Some, None, IsTrue}
+use Rattle.std.specs.Prelude.{◌≡◌, ◌≢◌, ◌⊎◌, ℕ, suc, ◌+◌, ◌≤◌, true, List, [], ◌∷◌, ◌++◌, Option, Some, None, IsTrue, Result, false}
 use Rattle.std.specs.List.{AllByRecursion, Contains}
 use Rattle.memory_image.specs.Image.{Span}
+use Rattle.unwind_definitions.specs.declared.error.Error.{Error as Fault}
 use Rattle.unwind_definitions.specs.Pointers.{Bases}
 use Rattle.unwind_definitions.specs.Entries.{Fde}
-use Rattle.unwind_definitions.specs.Row.{row_at}
+use Rattle.unwind_definitions.specs.Row.{RowInstructions, row_at}
+use Rattle.unwind_definitions.specs.DescribedRows.{HasRow}
 use Rattle.unwind_definitions.specs.Function.{in_range}
+use Rattle.frame_facts.specs.FactRows.{SaysFacts}
 use Rattle.frame_facts.specs.Claims.{Claim, IsClaimSaid}
 use Rattle.fde_finders.specs.declared.custom.FrameInfo.{FrameInfo}
 use Rattle.fde_finders.specs.FrameTables.{FrameTable, table_by}
@@ -17,6 +20,14 @@ use Rattle.fact_checks.specs.declared.rows.Mismatch.TheVariants as mismatch
 use Rattle.fact_checks.specs.declared.stretches.Difference.{Difference}
 use Rattle.fact_checks.specs.InOrder.{first_out_of_order}
 use Rattle.fact_checks.specs.RowFacts.{Differs}
+
+-- a difference is listed, at this address of the claim's range or below it, and for its reason the rows from there on up to here differ
+pub record IsListedAt (c : Claim) (due : ℕ → Result RowInstructions Fault) (ds : List Difference) (a : ℕ) : Type 0 where
+  pub difference : Difference
+  pub listed : Contains ds difference
+  pub inside : c.range.from ≤ difference.address
+  pub reached : difference.address ≤ a
+  pub differs : (x : ℕ) → difference.address ≤ x → x ≤ a → Differs c.facts (due x) difference.mismatch
 
 module _ (bases : Bases) (fdes : List Fde) where
   -- one of the descriptions contains a claim's range
@@ -42,9 +53,11 @@ module _ (bases : Bases) (fdes : List Fde) where
   abbrev pub IsDifferenceOf : ℕ → Claim → Difference → Type 0
   IsDifferenceOf i c d = (d.claim ≡ i) × SaysNot c d.address d.mismatch
 
-  -- the differences of one claim: none only where one of the descriptions says it
+  -- The differences of one claim: each is true; where a description that isn't of a signal's frame contains the range, each address
+  -- of it has a row that says the claim, or lies in a difference; and there is none only where one of the descriptions says it.
   pub record AreDifferencesOf (i : ℕ) (c : Claim) (ds : List Difference) : Type 0 where
     pub each : AllByRecursion (IsDifferenceOf i c) ds
+    pub every : (fde : Fde) → ContainsRange c fde → fde.cie.letters.signal ≡ false → (a : ℕ) → IsTrue (in_range a c.range) → HasRow bases fde a (SaysFacts c.facts) ⊎ IsListedAt c (row_at bases fde) ds a
     pub said : ds ≡ [] → IsClaimSaid bases fdes c
 
   -- the differences of claims, one claim's after those of the one before, by their places from one on

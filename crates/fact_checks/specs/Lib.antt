@@ -1,4 +1,5 @@
 pub mod ClaimViews
+pub mod Said
 pub mod RowFacts
 pub mod InOrder
 pub mod Stretches

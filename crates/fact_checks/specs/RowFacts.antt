@@ -14,6 +14,8 @@ use Rattle.fact_checks.specs.declared.rows.Due.{Due}
 use Rattle.fact_checks.specs.declared.rows.Due.TheVariants as due
 use Rattle.fact_checks.specs.declared.rows.Mismatch.{Mismatch}
 use Rattle.fact_checks.specs.declared.rows.Mismatch.TheVariants as mismatch
+use Rattle.fact_checks.specs.declared.said.SaidCfa.{SaidCfa}
+use Rattle.fact_checks.specs.Said.{said_cfa, said_rule}
 
 -- a rule finds a register in its slot, or leaves one that is kept
 abbrev pub IsFound : KnownRegister → Option Rule → Type 0
@@ -60,13 +62,13 @@ known_distance facts c = if c == column.rbp then facts.rbp else (if c == column.
 abbrev pub SaysDue : Facts → Result RowInstructions Fault → Type 0
 SaysDue facts due = (run : RowInstructions) × (due ≡ Ok run) × SaysFacts facts run
 
--- the CFA of a row isn't one that is known
-abbrev pub IsOtherCfa : Facts → RowInstructions → Type 0
-IsOtherCfa facts run = (rule : CfaRule) × (cfa_rule run ≡ Some rule) × (IsKnownCfa facts rule → ⊥)
+-- the CFA of a row is this one, and isn't one that is known
+abbrev pub IsOtherCfa : Facts → RowInstructions → SaidCfa → Type 0
+IsOtherCfa facts run said = (rule : CfaRule) × (cfa_rule run ≡ Some rule) × (IsKnownCfa facts rule → ⊥) × (said ≡ said_cfa rule)
 
--- how the row that is due, or the fault in its place, differs from facts
+-- how the row that is due, or the fault in its place, differs from facts, and what it says
 abbrev pub Differs : Facts → Result RowInstructions Fault → Mismatch → Type 0
-Differs facts due mismatch.Cfa = (run : RowInstructions) × (due ≡ Ok run) × IsOtherCfa facts run
-Differs facts due (mismatch.Rule register) = (run : RowInstructions) × (due ≡ Ok run) × IsOtherRule facts register.0 (rule_of run register.0)
+Differs facts due (mismatch.Cfa said) = (run : RowInstructions) × (due ≡ Ok run) × IsOtherCfa facts run said
+Differs facts due (mismatch.Rule register said) = (run : RowInstructions) × (due ≡ Ok run) × IsOtherRule facts register.0 (rule_of run register.0) × (said ≡ said_rule (rule_of run register.0))
 Differs facts due (mismatch.Fault e) = due ≡ Err e
 Differs facts due _ = ⊥

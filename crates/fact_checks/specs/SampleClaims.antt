@@ -2,7 +2,9 @@
 use Rattle.std.specs.Prelude.{ℕ, false, true, List, [], ◌∷◌, Some, None}
 use Rattle.fde_finders.specs.declared.custom.FrameInfo.{FrameInfo}
 use Rattle.fde_finders.specs.declared.custom.FrameInfoKind.TheVariants.{EhFrame}
+use Rattle.fact_checks.specs.declared.rows.Mismatch.{Mismatch}
 use Rattle.fact_checks.specs.declared.rows.Mismatch.TheVariants.{Cfa}
+use Rattle.fact_checks.specs.declared.said.SaidCfa.TheVariants.{Above}
 use Rattle.fact_checks.specs.declared.stretches.Difference.{Difference}
 use Rattle.fact_checks.specs.declared.facts.ClaimedFacts.{ClaimedFacts}
 use Rattle.fact_checks.specs.declared.facts.KnownRegister.{KnownRegister}
@@ -39,6 +41,10 @@ claims =
 abbrev pub longer : ClaimedFacts
 longer = claimed 0x40108c 0x40109f 32 (registers (saved_at 24) (saved_at 16))
 
+-- the row there says that the CFA is 24 above RSP
+abbrev pub mismatch : Mismatch
+mismatch = Cfa (Above (record { 0 = 7 }) 24)
+
 -- where it differs, as the first of claims
 abbrev pub difference : Difference
-difference = record { claim = 0; address = 0x40109e; mismatch = Cfa }
+difference = record { claim = 0; address = 0x40109e; mismatch = mismatch }

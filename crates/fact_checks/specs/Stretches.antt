@@ -1,5 +1,5 @@
 -- The differences of one claim by one description, as its rows are gone through. No public clause cites this.
-use Rattle.std.specs.Prelude.{◌≡◌, ℕ, ◌<◌, ◌≤◌, List, []}
+use Rattle.std.specs.Prelude.{◌≡◌, ◌⊎◌, ℕ, ◌<◌, ◌≤◌, List}
 use Rattle.std.specs.List.{AllByRecursion}
 use Rattle.unwind_definitions.specs.Pointers.{Bases}
 use Rattle.unwind_definitions.specs.Entries.{Fde, coding_of}
@@ -9,6 +9,7 @@ use Rattle.eh_frame.specs.Walked.{due_row}
 use Rattle.frame_facts.specs.Claims.{Claim}
 use Rattle.fact_checks.specs.declared.stretches.Difference.{Difference}
 use Rattle.fact_checks.specs.RowFacts.{Differs, SaysDue}
+use Rattle.fact_checks.specs.Audits.{IsListedAt}
 
 -- a walk through a description's rows has the one at an address
 pub record HasRowAt (bases : Bases) (fde : Fde) (walk : RowWalk) (at : ℕ) : Type 0 where
@@ -25,11 +26,11 @@ module _ (bases : Bases) (fde : Fde) (i : ℕ) (c : Claim) where
     pub below : d.address < high
     pub differs : Differs c.facts (due_row bases fde d.address) d.mismatch
 
-  -- the rows of the claim's range from an address on, up to another, say its facts
-  abbrev pub AreSaid : ℕ → ℕ → Type 0
-  AreSaid low high = (a : ℕ) → low ≤ a → c.range.from ≤ a → a < high → SaysDue c.facts (due_row bases fde a)
+  -- the row at an address says the claim's facts, or the address lies in a difference
+  abbrev pub IsSaidOrListed : List Difference → ℕ → Type 0
+  IsSaidOrListed ds a = SaysDue c.facts (due_row bases fde a) ⊎ IsListedAt c (due_row bases fde) ds a
 
-  -- differences between these addresses; where there are none, the rows say the facts
+  -- all differences of the claim's range between these addresses
   pub record AreDifferences (low high : ℕ) (ds : List Difference) : Type 0 where
     pub each : AllByRecursion (IsDifference high) ds
-    pub said : ds ≡ [] → AreSaid low high
+    pub every : (a : ℕ) → low ≤ a → c.range.from ≤ a → a < high → IsSaidOrListed ds a

@@ -1,6 +1,7 @@
 //! Rows beside what is known. DWARF 5 section 6.4.1; System V x86-64 psABI for the registers.
 
-ghost use Rattle.std.specs.Prelude.{◌≡◌, ◌≤◌, ◌↔◌, ℕ, MatchOption, Ok, Option, Result, Some, false};
+ghost use Rattle.std.specs.Prelude.{◌≡◌, ◌≤◌, ◌↔◌, ℕ, MatchOption, None, Ok, Option, Result, Some};
+ghost use Rattle.std.specs.Prelude.{false};
 ghost use Rattle.std.specs.Prelude.{is_some};
 ghost use Rattle.std.specs.Bool.{Decides};
 ghost use Rattle.unwind_definitions.specs.declared.error.Error.{Error as Fault};
@@ -13,9 +14,11 @@ ghost use Rattle.frame_rows.specs.Walks.{IsBefore, IsWalking, end_of};
 ghost use Rattle.frame_facts.specs.FactRows.{IsKnownCfa, return_rule};
 ghost use Rattle.fact_checks.specs.ClaimViews.{facts_of};
 ghost use Rattle.fact_checks.specs.RowFacts.{Differs, IsAsDue, IsAsked, IsFound, IsOtherRule};
+ghost use Rattle.fact_checks.specs.Said.{said_rule};
 ghost use Rattle.fact_checks.specs.RowFacts.{LacksNone, RulesSay, SaysDue, known_distance, lacks};
 
 use crate::facts::{ClaimedFacts, KnownRegister};
+use crate::said::{SaidCfa, SaidRule, said_cfa, said_rule};
 use eh_frame::{CfaRule, Error, Register, RegisterRule, RowRef, RowWalk};
 
 const RBX: Register = Register(3);
@@ -44,11 +47,18 @@ pub enum Mismatch {
     SignalFrame,
     /// There is no row, for this fault.
     Fault(Error),
-    /// The row's CFA isn't one that is known.
-    Cfa,
-    /// The rule of this column is another: of the return address, which is column 16, of a
-    /// callee-saved register, or of a column that may have none.
-    Rule(Register),
+    /// The row's CFA, which is this one, isn't one that is known.
+    Cfa(SaidCfa),
+    /// The rule of this column is another, which is this one: of the return address, which is column
+    /// 16, of a callee-saved register, or of a column that may have none.
+    Rule(Register, SaidRule),
+}
+
+/// A column whose rule is another than what is known asks, and its rule.
+#[derive(Clone, Copy)]
+struct Other {
+    column: Register,
+    rule: SaidRule,
 }
 
 /// What the rule of a column has to be.
@@ -80,11 +90,12 @@ fn row_mismatch(row: &RowRef<'_, '_>, known: &ClaimedFacts) -> Option<Mismatch>
         MatchOption result (SaysDue (facts_of known.now) due)
         (λ m. Differs (facts_of known.now) due m) }
 {
-    if !is_known_cfa(row.cfa(), known) {
-        return Some(Mismatch::Cfa);
+    let cfa = row.cfa();
+    if !is_known_cfa(cfa, known) {
+        return Some(Mismatch::Cfa(said_cfa(cfa)));
     }
     match first_other_rule(row, known) {
-        Some(column) => Some(Mismatch::Rule(column)),
+        Some(other) => Some(Mismatch::Rule(other.column, other.rule)),
         None => None,
     }
 }
@@ -122,17 +133,19 @@ fn is_distance(known: Option<u64>, distance: u64) -> bool
 }
 
 // The first column whose rule is another than what is known asks, or has none and has to have one.
-fn first_other_rule(row: &RowRef<'_, '_>, known: &ClaimedFacts) -> Option<Register>
+fn first_other_rule(row: &RowRef<'_, '_>, known: &ClaimedFacts) -> Option<Other>
     ensures { MatchOption result (RulesSay (facts_of known.now) row.now.rules)
-        (λ column. IsOtherRule (facts_of known.now) column.0
-        (rule_in row.now.rules column.0)) }
+        (λ other. IsOtherRule (facts_of known.now) other.column.0
+        (rule_in row.now.rules other.column.0)
+        × (other.rule ≡ said_rule (rule_in row.now.rules other.column.0))) }
 {
     for (column, rule) in row.registers() {
         if !is_asked(known, column, rule) {
-            return Some(column);
+            let rule = said_rule(rule);
+            return Some(Other { column, rule });
         }
     }
-    first_lacking(row, known)
+    other_lacking(row, known)
 }
 
 // Whether the rule of a column is one that what is known asks.
@@ -208,12 +221,29 @@ fn is_slot(slot: Option<u64>, offset: u64) -> bool
     }
 }
 
+// The first column that has to have a rule and has none.
+fn other_lacking(row: &RowRef<'_, '_>, known: &ClaimedFacts) -> Option<Other>
+    ensures { MatchOption result (LacksNone (facts_of known.now) row.now.rules)
+        (λ other. IsOtherRule (facts_of known.now) other.column.0
+        (rule_in row.now.rules other.column.0)
+        × (other.rule ≡ said_rule (rule_in row.now.rules other.column.0))) }
+{
+    match first_lacking(row, known) {
+        Some(column) => Some(Other {
+            column,
+            rule: SaidRule::Nothing,
+        }),
+        None => None,
+    }
+}
+
 // The first column that has to have a rule and has none: the return address, or a callee-saved
 // register that isn't kept.
 fn first_lacking(row: &RowRef<'_, '_>, known: &ClaimedFacts) -> Option<Register>
     ensures { MatchOption result (LacksNone (facts_of known.now) row.now.rules)
         (λ column. IsOtherRule (facts_of known.now) column.0
-        (rule_in row.now.rules column.0)) }
+        (rule_in row.now.rules column.0)
+        × (rule_in row.now.rules column.0 ≡ None)) }
 {
     let registers = &known.registers;
     if !has_rule(row, RETURN_ADDRESS) {

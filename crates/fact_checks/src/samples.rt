@@ -5,7 +5,6 @@ ghost use Rattle.frame_facts.specs.FactTables.{HasTables};
 ghost use Rattle.frame_facts.specs.Claims.{SaysClaims};
 ghost use Rattle.frame_facts_laws.specs.SampleProgram as program;
 ghost use Rattle.table_check.specs.Modules.{module_of};
-ghost use Rattle.fact_checks.specs.declared.rows.Mismatch.TheVariants.{Cfa};
 ghost use Rattle.fact_checks.specs.Audits.{DiffersAt, NoneOf};
 ghost use Rattle.fact_checks.specs.ClaimViews.{claim_of};
 ghost use Rattle.fact_checks.specs.InOrder.{AreInOrder};
@@ -23,6 +22,7 @@ pub fn program_says_claims()
 /// They don't say the same of the body with one address more, whose row has another CFA. A list of
 /// this one difference has none of the claim after that.
 pub fn longer_claim_differs()
-    ensures differs { DiffersAt program.bases program.fdes (claim_of sample.longer) 0x40109e Cfa }
+    ensures differs { DiffersAt program.bases program.fdes (claim_of sample.longer) 0x40109e
+        sample.mismatch }
     ensures others { NoneOf 1 (sample.difference ∷ []) }
 {}

@@ -3,6 +3,7 @@
 use crate::auditing::{AuditError, audit};
 use crate::facts::{ClaimedFacts, KnownRegister, KnownRegisters};
 use crate::rows::Mismatch;
+use crate::said::{SaidCfa, SaidRule};
 use crate::stretches::Difference;
 use eh_frame::Register;
 use fde_finders::{FrameInfo, FrameInfoKind};
@@ -81,11 +82,16 @@ fn rows_say_claims(rt: HostRuntime) -> Result<(), AuditError> {
 #[test]
 fn rows_differ(rt: HostRuntime) -> Result<(), AuditError> {
     let whole = first(rt.alloc(), claim(0x40_1000, 0x40_1010, 16, PUSHED))?;
-    assert!(rt; whole == Some((0x40_1000, Mismatch::Cfa)));
+    assert!(rt; whole == Some((0x40_1000, Mismatch::Cfa(SaidCfa::Above(Register(7), 8)))));
     let early = first(rt.alloc(), claim(0x40_1000, 0x40_1010, 8, KEPT))?;
-    assert!(rt; early == Some((0x40_1001, Mismatch::Cfa)));
+    assert!(rt; early == Some((0x40_1001, Mismatch::Cfa(SaidCfa::Above(Register(7), 16)))));
     let kept = first(rt.alloc(), claim(0x40_1001, 0x40_1010, 16, KEPT))?;
-    assert!(rt; kept == Some((0x40_1001, Mismatch::Rule(Register(3)))));
+    assert!(rt;
+        kept == Some((
+            0x40_1001,
+            Mismatch::Rule(Register(3), SaidRule::Offset(0u64.wrapping_sub(16)))
+        ))
+    );
     let longer = first(rt.alloc(), claim(0x40_1001, 0x40_1011, 16, PUSHED))?;
     assert!(rt; longer == Some((0x40_1001, Mismatch::NoDescription)));
     Ok(())

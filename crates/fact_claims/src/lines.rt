@@ -2,13 +2,62 @@
 ghost use Rattle.std.specs.Prelude.{◌≡◌, ◌≤◌, ◌++◌, ◌∷◌, [], None, length, IfOk, OnOk};
 ghost use Rattle.std.specs.Fmt.{decimal};
 ghost use Rattle.stack_report.specs.Report.{line};
-ghost use Rattle.fact_claims.specs.Lines.{audit_report, difference_line, difference_lines};
-ghost use Rattle.fact_claims.specs.Lines.{differing_after, is_claim, is_without_row, mismatch_text};
-ghost use Rattle.fact_claims.specs.Lines.{refused_line, without_row};
+ghost use Rattle.fact_claims.specs.Lines.{audit_report, cfa_text, difference_line};
+ghost use Rattle.fact_claims.specs.Lines.{difference_lines, differing_after, is_claim};
+ghost use Rattle.fact_claims.specs.Lines.{is_without_row, mismatch_text, offset_text};
+ghost use Rattle.fact_claims.specs.Lines.{refused_line, rule_text, without_row};
 
-use fact_checks::{AuditError, Difference, Mismatch};
+use fact_checks::{AuditError, Difference, Mismatch, SaidCfa, SaidRule};
 use stack_report::{Report, line_of};
 use std::alloc::{AllocError, Global};
+
+/// Puts an offset, a word: one from 2^63 on is below 0.
+#[tactic(auto, unfolding(crate::specs::Lines::offset_text))]
+fn put_offset(report: &mut Report, offset: u64) -> Result<(), AllocError>
+    ensures { OnOk result (report.new ≡ report.old ++ offset_text offset) }
+{
+    if offset < 1 << 63 {
+        return report.put_field("+", offset);
+    }
+    report.put_field("-", u64::MAX - offset + 1)
+}
+
+/// Puts where the CFA is by a row.
+fn put_cfa(report: &mut Report, cfa: SaidCfa) -> Result<(), AllocError>
+    ensures { OnOk result (report.new ≡ report.old ++ cfa_text cfa) }
+{
+    match cfa {
+        SaidCfa::Above(register, offset) => {
+            report.put_count(" r", usize::from(register.0))?;
+            put_offset(report, offset)
+        }
+        SaidCfa::Expression => report.put(" expression"),
+    }
+}
+
+/// Puts an offset after a label.
+fn put_offset_from(report: &mut Report, label: &str, offset: u64) -> Result<(), AllocError>
+    ensures { OnOk result (report.new ≡ report.old ++ label.now ++ offset_text offset) }
+{
+    report.put(label)?;
+    put_offset(report, offset)
+}
+
+/// Puts how a register is found by a row.
+fn put_rule(report: &mut Report, rule: SaidRule) -> Result<(), AllocError>
+    ensures { OnOk result (report.new ≡ report.old ++ rule_text rule) }
+{
+    match rule {
+        SaidRule::Nothing => report.put(" none"),
+        SaidRule::Undefined => report.put(" undefined"),
+        SaidRule::SameValue => report.put(" same value"),
+        SaidRule::Offset(offset) => put_offset_from(report, " c", offset),
+        SaidRule::ValOffset(offset) => put_offset_from(report, " v", offset),
+        SaidRule::Register(register) => report.put_count(" r", usize::from(register.0)),
+        SaidRule::Expression => report.put(" expression"),
+        SaidRule::ValExpression => report.put(" value expression"),
+    }
+}
 
 /// Puts why what is claimed isn't said.
 fn put_mismatch(report: &mut Report, mismatch: Mismatch) -> Result<(), AllocError>
@@ -18,8 +67,14 @@ fn put_mismatch(report: &mut Report, mismatch: Mismatch) -> Result<(), AllocErro
         Mismatch::NoDescription => report.put(" no description"),
         Mismatch::SignalFrame => report.put(" signal frame"),
         Mismatch::Fault(_) => report.put(" fault"),
-        Mismatch::Cfa => report.put(" cfa"),
-        Mismatch::Rule(register) => report.put_count(" rule ", usize::from(register.0)),
+        Mismatch::Cfa(cfa) => {
+            report.put(" cfa")?;
+            put_cfa(report, cfa)
+        }
+        Mismatch::Rule(register, rule) => {
+            report.put_count(" rule ", usize::from(register.0))?;
+            put_rule(report, rule)
+        }
     }
 }
 

@@ -57,7 +57,7 @@ fn claims_differ(rt: HostRuntime) -> Result<(), ClaimsError> {
         reports(
             rt.alloc(),
             &text,
-            "differ 0x401000 claim 0 cfa\nclaims 1\ndiffer 1\nwithout a row 0\n",
+            "differ 0x401000 claim 0 cfa r7+0x8\nclaims 1\ndiffer 1\nwithout a row 0\n",
         )?
     );
     let longer = "{\"from\":\"0x401001\",\"to\":\"0x401011\",";

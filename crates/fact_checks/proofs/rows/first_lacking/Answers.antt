@@ -5,26 +5,26 @@ use Rattle.unwind_definitions.specs.State.{RBX, RBP, R12, R13, R14, R15, column_
 use Rattle.frame_rows.specs.Rules.{rule_in}
 use Rattle.frame_facts.specs.FactRows.{FindsKnown}
 use Rattle.fact_checks.specs.ClaimViews.{facts_of}
-use Rattle.fact_checks.proofs.Asked.{each_register, kept_found, lacking_other}
+use Rattle.fact_checks.proofs.Asked.{each_register, kept_found, lacking_there}
 use Rattle.fact_checks.proofs.rows.first_lacking.Goals as goal
 
 pub returns-then-lacks : goal.returns-then-lacks
-returns-then-lacks c = lacking_other c.args.known.now RBX (rule_in c.args.row.now.rules (column_of RBX)) (sym c.lacks.ensures ∙ c.if-lacks.true)
+returns-then-lacks c = lacking_there c.args.known.now RBX (rule_in c.args.row.now.rules (column_of RBX)) (sym c.lacks.ensures ∙ c.if-lacks.true)
 
 pub returns-then-lacks-2 : goal.returns-then-lacks-2
-returns-then-lacks-2 c = lacking_other c.args.known.now RBP (rule_in c.args.row.now.rules (column_of RBP)) (sym c.lacks-2.ensures ∙ c.if-lacks-2.true)
+returns-then-lacks-2 c = lacking_there c.args.known.now RBP (rule_in c.args.row.now.rules (column_of RBP)) (sym c.lacks-2.ensures ∙ c.if-lacks-2.true)
 
 pub returns-then-lacks-3 : goal.returns-then-lacks-3
-returns-then-lacks-3 c = lacking_other c.args.known.now R12 (rule_in c.args.row.now.rules (column_of R12)) (sym c.lacks-3.ensures ∙ c.if-lacks-3.true)
+returns-then-lacks-3 c = lacking_there c.args.known.now R12 (rule_in c.args.row.now.rules (column_of R12)) (sym c.lacks-3.ensures ∙ c.if-lacks-3.true)
 
 pub returns-then-lacks-4 : goal.returns-then-lacks-4
-returns-then-lacks-4 c = lacking_other c.args.known.now R13 (rule_in c.args.row.now.rules (column_of R13)) (sym c.lacks-4.ensures ∙ c.if-lacks-4.true)
+returns-then-lacks-4 c = lacking_there c.args.known.now R13 (rule_in c.args.row.now.rules (column_of R13)) (sym c.lacks-4.ensures ∙ c.if-lacks-4.true)
 
 pub returns-then-lacks-5 : goal.returns-then-lacks-5
-returns-then-lacks-5 c = lacking_other c.args.known.now R14 (rule_in c.args.row.now.rules (column_of R14)) (sym c.lacks-5.ensures ∙ c.if-lacks-5.true)
+returns-then-lacks-5 c = lacking_there c.args.known.now R14 (rule_in c.args.row.now.rules (column_of R14)) (sym c.lacks-5.ensures ∙ c.if-lacks-5.true)
 
 pub returns-then-lacks-6 : goal.returns-then-lacks-6
-returns-then-lacks-6 c = lacking_other c.args.known.now R15 (rule_in c.args.row.now.rules (column_of R15)) (sym c.lacks-6.ensures ∙ c.if-lacks-6.true)
+returns-then-lacks-6 c = lacking_there c.args.known.now R15 (rule_in c.args.row.now.rules (column_of R15)) (sym c.lacks-6.ensures ∙ c.if-lacks-6.true)
 
 pub returns : goal.returns
 returns c =
