@@ -404,7 +404,7 @@ fn chains_end_or_are_refused(rt: HostRuntime) -> Result<(), Fail> {
         // a handler of all, of four bytes: the number 0
         ("ff030c0104 10204001 0100 00000000", Ok(Handler(0x140, 1))),
         // a specification that lists no type, and one that lists one
-        ("ff03080104 10204001 7f00 00", Ok(Handler(0x140, u64::MAX))),
+        ("ff03080104 10204001 7f00 00", Ok(CxxAction::Terminate)),
         ("ff03080104 10204001 7f00 01", Ok(CxxAction::None)),
     ];
     for (table, action) in cases {

@@ -1,14 +1,14 @@
 -- Which action record decides what a C++ function asks of an exception: the first of the chain that takes it. Where none does, the
 -- chain asks for a cleanup if one of its records is one.
 -- Itanium C++ ABI, exception handling, level II, section 2.5.
-use Rattle.std.specs.Prelude.{◌≡◌, ◌≢◌, ◌⊎◌, ℕ, ◌-◌, ◌<◌, Bool, true, false, List, [], ◌∷◌, ◌++◌, length, Option, Some, None, Ok, ◌==◌}
+use Rattle.std.specs.Prelude.{◌≡◌, ◌≢◌, ◌⊎◌, ℕ, ◌-◌, ◌<◌, Bool, true, false, List, [], ◌∷◌, ◌++◌, length, Option, Some, None, Ok, IsTrue, IsFalse, ◌==◌}
 use Rattle.std.specs.List.{AllByRecursion, list_any}
 use Rattle.memory_image.specs.Image.{Span}
 use Rattle.unwind_definitions.specs.Input.{Input}
 use Rattle.unwind_definitions.specs.Pointers.{Bases}
 use Rattle.unwind_definitions.specs.LanguageTable.{input_at}
 use Rattle.unwind_definitions.specs.LanguageSearch.{CallSite, LanguagePlace, sum_below}
-use Rattle.unwinding_frames.specs.CxxTables.{Exception, CxxTable, ActionRecord, cxx_table, site_from, action_record, next_record, record_takes}
+use Rattle.unwinding_frames.specs.CxxTables.{Exception, CxxTable, ActionRecord, cxx_table, site_from, action_record, next_record, record_takes, ends_instead}
 
 -- Action records from a place of an action table on, one after another, before a last one: each is read where it begins, and each
 -- but the last says where the next one does.
@@ -74,8 +74,12 @@ pub record IsIndexed (t : CxxTable) (s : CallSite) : Type 0 where
 
 module _ (image : List Span) (x : Exception) (p : LanguagePlace) (a : ℕ) where
   -- the first record of the chain that takes the exception is a handler's or a violated specification's, of this number
+  abbrev pub FindsHandler : ℕ → ℕ → Type 0
+  FindsHandler pad filter = (t : CxxTable) × (s : CallSite) × LandsAt image p a t s pad × IsIndexed t s × TakesFirst image (bases_at p) x t (s.index - 1) filter
+
+  -- and its landing pad is entered
   abbrev pub AsksHandler : ℕ → ℕ → Type 0
-  AsksHandler pad filter = (t : CxxTable) × (s : CallSite) × LandsAt image p a t s pad × IsIndexed t s × TakesFirst image (bases_at p) x t (s.index - 1) filter
+  AsksHandler pad filter = FindsHandler pad filter × IsFalse (ends_instead x filter)
 
   -- there is no chain, or one that has a cleanup and no record that takes the exception
   abbrev pub AsksCleanup : ℕ → Type 0
@@ -86,5 +90,9 @@ module _ (image : List Span) (x : Exception) (p : LanguagePlace) (a : ℕ) where
   AsksNothing = (p.lsda ≡ 0) ⊎ ((t : CxxTable) × (s : CallSite) × ((DecidesAt image p a t (Some s) × (s.pad ≡ 0)) ⊎ ((pad : ℕ) × LandsAt image p a t s pad × IsIndexed t s × NoneTakes image (bases_at p) x t (s.index - 1) false)))
 
   -- no call site decides, so that no exception may leave the call
+  abbrev pub LeavesNone : Type 0
+  LeavesNone = (t : CxxTable) × DecidesAt image p a t None
+
+  -- or the exception isn't C++'s own and violates a specification
   abbrev pub AsksEnd : Type 0
-  AsksEnd = (t : CxxTable) × DecidesAt image p a t None
+  AsksEnd = LeavesNone ⊎ ((pad filter : ℕ) × FindsHandler pad filter × IsTrue (ends_instead x filter))

@@ -1,10 +1,11 @@
 -- What C++ functions ask of an exception, on any bytes whatever: the call site that decides, the chain of action records that its
 -- index leads to, and the types that these name.
 -- Itanium C++ ABI, exception handling, level II, section 2.5, and the language-specific data area as it lays it out.
-use Rattle.std.specs.Prelude.{ℕ, zero, suc, ◌+◌, ◌-◌, ◌*◌, ◌^◌, Bool, true, false, not, ◌||◌, List, length, Option, Some, None, Result, Ok, Err, nat_lt, nat_le, ◌==◌, if◌then◌else◌}
+use Rattle.std.specs.Prelude.{ℕ, zero, suc, ◌+◌, ◌-◌, ◌*◌, ◌^◌, Bool, true, false, not, ◌&&◌, ◌||◌, List, length, Option, Some, None, Result, Ok, Err, nat_lt, nat_le, ◌==◌, if◌then◌else◌}
 use Rattle.std.specs.List.{list_any}
 use Rattle.std.specs.Result.{result_map_both}
 use Rattle.memory_image.specs.Image.{Span}
+use Rattle.memory_image.specs.Results.{result_map}
 use Rattle.unwind_definitions.specs.Faults.{◌>>=◌}
 use Rattle.unwind_definitions.specs.declared.error.Error.TheVariants.{UnsupportedPointerEncoding}
 use Rattle.unwind_definitions.specs.Input.{Input, address_of, skip, split, uleb, sleb}
@@ -219,10 +220,22 @@ cxx_search image bases x start a c = do
   s ← reading (site_from (length t.head.sites.bytes) image bases start a t.head.site_encoding t.head.sites)
   cxx_site_action image bases x t s
 
--- nothing is asked without a language table, whose address is 0 then
-abbrev pub cxx_place_action : List Span → Exception → LanguagePlace → ℕ → Result CxxAction CxxError
-cxx_place_action image x p a =
+-- what the table at a place asks; nothing without a language table, whose address is 0 then
+abbrev pub cxx_place_search : List Span → Exception → LanguagePlace → ℕ → Result CxxAction CxxError
+cxx_place_search image x p a =
     if p.lsda == 0 then Ok NoAction else cxx_search image (record p.bases { func = Some p.start }) x p.start a (input_at image p.lsda)
+
+-- The landing pad of a violated specification asks for the type of a C++ exception. One that isn't C++'s own has none: the
+-- program ends there.
+abbrev pub ends_instead : Exception → ℕ → Bool
+ends_instead x filter = x.foreign && nat_le (2 ^ 63) filter
+
+abbrev pub entered : Exception → CxxAction → CxxAction
+entered x (Handler pad filter) = if ends_instead x filter then Terminate else Handler pad filter
+entered x action = action
+
+abbrev pub cxx_place_action : List Span → Exception → LanguagePlace → ℕ → Result CxxAction CxxError
+cxx_place_action image x p a = result_map (entered x) (cxx_place_search image x p a)
 
 abbrev pub cxx_table_action : List Span → Exception → ℕ → Result LanguagePlace StepFault → Result CxxAction CxxError
 cxx_table_action image x a place = reading place >>= λ p. cxx_place_action image x p a

@@ -152,10 +152,8 @@ pub fn find_eh_action_at(
     if place.lsda == 0 {
         return Ok(EhAction::None);
     }
-    let bases = Bases {
-        func: Some(place.start),
-        ..place.bases
-    };
+    let mut bases = place.bases;
+    bases.func = Some(place.start);
     action_at(image, &bases, place.start, place.lsda, address)
 }
 

@@ -9,7 +9,8 @@ ghost use Rattle.encoded_pointers.specs.CursorViews.{at};
 ghost use Rattle.unwinding_frames.specs.ContextSeen.{language_place_of};
 ghost use Rattle.unwinding_frames.specs.LanguageViews.{answer_seen, site_of};
 ghost use Rattle.unwinding_frames.specs.CxxTables.{action_record, chain_from, cxx_place_action};
-ghost use Rattle.unwinding_frames.specs.CxxTables.{cxx_search, cxx_site_action, indexed_action};
+ghost use Rattle.unwinding_frames.specs.CxxTables.{cxx_search, cxx_site_action, entered};
+ghost use Rattle.unwinding_frames.specs.CxxTables.{indexed_action};
 ghost use Rattle.unwinding_frames.specs.CxxTables.{next_record, record_takes, takes, untaken};
 ghost use Rattle.unwinding_frames.specs.CxxViews.{cxx_action_of, exception_of, record_of};
 ghost use Rattle.unwinding_frames.specs.CxxViews.{table_of, types_of};
@@ -61,7 +62,8 @@ const LEAST_NEGATIVE: u64 = 1 << 63;
 ///
 /// The call site that holds the address leads to a chain of action records, of which the first that
 /// takes the exception decides: a handler of one of its types, or of all, or a specification that
-/// it violates. Where none does, a cleanup is asked if one stands in the chain.
+/// it violates. Where none does, a cleanup is asked if one stands in the chain. An exception that
+/// isn't of C++ and violates a specification ends the program, as in GNU's runtime.
 /// Source: Itanium C++ ABI, exception handling, level II, section 2.5.
 ///
 /// # Errors
@@ -90,7 +92,27 @@ pub fn find_cxx_action_at(
         func: Some(place.start),
         ..place.bases
     };
-    action_at(image, &bases, exception, place.start, place.lsda, address)
+    let found = action_at(image, &bases, exception, place.start, place.lsda, address)?;
+    Ok(found.entered_by(exception))
+}
+
+impl CxxAction {
+    /// What is done of it for an exception. One that isn't of C++ has no type of C++ for the landing
+    /// pad of a specification that it violates: the program ends there.
+    fn entered_by(self, exception: Exception<'_>) -> CxxAction
+        ensures { cxx_action_of result ≡ entered (exception_of exception.entry) (cxx_action_of self) }
+    {
+        match self {
+            CxxAction::Handler(pad, filter) => {
+                if exception.foreign && LEAST_NEGATIVE <= filter {
+                    CxxAction::Terminate
+                } else {
+                    CxxAction::Handler(pad, filter)
+                }
+            }
+            action => action,
+        }
+    }
 }
 
 /// What the language table at `table` of the function at `start` asks at an address.
