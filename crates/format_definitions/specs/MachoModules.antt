@@ -1,7 +1,7 @@
 -- When the compact unwinding of a Mach-O module describes functions. Apple's compact unwinding,
 -- mach-o/compact_unwind_encoding.h; the frame data of DWARF that it may point to, and language tables, are of the form that
 -- compilers emit.
-use Rattle.std.specs.Prelude.{◌≡◌, ◌≢◌, ℕ, ◌+◌, ◌*◌, ◌^◌, ◌<◌, ◌≤◌, List, [], ◌∷◌, length, Option, Some, None, Ok, IfSome, MatchOption, IsTrue, IsFalse, slice_get, ◌==◌, if◌then◌else◌}
+use Rattle.std.specs.Prelude.{◌≡◌, ◌≢◌, ℕ, ◌+◌, ◌*◌, ◌≤◌, List, [], ◌∷◌, length, Option, Some, None, Ok, MatchOption, IsTrue, IsFalse, slice_get, ◌==◌, if◌then◌else◌}
 use Rattle.std.specs.List.{AllByRecursion, Contains, list_any}
 use Rattle.std.specs.Option.{option_map}
 use Rattle.memory_image.specs.Image.{Span, table_at, half_at}
@@ -10,7 +10,7 @@ use Rattle.unwind_definitions.specs.Entries.{Fde, AFde, entry_at}
 use Rattle.unwind_definitions.specs.Caller.{◌+w◌}
 use Rattle.unwind_definitions.specs.State.{CalleeSaved, RBP, is_same}
 use Rattle.unwind_definitions.specs.Prologue.{Followed, Step, Push, SetFrame, steps_of, depth, frame_depth, distance}
-use Rattle.unwind_definitions.specs.Function.{Function, Site}
+use Rattle.unwind_definitions.specs.Function.{Function}
 use Rattle.unwind_definitions.specs.FrameTable.{DescribesFunction}
 use Rattle.unwind_definitions.specs.LanguageTable.{input_at, LeadsToLanguage}
 use Rattle.macho_unwind_info.specs.declared.function.Function.{Function as Listed}
@@ -99,11 +99,10 @@ module _ (image : List Span) where
   -- ---- what a section says of a function's language
 
   -- The opcode names no personality, or one of those that the section lists; and the language table that the section has for the
-  -- function is the function's. A function with a language table ends below 2^64, as every module in memory does.
+  -- function is the function's.
   pub record NamesLanguage (info : Section) (personalities : List U32) (base : ℕ) (listed : Listed) (f : Function) : Type 0 where
     pub index : personality_index listed.opcode ≤ length personalities
     pub leads : LeadsToLanguage image f (language_pointer info base listed)
-    pub words : IfSome f.sites (λ (sites : List Site). f.end < 2 ^ 64)
 
   -- a description in frame data says of itself what the function's language is
   abbrev pub NamesUnlessDwarf : Section → List U32 → ℕ → Listed → Function → OpcodeX86_64 → Type 0

@@ -1,12 +1,12 @@
 -- When the unwind data of a PE module describes functions. Microsoft x64 exception handling; PE format, section .pdata.
-use Rattle.std.specs.Prelude.{◌≡◌, ◌≢◌, ◌⊎◌, ℕ, zero, suc, ◌+◌, ◌-◌, ◌^◌, ◌<◌, ◌≤◌, false, List, [], ◌∷◌, ◌++◌, length, take, map, reverse, Option, Some, None, Ok, IfSome, IsTrue, IsFalse}
+use Rattle.std.specs.Prelude.{◌≡◌, ◌≢◌, ◌⊎◌, ℕ, zero, suc, ◌+◌, ◌-◌, ◌≤◌, false, List, [], ◌∷◌, ◌++◌, length, take, map, reverse, Option, Some, None, Ok, IsTrue, IsFalse}
 use Rattle.std.specs.List.{AllByRecursion, Contains, flat_map}
 use Rattle.std.specs.Option.{option_map}
 use Rattle.memory_image.specs.Image.{Span}
 use Rattle.unwind_definitions.specs.Prologue.{PrologueStep, steps_of, ends_of, Ascend}
 use Rattle.unwind_definitions.specs.Pointers.{Pointer, Direct}
 use Rattle.unwind_definitions.specs.Caller.{◌+w◌}
-use Rattle.unwind_definitions.specs.Function.{Function, Site, in_body}
+use Rattle.unwind_definitions.specs.Function.{Function, in_body}
 use Rattle.unwind_definitions.specs.LanguageTable.{LeadsToLanguage}
 use Rattle.pe_unwind_info.specs.declared.x86_64.function_table.RuntimeFunction.{RuntimeFunction}
 use Rattle.pe_unwind_info.specs.declared.x86_64.epilog.FunctionEpilogInstruction.{FunctionEpilogInstruction}
@@ -52,14 +52,12 @@ abbrev pub handler_pointer : ℕ → RuntimeFunction → Info → Option Pointer
 handler_pointer base function info = option_map (λ (offset : ℕ). Direct (base +w (function.unwind_info_address + offset))) (handler_data_offset_of info)
 
 -- Only the first record may name a handler, whose trailer is then there, and no other record follows. The handler's data are the
--- function's language table; without a handler the function has none. A function with a language table ends below 2^64, as every
--- module in memory does.
+-- function's language table; without a handler the function has none.
 pub record NamesLanguage (image : List Span) (base : ℕ) (function : RuntimeFunction) (first : Info) (chained : List Info) (f : Function) : Type 0 where
   pub trailer : IsTrue (names_handler first) → handler_data_offset_of first ≢ None
   pub alone : IsTrue (names_handler first) → chained ≡ []
   pub quiet : AllByRecursion NamesNoHandler chained
   pub leads : LeadsToLanguage image f (handler_pointer base function first)
-  pub words : IfSome f.sites (λ (sites : List Site). f.end < 2 ^ 64)
 
 abbrev pub all_operations : List Info → List UnwindOperation
 all_operations infos = flat_map (λ (info : Info). operations_alone (operations_in info)) infos

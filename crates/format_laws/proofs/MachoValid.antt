@@ -128,13 +128,13 @@ described_in memory at = record {
     record {
       listed = record { start_address = 0x1000; end_address = 0x1100; opcode = 0x02010000 };
       among = (0, lit< tt, refl);
-      describes = record { start = refl; end = refl; inside = lit≤ tt; opcode = (refl, frameless); language = record { index = lit≤ tt; leads = refl; words = tt } };
+      describes = record { start = refl; end = refl; inside = lit≤ tt; opcode = (refl, frameless); language = record { index = lit≤ tt; leads = refl } };
     },
     (
       record {
         listed = record { start_address = 0x2000; end_address = 0x3000; opcode = 0x01010001 };
         among = (2, lit< tt, refl);
-        describes = record { start = refl; end = refl; inside = lit≤ tt; opcode = (refl, framed); language = record { index = lit≤ tt; leads = refl; words = tt } };
+        describes = record { start = refl; end = refl; inside = lit≤ tt; opcode = (refl, framed); language = record { index = lit≤ tt; leads = refl } };
       },
       tt,
     ),

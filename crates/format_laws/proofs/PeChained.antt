@@ -85,7 +85,7 @@ described = record {
   chained = inherited_info ∷ [];
   reads = refl;
   chain = refl;
-  language = record { trailer = λ e. absurd cc; alone = λ e. absurd cc; quiet = (refl, tt); leads = refl; words = tt };
+  language = record { trailer = λ e. absurd cc; alone = λ e. absurd cc; quiet = (refl, tt); leads = refl };
   whole = (tt, (tt, tt));
   inherited = inherited_steps;
   own = own_steps;

@@ -76,7 +76,7 @@ described = record {
   chained = [];
   reads = refl;
   chain = refl;
-  language = record { trailer = λ e. absurd cc; alone = λ e. refl; quiet = tt; leads = refl; words = tt };
+  language = record { trailer = λ e. absurd cc; alone = λ e. refl; quiet = tt; leads = refl };
   whole = (tt, tt);
   inherited = [];
   own = framed_function.prologue;

@@ -33,7 +33,7 @@ described = record {
         end = refl;
         inside = lit≤ tt;
         opcode = (refl, frameless);
-        language = record { index = lit≤ tt; leads = (macho_sites, refl, table); words = lit< tt };
+        language = record { index = lit≤ tt; leads = (macho_sites, refl, table) };
       };
     },
     tt,

@@ -136,7 +136,7 @@ described = record {
         record {
           listed = record { start_address = 0x3000; end_address = 0x3020; opcode = 0x030df800 };
           among = (3, lit< tt, refl);
-          describes = record { start = refl; end = refl; inside = lit≤ tt; opcode = indirect_opcode; language = record { index = lit≤ tt; leads = refl; words = tt } };
+          describes = record { start = refl; end = refl; inside = lit≤ tt; opcode = indirect_opcode; language = record { index = lit≤ tt; leads = refl } };
         },
         tt,
       ),

@@ -53,7 +53,7 @@ described_record = record {
   chained = [];
   reads = refl;
   chain = refl;
-  language = record { trailer = λ named none. absurd cc; alone = λ named. refl; quiet = tt; leads = (pe_sites, refl, table); words = lit< tt };
+  language = record { trailer = λ named none. absurd cc; alone = λ named. refl; quiet = tt; leads = (pe_sites, refl, table) };
   whole = (tt, tt);
   inherited = [];
   own = [];
