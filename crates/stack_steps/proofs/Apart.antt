@@ -1,5 +1,5 @@
 -- Modules that are apart: where an address is found, what one more module meets, what it changes.
-use Rattle.std.proofs.Common.{◌≡◌, ℕ, ◌<◌, ◌≤◌, min, Bool, true, false, not, ◌&&◌, ◌==◌, cond, ◌⊎◌, inl, inr, List, [], ◌∷◌, ◌++◌, Option, Some, None, refl, sym, ap, ◌∙◌, subst, arith, leb, ltb}
+use Rattle.std.proofs.Common.{◌≡◌, ℕ, ◌^◌, ◌<◌, ◌≤◌, min, Bool, true, false, not, ◌&&◌, ◌==◌, cond, ◌⊎◌, inl, inr, List, [], ◌∷◌, ◌++◌, Option, Some, None, refl, sym, ap, ◌∙◌, subst, arith, leb, ltb}
 use Rattle.std.proofs.lemmas.Bool.Decides.{nat_tests, leb_tells}
 use Rattle.std.specs.List.{filter}
 use Rattle.std.specs.Ordering.{nat_cmp, is_lt, is_le}
@@ -184,15 +184,15 @@ apart_from m start end h = elim (leb_tells end m.start) [
   ]
 ]
 
-pub with_apart : (ms : List Module) (low : ℕ) (m : Module) → AreApart low ms → low ≤ m.start → m.start < m.end → lowest_shared ms m.start m.end ≡ None → AreApart low (with_module m ms)
-with_apart [] low m apart le some none = (le, some, tt)
-with_apart (n ∷ ns) low m apart le some none =
+pub with_apart : (ms : List Module) (low : ℕ) (m : Module) → AreApart low ms → low ≤ m.start → m.start < m.end → m.end < 2 ^ 64 → lowest_shared ms m.start m.end ≡ None → AreApart low (with_module m ms)
+with_apart [] low m apart le some below none = (le, some, below)
+with_apart (n ∷ ns) low m apart le some below none =
     let s : ShareNone n ns m.start m.end = share_none n ns m.start m.end none in
     elim (leb_tells n.start m.start) [
       | inl p ↦
           let after : n.end ≤ m.start = elim (apart_from n m.start m.end s.first) [ inl q ↦ absurd (omega (arith, p.1)) | inr q ↦ q ] in
           let test : ltb m.start n.start ≡ false = let at : n.start ≤ m.start = p.1 in grind (arith, nat_tests) in
-          rw test (apart.0, apart.1, with_apart ns n.end m apart.2 after some s.rest)
+          rw test (apart.0, apart.1, with_apart ns n.end m apart.2 after some below s.rest)
       | inr p ↦
           let before : m.end ≤ n.start = elim (apart_from n m.start m.end s.first) [ inl q ↦ q | inr q ↦ absurd (omega (arith, p.1, apart.1)) ] in
           let test : ltb m.start n.start ≡ true = let at : m.start < n.start = p.1 in grind (arith, nat_tests) in
@@ -289,12 +289,9 @@ pub record TakesModule (es ds : List (ℕ × Extent)) (m : Module) : Type 0 wher
   pub apart : AreApart 0 (modules_in ds)
   pub added : modules_in ds ≡ with_module m (modules_in es)
 
-pub module_inserted : (es ds : List (ℕ × Extent)) (k : ℕ) (x : Extent) (o : Option ℕ) → AreApart 0 (modules_in es) → k < x.end → o ≡ lowest_shared (modules_in es) k x.end → o ≡ None → ds ≡ insert_entry nat_cmp es k x → TakesModule es ds (module_of (k, x))
-module_inserted es ds k x o apart some is none e =
+pub module_inserted : (es ds : List (ℕ × Extent)) (k : ℕ) (x : Extent) (o : Option ℕ) → AreApart 0 (modules_in es) → k < x.end → x.end < 2 ^ 64 → o ≡ lowest_shared (modules_in es) k x.end → o ≡ None → ds ≡ insert_entry nat_cmp es k x → TakesModule es ds (module_of (k, x))
+module_inserted es ds k x o apart some below is none e =
     let alone : lowest_shared (modules_in es) k x.end ≡ None = sym is ∙ none in
     let same : modules_in ds ≡ with_module (module_of (k, x)) (modules_in es) = ap modules_in e ∙ inserted es k x 0 apart some alone in
     let P : List Module → Type 0 = λ ms. AreApart 0 ms in
-    record { apart = subst P (sym same) (with_apart (modules_in es) 0 (module_of (k, x)) apart (omega arith) some alone); added = same }
-
-pub still_apart : (es ds : List (ℕ × Extent)) → AreApart 0 (modules_in es) → ds ≡ es → AreApart 0 (modules_in ds)
-still_apart es ds apart e = let P : List (ℕ × Extent) → Type 0 = λ es. AreApart 0 (modules_in es) in subst P (sym e) apart
+    record { apart = subst P (sym same) (with_apart (modules_in es) 0 (module_of (k, x)) apart (omega arith) some below alone); added = same }

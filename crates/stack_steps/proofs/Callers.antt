@@ -14,7 +14,9 @@ use Rattle.format_frames.specs.declared.machine.Stepped.{Stepped as CodeStepped}
 use Rattle.format_frames.specs.Callers.{stepped_of}
 use Rattle.format_frames.specs.Refusals.{macho_due, pe_due}
 use Rattle.stack_steps.specs.Views.{format_error}
-use Rattle.stack_steps.specs.Stepping.{next_with, opcode_caller, pe_refusal}
+use Rattle.stack_steps.specs.Frames.{next_with}
+use Rattle.stack_steps.specs.Macho.{opcode_caller}
+use Rattle.stack_steps.specs.Pe.{refusal as pe_refusal}
 use Rattle.std.specs.Result.{result_map_both}
 use Rattle.stack_steps.proofs.ContextLemmas.{IsWhole, context_of-columns}
 

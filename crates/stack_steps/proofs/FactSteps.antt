@@ -38,8 +38,10 @@ use Rattle.stack_steps.specs.declared.space.ModuleTables.TheVariants.{Elf}
 use Rattle.format_frames.specs.declared.machine.Stepped.{Stepped}
 use Rattle.stack_steps.specs.Modules.{SpaceValue, AreApart, module_at}
 use Rattle.stack_steps.specs.SpaceViews.{tables_of, elf_module, process_of}
-use Rattle.stack_steps.specs.Stepping.{step_of, FrameAt, Described, frame_of, caller_by}
-use Rattle.stack_steps.specs.Asking.{action_if_named, described_action, table_if_named}
+use Rattle.stack_steps.specs.Stepping.{step_of, frame_of, caller_by}
+use Rattle.stack_steps.specs.Frames.{FrameAt, Described}
+use Rattle.stack_steps.specs.Asking.{action_if_named, described_action}
+use Rattle.stack_steps.specs.Elf.{table_if_named}
 use Rattle.stack_steps.specs.declared.asking.FrameAction.{FrameAction}
 use Rattle.stack_steps.specs.Languages.{Languages, described_asks, found_in}
 use Rattle.stack_steps.specs.Undoing.{Undone}

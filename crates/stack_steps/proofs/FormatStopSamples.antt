@@ -9,7 +9,7 @@ use Rattle.stack_steps.specs.Modules.{AreApart}
 use Rattle.stack_steps.specs.SpaceViews.{formats_of}
 
 pub apart : AreApart 0 space_of_three.modules
-apart = (lit≤ tt, lit< tt, (lit≤ tt, lit< tt, (lit≤ tt, lit< tt, tt)))
+apart = (lit≤ tt, lit< tt, (lit≤ tt, lit< tt, (lit≤ tt, lit< tt, lit< tt)))
 
 pub called : IsDescribedCall space_of_three.image (formats_of space_of_three) functions caught_start caught_frameless
 called = record {

@@ -1,5 +1,5 @@
 -- The module of a space that a module of whatever format is.
-use Rattle.std.proofs.Common.{inl, inr, ◌≡◌, ℕ, ◌+◌, ◌-◌, ◌<◌, ◌≤◌, List, [], ◌∷◌, Option, Some, None, ap, sym, subst, ◌∙◌, arith}
+use Rattle.std.proofs.Common.{inl, inr, ◌≡◌, ℕ, ◌+◌, ◌-◌, ◌^◌, ◌<◌, ◌≤◌, List, [], ◌∷◌, Option, Some, None, ap, sym, subst, ◌∙◌, arith}
 use Rattle.std.specs.Prelude.{◌⊎◌, IsTrue, map}
 use Rattle.std.specs.List.{Contains, cons_option, filter_map}
 use Rattle.unwind_definitions.specs.Module as described
@@ -12,7 +12,8 @@ use Rattle.stack_steps.specs.declared.space.ModuleTables.{ModuleTables}
 use Rattle.stack_steps.specs.declared.space.ModuleTables.TheVariants.{Elf, Macho, Pe}
 use Rattle.stack_steps.specs.Modules.{AreApart, module_at}
 use Rattle.stack_steps.specs.SpaceViews.{elf_module, elf_in, elf_of, format_by, format_of}
-use Rattle.stack_steps.specs.Stepping.{macho_of, pe_of}
+use Rattle.stack_steps.specs.Macho.{module_of as macho_of}
+use Rattle.stack_steps.specs.Pe.{module_of as pe_of}
 use Rattle.stack_steps.proofs.StepUndone.{IsOf, contains_map, module_at-contains}
 
 -- a module of the space is one by its format
@@ -85,13 +86,29 @@ pub record HoldsAt (modules : List Module) (home : FormatModule) (a : ℕ) : Typ
   pub holder : Module
   pub holds : module_at modules a ≡ Some holder
   pub from : holder.start ≤ a
+  pub low : a + 1 < 2 ^ 64
   pub same : format_of holder ≡ home
 
--- an address that a module has, whatever its format, is found in that module
+-- modules that are apart begin below 2 ^ 64, and end there
+low_end : (low : ℕ) (modules : List Module) → AreApart low modules → low < 2 ^ 64
+low_end low [] apart = apart
+low_end low (m ∷ ms) apart = let last = low_end m.end ms apart.2 in omega (arith, apart.0, apart.1, last)
+
+ends_low : (low : ℕ) (modules : List Module) (m : Module) → AreApart low modules → Contains modules m → m.end < 2 ^ 64
+ends_low low [] m apart has = absurd (lists.none_in_nil m has)
+ends_low low (n ∷ ns) m apart has = go (λ more. ends_low n.end ns m apart.2 more) (lists.here_or_later n ns m has)
+  where
+    go : (Contains ns m → m.end < 2 ^ 64) → (n ≡ m) ⊎ Contains ns m → m.end < 2 ^ 64
+    go later (inl same) = subst (λ (k : Module). k.end < 2 ^ 64) same (low_end n.end ns apart.2)
+    go later (inr more) = later more
+
+-- an address that a module has, whatever its format, is found in that module, and the one after it is an address, too
 pub held_at : (modules : List Module) (home : FormatModule) (a : ℕ) → AreApart 0 modules → Contains (map format_of modules) home → IsTrue (in_format a home) → HoldsAt modules home a
 held_at modules home a apart known inside =
     let is : IsFormatOf modules home = format_named modules home known in
     let m : Module = is.named in
     let within : IsTrue (in_format a (format_of m)) = subst (λ (k : FormatModule). IsTrue (in_format a k)) (sym is.same) inside in
     let ends = ends_at m m.tables a within in
-    record { holder = m; holds = module_at-contains 0 modules m a apart is.among ends.0 ends.1; from = ends.0; same = is.same }
+    let last : m.end < 2 ^ 64 = ends_low 0 modules m apart is.among in
+    let next_low : a + 1 < 2 ^ 64 = let below = ends.1 in omega arith in
+    record { holder = m; holds = module_at-contains 0 modules m a apart is.among ends.0 ends.1; from = ends.0; low = next_low; same = is.same }

@@ -41,7 +41,7 @@ use Rattle.stack_steps.specs.declared.answers.DeliverError.TheVariants.{Table}
 use Rattle.stack_steps.specs.declared.prepared.PreparedTable.{PreparedTable}
 use Rattle.stack_steps.specs.Held.{IsTableOf, kept_table}
 use Rattle.stack_steps.specs.Preparing.{HeaderLists, Lists, fdes_in}
-use Rattle.stack_steps.specs.Stepping.{frame_by, frame_with}
+use Rattle.stack_steps.specs.Elf.{frame_by, frame_with}
 
 -- ---- what a header that lists an index finds
 

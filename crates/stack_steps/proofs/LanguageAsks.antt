@@ -1,5 +1,5 @@
 -- What is asked where no routine is C++'s.
-use Rattle.std.proofs.Common.{◌≡◌, ℕ, Bool, false, List, [], Option, Some, None, Result, Ok, Err, refl, sym, ap, ◌∙◌}
+use Rattle.std.proofs.Common.{◌≡◌, ℕ, Bool, false, List, [], Option, Some, None, Result, Ok, Err, refl, ap, ◌∙◌}
 use Rattle.memory_image.specs.Image.{Span}
 use Rattle.memory_image.specs.Results.{result_map}
 use Rattle.unwind_definitions.specs.Caller.{StepFault}
@@ -9,9 +9,10 @@ use Rattle.unwind_arch.specs.declared.x86_64.Context.{Context}
 use Rattle.fde_finders.specs.Finding.{FoundFde}
 use Rattle.stack_steps.specs.declared.answers.DeliverError.{DeliverError}
 use Rattle.stack_steps.specs.declared.asking.FrameAction.{FrameAction}
-use Rattle.stack_steps.specs.Asking.{action_asked, action_if_named, named_table, table_if_named}
+use Rattle.stack_steps.specs.Asking.{action_asked, action_if_named, named_table}
+use Rattle.stack_steps.specs.Elf.{table_if_named}
 use Rattle.stack_steps.specs.Languages.{Languages, asked_by_rust, asks_if_named, described_asks, frame_asks, is_cxx, known_routine, routine_of, rust_alone}
-use Rattle.stack_steps.specs.Stepping.{FrameAt}
+use Rattle.stack_steps.specs.Frames.{FrameAt}
 
 none_is_cxx : (l : Languages) → l.cxx_routines ≡ [] → (routine : Option ℕ) → is_cxx l routine ≡ false
 none_is_cxx l none None = refl

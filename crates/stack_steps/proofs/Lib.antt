@@ -13,9 +13,12 @@ pub mod HeaderFinds
 pub mod Holding
 pub mod IndexFinds
 pub mod Making
-pub mod MetFrames
+pub mod ElfAnswers
+pub mod ElfFrames
 pub mod LanguageAsks
+pub mod MachoAnswers
 pub mod MachoFrames
+pub mod PeAnswers
 pub mod PeFrames
 pub mod RowReads
 pub mod Sharing

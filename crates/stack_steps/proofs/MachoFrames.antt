@@ -1,5 +1,5 @@
--- The frame of a described function of a Mach-O module, and what it asks.
-use Rattle.std.proofs.Common.{◌≡◌, ◌≢◌, ℕ, ◌+◌, ◌%◌, ◌^◌, ◌<◌, ◌≤◌, Bool, true, false, cond, eqb, ltb, length, List, Option, Some, None, Result, Ok, refl, sym, ap, subst, ◌∙◌, arith}
+-- The frame of a described function of a Mach-O module, what it asks, and its caller. `ElfFrames` and `PeFrames` have the same of theirs.
+use Rattle.std.proofs.Common.{◌≡◌, ◌≢◌, ℕ, ◌+◌, ◌%◌, ◌^◌, ◌<◌, ◌≤◌, Bool, true, false, cond, eqb, ltb, length, List, Option, Some, None, Result, Ok, refl, sym, ap, subst, ◌∙◌, arith, ◌-◌}
 use Rattle.std.specs.Prelude.{IfSome, IsTrue}
 use Rattle.std.specs.Option.{option_map}
 use Rattle.std.proofs.lemmas.Bool.Decides.{nat_tests}
@@ -27,16 +27,39 @@ use Rattle.macho_unwind_info.specs.LanguageTables.{personalities_of, has_languag
 use Rattle.macho_unwind_info.specs.Listing.{Section, part, section_of}
 use Rattle.macho_unwind_info.specs.X86_64.{opcode_of}
 use Rattle.macho_unwind_info.proofs.LanguageLemmas.{finds_listed}
-use Rattle.format_definitions.specs.CompactStep.{MachoModule, frame_bases}
+use Rattle.format_definitions.specs.CompactStep.{MachoModule, frame_bases, macho_step}
 use Rattle.format_definitions.specs.MachoModules.{personality_index, table_offset_of, NamesLanguage, NamesUnlessDwarf, IsDwarf, IsOpcodeOf, HasListed, DescribesMacho}
 use Rattle.format_frames.specs.FrameData.{found_in, some_found, description_by}
 use Rattle.format_frames.specs.Handlers.{offset_if_named, language_offset, place_at, macho_place}
 use Rattle.format_laws.proofs.Silent.{silent_action}
-use Rattle.format_laws.proofs.MachoSteps.{found_at}
-use Rattle.stack_steps.specs.Asking.{or_terminate, action_if_named, compact_table, action_asked, arguments_of}
-use Rattle.stack_steps.specs.Stepping.{FrameAt, Described, Compact, opcode_frame}
-use Rattle.stack_steps.proofs.MetFrames.{asked_as}
-use Rattle.stack_steps.proofs.StepParts.{frame_found}
+use Rattle.format_laws.proofs.MachoSteps.{found_at, listed_found}
+use Rattle.stack_steps.specs.Asking.{or_terminate, action_if_named, action_asked, arguments_of}
+use Rattle.stack_steps.specs.Macho.{compact_table, opcode_frame, module_of, compact_frame, compact_next}
+use Rattle.stack_steps.specs.Frames.{FrameAt, Described, Compact}
+use Rattle.stack_steps.proofs.ElfFrames.{asked_as}
+use Rattle.stack_steps.proofs.StepParts.{frame_found, stepped_by}
+use Rattle.std.specs.List.{Contains}
+use Rattle.unwind_definitions.specs.Caller.{Columns}
+use Rattle.unwind_definitions.specs.State.{State, Shows}
+use Rattle.unwind_laws.proofs.Booleans as lists
+use Rattle.unwind_arch.specs.ContextViews.{columns_of, context_of}
+use Rattle.macho_unwind_info.specs.Lookup.{lookup_of}
+use Rattle.format_definitions.specs.CompactStep as compact
+use Rattle.format_definitions.specs.Modules.{KeepsIn}
+use Rattle.format_definitions.specs.Modules as formats
+use Rattle.format_frames.specs.Refusals.{looked_up, function_at}
+use Rattle.format_laws.specs.CompactUndone.{MachoUndone}
+use Rattle.stack_steps.specs.declared.space.Module.{Module}
+use Rattle.stack_steps.specs.declared.space.ModuleTables.{ModuleTables}
+use Rattle.stack_steps.specs.declared.space.ModuleTables.TheVariants.{Elf, Macho, Pe}
+use Rattle.stack_steps.specs.declared.space.MachoTables.{MachoTables}
+use Rattle.stack_steps.specs.Modules.{SpaceValue, module_at}
+use Rattle.stack_steps.specs.SpaceViews.{format_by}
+use Rattle.stack_steps.proofs.Holders.{HoldsAt}
+use Rattle.stack_steps.proofs.StepUndone.{context_of-holds}
+use Rattle.stack_steps.specs.Stepping.{frame_by_tables, caller_by}
+use Rattle.stack_steps.proofs.FoundFrames.{FormatFrame, held_frame, called_by}
+use Rattle.stack_steps.proofs.MachoAnswers.{answer, is_defined}
 
 -- ---- where the language table of a listed function stands
 
@@ -74,18 +97,17 @@ module _ (image : List Span) (f : Function) (convention : Convention) (is : IsFu
 
 module _ (image : List Span) (f : Function) (is : IsFunction SystemV f) (a : ℕ) where
   -- by the place to which a pointer leads
-  asks_by : (m : MachoModule) (listed : Listed) (o : Option ℕ) → f.start ≡ m.base + listed.start_address → f.start < 2 ^ 64 → IfSome f.sites (λ (sites : List Site). f.end < 2 ^ 64) → LeadsToLanguage image f (option_map (λ (offset : ℕ). Direct ((m.base + offset) % 2 ^ 64)) o) →
+  asks_by : (m : MachoModule) (listed : Listed) (o : Option ℕ) → f.start ≡ m.base + listed.start_address → f.start < 2 ^ 64 → f.end < 2 ^ 64 → LeadsToLanguage image f (option_map (λ (offset : ℕ). Direct ((m.base + offset) % 2 ^ 64)) o) →
       action_if_named image a (option_map Ok (option_map (place_at m listed) o)) ≡ action_at f a
-  asks_by m listed None start low words none = sym (silent_action f a none)
-  asks_by m listed (Some offset) start low words leads =
-      let small : f.end < 2 ^ 64 = subst (λ (o : Option (List Site)). IfSome o (λ (sites : List Site). f.end < 2 ^ 64)) leads.1 words in
+  asks_by m listed None start low small none = sym (silent_action f a none)
+  asks_by m listed (Some offset) start low small leads =
       asks_at_place image f SystemV is a (place_at m listed offset) leads.0 (omega arith) leads.1 small leads.2
 
   pub macho_asks : (m : MachoModule) (info : Section) (personalities : List U32) (listed : Listed) → section_of (table_at image m.unwind_info) ≡ Ok info → personalities_of info ≡ Ok personalities → HasDescribedTables info →
-      f.start ≡ m.base + listed.start_address → f.start < 2 ^ 64 → NamesLanguage image info personalities m.base listed f → result_map (action_if_named image a) (compact_table (macho_place image m listed)) ≡ Ok (action_at f a)
-  macho_asks m info personalities listed parses named tables start low language =
+      f.start ≡ m.base + listed.start_address → f.start < 2 ^ 64 → f.end < 2 ^ 64 → NamesLanguage image info personalities m.base listed f → result_map (action_if_named image a) (compact_table (macho_place image m listed)) ≡ Ok (action_at f a)
+  macho_asks m info personalities listed parses named tables start low small language =
       ap (λ r. result_map (action_if_named image a) (compact_table r)) (place_is image m info personalities listed parses named tables language.index) ∙
-      ap (λ x. Ok x) (asks_by m listed (table_offset_of info listed) start low language.words language.leads)
+      ap (λ x. Ok x) (asks_by m listed (table_offset_of info listed) start low small language.leads)
 
 -- ---- the frame
 
@@ -93,10 +115,10 @@ module _ (image : List Span) (f : Function) (is : IsFunction SystemV f) (a : ℕ
 pub record MachoFrame (image : List Span) (c : Context) (interrupted : Bool) (a : ℕ) (f : Function) (m : MachoModule) (listed : Listed) (described : Result (Option FoundFde) Fault) : Type 0 where
   pub frame : FrameAt
   pub is : opcode_frame m a listed described ≡ Ok (Some frame)
-  pub asks : a < 2 ^ 64 → action_asked image c interrupted frame ≡ Ok (action_at f a)
+  pub asks : f.end < 2 ^ 64 → action_asked image c interrupted frame ≡ Ok (action_at f a)
   pub no_arguments : arguments_of frame ≡ 0
 
-module _ (image : List Span) (c : Context) (interrupted : Bool) (a : ℕ) (asked : address_of_call c.ra interrupted ≡ a) (f : Function) (is : IsFunction SystemV f) (low : f.start ≤ a) (inside : IsTrue (in_body f a)) (m : MachoModule) (listed : Listed) where
+module _ (image : List Span) (c : Context) (interrupted : Bool) (a : ℕ) (asked : address_of_call c.ra interrupted ≡ a) (f : Function) (is : IsFunction SystemV f) (low : f.start ≤ a) (high : a < f.end) (inside : IsTrue (in_body f a)) (m : MachoModule) (listed : Listed) where
   -- by frame data
   row_there : (table offset : ℕ) (d : IsDwarf image f table offset) (b : Bool) → f.outermost ≡ b → (run : RowInstructions) × (row_at (frame_bases table) d.fde a ≡ Ok run) × (argument_size run ≡ 0)
   row_there table offset d false e = let row = d.describes.code.rows.bodies e a inside in (row.0, row.1, row.2.arguments)
@@ -119,7 +141,7 @@ module _ (image : List Span) (c : Context) (interrupted : Bool) (a : ℕ) (asked
     alone language = record {
       frame = Compact m listed;
       is = refl;
-      asks = λ small. ap (λ (at : ℕ). result_map (action_if_named image at) (compact_table (macho_place image m listed))) asked ∙ macho_asks image f is a m info personalities listed parses named tables start (omega arith) language;
+      asks = λ small. ap (λ (at : ℕ). result_map (action_if_named image at) (compact_table (macho_place image m listed))) asked ∙ macho_asks image f is a m info personalities listed parses named tables start (omega arith) small language;
       no_arguments = refl;
     }
 
@@ -133,8 +155,51 @@ module _ (image : List Span) (c : Context) (interrupted : Bool) (a : ℕ) (asked
     by_opcode frames InvalidFrameless d language = absurd d
     by_opcode frames (UnrecognizedKind k) d language = absurd d
 
-pub listed_frame : (image : List Span) (c : Context) (interrupted : Bool) (a : ℕ) → address_of_call c.ra interrupted ≡ a → (f : Function) → IsFunction SystemV f → f.start ≤ a → IsTrue (in_body f a) →
+pub listed_frame : (image : List Span) (c : Context) (interrupted : Bool) (a : ℕ) → address_of_call c.ra interrupted ≡ a → (f : Function) → IsFunction SystemV f → f.start ≤ a → a < f.end → IsTrue (in_body f a) →
     (m : MachoModule) (functions : List Function) (d : DescribesMacho image m functions) (h : HasListed image d.info d.personalities m f) →
     MachoFrame image c interrupted a f m h.listed (description_by image m.frames (opcode_of h.listed.opcode))
-listed_frame image c interrupted a asked f is low inside m functions d h =
-    by_opcode image c interrupted a asked f is low inside m h.listed d.info d.personalities d.parses d.named d.tables h.describes.start m.frames (opcode_of h.listed.opcode) h.describes.opcode h.describes.language
+listed_frame image c interrupted a asked f is low high inside m functions d h =
+    by_opcode image c interrupted a asked f is low high inside m h.listed d.info d.personalities d.parses d.named d.tables h.describes.start m.frames (opcode_of h.listed.opcode) h.describes.opcode h.describes.language
+
+-- ---- in a space
+
+module _ (space : SpaceValue) (c : Context) (interrupted : Bool) (a : ℕ) (nonzero : eqb c.ra 0 ≡ false) (asked : address_of_call c.ra interrupted ≡ a) (f : Function) (low : f.start ≤ a) (high : a < f.end) (t : State) where
+  frame_in : (m : Module) (tables : MachoTables) → module_at space.modules a ≡ Some m → m.tables ≡ Macho tables → m.start ≤ a → IsFunction SystemV f → IsTrue (in_body f a) → (part : List Function) (d : DescribesMacho space.image (module_of m tables) part) →
+      HasListed space.image d.info d.personalities (module_of m tables) f → MachoUndone (macho_step space.image (module_of m tables) (a - m.start) (columns_of c)) (columns_of c) t → FormatFrame space c interrupted (formats.Macho (module_of m tables)) f a t
+  frame_in m tables holds is from is_function inside part d h u =
+      let home : MachoModule = module_of m tables in
+      let looked : lookup_of d.info (a - m.start) ≡ Ok (Some h.listed) = listed_found space.image home part d f h a low high in
+      let found : function_at space.image home (a - m.start) ≡ Ok (Some h.listed) = ap (looked_up (a - m.start)) d.parses ∙ looked in
+      let caller : compact.Stepped = record { columns = u.caller; signal = false } in
+      let listed = listed_frame space.image c interrupted a asked f is_function low high inside home part d h in
+      let there : frame_by_tables space.image a m (Macho tables) ≡ Ok (Some listed.frame) = ap (compact_frame space.image home a) found ∙ listed.is in
+      let steps : stepped_by space.image c (Ok (Some listed.frame)) ≡ Ok (Some (compact_next caller)) =
+      ap (stepped_by space.image c) (sym there) ∙ is_defined space.image c m tables a from ∙ ap answer u.answered in
+      let kept : columns_of (context_of u.caller) ≡ u.caller = λ i k. context_of-holds c u.caller t u.shows u.others k i in
+      record {
+        frame = listed.frame;
+        framed = held_frame space c interrupted a m (Macho tables) nonzero asked holds is ∙ there;
+        asks = listed.asks;
+        no_arguments = listed.no_arguments;
+        next = compact_next caller;
+        called = called_by (compact_next caller) (caller_by space.image c listed.frame) steps;
+        unmarked = refl;
+        shows = subst (λ (columns : Columns). Shows columns t) (sym kept) u.shows;
+        others = subst (λ (columns : Columns). KeepsIn (formats.Macho home) (columns_of c) columns) (sym kept) u.others;
+        whole = refl;
+      }
+
+  frame_named : (m : Module) (tables : ModuleTables) (home : MachoModule) → module_at space.modules a ≡ Some m → m.tables ≡ tables → m.start ≤ a → IsFunction SystemV f → IsTrue (in_body f a) → format_by m tables ≡ formats.Macho home → (part : List Function) (d : DescribesMacho space.image home part) →
+      HasListed space.image d.info d.personalities home f → MachoUndone (macho_step space.image home (a - home.base) (columns_of c)) (columns_of c) t → FormatFrame space c interrupted (formats.Macho home) f a t
+  frame_named m (Elf frame) home holds is from is_function inside same = absurd cc
+  frame_named m (Pe tables) home holds is from is_function inside same = absurd cc
+  frame_named m (Macho tables) home holds is from is_function inside same =
+      let here : module_of m tables ≡ home = cc in
+      subst (λ (k : MachoModule). (part : List Function) (d : DescribesMacho space.image k part) → HasListed space.image d.info d.personalities k f →
+      MachoUndone (macho_step space.image k (a - k.base) (columns_of c)) (columns_of c) t → FormatFrame space c interrupted (formats.Macho k) f a t) here (frame_in m tables holds is from is_function inside)
+
+  -- a function of a Mach-O module
+  pub framed : (home : MachoModule) → HoldsAt space.modules (formats.Macho home) a → IsFunction SystemV f → IsTrue (in_body f a) → (part : List Function) (d : DescribesMacho space.image home part) → Contains part f →
+      MachoUndone (macho_step space.image home (a - home.base) (columns_of c)) (columns_of c) t → FormatFrame space c interrupted (formats.Macho home) f a t
+  framed home at is_function inside part d has u =
+      frame_named at.holder at.holder.tables home at.holds refl at.from is_function inside at.same part d (lists.all_contains (HasListed space.image d.info d.personalities home) part f d.each has) u

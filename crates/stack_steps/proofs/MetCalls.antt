@@ -23,9 +23,12 @@ use Rattle.stack_steps.specs.Modules.{SpaceValue, AreApart}
 use Rattle.stack_steps.specs.SpaceViews.{process_of, formats_of}
 use Rattle.stack_steps.specs.Stepping.{step_of}
 use Rattle.stack_steps.specs.Undoing.{Undone, UndoneIn}
-use Rattle.stack_steps.proofs.FoundFrames.{FormatFrame, macho_framed, pe_framed}
+use Rattle.stack_steps.proofs.FoundFrames.{FormatFrame, Met}
+use Rattle.stack_steps.proofs.ElfFrames.{IsElfCall}
+use Rattle.stack_steps.proofs.ElfFrames as elf
+use Rattle.stack_steps.proofs.MachoFrames as macho
+use Rattle.stack_steps.proofs.PeFrames as pe
 use Rattle.stack_steps.proofs.Holders.{elf_from_format, HoldsAt, held_at}
-use Rattle.stack_steps.proofs.MetFrames.{IsElfCall, Met, met, step_undone}
 use Rattle.stack_steps.proofs.StepParts.{some_next, stepped_by, step_is}
 use Rattle.stack_steps.proofs.StoppedUndone.{IsElfStop, stopped_undone}
 
@@ -76,6 +79,20 @@ module _ (space : SpaceValue) (c : Context) (functions : List Function) (s : Sta
       held_at space.modules home a apart lies.0
       (in_home space.image (formats_of space) functions call.callee (record { home = home; known = lies.0; inside = lies.1; is_function = lies.2; describes = d }) listed a low high)
 
+  -- so the function ends below 2 ^ 64
+  ends_low : (home : FormatModule) → Lies home → DescribesFormat space.image home (part_of home functions) → Contains functions call.callee → (a : ℕ) → call.callee.start ≤ a → a < call.callee.end → call.callee.end < 2 ^ 64
+  ends_low home lies d listed a low high =
+      let last = (held home lies d listed (call.callee.end - 1) (omega arith) (omega arith)).low in
+      omega arith
+
+  -- and the return address of a call is an address
+  pub returns_low : IsDescribedCall space.image (formats_of space) functions s call → s.ra < 2 ^ 64
+  returns_low is =
+      let at = body_lies (convention_of is.lies.home) call.callee (s.ra - 1) is.lies.is_function is.called.inside in
+      let next = (held is.lies.home (is.lies.known, is.lies.inside, is.lies.is_function) is.lies.describes is.listed (s.ra - 1) at.0 at.1).low in
+      let some : s.ra ≢ 0 = is.called.returns in
+      omega arith
+
   -- ---- what a frame gives
 
   undone_by : (home : FormatModule) (interrupted : Bool) (a : ℕ) → FormatFrame space c interrupted home call.callee a call.caller → UndoneIn home (step_of space c interrupted) (columns_of c) call.caller
@@ -88,11 +105,11 @@ module _ (space : SpaceValue) (c : Context) (functions : List Function) (s : Sta
   }
 
   -- one that asks what its function does
-  met_by : (home : FormatModule) → FormatFrame space c false home call.callee (s.ra - 1) call.caller → s.ra < 2 ^ 64 → Met space c s call
-  met_by home f low = record {
+  met_by : (home : FormatModule) → FormatFrame space c false home call.callee (s.ra - 1) call.caller → call.callee.end < 2 ^ 64 → s.ra < 2 ^ 64 → Met space c s call
+  met_by home f small low = record {
     frame = f.frame;
     framed = f.framed;
-    asks = f.asks (omega arith);
+    asks = f.asks small;
     no_arguments = f.no_arguments;
     next = f.next;
     called = f.called;
@@ -114,23 +131,23 @@ module _ (space : SpaceValue) (c : Context) (functions : List Function) (s : Sta
     macho_call : (m : Rattle.format_definitions.specs.CompactStep.MachoModule) → Lies (Macho m) → DescribesFormat space.image (Macho m) (part_of (Macho m) functions) → FormatFrame space c false (Macho m) call.callee (s.ra - 1) call.caller
     macho_call m lies d =
         let at = body_lies SystemV call.callee (s.ra - 1) lies.2 is.called.inside in
-        macho_framed space c false (s.ra - 1) (not_zero shows is.called.returns) (call_asked shows is.called.returns low) call.callee at.0 at.1 call.caller m
+        macho.framed space c false (s.ra - 1) (not_zero shows is.called.returns) (call_asked shows is.called.returns low) call.callee at.0 at.1 call.caller m
         (held (Macho m) lies d is.listed (s.ra - 1) at.0 at.1) lies.2 is.called.inside (part_of (Macho m) functions) d (in_part functions call.callee (Macho m) is.listed lies.1) (stepped (Macho m) lies d)
 
     pe_call : (m : Rattle.format_definitions.specs.PeImage.PeModule) → Lies (Pe m) → DescribesFormat space.image (Pe m) (part_of (Pe m) functions) → FormatFrame space c false (Pe m) call.callee (s.ra - 1) call.caller
     pe_call m lies d =
         let at = body_lies Windows call.callee (s.ra - 1) lies.2 is.called.inside in
-        pe_framed space c false (s.ra - 1) (not_zero shows is.called.returns) (call_asked shows is.called.returns low) call.callee at.0 at.1 call.caller m
+        pe.framed space c false (s.ra - 1) (not_zero shows is.called.returns) (call_asked shows is.called.returns low) call.callee at.0 at.1 call.caller m
         (held (Pe m) lies d is.listed (s.ra - 1) at.0 at.1) lies.2 (part_of (Pe m) functions) d (in_part functions call.callee (Pe m) is.listed lies.1) (stepped (Pe m) lies d)
 
     met_in : (home : FormatModule) → Lies home → DescribesFormat space.image home (part_of home functions) → Met space c s call
-    met_in (Elf m) lies d = met space c functions s call apart laid (call_in_elf m lies d is) shows
-    met_in (Macho m) lies d = met_by (Macho m) (macho_call m lies d) low
-    met_in (Pe m) lies d = met_by (Pe m) (pe_call m lies d) low
+    met_in (Elf m) lies d = elf.met space c functions s call apart laid (call_in_elf m lies d is) shows
+    met_in (Macho m) lies d = let at = body_lies SystemV call.callee (s.ra - 1) lies.2 is.called.inside in met_by (Macho m) (macho_call m lies d) (ends_low (Macho m) lies d is.listed (s.ra - 1) at.0 at.1) low
+    met_in (Pe m) lies d = let at = body_lies Windows call.callee (s.ra - 1) lies.2 is.called.inside in met_by (Pe m) (pe_call m lies d) (ends_low (Pe m) lies d is.listed (s.ra - 1) at.0 at.1) low
 
     undone_at_call : (home : FormatModule) → Lies home → DescribesFormat space.image home (part_of home functions) → UndoneIn home (step_of space c false) (columns_of c) call.caller
     undone_at_call (Elf m) lies d =
-        let u : Undone (step_of space c false) (columns_of c) call.caller = step_undone space c functions s call apart laid (call_in_elf m lies d is) shows in
+        let u : Undone (step_of space c false) (columns_of c) call.caller = elf.step_undone space c functions s call apart laid (call_in_elf m lies d is) shows in
         record { next = u.next; answered = u.answered; unmarked = u.unmarked; shows = u.shows; others = u.others }
     undone_at_call (Macho m) lies d = undone_by (Macho m) false (s.ra - 1) (macho_call m lies d)
     undone_at_call (Pe m) lies d = undone_by (Pe m) false (s.ra - 1) (pe_call m lies d)
@@ -153,12 +170,12 @@ module _ (space : SpaceValue) (c : Context) (functions : List Function) (s : Sta
         record { next = u.next; answered = u.answered; unmarked = u.unmarked; shows = u.shows; others = u.others }
     undone_at_stop (Macho m) lies d stands =
         let at = stop_lies space.image s call (Macho m) (part_of (Macho m) functions) d lies.2 stands in
-        undone_by (Macho m) true s.ra (macho_framed space c true s.ra (not_zero shows is.returns) (ra_is shows is.returns) call.callee at.0 at.1 call.caller m
+        undone_by (Macho m) true s.ra (macho.framed space c true s.ra (not_zero shows is.returns) (ra_is shows is.returns) call.callee at.0 at.1 call.caller m
         (held (Macho m) lies d is.listed s.ra at.0 at.1) lies.2 stands.inside (part_of (Macho m) functions) d (in_part functions call.callee (Macho m) is.listed lies.1)
         (undone_at space.image (formats_of space) functions s call is (columns_of c) shows (Macho m) lies.1 lies.2 d stands))
     undone_at_stop (Pe m) lies d stands =
         let at = stop_lies space.image s call (Pe m) (part_of (Pe m) functions) d lies.2 stands in
-        undone_by (Pe m) true s.ra (pe_framed space c true s.ra (not_zero shows is.returns) (ra_is shows is.returns) call.callee at.0 at.1 call.caller m
+        undone_by (Pe m) true s.ra (pe.framed space c true s.ra (not_zero shows is.returns) (ra_is shows is.returns) call.callee at.0 at.1 call.caller m
         (held (Pe m) lies d is.listed s.ra at.0 at.1) lies.2 (part_of (Pe m) functions) d (in_part functions call.callee (Pe m) is.listed lies.1)
         (undone_at space.image (formats_of space) functions s call is (columns_of c) shows (Pe m) lies.1 lies.2 d stands))
 

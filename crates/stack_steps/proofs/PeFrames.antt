@@ -1,15 +1,15 @@
--- What the frame of a described function of a PE module asks.
-use Rattle.std.proofs.Common.{inl, inr, ◌≡◌, ◌≢◌, ℕ, ◌+◌, ◌-◌, ◌%◌, ◌^◌, ◌<◌, ◌≤◌, Bool, true, false, List, [], ◌∷◌, Option, Some, None, Result, Ok, Err, refl, sym, ap, subst, ◌∙◌, arith}
-use Rattle.std.specs.Prelude.{◌⊎◌, IfSome}
-use Rattle.std.specs.List.{AllByRecursion}
+-- The frame of a described function of a PE module, what it asks, and its caller. `ElfFrames` and `MachoFrames` have the same of theirs.
+use Rattle.std.proofs.Common.{inl, inr, ◌≡◌, ◌≢◌, ℕ, ◌+◌, ◌-◌, ◌%◌, ◌^◌, ◌<◌, ◌≤◌, Bool, true, false, List, [], ◌∷◌, Option, Some, None, Result, Ok, Err, refl, sym, ap, subst, ◌∙◌, arith, eqb}
+use Rattle.std.specs.Prelude.{◌⊎◌}
+use Rattle.std.specs.List.{AllByRecursion, Contains}
 use Rattle.std.specs.Option.{option_map}
 use Rattle.std.specs.Result.{result_map_both}
-use Rattle.memory_image.specs.Image.{Span}
+use Rattle.memory_image.specs.Image.{Span, word_at}
 use Rattle.memory_image.specs.Results.{result_map}
 use Rattle.unwind_definitions.specs.Pointers.{Direct}
-use Rattle.unwind_definitions.specs.Prologue.{Convention}
-use Rattle.unwind_definitions.specs.Function.{Function, Site, Action, IsFunction, action_at}
-use Rattle.unwind_definitions.specs.LanguageSearch.{LanguagePlace, place_action}
+use Rattle.unwind_definitions.specs.Prologue.{Convention, Windows}
+use Rattle.unwind_definitions.specs.Function.{Function, Action, IsFunction, action_at}
+use Rattle.unwind_definitions.specs.LanguageSearch.{LanguagePlace, address_of_call}
 use Rattle.unwind_definitions.specs.LanguageTable.{LeadsToLanguage}
 use Rattle.pe_unwind_info.specs.declared.x86_64.fault.FrameFault.{FrameFault}
 use Rattle.pe_unwind_info.specs.declared.x86_64.function_table.RuntimeFunction.{RuntimeFunction}
@@ -25,22 +25,37 @@ use Rattle.pe_unwind_info.specs.Info.{Info, Trailer, OnException, OnTermination,
 use Rattle.pe_unwind_info.proofs.HandlerLemmas.{chain_is}
 use Rattle.format_definitions.specs.PeImage.{PeModule, memory_of}
 use Rattle.format_definitions.specs.PeModules.{NamesNoHandler, NamesLanguage, DescribesLeaf, HasRecord, DescribesPe}
-use Rattle.format_frames.specs.declared.error.FrameError.{FrameError}
 use Rattle.format_frames.specs.Handlers.{handler_place, pe_place}
-use Rattle.format_frames.specs.Refusals.{place_due}
 use Rattle.format_laws.proofs.Silent.{silent_action}
 use Rattle.format_laws.proofs.PeSteps.{found_by_record, leaf_not_found}
 use Rattle.stack_steps.specs.declared.answers.DeliverError.{DeliverError}
-use Rattle.stack_steps.specs.Asking.{action_if_named, or_terminate, recorded_table}
+use Rattle.stack_steps.specs.Asking.{action_if_named}
+use Rattle.stack_steps.specs.Pe.{recorded_table, module_of, refusal as pe_refusal, recorded_frame, recorded_columns}
 use Rattle.stack_steps.proofs.MachoFrames.{asks_at_place}
-
--- ---- where the code has found a place
-
-pub placed_asks : (image : List Span) (m : PeModule) (rva a : ℕ) (place : LanguagePlace) (r : Result (Option LanguagePlace) FrameFault) → ◌≡◌ {A = Result (Option LanguagePlace) FrameError} (Ok (Some place)) (place_due m rva r) →
-    result_map (action_if_named image a) (recorded_table r) ≡ Ok (or_terminate (place_action image place a))
-placed_asks image m rva a place (Ok (Some other)) e = let same : other ≡ place = cc in rw same refl
-placed_asks image m rva a place (Ok None) e = absurd cc
-placed_asks image m rva a place (Err fault) e = absurd cc
+use Rattle.unwind_definitions.specs.Caller.{Columns}
+use Rattle.unwind_definitions.specs.State.{State, Shows}
+use Rattle.unwind_laws.proofs.Booleans as lists
+use Rattle.unwind_arch.specs.declared.x86_64.Context.{Context}
+use Rattle.unwind_arch.specs.ContextViews.{columns_of, context_of}
+use Rattle.pe_unwind_info.specs.FrameOf.{frame_end_of}
+use Rattle.pe_unwind_info.specs.FunctionTable as pe_tables
+use Rattle.pe_unwind_info.specs.Machine.{FrameEnd, Returned, Faulted}
+use Rattle.format_definitions.specs.PeRegisters.{registers_in, columns_with}
+use Rattle.format_definitions.specs.PeStep.{PeFault, columns_at, pe_step}
+use Rattle.format_definitions.specs.PeStep as pe_steps
+use Rattle.format_definitions.specs.Modules.{KeepsIn}
+use Rattle.format_definitions.specs.Modules as formats
+use Rattle.format_laws.specs.PeUndone.{CallUndone}
+use Rattle.stack_steps.specs.declared.space.Module.{Module}
+use Rattle.stack_steps.specs.declared.space.ModuleTables.{ModuleTables}
+use Rattle.stack_steps.specs.declared.space.ModuleTables.TheVariants.{Elf, Macho, Pe}
+use Rattle.stack_steps.specs.declared.space.PeTables.{PeTables}
+use Rattle.stack_steps.specs.Modules.{SpaceValue, module_at}
+use Rattle.stack_steps.specs.SpaceViews.{format_by}
+use Rattle.stack_steps.proofs.Holders.{HoldsAt}
+use Rattle.stack_steps.proofs.StepUndone.{context_of-scratch}
+use Rattle.stack_steps.specs.Frames.{Recorded, next_with}
+use Rattle.stack_steps.proofs.FoundFrames.{FormatFrame, held_frame}
 
 -- ---- the records of a function
 
@@ -75,7 +90,7 @@ place_by m function offset (Some (OnException address bytes)) some = (record { b
 place_by m function offset (Some (OnTermination address bytes)) some = (record { begin = function.begin_address; handler_address = address; data_rva = function.unwind_info_address + offset }, refl, refl, refl, refl)
 place_by m function offset (Some (ChainedTo other)) some = absurd (some refl)
 
-module _ (image : List Span) (m : PeModule) (f : Function) (convention : Convention) (is : IsFunction convention f) (a : ℕ) (low : f.start < 2 ^ 64) where
+module _ (image : List Span) (m : PeModule) (f : Function) (convention : Convention) (is : IsFunction convention f) (a : ℕ) (low : f.start < 2 ^ 64) (small : f.end < 2 ^ 64) where
   abbrev asked : Result (Option LanguagePlace) FrameFault → Result Action DeliverError
   asked r = result_map (action_if_named image a) (recorded_table r)
 
@@ -92,7 +107,6 @@ module _ (image : List Span) (m : PeModule) (f : Function) (convention : Convent
     by_first true named records are =
         let h = place_by m function (data_offset first.header) (trailer_of first) (language.trailer named) in
         let leads = subst (λ (o : Option ℕ). LeadsToLanguage image f (option_map (λ (offset : ℕ). Direct ((m.base + (function.unwind_info_address + offset)) % 2 ^ 64)) o)) h.2 language.leads in
-        let small : f.end < 2 ^ 64 = subst (λ (o : Option (List Site)). IfSome o (λ (sites : List Site). f.end < 2 ^ 64)) leads.1 language.words in
         let begins : ((m.base + h.0.begin) % 2 ^ 64) ≡ f.start = let e = h.3 in omega arith in
         let stands : ((m.base + h.0.data_rva) % 2 ^ 64) ≡ ((m.base + (function.unwind_info_address + data_offset first.header)) % 2 ^ 64) = ap (λ (rva : ℕ). (m.base + rva) % 2 ^ 64) h.4 in
         rw (named, h.1) (ap (λ x. Ok x) (asks_at_place image f convention is a (handler_place m h.0) leads.0 begins leads.1 small (rw stands leads.2)))
@@ -114,3 +128,52 @@ module _ (image : List Span) (m : PeModule) (f : Function) (convention : Convent
   recorded_asks part d (inl r) at from below =
       ap (λ (o : Option RuntimeFunction). asked (pe_place image m o)) (found_by_record image m part d f r at from below) ∙ by_record r.function r.describes.first r.describes.chained r.describes.start r.describes.reads r.describes.chain r.describes.language
   recorded_asks part d (inr leaf) at from below = ap (λ (o : Option RuntimeFunction). asked (pe_place image m o)) (leaf_not_found image m part d f leaf at from below) ∙ by_leaf leaf.plain.no_sites
+
+-- ---- in a space
+
+-- RSI and RDI have values in the caller
+scratch_values : (c : Context) (r : FrameEnd) (caller : Columns) → columns_at (columns_of c) r ≡ Ok caller → ((v : ℕ) × (caller 4 ≡ Some v)) × ((v : ℕ) × (caller 5 ≡ Some v))
+scratch_values c (Faulted fault regs) caller e = absurd cc
+scratch_values c (Returned ret regs) caller e =
+    let same : caller ≡ columns_with (columns_of c) ret regs = cc in
+    ((regs.general 6, ap (λ (columns : Columns). columns 4) same), (regs.general 7, ap (λ (columns : Columns). columns 5) same))
+
+module _ (space : SpaceValue) (c : Context) (interrupted : Bool) (a : ℕ) (nonzero : eqb c.ra 0 ≡ false) (asked : address_of_call c.ra interrupted ≡ a) (f : Function) (low : f.start ≤ a) (high : a < f.end) (t : State) where
+  frame_in : (m : Module) (tables : PeTables) → module_at space.modules a ≡ Some m → m.tables ≡ Pe tables → IsFunction Windows f → (part : List Function) (d : DescribesPe space.image (module_of m tables) part) →
+      HasRecord space.image (module_of m tables) d.table f ⊎ DescribesLeaf (module_of m tables) d.table f → CallUndone (pe_step space.image (module_of m tables) (a - m.start) (columns_of c)) (columns_of c) t → FormatFrame space c interrupted (formats.Pe (module_of m tables)) f a t
+  frame_in m tables holds is is_function part d described u =
+      let home : PeModule = module_of m tables in
+      let rva : ℕ = a - m.start in
+      let function : Option RuntimeFunction = pe_tables.lookup_of (pe_tables.functions_of d.bytes) rva in
+      let gives : recorded_columns space.image c home rva function ≡ Ok u.caller = sym (ap (pe_steps.stepped_by space.image home rva (columns_of c)) d.mapped) ∙ u.answered in
+      let both = scratch_values c (frame_end_of (memory_of space.image home.base) (word_at space.image) rva function (registers_in (columns_of c))) u.caller gives in
+      let kept : columns_of (context_of u.caller) ≡ u.caller = λ i k. context_of-scratch c u.caller t u.shows u.others both.0 both.1 k i in
+      record {
+        frame = Recorded home rva function;
+        framed = held_frame space c interrupted a m (Pe tables) nonzero asked holds is ∙ ap (recorded_frame home rva) d.mapped;
+        asks = λ small. ap (λ (at : ℕ). result_map (action_if_named space.image at) (recorded_table (pe_place space.image home function))) asked
+            ∙ ap (λ (table : Option (List RuntimeFunction)). result_map (action_if_named space.image a) (recorded_table (pe_place space.image home (pe_tables.lookup_of table rva)))) d.reads
+            ∙ recorded_asks space.image home f Windows is_function a (omega arith) small part d described a low high;
+        no_arguments = refl;
+        next = next_with false u.caller;
+        called = ap (λ (r : Result Columns PeFault). result_map_both (next_with false) pe_refusal r) gives;
+        unmarked = refl;
+        shows = subst (λ (columns : Columns). Shows columns t) (sym kept) u.shows;
+        others = subst (λ (columns : Columns). KeepsIn (formats.Pe home) (columns_of c) columns) (sym kept) u.others;
+        whole = refl;
+      }
+
+  frame_named : (m : Module) (tables : ModuleTables) (home : PeModule) → module_at space.modules a ≡ Some m → m.tables ≡ tables → IsFunction Windows f → format_by m tables ≡ formats.Pe home → (part : List Function) (d : DescribesPe space.image home part) →
+      HasRecord space.image home d.table f ⊎ DescribesLeaf home d.table f → CallUndone (pe_step space.image home (a - home.base) (columns_of c)) (columns_of c) t → FormatFrame space c interrupted (formats.Pe home) f a t
+  frame_named m (Elf frame) home holds is is_function same = absurd cc
+  frame_named m (Macho tables) home holds is is_function same = absurd cc
+  frame_named m (Pe tables) home holds is is_function same =
+      let here : module_of m tables ≡ home = cc in
+      subst (λ (k : PeModule). (part : List Function) (d : DescribesPe space.image k part) → HasRecord space.image k d.table f ⊎ DescribesLeaf k d.table f →
+      CallUndone (pe_step space.image k (a - k.base) (columns_of c)) (columns_of c) t → FormatFrame space c interrupted (formats.Pe k) f a t) here (frame_in m tables holds is is_function)
+
+  -- a function of a PE module
+  pub framed : (home : PeModule) → HoldsAt space.modules (formats.Pe home) a → IsFunction Windows f → (part : List Function) (d : DescribesPe space.image home part) → Contains part f →
+      CallUndone (pe_step space.image home (a - home.base) (columns_of c)) (columns_of c) t → FormatFrame space c interrupted (formats.Pe home) f a t
+  framed home at is_function part d has u =
+      frame_named at.holder at.holder.tables home at.holds refl is_function at.same part d (lists.all_contains (λ (g : Function). HasRecord space.image home d.table g ⊎ DescribesLeaf home d.table g) part f d.each has) u

@@ -13,7 +13,7 @@ use Rattle.unwind_definitions.specs.Expressions.{initial_configuration, operatio
 use Rattle.unwind_definitions.specs.Expressions as expressions
 use Rattle.frame_expressions.specs.Runs.{answer_is}
 use Rattle.frame_expressions.specs.Unmapped.{unmapped_evaluation}
-use Rattle.stack_steps.specs.Stepping.{ExpressionReadsUnmapped, CfaReadsUnmapped, RuleReadsUnmapped, ColumnReadsUnmapped, ReadsUnmapped}
+use Rattle.stack_steps.specs.Elf.{ExpressionReadsUnmapped, CfaReadsUnmapped, RuleReadsUnmapped, ColumnReadsUnmapped, ReadsUnmapped}
 use Rattle.unwinding_frames.proofs.Callers.{HasValue, first_fault_below-lowest}
 
 -- ---- a slot that isn't mapped

@@ -1,5 +1,6 @@
 -- A step as the frame and its caller.
-use Rattle.std.proofs.Common.{◌≡◌, ℕ, Bool, Option, Some, None, Result, Ok, Err, List, refl}
+use Rattle.std.proofs.Common.{inl, inr, ◌≡◌, ℕ, Bool, Option, Some, None, Result, Ok, Err, List, refl}
+use Rattle.std.specs.Prelude.{◌⊎◌}
 use Rattle.memory_image.specs.Image.{Span}
 use Rattle.unwind_definitions.specs.Row.{RowInstructions, row_at}
 use Rattle.unwind_definitions.specs.Caller.{x86_64, caller_of}
@@ -11,7 +12,9 @@ use Rattle.format_frames.specs.declared.machine.Stepped.{Stepped}
 use Rattle.stack_steps.specs.declared.answers.DeliverError.{DeliverError}
 use Rattle.stack_steps.specs.Modules.{SpaceValue}
 use Rattle.memory_image.specs.Results.{◌>>=◌, result_map}
-use Rattle.stack_steps.specs.Stepping.{FrameAt, DescribedFrame, frame_with, frame_by, frame_of, described_caller, caller_by, caller_at, step_of}
+use Rattle.stack_steps.specs.Frames.{FrameAt, DescribedFrame}
+use Rattle.stack_steps.specs.Elf.{frame_with, frame_by, caller as described_caller}
+use Rattle.stack_steps.specs.Stepping.{frame_of, caller_by, caller_at, step_of}
 use Rattle.stack_steps.proofs.ContextLemmas.{IsWhole, context_of-columns}
 
 abbrev pub some_next : Result Stepped DeliverError → Result (Option Stepped) DeliverError
@@ -47,3 +50,23 @@ pub caller_left : (image : List Span) (c next : Context) (signal : Bool) (f : De
 caller_left image c next signal f same whole is =
     let kept : context_of (columns_of next) ≡ next = context_of-columns next (columns_of next) whole (λ k. refl) in
     rw (← is, kept, same) refl
+
+-- a step is refused for what is found, or for the caller
+pub fails_parts : (image : List Span) (c : Context) (r : Result (Option FrameAt) DeliverError) (e : DeliverError) → stepped_by image c r ≡ Err e → (r ≡ Err e) ⊎ ((f : FrameAt) × (r ≡ Ok (Some f)) × (caller_by image c f ≡ Err e))
+fails_parts image c (Ok None) e is = absurd cc
+fails_parts image c (Ok (Some f)) e is = inr (f, refl, go (caller_by image c f) is)
+  where
+    go : (r : Result Stepped DeliverError) → some_next r ≡ Err e → r ≡ Err e
+    go (Ok n) h = absurd cc
+    go (Err x) h = cc
+fails_parts image c (Err x) e is = inl cc
+
+-- a step goes on to the caller of a frame
+pub goes_parts : (image : List Span) (c : Context) (r : Result (Option FrameAt) DeliverError) (next : Stepped) → stepped_by image c r ≡ Ok (Some next) → (f : FrameAt) × (r ≡ Ok (Some f)) × (caller_by image c f ≡ Ok next)
+goes_parts image c (Ok None) next is = absurd cc
+goes_parts image c (Ok (Some f)) next is = (f, refl, go (caller_by image c f) is)
+  where
+    go : (r : Result Stepped DeliverError) → some_next r ≡ Ok (Some next) → r ≡ Ok next
+    go (Ok n) h = cc
+    go (Err x) h = absurd cc
+goes_parts image c (Err x) next is = absurd cc

@@ -9,12 +9,12 @@ use Rattle.eh_frame.specs.EntryViews.{table_of}
 use Rattle.fde_finders.specs.FoundViews.{found_fde_of}
 use Rattle.fde_finders.specs.Finding.{FoundFde}
 use Rattle.stack_steps.specs.declared.answers.DeliverError.{DeliverError}
-use Rattle.stack_steps.specs.declared.stepping.FoundFrame.{FoundFrame}
-use Rattle.stack_steps.specs.declared.stepping.FoundFrame.TheVariants as code
-use Rattle.stack_steps.specs.declared.frames.CompactFrame.{CompactFrame}
-use Rattle.stack_steps.specs.declared.frames.RecordedFrame.{RecordedFrame}
+use Rattle.stack_steps.specs.declared.frames.FoundFrame.{FoundFrame}
+use Rattle.stack_steps.specs.declared.frames.FoundFrame.TheVariants as code
+use Rattle.stack_steps.specs.declared.macho.CompactFrame.{CompactFrame}
+use Rattle.stack_steps.specs.declared.pe.RecordedFrame.{RecordedFrame}
 use Rattle.stack_steps.specs.declared.prepared.PreparedTable.{PreparedTable}
-use Rattle.stack_steps.specs.Stepping.{FrameAt, Described, Compact, Recorded}
+use Rattle.stack_steps.specs.Frames.{FrameAt, Described, Compact, Recorded}
 use Rattle.unwind_definitions.specs.Entries.{Fde}
 use Rattle.pe_unwind_info.specs.FunctionTable.{functions_of, lookup_of, table_bytes}
 use Rattle.format_frames.specs.Modules.{macho_module, pe_module}

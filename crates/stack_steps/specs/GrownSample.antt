@@ -1,5 +1,5 @@
 -- An image of a table, and the same with a stack beside it.
-use Rattle.std.specs.Prelude.{ℕ, List, [], ◌∷◌}
+use Rattle.std.specs.Prelude.{List, [], ◌∷◌}
 use Rattle.memory_image.specs.Image.{Span}
 
 abbrev pub table_span : Span

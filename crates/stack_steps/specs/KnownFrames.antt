@@ -6,7 +6,8 @@ use Rattle.unwind_arch.specs.declared.x86_64.Context.{Context}
 use Rattle.unwind_arch.specs.ContextViews.{columns_of}
 use Rattle.format_frames.specs.declared.machine.Stepped.{Stepped}
 use Rattle.stack_steps.specs.Modules.{SpaceValue}
-use Rattle.stack_steps.specs.Stepping.{FrameAt, frame_of, caller_by}
+use Rattle.stack_steps.specs.Frames.{FrameAt}
+use Rattle.stack_steps.specs.Stepping.{frame_of, caller_by}
 use Rattle.stack_steps.specs.declared.asking.FrameAction.{FrameAction}
 use Rattle.stack_steps.specs.Asking.{action_asked, arguments_of}
 use Rattle.stack_steps.specs.Languages.{Languages, frame_asks}

@@ -21,8 +21,9 @@ use Rattle.stack_steps.specs.declared.asking.FrameAction.{FrameAction}
 use Rattle.stack_steps.specs.declared.asking.FrameAction.TheVariants.{Nothing, Cleanup, Handler, Terminate, TerminateAfterCleanups}
 use Rattle.stack_steps.specs.declared.languages.Languages.{Languages as CodeLanguages}
 use Rattle.fde_finders.specs.Finding.{FoundFde}
-use Rattle.stack_steps.specs.Asking.{described_table, named_table, or_terminate}
-use Rattle.stack_steps.specs.Stepping.{FrameAt, Described, Compact, Recorded}
+use Rattle.stack_steps.specs.Elf.{table as described_table}
+use Rattle.stack_steps.specs.Asking.{named_table, or_terminate}
+use Rattle.stack_steps.specs.Frames.{FrameAt, Described, Compact, Recorded}
 
 -- ---- languages
 

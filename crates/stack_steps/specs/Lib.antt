@@ -1,10 +1,14 @@
 pub mod Asking
 pub mod Languages
+pub mod Elf
 pub mod FrameViews
+pub mod Frames
 pub mod Growing
 pub mod GrownSample
 pub mod Held
+pub mod Macho
 pub mod Modules
+pub mod Pe
 pub mod Preparing
 pub mod PreparedSample
 pub mod SpaceViews

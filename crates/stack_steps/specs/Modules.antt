@@ -46,9 +46,9 @@ abbrev pub module_at : List Module → ℕ → Option Module
 module_at [] a = None
 module_at (m ∷ ms) a = if contains m a then Some m else module_at ms a
 
--- modules from low on by ascending start, none of them empty, each from the end of the one before on
+-- modules from low on by ascending start, none of them empty, each from the end of the one before on, the last one's below 2 ^ 64
 abbrev pub AreApart : ℕ → List Module → Type 0
-AreApart low [] = Unit {0}
+AreApart low [] = low < 2 ^ 64
 AreApart low (m ∷ ms) = (low ≤ m.start) × (m.start < m.end) × AreApart m.end ms
 
 -- the module has an address from start to before end
@@ -60,9 +60,11 @@ abbrev pub lowest_shared : List Module → ℕ → ℕ → Option ℕ
 lowest_shared [] start end = None
 lowest_shared (m ∷ ms) start end = if shares m start end then lower m.start (lowest_shared ms start end) else lowest_shared ms start end
 
--- why a module is not taken beside these
+-- why a module is not taken beside these: its range is none, or shares an address with one of theirs
 abbrev pub module_refusal : List Module → Module → Option SpaceError
-module_refusal ms m = if nat_le m.end m.start then Some Wraps else option_map Overlap (lowest_shared ms m.start m.end)
+module_refusal ms m =
+    if nat_le (2 ^ 64) m.end then Some Wraps
+    else (if nat_le m.end m.start then Some Wraps else option_map Overlap (lowest_shared ms m.start m.end))
 
 -- a module of so many bytes
 abbrev pub module_of_size : ℕ → ℕ → ModuleTables → Module
@@ -73,10 +75,6 @@ macho_sized base size unwind_info frames = module_of_size base size (Macho (reco
 
 abbrev pub pe_sized : ℕ → ℕ → ℕ → ℕ → Module
 pe_sized base size table_rva table_size = module_of_size base size (Pe (record { table_rva = table_rva; table_size = table_size }))
-
--- the same of a module that is given by its size, which may pass the highest address
-abbrev pub sized_refusal : List Module → Module → Option SpaceError
-sized_refusal ms m = if nat_le (2 ^ 64) m.end then Some Wraps else module_refusal ms m
 
 -- In a Mach-O or a PE module an address is known by how far it is from the base, a number of 32 bits.
 abbrev pub FitsIn : ModuleTables → ℕ → Type 0

@@ -11,7 +11,8 @@ use Rattle.stack_steps.specs.declared.space.ModuleTables.TheVariants.{Elf, Macho
 use Rattle.format_definitions.specs.Modules.{FormatModule}
 use Rattle.format_definitions.specs.Modules as formats
 use Rattle.stack_steps.specs.Modules.{SpaceValue}
-use Rattle.stack_steps.specs.Stepping.{macho_of, pe_of}
+use Rattle.stack_steps.specs.Macho as macho
+use Rattle.stack_steps.specs.Pe as pe
 
 abbrev pub tables_of : FrameInfoKind → Tables
 tables_of (EhFrame a) = Frames a
@@ -36,8 +37,8 @@ process_of space = record { image = space.image; modules = filter_map elf_of spa
 
 abbrev pub format_by : Module → ModuleTables → FormatModule
 format_by m (Elf frame) = formats.Elf (elf_module m.start m.end frame)
-format_by m (Macho tables) = formats.Macho (macho_of m tables)
-format_by m (Pe tables) = formats.Pe (pe_of m tables)
+format_by m (Macho tables) = formats.Macho (macho.module_of m tables)
+format_by m (Pe tables) = formats.Pe (pe.module_of m tables)
 
 abbrev pub format_of : Module → FormatModule
 format_of m = format_by m m.tables

@@ -57,7 +57,7 @@ impl From<AllocError> for DeliverError {
 
 impl From<StepError> for DeliverError {
     ghost use Rattle.unwinding_frames.specs.Calling.{fault_of};
-    ghost use Rattle.stack_steps.specs.Stepping.{refusal_of};
+    ghost use Rattle.stack_steps.specs.Frames.{refusal_of};
 
     ghost from_gives = { λ e r. r ≡ refusal_of (fault_of e) };
 

@@ -6,7 +6,7 @@ ghost use Rattle.memory_image.specs.Results.{result_map};
 ghost use Rattle.unwind_arch.specs.declared.x86_64.Context.{Context};
 ghost use Rattle.stack_steps.specs.Asking.{action_asked};
 ghost use Rattle.stack_steps.specs.Languages.{asked_by_rust, frame_asks, rust_alone};
-ghost use Rattle.stack_steps.specs.Stepping.{FrameAt};
+ghost use Rattle.stack_steps.specs.Frames.{FrameAt};
 ghost use Rattle.stack_steps.specs.Modules.{SpaceValue};
 ghost use Rattle.stack_steps.specs.Preparing.{Prepares, prepared_len};
 ghost use Rattle.stack_steps.specs.PreparedSample.{prepared_space, unprepared_space};

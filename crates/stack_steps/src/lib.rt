@@ -4,10 +4,13 @@
 
 mod answers;
 mod asking;
+mod elf;
 mod frames;
 mod grown;
 mod languages;
 mod laws;
+mod macho;
+mod pe;
 mod prepared;
 mod shared_table;
 mod space;
@@ -15,15 +18,18 @@ mod stepping;
 mod stops;
 
 pub use answers::DeliverError;
-pub use asking::{FrameAction, action_asked, frame_asks};
+pub use asking::{FrameAction, frame_asks};
+pub use elf::SearchedFrame;
 pub use format_frames::Stepped;
-pub use frames::{CompactFrame, RecordedFrame};
+pub use frames::FoundFrame;
 pub use grown::{GrownSpace, an_image_grows};
 pub use languages::Languages;
 pub use laws::{a_module_is_prepared, rust_alone_asks_by_rust};
+pub use macho::CompactFrame;
+pub use pe::RecordedFrame;
 pub use prepared::PreparedTable;
 pub use space::{MachoTables, Module, ModuleTables, PeTables, Space, SpaceError};
-pub use stepping::{FoundFrame, SearchedFrame, Stepper, step};
+pub use stepping::{Stepper, step};
 pub use stops::{
     calls_and_stops_in_formats_are_described, stops_after_each_step_are_described,
     walks_from_stops_are_described,

@@ -7,7 +7,7 @@ ghost use Rattle.memory_image.specs.Image.{IsLaidOut};
 ghost use Rattle.stack_steps.specs.Growing.{all_prepared};
 ghost use Rattle.stack_steps.specs.Modules.{module_refusal, lowest_shared, module_at, module_of};
 ghost use Rattle.stack_steps.specs.Modules.{modules_in, AreApart, last_below, first_between};
-ghost use Rattle.stack_steps.specs.Modules.{with_added, FitsIn, module_of_size, sized_refusal, macho_sized};
+ghost use Rattle.stack_steps.specs.Modules.{with_added, FitsIn, module_of_size, macho_sized};
 ghost use Rattle.stack_steps.specs.Modules.{pe_sized, fits, given_refusal, contains};
 ghost use Rattle.stack_steps.specs.declared.space.ModuleTables.TheVariants.{Elf};
 
@@ -220,7 +220,7 @@ impl<'a> Space<'a> {
         eh_frame: Option<u64>,
     ) -> Result<(), SpaceError>
         ensures refused { MatchOption
-            (sized_refusal self.old.modules (macho_sized base size unwind_info eh_frame))
+            (module_refusal self.old.modules (macho_sized base size unwind_info eh_frame))
             (IsOkUnless result SpaceError.NoMemory) (λ error. result ≡ Err error) }
         ensures added { OnOk result
             (self.new ≡ with_added (macho_sized base size unwind_info eh_frame) self.old) }
@@ -247,7 +247,7 @@ impl<'a> Space<'a> {
         pdata_size: u32,
     ) -> Result<(), SpaceError>
         ensures refused { MatchOption
-            (sized_refusal self.old.modules (pe_sized base size pdata_rva pdata_size))
+            (module_refusal self.old.modules (pe_sized base size pdata_rva pdata_size))
             (IsOkUnless result SpaceError.NoMemory) (λ error. result ≡ Err error) }
         ensures added { OnOk result
             (self.new ≡ with_added (pe_sized base size pdata_rva pdata_size) self.old) }
@@ -283,7 +283,7 @@ impl<'a> Space<'a> {
     /// Adds a module that is given by its size.
     fn add_sized(&mut self, base: u64, size: u32, tables: ModuleTables) -> Result<(), SpaceError>
         ensures refused { MatchOption
-            (sized_refusal self.old.modules (module_of_size base size tables))
+            (module_refusal self.old.modules (module_of_size base size tables))
             (IsOkUnless result SpaceError.NoMemory) (λ error. result ≡ Err error) }
         ensures added { OnOk result (self.new ≡ with_added (module_of_size base size tables) self.old) }
         ensures unchanged { OnErr result (self.new ≡ self.old) }

@@ -1,7 +1,7 @@
 // From a frame to its caller, by the tables of the module that holds it.
 ghost use Rattle.std.specs.Prelude.{◌≡◌, ◌≢◌, ◌↔◌, ◌<◌, ◌≤◌, ◌^◌, ℕ, List, length, Option, Some, None, Ok};
 ghost use Rattle.std.specs.Prelude.{Err, IfSome, IsNone, IsTrue, IsFalse, MatchOption, OnErr, Result, true};
-ghost use Rattle.memory_image.specs.Image.{Span, word_at, IsLaidOut};
+ghost use Rattle.memory_image.specs.Image.{word_at, IsLaidOut};
 ghost use Rattle.unwind_definitions.specs.declared.error.Error.{Error as Fault};
 ghost use Rattle.unwind_definitions.specs.State.{State, IsState, Shows};
 ghost use Rattle.unwind_definitions.specs.Function.{Function};
@@ -11,215 +11,40 @@ ghost use Rattle.frame_facts.specs.FactChains.{FactFrame, IsFactLink};
 ghost use Rattle.frame_facts.specs.SignalFrames.{SignalFrame, IsSignalLink};
 ghost use Rattle.unwind_arch.specs.ContextViews.{columns_of};
 ghost use Rattle.eh_frame.specs.Index.{AreFewSteps};
-ghost use Rattle.fde_finders.specs.declared.custom.FrameInfo.{FrameInfo as Tables};
-ghost use Rattle.fde_finders.specs.FoundViews.{found_fde_of};
-ghost use Rattle.fde_finders.specs.Named.{found_by, pairs_by};
-ghost use Rattle.frame_rows.specs.Rows.{IsRowOf};
 ghost use Rattle.macho_unwind_info.specs.declared.error.Error.{Error as MachoFault};
 ghost use Rattle.format_definitions.specs.Calls.{IsDescribedCall};
 ghost use Rattle.format_definitions.specs.Stops.{IsDescribedStop};
-ghost use Rattle.stack_steps.specs.Asking.{arguments_of};
-ghost use Rattle.stack_steps.specs.Held.{IsHeld, IsTableOf, added_of};
-ghost use Rattle.stack_steps.specs.Modules.{AreApart, IsPlaced};
+ghost use Rattle.stack_steps.specs.Held.{IsHeld, added_of};
+ghost use Rattle.stack_steps.specs.Modules.{AreApart};
 ghost use Rattle.stack_steps.specs.Preparing.{prepared_len};
 ghost use Rattle.stack_steps.specs.SpaceViews.{process_of, formats_of};
 ghost use Rattle.stack_steps.specs.FrameViews.{IsFrameOf, GivesFrameAt};
 ghost use Rattle.stack_steps.specs.Ticking.{IsScannedAt, RisesBySearch, TicksAt, TicksIn};
-ghost use Rattle.stack_steps.specs.Ticking.{searched_at, module_pairs};
+ghost use Rattle.stack_steps.specs.Ticking.{searched_at};
 ghost use Rattle.memory_image.specs.Results.{result_map};
 ghost use Rattle.stack_steps.specs.Growing.{advanced_to};
 ghost use Rattle.stack_steps.specs.Interrupting.{Interrupted};
-ghost use Rattle.stack_steps.specs.Stepping.{FrameAt, frame_by, frame_in, frame_of, caller_by};
+ghost use Rattle.stack_steps.specs.Frames.{FrameAt};
+ghost use Rattle.stack_steps.specs.Stepping.{frame_in, frame_of, caller_by};
 ghost use Rattle.stack_steps.specs.Stepping.{step_of, GivesCaller, EndsAt, FaultsAt};
-ghost use Rattle.stack_steps.specs.Stepping.{ReadIsUnmapped, DescribedFrame, described_caller};
+ghost use Rattle.stack_steps.specs.Stepping.{ReadIsUnmapped};
 ghost use Rattle.stack_steps.specs.Stepping.{IsUnreadSection, IsWithoutForm, IsUnreadInfo};
 ghost use Rattle.stack_steps.specs.Stepping.{IsChainedTooLong};
 ghost use Rattle.stack_steps.specs.Undoing.{Undone, UndoneIn};
 
 use crate::answers::DeliverError;
-use crate::frames::{CompactFrame, RecordedFrame, compact_frame, recorded_frame};
+use crate::elf;
+use crate::frames::{self, FoundFrame};
 use crate::grown::GrownSpace;
 use crate::prepared::PreparedTable;
-use crate::space::{Held, Module, ModuleTables, Space};
-use eh_frame::{PreparedFrame, RowRef, RowRoom};
-use fde_finders::{FDESearchResult, FrameInfo, find_named};
+use crate::space::{Held, Space};
+use eh_frame::RowRoom;
+use fde_finders::FDESearchResult;
 use format_frames::Stepped;
 use memory_image::{Ledger, MemoryImage, Steps};
 use std::marker::Model;
-use unwind_arch::x86_64::{Arch, Context, RSP};
-use unwinding_frames::{Window, address_asked, write_caller};
-
-/// A frame of the stack: what was found for the address asked of it.
-#[derive(Drop)]
-pub enum FoundFrame<'f, 'a> {
-    /// By a description: that which a search of an ELF module's tables finds, or to which the opcode
-    /// of a Mach-O module's function points.
-    Searched(SearchedFrame<'f, 'a>),
-    /// By the index of a prepared module, which lends its row.
-    Prepared(&'f PreparedTable<'a>, PreparedFrame<'f, 'a>),
-    /// In a Mach-O module, by the opcode of its function alone.
-    Compact(CompactFrame),
-    /// In a PE module.
-    Recorded(RecordedFrame<'a>),
-}
-
-/// A frame by a description that was found for it.
-#[derive(Drop)]
-pub struct SearchedFrame<'f, 'a> {
-    /// What was found, lent from the place for it, as it is large.
-    pub found: &'f FDESearchResult<'a>,
-    /// Its row, lent from the room in which it was made.
-    pub row: RowRef<'f, 'a>,
-}
-
-impl<'f, 'a> FoundFrame<'f, 'a> {
-    /// How many bytes of the stack hold arguments that the callee removes.
-    pub fn arguments(&self) -> u64
-        ensures { (f : FrameAt) → IsFrameOf self.now f → result ≡ arguments_of f }
-    {
-        match self {
-            FoundFrame::Searched(frame) => frame.row.saved_args_size(),
-            FoundFrame::Prepared(_, frame) => match frame.row() {
-                Ok(row) => row.saved_args_size(),
-                Err(_) => 0,
-            },
-            FoundFrame::Compact(_) | FoundFrame::Recorded(_) => 0,
-        }
-    }
-}
-
-/// Puts what was found into the place for it, and lends it.
-fn lent_place<'f, 'a>(
-    place: &'f mut Option<FDESearchResult<'a>>,
-    found: FDESearchResult<'a>,
-) -> &'f FDESearchResult<'a>
-    ensures { result.now ≡ found.entry }
-{
-    *place = Some(found);
-    match place {
-        Some(found) => found,
-        None => unreachable!(),
-    }
-}
-
-/// The frame at an address of an ELF module, by its frame tables. It lends what was found from
-/// `place`, and its row from `rows`.
-fn searched_frame<'f, 'a, L: Ledger>(
-    image: &MemoryImage<'a>,
-    address: u64,
-    tables: FrameInfo,
-    place: &'f mut Option<FDESearchResult<'a>>,
-    rows: &'f mut RowRoom<'a>,
-    steps: &mut Steps<L>,
-) -> Result<Option<FoundFrame<'f, 'a>>, DeliverError>
-    ensures frame { GivesFrameAt result (frame_by address (found_by tables image.now address)) }
-    ensures ticks { RisesBySearch (pairs_by tables image.now) steps.old.number steps.new.number }
-{
-    match find_named(image, address, tables, steps) {
-        Some(found) => described_frame(address, found, place, rows),
-        None => Ok(None),
-    }
-}
-
-/// The frame at an address by a description. It lends that from `place`, and its row from `rows`.
-pub(crate) fn described_frame<'f, 'a>(
-    address: u64,
-    found: FDESearchResult<'a>,
-    place: &'f mut Option<FDESearchResult<'a>>,
-    rows: &'f mut RowRoom<'a>,
-) -> Result<Option<FoundFrame<'f, 'a>>, DeliverError>
-    ensures { GivesFrameAt result (frame_by address (Some (found_fde_of found.entry))) }
-{
-    match found.make_row(address, rows) {
-        Ok(()) => Ok(Some(FoundFrame::Searched(SearchedFrame {
-            found: lent_place(place, found),
-            row: rows.row(),
-        }))),
-        Err(fault) => Err(DeliverError::Table(fault)),
-    }
-}
-
-/// The frame at an address of a prepared module, by the index of its frame table.
-#[inline(always)]
-fn prepared_frame<'f, 'a, L: Ledger>(
-    table: &'f PreparedTable<'a>,
-    address: u64,
-    steps: &mut Steps<L>,
-) -> Result<Option<FoundFrame<'f, 'a>>, DeliverError>
-    ensures frame { (image : List Span) (tables : Tables) → IsLaidOut 0 image →
-        IsTableOf image tables table.now →
-        GivesFrameAt result (frame_by address (found_by tables image address)) }
-    ensures ticks { AreFewSteps (length table.now.index.functions) steps.old.number
-        steps.new.number }
-{
-    let Some(frame) = table.index.frame(address, steps) else {
-        return Ok(None);
-    };
-    match frame.row() {
-        Ok(_) => Ok(Some(FoundFrame::Prepared(table, frame))),
-        Err(fault) => Err(DeliverError::Table(fault)),
-    }
-}
-
-/// The frame at an address of a module that isn't prepared. Here the kinds of modules part. `stack` is a
-/// window over the image.
-#[inline(never)]
-fn unprepared_frame<'f, 'a, L: Ledger>(
-    stack: &mut Window<'_, 'a>,
-    address: u64,
-    holder: &Module,
-    place: &'f mut Option<FDESearchResult<'a>>,
-    rows: &'f mut RowRoom<'a>,
-    steps: &mut Steps<L>,
-) -> Result<Option<FoundFrame<'f, 'a>>, DeliverError>
-    requires placed { IsPlaced holder.now }
-    requires from { holder.now.start ≤ address }
-    requires within { address < holder.now.end }
-    ensures frame { GivesFrameAt result (frame_in stack.old address (Some holder.now)) }
-    ensures ticks { RisesBySearch (module_pairs stack.old holder.now.tables) steps.old.number
-        steps.new.number }
-    ensures same { stack.new ≡ stack.old }
-{
-    match holder.tables {
-        ModuleTables::Elf(tables) => {
-            searched_frame(stack.image(), address, tables, place, rows, steps)
-        }
-        ModuleTables::Macho(tables) => {
-            compact_frame(stack, address, holder, tables, place, rows)
-        }
-        ModuleTables::Pe(tables) => recorded_frame(stack, address, holder, tables),
-    }
-}
-
-/// Makes a copy of a frame's state its caller's, by the row of the frame's description. After a fault
-/// the copy's registers are unspecified. `signal` says whether the description is of a signal's frame,
-/// and `stack` is a window over the image.
-#[inline(always)]
-fn write_described(
-    stack: &mut Window<'_, '_>,
-    callee: &Context,
-    row: &RowRef<'_, '_>,
-    signal: bool,
-    next: &mut Stepped,
-) -> Result<(), DeliverError>
-    requires { next.old.context ≡ callee.now }
-    ensures caller { (f : DescribedFrame) → IsRowOf row.now f.run →
-        signal ≡ f.found.fde.cie.letters.signal →
-        result_map (λ done. next.new) result ≡ described_caller stack.old callee.now f }
-    ensures mark { OnErr result (next.new.signal ≡ next.old.signal) }
-    ensures same { stack.new ≡ stack.old }
-{
-    stack.seek(callee.registers[RSP]);
-    match write_caller::<Arch>(stack, callee, row, &mut next.context) {
-        Ok(()) => {
-            // A look at them tells the proof that there are sixteen registers.
-            let _ = next.context.registers[RSP];
-            next.signal = signal;
-            Ok(())
-        }
-        Err(fault) => Err(DeliverError::from(fault)),
-    }
-}
+use unwind_arch::x86_64::{Context, RSP};
+use unwinding_frames::{Window, address_asked};
 
 /// What goes from frame to frame over a space: beside the space a window over the image that it is
 /// seen over, and where the module of the frame before stands in the order of adding, which is tried
@@ -320,9 +145,9 @@ where
         match &held.table {
             Some(shared) => {
                 let table: &'s PreparedTable<'a> = shared.table();
-                prepared_frame(table, address, steps)
+                elf::prepared_frame(table, address, steps)
             }
-            None => unprepared_frame(&mut self.stack, address, &held.holder, place, rows, steps),
+            None => frames::frame(&mut self.stack, address, &held.holder, place, rows, steps),
         }
     }
 
@@ -362,22 +187,7 @@ where
         ensures mark { OnErr result (next.new.signal ≡ next.old.signal) }
         ensures same { self.new ≡ self.old }
     {
-        let stack = &mut self.stack;
-        match frame {
-            FoundFrame::Searched(searched) => {
-                let signal = searched.found.fde.is_signal_trampoline();
-                write_described(stack, callee, &searched.row, signal, next)
-            }
-            FoundFrame::Prepared(_, prepared) => match prepared.row() {
-                Ok(row) => {
-                    let signal = prepared.is_signal_trampoline();
-                    write_described(stack, callee, row, signal, next)
-                }
-                Err(fault) => Err(DeliverError::Table(fault)),
-            },
-            FoundFrame::Compact(compact) => compact.leave(stack, next),
-            FoundFrame::Recorded(recorded) => recorded.leave(stack, next),
-        }
+        frame.leave(&mut self.stack, callee, next)
     }
 }
 
@@ -411,7 +221,7 @@ where
             return self.advance_in_room(state, steps);
         };
         let table: &'s PreparedTable<'a> = shared.table();
-        match prepared_frame(table, state.address(), steps) {
+        match elf::prepared_frame(table, state.address(), steps) {
             Ok(Some(frame)) => {
                 self.leave(state, &frame)?;
                 Ok(true)
@@ -509,7 +319,7 @@ fn exact_step<L: Ledger>(
         context: context.copied(),
         signal: interrupted,
     };
-    let found = prepared_frame(shared.table(), next.address(), steps);
+    let found = elf::prepared_frame(shared.table(), next.address(), steps);
     let frame = match &found {
         Ok(Some(frame)) => frame,
         Ok(None) => return Ok(None),

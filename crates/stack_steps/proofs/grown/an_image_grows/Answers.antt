@@ -1,5 +1,5 @@
-use Rattle.std.proofs.Common.{◌≡◌, ◌≢◌, ℕ, Bool, true, false, List, [], refl, sym, ◌∙◌}
-use Rattle.memory_image.specs.Image.{Span, holds, table_at}
+use Rattle.std.proofs.Common.{◌≡◌, Bool, true, false, refl}
+use Rattle.memory_image.specs.Image.{holds, table_at}
 use Rattle.stack_steps.specs.GrownSample.{grown_image, table_image, table_span}
 use Rattle.stack_steps.proofs.grown.an_image_grows.Goals as goal
 

@@ -20,7 +20,7 @@ invariant_of-self-in-Ok c =
     let m : Module = record { start = c.args.start; end = c.args.end; tables = c.args.tables } in
     let x : Extent = record { end = c.args.end; tables = c.args.tables; place = c.len-place.result } in
     let h : Held = record { holder = m; table = None } in
-    let inserted = module_inserted es c.insert.new.self.entries c.args.start x c.lowest_shared.result c.self.invariant.apart c.if-end-start.false c.lowest_shared.ensures c.in_default.is c.in-Ok.ensures.entries in
+    let inserted = module_inserted es c.insert.new.self.entries c.args.start x c.lowest_shared.result c.self.invariant.apart c.if-end-start.false (omega arith) c.lowest_shared.ensures c.in_default.is c.in-Ok.ensures.entries in
     let place = c.len-place.ensures in
     let kept = c.reserve.ensures.len in
     let len = c.self.inside.added.ok.0 in
@@ -35,7 +35,7 @@ returns-in-Ok-clause-added c =
     let m : Module = record { start = c.args.start; end = c.args.end; tables = c.args.tables } in
     let x : Extent = record { end = c.args.end; tables = c.args.tables; place = c.len-place.result } in
     let h : Held = record { holder = m; table = None } in
-    let inserted = module_inserted es c.insert.new.self.entries c.args.start x c.lowest_shared.result c.self.invariant.apart c.if-end-start.false c.lowest_shared.ensures c.in_default.is c.in-Ok.ensures.entries in
+    let inserted = module_inserted es c.insert.new.self.entries c.args.start x c.lowest_shared.result c.self.invariant.apart c.if-end-start.false (omega arith) c.lowest_shared.ensures c.in_default.is c.in-Ok.ensures.entries in
     let items : c.push_reserved.new.self.items ≡ hs ++ h ∷ [] = c.push_reserved.ensures.items ∙ ap (λ (l : List Held). l ++ h ∷ []) c.reserve.ensures.items in
     rw (← c.self.view_is)
     (ap (λ (ms : List Module). beside c.self.inside.image ms (map added_of c.push_reserved.new.self.items)) inserted.added

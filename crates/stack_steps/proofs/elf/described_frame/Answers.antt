@@ -2,9 +2,9 @@ use Rattle.std.proofs.Common.{Some, refl, ap, subst, sym}
 use Rattle.frame_rows.specs.RowValue.{RowValue}
 use Rattle.frame_rows.specs.Rows.{IsRowOf}
 use Rattle.fde_finders.specs.FoundViews.{found_fde_of}
-use Rattle.stack_steps.specs.Stepping.{Described}
+use Rattle.stack_steps.specs.Frames.{Described}
 use Rattle.stack_steps.proofs.StepParts.{frame_found}
-use Rattle.stack_steps.proofs.stepping.described_frame.Goals as goal
+use Rattle.stack_steps.proofs.elf.described_frame.Goals as goal
 
 pub returns-in-Ok : goal.returns-in-Ok
 returns-in-Ok c =

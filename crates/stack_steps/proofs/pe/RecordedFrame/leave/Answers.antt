@@ -1,9 +1,9 @@
 use Rattle.std.proofs.Common.{arith}
 use Rattle.pe_unwind_info.specs.FunctionTable.{functions_of, lookup_of, table_bytes}
 use Rattle.format_frames.specs.Modules.{pe_module}
-use Rattle.stack_steps.specs.Stepping.{recorded_columns}
+use Rattle.stack_steps.specs.Pe.{recorded_columns}
 use Rattle.stack_steps.proofs.Callers.{records_give}
-use Rattle.stack_steps.proofs.frames.RecordedFrame.leave.Goals as goal
+use Rattle.stack_steps.proofs.pe.RecordedFrame.leave.Goals as goal
 
 pub returns-clause-caller : goal.returns-clause-caller
 returns-clause-caller c =

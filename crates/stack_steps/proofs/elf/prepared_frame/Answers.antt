@@ -8,9 +8,9 @@ use Rattle.frame_rows.specs.RowValue.{RowValue}
 use Rattle.eh_frame.specs.Index.{shown_answer}
 use Rattle.eh_frame.specs.EntryViews.{table_of}
 use Rattle.stack_steps.specs.FrameViews.{IsKeptRow}
-use Rattle.stack_steps.specs.Stepping.{Described}
+use Rattle.stack_steps.specs.Frames.{Described}
 use Rattle.stack_steps.proofs.IndexFinds.{none_shown, seen_by, shown_row, shown_fault}
-use Rattle.stack_steps.proofs.stepping.prepared_frame.Goals as goal
+use Rattle.stack_steps.proofs.elf.prepared_frame.Goals as goal
 
 pub returns-in_default-clause-frame : goal.returns-in_default-clause-frame
 returns-in_default-clause-frame g c image tables laid is =

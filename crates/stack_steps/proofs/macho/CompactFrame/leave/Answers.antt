@@ -5,7 +5,7 @@ use Rattle.macho_unwind_info.specs.X86_64.{opcode_of}
 use Rattle.format_definitions.specs.CompactStep.{opcode_step}
 use Rattle.format_frames.specs.Modules.{macho_module}
 use Rattle.stack_steps.proofs.Callers.{opcode_faults, opcode_gives}
-use Rattle.stack_steps.proofs.frames.CompactFrame.leave.Goals as goal
+use Rattle.stack_steps.proofs.macho.CompactFrame.leave.Goals as goal
 
 pub returns-in_err-caller-clause-caller : goal.returns-in_err-caller-clause-caller
 returns-in_err-caller-clause-caller c =

@@ -1,4 +1,4 @@
--- The frame at a context that shows a state of a described chain.
+-- The frame of a called function of an ELF module, what it asks, and its caller. `MachoFrames` and `PeFrames` have the same of theirs.
 use Rattle.std.proofs.Common.{◌≡◌, ◌≢◌, ℕ, ◌-◌, ◌^◌, ◌<◌, Bool, false, List, Option, Some, None, Result, Ok, refl, sym, ap, subst, ◌∙◌, arith, eqb, ltb, leb}
 use Rattle.std.specs.Prelude.{IsTrue}
 use Rattle.std.specs.List.{Contains}
@@ -37,10 +37,12 @@ use Rattle.stack_steps.specs.declared.space.ModuleTables.TheVariants.{Elf}
 use Rattle.format_frames.specs.declared.machine.Stepped.{Stepped}
 use Rattle.stack_steps.specs.Modules.{SpaceValue, AreApart, module_at}
 use Rattle.stack_steps.specs.SpaceViews.{tables_of, elf_module, process_of}
-use Rattle.stack_steps.specs.Stepping.{step_of, FrameAt, Described, frame_of, caller_by}
+use Rattle.stack_steps.specs.Stepping.{step_of, frame_of, caller_by}
+use Rattle.stack_steps.specs.Frames.{FrameAt, Described}
 use Rattle.stack_steps.specs.Undoing.{Undone}
-use Rattle.stack_steps.specs.Asking.{action_if_named, action_asked, arguments_of, described_action, table_if_named}
-use Rattle.stack_steps.proofs.ContextLemmas.{IsWhole}
+use Rattle.stack_steps.specs.Asking.{action_if_named, described_action}
+use Rattle.stack_steps.specs.Elf.{table_if_named}
+use Rattle.stack_steps.proofs.FoundFrames.{Met}
 use Rattle.stack_steps.proofs.HeaderFinds.{header_finds}
 use Rattle.stack_steps.proofs.StepParts.{some_next, stepped_by, step_is}
 use Rattle.stack_steps.proofs.StepUndone.{IsOf, contains_map, module_at-contains, context_of-holds}
@@ -53,19 +55,6 @@ pub record IsElfCall (p : described.Process) (functions : List Function) (s : St
   pub called : IsCalled p.image s c
   pub caller : IsState c.caller
   pub ends : IsTrue c.callee.outermost → c.caller.ra ≡ 0
-
--- the frame that a context shows of a called function, what its language asks, and its caller
-pub record Met (space : SpaceValue) (c : Context) (s : State) (call : Call) : Type 0 where
-  pub frame : FrameAt
-  pub framed : frame_of space c false ≡ Ok (Some frame)
-  pub asks : action_asked space.image c false frame ≡ Ok (action_at call.callee (s.ra - 1))
-  pub no_arguments : arguments_of frame ≡ 0
-  pub next : Stepped
-  pub called : caller_by space.image c frame ≡ Ok next
-  pub unmarked : next.signal ≡ false
-  pub shows : Shows (columns_of next.context) call.caller
-  pub whole : IsWhole next.context
-  pub address : s.ra < 2 ^ 64
 
 -- such a frame, where the caller's context keeps every column that no state has
 record MetKeeping (space : SpaceValue) (c : Context) (s : State) (call : Call) : Type 0 where
