@@ -19,7 +19,8 @@ use Rattle.stack_walks.specs.declared.front.Front.{Front}
 use Rattle.stack_walks.specs.declared.front.Front.TheVariants.{Outermost, NoModule, NoDescription, UnreadableTable, Refused, Limit}
 use Rattle.stack_steps.specs.declared.space.Module.{Module}
 use Rattle.stack_steps.specs.Modules.{SpaceValue, module_at}
-use Rattle.stack_steps.specs.Stepping.{macho_of, step_of, FindsNoneIn, EndsAt}
+use Rattle.stack_steps.specs.Macho.{module_of as macho_of}
+use Rattle.stack_steps.specs.Stepping.{step_of, FindsNoneIn, EndsAt}
 use Rattle.stack_steps.specs.declared.space.ModuleTables.{ModuleTables}
 use Rattle.stack_steps.specs.declared.space.ModuleTables.TheVariants.{Elf, Macho, Pe}
 use Rattle.format_definitions.specs.CompactStep.{MachoModule}

@@ -19,7 +19,8 @@ use Rattle.stack_steps.specs.declared.space.Module.{Module}
 use Rattle.stack_steps.specs.declared.space.ModuleTables.{ModuleTables}
 use Rattle.stack_steps.specs.declared.space.ModuleTables.TheVariants.{Elf, Macho, Pe}
 use Rattle.stack_steps.specs.Modules.{SpaceValue, module_at}
-use Rattle.stack_steps.specs.Stepping.{step_of, FindsNone, FindsNoneIn, HasNoDescription, EndsAt}
+use Rattle.stack_steps.specs.Stepping.{step_of, FindsNoneIn, HasNoDescription, EndsAt}
+use Rattle.stack_steps.specs.Elf.{FindsNone}
 use Rattle.stack_steps.proofs.StepAnswers.{step_ends}
 use Rattle.stack_walks.specs.declared.front.Front.{Front}
 use Rattle.stack_walks.specs.declared.front.Front.TheVariants.{Outermost, NoModule, NoDescription, UnreadableTable, Refused, Limit}

@@ -39,7 +39,8 @@ use Rattle.stack_steps.specs.Modules.{SpaceValue, AreApart, contains, module_at}
 use Rattle.stack_steps.specs.SpaceViews.{tables_of, elf_module, format_by, format_of, formats_of}
 use Rattle.fde_finders.specs.Finding.{table_bases}
 use Rattle.fde_finders.specs.Named.{found_by_kind}
-use Rattle.stack_steps.specs.Stepping.{macho_of, compact_frame, frame_by_tables, frame_in, frame_of, step_of}
+use Rattle.stack_steps.specs.Macho.{module_of as macho_of, compact_frame}
+use Rattle.stack_steps.specs.Stepping.{frame_by_tables, frame_in, frame_of, step_of}
 use Rattle.stack_steps.proofs.StepParts.{stepped_by, step_is}
 use Rattle.stack_walks.specs.Lines.{line_of}
 use Rattle.stack_steps.specs.Undoing.{UndoneIn}

@@ -7,7 +7,8 @@ use Rattle.stack_steps.specs.declared.answers.DeliverError.{DeliverError}
 use Rattle.stack_steps.specs.Growing.{advanced_to}
 use Rattle.stack_steps.specs.Modules.{SpaceValue}
 use Rattle.memory_image.specs.Results.{◌>>=◌, result_map}
-use Rattle.stack_steps.specs.Stepping.{FrameAt, frame_of, caller_by, caller_at, step_of}
+use Rattle.stack_steps.specs.Frames.{FrameAt}
+use Rattle.stack_steps.specs.Stepping.{frame_of, caller_by, caller_at, step_of}
 use Rattle.stack_walks.specs.Walking.{RoomValue}
 use Rattle.stack_walks.specs.Turns.{Pass, Turn, Ends, Stops, Goes, turn_in, turn_for}
 use Rattle.stack_walks.specs.TurnViews.{AreVisited}

@@ -8,7 +8,8 @@ use Rattle.stack_walks.specs.declared.outward.Stop.{Stop as CodeStop}
 use Rattle.stack_walks.specs.declared.outward.Turn.TheVariants as code
 use Rattle.stack_steps.specs.Modules.{SpaceValue}
 use Rattle.memory_image.specs.Results.{◌>>=◌, result_map}
-use Rattle.stack_steps.specs.Stepping.{FrameAt, frame_of, caller_by, caller_at, step_of}
+use Rattle.stack_steps.specs.Frames.{FrameAt}
+use Rattle.stack_steps.specs.Stepping.{frame_of, caller_by, caller_at, step_of}
 use Rattle.stack_walks.specs.Lines.{with_first, line_after, line_of}
 use Rattle.stack_walks.specs.Walking.{RoomValue, IsWalked}
 use Rattle.stack_walks.specs.Turns.{Line, Pass, Stop, Ends, Goes, turn_in, turn_for, line_turn, with_context, line_for}

@@ -25,7 +25,8 @@ use Rattle.stack_steps.specs.declared.space.ModuleTables.TheVariants.{Elf, Macho
 use Rattle.format_definitions.specs.CompactStep.{MachoModule}
 use Rattle.format_frames.specs.Refusals.{function_at}
 use Rattle.stack_steps.specs.Modules.{SpaceValue, module_at}
-use Rattle.stack_steps.specs.Stepping.{macho_of, step_of}
+use Rattle.stack_steps.specs.Macho.{module_of as macho_of}
+use Rattle.stack_steps.specs.Stepping.{step_of}
 use Rattle.stack_walks.specs.Lines.{NeedsMore}
 use Rattle.stack_walks.specs.Turns.{Pass, Turn, Ends, Stops, Goes, turn_for, line_for}
 use Rattle.stack_walks.specs.TurnViews.{AreVisited, IsOutward}

@@ -16,7 +16,8 @@ use Rattle.stack_steps.specs.declared.asking.FrameAction.{FrameAction}
 use Rattle.stack_steps.specs.declared.asking.FrameAction.TheVariants.{Nothing, Cleanup, Handler, Terminate, TerminateAfterCleanups}
 use Rattle.stack_steps.specs.Asking.{arguments_of}
 use Rattle.stack_steps.specs.Languages.{Languages, frame_asks}
-use Rattle.stack_steps.specs.Stepping.{FrameAt, frame_of, caller_by}
+use Rattle.stack_steps.specs.Frames.{FrameAt}
+use Rattle.stack_steps.specs.Stepping.{frame_of, caller_by}
 
 -- ---- a pass
 

@@ -19,7 +19,8 @@ ghost use Rattle.stack_walks.specs.Fronts.{IsUndescribedIn, stopped_by, IsUnknow
 ghost use Rattle.stack_walks.specs.KnownWalks.{StartsKnownStack, ShowStack, front_of_stack};
 ghost use Rattle.stack_walks.specs.Walking.{ShowChain, StartsChain};
 ghost use Rattle.stack_steps.specs.Modules.{SpaceValue};
-ghost use Rattle.stack_steps.specs.Stepping.{FindsNone, step_of, FindsNoneIn};
+ghost use Rattle.stack_steps.specs.Elf.{FindsNone};
+ghost use Rattle.stack_steps.specs.Stepping.{step_of, FindsNoneIn};
 ghost use Rattle.stack_steps.specs.Stopped.{StartsStopped};
 ghost use Rattle.stack_steps.specs.Ticking.{RisesWithin};
 

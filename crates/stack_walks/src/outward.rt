@@ -7,7 +7,7 @@ ghost use Rattle.stack_walks.specs.Turns.{mark_at, enters};
 ghost use Rattle.stack_steps.specs.Languages.{selector_of};
 ghost use Rattle.stack_walks.specs.Fronts.{reached_by, turned_from, IsReached, WalksOutwards};
 ghost use Rattle.stack_steps.specs.FrameViews.{IsFrameOf};
-ghost use Rattle.stack_steps.specs.Stepping.{FrameAt};
+ghost use Rattle.stack_steps.specs.Frames.{FrameAt};
 ghost use Rattle.stack_walks.specs.TurnViews.{passing, turn_shown, visits};
 ghost use Rattle.stack_walks.specs.TurnViews.{visited_with, StaysAt, IsOutward};
 ghost use Rattle.memory_image.specs.Results.{result_map};
