@@ -30,7 +30,10 @@ use Rattle.stack_walks.specs.declared.outward.Phase.{Phase}
 use Rattle.stack_walks.specs.declared.outward.Phase.TheVariants as phase
 use Rattle.delivery_laws.specs.AnyPasses.{marked_of, placed_routine, place_named, asked_with, seen_at, undoing_in, sees_in, stepping_in, rust_in, answer_left, Search, TakenBy, Untaken, search_end, search_stop, search_line, search_of, pass_end, FollowedBy, ResumedBy, IsSearchBy, IsPassBy, ArePassesBy, IsDeliveredAfter, IsDeliveredBy, IsDeliveryBy}
 use Rattle.stack_steps.specs.Modules.{SpaceValue}
-use Rattle.stack_steps.specs.Asking.{action_if_named, action_asked, arguments_of, compact_table, named_table, or_terminate, recorded_table, table_if_named}
+use Rattle.stack_steps.specs.Asking.{action_if_named, action_asked, arguments_of, named_table, or_terminate}
+use Rattle.stack_steps.specs.Macho.{compact_table}
+use Rattle.stack_steps.specs.Pe.{recorded_table}
+use Rattle.stack_steps.specs.Elf.{table_if_named}
 use Rattle.stack_steps.specs.declared.asking.FrameAction.{FrameAction}
 use Rattle.stack_steps.specs.declared.asking.FrameAction.TheVariants.{Nothing}
 use Rattle.stack_steps.specs.Languages.{asked_by_rust, frame_asks, is_taken, pad_of, rust_alone, selector_of}
@@ -41,7 +44,10 @@ use Rattle.stack_deliver.specs.StackDelivery.{DeliveryValue, delivery_after, del
 use Rattle.stack_deliver.specs.Resumes.{return_of}
 use Rattle.delivery_laws.specs.Personality.{landing_columns, InCleanup, AnswersCleanup}
 use Rattle.memory_image.specs.Results.{◌>>=◌, result_map}
-use Rattle.stack_steps.specs.Stepping.{FrameAt, DescribedFrame, Described, Compact, Recorded, frame_of, caller_by, next_with, opcode_caller, pe_refusal, recorded_columns, refusal_of}
+use Rattle.stack_steps.specs.Frames.{FrameAt, DescribedFrame, Described, Compact, Recorded, next_with, refusal_of}
+use Rattle.stack_steps.specs.Stepping.{frame_of, caller_by}
+use Rattle.stack_steps.specs.Macho.{opcode_caller}
+use Rattle.stack_steps.specs.Pe.{refusal as pe_refusal, recorded_columns}
 use Rattle.macho_unwind_info.specs.declared.error.Error.{Error}
 use Rattle.macho_unwind_info.specs.declared.function.Function.{Function as Listed}
 use Rattle.macho_unwind_info.specs.X86_64.{opcode_of}

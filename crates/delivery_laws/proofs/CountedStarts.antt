@@ -18,7 +18,7 @@ pub header_memory : IsLaidOut 0 space_by_header.image
 header_memory = three_header_process.regions
 
 pub header_apart : AreApart 0 space_by_header.modules
-header_apart = (lit≤ tt, lit< tt, tt)
+header_apart = (lit≤ tt, lit< tt, lit< tt)
 
 pub header_starts : StartsValidChain space_by_header (registers_of start) resumes 8 functions start calls
 header_starts = elf_starts_valid space_by_header functions start resumes calls _ (tt, tt) header_valid (registers_of start) 8 (registers_show start) (lit< tt)
@@ -40,7 +40,7 @@ pub scanned_memory : IsLaidOut 0 pushing_space.image
 scanned_memory = (lit≤ tt, lit< tt, lit≤ tt, (lit≤ tt, lit< tt, lit≤ tt, tt))
 
 pub scanned_apart : AreApart 0 pushing_space.modules
-scanned_apart = (lit≤ tt, lit< tt, tt)
+scanned_apart = (lit≤ tt, lit< tt, lit< tt)
 
 pub scanned : IsScannedAt pushing_space (stopped_at 0x401006) false
 scanned = record { returns = λ e. absurd cc; holder = pushing_module; holds = refl; unsearched = (0x500000, refl); unprepared = refl }

@@ -33,7 +33,8 @@ use Rattle.stack_walks.specs.Turns as stopped
 use Rattle.delivery_laws.specs.Personality.{landing_columns}
 use Rattle.stack_deliver.specs.Resumes.{return_of}
 use Rattle.memory_image.specs.Results.{result_map}
-use Rattle.stack_steps.specs.Stepping.{FrameAt, DescribedFrame, Described, Compact, Recorded, frame_of, caller_by, refusal_of}
+use Rattle.stack_steps.specs.Frames.{FrameAt, DescribedFrame, Described, Compact, Recorded, refusal_of}
+use Rattle.stack_steps.specs.Stepping.{frame_of, caller_by}
 use Rattle.stack_steps.specs.Asking.{arguments_of, named_table}
 use Rattle.stack_steps.specs.Languages.{is_taken, rust_alone}
 use Rattle.unwinding_frames.specs.declared.abi.UnwindAction.{UnwindAction}

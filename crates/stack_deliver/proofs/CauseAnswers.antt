@@ -14,12 +14,17 @@ use Rattle.stack_steps.specs.declared.answers.DeliverError.{DeliverError}
 use Rattle.stack_steps.specs.declared.answers.DeliverError.TheVariants.{FrameLimit, PassLimit, NoResume}
 use Rattle.stack_steps.specs.Modules.{SpaceValue}
 use Rattle.stack_deliver.specs.Resumes.{return_of}
-use Rattle.stack_steps.specs.Stepping.{step_of, refusal_of, frame_refusal, FrameAt, Described, Compact, Recorded, frame_of, caller_by}
+use Rattle.stack_steps.specs.Stepping.{step_of, frame_of, caller_by}
+use Rattle.stack_steps.specs.Frames.{refusal_of, FrameAt, Described, Compact, Recorded}
+use Rattle.stack_steps.specs.Pe.{frame_refusal}
 use Rattle.pe_unwind_info.specs.declared.x86_64.fault.FrameFault.{FrameFault}
 use Rattle.pe_unwind_info.specs.declared.x86_64.fault.FrameFault.TheVariants as pe
 use Rattle.macho_unwind_info.specs.declared.error.Error.{Error}
 use Rattle.format_frames.specs.Handlers.{macho_place, pe_place}
-use Rattle.stack_steps.specs.Asking.{compact_table, named_table, recorded_table, table_if_named}
+use Rattle.stack_steps.specs.Macho.{compact_table}
+use Rattle.stack_steps.specs.Asking.{named_table}
+use Rattle.stack_steps.specs.Pe.{recorded_table}
+use Rattle.stack_steps.specs.Elf.{table_if_named}
 use Rattle.stack_walks.specs.Turns.{Pass, cleaning, searching, turn_at, stops, Line, Stop, Turn, Ends, Stops, Goes, turn_of, with_context, line_turn, pass_of, mark_at, turn_for}
 use Rattle.stack_deliver.specs.Passes.{PassEnd, Finishes, Elsewhere, end_of, cleanup_of, cleanup_at, resume_at, CleanupsRun, with_cleanup, cleanup_and_rest, after_pass, passes_of}
 use Rattle.stack_deliver.specs.StackDelivery.{delivery_after, delivery_at, delivery_to, delivery_by, delivery_through}

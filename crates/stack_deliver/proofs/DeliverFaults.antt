@@ -28,8 +28,12 @@ use Rattle.stack_steps.specs.declared.asking.FrameAction.{FrameAction}
 use Rattle.stack_steps.specs.Languages.{Languages, asks_if_named, frame_asks, is_taken, routine_of}
 use Rattle.stack_steps.specs.Modules.{SpaceValue}
 use Rattle.stack_deliver.specs.Resumes.{return_of}
-use Rattle.stack_steps.specs.Stepping.{step_of, refusal_of, FrameAt, Described, Compact, Recorded, frame_of, caller_by}
-use Rattle.stack_steps.specs.Asking.{compact_table, described_table, named_table, recorded_table, table_if_named}
+use Rattle.stack_steps.specs.Stepping.{step_of, frame_of, caller_by}
+use Rattle.stack_steps.specs.Frames.{refusal_of, FrameAt, Described, Compact, Recorded}
+use Rattle.stack_steps.specs.Macho.{compact_table}
+use Rattle.stack_steps.specs.Elf.{table as described_table, table_if_named}
+use Rattle.stack_steps.specs.Asking.{named_table}
+use Rattle.stack_steps.specs.Pe.{recorded_table}
 use Rattle.stack_walks.specs.Turns.{Pass, cleaning, searching, turn_at, stops, Turn, Ends, Stops, Goes, turn_of, Line, with_context, line_turn, pass_of, mark_at, Stop, turn_for}
 use Rattle.stack_deliver.specs.Passes.{PassEnd, Finishes, Elsewhere, end_of, cleanup_of, cleanup_at, resume_at, CleanupsRun, with_cleanup, cleanup_and_rest, after_pass, passes_of}
 use Rattle.stack_deliver.specs.StackDelivery.{delivery_after, delivery_at, delivery_to, delivery_by, delivery_through}

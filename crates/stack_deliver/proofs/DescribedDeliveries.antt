@@ -28,11 +28,11 @@ use Rattle.stack_steps.specs.Modules.{SpaceValue, AreApart}
 use Rattle.stack_steps.specs.SpaceViews.{process_of, formats_of}
 use Rattle.stack_steps.specs.KnownStacks.{IsOtherFormat, IsKnownLink, IsKnownStack}
 use Rattle.stack_steps.proofs.Holders.{elf_from_format}
-use Rattle.stack_steps.proofs.MetFrames.{Met}
+use Rattle.stack_steps.proofs.MetCalls.{returns_low}
 use Rattle.stack_walks.proofs.LineShows.{call_in}
 use Rattle.stack_deliver.specs.Delivering.{StartsValidChain}
 use Rattle.stack_deliver.specs.KnownDeliveries.{AsksThere, AreAsked, MayGoOnAt, ResumesBy, EachResumesBy, StartsKnownDelivery}
-use Rattle.stack_deliver.proofs.Turns.{returning, asks_some, met_again}
+use Rattle.stack_deliver.proofs.Turns.{returning}
 
 -- the states of the callers of calls
 abbrev pub callers_of : List Call → List State
@@ -137,8 +137,9 @@ module _ (space : SpaceValue) (functions : List Function) (apart : AreApart 0 sp
       MayGoOnAt space (record (past (asked_frame_of (record { state = s; function = k.callee }))) { ra = ret }) k.caller
   goes_on s k pad ret state is asks returns inside silent =
       let there : State = returning s ret in
-      let m : Met space (registers_of there) there k = met_again space apart laid functions s k ret is returns inside (asks_some k.callee (s.ra - 1) pad asks) (registers_of there) (registers_show there) in
-      let known : AskedLink space there k.caller (action_at k.callee (ret - 1)) = call_asked space functions there k (state_at s ret state m.address) (call_at space functions s k ret is returns inside) in
+      let again = call_at space functions s k ret is returns inside in
+      let low : ret < 2 ^ 64 = returns_low space (registers_of there) functions there k apart laid again in
+      let known : AskedLink space there k.caller (action_at k.callee (ret - 1)) = call_asked space functions there k (state_at s ret state low) again in
       let quiet : AsksThere space there k.caller known.link NoAction 0 = subst (λ (x : Action). AsksThere space there k.caller known.link x 0) silent known.asks in
       let goes : MayGoOnAt space there k.caller = record { link = known.link; arguments = 0; silent = quiet } in
       subst (λ (n : ℕ). MayGoOnAt space (record there { sp = n }) k.caller) (sym (past_none s.sp state.sp)) goes

@@ -17,7 +17,10 @@ use Rattle.unwind_arch.specs.ContextViews.{columns_of}
 use Rattle.format_frames.specs.declared.machine.Stepped.{Stepped}
 use Rattle.stack_steps.specs.declared.answers.DeliverError.{DeliverError}
 use Rattle.stack_steps.specs.Modules.{SpaceValue, AreApart}
-use Rattle.stack_steps.specs.Stepping.{FrameAt, Described, Compact, Recorded, caller_by, next_with, compact_next, opcode_caller, recorded_columns, refusal_of, pe_refusal}
+use Rattle.stack_steps.specs.Frames.{FrameAt, Described, Compact, Recorded, next_with, refusal_of}
+use Rattle.stack_steps.specs.Stepping.{caller_by}
+use Rattle.stack_steps.specs.Macho.{compact_next, opcode_caller}
+use Rattle.stack_steps.specs.Pe.{recorded_columns, refusal as pe_refusal}
 use Rattle.stack_steps.specs.declared.asking.FrameAction.{FrameAction}
 use Rattle.stack_steps.specs.Languages.{Languages, asked_by_rust}
 use Rattle.stack_steps.specs.KnownFrames.{MeetsAsked}
@@ -26,7 +29,7 @@ use Rattle.stack_steps.proofs.ContextLemmas.{IsWhole}
 use Rattle.stack_steps.proofs.FactSteps.{asked_at, facts_asked}
 use Rattle.stack_steps.proofs.LanguageAsks.{asks_without_cxx}
 use Rattle.stack_steps.proofs.MetCalls.{format_met}
-use Rattle.stack_steps.proofs.MetFrames.{Met}
+use Rattle.stack_steps.proofs.FoundFrames.{Met}
 use Rattle.stack_walks.specs.declared.outward.Phase.{Phase}
 use Rattle.stack_walks.specs.Turns.{Pass, stops, past_arguments, Stops, Goes, turn_of, with_context, pass_of, turn_for}
 use Rattle.stack_walks.specs.ContextsMet.{contexts_met}

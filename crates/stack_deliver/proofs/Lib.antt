@@ -19,7 +19,6 @@ pub mod PassLines
 pub mod PassRuns
 pub mod Returns
 pub mod SearchCounts
-pub mod TabledEnds
 pub mod TurnParts
 pub mod Turns
 pub mod Over

@@ -11,7 +11,8 @@ use Rattle.format_frames.specs.declared.machine.Stepped.{Stepped}
 use Rattle.stack_steps.specs.declared.answers.DeliverError.{DeliverError}
 use Rattle.stack_steps.specs.declared.answers.DeliverError.TheVariants.{FrameLimit}
 use Rattle.stack_steps.specs.Modules.{SpaceValue}
-use Rattle.stack_steps.specs.Stepping.{step_of, FrameAt, frame_of, caller_by}
+use Rattle.stack_steps.specs.Stepping.{step_of, frame_of, caller_by}
+use Rattle.stack_steps.specs.Frames.{FrameAt}
 use Rattle.stack_steps.specs.declared.asking.FrameAction.{FrameAction}
 use Rattle.stack_steps.specs.declared.asking.FrameAction.TheVariants.{Nothing, Terminate, TerminateAfterCleanups}
 use Rattle.stack_steps.specs.Asking.{or_terminate, arguments_of, named_table}

@@ -6,7 +6,7 @@ use Rattle.format_frames.specs.declared.machine.Stepped.{Stepped}
 use Rattle.stack_steps.specs.declared.answers.DeliverError.{DeliverError}
 use Rattle.memory_image.specs.Results.{◌>>=◌, result_map}
 use Rattle.stack_steps.specs.declared.asking.FrameAction.{FrameAction}
-use Rattle.stack_steps.specs.Stepping.{FrameAt}
+use Rattle.stack_steps.specs.Frames.{FrameAt}
 use Rattle.stack_walks.specs.Turns.{Pass, Turn, Goes, stop_by, turn_at, turn_in}
 
 -- ---- a turn

@@ -20,7 +20,8 @@ use Rattle.unwind_definitions.specs.Caller.{StepFault}
 use Rattle.unwind_definitions.specs.Function as rust
 use Rattle.unwind_definitions.specs.LanguageSearch.{LanguagePlace, address_of_call, table_action}
 use Rattle.format_frames.specs.declared.machine.Stepped.{Stepped}
-use Rattle.stack_steps.specs.Stepping.{FrameAt, frame_of, step_of}
+use Rattle.stack_steps.specs.Frames.{FrameAt}
+use Rattle.stack_steps.specs.Stepping.{frame_of, step_of}
 
 -- ---- what a pass comes to: where the stack ends, what is asked of a frame, and what can't be read
 

@@ -428,3 +428,68 @@ pub fn deliver(
     )?;
     Ok(Delivery { room, ending })
 }
+
+/// Delivers an exception as [`deliver`] does, by the rules of the languages of the functions on the
+/// stack.
+///
+/// It is `throw_into` over a room of `limit` places, which is reserved for it and not filled.
+///
+/// # Errors
+///
+/// `NoMemory` where memory ran out; else the errors of `throw_into`.
+pub fn throw(
+    alloc: Global,
+    space: &Space<'_>,
+    languages: &Languages<'_>,
+    start: &Context,
+    exception: u64,
+    resumes: &Resumes,
+    limit: u32,
+) -> Result<Delivery, DeliverError>
+    ensures exact { GivesUnlessNoMemory result
+        (delivery_through (languages_of languages.now) space.now start.now exception resumes.now
+        limit) }
+    ensures unmapped { (a : ℕ) → result ≡ Err (DeliverError.Unmapped a) →
+        word_at space.now.image a ≡ None }
+    // Each error but that of memory comes only for its cause, and each outcome only where the
+    // search or a pass meets what it says.
+    ensures refused { (error : DeliverError) → error ≢ DeliverError.NoMemory → result ≡ Err error →
+        IsRefusedThrough (languages_of languages.now) space.now start.now exception resumes.now
+        limit error }
+    ensures ended { (outcome : Outcome) → IsOkAnd result (λ delivery. delivery.outcome ≡ outcome) →
+        EndsThrough (languages_of languages.now) space.now start.now exception resumes.now limit
+        outcome }
+    // For each cause nothing else comes, unless memory runs out.
+    ensures refuses { (error : DeliverError) →
+        IsRefusedThrough (languages_of languages.now) space.now start.now exception resumes.now
+        limit error →
+        (result ≡ Err DeliverError.NoMemory) ⊎ (result ≡ Err error) }
+    ensures ends { (outcome : Outcome) →
+        EndsThrough (languages_of languages.now) space.now start.now exception resumes.now limit
+        outcome →
+        (result ≡ Err DeliverError.NoMemory) ⊎
+        IsOkAnd result (λ delivery. delivery.outcome ≡ outcome) }
+    // What is delivered to a stack that is known frame by frame, with what its frames' language
+    // tables ask, is what the definition says of these frames.
+    ensures known { (s : State) (callers : List State) (frames : List AskingFrame) →
+        StartsKnownThrow (languages_of languages.now) space.now start.now resumes.now limit s
+        callers frames →
+        (result ≡ Err DeliverError.NoMemory) ⊎
+        IsOkAnd result (λ delivery. ShowsKnownThrow delivery exception s callers frames) }
+{
+    let mut room = Room::new(alloc, limit)?;
+    let thrown = throw_into(
+        space,
+        languages,
+        start,
+        exception,
+        resumes,
+        limit,
+        &mut room,
+        &mut Steps::new(NoLedger),
+    )?;
+    Ok(Delivery {
+        room,
+        ending: thrown,
+    })
+}

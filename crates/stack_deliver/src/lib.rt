@@ -32,6 +32,14 @@
 //!     }
 //! }
 //! ```
+//!
+//! `registers` are the 16 general ones in DWARF's order, in which RSP is the eighth:
+//! `unwind_arch::x86_64` has a constant for each. Such a program has the line
+//! `NAME: memory_image unwind_arch stack_deliver anyhow` in `crates.txt`.
+//!
+//! A sampler prepares the space once (`Space::prepare`) and walks each stack by `walk_front_into`,
+//! into one `Room` and with `Steps::new(NoLedger)`, which counts nothing: that leaves the states up
+//! to a fault and says which it is. `docs/LIBRARY.md` has its lines.
 #![tactic(auto)]
 
 mod answers;
@@ -40,7 +48,7 @@ mod passes;
 mod resumes;
 
 pub use answers::{Delivery, Ending, Outcome};
-pub use delivery::{deliver, deliver_into, deliver_over, throw_into};
+pub use delivery::{deliver, deliver_into, deliver_over, throw, throw_into};
 pub use eh_frame::Error;
 pub use fde_finders::{FrameInfo, FrameInfoKind};
 pub use resumes::{Resumes, first_entry_counts};

@@ -7,7 +7,7 @@ pub returns-clause-memory : goal.returns-clause-memory
 returns-clause-memory c = laid_out
 
 pub returns-clause-apart : goal.returns-clause-apart
-returns-clause-apart c = (lit≤ tt, lit< tt, (lit≤ tt, lit< tt, (lit≤ tt, lit< tt, tt)))
+returns-clause-apart c = (lit≤ tt, lit< tt, (lit≤ tt, lit< tt, (lit≤ tt, lit< tt, lit< tt)))
 
 pub returns-clause-modules : goal.returns-clause-modules
 returns-clause-modules c = refl
