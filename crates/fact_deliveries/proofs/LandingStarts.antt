@@ -25,7 +25,7 @@ pub laid_out : IsLaidOut 0 space.image
 laid_out = (lit≤ tt, lit< tt, lit≤ tt, (lit≤ tt, lit< tt, lit≤ tt, (lit≤ tt, lit< tt, lit≤ tt, (lit≤ tt, lit< tt, lit≤ tt, tt))))
 
 pub lie_apart : AreApart 0 space.modules
-lie_apart = (lit≤ tt, lit< tt, tt)
+lie_apart = (lit≤ tt, lit< tt, lit< tt)
 
 pub not_zero : (s : State) → eqb s.ra 0 ≡ false → s.ra ≢ 0
 not_zero s other zero = absurd cc

@@ -1,3 +1,5 @@
 pub mod LandingFacts
 pub mod LandingStarts
 pub mod OneDelivery
+mod GuardedFacts
+pub mod GuardedStarts

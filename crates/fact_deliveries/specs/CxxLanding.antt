@@ -1,6 +1,6 @@
 -- A throw in that program by the rules of its languages: its personality is C++'s. The chain of the second frame's call site has no
 -- record, so that its landing pad is a cleanup's; that of the third has one, whose handler is of no type and takes every exception.
-use Rattle.std.specs.Prelude.{ℕ, false, List, [], ◌∷◌, Some}
+use Rattle.std.specs.Prelude.{false, List, [], ◌∷◌, Some}
 use Rattle.unwind_definitions.specs.Delivery.{Delivery}
 use Rattle.stack_steps.specs.declared.asking.FrameAction.TheVariants.{Nothing, Cleanup, Handler}
 use Rattle.stack_steps.specs.Languages.{Languages}

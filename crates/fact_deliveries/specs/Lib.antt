@@ -1,3 +1,5 @@
 pub mod LandingProgram
 pub mod LandingSpace
 pub mod CxxLanding
+pub mod GuardedProgram
+pub mod GuardedThrow

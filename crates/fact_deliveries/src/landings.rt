@@ -16,6 +16,8 @@ ghost use Rattle.stack_deliver.specs.KnownDeliveries.{StartsKnownDelivery};
 ghost use Rattle.stack_deliver.specs.KnownThrows as throws;
 ghost use Rattle.stack_deliver.specs.KnownThrows.{StartsKnownThrow};
 ghost use Rattle.fact_deliveries.specs.CxxLanding as cxx;
+ghost use Rattle.fact_deliveries.specs.GuardedProgram as program;
+ghost use Rattle.fact_deliveries.specs.GuardedThrow as guarded;
 ghost use Rattle.fact_deliveries.specs.LandingProgram as sample;
 ghost use Rattle.fact_deliveries.specs.LandingSpace.{space, start};
 
@@ -39,6 +41,19 @@ pub fn a_throw_of_cxx_is_known()
         sample.callers cxx.asking }
     ensures delivered { throws.delivery_to sample.exception (sample.in_raises ∷ sample.callers)
         cxx.asking ≡ cxx.delivery }
+{}
+
+/// In a small program whose call leads to a chain of three action records, of which the first is a
+/// cleanup's and the second a handler's of another type (`examples/guarded_handler.cpp`), the handler of
+/// the third takes an exception of its type, and finds its number in RDX. The cleanup of the frame inside
+/// runs before.
+pub fn a_handler_behind_a_cleanup_is_known()
+    ensures laid_out { IsLaidOut 0 guarded.space.image }
+    ensures apart { AreApart 0 guarded.space.modules }
+    ensures starts { StartsKnownThrow guarded.languages guarded.space guarded.start
+        guarded.resumes 5 program.in_raises program.callers guarded.asking }
+    ensures delivered { throws.delivery_to guarded.exception
+        (program.in_raises ∷ program.callers) guarded.asking ≡ guarded.delivery }
 {}
 
 /// So may a delivery where a function of a Mach-O module was called by one of a PE module, and that by

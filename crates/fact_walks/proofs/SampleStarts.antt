@@ -19,7 +19,7 @@ pub laid_out : IsLaidOut 0 space.image
 laid_out = (lit≤ tt, lit< tt, lit≤ tt, (lit≤ tt, lit< tt, lit≤ tt, tt))
 
 pub lie_apart : AreApart 0 space.modules
-lie_apart = (lit≤ tt, lit< tt, tt)
+lie_apart = (lit≤ tt, lit< tt, lit< tt)
 
 pub prologue_starts : StartsKnownStack space in_prologue 9 true sample.overwritten sample.states
 prologue_starts = record { stack = facts_known space true sample.overwritten (sample.frames_after sample.known_overwritten) (tt, tt) overwritten_chain; shows = shows 0x401084 0x7fffffffece0 0x8 0x8; shorter = lit< tt }

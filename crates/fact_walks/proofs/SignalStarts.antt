@@ -20,7 +20,7 @@ pub laid_out : IsLaidOut 0 space.image
 laid_out = (lit≤ tt, lit< tt, lit≤ tt, (lit≤ tt, lit< tt, lit≤ tt, (lit≤ tt, lit< tt, lit≤ tt, tt)))
 
 pub lie_apart : AreApart 0 space.modules
-lie_apart = (lit≤ tt, lit< tt, tt)
+lie_apart = (lit≤ tt, lit< tt, lit< tt)
 
 -- from the interrupted state on
 pub interrupted_stack : IsKnownStack space true sample.in_trapped sample.outer_callers

@@ -23,7 +23,7 @@ pub laid_out : IsLaidOut 0 pushing_space.image
 laid_out = (lit≤ tt, lit< tt, lit≤ tt, (lit≤ tt, lit< tt, lit≤ tt, tt))
 
 pub apart : AreApart 0 pushing_space.modules
-apart = (lit≤ tt, lit< tt, tt)
+apart = (lit≤ tt, lit< tt, lit< tt)
 
 pub pushed : walked_stack pushing_space 4 (sample_at 0x401006) ≡ Some (0x401006 ∷ [])
 pushed = chain_stacked pushing_space 4 (sample_at 0x401006) (pushing.function ∷ []) pushing.start (after_the_push ∷ []) apart laid_out starts_chain refl

@@ -1,5 +1,5 @@
 -- The snapshot of a generated chain is taken, and describes the chain.
-use Rattle.std.proofs.Common.{◌≡◌, ℕ, zero, suc, ◌+◌, ◌<◌, ◌≤◌, true, List, [], ◌∷◌, length, Some, Result, Ok, refl, sym, ap, subst, ◌∙◌, arith}
+use Rattle.std.proofs.Common.{◌≡◌, ℕ, zero, suc, ◌+◌, ◌^◌, ◌<◌, ◌≤◌, true, List, [], ◌∷◌, length, Some, Result, Ok, refl, sym, ap, subst, ◌∙◌, arith}
 use Rattle.std.proofs.lemmas.Bool.{le-leb, lt-leb}
 use Rattle.unwind_definitions.specs.State.{CalleeSaved, RBX, RBP, R12, R13, R14, R15, column_of, value_of, State, Shows}
 use Rattle.unwind_definitions.specs.Module.{Process}
@@ -64,7 +64,7 @@ module _ (c : Chain) (count seed : ℕ) (some : 0 < count) (few : count ≤ 1000
   taken = laid_out_taken (made.spans_of c) valid.header.process.regions
 
   takes_module : takes_modules [] (module_over count ∷ []) ≡ true
-  takes_module = rw (lt-leb ((module_over count).end) ((module_over count).start) (omega arith)) refl
+  takes_module = rw (lt-leb (2 ^ 64) ((module_over count).end) (omega arith), lt-leb ((module_over count).end) ((module_over count).start) (omega arith)) refl
 
   -- a snapshot takes the parts
   pub case_assembled : content_if_taken (content_with c count) ≡ Ok (content_with c count)

@@ -9,7 +9,7 @@ use Rattle.stack_deliver.proofs.DescribedDeliveries.{delivery_starts}
 use Rattle.fact_deliveries.proofs.landings.landings_through_formats_are_known.Goals as goal
 
 pub returns-clause-starts : goal.returns-clause-starts
-returns-clause-starts c = delivery_starts space_of_three (registers_of mixed.caught_start) three.resumes 5 mixed.functions mixed.caught_start mixed.caught_calls (lit≤ tt, lit< tt, (lit≤ tt, lit< tt, (lit≤ tt, lit< tt, tt))) laid_out valid_starts
+returns-clause-starts c = delivery_starts space_of_three (registers_of mixed.caught_start) three.resumes 5 mixed.functions mixed.caught_start mixed.caught_calls (lit≤ tt, lit< tt, (lit≤ tt, lit< tt, (lit≤ tt, lit< tt, lit< tt))) laid_out valid_starts
 
 pub returns-clause-delivered : goal.returns-clause-delivered
 returns-clause-delivered c = refl
