@@ -1,5 +1,5 @@
 -- A core file that is taken: what the test says, that its memory is laid out, and that its modules are apart.
-use Rattle.std.proofs.Common.{◌≡◌, ℕ, Bool, true, false, List, [], ◌∷◌, Option, Some, None, Result, Ok, Err, refl, sym, ap, subst, ◌∙◌}
+use Rattle.std.proofs.Common.{◌≡◌, ℕ, Bool, true, false, List, [], ◌∷◌, Option, Some, None, Result, Ok, Err, refl, sym, ap, subst, ◌∙◌, lit<}
 use Rattle.std.specs.Prelude.{is_ok, is_none, is_some, suc, codes, ◌&&◌, if◌then◌else◌}
 use Rattle.std.specs.Option.{option_map, option_and_then}
 use Rattle.serde_json.specs.Data.{Data}
@@ -106,4 +106,4 @@ core_laid_out bytes c is = let t = are_taken bytes c is in laid_after (segments_
 
 -- its modules are apart
 pub core_apart : (bytes : List ℕ) (c : CoreContent) → core_content_of bytes ≡ Ok c → AreApart 0 (core_space_of c).modules
-core_apart bytes c is = apart_after [] c.modules tt (are_taken bytes c is).modules
+core_apart bytes c is = apart_after [] c.modules (lit< tt) (are_taken bytes c is).modules

@@ -1,5 +1,5 @@
 -- Regions that an image takes, and modules that a space takes: those that have ranges, which are disjoint.
-use Rattle.std.proofs.Common.{◌≡◌, ℕ, ◌+◌, ◌-◌, ◌^◌, ◌<◌, ◌≤◌, Bool, true, false, cond, ◌&&◌, List, [], ◌∷◌, length, Vec, Global, Option, Some, None, option_map, inl, inr, refl, sym, subst, ◌∙◌, arith, ltb, leb, eqb}
+use Rattle.std.proofs.Common.{◌≡◌, ℕ, ◌+◌, ◌-◌, ◌^◌, ◌<◌, ◌≤◌, Bool, true, false, cond, ◌&&◌, List, [], ◌∷◌, length, Vec, Global, Option, Some, None, option_map, inl, inr, refl, sym, subst, ◌∙◌, arith, ltb, leb, eqb, lit<}
 use Rattle.std.specs.Prelude.{is_none, ◌↔◌, IsTrue}
 use Rattle.std.specs.List.{All, AllByRecursion, count_by}
 use Rattle.std.specs.Option.{option_and_then}
@@ -227,18 +227,20 @@ no_region image (s ∷ ss) is = go (region_range s) refl (each_in region_range s
 abbrev contained_at : ℕ → Module → Bool
 contained_at a m = contains m a
 
--- a module with addresses, and no more of them than its format allows
+-- a module with addresses below 2 ^ 64, and no more of them than its format allows
 pub record IsSized (m : Module) : Type 0 where
   pub some : m.start < m.end
+  pub low : m.end < 2 ^ 64
   pub fits : fits m.tables (m.end - m.start) ≡ true
 
 module_sized : (m : Module) (r : AddressRange) → module_range m ≡ Some r → IsSized m × (range_with m.start (m.end - 1) ≡ r)
-module_sized m r is = go (fits m.tables (m.end - m.start)) refl (leb m.end m.start) refl is
+module_sized m r is = go (fits m.tables (m.end - m.start)) refl (leb (2 ^ 64) m.end) refl (leb m.end m.start) refl is
   where
-    go : (a : Bool) → fits m.tables (m.end - m.start) ≡ a → (b : Bool) → leb m.end m.start ≡ b → cond a (cond b None (Some (range_with m.start (m.end - 1)))) None ≡ Some r → IsSized m × (range_with m.start (m.end - 1) ≡ r)
-    go false large b low e = absurd cc
-    go true small true low e = absurd cc
-    go true small false high e = (record { some = grind (arith, nat_tests); fits = small }, cc)
+    go : (a : Bool) → fits m.tables (m.end - m.start) ≡ a → (past : Bool) → leb (2 ^ 64) m.end ≡ past → (b : Bool) → leb m.end m.start ≡ b → cond a (cond past None (cond b None (Some (range_with m.start (m.end - 1))))) None ≡ Some r → IsSized m × (range_with m.start (m.end - 1) ≡ r)
+    go false large past far b low e = absurd cc
+    go true small true far b low e = absurd cc
+    go true small false near true low e = absurd cc
+    go true small false near false high e = (record { some = grind (arith, nat_tests); low = grind (arith, nat_tests); fits = small }, cc)
 
 same_module_addresses : (m : Module) (a : ℕ) → m.start < m.end → lies_in a (range_with m.start (m.end - 1)) ≡ contains m a
 same_module_addresses m a some = grind (arith, nat_tests)
@@ -306,7 +308,7 @@ contain_once low a (n ∷ ns) apart =
 
 taken_modules_once : (ms : List Module) → takes_modules [] ms ≡ true → (a : ℕ) → count_by (contained_at a) ms ≤ 1
 taken_modules_once ms takes a =
-    let apart = apart_after [] ms tt takes in
+    let apart = apart_after [] ms (lit< tt) takes in
     let once = (contain_once 0 a (modules_after [] ms) apart).once in
     let same = held-modules_after a [] ms in
     let none : count_by (contained_at a) [] ≡ 0 = refl in
@@ -338,7 +340,8 @@ none_shared (n ∷ ns) low m ms apart some few =
 free_module_of : (taken : List Module) (m : Module) → IsSized m → lowest_shared taken m.start m.end ≡ None → is_none (given_refusal taken m) ≡ true
 free_module_of taken m sized none =
     let some : leb m.end m.start ≡ false = let n = sized.some in grind (arith, nat_tests) in
-    rw (sized.fits, some, none) refl
+    let low : leb (2 ^ 64) m.end ≡ false = let n = sized.low in grind (arith, nat_tests) in
+    rw (sized.fits, low, some, none) refl
 
 takes_sized : (taken ms : List Module) → AreApart 0 taken → AllByRecursion IsSized ms → ((a : ℕ) → count_by (contained_at a) taken + count_by (contained_at a) ms ≤ 1) → takes_modules taken ms ≡ true
 takes_sized taken [] apart sized few = refl
@@ -346,7 +349,7 @@ takes_sized taken (m ∷ ms) apart sized few =
     let here = sized.0 in
     let none = none_shared taken 0 m ms apart here.some few in
     let free = free_module_of taken m here none in
-    let next = with_apart taken 0 m apart (omega arith) here.some none in
+    let next = with_apart taken 0 m apart (omega arith) here.some here.low none in
     rw free (takes_sized (with_module m taken) ms next sized.1 (λ a.
     let f = few a in
     let same = held-with_module a m taken in
@@ -361,7 +364,7 @@ modules_ranges ms rs is = (are_ranges module_range contained_at module_is ms rs 
 pub modules_disjoint : (ms : List Module) (rs : List AddressRange) (apart : Bool) → each_in module_range ms ≡ Some rs → (IsTrue apart ↔ AreDisjoint rs) → apart ≡ takes_modules [] ms
 modules_disjoint ms rs apart is tells =
     let same = (are_ranges module_range contained_at module_is ms rs is).same in
-    let taken : AreDisjoint rs → takes_modules [] ms ≡ true = λ disjoint. takes_sized [] ms tt (modules_sized ms rs is) (λ a. let one = disjoint a in let s = same a in let none : count_by (contained_at a) [] ≡ 0 = refl in omega arith) in
+    let taken : AreDisjoint rs → takes_modules [] ms ≡ true = λ disjoint. takes_sized [] ms (lit< tt) (modules_sized ms rs is) (λ a. let one = disjoint a in let s = same a in let none : count_by (contained_at a) [] ≡ 0 = refl in omega arith) in
     let disjoint : takes_modules [] ms ≡ true → AreDisjoint rs = λ takes a. let one = taken_modules_once ms takes a in let s = same a in omega arith in
     same_from_decides apart (takes_modules [] ms) tells (disjoint, taken)
 
@@ -371,13 +374,14 @@ no_module taken [] is = absurd cc
 no_module taken (m ∷ ms) is = go (module_range m) refl (each_in module_range ms) refl (λ later. no_module (with_module m taken) ms later) is
   where
     refused : module_range m ≡ None → is_none (given_refusal taken m) ≡ false
-    refused at = ends (fits m.tables (m.end - m.start)) (leb m.end m.start) at
+    refused at = ends (fits m.tables (m.end - m.start)) (leb (2 ^ 64) m.end) (leb m.end m.start) at
       where
-        ends : (a b : Bool) → cond a (cond b None (Some (range_with m.start (m.end - 1)))) None ≡ None
-            → is_none (cond a (cond b (Some space_errors.Wraps) (option_map space_errors.Overlap (lowest_shared taken m.start m.end))) (Some space_errors.Wraps)) ≡ false
-        ends false b e = refl
-        ends true true e = refl
-        ends true false e = absurd cc
+        ends : (a past b : Bool) → cond a (cond past None (cond b None (Some (range_with m.start (m.end - 1))))) None ≡ None
+            → is_none (cond a (cond past (Some space_errors.Wraps) (cond b (Some space_errors.Wraps) (option_map space_errors.Overlap (lowest_shared taken m.start m.end)))) (Some space_errors.Wraps)) ≡ false
+        ends false past b e = refl
+        ends true true b e = refl
+        ends true false true e = refl
+        ends true false false e = absurd cc
 
     go : (o : Option AddressRange) → module_range m ≡ o → (os : Option (List AddressRange)) → each_in module_range ms ≡ os → (each_in module_range ms ≡ None → takes_modules (with_module m taken) ms ≡ false)
         → option_and_then (λ y. option_map (λ ys. y ∷ ys) os) o ≡ None → takes_modules taken (m ∷ ms) ≡ false

@@ -6,3 +6,4 @@ pub mod Members
 pub mod RangeLemmas
 pub mod Taken
 pub mod SampledTaken
+pub mod ThrownTaken

@@ -1,5 +1,5 @@
 -- What holds of samples that are read: their memory is laid out, and their modules are apart.
-use Rattle.std.proofs.Common.{◌≡◌, ℕ, true, List, [], Option, Some, None, Result, Ok, Err, refl, ap, subst, ◌∙◌}
+use Rattle.std.proofs.Common.{◌≡◌, ℕ, true, List, [], Option, Some, None, Result, Ok, Err, refl, ap, subst, ◌∙◌, lit<}
 use Rattle.std.specs.Prelude.{codes}
 use Rattle.std.specs.Option.{option_and_then}
 use Rattle.serde_json.specs.Data.{Data}
@@ -51,7 +51,7 @@ are_taken bytes s is = go (value_of bytes) is
         said (Ok t) reads e =
             let same : t ≡ s = cc in
             let both = lists_taken d s (reads ∙ ap Ok same) in
-            (laid_after [] s.regions tt both.0, apart_after [] s.modules tt both.1)
+            (laid_after [] s.regions tt both.0, apart_after [] s.modules (lit< tt) both.1)
         said (Err f) reads e = absurd cc
 
 -- the memory of samples is laid out

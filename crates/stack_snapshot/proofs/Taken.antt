@@ -1,5 +1,5 @@
 -- What holds of each snapshot: its memory is laid out, its modules are apart, and its start has sixteen registers.
-use Rattle.std.proofs.Common.{◌≡◌, ℕ, suc, ◌+◌, ◌-◌, ◌^◌, ◌<◌, ◌≤◌, Bool, true, false, List, [], ◌∷◌, length, Option, Some, None, Result, Ok, Err, refl, sym, ap, subst, ◌∙◌, arith, eqb, leb, ltb}
+use Rattle.std.proofs.Common.{◌≡◌, ℕ, suc, ◌+◌, ◌-◌, ◌^◌, ◌<◌, ◌≤◌, Bool, true, false, List, [], ◌∷◌, length, Option, Some, None, Result, Ok, Err, refl, sym, ap, subst, ◌∙◌, arith, eqb, leb, ltb, lit<}
 use Rattle.std.specs.Prelude.{is_none, codes, if◌then◌else◌}
 use Rattle.std.specs.Option.{option_map, option_and_then}
 use Rattle.std.proofs.lemmas.Bool.Decides.{nat_tests}
@@ -26,16 +26,22 @@ use Rattle.stack_snapshot.specs.Answers.{value_of, content_with, content_by, con
 -- ---- a snapshot's modules are apart
 
 -- what refuses no module
-free_module : (taken : List Module) (m : Module) → is_none (given_refusal taken m) ≡ true → (m.start < m.end) × (lowest_shared taken m.start m.end ≡ None)
+record IsFreeModule (taken : List Module) (m : Module) : Type 0 where
+  some : m.start < m.end
+  low : m.end < 2 ^ 64
+  alone : lowest_shared taken m.start m.end ≡ None
+
+free_module : (taken : List Module) (m : Module) → is_none (given_refusal taken m) ≡ true → IsFreeModule taken m
 free_module taken m free = by_size (fits m.tables (m.end - m.start)) free
   where
-    go : (b : Bool) → leb m.end m.start ≡ b → (o : Option ℕ) → lowest_shared taken m.start m.end ≡ o → is_none (if b then Some Wraps else option_map Overlap o) ≡ true → (m.start < m.end) × (lowest_shared taken m.start m.end ≡ None)
-    go true low o is e = absurd cc
-    go false high (Some n) is e = absurd cc
-    go false high None is e = (grind (arith, nat_tests), is)
+    go : (a : Bool) → leb (2 ^ 64) m.end ≡ a → (b : Bool) → leb m.end m.start ≡ b → (o : Option ℕ) → lowest_shared taken m.start m.end ≡ o → is_none (if a then Some Wraps else (if b then Some Wraps else option_map Overlap o)) ≡ true → IsFreeModule taken m
+    go true past b low o is e = absurd cc
+    go false near true low o is e = absurd cc
+    go false near false high (Some n) is e = absurd cc
+    go false near false high None is e = record { some = grind (arith, nat_tests); low = grind (arith, nat_tests); alone = is }
 
-    by_size : (b : Bool) → is_none (if b then module_refusal taken m else Some Wraps) ≡ true → (m.start < m.end) × (lowest_shared taken m.start m.end ≡ None)
-    by_size true e = go (leb m.end m.start) refl (lowest_shared taken m.start m.end) refl e
+    by_size : (b : Bool) → is_none (if b then module_refusal taken m else Some Wraps) ≡ true → IsFreeModule taken m
+    by_size true e = go (leb (2 ^ 64) m.end) refl (leb m.end m.start) refl (lowest_shared taken m.start m.end) refl e
     by_size false e = absurd cc
 
 pub apart_after : (taken ms : List Module) → AreApart 0 taken → takes_modules taken ms ≡ true → AreApart 0 (modules_after taken ms)
@@ -43,7 +49,7 @@ apart_after taken [] apart takes = apart
 apart_after taken (m ∷ ms) apart takes =
     let both = lists.both_true (is_none (given_refusal taken m)) (takes_modules (with_module m taken) ms) takes in
     let free = free_module taken m both.0 in
-    apart_after (with_module m taken) ms (with_apart taken 0 m apart (omega arith) free.0 free.1) both.1
+    apart_after (with_module m taken) ms (with_apart taken 0 m apart (omega arith) free.some free.low free.alone) both.1
 
 -- ---- its memory is laid out
 
@@ -156,7 +162,7 @@ content_apart bytes s is = go (value_of bytes) is
     go (Some d) e = said (snapshot_of d) refl e
       where
         said : (r : Result Content Field) → snapshot_of d ≡ r → content_with r ≡ Ok s → AreApart 0 (space_of s).modules
-        said (Ok t) reads e = let same : t ≡ s = cc in apart_after [] s.modules tt (modules_taken d s (reads ∙ ap Ok same))
+        said (Ok t) reads e = let same : t ≡ s = cc in apart_after [] s.modules (lit< tt) (modules_taken d s (reads ∙ ap Ok same))
         said (Err f) reads e = absurd cc
 
 -- ---- a snapshot's start has sixteen registers

@@ -12,3 +12,4 @@ pub mod Described
 pub mod Sampled
 pub mod Cores
 pub mod Memory
+pub mod Thrown

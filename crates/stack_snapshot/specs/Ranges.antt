@@ -36,8 +36,9 @@ region_range s =
     if length s.bytes == 0 then None
     else (if nat_lt (2 ^ 64) (s.start + length s.bytes) then None else Some (range_with s.start (s.start + length s.bytes - 1)))
 
--- the addresses of a module that has some, and no more than its format allows
+-- the addresses of a module that has some, ends below 2 ^ 64, and has no more than its format allows
 abbrev pub module_range : Module → Option AddressRange
 module_range m =
-    if fits m.tables (m.end - m.start) then (if nat_le m.end m.start then None else Some (range_with m.start (m.end - 1)))
+    if fits m.tables (m.end - m.start) then
+    (if nat_le (2 ^ 64) m.end then None else (if nat_le m.end m.start then None else Some (range_with m.start (m.end - 1))))
     else None

@@ -29,6 +29,12 @@ pub enum Field {
     Limit,
     /// Whether the start stands before its instruction and not after a call.
     Interrupted,
+    /// The types by which handlers of C++ take the exception.
+    Types,
+    /// The personality routines that are C++'s.
+    Personalities,
+    /// Whether the exception isn't one of C++ itself.
+    Foreign,
     /// The threads that were stopped.
     Samples,
     /// The functions that are claimed.
@@ -51,6 +57,9 @@ impl Field {
             Field::Resumes => "resumes",
             Field::Limit => "limit",
             Field::Interrupted => "interrupted",
+            Field::Types => "types",
+            Field::Personalities => "personalities",
+            Field::Foreign => "foreign",
             Field::Samples => "samples",
             Field::Functions => "functions",
         }

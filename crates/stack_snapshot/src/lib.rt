@@ -36,6 +36,7 @@ mod ranges;
 mod reading;
 mod sampled;
 mod snapshot;
+mod thrown;
 
 pub use cores::{CoreSnapshot, CoreSnapshotError, read_core_snapshot};
 pub use errors::{Field, SnapshotError};
@@ -46,3 +47,4 @@ pub use parts::SnapshotParts;
 pub use reading::{read_named_snapshot, read_snapshot, value_in};
 pub use sampled::{SampledSnapshot, read_named_samples, read_sampled_snapshot};
 pub use snapshot::{Region, Snapshot};
+pub use thrown::{ThrownSnapshot, read_thrown_snapshot};

@@ -394,7 +394,7 @@ pub(crate) fn lists_of(value: Value) -> Lists
 /// The value takes several times the memory of what it says. So each field is read, also after a
 /// faulty one, and the value let go, before it is tested whether the long lists are taken.
 #[tactic(auto, unfolding(crate::specs::Snapshot::snapshot_of, crate::specs::Snapshot::regions_of, crate::specs::Snapshot::modules_of))]
-fn snapshot_of(alloc: Global, value: Value) -> Result<Snapshot, SnapshotError>
+pub(crate) fn snapshot_of(alloc: Global, value: Value) -> Result<Snapshot, SnapshotError>
     ensures { Gives (λ snapshot. snapshot) result (snapshot_of (view value)) }
 {
     if !is_whole(&value) {
