@@ -3,80 +3,11 @@
  * same handler. At the end it says how many samples were in which function.
  *
  *     profile [SAMPLES] */
-#include "own_process.h"
-#define UNW_LOCAL_ONLY
+#include "beside_others.h"
 #include <dlfcn.h>
-#include <libunwind.h>
-#include <signal.h>
 #include <stdio.h>
 #include <stdlib.h>
 #include <string.h>
-#include <time.h>
-#include <unwind.h>
-
-enum { MOST = 128, KEPT = 1 << 20 };
-
-typedef struct trace {
-    void *found[MOST];
-    int length;
-} trace;
-
-static own_modules own;
-static kz_session session;
-static uint64_t stack_end;
-static volatile int samples, wanted = 1000;
-static int by_libgcc, by_libunwind, whole, frames_in_all;
-static void *innermost[KEPT];
-
-static _Unwind_Reason_Code add_one(struct _Unwind_Context *context, void *data) {
-    trace *to = data;
-    if (to->length == MOST)
-        return _URC_END_OF_STACK;
-    if (_Unwind_GetIP(context) != 0)
-        to->found[to->length++] = (void *)_Unwind_GetIP(context);
-    return _URC_NO_REASON;
-}
-
-static trace trace_of_libgcc(void) {
-    trace to = {.length = 0};
-    _Unwind_Backtrace(add_one, &to);
-    return to;
-}
-
-static trace trace_of_libunwind(void) {
-    trace to = {.length = 0};
-    unw_context_t here;
-    unw_cursor_t cursor;
-    unw_getcontext(&here);
-    unw_init_local(&cursor, &here);
-    do {
-        unw_word_t ip = 0;
-        unw_get_reg(&cursor, UNW_REG_IP, &ip);
-        if (ip != 0 && to.length < MOST)
-            to.found[to.length++] = (void *)ip;
-    } while (unw_step(&cursor) > 0);
-    return to;
-}
-
-static void on_timer(int number, siginfo_t *info, void *context) {
-    (void)number, (void)info;
-    if (samples == wanted)
-        return;
-    kz_registers start = registers_of(context);
-    kz_region memory = stack_from(start_of_stack(&start), stack_end);
-    static kz_frame frames[MOST];
-    kz_end end = KZ_END;
-    kz_place place = KZ_PLACE;
-    if (kz_session_walk(&session, &memory, 1, &start, true, frames, MOST, &end, &place) != KZ_OK)
-        return;
-    trace libgcc = trace_of_libgcc(), libunwind = trace_of_libunwind();
-    by_libgcc += agree(frames, &end, libgcc.found, libgcc.length);
-    by_libunwind += agree(frames, &end, libunwind.found, libunwind.length);
-    whole += end.reason == KZ_OUTERMOST;
-    frames_in_all += (int)returns_in(&end);
-    innermost[samples % KEPT] = (void *)start.ip;
-    samples++;
-}
 
 /* ---- what is profiled: sorting, formatting and searching, by the C library */
 
@@ -131,20 +62,8 @@ static void tell(void) {
 int main(int count, char **words) {
     if (count > 1)
         wanted = atoi(words[1]);
-    find_modules(&own);
-    stack_end = end_of_stack();
-    (void)trace_of_libgcc(), (void)trace_of_libunwind(); /* so that both make their tables now */
-    find_modules(&own);
-    kz_place place = KZ_PLACE;
-    if (kz_session_open(own.tables, own.length, own.modules, own.length, MOST, &session.at, &place) != KZ_OK)
+    if (!begin_samples(200000))
         return 2;
-    struct sigaction action = {.sa_sigaction = on_timer, .sa_flags = SA_SIGINFO | SA_RESTART};
-    sigaction(SIGPROF, &action, NULL);
-    struct sigevent event = {.sigev_notify = SIGEV_SIGNAL, .sigev_signo = SIGPROF};
-    timer_t timer;
-    timer_create(CLOCK_MONOTONIC, &event, &timer);
-    struct itimerspec every = {{0, 200000}, {0, 200000}};
-    timer_settime(timer, 0, &every, NULL);
     volatile unsigned long sum = 0;
     while (samples < wanted)
         sum += deep(samples % 32);

@@ -1,4 +1,5 @@
-/* Each status, and each reason why a walk ends, by kz_walk and by a session. The tables are those of the worked examples
+/* Each status but that of memory, and each reason why a walk ends, by kz_walk and by a session, and deliveries that no
+ * frame takes or that are refused, by kz_deliver and by a session. The tables are those of the worked examples
  * in crates/stack_walks/specs/FrontSample.antt, and what is due of them is what crates/stack_walks proves of these. */
 #include <inttypes.h>
 #include <kalzurenk.h>
@@ -153,6 +154,75 @@ static void refused_sizes(void) {
     refused_size("place size", region, module, registers, end, frame, place + 8, KZ_PLACE_SIZE, 0);
 }
 
+/* A delivery to one frame, stopped after a call that returns to `ra`, with the module of `ends` over `table`. */
+static kz_delivery deliver(const char *what, int by_session, const uint8_t *table, size_t length, uint64_t ra,
+                           const kz_throw *thrown, const kz_resume *resumes, kz_delivery delivery, uint32_t due,
+                           uint64_t index) {
+    static const uint8_t stack[8];
+    kz_region regions[] = {KZ_REGION(0x2000, table, length), KZ_REGION(0x7000, stack, sizeof stack)};
+    kz_module module = KZ_MODULE(0x1000, 0x1010, 0x2000, 0, KZ_ELF);
+    kz_registers start = {.size = sizeof start, .ip = ra};
+    kz_cleanup cleanup = {5, 5};
+    kz_place place = AT(9, 9), known = KZ_PLACE;
+    kz_session session;
+    uint32_t status;
+    if (by_session) {
+        check(what, kz_session_open(regions, 1, &module, 1, 8, &session.at, &known), KZ_OK);
+        status = kz_session_deliver(&session, regions + 1, 1, &start, thrown, resumes, 2, &cleanup, 1, &delivery, &place);
+        kz_session_close(session);
+    } else {
+        status = kz_deliver(regions, 2, &module, 1, &start, thrown, resumes, 2, &cleanup, 1, &delivery, &place);
+    }
+    check(what, status, due);
+    check(what, place.index, due == KZ_OK ? 9 : index);
+    check(what, place.address, due == KZ_OK ? 9 : 0);
+    check(what, cleanup.pad, 5);
+    printf("%-15s %-8s status %u place %" PRIu64, what, by_session ? "in it" : "deliver", status, place.index);
+    return delivery;
+}
+
+/* A size that isn't known, of each struct that deliveries alone take. */
+static void refused_delivery(const char *what, size_t of_throw, size_t of_resume, size_t of_delivery, size_t of_cleanup,
+                             uint32_t due, uint64_t index) {
+    kz_throw thrown = {of_throw, 0, 4};
+    kz_resume resumes[] = {KZ_RESUME(0x1000, 0x1001), {of_resume, 0x1002, 0x1003}};
+    kz_delivery before = {of_delivery, of_cleanup, 5, 5, 5, 5, 5, {5}, 5};
+    for (int by_session = 0; by_session < 2; by_session++) {
+        kz_delivery after =
+            deliver(what, by_session, no_entry, sizeof no_entry, 0x5005, &thrown, resumes, before, due, index);
+        check(what, (uint64_t)memcmp(&before, &after, sizeof after), 0);
+        puts("");
+    }
+}
+
+/* A delivery that no frame takes, or that is refused. */
+static void delivered(const char *what, const uint8_t *table, size_t length, uint64_t ra, uint32_t limit, uint64_t visited,
+                      uint32_t outcome, uint32_t error) {
+    kz_throw thrown = KZ_THROW(0, limit);
+    kz_resume resumes[] = {KZ_RESUME(0x1000, 0x1001), KZ_RESUME(0x1002, 0x1003)};
+    kz_delivery before = {sizeof before, sizeof(kz_cleanup), 5, 5, 5, 5, 5, {5}, 5}, due = KZ_DELIVERY;
+    due.visited = visited;
+    due.outcome = outcome;
+    due.error = error;
+    for (int by_session = 0; by_session < 2; by_session++) {
+        kz_delivery after = deliver(what, by_session, table, length, ra, &thrown, resumes, before, KZ_OK, 0);
+        check(what, (uint64_t)memcmp(&due, &after, sizeof after), 0);
+        printf(" visited %" PRIu64 " outcome %u error %u\n", after.visited, after.outcome, after.error);
+    }
+}
+
+static void deliveries(void) {
+    const size_t throw = sizeof(kz_throw), resume = sizeof(kz_resume);
+    const size_t told = sizeof(kz_delivery), cleanup = sizeof(kz_cleanup);
+    refused_delivery("throw size", throw + 8, resume, told, cleanup, KZ_THROW_SIZE, 0);
+    refused_delivery("resume size", throw, resume - 8, told, cleanup, KZ_RESUME_SIZE, 1);
+    refused_delivery("delivery size", throw, resume, told - 8, cleanup, KZ_DELIVERY_SIZE, 0);
+    refused_delivery("cleanup size", throw, resume, told, cleanup + 8, KZ_CLEANUP_SIZE, 0);
+    delivered("end of stack", no_entry, sizeof no_entry, 0x5005, 1, 1, KZ_END_OF_STACK, 0);
+    delivered("frame limit", no_entry, sizeof no_entry, 0x5005, 0, 0, KZ_NOT_DELIVERED, KZ_FRAME_LIMIT);
+    delivered("not delivered", bad_row, sizeof bad_row, 0x1005, 4, 0, KZ_NOT_DELIVERED, KZ_UNKNOWN_INSTRUCTION);
+}
+
 int main(void) {
     ends("outermost", no_entry, sizeof no_entry, 0, 1, DUE(1, 0, 0, KZ_OUTERMOST, 0));
     ends("no module", no_entry, sizeof no_entry, 0x5005, 1, DUE(1, 0x5004, 0, KZ_NO_MODULE, 0));
@@ -177,6 +247,7 @@ int main(void) {
     refused_sample("overlaps", (kz_region)KZ_REGION(0x2003, no_entry, 1), KZ_REGION_OVERLAPS, AT(1, 0x2000));
     refused_sample("overlaps too", (kz_region)KZ_REGION(0x7007, no_entry, 1), KZ_REGION_OVERLAPS, AT(1, 0x7000));
     refused_sizes();
+    deliveries();
     check("version", kz_version(), KZ_VERSION);
     puts(failed ? "FAILED" : "each status and each reason is as it should be");
     return failed;
