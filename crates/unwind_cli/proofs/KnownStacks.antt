@@ -11,19 +11,22 @@ use Rattle.stack_walks.proofs.KnownLines.{known_walked}
 use Rattle.frame_facts.specs.FactDeliveries.{AskedFrame}
 use Rattle.stack_steps.proofs.ContextLemmas.{IsWhole}
 use Rattle.stack_deliver.specs.KnownDeliveries.{StartsKnownDelivery}
-use Rattle.stack_deliver.specs.Searches.{met_in_delivery}
+use Rattle.stack_deliver.specs.KnownThrows.{AskingFrame, StartsKnownThrow}
+use Rattle.stack_deliver.specs.Searches.{met_in_delivery, met_through}
 use Rattle.stack_deliver.specs.StateViews.{state_of}
 use Rattle.stack_deliver.proofs.KnownDelivered.{DeliversKnown, known_delivered}
+use Rattle.stack_deliver.proofs.KnownThrown.{DeliversThrow, throw_delivered}
 use Rattle.stack_deliver.proofs.Chains.{shown_states}
 use Rattle.stack_snapshot.specs.Content.{Content, space_of}
 use Rattle.stack_snapshot.specs.Sampled.{SampledContent, sampled_space}
+use Rattle.stack_snapshot.specs.Thrown.{ThrownContent, languages_in}
 use Rattle.folded_stacks.specs.declared.samples.Sample.{Sample}
 use Rattle.folded_stacks.specs.Counts.{HasStack}
 use Rattle.folded_stacks.specs.Folding.{fold_of}
 use Rattle.folded_stacks.specs.Stacks.{stack_shown}
 use Rattle.folded_stacks.proofs.FoldedLines.{stack_has_line}
 use Rattle.folded_stacks.proofs.KnownStacks.{known_stacked}
-use Rattle.unwind_cli.specs.Due.{delivery_from, fold_from, walk_from}
+use Rattle.unwind_cli.specs.Due.{delivery_from, fold_from, thrown_from, walk_from}
 
 -- The walk visits the states of the stack.
 pub stack_walked : (s : Content) (start : State) (callers : List State) → AreApart 0 (space_of s).modules → IsLaidOut 0 (space_of s).image → StartsKnownStack (space_of s) s.start s.limit s.interrupted start callers →
@@ -39,6 +42,15 @@ pub stack_delivered : (s : Content) (start : State) (callers : List State) (fram
     DeliversKnown s.exception start callers frames (delivery_from s) (met_in_delivery (space_of s) s.start s.exception s.resumes s.limit)
 unfolding delivery_from
 stack_delivered s start callers frames apart laid whole is = known_delivered (space_of s) s.start s.exception s.resumes s.limit start callers frames apart laid whole is
+
+-- So it is by the rules of the languages on its stack.
+pub stack_thrown : (t : ThrownContent) (start : State) (callers : List State) (frames : List AskingFrame) → AreApart 0 (space_of t.snapshot).modules → IsLaidOut 0 (space_of t.snapshot).image → IsWhole t.snapshot.start →
+    StartsKnownThrow (languages_in t) (space_of t.snapshot) t.snapshot.start t.snapshot.resumes t.snapshot.limit start callers frames →
+    DeliversThrow t.snapshot.exception start callers frames (thrown_from t) (met_through (languages_in t) (space_of t.snapshot) t.snapshot.start t.snapshot.exception t.snapshot.resumes t.snapshot.limit)
+unfolding thrown_from
+stack_thrown t start callers frames apart laid whole is =
+    let s = t.snapshot in
+    throw_delivered (languages_in t) (space_of s) s.start s.exception s.resumes s.limit start callers frames apart laid whole is
 
 -- The folded stacks of samples have that of a sample that begins one.
 pub known_folded : (s : SampledContent) (sample : Sample) (start : State) (callers : List State) → AreApart 0 (sampled_space s).modules → IsLaidOut 0 (sampled_space s).image → Contains s.samples sample

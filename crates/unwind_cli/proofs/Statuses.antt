@@ -14,13 +14,14 @@ use Rattle.stack_snapshot.specs.declared.errors.SnapshotError.TheVariants as fau
 use Rattle.command_ends.specs.declared.status.Status.{Status}
 use Rattle.command_ends.specs.declared.status.Status.TheVariants.{Done, ReadFault, WriteFault, TooLong, NotJson, BadSnapshot, Refused, Memory}
 use Rattle.unwind_cli.specs.declared.words.Task.{Task}
-use Rattle.unwind_cli.specs.declared.words.Task.TheVariants.{Deliver, Walk, Fold, Core, Check, Audit}
+use Rattle.unwind_cli.specs.declared.words.Task.TheVariants.{Deliver, Throw, Walk, Fold, Core, Check, Audit}
 use Rattle.unwind_cli.specs.declared.words.Command.{Command}
 use Rattle.unwind_cli.specs.declared.words.Command.TheVariants.{OnSnapshot, Generate}
 use Rattle.unwind_cli.specs.Commands.{task_in}
 use Rattle.stack_snapshot.specs.Answers.{content_of}
 use Rattle.stack_snapshot.specs.Content.{Content}
 use Rattle.stack_snapshot.specs.Sampled.{SampledContent, sampled_in}
+use Rattle.stack_snapshot.specs.Thrown.{ThrownContent, thrown_in}
 use Rattle.stack_report.specs.Report.{line}
 use Rattle.command_ends.specs.Verdicts.{Verdict, verdict, Tells, ComesExactly}
 use Rattle.command_ends.proofs.VerdictLemmas.{comes, told_as}
@@ -39,7 +40,7 @@ use Rattle.fde_finders.specs.FrameTables.{FrameTable, table_by}
 use Rattle.fact_claims.specs.Code.{CodeContent, claims_of, code_in, image_in, refusal_in}
 use Rattle.fact_claims.specs.declared.code.ClaimsError.{ClaimsError}
 use Rattle.fact_claims.specs.declared.code.ClaimsError.TheVariants.{Snapshot, Claims}
-use Rattle.unwind_cli.specs.Due.{Findings, LacksClaims, RefusesAudit, audited_by, claims_fault_due, code_due, code_fault, unaudited_due, checked_due, delivery_from, walk_from, refused_due, delivery_due, walk_due, folded_due, fault_of, read_due, core_due, core_fault, task_due, bytes_due, command_due, Refuses, RefusesCore}
+use Rattle.unwind_cli.specs.Due.{Findings, LacksClaims, RefusesAudit, audited_by, claims_fault_due, code_due, code_fault, unaudited_due, checked_due, delivery_from, thrown_from, walk_from, refused_due, delivery_due, walk_due, folded_due, fault_of, read_due, core_due, core_fault, task_due, bytes_due, command_due, Refuses, RefusesCore, RefusesThrow}
 
 -- ---- what is due for a snapshot
 
@@ -82,6 +83,7 @@ code_is P done memory refused bad ds (Err Claims) lacking = lacking refl
 task_is : (P : Status → Option SnapshotError → Type 0) → P Done None → P Memory None → P Refused None → ((e : SnapshotError) → P (fault_due e).status (Some e)) → (found : Findings) (task : Task) (bytes : List ℕ) → (LacksClaims (Some task) bytes → P BadSnapshot None)
     → P (task_due task bytes found).status (fault_of (Some task) bytes)
 task_is P done memory refused bad found Deliver bytes lacking = read_is P (λ s. delivery_due (delivery_from s)) (λ s. delivery_is (λ x. P x None) done memory refused (delivery_from s)) bad (content_of bytes)
+task_is P done memory refused bad found Throw bytes lacking = read_is P (λ s. delivery_due (thrown_from s)) (λ s. delivery_is (λ x. P x None) done memory refused (thrown_from s)) bad (thrown_in bytes)
 task_is P done memory refused bad found Walk bytes lacking = read_is P (λ s. walk_due (walk_from s)) (λ s. walk_is (λ x. P x None) done memory refused (walk_from s)) bad (content_of bytes)
 task_is P done memory refused bad found Fold bytes lacking = read_is P folded_due (λ s. done) bad (sampled_in bytes)
 task_is P done memory refused bad found Core bytes lacking = core_is P done refused bad (core_content_of bytes)
@@ -134,6 +136,7 @@ faulty_task field found task bytes = task_is (λ x o. o ≡ Some (faults.Bad fie
 
 lacking_task : (found : Findings) (task : Task) (bytes : List ℕ) → LacksClaims (Some task) bytes → (task_due task bytes found).status ≡ BadSnapshot
 lacking_task found Deliver bytes is = absurd is
+lacking_task found Throw bytes is = absurd is
 lacking_task found Walk bytes is = absurd is
 lacking_task found Fold bytes is = absurd is
 lacking_task found Core bytes is = absurd is
@@ -214,9 +217,9 @@ status_of due = due.status
 abbrev pub RefusesSnapshot : Option Task → List ℕ → Type 0
 RefusesSnapshot task bytes = (s : Content) × (content_of bytes ≡ Ok s) × ((error : DeliverError) × (error ≢ NoMemory) × Refuses task s error)
 
--- so it is, or a core file isn't taken, or claims aren't audited
+-- so it is, or a core file isn't taken, or claims aren't audited, or a delivery by the rules of languages meets an error
 abbrev pub IsRefusalOf : Option Task → List ℕ → Type 0
-IsRefusalOf task bytes = RefusesSnapshot task bytes ⊎ (RefusesCore task bytes ⊎ RefusesAudit task bytes)
+IsRefusalOf task bytes = RefusesSnapshot task bytes ⊎ (RefusesCore task bytes ⊎ (RefusesAudit task bytes ⊎ RefusesThrow task bytes))
 
 abbrev pub IsRefused : Option Task → List ℕ → Type 0
 IsRefused task bytes = IsSome task × (length bytes ≤ 2 ^ 26) × IsRefusalOf task bytes
@@ -241,6 +244,13 @@ task_refused found Deliver bytes is = go (content_of bytes) refl is
   where
     go : (r : Result Content SnapshotError) → content_of bytes ≡ r → (read_due (λ s. delivery_due (delivery_from s)) r).status ≡ Refused → IsRefusalOf (Some Deliver) bytes
     go (Ok s) at is = inl (s, at, delivery_refused (delivery_from s) is)
+    go (Err (faults.Bad field)) at is = absurd cc
+    go (Err faults.NotJson) at is = absurd cc
+    go (Err faults.NoMemory) at is = absurd cc
+task_refused found Throw bytes is = inr (inr (inr (go (thrown_in bytes) refl is)))
+  where
+    go : (r : Result ThrownContent SnapshotError) → thrown_in bytes ≡ r → (read_due (λ s. delivery_due (thrown_from s)) r).status ≡ Refused → RefusesThrow (Some Throw) bytes
+    go (Ok s) at is = (s, at, delivery_refused (thrown_from s) is)
     go (Err (faults.Bad field)) at is = absurd cc
     go (Err faults.NotJson) at is = absurd cc
     go (Err faults.NoMemory) at is = absurd cc
@@ -274,7 +284,7 @@ task_refused found Check bytes is = absurd (go (claimed_in bytes) is)
     go (Err (faults.Bad field)) is = cc
     go (Err faults.NotJson) is = cc
     go (Err faults.NoMemory) is = cc
-task_refused found Audit bytes is = inr (inr (go (code_in bytes) refl is))
+task_refused found Audit bytes is = inr (inr (inl (go (code_in bytes) refl is)))
   where
     refusal : (c : CodeContent) (o : Option AuditError) → refusal_in c ≡ o → (audited_by c found.differences o).status ≡ Refused → (error : AuditError) × (refusal_in c ≡ Some error)
     refusal c None at is = absurd cc
@@ -302,23 +312,33 @@ unaudited_is (Some table) None error is = absurd cc
 refused_task : (found : Findings) (task : Task) (bytes : List ℕ) → IsRefusalOf (Some task) bytes → (task_due task bytes found).status ≡ Refused
 refused_task found Deliver bytes (inl (s, reads, (error, other, is))) = rw (reads, is) (error_due error other)
 refused_task found Deliver bytes (inr (inl is)) = absurd is
-refused_task found Deliver bytes (inr (inr is)) = absurd is
+refused_task found Deliver bytes (inr (inr (inl is))) = absurd is
+refused_task found Deliver bytes (inr (inr (inr is))) = absurd is
+refused_task found Throw bytes (inl (s, reads, (error, other, is))) = absurd is
+refused_task found Throw bytes (inr (inl is)) = absurd is
+refused_task found Throw bytes (inr (inr (inl is))) = absurd is
+refused_task found Throw bytes (inr (inr (inr (s, reads, (error, other, is))))) = rw (reads, is) (error_due error other)
 refused_task found Walk bytes (inl (s, reads, (error, other, is))) = rw (reads, is) (error_due error other)
 refused_task found Walk bytes (inr (inl is)) = absurd is
-refused_task found Walk bytes (inr (inr is)) = absurd is
+refused_task found Walk bytes (inr (inr (inl is))) = absurd is
+refused_task found Walk bytes (inr (inr (inr is))) = absurd is
 refused_task found Fold bytes (inl (s, reads, (error, other, is))) = absurd is
 refused_task found Fold bytes (inr (inl is)) = absurd is
-refused_task found Fold bytes (inr (inr is)) = absurd is
+refused_task found Fold bytes (inr (inr (inl is))) = absurd is
+refused_task found Fold bytes (inr (inr (inr is))) = absurd is
 refused_task found Core bytes (inl (s, reads, (error, other, is))) = absurd is
 refused_task found Core bytes (inr (inl (inl (error, is)))) = rw is refl
 refused_task found Core bytes (inr (inl (inr (i, is)))) = rw is refl
-refused_task found Core bytes (inr (inr is)) = absurd is
+refused_task found Core bytes (inr (inr (inl is))) = absurd is
+refused_task found Core bytes (inr (inr (inr is))) = absurd is
 refused_task found Check bytes (inl (s, reads, (error, other, is))) = absurd is
 refused_task found Check bytes (inr (inl is)) = absurd is
-refused_task found Check bytes (inr (inr is)) = absurd is
+refused_task found Check bytes (inr (inr (inl is))) = absurd is
+refused_task found Check bytes (inr (inr (inr is))) = absurd is
 refused_task found Audit bytes (inl (s, reads, (error, other, is))) = absurd is
 refused_task found Audit bytes (inr (inl is)) = absurd is
-refused_task found Audit bytes (inr (inr (c, reads, (error, is)))) =
+refused_task found Audit bytes (inr (inr (inr is))) = absurd is
+refused_task found Audit bytes (inr (inr (inl (c, reads, (error, is))))) =
     let due : task_due Audit bytes found ≡ unaudited_due error = ap (code_due found.differences) reads ∙ ap (audited_by c found.differences) is in
     ap status_of due ∙ unaudited_is (table_by c.frame (image_in c)) (first_out_of_order 0 (claims_of c)) error is
 

@@ -28,6 +28,12 @@ ghost use Rattle.format_samples.specs.Handlers as handlers;
 ghost use Rattle.unwind_cli.specs.KnownSample as known;
 ghost use Rattle.unwind_cli.specs.Landings as landings;
 ghost use Rattle.fact_deliveries.specs.LandingProgram as program;
+ghost use Rattle.fact_deliveries.specs.GuardedProgram as guarded;
+ghost use Rattle.fact_deliveries.specs.GuardedThrow as thrown;
+ghost use Rattle.stack_deliver.specs.KnownThrows as throws;
+ghost use Rattle.stack_deliver.specs.KnownThrows.{StartsKnownThrow};
+ghost use Rattle.stack_snapshot.specs.Thrown.{languages_in};
+ghost use Rattle.unwind_cli.specs.Guarded as behind;
 ghost use Rattle.frame_facts.specs.FactDeliveries.{delivery_to};
 ghost use Rattle.stack_deliver.specs.KnownDeliveries.{StartsKnownDelivery};
 ghost use Rattle.format_laws.specs.Sample as mixed;
@@ -44,8 +50,8 @@ ghost use Rattle.stack_walks.specs.Walking.{StartsChain};
 ghost use Rattle.table_check.specs.declared.verdict.Verdict.TheVariants.{Yes};
 ghost use Rattle.claim_checks.specs.Claimed.{Describes};
 ghost use Rattle.unwind_cli.specs.Checked.{claimed, claimed_json};
-ghost use Rattle.unwind_cli.specs.Due.{AsksAudit, AsksCheck, AsksCore, AsksFold, checked_due};
-ghost use Rattle.unwind_cli.specs.Due.{differences_due, fold_from};
+ghost use Rattle.unwind_cli.specs.Due.{AsksAudit, AsksCheck, AsksCore, AsksFold, AsksThrow};
+ghost use Rattle.unwind_cli.specs.Due.{checked_due, differences_due, fold_from};
 ghost use Rattle.unwind_cli.specs.AuditedSample as audited;
 ghost use Rattle.fact_claims.specs.Code.{claims_of, image_in, refusal_in};
 ghost use Rattle.frame_facts.specs.Claims.{SaysClaims};
@@ -285,4 +291,17 @@ pub fn landings_past_arguments_are_known()
         program.asked }
     ensures written { delivery_text (delivery_to landings.snapshot.exception
         (program.in_raises ∷ program.callers) program.asked) ≡ landings.text }
+{}
+
+/// A snapshot of a small C++ program where its innermost frame would raise an exception meets what
+/// `run` asks of a stack of each of whose frames it is known what its language table says, from its
+/// bytes on. The frame that takes the exception does so by the third record of one chain: the first is
+/// a cleanup's, and the second a handler's of another type. This text is then due.
+pub fn a_handler_behind_a_cleanup_is_known()
+    ensures read { AsksThrow (codes "throw" ∷ []) (Some behind.json) behind.thrown }
+    ensures starts { StartsKnownThrow (languages_in behind.thrown) (space_of behind.snapshot)
+        behind.snapshot.start behind.snapshot.resumes behind.snapshot.limit guarded.in_raises
+        guarded.callers thrown.asking }
+    ensures written { delivery_text (throws.delivery_to behind.snapshot.exception
+        (guarded.in_raises ∷ guarded.callers) thrown.asking) ≡ behind.text }
 {}

@@ -18,6 +18,7 @@ mod formats;
 mod generated;
 mod refusals;
 mod rules;
+mod throws;
 mod walks;
 
 /// A run: its words, the pieces of its input, and the number and the lines that are due.

@@ -2,22 +2,24 @@
 ghost use Rattle.std.specs.Prelude.{◌≡◌, ℕ, Bool, List, IfOk};
 ghost use Rattle.unwind_arch.specs.declared.x86_64.Context.{Context};
 ghost use Rattle.stack_walks.specs.Lines.{GivesUnlessNoMemory, line_of};
-ghost use Rattle.stack_deliver.specs.StackDelivery.{stack_delivery};
+ghost use Rattle.stack_deliver.specs.StackDelivery.{delivery_through};
+ghost use Rattle.stack_steps.specs.Languages.{Languages};
 ghost use Rattle.stack_snapshot.specs.Content.{space_of};
 ghost use Rattle.stack_snapshot.specs.Sampled.{sampled_space};
-ghost use Rattle.unwind_cli.specs.Due.{delivery_from, fold_from, walk_from};
+ghost use Rattle.unwind_cli.specs.Due.{delivery_from, fold_from, thrown_from, walk_from};
 
 use folded_stacks::{FoldError, Folded, fold};
-use stack_deliver::{DeliverError, Delivery, Space, Visited, deliver, walk};
-use stack_snapshot::{SampledSnapshot, Snapshot};
+use stack_deliver::{DeliverError, Delivery, Space, Visited, deliver, throw, walk};
+use stack_snapshot::{SampledSnapshot, Snapshot, ThrownSnapshot};
 use std::alloc::{AllocError, Global};
 
 /// The space of a snapshot, in which its modules are prepared where they can be. Nothing is
 /// answered otherwise over it.
 fn prepared_space(alloc: Global, snapshot: &Snapshot) -> Result<Space<'_>, AllocError>
-    ensures delivery { IfOk result (λ space. (c : Context) (exception : ℕ) (resumes : List (ℕ × ℕ))
-        (limit : ℕ) → stack_delivery space c exception resumes limit ≡
-        stack_delivery (space_of snapshot.now) c exception resumes limit) }
+    ensures delivery { IfOk result (λ space. (languages : Languages) (c : Context) (exception : ℕ)
+        (resumes : List (ℕ × ℕ)) (limit : ℕ) →
+        delivery_through languages space c exception resumes limit ≡
+        delivery_through languages (space_of snapshot.now) c exception resumes limit) }
     ensures walk { IfOk result (λ space. (limit : ℕ) (c : Context) (interrupted : Bool) →
         line_of space limit c interrupted ≡ line_of (space_of snapshot.now) limit c interrupted) }
 {
@@ -42,6 +44,28 @@ pub fn deliver_snapshot(alloc: Global, snapshot: &Snapshot) -> Result<Delivery, 
         &start,
         snapshot.exception(),
         snapshot.class(),
+        snapshot.resumes(),
+        snapshot.limit(),
+    )
+}
+
+/// What is delivered of a snapshot by the rules of the languages on its stack.
+///
+/// # Errors
+///
+/// `NoMemory` where memory ran out; else those of `throw`.
+pub fn throw_snapshot(alloc: Global, thrown: &ThrownSnapshot) -> Result<Delivery, DeliverError>
+    ensures { GivesUnlessNoMemory result (thrown_from thrown.now) }
+{
+    let snapshot = thrown.snapshot();
+    let space = prepared_space(alloc, snapshot)?;
+    let start = snapshot.start();
+    throw(
+        alloc,
+        &space,
+        &thrown.languages(),
+        &start,
+        snapshot.exception(),
         snapshot.resumes(),
         snapshot.limit(),
     )

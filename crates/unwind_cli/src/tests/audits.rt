@@ -51,7 +51,7 @@ static CASES: [Case; 13] = [
         input: &[CODE, WHOLE, PUSHED, "]}"],
         number: 0,
         lines: &[
-            "differ 0x401000 claim 0 cfa",
+            "differ 0x401000 claim 0 cfa r7+0x8",
             "claims 1",
             "differ 1",
             "without a row 0",
@@ -67,7 +67,7 @@ static CASES: [Case; 13] = [
         ],
         number: 0,
         lines: &[
-            "differ 0x401001 claim 0 rule 3",
+            "differ 0x401001 claim 0 rule 3 c-0x10",
             "claims 1",
             "differ 1",
             "without a row 0",

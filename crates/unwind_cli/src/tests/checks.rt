@@ -144,7 +144,7 @@ static CASES: [Case; 14] = [
         input: &[],
         number: 2,
         lines: &[
-            "usage: unwind_cli deliver | walk | generate COUNT SEED | fold | core | check | audit",
+            "usage: unwind_cli deliver | throw | walk | generate COUNT SEED | fold | core | check | audit",
         ],
     },
 ];

@@ -15,7 +15,7 @@ const OTHER_MODULE: &str =
     "\"}],\"modules\":[{\"kind\":\"coff\",\"base\":\"0x401000\",\"size\":\"0x10\",\"unwind_info\":\"0x0\"}],\"start\":";
 
 const USAGE: &str =
-    "usage: unwind_cli deliver | walk | generate COUNT SEED | fold | core | check | audit";
+    "usage: unwind_cli deliver | throw | walk | generate COUNT SEED | fold | core | check | audit";
 
 static CASES: [Case; 21] = [
     Case {
