@@ -7,6 +7,7 @@ mod compact;
 mod folds;
 mod reports;
 mod runs;
+mod samplers;
 mod walks;
 mod windows;
 
@@ -16,6 +17,7 @@ fn main(rt: HostRuntime) -> Result<()> {
     call_frames::print_row(&rt)?;
     runs::print_caller(&rt)?;
     walks::print_walk(&rt)?;
+    samplers::print_samples(&rt)?;
     folds::print_stacks(&rt)?;
     reports::print_report(&rt)?;
     compact::print_opcode(&rt)?;

@@ -3,9 +3,9 @@
 #![tactic(auto)]
 
 use anyhow::{Result, bail};
-use stack_deliver::{Space, deliver, walk};
+use stack_deliver::{Space, deliver, throw, walk};
 use stack_report::{Report, report_of, walk_report_of};
-use stack_snapshot::{Snapshot, read_snapshot};
+use stack_snapshot::{Snapshot, ThrownSnapshot, read_snapshot, read_thrown_snapshot};
 use std::alloc::Global;
 use std::{fs, str};
 
@@ -53,12 +53,27 @@ const MORE_DELIVERIES: [&str; 3] = [
     "thrown_formats-gcc-O2-pe.json",
 ];
 
+/// Throws of C++ programs, to be delivered by the rule of their language: to `catch (...)` behind typed
+/// handlers, at a violated exception specification, at a `noexcept` function, by a virtual base, and of
+/// an exception that isn't one of C++ at a specification that lists nothing.
+const THROWS: [&str; 5] = [
+    "throw_catch_all.json",
+    "throw_specification.json",
+    "throw_noexcept.json",
+    "throw_virtual_base.json",
+    "throw_foreign.json",
+];
+
 /// The ends of the names of a program's two snapshots: by its module's frame table, and by its header.
 const FORMS: [&str; 2] = [".json", "-by-header.json"];
 
 /// What the reader of the expected lines has to know of the deliveries.
 const OF_DELIVERIES: &str =
     "Deliveries. A landing's rdx is 0 here. In the process it was the number of the catch clause, which C++ puts there.";
+
+/// The same of the throws.
+const OF_THROWS: &str =
+    "Throws. A landing's rdx is the number of the action record, as in the process.";
 
 /// The space of a snapshot, with or without indexes of its modules.
 fn space_of<'a>(alloc: Global, snapshot: &'a Snapshot, prepared: bool) -> Result<Space<'a>> {
@@ -88,6 +103,23 @@ fn delivery_report(alloc: Global, snapshot: &Snapshot, prepared: bool) -> Result
         &start,
         snapshot.exception(),
         snapshot.class(),
+        snapshot.resumes(),
+        snapshot.limit(),
+    )?;
+    Ok(report_of(alloc, &delivery)?)
+}
+
+/// The report of a delivery by the rule of C++.
+fn throw_report(alloc: Global, thrown: &ThrownSnapshot, prepared: bool) -> Result<Report> {
+    let snapshot = thrown.snapshot();
+    let space = space_of(alloc, snapshot, prepared)?;
+    let start = snapshot.start();
+    let delivery = throw(
+        alloc,
+        &space,
+        &thrown.languages(),
+        &start,
+        snapshot.exception(),
         snapshot.resumes(),
         snapshot.limit(),
     )?;
@@ -144,6 +176,15 @@ fn print_deliveries(rt: &HostRuntime, program: &str) -> Result<()> {
     Ok(())
 }
 
+/// The delivery of a throw.
+fn print_throw(rt: &HostRuntime, name: &str) -> Result<()> {
+    let text = fs::read_to_string(rt, name)?;
+    let thrown = read_thrown_snapshot(rt.alloc(), text.as_bytes())?;
+    let report = throw_report(rt.alloc(), &thrown, false)?;
+    let by_indexes = throw_report(rt.alloc(), &thrown, true)?;
+    print_report(rt, name, &report, &by_indexes)
+}
+
 fn main(rt: HostRuntime) -> Result<()> {
     for program in WALKS {
         print_walks(&rt, program)?;
@@ -157,6 +198,10 @@ fn main(rt: HostRuntime) -> Result<()> {
     }
     for name in MORE_DELIVERIES {
         print_delivery(&rt, name)?;
+    }
+    println!(rt; "{OF_THROWS}")?;
+    for name in THROWS {
+        print_throw(&rt, name)?;
     }
     Ok(())
 }
