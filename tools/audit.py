@@ -1,7 +1,7 @@
 #!/usr/bin/env python3
 """Says where the frame tables of files don't say what the machine code does, by `unwind_cli audit`, with names.
 
-    audit.py FILE.. [--all | --counts] [--unwind-cli PROGRAM]
+    audit.py FILE.. [--all | --counts] [--parts N] [--unwind-cli PROGRAM]
 
 Of each FILE, an ELF file of x86-64, claims are made from its code (claimed_facts.py), and the built program says which of them
 the rows of its .eh_frame don't say. A line is printed for each place: its addresses, the function, and why; then what the row
@@ -14,6 +14,9 @@ than claims are, as one by an expression or by another register, or one of a sig
 are `other`, and they are printed with --all alone. The last line of a file has its descriptions, how many of its calls and of
 its instruction addresses are in reach, which is where a row says what is claimed, the numbers that the program gives, and how
 many places there are of each sort. With --counts it is the only one. docs/AUDITS.md says what is counted.
+
+With --parts N a file is followed in N parts one after another, which takes less memory; of each only what its own code says
+is known, so that a function of another part is taken to return.
 
 Claims are given to the program in as many texts as it takes at once. It wants `readelf` and `objdump` (Debian: binutils).
 """
@@ -31,19 +34,23 @@ from typing import Iterator, NamedTuple
 
 from claimed_facts import Claimed, claim_object, claimed_in, tables_of
 from claims import row_text
-from code_file import CodeFile
+from code_file import CodeFile, entries_read
 from code_flow import CodeFlow
-from elf_image import ElfImage, Refused
+from elf_image import ElfImage, Range, Refused
 from known_frame import CALLEE_SAVED
 from machine_code import Way
 from plain_names import plain_name
-from process_backtrace import built_path, run
+from thread_reports import built_path, run
 from snapshot_file import MOST_BYTES, Object
 from symbols import all_functions, demangled, function_at
 from tables import COLUMNS, Row
 
 REGISTERS = {str(column): name for name, column in COLUMNS.items() if name != "rip"}
-LINE = re.compile(r"differ (0x[0-9a-f]+) claim (\d+) (no description|signal frame|fault|cfa|rule \d+)")
+
+# A line of the program's report: where a row differs, from which claim, why, and what the row says.
+SAID = r"[cv][+-]0x[0-9a-f]+|r\d+|none|undefined|same value|(?:value )?expression"
+WHY = rf"(no description|signal frame|fault)|(cfa) (?:r\d+[+-]0x[0-9a-f]+|expression)|(rule \d+) (?:{SAID})"
+LINE = re.compile(rf"differ (0x[0-9a-f]+) claim (\d+) (?:{WHY})")
 NUMBERS = ("claims", "differ", "without a row")
 WHOLE = ("no description", "signal frame")
 
@@ -110,7 +117,7 @@ def read_report(report: str, first: int, found: Found) -> None:
         match = LINE.fullmatch(line)
         if match is None:
             raise Refused(f"that is no report of audit: {line!r}")
-        found.stretches.setdefault(first + int(match[2]), []).append((int(match[1], 16), match[3]))
+        found.stretches.setdefault(first + int(match[2]), []).append((int(match[1], 16), match[3] or match[4] or match[5]))
 
 
 def asked(program: str, tables: Object, claims: list[Claimed], most: int = MOST_BYTES) -> Found:
@@ -182,9 +189,8 @@ def places_in(reach: Reach, pieces: list[tuple[int, int]]) -> tuple[list[Place],
     return places, in_reach
 
 
-def audited(path: str, program: str) -> Audited:
-    """Audits a file."""
-    flow = CodeFlow(CodeFile(path))
+def audited(flow: CodeFlow, program: str) -> Audited:
+    """Audits a file, or a part of it."""
     claims = claimed_in(flow)
     reach = Reach(flow.file, claims, asked(program, tables_of(flow.file), claims))
     places, addresses = places_in(reach, [(one.address, one.end) for one in flow.file.code])
@@ -241,28 +247,55 @@ def line_of(place: Place, file: CodeFile, names: Names) -> str:
     return f"{place.start:#x}-{place.end:#x} {names.at(place)}: {why}; the row: {row}; the code: {place.claimed.facts}"
 
 
-def summary_of(found: Audited, others: int) -> str:
-    """A file's last line."""
+def counts_of(found: Audited, others: int) -> Counter[str]:
+    """The numbers of what is found, of whose places so many are of another kind."""
     file = found.flow.file
-    calls = sum(one.way is Way.CALL for one in file.code)
-    numbers = ", ".join(f"{name} {found.numbers[name]:,}" for name in NUMBERS)
+    return found.numbers + Counter({
+        "descriptions": len(file.descriptions),
+        "calls": sum(one.way is Way.CALL for one in file.code),
+        "calls in reach": found.calls,
+        "addresses": len(file.code),
+        "addresses in reach": found.addresses,
+        "places": len(found.places) - others,
+        "other": others,
+    })
+
+
+def summary_of(path: str, counts: Counter[str]) -> str:
+    """A file's last line."""
+    numbers = ", ".join(f"{name} {counts[name]:,}" for name in (*NUMBERS, "places", "other"))
     return (
-        f"{file.path}: descriptions {len(file.descriptions):,}, calls {calls:,}, in reach {found.calls:,}, "
-        f"addresses {len(file.code):,}, in reach {found.addresses:,}, {numbers}, "
-        f"places {len(found.places) - others:,}, other {others:,}"
+        f"{path}: descriptions {counts['descriptions']:,}, calls {counts['calls']:,}, in reach {counts['calls in reach']:,}, "
+        f"addresses {counts['addresses']:,}, in reach {counts['addresses in reach']:,}, {numbers}"
     )
 
 
-def print_audit(path: str, words: argparse.Namespace) -> None:
-    """Prints what is found of a file."""
-    found = audited(path, words.unwind_cli)
+def print_places(found: Audited, words: argparse.Namespace) -> Counter[str]:
+    """Prints the places, and answers the numbers of what is found."""
     file = found.flow.file
     others = {place for place in found.places if is_other(place.why, row_of(place, file))}
     printed = [] if words.counts else [place for place in found.places if words.all or place not in others]
     if printed:
         names = Names(file)
-        print("\n".join(line_of(place, file, names) for place in printed))
-    print(summary_of(found, len(others)), flush=True)
+        print("\n".join(line_of(place, file, names) for place in printed), flush=True)
+    return counts_of(found, len(others))
+
+
+def parts_of(path: str, count: int) -> list[Range | None]:
+    """A file in so many parts of about as many descriptions each."""
+    if count == 1:
+        return [None]
+    starts = sorted(entry.covers.start for entry in entries_read(path) if entry.common is not None)
+    cuts = [0, *(starts[number * len(starts) // count] for number in range(1, count)), sys.maxsize] if starts else [0, sys.maxsize]
+    return [Range(low, high) for low, high in zip(cuts, cuts[1:]) if low < high]
+
+
+def print_audit(path: str, words: argparse.Namespace) -> None:
+    """Prints what is found of a file."""
+    counts = Counter[str]()
+    for part in parts_of(path, words.parts):
+        counts += print_places(audited(CodeFlow(CodeFile(path, part)), words.unwind_cli), words)
+    print(summary_of(path, counts), flush=True)
 
 
 def main() -> None:
@@ -273,6 +306,7 @@ def main() -> None:
     kinds.add_argument("--all", action="store_true", help="print places at which a row is of another kind, too")
     kinds.add_argument("--counts", action="store_true", help="print a line for each file alone")
     default = os.environ.get("UNWIND_CLI") or built_path("unwind_cli")
+    parser.add_argument("--parts", type=int, default=1, metavar="N", help="follow the code of a large file in so many parts")
     parser.add_argument("--unwind-cli", metavar="PROGRAM", default=default, help="the built program")
     words = parser.parse_args()
     signal.signal(signal.SIGPIPE, signal.SIG_DFL)

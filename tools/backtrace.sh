@@ -40,6 +40,6 @@ case $#:${1:-}:${options[*]} in
         [ -f "$1" ] || usage
         exec "$python" -E -S "$tools/snapshot_backtrace.py" "$1" "${options[@]}" ;;
     1:*) exec "$python" -E -S "$tools/process_backtrace.py" "$1" "${options[@]}" ;;
-    2:*) exec "$python" -E -S "$tools/core_backtrace.py" "$1" "$2" "${options[@]}" --unwind-cli "$UNWIND_CLI" ;;
+    2:*) exec "$python" -E -S "$tools/core_backtrace.py" "$1" "$2" "${options[@]}" ;;
     *) usage ;;
 esac

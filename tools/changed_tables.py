@@ -27,7 +27,7 @@ from code_flow import CodeFlow
 from elf_image import Refused
 from frame_programs import Description, descriptions_of, rows_of, said_by
 from frame_table import Table
-from process_backtrace import built_path
+from thread_reports import built_path
 from snapshot_file import Object
 from tables import Row, table_of
 

@@ -5,7 +5,8 @@
 
 Each fault has a line, with the place in the snapshot; the status is 1 where there is one. A member that the schema doesn't
 name is a fault here, though `unwind_cli` passes over it: a name that was misspelt changes the answer otherwise. The line has the
-nearest name that the schema knows there. A FILE may be a thread's file of `snapshot DIR --threads`.
+nearest name that the schema knows there. A FILE may be a thread's file of `snapshot DIR --threads`, or samples, by what the schema
+says of the same members of a snapshot.
 
 It reads those words of JSON Schema (draft 7) that the schema has, and refuses a schema with others. Of the shapes that a module may
 have it takes the one with the module's `kind`, so that a line says what is wrong in it.
@@ -21,11 +22,11 @@ import sys
 from typing import Any, Iterator
 
 from elf_image import Refused
-from snapshot_file import Object, read_object, read_snapshot
+from snapshot_file import MOST_STATES_OF_A_SAMPLE, Object, read_object, read_snapshot
 
 REPOSITORY = os.path.join(os.path.dirname(os.path.abspath(__file__)), "..")
 SCHEMA = os.path.join(REPOSITORY, "docs", "snapshot.schema.json")
-# Samples, core files and claims, which `unwind_cli fold`, `core`, `check` and `audit` read, are other objects.
+# Samples have a file of their own. Core files and claims, which `unwind_cli core`, `check` and `audit` read, are other objects.
 SHIPPED = ("examples/pushed_rbx.json", "crates/real_samples/data/*.json")
 
 READ = set(
@@ -148,9 +149,23 @@ def nearest(name: str, known: list[str]) -> str:
 
 
 def faults_of(found: Object) -> list[str]:
-    """What of a snapshot isn't as the schema says: places and reasons."""
+    """What of a snapshot or of samples isn't as the schema says: places and reasons."""
     root = read_object(SCHEMA)
+    if isinstance(found, dict) and "samples" in found:
+        return list(faults_of_samples(found, root))
     return list(Checker(root).faults(found, root))
+
+
+def faults_of_samples(found: Object, root: Object) -> Iterator[str]:
+    """What of samples isn't as the schema says of snapshots: of what they share, and of each with its number. (`thread` is a
+    sample's own, and `exception`, `class` and `resumes` are no sample's.)"""
+    checker, properties = Checker(root), root["properties"]
+    of_one = {name: properties[name] for name in ("start", "interrupted", "thread")}
+    shared = {name: member for name, member in properties.items() if name in ("regions", "modules", "limit", "code")}
+    shared["limit"] = properties["limit"] | {"maximum": MOST_STATES_OF_A_SAMPLE}
+    shared["samples"] = {"type": "array", "items": {"type": "object", "properties": of_one, "required": ["start"]}}
+    required = ["regions", "modules", "samples", "limit"]
+    yield from checker.faults(found, {"type": "object", "properties": shared, "required": required})
 
 
 def main() -> None:

@@ -44,8 +44,8 @@ REASONS = {
         command_ends.Verdicts.IsReadyOrFailed frame_rows.Begun.HasBegun frame_rows.Begun.HasBegunBefore
         frame_rows.Rows.IsRowOf frame_rows.Walks.IsWalking stack_steps.FrameViews.IsFrameOf""",
     "the cause of an answer, which the clause beside says of the answer": """
-        stack_deliver.Causes.EndsBy stack_deliver.Causes.IsRefused stack_walks.Lines.NeedsMore
-        stack_walks.Walking.StepFails""",
+        stack_deliver.Causes.EndsBy stack_deliver.Causes.EndsThrough stack_deliver.Causes.IsRefused
+        stack_deliver.Causes.IsRefusedThrough stack_walks.Lines.NeedsMore stack_walks.Walking.StepFails""",
     "whatever is given as memory": "pe_unwind_info.Frame.Gives",
     "what outlines answers, and what memory_holds_tables_and_stack says for each count": """
         generated_chains.Memory.HoldsStack generated_chains.Memory.HoldsTables

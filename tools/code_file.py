@@ -2,6 +2,7 @@
 from __future__ import annotations
 
 import bisect
+import functools
 import struct
 from typing import Iterator, NamedTuple
 
@@ -17,13 +18,18 @@ TO_SYMBOL, TO_SLOT, RELATIVE = 6, 7, 8
 
 
 class Description(NamedTuple):
-    """A description: what it covers, the rows from their addresses on, where calls land, and whether it is of a signal's
-    frame."""
+    """A description: what it covers, the rows from their addresses on, the call sites of its language table, if it has one,
+    and whether it is of a signal's frame."""
 
     covers: Range
     rows: list[tuple[int, Row]]
-    sites: list[Site]
+    language: list[Site] | None
     is_signal: bool
+
+    @property
+    def sites(self) -> list[Site]:
+        """The call sites whose exceptions land somewhere."""
+        return [site for site in self.language or () if site.pad]
 
     def row(self, address: int) -> Row | None:
         """The row at an address."""
@@ -31,14 +37,18 @@ class Description(NamedTuple):
         return self.rows[place][1] if place >= 0 else None
 
 
+# What `readelf` says of the last file that was read, of which more than one part may be asked for.
+entries_read = functools.lru_cache(maxsize=1)(entries_of)
+
+
 class CodeFile:
     """A file: descriptions by their addresses, and the instructions in them in one list, with the number of the
     description that each belongs to and the place of each address in the list. `outside` counts the instructions in no
-    description, but for padding."""
+    description, but for padding. Of a file of which a part is asked for only the descriptions that start there are read."""
 
-    def __init__(self, path: str) -> None:
+    def __init__(self, path: str, part: Range | None = None) -> None:
         """Reads the file by `readelf` and `objdump`."""
-        self.path = path
+        self.path, self.part = path, part
         with open(path, "rb") as stream:
             self.elf = ElfImage(stream)
             self.is_fixed, self.entry = struct.unpack("<H6xQ", self.elf.bytes_at(16, 16))
@@ -81,23 +91,24 @@ class CodeFile:
             return
         table = Table(place.start, self.elf.contents(section))
         encodings = common_entries(table)
-        entries = entries_of(self.path)
+        entries = entries_read(self.path)
         commons = {entry.offset: entry for entry in entries if entry.common is None}
         for entry in entries:
-            if entry.common is not None and entry.covers.end > entry.covers.start:
+            is_asked = self.part is None or self.part.contains(entry.covers.start)
+            if is_asked and entry.common is not None and entry.covers.end > entry.covers.start:
                 common = encodings[entry.common]
                 rows = sorted(dict(with_arguments(entry, commons[entry.common])).items())
                 sites = self._sites(table, entry.offset, entry.covers, common)
                 yield Description(entry.covers, rows, sites, common.is_signal)
 
-    def _sites(self, table: Table, offset: int, covers: Range, common: CommonEntry) -> list[Site]:
-        """Where the calls of a description land, by its language table."""
+    def _sites(self, table: Table, offset: int, covers: Range, common: CommonEntry) -> list[Site] | None:
+        """The call sites of a description's language table, if it has one."""
         if common.language_table == OMITTED:
-            return []
+            return None
         place = uleb128(table.content, offset + 8 + 2 * encoded_size(common.address_encoding))[1]
         encoding = common.language_table & ~INDIRECT
         if not any(table.content[place : place + encoded_size(encoding)]):
-            return []
+            return None
         address = encoded_pointer(table, place, encoding)
         found = self.bytes_from(address)
         return sites_of(Table(address, found), covers.start) if found else []
@@ -109,7 +120,9 @@ class CodeFile:
         self.bounds: list[tuple[int, int]] = []
         self.outside = 0
         whole: list[list[Instruction]] = [[] for _ in self.descriptions]
-        for one in instructions_of(self.path):
+        end = max((description.covers.end for description in self.descriptions), default=0)
+        bounds = () if self.part is None else (f"--start-address={self.part.start:#x}", f"--stop-address={end:#x}")
+        for one in instructions_of(self.path, *bounds):
             owner = self.description_at(one.address)
             if owner is not None:
                 whole[owner].append(one)

@@ -32,7 +32,7 @@ from flamegraph import Frames, Names, Stack, clean, named_lines
 from names import ReportedFrame, trampolines_of
 from perf_parts import Part, parts_of
 from perf_tables import tables_of
-from process_backtrace import built_path, run
+from thread_reports import built_path, run
 from process_profile import natural
 from snapshot_file import Object, text_of
 

@@ -26,9 +26,10 @@ import array
 import bisect
 import io
 import os
+import re
 import struct
 import sys
-from typing import BinaryIO, Iterable, Iterator, NamedTuple
+from typing import BinaryIO, Iterable, Iterator, NamedTuple, Sequence
 
 from core_image import AT_ENTRY, AT_SYSINFO_EHDR, Core, Mapped, Thread, core_with
 from elf_image import PAGE, SEGMENT_LOADED, WORD, ElfImage, Range, Refused, Segment, build_id_of
@@ -38,6 +39,8 @@ from snapshot_file import MOST_STATES, Object, Region, joined_regions, region_ob
 
 RED_ZONE, MOST_STACK_BYTES = 128, 16 * 2**20
 SEGMENT_FRAME_HEADER, FRAME_HEADER_SIZE, ENTRY_OFFSET = 0x6474E550, 12, 24
+# What a mapping that no file has is called: nothing, or of a compiler at run time that maps its code twice so.
+OF_NO_FILE = re.compile(r"^$|^/memfd:|^\[anon")
 # What a damaged file makes of reading it.
 FAULTS = (OSError, Refused, struct.error, IndexError, ValueError)
 # In what the system puts on a stack for a signal's handler the code and stack segments of user space stand in one word
@@ -63,12 +66,20 @@ class Source(NamedTuple):
     root: str = ""
 
 
+class Modules(NamedTuple):
+    """What is taken of the files that are mapped, and what is said of code of which none has a table."""
+
+    loaded: list[Loaded]
+    code: list[Object]
+
+
 class Taken(NamedTuple):
-    """What is taken of a core: its threads, their stacks, and the modules that these point into."""
+    """What is taken of a core or a process: its threads, their stacks, the modules that these point into, and code without tables."""
 
     threads: list[Thread]
     stacks: list[Region]
     loaded: list[Loaded]
+    code: Sequence[Object] = ()
 
 
 def say(line: str) -> None:
@@ -277,26 +288,64 @@ def program_name(core: Core, mapped: list[Mapped]) -> str | None:
     return next((part.name for part in mapped if entry is not None and part.place.contains(entry)), None)
 
 
-def file_modules(core: Core, source: Source, wanted: list[int]) -> Iterator[Loaded]:
+def by_file(mapped: list[Mapped], program: str | None) -> dict[str, list[Mapped]]:
+    """The mapped parts by their files, the program's first."""
+    found: dict[str, list[Mapped]] = {program: []} if program is not None else {}
+    for part in mapped:
+        found.setdefault(part.name, []).append(part)
+    return found
+
+
+def file_modules(core: Core, source: Source, wanted: list[int]) -> Modules:
     """The modules of the files that were mapped, the program's first. Its own file has to be the one that was loaded."""
     mapped = core.mapped()
     program = program_name(core, mapped)
-    by_name: dict[str, list[Mapped]] = {program: []} if program is not None else {}
-    for part in mapped:
-        by_name.setdefault(part.name, []).append(part)
-    for name, parts in by_name.items():
+    found = Modules([], code_of_no_file(core, mapped))
+    for name, parts in by_file([part for part in mapped if not OF_NO_FILE.match(part.name)], program).items():
         if name != program and not points_into(wanted, [part.place for part in parts]):
             continue
         path = source.program if name == program else source.root + name
+        shown = os.path.realpath(path) if name == program else name
         try:
-            yield from modules_at(core, path, os.path.realpath(path) if name == program else name, parts, wanted)
+            found.loaded.extend(modules_at(core, path, shown, parts, wanted))
         except WithoutTable as reason:
             say(f"leaves out {path}: {reason}")
+            found.code.extend(code_of_file(path, shown, parts, name == program))
         except FAULTS as error:
             reason = error.strerror if isinstance(error, OSError) else error
             if name == program:
                 raise Refused(f"{path} can't be taken as the program, which was {name}: {reason}")
             say(f"leaves out {path}: {reason}")
+    return found
+
+
+# ---- code without tables
+
+
+def range_object(place: Range) -> Object:
+    """A range of addresses as a snapshot spells it."""
+    return {"start": f"{place.start:#x}", "end": f"{place.end:#x}"}
+
+
+def code_of_file(path: str, name: str, parts: list[Mapped], is_program: bool) -> Iterator[Object]:
+    """What is said of the code of a file without a frame table."""
+    with opened_file(path) as stream:
+        image = ElfImage(stream)
+        build_id = image.build_id()
+        for bias in biases_of(image, parts):
+            names = {"path": text_path(name), "bias": f"{bias:#x}"} | ({"build_id": build_id} if build_id else {})
+            marks = {"program": True} if is_program else {}
+            yield from (range_object(place) | names | marks for place in image.code_ranges(bias))
+
+
+def code_of_no_file(core: Core, mapped: list[Mapped]) -> list[Object]:
+    """What is said of executable memory that no file has, as compilers at run time make it. The system's own has a table."""
+    supplied = core.auxiliary(AT_SYSINFO_EHDR)
+    known = {part.place.start for part in mapped if not OF_NO_FILE.match(part.name)} | {supplied}
+    return [
+        range_object(Range(memory.address, memory.address + memory.size))
+        for memory in core.memories if memory.executable and memory.address not in known
+    ]
 
 
 def program_by_entry(core: Core, source: Source, wanted: list[int]) -> Iterator[Loaded]:
@@ -371,12 +420,12 @@ def taken_of(core: Core, source: Source, most: int | None) -> Taken:
     stacks = stacks_of(core, threads, most)
     wanted = words_of(threads, stacks)
     if core.mapped():
-        loaded = list(file_modules(core, source, wanted))
+        loaded, code = file_modules(core, source, wanted)
     else:
         places = ", ".join(str(place) for place in core.note_ranges)
         say(f"its segments of notes ({places}) have no whole note NT_FILE, which says which files were mapped")
-        loaded = list(program_by_entry(core, source, wanted))
-    return Taken(threads, stacks, loaded + list(system_modules(core, wanted)))
+        loaded, code = list(program_by_entry(core, source, wanted)), []
+    return Taken(threads, stacks, loaded + list(system_modules(core, wanted)), code)
 
 
 def text_path(path: str) -> str:
@@ -390,7 +439,7 @@ def thread_object(thread: Thread) -> Object:
 
 
 def object_of(taken: Taken, limit: int) -> Object:
-    """What `unwind_cli core` reads. It passes over `threads` and the names of modules."""
+    """What `unwind_cli core` reads. It passes over `code`, `threads` and the names of modules."""
     modules = [entry for one in taken.loaded for entry in module_objects(one.module)]
     small = core_with(taken.threads, [(stack.start, stack.content) for stack in taken.stacks])
     return {
@@ -398,6 +447,7 @@ def object_of(taken: Taken, limit: int) -> Object:
         "regions": [region_object(one.table) for one in taken.loaded],
         "modules": [entry | {"path": text_path(entry["path"])} for entry in modules],
         "limit": limit,
+        "code": list(taken.code),
         "threads": [thread_object(thread) for thread in taken.threads],
     }
 

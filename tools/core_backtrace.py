@@ -1,31 +1,29 @@
 #!/usr/bin/env python3
 """Prints the backtraces of a core: of its first thread, or of all of them.
 
-    core_backtrace.py PROGRAM CORE [--threads] [--unwind-cli PROGRAM] [--root DIR]
+    core_backtrace.py PROGRAM CORE [--threads] [--backtrace PROGRAM] [--unwind-cli PROGRAM] [--root DIR]
 
-It does what core.py, `unwind_cli core` and core_names.py do one by one, with one run of `unwind_cli` and no files. The
-first thread of a core is the one that got the signal. Lines on standard error say what is missing.
+It does what core.py, `unwind_cli core` and core_names.py do one by one, without files. Threads whose walks don't come to the
+outermost frame are walked once more, by `backtrace`, which has the frames up to there: all of them in one run
+(thread_reports.py). The first thread of a core is the one that got the signal. Lines on standard error say what is missing.
 """
 from __future__ import annotations
 
-import json
 import os
 import signal
 import sys
 from typing import NamedTuple, NoReturn
 
-from core import FAULTS, Source, Taken, check_program, object_of, opened_core, system_image, taken_of
+from core import FAULTS, Source, Taken, check_program, opened_core, system_image, taken_of
 from core_image import Core
-from core_names import Loaded, ThreadStart, thread_lines, titled
+from core_names import Loaded, ThreadStart, Walk, thread_lines, titled, walk_of
 from elf_image import Refused
-from names import modules_of
-from programs import run_program
-from snapshot_file import MOST_BYTES, MOST_STATES, Object
+from snapshot_file import Object
 from symbols import has_symbolizer
+from thread_reports import Programs, built_path, built_programs, module_entries, reports_of
 
-UNWIND_CLI = os.path.join(os.path.dirname(os.path.abspath(__file__)), "../crates/unwind_cli/out/unwind_cli")
 SYSTEM_PATH = "[vdso]"
-USAGE = "usage: core_backtrace.py PROGRAM CORE [--threads] [--unwind-cli PROGRAM] [--root DIR]"
+USAGE = "usage: core_backtrace.py PROGRAM CORE [--threads] [--backtrace PROGRAM] [--unwind-cli PROGRAM] [--root DIR]"
 
 
 class Options(NamedTuple):
@@ -34,7 +32,7 @@ class Options(NamedTuple):
     program: str
     core: str
     threads: bool
-    unwind_cli: str
+    programs: dict[str, str]
     root: str
 
 
@@ -47,7 +45,8 @@ def usage() -> NoReturn:
 def read_words(words: list[str]) -> Options:
     """The words. (`argparse` would do, and takes a quarter of the time in which all else is loaded.)"""
     left = [word for word in words if word != "--threads"]
-    values = {"--unwind-cli": os.environ.get("UNWIND_CLI", UNWIND_CLI), "--root": ""}
+    values = {f"--{name.replace('_', '-')}": os.environ.get(name.upper()) or built_path(name) for name in Programs._fields}
+    values["--root"] = ""
     for option in values.keys() & set(left):
         index = left.index(option)
         if index + 1 == len(left):
@@ -56,32 +55,19 @@ def read_words(words: list[str]) -> Options:
         del left[index : index + 2]
     if len(left) != 2 or any(word.startswith("--") for word in left):
         usage()
-    return Options(left[0], left[1], "--threads" in words, values["--unwind-cli"], values["--root"])
+    programs = {name: values[f"--{name.replace('_', '-')}"] for name in Programs._fields}
+    return Options(left[0], left[1], "--threads" in words, programs, values["--root"])
 
 
-def short_text(found: Object) -> bytes:
-    """The text in one line. Refuses one that is longer than `unwind_cli` takes."""
-    text = json.dumps(found).encode("ascii")
-    if len(text) > MOST_BYTES:
-        raise Refused(f"its stacks and tables come to {len(text)} bytes of text, and {MOST_BYTES} are taken")
-    return text
-
-
-def report_of(unwind_cli: str, found: Object) -> str:
-    """What `unwind_cli core` prints."""
-    try:
-        done = run_program([unwind_cli, "core"], short_text(found))
-    except FileNotFoundError:
-        raise Refused(f"{unwind_cli} isn't built: run `rt run < stdin` in crates/unwind_cli")
-    if done.status != 0:
-        words = (done.output + done.errors).decode("utf-8", "replace").strip()
-        raise Refused(f"{unwind_cli} ended with status {done.status}: {words}".rstrip(": "))
-    return done.output.decode("ascii")
+def walks_of(taken: Taken, programs: Programs) -> list[Walk]:
+    """What the programs report of each thread. A report of one line says why there is none."""
+    reports = reports_of(taken, programs)
+    return [walk_of(f"\n{report}") if "\n" in report.rstrip("\n") else Walk([], report.rstrip("\n")) for report in reports]
 
 
 def loaded_of(core: Core, found: Object) -> Loaded:
     """What names are made of; the core itself has the file that the system maps."""
-    loaded = Loaded(modules_of(found))
+    loaded = Loaded(found)
     try:
         system = system_image(core)
     except FAULTS:
@@ -105,11 +91,12 @@ def printed(options: Options) -> str:
     core = opened_core(options.core)
     check_program(options.program)
     taken = asked_threads(taken_of(core, Source(options.program, options.root), None), options.threads)
-    found = object_of(taken, MOST_STATES)
     starts = [ThreadStart(thread.number, thread.rip) for thread in taken.threads]
     if not has_symbolizer():
         print("core: without lines: there is no llvm-symbolizer and no addr2line (Debian: llvm, binutils)", file=sys.stderr)
-    lines = thread_lines(report_of(options.unwind_cli, found), starts, loaded_of(core, found), core.missing_at)
+    walks = walks_of(taken, built_programs(options.programs))
+    found = {"modules": module_entries(taken), "code": list(taken.code)}
+    lines = thread_lines(walks, starts, loaded_of(core, found), core.missing_at)
     return titled(lines, starts) if options.threads else "\n".join(lines[0])
 
 

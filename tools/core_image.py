@@ -14,6 +14,7 @@ from elf_image import Range, Refused
 
 TYPE_CORE, MACHINE_X86_64, MORE_SEGMENTS = 4, 62, 0xFFFF
 SEGMENT_LOADED, SEGMENT_NOTES = 1, 4
+EXECUTABLE = 1
 NT_PRSTATUS, NT_AUXV, NT_FILE = 1, 6, 0x46494C45
 AT_ENTRY, AT_SYSINFO_EHDR = 9, 33
 HEADER, PROGRAM_HEADER = struct.Struct("<16sHHIQQQIHHHHHH"), struct.Struct("<IIQQQQQQ")
@@ -66,13 +67,14 @@ class Mapped(NamedTuple):
 
 class Memory(NamedTuple):
     """What the file has of a mapping: from which address and offset on how many bytes; `size` bytes were mapped,
-    of which `due` should be in the file."""
+    of which `due` should be in the file. Of a core it is known whether the mapping could be run."""
 
     address: int
     offset: int
     present: int
     due: int
     size: int
+    executable: bool = False
 
     @property
     def place(self) -> Range:
@@ -120,8 +122,8 @@ class Core:
 
     def _memory_of(self, row: tuple[int, ...]) -> Memory:
         """A segment of memory, as far as the file has it."""
-        _kind, _flags, offset, address, _physical, due, size, _align = row
-        return Memory(address, offset, max(0, min(due, self.size - offset)), due, size)
+        _kind, flags, offset, address, _physical, due, size, _align = row
+        return Memory(address, offset, max(0, min(due, self.size - offset)), due, size, flags & EXECUTABLE != 0)
 
     def _notes_at(self, place: Range) -> Iterator[Note]:
         """The notes of a segment, up to one that isn't whole."""

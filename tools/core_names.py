@@ -10,7 +10,8 @@ each address is asked once, and all files in one run of the symbolizer.
     #0 0x7f31ee3d3eec in __pthread_kill_implementation at ./nptl/pthread_kill.c:44
     #1 0x7f31ee384fb2 in raise at ../sysdeps/posix/raise.c:26
 
-Where a walk was refused the innermost frame is there, which the thread's registers say, and the line that says why.
+Where a walk was refused the innermost frame is there, which the thread's registers say, and the line that says why. A report
+of `backtrace` in a walk's place has the frames up to there.
 """
 from __future__ import annotations
 
@@ -22,23 +23,28 @@ import sys
 from typing import Callable, Iterator, NamedTuple
 
 from elf_image import SEGMENT_LOADED, WORD, ElfImage, Refused
-from names import Module, ReportedFrame, Symbols, all_symbols, module_at, modules_of, texts_of
+from names import (
+    GUESSED, Module, ReportedFrame, Symbols, all_symbols, module_at, modules_of, program_of, texts_of, why_without_table, with_reason,
+)
 from snapshot_file import Object, read_object
 from symbols import asked_addresses, name_without_lines
 
 THREAD = "\nthread "
-FRAME = re.compile(r"\nframe \d+ ra=0x([0-9a-f]+) ")
-LAST = re.compile(r"end|refused: .*")
-UNMAPPED = re.compile(r"^refused: unmapped (0x[0-9a-f]+)$")
+FRAME = re.compile(r"\n(?:frame \d+ ra=|#\d+ +)0x([0-9a-f]+)\b")
+LAST = re.compile(r"end|refused: .*|end: .*")
+UNMAPPED = re.compile(r"^(?:refused|end: no caller of .*): unmapped (0x[0-9a-f]+)$")
+OUTERMOST = "end: the outermost frame, which returns to 0"
 # What handlers of signals return to: `mov $15, %rax; syscall`, which is rt_sigreturn(2).
 RESTORER = bytes.fromhex("48c7c00f0000000f05")
 
 
 class Walk(NamedTuple):
-    """A thread's walk in a report: return addresses from the start outwards, and the line after them."""
+    """A thread's walk in a report: return addresses from the start outwards, the line after them, and whether the second was
+    guessed."""
 
     addresses: list[int]
     last: str
+    guessed: bool = False
 
 
 class ThreadStart(NamedTuple):
@@ -49,16 +55,14 @@ class ThreadStart(NamedTuple):
 
 
 class Loaded:
-    """What names are made of: the modules, the program's path, and files that aren't on disk by the paths of theirs."""
+    """What names are made of: what a snapshot says, its modules, the program's path, and files that aren't on disk by the paths
+    of theirs."""
 
-    def __init__(self, modules: list[Module]) -> None:
-        self.modules = modules
+    def __init__(self, found: Object) -> None:
+        self.found = found
+        self.modules = modules_of(found)
+        self.program = program_of(found, self.modules)
         self.images: dict[str, ElfImage] = {}
-
-    @property
-    def program(self) -> str:
-        """The path of the program."""
-        return self.modules[0].path if self.modules else ""
 
 
 # ---- report
@@ -69,7 +73,7 @@ def walk_of(text: str) -> Walk:
     returns = FRAME.findall(text)
     known = {digits: int(digits, 16) for digits in set(returns)}
     last = text.rstrip("\n").rpartition("\n")[2]
-    return Walk([known[digits] for digits in returns], last if LAST.fullmatch(last) else "")
+    return Walk([known[digits] for digits in returns], last if LAST.fullmatch(last) else "", f"{GUESSED}\n" in text)
 
 
 def walks_of(report: str) -> list[Walk]:
@@ -120,31 +124,40 @@ def frames_of(walk: Walk, start: ThreadStart, restorers: set[int]) -> Iterator[R
     that calls itself the same frame comes again."""
     interrupted = True
     called: dict[int, ReportedFrame] = {}
-    for address in walk.addresses or [start.rip]:
-        if address == 0 and walk.addresses[1:]:
+    for level, address in enumerate(walk.addresses or [start.rip]):
+        if address == 0 and level > 0:
             return
         is_signal = address in restorers
-        if interrupted or is_signal:
+        if level == 1 and walk.guessed:
+            yield ReportedFrame(address, address - 1, note=GUESSED)
+        elif interrupted or is_signal:
             yield ReportedFrame(address, address, is_signal)
         else:
             yield called.get(address) or called.setdefault(address, ReportedFrame(address, address - 1))
         interrupted = is_signal
 
 
-def ending_of(walk: Walk, modules: list[Module], missing: Callable[[int], str] | None) -> str | None:
+def without_guess(walk: Walk, start: ThreadStart, found: Object) -> Walk:
+    """A walk that ends with its first frame where that stands in code without a table (names.py)."""
+    if not walk.guessed or why_without_table(found, start.rip) is None:
+        return walk
+    return Walk([start.rip], f"end: no module holds {start.rip:#x}")
+
+
+def ending_of(walk: Walk, loaded: Loaded, missing: Callable[[int], str] | None) -> str | None:
     """Why a thread has no more frames, unless the last one is the outermost."""
     unmapped = UNMAPPED.match(walk.last)
     if unmapped and missing is not None:
         return f"{walk.last} ({missing(int(unmapped[1], 16))})"
     if walk.last != "end":
-        return walk.last or "the report ends here"
+        return None if walk.last == OUTERMOST else with_reason(walk.last or "the report ends here", loaded.found)
     counter = walk.addresses[-1] if walk.addresses else 0
     if counter == 0:
         return None
     address = counter if len(walk.addresses) == 1 else counter - 1
-    module = module_at(modules, address)
-    if module is None:
-        return f"end: no module holds {address:#x}"
+    module = module_at(loaded.modules, address)
+    if module is None or why_without_table(loaded.found, address):
+        return with_reason(f"end: no module holds {address:#x}", loaded.found)
     return f"end: no description of {os.path.basename(module.path)}+{(address - module.bias) % WORD:#x}"
 
 
@@ -173,19 +186,19 @@ def names_of(frames: set[ReportedFrame], loaded: Loaded) -> dict[ReportedFrame, 
 
 
 def thread_lines(
-    report: str, starts: list[ThreadStart], loaded: Loaded, missing: Callable[[int], str] | None = None
+    walks: list[Walk], starts: list[ThreadStart], loaded: Loaded, missing: Callable[[int], str] | None = None
 ) -> list[list[str]]:
-    """The lines of each thread of a report: its frames, and why there are no more."""
-    walks = walks_of(report)
+    """The lines of each thread: its frames, and why there are no more."""
     if len(walks) != len(starts):
         raise Refused(f"the report has {len(walks)} threads, and the core {len(starts)}")
+    walks = [without_guess(walk, start, loaded.found) for walk, start in zip(walks, starts)]
     restorers = restorers_of(loaded, walks)
     frames = [list(frames_of(walk, start, restorers)) for walk, start in zip(walks, starts)]
     names = names_of({frame for here in frames for frame in here}, loaded)
     found = []
     for walk, here in zip(walks, frames):
         texts = [text for frame in here for text in names[frame]]
-        ending = ending_of(walk, loaded.modules, missing)
+        ending = ending_of(walk, loaded, missing)
         found.append([f"#{level} {text}" for level, text in enumerate(texts)] + ([ending] if ending else []))
     return found
 
@@ -209,7 +222,7 @@ def main() -> None:
         with open(sys.argv[1], encoding="ascii") as stream:
             report = stream.read()
         starts = [start_of(thread) for thread in found["threads"]]
-        print(titled(thread_lines(report, starts, Loaded(modules_of(found))), starts))
+        print(titled(thread_lines(walks_of(report), starts, Loaded(found)), starts))
     except (Refused, OSError, KeyError, UnicodeDecodeError) as error:
         sys.exit(f"core_names.py: {error}")
 

@@ -21,6 +21,8 @@ from frame_table import Table, common_entries
 from known_frame import CALLEE_SAVED
 from tables import COLUMNS, Entry, Row, entries_of, with_arguments
 
+WORDS = {"exp": "expression", "vexp": "value expression", "u": "undefined", "s": "same value"}
+
 
 def word(claim: dict[str, Any], name: str) -> int | None:
     """A number of a claim."""
@@ -47,17 +49,25 @@ def is_rule(claim: dict[str, Any], column: str, rule: str) -> bool:
     return found is not None and word(claim["saved"], names[0]) == int(found[1])
 
 
+def in_words(said: str) -> str:
+    """What `readelf` has of a CFA or of a rule, in the words of an audit. Of an expression the bytes may follow."""
+    found = re.match(r"(\w+)([+-]\d+)$", said)
+    if found is None:
+        return WORDS.get(said.split()[0], said)
+    return f"{found[1]}{int(found[2]):+#x}"
+
+
 def mismatch(claim: dict[str, Any], row: Row) -> str:
-    """Why a row doesn't say a claim, or nothing."""
+    """Why a row doesn't say a claim, and what it says; or nothing."""
     if not is_cfa(claim, row):
-        return "cfa"
+        return f"cfa {in_words(row['cfa'])}"
     rules = {int(column[1:]): rule for column, rule in row.items() if column.startswith("r")}
     for column, rule in sorted(rules.items()):
         if not is_rule(claim, f"r{column}", rule):
-            return f"rule {column}"
+            return f"rule {column} {in_words(rule)}"
     for name in ("ra", "rbx", "rbp", "r12", "r13", "r14", "r15"):
         if COLUMNS[name] not in rules and not is_rule(claim, f"r{COLUMNS[name]}", "s"):
-            return f"rule {COLUMNS[name]}"
+            return f"rule {COLUMNS[name]} none"
     return ""
 
 

@@ -7,7 +7,7 @@ a table only the CIEs are read.
 from __future__ import annotations
 
 import struct
-from typing import Iterator, NamedTuple
+from typing import Callable, Iterator, NamedTuple
 
 from elf_image import WORD, Range, Refused
 
@@ -35,6 +35,13 @@ class Entry(NamedTuple):
     identity_offset: int
     identity: int
     end: int
+
+
+class Described(NamedTuple):
+    """What a description covers, and the address of its language table, where it has one."""
+
+    covers: Range
+    language_table: int | None
 
 
 class CommonEntry(NamedTuple):
@@ -139,6 +146,42 @@ def personality_cells(table: Table) -> list[Range]:
             cell = encoded_pointer(table, offset, encoding)
             found.add(Range(cell, cell + 8))
     return sorted(found)
+
+
+def personality_routines(table: Table, read: Callable[[int, int], bytes]) -> set[int]:
+    """The addresses of the routines that the table names, some by cells of the memory that `read` reads."""
+    found = set()
+    for entry in common_entries(table).values():
+        if entry.personality is not None:
+            encoding, offset = entry.personality
+            address = encoded_pointer(table, offset, encoding)
+            found.add(int.from_bytes(read(address, 8), "little") if encoding & INDIRECT else address)
+    return found
+
+
+def language_table_of(table: Table, entry: Entry, common: CommonEntry) -> int | None:
+    """The address of the language table that a description names."""
+    if common.language_table == OMITTED:
+        return None
+    offset = uleb128(table.content, entry.identity_offset + 4 + 2 * encoded_size(common.address_encoding))[1]
+    if not any(table.content[offset : offset + encoded_size(common.language_table)]):
+        return None
+    return encoded_pointer(table, offset, common.language_table)
+
+
+def described_at(table: Table, addresses: set[int]) -> list[Described]:
+    """The descriptions of a table that contain one of the addresses."""
+    commons, found = common_entries(table), []
+    for entry in entries(table):
+        common = commons.get(entry.identity_offset - entry.identity) if entry.identity else None
+        if common is None:
+            continue
+        offset, encoding = entry.identity_offset + 4, common.address_encoding
+        start = encoded_pointer(table, offset, encoding)
+        covers = Range(start, start + encoded_pointer(table, offset + encoded_size(encoding), encoding & 0x0F))
+        if any(covers.contains(address) for address in addresses):
+            found.append(Described(covers, language_table_of(table, entry, common)))
+    return found
 
 
 def signal_trampolines(table: Table) -> list[Range]:

@@ -45,7 +45,9 @@ __all__ = [
 ]
 
 # A frame of a backtrace, with what is said of it; or of a walk, where that outside of the outermost one returns to 0.
-FRAME_LINE = re.compile(r"^#\d+ +(0x[0-9a-f]+)\b.*?( \(.*\))?$|^frame \d+ ra=(?!0x0 )(0x[0-9a-f]+) ")
+FRAME_LINE = re.compile(
+    r"^#\d+ +(0x[0-9a-f]+)\b.*?( \(.*\))?(?: sp=0x[0-9a-f]+(?: \w+=0x[0-9a-f]+)*)?$|^frame \d+ ra=(?!0x0 )(0x[0-9a-f]+) "
+)
 THREAD_LINE = re.compile(r"^[Tt]hread ")
 NO_MODULE = re.compile(r"end: no module holds (0x[0-9a-f]+)$")
 OUTERMOST = ("end: the outermost frame, which returns to 0", "end")
@@ -181,11 +183,11 @@ def without_guess(report: str, found: Object, interrupted: bool) -> str:
     the stack pointer is a return address after a call through a null pointer, and in code it is one at a function's first
     instruction alone."""
     lines = report.splitlines(keepends=True)
-    if len(lines) < 2 or not lines[1].rstrip("\n").endswith(GUESSED):
+    frames = reported_frames("".join(lines[:2]), interrupted, [])
+    if len(frames) < 2 or frames[1].note != GUESSED:
         return report
-    (first,) = reported_frames(lines[0], interrupted, [])
-    reason = why_without_table(found, first.address)
-    return f"{lines[0]}end: no module holds {first.address:#018x}\n" if reason else report
+    reason = why_without_table(found, frames[0].address)
+    return f"{lines[0]}end: no module holds {frames[0].address:#018x}\n" if reason else report
 
 
 # ---- the backtrace

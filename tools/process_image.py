@@ -223,7 +223,7 @@ class Process(Core):
         number = self.number = numbers[0]
         self.mappings = mappings_of(number)
         self.memories = [
-            Memory(place.start, place.start, size, size, size)
+            Memory(place.start, place.start, size, size, size, mapping.executable)
             for mapping in self.mappings if mapping.readable and mapping.file not in OF_SYSTEM
             if (place := mapping.place) and (size := place.end - place.start)
         ]

@@ -25,7 +25,7 @@ from core import Loaded, Taken
 from elf_image import Refused
 from flame_picture import Drawing, picture_of
 from flamegraph import Moment, moment_of, named_counts, named_lines, program_of
-from process_backtrace import built_path, module_entries, run, short_text
+from thread_reports import built_path, module_entries, run, short_text
 from process_samples import samples_object, taken_samples
 from snapshot_file import Object, region_object
 

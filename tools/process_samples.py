@@ -15,9 +15,10 @@ import sys
 from core import Taken
 from core_image import Thread
 from elf_image import Refused
-from process_backtrace import module_entries, process_of, short_text, taken_of
+from process_backtrace import process_of, taken_of
 from process_image import registers_of, stopped, thread_name
 from snapshot_file import MOST_STATES_OF_A_SAMPLE, Object, region_object
+from thread_reports import module_entries, short_text
 
 # So many threads at most are samples of one text.
 MOST_SAMPLES = 65_536
@@ -36,7 +37,7 @@ def taken_samples(number: int) -> tuple[Taken, list[Object]]:
         if len(threads) > MOST_SAMPLES:
             raise Refused(f"it has {len(threads)} threads, and {MOST_SAMPLES} samples are taken")
         samples = [sample_object(thread, thread_name(process.number, thread.number)) for thread in threads]
-        taken, _code = taken_of(process, threads)
+        taken = taken_of(process, threads)
     return taken, samples
 
 

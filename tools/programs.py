@@ -43,8 +43,8 @@ def write_all(file: int, text: bytes) -> None:
 
 def content_of(file: int) -> bytes:
     """All that stands in a file."""
-    parts, place = [], 0
-    while part := os.pread(file, 2**30, place):
+    parts, place, size = [], 0, os.fstat(file).st_size
+    while part := os.pread(file, min(size - place, 2**30), place):
         parts.append(part)
         place += len(part)
     return b"".join(parts)

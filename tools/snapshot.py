@@ -7,7 +7,7 @@
 (-ix reads the script before gdb stops the process; -x does as well, and the process waits meanwhile.)
 
     snapshot FILE [--called | --interrupted] [--stack-bytes N] [--limit N] [--module NAME]... [--header]
-                  [--exception WORD] [--class WORD] [--resume PAD RETURN]...
+                  [--exception WORD] [--class WORD] [--resume PAD RETURN]... [--languages]
     snapshot DIR --threads [--stack-bytes N] [--limit N] [--module NAME]... [--header]
 
 The registers are those of the selected thread's selected frame, which is its innermost one unless
@@ -42,6 +42,7 @@ from snapshot_file import (  # noqa: E402
     MOST_STATES, TABLES, Object, Region, region_object, text_of, without_overlaps, write_folder, write_whole,
 )
 from stacks import StackFrame, stack_front, stack_ranges  # noqa: E402
+from thrown_types import LoadedTables, Thrown, thrown_of  # noqa: E402
 
 REGISTERS = "rip rsp rax rbx rcx rdx rsi rdi rbp r8 r9 r10 r11 r12 r13 r14 r15".split()
 
@@ -50,7 +51,7 @@ REGISTERS = "rip rsp rax rbx rcx rdx rsi rdi rbp r8 r9 r10 r11 r12 r13 r14 r15".
 MOST_FRAMES = 2048
 
 USAGE = """snapshot FILE [--called | --interrupted] [--stack-bytes N] [--limit N] [--module NAME]... [--header]
-                [--exception WORD] [--class WORD] [--resume PAD RETURN]...
+                [--exception WORD] [--class WORD] [--resume PAD RETURN]... [--languages]
        snapshot DIR --threads [--stack-bytes N] [--limit N] [--module NAME]... [--header]"""
 
 
@@ -522,6 +523,49 @@ def modules_of(process: Process, options: argparse.Namespace) -> Loaded:
     return found
 
 
+# ---- the languages of functions
+
+
+def memory_at(address: int, size: int) -> bytes:
+    """Bytes of the process."""
+    return bytes_at(Range(address, address + size), "memory")
+
+
+def table_at(place: Range) -> Table:
+    """A table of a module."""
+    return Table(place.start, bytes_at(place, "a table"))
+
+
+def symbol_at(address: int) -> str:
+    """What gdb calls an address."""
+    return gdb.execute(f"info symbol {address:#x}", to_string=True)
+
+
+def calls_from(frame: gdb.Frame | None) -> set[int]:
+    """The addresses at which the language tables of a frame and its callers are asked: those of their calls."""
+    found = set()
+    with frames_above_main():
+        while frame is not None:
+            found.add(frame.pc() - 1)
+            frame = frame.older()
+    return found
+
+
+def exception_of(frame: gdb.Frame, loaded: Loaded, options: argparse.Namespace) -> Thrown:
+    """What a snapshot says of an exception that a frame throws."""
+    tables = [
+        LoadedTables(table_at(module.frame_table), [table_at(place) for place in module.language_tables])
+        for module in loaded.modules
+    ]
+    return thrown_of(options.exception, getattr(options, "class"), tables, calls_from(frame), memory_at, symbol_at)
+
+
+def thrown_object(thrown: Thrown) -> Object:
+    """The members for `unwind_cli throw`."""
+    words = {"types": thrown.types, "personalities": thrown.personalities}
+    return {key: [f"{word:#x}" for word in found] for key, found in words.items()} | {"foreign": thrown.is_foreign}
+
+
 # ---- the snapshot
 
 
@@ -554,7 +598,9 @@ def snapshot_object(options: argparse.Namespace) -> Object:
     process = stopped_process()
     loaded = modules_of(process, options)
     stacks = stacks_of(frame, process, options)
-    found: Object = {"regions": regions_at(stacks + loaded.places())} | loaded.objects() | {
+    thrown = exception_of(frame, loaded, options) if options.languages else None
+    cells = thrown.cells if thrown else []
+    found: Object = {"regions": regions_at(stacks + loaded.places() + cells)} | loaded.objects() | {
         "start": start_object(registers),
         "limit": options.limit,
         "interrupted": interrupted,
@@ -565,7 +611,7 @@ def snapshot_object(options: argparse.Namespace) -> Object:
             found[key] = f"{getattr(options, key):#x}"
     if options.resume:
         found["resumes"] = [[f"{pad:#x}", f"{back:#x}"] for pad, back in options.resume]
-    return found
+    return found | (thrown_object(thrown) if thrown else {})
 
 
 # ---- all threads
@@ -669,14 +715,21 @@ def arguments() -> Arguments:
     parser.add_argument("--exception", type=word, metavar="WORD")
     parser.add_argument("--class", type=word, metavar="WORD")
     parser.add_argument("--resume", type=word, nargs=2, action="append", default=[], metavar=("PAD", "RETURN"))
+    parser.add_argument("--languages", action="store_true")
     return parser
 
 
 def check_threads(options: argparse.Namespace) -> None:
     """Refuses what is said of one frame where all threads are asked for."""
     for name in ("interrupted", "exception", "class"):
-        if getattr(options, name) is not None or options.resume:
+        if getattr(options, name) is not None or options.resume or options.languages:
             raise Refused("--threads takes each thread where it was stopped, and no delivery")
+
+
+def check_languages(options: argparse.Namespace) -> None:
+    """Refuses to say of no exception what languages ask of it."""
+    if options.languages and None in (options.exception, getattr(options, "class")):
+        raise Refused("--languages is of an exception: it wants --exception and --class")
 
 
 def write_snapshot(text: str) -> None:
@@ -686,6 +739,7 @@ def write_snapshot(text: str) -> None:
         check_threads(options)
         write_threads(options)
     else:
+        check_languages(options)
         write_whole(options.file, text_of(snapshot_object(options)))
         print(f"wrote {options.file}")
 
@@ -694,7 +748,7 @@ class SnapshotCommand(gdb.Command):
     """Write a snapshot of the selected frame, or of all threads, for unwind_cli.
 
 snapshot FILE [--called | --interrupted] [--stack-bytes N] [--limit N] [--module NAME]... [--header]
-              [--exception WORD] [--class WORD] [--resume PAD RETURN]...
+              [--exception WORD] [--class WORD] [--resume PAD RETURN]... [--languages]
 snapshot DIR --threads [--stack-bytes N] [--limit N] [--module NAME]... [--header]
 
 --threads      write a folder: tables.json, and thread-ID.json for each thread (tools/join.py)
@@ -705,7 +759,9 @@ snapshot DIR --threads [--stack-bytes N] [--limit N] [--module NAME]... [--heade
 --limit N      the most states of a walk (1048576)
 --module NAME  take this module, by its path or its file's name; without it all are taken
 --header       let modules that have an .eh_frame_hdr name it in place of .eh_frame
---exception, --class, --resume   what the snapshot says of a delivery"""
+--exception, --class, --resume   what the snapshot says of a delivery
+--languages    also by which types handlers of C++ take the exception, and which routines are C++'s,
+               for unwind_cli throw"""
 
     def __init__(self) -> None:
         super().__init__("snapshot", gdb.COMMAND_DATA, gdb.COMPLETE_FILENAME)

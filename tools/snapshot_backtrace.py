@@ -19,7 +19,7 @@ from typing import Iterator, NamedTuple
 from check_schema import faults_of
 from elf_image import Refused
 from names import backtraces
-from process_backtrace import built_path, short_text
+from thread_reports import built_path, short_text
 from programs import run_program
 from snapshot_file import MOST_BYTES, Object, read_snapshot
 
@@ -70,12 +70,6 @@ def said_of(status: int, printed: str, found: Object) -> list[str]:
     return lines
 
 
-def faults_in(threads: list[Stopped], printed: str, status: int) -> list[str]:
-    """Why a program printed nothing of threads: of the first in which the schema finds a fault, or else of the first."""
-    faulty = [stopped.snapshot for stopped in threads if faults_of(stopped.snapshot)] if status == 7 else []
-    return said_of(status, printed, [*faulty, *(stopped.snapshot for stopped in threads)][0] if threads else {})
-
-
 def lines_of(found: Object, threads: list[Stopped], options: Options) -> Iterator[list[str]]:
     """The lines of each thread. Refuses where the program does."""
     words = ["--samples"] if "samples" in found else []
@@ -85,7 +79,7 @@ def lines_of(found: Object, threads: list[Stopped], options: Options) -> Iterato
         raise Refused(f"{options.program} isn't built: run `rt run < stdin` in crates/backtrace")
     printed = done.output.decode("ascii", "replace")
     if done.status != 0:
-        raise Refused("\n".join(faults_in(threads, printed, done.status)))
+        raise Refused("\n".join(said_of(done.status, printed, found)))
     for stopped, lines in zip(threads, backtraces(printed, found, [])):
         yield [stopped.head, *lines[1:]] if stopped.head else lines
 
@@ -95,9 +89,9 @@ def printed(options: Options) -> str:
     found = read_snapshot(options.file)
     threads = list(threads_of(found))
     if options.strict:
-        faults = [fault for stopped in threads for fault in faults_of(stopped.snapshot)]
+        faults = faults_of(found)
         if faults:
-            raise Refused("\n".join(dict.fromkeys(faults)))
+            raise Refused("\n".join(faults))
     return "\n\n".join("\n".join(lines) for lines in lines_of(found, threads, options))
 
 

@@ -15,15 +15,16 @@ from unittest import mock
 
 import audit
 import changed_tables
-from audit import asked, audited, is_other, line_of, print_audit, read_report, row_of, summary_of, texts_of, Found, Names
+from audit import asked, audited, counts_of, is_other, line_of, print_audit, read_report, row_of, summary_of, texts_of, Found, Names
 from claimed_facts import claim_object, claimed_in, tables_of
 from code_file import CodeFile
 from code_flow import CodeFlow
 from collections import Counter
 from elf_image import Refused
+from expected_audit import in_words
 from frame_programs import descriptions_of, rows_of
 from frame_table import Table
-from process_backtrace import Answer
+from thread_reports import Answer
 from tables import COLUMNS, Row
 
 SCRIPT = pathlib.Path(__file__).parent / "audit.sh"
@@ -82,21 +83,21 @@ def built(folder: str) -> str:
 
 
 def differs(claim: dict[str, object], row: Row | None) -> str | None:
-    """Why a row doesn't say a claim."""
+    """Why a row doesn't say a claim, and what it says."""
     if row is None:
         return "fault"
     known = {f"r{COLUMNS[name]}+{int(str(claim[name]), 16)}" for name in ("rsp", "rbp") if name in claim}
     if row["cfa"] not in known:
-        return "cfa"
+        return f"cfa {in_words(row['cfa'])}"
     saved, kept = claim.get("saved", {}), claim.get("kept", [])
     assert isinstance(saved, dict) and isinstance(kept, list)
     for name in SAVED:
         rule = row.get(f"r{COLUMNS[name]}", "s")
         if not (rule == "s" and name in kept or name in saved and rule == f"c-{int(saved[name], 16)}"):
-            return f"rule {COLUMNS[name]}"
+            return f"rule {COLUMNS[name]} {'none' if rule == 's' else in_words(rule)}"
     known = {f"r{COLUMNS[name]}" for name in SAVED} | {"cfa"}
     others = [name[1:] for name, rule in row.items() if name not in known and (name, rule) != ("r16", "c-8")]
-    return f"rule {others[0] if others else 16}" if others or "r16" not in row else None
+    return f"rule {others[0]} {in_words(row[f'r{others[0]}'])}" if others else None if "r16" in row else "rule 16 none"
 
 
 def stand_in(words: list[str], text: bytes) -> Answer:
@@ -138,10 +139,11 @@ class Texts(unittest.TestCase):
 
     def test_a_report_is_read(self) -> None:
         found = Found({}, Counter())
-        read_report("differ 0x10 claim 1 cfa\ndiffer 0x12 claim 1 rule 3\nclaims 4\ndiffer 1\nwithout a row 0\n", 3, found)
+        read_report("differ 0x10 claim 1 cfa r7-0x8\ndiffer 0x12 claim 1 rule 3 same value\nclaims 4\ndiffer 1\nwithout a row 0\n", 3, found)
         self.assertEqual(found.stretches, {4: [(0x10, "cfa"), (0x12, "rule 3")]})
         self.assertEqual(found.numbers, Counter({"claims": 4, "differ": 1, "without a row": 0}))
-        for report in ("", "claims 4\n", "differ 0x10 claim 1 why\nclaims 4\ndiffer 1\nwithout a row 0\n"):
+        numbers = "claims 4\ndiffer 1\nwithout a row 0\n"
+        for report in ("", "claims 4\n", *(f"differ 0x10 claim 1 {why}\n{numbers}" for why in ("why", "cfa", "cfa c-0x", "rule 3 r"))):
             with self.subTest(report), self.assertRaises(Refused):
                 read_report(report, 0, Found({}, Counter()))
 
@@ -157,12 +159,12 @@ class Places(unittest.TestCase):
     def test_wrong_rows(self) -> None:
         with tempfile.TemporaryDirectory() as folder, mock.patch.object(audit, "run", stand_in):
             path = built(folder)
-            found = audited(path, "unwind_cli")
+            found = audited(CodeFlow(CodeFile(path)), "unwind_cli")
             file = found.flow.file
             names = Names(file)
             lines = [line_of(place, file, names) for place in found.places]
             starts = [start for start, name in sorted(file.functions.items()) if name in ("late", "lost")]
-            summary = summary_of(found, 1)
+            summary = summary_of(path, counts_of(found, 1))
         late, lost = starts
         every = " ".join(SAVED)
         self.assertEqual(lines, [
@@ -181,21 +183,24 @@ class Places(unittest.TestCase):
     def test_what_is_printed(self) -> None:
         with tempfile.TemporaryDirectory() as folder, mock.patch.object(audit, "run", stand_in):
             path = built(folder)
-            for words, count in (({}, 3), ({"all": True}, 4), ({"counts": True}, 1)):
+            lasts = set()
+            for words, count in (({}, 3), ({"all": True}, 4), ({"counts": True}, 1), ({"parts": 2}, 3), ({"parts": 3}, 3)):
                 printed = io.StringIO()
-                options = mock.Mock(unwind_cli="p", **({"all": False, "counts": False} | words))
+                options = mock.Mock(unwind_cli="p", **({"all": False, "counts": False, "parts": 1} | words))
                 with contextlib.redirect_stdout(printed):
                     print_audit(path, options)
                 self.assertEqual(printed.getvalue().count("\n"), count)
+                lasts.add(printed.getvalue().splitlines()[-1])
+            self.assertEqual(len(lasts), 1)
 
     def test_a_difference_where_no_row_begins_is_refused(self) -> None:
-        report = "differ 0x1 claim 0 cfa\nclaims {}\ndiffer 1\nwithout a row 0\n"
+        report = "differ 0x1 claim 0 cfa expression\nclaims {}\ndiffer 1\nwithout a row 0\n"
         with tempfile.TemporaryDirectory() as folder:
             path = built(folder)
             count = len(claimed_in(CodeFlow(CodeFile(path))))
             with mock.patch.object(audit, "run", return_value=Answer(report.format(count), None)):
                 with self.assertRaisesRegex(Refused, "a difference at 0x1 isn't where a row begins"):
-                    audited(path, "unwind_cli")
+                    audited(CodeFlow(CodeFile(path)), "unwind_cli")
 
     def test_rows_of_another_kind(self) -> None:
         row = {"cfa": "r7+8", "r3": "r8", "r12": "c-16", "r16": "r2"}

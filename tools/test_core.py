@@ -19,14 +19,13 @@ import unittest
 from unittest import mock
 
 from core import (
-    Source, apart, biases_of, bounded, common_size, file_modules, frame_table, interrupted_pointers, points_into,
+    Source, apart, biases_of, bounded, code_of_no_file, common_size, file_modules, frame_table, interrupted_pointers, points_into,
     program_name, stacks_of, words_of,
 )
 from core_backtrace import Options, read_words
 from core_image import Core, Mapped, Memory, core_with, mapped_of, notes_of
-from core_names import Loaded, ThreadStart, Walk, ending_of, frames_of, walks_of
+from core_names import Loaded, ThreadStart, Walk, ending_of, frames_of, walk_of, walks_of, without_guess
 from elf_image import ElfImage, Range, Refused
-from names import Module
 
 # e_ident: class 64, lowest byte first; e_type CORE, e_machine x86-64, e_phoff 64, e_ehsize 64, two headers of 56 bytes
 HAND_HEADER = (
@@ -195,7 +194,11 @@ class ModulesTest(unittest.TestCase):
         self.folder = tempfile.TemporaryDirectory()
         self.addCleanup(self.folder.cleanup)
         self.file = str(pathlib.Path(self.folder.name) / "program")
-        subprocess.run(["gcc", "-x", "c", "-", "-pie", "-o", self.file], input=b"int main(void){return 0;}", check=True)
+        self.build()
+
+    def build(self, *words: str) -> None:
+        """Builds the file, and reads what readelf says of it."""
+        subprocess.run(["gcc", "-x", "c", "-", "-pie", "-o", self.file, *words], input=b"int main(void){return 0;}", check=True)
         text = subprocess.run(["readelf", "-lSW", self.file], capture_output=True, text=True, check=True).stdout
         self.loads = [[int(word, 16) for word in row.split()[1:3]] for row in re.findall(r"^ +(LOAD .*)$", text, re.M)]
         row = re.search(r"\.eh_frame +PROGBITS +([0-9a-f]+) [0-9a-f]+ ([0-9a-f]+)", text)
@@ -220,28 +223,52 @@ class ModulesTest(unittest.TestCase):
         with open(self.file, "rb") as stream, self.assertRaisesRegex(Refused, "none of its segments is what was mapped"):
             biases_of(ElfImage(stream), [Mapped(Range(0x1000, 0x2000), 0x12345000, "other")])
 
-    def test_program_that_has_moved(self) -> None:
-        bias = 0x555500000000
+    def moved(self, bias: int) -> tuple[Core, int]:
+        """A core of the program, which had another name when it ran, and its entry point."""
         parts = self.parts(bias, "/nonexistent/program")
         rows = [word for part in parts for word in (part.place.start, part.place.end, part.offset // 4096)]
         names = b"/nonexistent/program\0" * len(parts)
         entry = parts[1].place.start
         notes = bytes.fromhex(HAND_NOTE) + note(0x46494C45, struct.pack(f"<{2 + len(rows)}Q", len(parts), 4096, *rows) + names)
         notes += note(6, struct.pack("<4Q", 9, entry, 0, 0))
-        core = core_of(changed(64 + 32, struct.pack("<Q", len(notes)).hex())[:176] + notes)
+        return core_of(changed(64 + 32, struct.pack("<Q", len(notes)).hex())[:176] + notes), entry
+
+    def test_program_that_has_moved(self) -> None:
+        bias = 0x555500000000
+        core, entry = self.moved(bias)
         self.assertEqual(program_name(core, core.mapped()), "/nonexistent/program")
-        (found,) = file_modules(core, Source(self.file), [entry])
-        self.assertEqual((found.module.bias, found.table.start), (bias, bias + self.table[0]))
+        (found,), code = file_modules(core, Source(self.file), [entry])
+        self.assertEqual((found.module.bias, found.table.start, code), (bias, bias + self.table[0], []))
+
+    def test_program_without_a_table(self) -> None:
+        self.build("-Wl,--no-eh-frame-hdr")
+        subprocess.run(["objcopy", "--remove-section=.eh_frame", self.file], check=True)
+        core, entry = self.moved(0x555500000000)
+        with contextlib.redirect_stderr(io.StringIO()):
+            loaded, code = file_modules(core, Source(self.file), [entry])
+        self.assertEqual((loaded, {entry["path"] for entry in code}), ([], {os.path.realpath(self.file)}))
+        self.assertTrue(all(entry["program"] for entry in code))
+        self.assertTrue(any(int(piece["start"], 16) <= entry < int(piece["end"], 16) for piece in code))
+
+    def test_executable_memory_of_no_file(self) -> None:
+        """By the gABI's flags of a segment, of which 1 says that it can be run."""
+        memory = struct.pack("<IIQQQQQQ", 1, 5, 532, 0x7000, 0, 16, 32, 0)
+        core = core_of(HAND[:120] + memory + HAND[176:])
+        self.assertEqual(code_of_no_file(core, []), [{"start": "0x7000", "end": "0x7020"}])
+        self.assertEqual(code_of_no_file(core, [Mapped(Range(0x7000, 0x7020), 0, "/bin/a")]), [])
+        self.assertEqual(len(code_of_no_file(core, [Mapped(Range(0x7000, 0x7020), 0, "/memfd:jit (deleted)")])), 1)
+        self.assertEqual(code_of_no_file(core_of(HAND), []), [])
 
 
 class WordsTest(unittest.TestCase):
     """The words of core_backtrace.py."""
 
     def test_words(self) -> None:
-        with mock.patch.dict(os.environ, {"UNWIND_CLI": "built/unwind_cli"}):
-            self.assertEqual(read_words(["p", "c"]), Options("p", "c", False, "built/unwind_cli", ""))
+        with mock.patch.dict(os.environ, {"UNWIND_CLI": "built/unwind_cli", "BACKTRACE": "built/backtrace"}):
+            built = {"backtrace": "built/backtrace", "unwind_cli": "built/unwind_cli"}
+            self.assertEqual(read_words(["p", "c"]), Options("p", "c", False, built, ""))
             words = ["--root", "/r", "p", "--threads", "c", "--unwind-cli", "u"]
-            self.assertEqual(read_words(words), Options("p", "c", True, "u", "/r"))
+            self.assertEqual(read_words(words), Options("p", "c", True, built | {"unwind_cli": "u"}, "/r"))
 
     def test_other_words_are_refused(self) -> None:
         for words in ([], ["p"], ["p", "c", "d"], ["p", "c", "--root"], ["p", "--thread"]):
@@ -271,19 +298,56 @@ class NamesTest(unittest.TestCase):
         self.assertEqual([frame.address for frame in found], [0x401006, 0x500000, 0x402000, 0x402FFF])
         self.assertEqual([frame.is_signal for frame in found], [False, True, False, False])
 
+    # A file at 0x400000, and code without a table, of a file and of none.
+    FOUND = {
+        "modules": [{"path": "/bin/a", "bias": "0x400000", "start": "0x401000", "end": "0x402000"}],
+        "code": [
+            {"start": "0x800000", "end": "0x801000", "path": "/bin/bare", "bias": "0x0"}, {"start": "0x900000", "end": "0x901000"},
+        ],
+    }
+
     def test_endings(self) -> None:
-        modules = [Module("/bin/a", 0x400000, 0x401000, 0x402000, None)]
         cases = {
             None: Walk([0x401006, 0], "end"),
             "end: no description of a+0x1fff": Walk([0x401006, 0x402000], "end"),
             "end: no module holds 0x41414140": Walk([0x401006, 0x41414141], "end"),
+            "end: no module holds 0x800006: bare has no frame table": Walk([0x401006, 0x800007], "end"),
+            "end: no module holds 0x900006: the code there is of no file": Walk([0x401006, 0x900007], "end"),
             "refused: unmapped 0x7008 (where the core is cut off)": Walk([], "refused: unmapped 0x7008"),
             "refused: table UnknownInstruction": Walk([], "refused: table UnknownInstruction"),
         }
         core = core_of(HAND[:540])
         for text, walk in cases.items():
             with self.subTest(text):
-                self.assertEqual(ending_of(walk, Loaded(modules).modules, core.missing_at), text)
+                self.assertEqual(ending_of(walk, Loaded(self.FOUND), core.missing_at), text)
+
+    def test_endings_of_backtraces(self) -> None:
+        """Their lines as docs/FORMATS.md has them."""
+        cases = {
+            "#0  0x0000000000401006 in a+0x1006\nend: the outermost frame, which returns to 0\n": None,
+            "#0  0x0000000000401006 in a+0x1006\nend: no caller of 0x0000000000401006 in a b+0x1006: unmapped 0x7008\n":
+                "end: no caller of 0x0000000000401006 in a b+0x1006: unmapped 0x7008 (where the core is cut off)",
+            "#0  0x0000000000800006\nend: no module holds 0x0000000000800006\n":
+                "end: no module holds 0x0000000000800006: bare has no frame table",
+        }
+        core = core_of(HAND[:540])
+        for report, text in cases.items():
+            with self.subTest(report):
+                walk = walk_of(f"\n{report}")
+                self.assertEqual(walk.addresses, [int(report.split()[1], 16)])
+                self.assertEqual(ending_of(walk, Loaded(self.FOUND), core.missing_at), text)
+
+    def test_guesses(self) -> None:
+        """After a call through a null pointer the second frame is marked. In code without a table there is none."""
+        text = "\n#0  {}\n#1  0x0000000000401006 in a+0x1006 (return address on the stack)\nend: no module holds {}\n"
+        for address, count in ((0, 2), (0x900008, 1), (0x123456, 2)):
+            with self.subTest(address):
+                start = ThreadStart(77, address)
+                walk = without_guess(walk_of(text.format(f"{address:#018x}", "0x0000000000000008")), start, self.FOUND)
+                frames = list(frames_of(walk, start, set()))
+                self.assertEqual([frame.counter for frame in frames], [address, 0x401006][:count])
+                self.assertEqual([frame.note for frame in frames], ["", " (return address on the stack)"][:count])
+                self.assertEqual([frame.address for frame in frames], [address, 0x401005][:count])
 
 
 if __name__ == "__main__":

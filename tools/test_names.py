@@ -96,11 +96,13 @@ class Reports(unittest.TestCase):
             "#0  0x0000000000000000\n#1  0x0000000000000205 in a+0x205 (return address on the stack)\n"
             "#2  0x0000000000000300 in (a)+0x300\n#10 0x0000000000000400 sp=0x1\nend: more frames than the limit\n"
         )
+        registers = report.replace("stack)\n", "stack) sp=0x10 rbx=0x0 r15=0xff\n")
         expected = [
             ReportedFrame(0, 0), ReportedFrame(0x205, 0x204, note=" (return address on the stack)"),
             ReportedFrame(0x300, 0x2FF), ReportedFrame(0x400, 0x3FF),
         ]
         self.assertEqual(reported_frames(report, True, []), expected)
+        self.assertEqual(reported_frames(registers, True, []), expected)
         self.assertEqual(last_line(report), "end: more frames than the limit")
         self.assertIsNone(last_line("#0  0x0000000000000100\nend: the outermost frame, which returns to 0\n"))
 

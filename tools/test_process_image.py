@@ -1,7 +1,6 @@
 """Tests of process_image.py, process_status.py and process_backtrace.py: processes that are started here."""
 from __future__ import annotations
 
-import json
 import os
 import pathlib
 import subprocess
@@ -11,16 +10,13 @@ import time
 import unittest
 from unittest import mock
 
-import process_backtrace
 import process_status
-from core import Loaded
+from core import by_file
 from core_image import Mapped, Memory, thread_of
 from elf_image import Range, Refused
-from loaded_module import Module
-from process_backtrace import Answer, Programs, Taken, by_file, process_of, reports_of, run, stacks_under
+from process_backtrace import process_of
 from process_image import Mapping, Process, mapping_of, registers_of, status_note, stopped
 from process_status import why_no_process, why_untraced
-from snapshot_file import Object, Region
 
 # A program that waits, with two threads and a word that is known in its memory.
 WAITING = """
@@ -183,14 +179,6 @@ class PartsTest(unittest.TestCase):
         self.assertEqual(registers_of(thread)["rbx"], 0xB)
         self.assertEqual((len(note.description), len(note.text)), (336, 12 + 8 + 336))
 
-    def test_stacks_of_one_thread(self) -> None:
-        """By `struct sigcontext_64`: the interrupted RSP, 24 bytes before the segments of user space."""
-        signal_frame = bytes(8) + (0x9010).to_bytes(8, "little") + bytes(16) + bytes.fromhex("3300000000002b00")
-        first, other, third = Region(0x7000, bytes(8) + signal_frame), Region(0x8000, bytes(64)), Region(0x9000, bytes(64))
-        self.assertEqual(stacks_under([first, other, third], 0x7008), [first, third])
-        self.assertEqual(stacks_under([first, other, third], 0x7FF0), [other])
-        self.assertEqual(stacks_under([first], 0x9000), [])
-
     def test_a_part_of_a_heap(self) -> None:
         """A stack pointer in a mapping that may be a heap: so much above it, and no more."""
         process = object.__new__(Process)
@@ -204,65 +192,6 @@ class PartsTest(unittest.TestCase):
     def test_the_programs_parts_come_first(self) -> None:
         parts = [Mapped(Range(0, 1), 0, "/lib/a"), Mapped(Range(1, 2), 0, "/bin/b"), Mapped(Range(2, 3), 1, "/lib/a")]
         self.assertEqual(by_file(parts, "/bin/b"), {"/bin/b": [parts[1]], "/lib/a": [parts[0], parts[2]]})
-
-    def test_what_is_no_whole_walk_is_walked_once_more(self) -> None:
-        registers = bytes(27 * 8)
-        threads = [thread_of(status_note(number, registers)) for number in (1, 2, 3)]
-        walks = ["frame 0 ra=0x1 sp=0x2\nframe 1 ra=0x0 sp=0x3\nend\n", "refused: unmapped 0x8\n", "frame 0 ra=0x5 sp=0x6\nend\n"]
-        core = "".join(f"thread {index}\n{walk}" for index, walk in enumerate(walks))
-
-        def answer(words: list[str], _text: bytes) -> Answer:
-            return Answer(core) if words[1:] == ["core"] else Answer("#0  0x9\nend: a reason\n")
-
-        with mock.patch.object(process_backtrace, "run", answer):
-            taken = Taken(threads, [], [])
-            again = "#0  0x9\nend: a reason\n"
-            self.assertEqual(reports_of(taken, Programs("backtrace", "unwind_cli")), [walks[0], again, again])
-            self.assertEqual(reports_of(taken, Programs(None, "unwind_cli")), walks)
-            self.assertEqual(reports_of(taken, Programs("backtrace", None)), [again] * 3)
-            self.assertEqual(reports_of(Taken(threads[:1], [], []), Programs("backtrace", "unwind_cli")), [again])
-
-    def test_frame_pointers(self) -> None:
-        """A stop in code without a table, whose caller is found by RBP, and that one's by its table."""
-        words = {0x7010: 0x7030, 0x7018: 0x401006, 0x7030: 0x7050, 0x7038: 0x9999}
-        content = b"".join(words.get(address, 0).to_bytes(8, "little") for address in range(0x7000, 0x7080, 8))
-        registers = {16: 0x900010, 19: 0x7008, 4: 0x7010}
-        thread = thread_of(status_note(1, b"".join(registers.get(index, 0).to_bytes(8, "little") for index in range(27))))
-        module = Module("/bin/a", 0, None, [Range(0x401000, 0x402000)], Range(0, 0), None, [], [])
-        taken = Taken([thread], [Region(0x7000, content)], [Loaded(module, Region(0x500000, bytes(4)))])
-        code: list[Object] = [{"start": "0x900000", "end": "0x901000"}]
-        texts: list[Object] = []
-
-        def answer(_words: list[str], text: bytes) -> Answer:
-            texts.append(json.loads(text))
-            kept = "rbx=0x0 rbp={} r12=0x0 r13=0x0 r14=0x0 r15=0x0"
-            if len(texts) <= 2:
-                return Answer(f"#0  0x0000000000900010 sp=0x7008 {kept.format('0x7010')}\n"
-                              f"#1  0x0000000000000007 (return address on the stack) sp=0x7010 {kept.format('0x0')}\n"
-                              "end: no module holds 0x0000000000000006\n")
-            return Answer(f"#0  0x0000000000401006 in a+0x401006 sp=0x7020 {kept.format('0x7030')}\n"
-                          f"#1  0x0000000000900020 sp=0x7028 {kept.format('0x7030')}\nend: no module holds 0x000000000090001f\n")
-
-        with mock.patch.object(process_backtrace, "run", answer):
-            (report,) = reports_of(taken, Programs("backtrace", None), code)
-        self.assertEqual(report, "#0  0x0000000000900010\n#1  0x0000000000401006 (a guess, by the frame pointer)\n"
-                                 "#2  0x0000000000900020\nend: no module holds 0x000000000090001f\n")
-        self.assertEqual([text["interrupted"] for text in texts[1:]], [True, False])
-        self.assertEqual([texts[2]["start"][name] for name in ("rip", "rsp", "rbp")], ["0x401006", "0x7020", "0x7030"])
-
-    def test_programs_that_fail(self) -> None:
-        """What a program says stands in the line, also where it ends before it has read anything."""
-        thread = thread_of(status_note(1, bytes(27 * 8)))
-        with tempfile.TemporaryDirectory() as folder:
-            program = pathlib.Path(folder) / "program"
-            program.write_text("#!/bin/sh\necho bad snapshot: modules\nexit 7\n")
-            program.chmod(0o755)
-            said = f"{program} ended with status 7: bad snapshot: modules"
-            self.assertEqual(run([str(program)], bytes(2**20)).fault, said)
-            for programs in (Programs(str(program), None), Programs(None, str(program)), Programs(str(program), str(program))):
-                with self.assertRaisesRegex(Refused, f"^{said}$"):
-                    reports_of(Taken([thread], [], []), programs)
-            self.assertIn("can't be run: No such file", run([f"{folder}/none"], b"").fault or "")
 
 
 class CommandTest(unittest.TestCase):

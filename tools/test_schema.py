@@ -1,8 +1,9 @@
 """Tests of docs/snapshot.schema.json: it takes the shipped snapshots, and refuses what the format refuses."""
 import copy
+import os
 import unittest
 
-from check_schema import SCHEMA, faults_of, nearest, shipped_files
+from check_schema import REPOSITORY, SCHEMA, faults_of, nearest, shipped_files
 from snapshot_file import read_object
 
 
@@ -10,6 +11,8 @@ try:
     from jsonschema import Draft7Validator
 except ImportError:
     Draft7Validator = None
+
+SAMPLES = os.path.join(REPOSITORY, "examples", "pushed_rbx_samples.json")
 
 
 class Schema(unittest.TestCase):
@@ -57,6 +60,25 @@ class Schema(unittest.TestCase):
                 change(found)
                 self.assertEqual(faults_of(found), [f'{place}: no member "{name}" is known; the nearest is {known}'])
         self.assertEqual(nearest("x", []), "")
+
+    def test_samples(self) -> None:
+        """By docs/FORMATS.md, which has their members."""
+        whole = read_object(SAMPLES)
+        self.assertEqual(faults_of(whole), [])
+        cases = {
+            'samples.1: no member "interupted" is known; the nearest is interrupted': lambda found: found["samples"][1].update(interupted=True),
+            "samples.2: start is missing": lambda found: found["samples"][2].pop("start"),
+            "samples.0.start: rip is missing": lambda found: found["samples"][0]["start"].pop("rip"),
+            'snapshot: no member "start" is known; the nearest is samples': lambda found: found.update(start={}),
+            "limit: it is 1025, more than 1024": lambda found: found.update(limit=1025),
+            "snapshot: regions is missing": lambda found: found.pop("regions"),
+            'samples: "x" is no array': lambda found: found.update(samples="x"),
+        }
+        for fault, change in cases.items():
+            with self.subTest(fault):
+                found = copy.deepcopy(whole)
+                change(found)
+                self.assertEqual(faults_of(found), [fault])
 
     def test_what_is_wrong_in_a_module(self) -> None:
         found = read_object(shipped_files()[-1])

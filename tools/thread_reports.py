@@ -1,0 +1,285 @@
+"""The reports of threads: the built programs find their frames, each of the two in one run for all threads.
+
+    reports_of(taken, programs)      of each thread what a program reports
+
+`taken` are threads, their stacks and modules, of a process that was stopped or of a core. One run of `unwind_cli core` walks all
+threads. Those whose walk doesn't come to the outermost frame are walked once more, in one run of `backtrace --samples`, which
+has the frames up to there and says why there are no more. A sample has a limited number of frames: a thread with more has a
+run of its own. Where one of the two programs isn't built, the other does all.
+
+With frame pointers a report that ends in code without a table goes on by RBP: where that is kept as a frame pointer, the word
+above it is the return address. Such a frame is marked as a guess, and from it on tables count again.
+"""
+from __future__ import annotations
+
+import json
+import os
+import re
+from typing import NamedTuple, Sequence
+
+from core import Taken, interrupted_pointers, object_of, text_path
+from core_image import Thread
+from elf_image import Refused
+from loaded_module import module_objects
+from process_image import registers_of
+from programs import run_program
+from snapshot_file import MOST_BYTES, MOST_STATES, MOST_STATES_OF_A_SAMPLE, Object, Region, region_object
+
+CRATES = os.path.join(os.path.dirname(os.path.realpath(__file__)), "..", "crates")
+
+# How the report of a sample ends that has more frames.
+AT_LIMIT = "end: more frames than the limit\n"
+
+
+class Programs(NamedTuple):
+    """The built programs, those that there are."""
+
+    backtrace: str | None
+    unwind_cli: str | None
+
+
+class Answer(NamedTuple):
+    """What a program prints, and why that is no report, where it is none."""
+
+    text: str
+    fault: str | None = None
+
+
+class Start(NamedTuple):
+    """Where a thread's walk begins: its registers, and whether it stands before its instruction."""
+
+    registers: dict[str, int]
+    interrupted: bool = True
+
+
+def built_path(name: str) -> str:
+    """Where a program is built."""
+    return os.path.normpath(os.path.join(CRATES, name, "out", name))
+
+
+def built_programs(paths: dict[str, str]) -> Programs:
+    """Those of the two programs that can be run. Refuses where there is none."""
+    there = Programs(*(paths[name] if os.access(paths[name], os.X_OK) else None for name in Programs._fields))
+    if there == Programs(None, None):
+        raise Refused(f"{paths['backtrace']} isn't built: run `rt run < stdin` in crates/backtrace")
+    return there
+
+
+# ---- what the programs read
+
+
+def short_text(found: Object) -> bytes:
+    """The text in one line. Refuses one that is longer than the programs take."""
+    text = json.dumps(found).encode("ascii")
+    if len(text) > MOST_BYTES:
+        raise Refused(f"its stacks and tables come to {len(text)} bytes of text, and {MOST_BYTES} are taken")
+    return text
+
+
+def module_entries(taken: Taken) -> list[Object]:
+    """The modules as a snapshot has them."""
+    entries = [entry for one in taken.loaded for entry in module_objects(one.module)]
+    return [entry | {"path": text_path(entry["path"])} for entry in entries]
+
+
+def stacks_under(stacks: list[Region], pointer: int) -> list[Region]:
+    """Of the stacks that on which a pointer stands, and those on which the code stood that signals interrupted there."""
+    found: list[Region] = []
+    pointers = [pointer]
+    while pointers:
+        here = pointers.pop()
+        stack = next((stack for stack in stacks if here < stack.end), None)
+        if stack is not None and stack not in found:
+            found.append(stack)
+            pointers += interrupted_pointers(stack.content)
+    return found
+
+
+def start_object(start: Start) -> Object:
+    """Where a walk begins as a snapshot and a sample have it."""
+    return {"start": {name: f"{value:#x}" for name, value in start.registers.items()}, "interrupted": start.interrupted}
+
+
+def shared_object(taken: Taken, starts: Sequence[Start]) -> Object:
+    """The memory and the modules of threads that begin so."""
+    asked = [stack for start in starts for stack in stacks_under(taken.stacks, start.registers["rsp"])]
+    stacks = [stack for stack in taken.stacks if stack in asked]
+    tables = [region_object(one.table) for one in taken.loaded]
+    return {"regions": [*tables, *map(region_object, stacks)], "modules": module_entries(taken)}
+
+
+def snapshot_of(taken: Taken, start: Start) -> Object:
+    """What `backtrace` reads of one thread."""
+    return shared_object(taken, [start]) | start_object(start) | {"limit": MOST_STATES}
+
+
+def samples_of(taken: Taken, starts: Sequence[Start]) -> Object:
+    """What `backtrace --samples` reads of several."""
+    return shared_object(taken, starts) | {"samples": [*map(start_object, starts)], "limit": MOST_STATES_OF_A_SAMPLE}
+
+
+# ---- walks
+
+
+def run(words: list[str], text: bytes) -> Answer:
+    """What a program says of a text."""
+    try:
+        done = run_program(words, text)
+    except OSError as error:
+        return Answer("", f"{words[0]} can't be run: {error.strerror}")
+    said = done.output.decode("ascii", "replace")
+    if done.status < 0:
+        return Answer(said, f"{words[0]} was ended by the signal {-done.status}")
+    last = (said + done.errors.decode("utf-8", "replace")).strip().rpartition("\n")[2]
+    return Answer(said, f"{words[0]} ended with status {done.status}: {last}".rstrip(": ") if done.status else None)
+
+
+THREAD_LINE = re.compile(r"^thread \d+\n", re.MULTILINE)
+WHOLE_WALK = re.compile(r"^frame \d+ ra=0x0 .*\nend\n\Z", re.MULTILINE)
+
+
+def by_threads(answer: Answer, count: int, program: str) -> list[Answer]:
+    """What a program prints of so many threads, one by one."""
+    walks = THREAD_LINE.split(answer.text)[1:]
+    if answer.fault is None and len(walks) != count:
+        answer = Answer("", f"{program} printed {len(walks)} walks of {count} threads")
+    return [Answer(walk) for walk in walks] if answer.fault is None else [answer] * count
+
+
+def walks_of(taken: Taken, program: str) -> list[Answer]:
+    """The walks of all threads in one run of `unwind_cli core`."""
+    return by_threads(run([program, "core"], short_text(object_of(taken, MOST_STATES))), len(taken.threads), program)
+
+
+def backtraces_of(taken: Taken, starts: Sequence[Start], words: list[str]) -> list[Answer]:
+    """What `backtrace` reports of threads, by one run for all, and by one of its own for each that has more frames than a sample."""
+    if len(starts) == 1:
+        return [run(words, short_text(snapshot_of(taken, starts[0])))]
+    answers = by_threads(run([*words, "--samples"], short_text(samples_of(taken, starts))), len(starts), words[0])
+    return [
+        run(words, short_text(snapshot_of(taken, start))) if answer.text.endswith(AT_LIMIT) else answer
+        for start, answer in zip(starts, answers)
+    ]
+
+
+def is_whole(answer: Answer) -> bool:
+    """Whether a walk comes to the outermost frame."""
+    return answer.fault is None and WHOLE_WALK.search(answer.text) is not None
+
+
+def answers_of(taken: Taken, programs: Programs) -> list[Answer]:
+    """What is found of each thread. One thread alone, and those whose walks aren't whole, are `backtrace`'s to report."""
+    alone = len(taken.threads) == 1 and programs.backtrace is not None
+    no_walks = [Answer("", "no walk")] * len(taken.threads)
+    found = no_walks if alone or programs.unwind_cli is None else walks_of(taken, programs.unwind_cli)
+    rest = [index for index, answer in enumerate(found) if not is_whole(answer)]
+    if programs.backtrace is None or not rest:
+        return found
+    starts = [Start(registers_of(taken.threads[index])) for index in rest]
+    answers = dict(zip(rest, backtraces_of(taken, starts, [programs.backtrace])))
+    return [
+        answers[index] if index in answers and (answers[index].fault is None or answer.fault is not None) else answer
+        for index, answer in enumerate(found)
+    ]
+
+
+# ---- frame pointers
+
+# A frame of `backtrace --registers`, and why there are no more.
+REGISTERS_LINE = re.compile(r"^#\d+ +(0x[0-9a-f]+)\b(.*?) sp=(0x[0-9a-f]+)((?: \w+=0x[0-9a-f]+)+)$", re.MULTILINE)
+NO_TABLE = re.compile(r"end: no module holds (0x[0-9a-f]+)|end: no description of 0x[0-9a-f]+ in \S+")
+BY_POINTER = " (a guess, by the frame pointer)"
+
+
+class Stretch(NamedTuple):
+    """What is known of a thread: the lines so far, and where it goes on, or the answer where it doesn't."""
+
+    lines: list[str]
+    start: Start
+    answer: Answer | None = None
+
+
+def word_at(stacks: list[Region], address: int) -> int | None:
+    """A word of a stack."""
+    for stack in stacks:
+        if stack.start <= address and address + 8 <= stack.end:
+            return int.from_bytes(stack.content[address - stack.start :][:8], "little")
+    return None
+
+
+def caller_by_pointer(stacks: list[Region], registers: dict[str, int]) -> dict[str, int] | None:
+    """The registers of a frame's caller, where RBP points to the caller's RBP and the return address above it."""
+    pointer = registers["rbp"]
+    outer, back = word_at(stacks, pointer), word_at(stacks, pointer + 8)
+    if outer is None or not back or pointer < registers["rsp"] or pointer % 8 != 0:
+        return None
+    return registers | {"rip": back, "rsp": pointer + 16, "rbp": outer}
+
+
+def frames_of(report: str) -> list[tuple[dict[str, int], str]]:
+    """The frames of a report with registers: these, and what is said of each."""
+    found = []
+    for address, said, pointer, kept in REGISTERS_LINE.findall(report):
+        words = {name: int(value, 16) for name, value in (field.split("=") for field in kept.split())}
+        note = re.search(r" \([^()]*\)$", said)
+        found.append((words | {"rip": int(address, 16), "rsp": int(pointer, 16)}, note[0] if note else ""))
+    return found
+
+
+def is_code(code: Sequence[Object], address: int) -> bool:
+    """Whether an address lies in code without a table."""
+    return any(int(entry["start"], 16) <= address < int(entry["end"], 16) for entry in code)
+
+
+def is_known_code(taken: Taken, address: int) -> bool:
+    """Whether an address lies in code at all."""
+    return is_code(taken.code, address) or any(place.contains(address) for one in taken.loaded for place in one.module.code)
+
+
+def frame_lines(frames: list[tuple[dict[str, int], str]], first: int, note: str) -> list[str]:
+    """The lines of frames without registers, of which the first has this number and this note."""
+    return [
+        f"#{first + index}  {here['rip']:#018x}{said if index else note}\n" for index, (here, said) in enumerate(frames)
+    ]
+
+
+def gone_on(taken: Taken, before: Stretch, answer: Answer) -> Stretch:
+    """What is known of a thread with what `backtrace --registers` reports from where it went on."""
+    frames, start = frames_of(answer.text), before.start
+    if answer.fault is not None or not frames:
+        whole = Answer("".join([*before.lines, f"{answer.fault}\n"]), None if before.lines else answer.fault)
+        return before._replace(answer=whole)
+    last = answer.text.splitlines()[-1]
+    if start.interrupted and is_code(taken.code, start.registers["rip"]):
+        frames, last = frames[:1], f"end: no module holds {start.registers['rip']:#018x}"
+    lines = before.lines + frame_lines(frames, len(before.lines), "" if start.interrupted else BY_POINTER)
+    match = NO_TABLE.fullmatch(last)
+    in_code = match is not None and (match[1] is None or is_code(taken.code, int(match[1], 16)))
+    caller = caller_by_pointer(taken.stacks, frames[-1][0]) if in_code else None
+    if caller is None or not is_known_code(taken, caller["rip"] - 1):
+        return Stretch(lines, start, Answer("".join([*lines, f"{last}\n"])))
+    return Stretch(lines, Start(caller, False))
+
+
+def by_pointers(taken: Taken, threads: list[Thread], program: str) -> list[Answer]:
+    """The reports of threads by tables and, in code without a table, by frame pointers: in one run for all, and then in one
+    for those that go on."""
+    stretches = [Stretch([], Start(registers_of(thread))) for thread in threads]
+    while open_ones := [index for index, stretch in enumerate(stretches) if stretch.answer is None]:
+        starts = [stretches[index].start for index in open_ones]
+        for index, answer in zip(open_ones, backtraces_of(taken, starts, [program, "--registers"])):
+            stretches[index] = gone_on(taken, stretches[index], answer)
+    return [stretch.answer for stretch in stretches if stretch.answer is not None]
+
+
+def reports_of(taken: Taken, programs: Programs, frame_pointers: bool = False) -> list[str]:
+    """The report of each thread, or the line that says why there is none. Refuses where there is none of any thread."""
+    answers = answers_of(taken, programs)
+    if frame_pointers and programs.backtrace is not None:
+        rest = [index for index, answer in enumerate(answers) if not is_whole(answer)]
+        guessed = by_pointers(taken, [taken.threads[index] for index in rest], programs.backtrace)
+        answers = [dict(zip(rest, guessed)).get(index, answer) for index, answer in enumerate(answers)]
+    faults = [answer.fault for answer in answers if answer.fault is not None]
+    if faults and len(faults) == len(answers):
+        raise Refused(faults[0])
+    return [answer.text if answer.fault is None else f"{answer.fault}\n" for answer in answers]
