@@ -40,7 +40,7 @@ of_processes() {
     try refused 'a thread of the kernel' "$tools/backtrace.sh" 2
     python3 -c 'import os, time; os.fork() or os._exit(0); time.sleep(60)' &
     processes="$processes $!"
-    sleep 0.5
+    until grep -qs '^State:.Z' "/proc/$(pgrep -P $!)/status"; do sleep 0.1; done
     try refused 'a process that has ended' "$tools/backtrace.sh" "$(pgrep -P $!)"
     start gdb -nx -batch -p "$live" -ex 'shell sleep 5'
     sleep 1
@@ -63,6 +63,24 @@ of_processes() {
     try printed "a process whose program's file is gone" "$tools/backtrace.sh" "$started"
 }
 
+# CORE BYTES: where so many bytes above the first thread's stack pointer stand in the core.
+place_above_pointer() {
+    PYTHONPATH=$tools python3 - "$@" << 'END'
+import sys
+from core_image import Core
+core = Core(open(sys.argv[1], "rb"))
+pointer = core.threads()[0].rsp
+memory = core.memory_at(pointer)
+print(memory.offset + pointer - memory.address + int(sys.argv[2]))
+END
+}
+
+# CORE OFFSET BYTE: the core with another byte there.
+with_byte() {
+    cp "$1" "$scratch/changed"
+    printf '%b' "$3" | dd of="$scratch/changed" bs=1 seek="$2" conv=notrunc status=none
+}
+
 # Cores that lack something, and programs that aren't theirs.
 of_cores() {
     local program=$programs/nested-gcc-O2
@@ -83,7 +101,27 @@ of_cores() {
     try refused 'a program of random bytes' "$tools/backtrace.sh" "$scratch/junk" "$scratch/core"
     try refused 'a program that was cut off' "$tools/backtrace.sh" "$scratch/cut-header" "$scratch/core"
     try refused 'another program' "$tools/backtrace.sh" "$programs/frame_pointer-gcc-O2" "$scratch/core"
+    with_byte "$scratch/core" 4 '\x01'
+    try refused 'a core of 32 bits' "$tools/backtrace.sh" "$program" "$scratch/changed"
+    with_byte "$scratch/core" 18 '\xb7'
+    try refused 'a core of another machine' "$tools/backtrace.sh" "$program" "$scratch/changed"
     try printed 'a core with its program' "$tools/backtrace.sh" "$program" "$scratch/core"
+    cut_cores
+}
+
+# Cores by the system, which has the notes before the memory, cut off in memory. Whatever frames there are have to be printed.
+cut_cores() {
+    local fails=$scratch/faults core size
+    gcc -g -O0 -o "$fails" faults.c
+    mkdir "$scratch/left"
+    (cd "$scratch/left" && ulimit -c unlimited && exec "$fails" abort) > /dev/null 2>&1
+    core=$(find "$scratch/left" -type f | head -1)
+    [ -n "$core" ] || { echo 'the system writes no core here'; return; }
+    for size in -128 0 64 640; do
+        head -c "$(place_above_pointer "$core" "$size")" "$core" > "$scratch/cut"
+        try printed "a core that was cut off $size bytes above its stack pointer" "$tools/backtrace.sh" "$fails" "$scratch/cut"
+        tail -1 "$scratch/said"
+    done
 }
 
 # What is built, and what is installed: `few` has the programs that the tools need and no others.
@@ -97,9 +135,9 @@ of_programs() {
     printf '#!/bin/sh\nexit 9\n' > "$scratch/fails"
     chmod +x "$scratch/fails"
     try refused 'nothing is built' env BACKTRACE=/none UNWIND_CLI=/none "$tools/backtrace.sh" "$live"
-    try refused 'of a core, nothing is built' env UNWIND_CLI=/none "$tools/backtrace.sh" "$programs/nested-gcc-O2" "$scratch/core"
+    try refused 'of a core, nothing is built' env BACKTRACE=/none UNWIND_CLI=/none "$tools/backtrace.sh" "$programs/nested-gcc-O2" "$scratch/core"
     try refused 'the program fails' env BACKTRACE="$scratch/fails" UNWIND_CLI=/none "$tools/backtrace.sh" "$live"
-    try refused 'of a core, the program fails' env UNWIND_CLI="$scratch/fails" "$tools/backtrace.sh" "$programs/nested-gcc-O2" "$scratch/core"
+    try refused 'of a core, the program fails' env BACKTRACE="$scratch/fails" UNWIND_CLI=/none "$tools/backtrace.sh" "$programs/nested-gcc-O2" "$scratch/core"
     try printed 'no symboliser' env PATH="$scratch/few" "$tools/backtrace.sh" "$live"
     try printed 'of a core, no symboliser' env PATH="$scratch/few" "$tools/backtrace.sh" "$programs/nested-gcc-O2" "$scratch/core"
     try printed 'no gdb' env PATH="$scratch/few" "$tools/backtrace.sh" "$live" --threads

@@ -1,7 +1,9 @@
 /* A signal's handler inside of a signal's handler. The first signal comes while a function stands at
-   its first instruction, and the second while the first one's handler is in the C library. */
+   its first instruction, and the second while the first one's handler is in the C library. With OTHER_STACK the
+   second handler runs on a stack of its own. */
 #define _DEFAULT_SOURCE
 #include <signal.h>
+#include <stddef.h>
 #include <unistd.h>
 
 #include "stopped.h"
@@ -50,6 +52,14 @@ KEPT long caller(long n) {
 
 int main(void) {
     signal(SIGALRM, first_handler);
+#ifdef OTHER_STACK
+    static char other_stack[65536];
+    stack_t stack = {.ss_sp = other_stack, .ss_size = sizeof other_stack};
+    struct sigaction action = {.sa_handler = second_handler, .sa_flags = SA_ONSTACK};
+    sigaltstack(&stack, NULL);
+    sigaction(SIGUSR1, &action, NULL);
+#else
     signal(SIGUSR1, second_handler);
+#endif
     return (int)caller(3);
 }

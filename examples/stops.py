@@ -1,6 +1,6 @@
 """A command of gdb that stops a program of this folder inside a stub or a function of a library.
 
-    gdb -p PID -batch -x landings.py -x stops.py -ex "stop_after COUNT PLACE"
+    gdb -p PID -batch -x ../tools/landings.py -x stops.py -ex "stop_after COUNT PLACE"
 
 The process waits in `wait_here` (stopped.h). It goes on to PLACE, which gdb's `break` takes, and from there by
 COUNT instructions.

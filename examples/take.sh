@@ -21,7 +21,7 @@ begin() {
 }
 
 in_gdb() {
-    gdb -nx -q -p "$process" -batch -x ../../tools/frames.py -x ../landings.py -ix ../../tools/snapshot.py -x ../steps.py -x ../stops.py "$@"
+    gdb -nx -q -p "$process" -batch -x ../../tools/frames.py -x ../../tools/landings.py -ix ../../tools/snapshot.py -x ../steps.py -x ../stops.py "$@"
 }
 
 # Only its owner may read a snapshot that the command writes, and it has paths of this machine; these
@@ -97,7 +97,7 @@ take_formats() {
 
 take_thrown() {
     local program=${1%-*}
-    env -i HOME=/nonexistent gdb -nx -q -batch -ix ../../tools/snapshot.py -x ../../tools/frames.py -x ../landings.py -x ../throws.py \
+    env -i HOME=/nonexistent gdb -nx -q -batch -ix ../../tools/snapshot.py -x ../../tools/frames.py -x ../../tools/landings.py -x ../throws.py \
         -ex "thrown $1.taken ../$3 $program.pe $program.macho" --args "$program" "${1##*-}" > /dev/null
     for_all "$1" "$2"
 }

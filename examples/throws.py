@@ -1,11 +1,11 @@
 """A command of gdb that shows what `thrown_formats` does with its exception, and takes a snapshot at the throw.
 
-    gdb -nx -q -batch -ix ../tools/snapshot.py -x ../tools/frames.py -x landings.py -x throws.py \\
+    gdb -nx -q -batch -ix ../tools/snapshot.py -x ../tools/frames.py -x ../tools/landings.py -x throws.py \\
         -ex "thrown SNAPSHOT REPORT PE MACHO" --args PROGRAM FORMAT
 
 The program is run from `main` instruction by instruction to its throw, so that the frames are those that the run has shown
 (../tools/stepped.py); gdb knows neither format. From there it goes on to each landing pad: the unwinder of libgcc chooses
-it by the tables that the program has registered, and the personality of C++ (landings.py). At each pad the
+it by the tables that the program has registered, and the personality of C++ (../tools/landings.py). At each pad the
 registers that a call keeps have to be those of its frame. From the handler's it is run to the end of `main` instruction by
 instruction: at each `ret` the state has to be the one that was noted at the call, and `main` answers 0 where the
 destructors ran in their order. REPORT is written from the process alone, in the form of a delivery's report, and SNAPSHOT
@@ -31,7 +31,7 @@ CALL_OF_THROW = "<__cxa_throw@plt>"
 def state_at_throw(run: Run) -> Object:
     """Runs on to the call that throws. The state that it would return to, with its callers and the stack."""
     while True:
-        instruction = gdb.newest_frame().architecture().disassemble(register("rip"))[0]
+        instruction = gdb.newest_frame().architecture().disassemble(register_now("rip"))[0]
         if instruction["asm"].endswith(CALL_OF_THROW):
             break
         run.go_on()
@@ -63,9 +63,9 @@ class Pads:
 def check_kept(state: Object) -> None:
     """The registers at a pad are those of its frame. It is entered past the arguments that the frame has pushed."""
     kept_at = {int(caller["sp"], 16): [int(caller[name], 16) for name in KEPT] for caller in state["callers"]}
-    frame = max((pointer for pointer in kept_at if pointer <= register("rsp")), default=0)
+    frame = max((pointer for pointer in kept_at if pointer <= register_now("rsp")), default=0)
     if kept_at.get(frame) != list(kept_now()):
-        raise gdb.GdbError(f"thrown: the registers at the pad {register('rip'):#x} aren't those of its frame")
+        raise gdb.GdbError(f"thrown: the registers at the pad {register_now('rip'):#x} aren't those of its frame")
 
 
 def pads_of(throw: Throw, state: Object) -> Pads:
@@ -73,7 +73,7 @@ def pads_of(throw: Throw, state: Object) -> Pads:
     written, is_cleanup, met = io.StringIO(), True, ""
     while is_cleanup:
         met = throw.next_pad()
-        pointer = register("rsp")
+        pointer = register_now("rsp")
         if met == SET_PLACE:
             check_kept(state)
         with contextlib.redirect_stdout(written):
@@ -94,7 +94,7 @@ def run_to_end(run: Run, pads: Pads) -> None:
     """Runs on from the handler's pad."""
     run.callers = [caller for caller in run.callers if caller.sp > pads.pointer]
     run.to_the_end()
-    if register("rax") % 2**32:
+    if register_now("rax") % 2**32:
         raise gdb.GdbError("thrown: the destructors didn't run in their order")
 
 
