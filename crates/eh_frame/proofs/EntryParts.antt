@@ -8,6 +8,7 @@ use Rattle.unwind_definitions.specs.declared.error.Error.TheVariants.{NotCie}
 use Rattle.unwind_definitions.specs.Input.{Input, skip, number}
 use Rattle.unwind_definitions.specs.Pointers.{Bases}
 use Rattle.unwind_definitions.specs.Entries.{Cie, Fde, Entry, ACie, AFde, body, cie_body, cie_in, cie_at, fde_body, entry_in, found_in, entry_at}
+use Rattle.eh_frame.specs.Standing.{naming}
 
 -- a body is read at an offset
 module _ (bases : Bases) (table : Input) (offset : ℕ) (c : Input) (stands : c ≡ skip offset table) where
@@ -47,6 +48,9 @@ no_place bases table offset b rest id read other out = rw (read, ne_eqb id 0 oth
 module _ (bases : Bases) (table : Input) (offset : ℕ) (b rest : Input) (id place : ℕ) (read : number w32 b ≡ Ok (id, rest)) (other : id ≡ 0 → ⊥) (stands : place ≡ b.offset) (within : id ≤ place) where
   pub no_cie : (e : Fault) → cie_at bases table (place - id) ≡ Err e → entry_in bases table offset b ≡ Err e
   no_cie e fault = rw (read, ne_eqb id 0 other, ← stands, le-ltb place id within, fault) refl
+
+  pub is_naming : entry_in bases table offset b ≡ naming bases table (place - id) offset rest
+  is_naming = rw (read, ne_eqb id 0 other, ← stands, le-ltb place id within) refl
 
   module _ (cie : Cie) (found : cie_at bases table (place - id) ≡ Ok cie) where
     pub no_fde : (e : Fault) → fde_body bases cie offset rest ≡ Err e → entry_in bases table offset b ≡ Err e

@@ -2,6 +2,7 @@ pub mod Letters
 pub mod EntryViews
 pub mod Search
 pub mod Shared
+pub mod Standing
 pub mod HeaderViews
 pub mod HeaderLists
 pub mod Listing

@@ -18,10 +18,10 @@ use unwind_definitions::Error;
 #[derive(Clone, Copy)]
 pub struct Cie<'a> {
     offset: u64,
-    version: u8,
     code_alignment: u64,
     // a word: numbers below 0 count from 2^64
     data_alignment: u64,
+    version: u8,
     return_column: Register,
     augmentation: &'a [u8],
     letters: Letters,

@@ -1,6 +1,6 @@
 //! The entries of a frame table, one after another.
 
-ghost use Rattle.std.specs.Prelude.{◌≡◌, ◌≢◌, ◌↔◌, IfErr, IfOk, IfSome, IsTrue};
+ghost use Rattle.std.specs.Prelude.{◌≡◌, ◌≢◌, ◌↔◌, IfErr, IfOk, IsTrue};
 ghost use Rattle.std.specs.Prelude.{Result, Some, false, map};
 ghost use Rattle.std.specs.List.{AllByRecursion};
 ghost use Rattle.std.specs.Result.{IsErrOf};
@@ -14,6 +14,7 @@ ghost use Rattle.unwind_definitions.specs.Scan.{found_or, scan};
 ghost use Rattle.unwind_definitions.specs.HeaderSearch.{fde_at, fde_at_address, fde_in};
 ghost use Rattle.encoded_pointers.specs.Readers.{GivesOr, Answers};
 ghost use Rattle.eh_frame.specs.Shared.{cie_of_entry, StandsIn};
+ghost use Rattle.eh_frame.specs.Standing.{AreStanding, naming};
 ghost use Rattle.eh_frame.specs.Search.{IsFirst, NoneContains, IsUnreadable};
 ghost use Rattle.encoded_pointers.specs.CursorViews.{at};
 ghost use Rattle.encoded_pointers.specs.PointerViews.{bases_of};
@@ -24,6 +25,7 @@ ghost use Rattle.eh_frame.specs.EntryViews.{cie_of, fde_of, entry_of, found_of, 
 use crate::cie::Cie;
 use crate::fde::Fde;
 use crate::fde_list::FdeList;
+use crate::known_cies::KnownCies;
 use crate::listing::Entries;
 use encoded_pointers::{Bases, Cursor};
 use std::alloc::{AllocError, Global};
@@ -81,7 +83,8 @@ impl<'a> EhFrame<'a> {
     /// The first frame description entry, in the table's order, that contains the address `pc`.
     ///
     /// Entries are read one after another, each once, and a description's common information entry
-    /// with it, where it isn't the one before. `bases` is what their pointers may be relative to.
+    /// with it, where it isn't one of the last two. `bases` is what their pointers may be relative
+    /// to.
     ///
     /// # Errors
     ///
@@ -115,7 +118,7 @@ impl<'a> EhFrame<'a> {
         if offset > self.bytes.len() as u64 {
             return Err(Error::UnexpectedEof);
         }
-        described_fde(self.entry_at(offset, &None, bases)?)
+        described_fde(self.entry_at(offset, &KnownCies::new(), bases)?)
     }
 
     // The same at an address, which isn't below the table's.
@@ -238,13 +241,13 @@ impl<'a> EhFrame<'a> {
         ensures { Answers fde_of result
             (scan (bases_of bases.now) (table_of self.now) pc) }
     {
-        let mut known = None;
+        let mut known = KnownCies::new();
         let mut offset = 0;
         while let Some(found) = self.entry_at(offset, &known, bases)? {
             if let Some(fde) = found.entry.containing(pc) {
                 return Ok(fde);
             }
-            known = Some(found.entry.named_cie());
+            known.note(&found.entry);
             offset = found.next;
         }
         Err(Error::NoUnwindInfoForAddress)
@@ -264,11 +267,10 @@ impl<'a> EhFrame<'a> {
     pub(crate) fn entry_at(
         &self,
         offset: u64,
-        known: &Option<Cie<'a>>,
+        known: &KnownCies<'a>,
         bases: &Bases,
     ) -> Result<Option<Found<'a>>, Error>
-        requires { IfSome known.now
-            (λ cie. StandsIn (bases_of bases.now) (table_of self.now) (cie_of cie)) }
+        requires { AreStanding (bases_of bases.now) (table_of self.now) known.now }
         ensures { Answers (option_map found_of) result
             (entry_at (bases_of bases.now) (table_of self.now) offset) }
     {
@@ -291,11 +293,10 @@ impl<'a> EhFrame<'a> {
         &self,
         offset: u64,
         body: Cursor<'a>,
-        known: &Option<Cie<'a>>,
+        known: &KnownCies<'a>,
         bases: &Bases,
     ) -> Result<Entry<'a>, Error>
-        requires { IfSome known.now
-            (λ cie. StandsIn (bases_of bases.now) (table_of self.now) (cie_of cie)) }
+        requires { AreStanding (bases_of bases.now) (table_of self.now) known.now }
         ensures { Answers entry_of result
             (entry_in (bases_of bases.now) (table_of self.now) offset (at body.entry)) }
     {
@@ -308,27 +309,27 @@ impl<'a> EhFrame<'a> {
         if id > place {
             return Err(Error::NotCie);
         }
-        let cie = self.known_or_read(place - id, known, bases)?;
-        Ok(Entry::Fde(Fde::read(cie, offset, input, bases)?))
+        match known.get(place - id) {
+            Some(cie) => Ok(Entry::Fde(Fde::read(cie, offset, input, bases)?)),
+            None => self.entry_of_other(place - id, offset, input, bases),
+        }
     }
 
-    // The common information entry at an offset: that which is known, where it stands there.
-    #[inline(always)]
-    fn known_or_read(
+    // The description at `offset` that names a common information entry which isn't known. `body` is
+    // what stands after its first four bytes.
+    #[inline(never)]
+    fn entry_of_other(
         &self,
+        named: u64,
         offset: u64,
-        known: &Option<Cie<'a>>,
+        body: Cursor<'a>,
         bases: &Bases,
-    ) -> Result<Cie<'a>, Error>
-        requires { IfSome known.now
-            (λ cie. StandsIn (bases_of bases.now) (table_of self.now) (cie_of cie)) }
-        ensures { Answers cie_of result
-            (cie_at (bases_of bases.now) (table_of self.now) offset) }
+    ) -> Result<Entry<'a>, Error>
+        ensures { Answers entry_of result
+            (naming (bases_of bases.now) (table_of self.now) named offset (at body.entry)) }
     {
-        match known {
-            Some(cie) if cie.offset() == offset => Ok(*cie),
-            _ => self.cie_at(offset, bases),
-        }
+        let cie = self.cie_at(named, bases)?;
+        Ok(Entry::Fde(Fde::read(&cie, offset, body, bases)?))
     }
 
     // The common information entry at an offset.
@@ -346,6 +347,16 @@ impl<'a> EhFrame<'a> {
 }
 
 impl<'a> Entry<'a> {
+    /// The offset of the entry itself, or of the one that a description names.
+    pub(crate) fn named_offset(&self) -> u64
+        ensures { result ≡ (cie_of_entry (entry_of self.now)).offset }
+    {
+        match self {
+            Entry::Cie(cie) => cie.offset(),
+            Entry::Fde(fde) => fde.cie_offset(),
+        }
+    }
+
     /// The entry itself, or the one that a description names.
     pub(crate) fn named_cie(&self) -> Cie<'a>
         ensures { cie_of result ≡ cie_of_entry (entry_of self.now) }

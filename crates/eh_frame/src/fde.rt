@@ -45,17 +45,17 @@ impl<'a> Fde<'a> {
     // What stands after the first four bytes of the entry at `offset`, which names `cie`.
     #[inline(always)]
     pub(crate) fn read(
-        cie: Cie<'a>,
+        cie: &Cie<'a>,
         offset: u64,
         body: Cursor<'a>,
         bases: &Bases,
     ) -> Result<Fde<'a>, Error>
         ensures { Answers fde_of result
-            (fde_body (bases_of bases.now) (cie_of cie.entry) offset (at body.entry)) }
+            (fde_body (bases_of bases.now) (cie_of cie.now) offset (at body.entry)) }
     {
         // it stands alone here, and is in no list
-        let listed = ListedFde::read(&cie, 0, offset, body, bases)?;
-        Ok(Fde::with_cie(cie, &listed))
+        let listed = ListedFde::read(cie, 0, offset, body, bases)?;
+        Ok(Fde::with_cie(*cie, &listed))
     }
 
     /// How many bytes of the table stand before the entry.
@@ -70,6 +70,13 @@ impl<'a> Fde<'a> {
         ensures { cie_of result ≡ (fde_of self.now).cie }
     {
         self.cie
+    }
+
+    // How many bytes of the table stand before the common information entry.
+    pub(crate) fn cie_offset(&self) -> u64
+        ensures { result ≡ (fde_of self.now).cie.offset }
+    {
+        self.cie.offset()
     }
 
     /// The address of the function's first byte.

@@ -43,6 +43,7 @@ mod fde_list;
 mod header;
 mod header_lists;
 mod header_search;
+mod known_cies;
 mod laws;
 mod listed_fde;
 mod listing;

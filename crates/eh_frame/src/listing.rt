@@ -1,14 +1,11 @@
 //! The entries of a frame table, read one by one.
 
-ghost use Rattle.std.specs.Prelude.{IfSome};
-ghost use Rattle.std.proofs.Props.{props};
 ghost use Rattle.encoded_pointers.specs.PointerViews.{bases_of};
-ghost use Rattle.eh_frame.specs.declared.cie.Cie.{Cie as ReadCie};
-ghost use Rattle.eh_frame.specs.Shared.{StandsIn, stands_prop};
-ghost use Rattle.eh_frame.specs.EntryViews.{cie_of, table_of};
+ghost use Rattle.eh_frame.specs.Standing.{AreStanding, standing_prop};
+ghost use Rattle.eh_frame.specs.EntryViews.{table_of};
 
-use crate::cie::Cie;
 use crate::entries::{EhFrame, Entry};
+use crate::known_cies::KnownCies;
 use encoded_pointers::Bases;
 use unwind_definitions::Error;
 
@@ -22,17 +19,14 @@ pub struct Entries<'a> {
     bases: Bases,
     offset: u64,
     is_over: bool,
-    // the common information entry that the entry before is or names
-    known: Option<Cie<'a>>,
-    ghost stands: { IfSome known
-        (λ cie. StandsIn (bases_of bases) (table_of table) (cie_of cie)) } by { Prim.hlevel (
-          props,
-          λ (cie : ReadCie). stands_prop (bases_of bases) (table_of table) (cie_of cie),
-        ) },
+    // of those that the entries before are or name
+    known: KnownCies<'a>,
+    ghost stands: { AreStanding (bases_of bases) (table_of table)
+        known } by { standing_prop (bases_of bases) (table_of table) known },
 }
 
 impl<'a> Entries<'a> {
-    ghost use Rattle.std.specs.Prelude.{◌≡◌, IfOk, false};
+    ghost use Rattle.std.specs.Prelude.{◌≡◌, IfOk, IfSome, false};
     ghost use Rattle.std.specs.Option.{option_map};
     ghost use Rattle.encoded_pointers.specs.Readers.{Answers};
     ghost use Rattle.eh_frame.specs.EntryViews.{entry_of};
@@ -48,7 +42,7 @@ impl<'a> Entries<'a> {
             bases,
             offset: 0,
             is_over: false,
-            known: None,
+            known: KnownCies::new(),
         }
     }
 
@@ -66,6 +60,8 @@ impl<'a> Entries<'a> {
     /// # Errors
     ///
     /// The error of the entry, where it can't be read.
+    // Inlined: an entry has more than 200 bytes, which would be copied at each return.
+    #[inline(always)]
     pub fn next(&mut self) -> Result<Option<Entry<'a>>, Error>
         ensures entry { Answers (option_map entry_of) result
             (entry_in (upcoming (listing_of self.old))) }
@@ -79,7 +75,7 @@ impl<'a> Entries<'a> {
         }
         match self.table.entry_at(self.offset, &self.known, &self.bases) {
             Ok(Some(found)) => {
-                self.known = Some(found.entry.named_cie());
+                self.known.note(&found.entry);
                 self.offset = found.next;
                 Ok(Some(found.entry))
             }

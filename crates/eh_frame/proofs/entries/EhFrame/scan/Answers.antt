@@ -1,9 +1,8 @@
 use Rattle.encoded_pointers.specs.PointerViews.{bases_of}
-use Rattle.std.proofs.Common.{◌≡◌, suc, ◌-◌, length, arith, refl, sym, subst, ◌∙◌}
+use Rattle.std.proofs.Common.{◌≡◌, suc, ◌-◌, length, arith, refl, ◌∙◌}
 use Rattle.std.proofs.lemmas.Result.{err_from_is_err_and}
 use Rattle.unwind_definitions.specs.Pointers.{Bases}
 use Rattle.unwind_definitions.specs.Scan.{scan}
-use Rattle.eh_frame.specs.Shared.{StandsIn}
 use Rattle.eh_frame.specs.EntryViews.{found_of, table_of}
 use Rattle.eh_frame.proofs.Ahead.{next_within}
 use Rattle.eh_frame.proofs.Sharing.{shared_stands}
@@ -12,7 +11,7 @@ use Rattle.eh_frame.proofs.entries.EhFrame.scan.Goals as goal
 
 pub loop-found-init : goal.loop-found-init
 unfolding scan
-loop-found-init c = (omega arith, suc (length c.args.self.now.bytes.now), omega arith, refl, tt)
+loop-found-init c = (omega arith, suc (length c.args.self.now.bytes.now), omega arith, refl, c.new-known.ensures (bases_of c.args.bases.now) (table_of c.args.self.now))
 
 pub returns-in_err-found : goal.returns-in_err-found
 returns-in_err-found c =
@@ -49,7 +48,7 @@ loop-found-preserved c =
       c.loop-found.invariant.3
           ∙ scan_next (bases_of c.args.bases.now) (table_of c.args.self.now) c.args.pc (turns - 1) turns c.loop-found.offset more (found_of c.in-Some.found)
           (rw c.in-Some.is at c.in_ok-found.ensures) ∙ c.in_default-containing.ensures _,
-      subst (StandsIn (bases_of c.args.bases.now) (table_of c.args.self.now)) (sym c.named_cie.ensures) (shared_stands (bases_of c.args.bases.now) (table_of c.args.self.now) c.loop-found.offset (found_of c.in-Some.found) (rw c.in-Some.is at c.in_ok-found.ensures)),
+      c.note.ensures (bases_of c.args.bases.now) (table_of c.args.self.now) c.loop-found.invariant.4 (shared_stands (bases_of c.args.bases.now) (table_of c.args.self.now) c.loop-found.offset (found_of c.in-Some.found) (rw c.in-Some.is at c.in_ok-found.ensures)),
     )
 
 pub returns : goal.returns

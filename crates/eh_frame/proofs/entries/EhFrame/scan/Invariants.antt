@@ -1,16 +1,15 @@
 use Rattle.std.proofs.Common.{◌≡◌, ◌-◌, ◌+◌, ◌<◌, ◌≤◌, ℕ, length}
 use Rattle.encoded_pointers.specs.PointerViews.{bases_of}
 use Rattle.unwind_definitions.specs.Scan.{scan, scan_from}
-use Rattle.std.specs.Prelude.{IfSome}
-use Rattle.eh_frame.specs.Shared.{StandsIn}
-use Rattle.eh_frame.specs.EntryViews.{cie_of, table_of}
+use Rattle.eh_frame.specs.Standing.{AreStanding}
+use Rattle.eh_frame.specs.EntryViews.{table_of}
 use Rattle.eh_frame.proofs.entries.EhFrame.scan.Given as goal
 
 -- with turns enough, what is left gives what the whole table gives
 abbrev pub invariant-loop-found : goal.invariant-loop-found
 invariant-loop-found l = (l.offset ≤ length l.self.bytes.now) × (turns : ℕ) × (length l.self.bytes.now < turns + l.offset) ×
     (scan (bases_of l.bases) (table_of l.self) l.pc ≡ scan_from turns (bases_of l.bases) (table_of l.self) l.pc l.offset) ×
-    IfSome l.known (λ cie. StandsIn (bases_of l.bases) (table_of l.self) (cie_of cie))
+    AreStanding (bases_of l.bases) (table_of l.self) l.known
 
 abbrev pub decreases-loop-found : goal.decreases-loop-found
 decreases-loop-found l = length l.initial.self.bytes.now - l.offset

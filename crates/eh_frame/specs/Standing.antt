@@ -1,0 +1,23 @@
+-- The common information entries that are known of a table.
+use Rattle.std.specs.Prelude.{ℕ, IfSome, Ok, Result}
+use Rattle.std.proofs.Props.{props}
+use Rattle.unwind_definitions.specs.declared.error.Error.{Error as Fault}
+use Rattle.unwind_definitions.specs.Faults.{◌>>=◌}
+use Rattle.unwind_definitions.specs.Input.{Input}
+use Rattle.unwind_definitions.specs.Pointers.{Bases}
+use Rattle.unwind_definitions.specs.Entries.{AFde, Entry, cie_at, fde_body}
+use Rattle.eh_frame.specs.declared.cie.Cie.{Cie as ReadCie}
+use Rattle.eh_frame.specs.declared.known_cies.KnownCies.{KnownCies}
+use Rattle.eh_frame.specs.EntryViews.{cie_of}
+use Rattle.eh_frame.specs.Shared.{StandsIn, stands_prop}
+
+-- each is what the table has at its offset
+abbrev pub AreStanding : Bases → Input → KnownCies → Type 0
+AreStanding bases table known = IfSome known.last (λ cie. StandsIn bases table (cie_of cie)) × IfSome known.before (λ cie. StandsIn bases table (cie_of cie))
+
+pub standing_prop : (bases : Bases) (table : Input) (known : KnownCies) → IsProp (AreStanding bases table known)
+standing_prop bases table known = Prim.hlevel (props, λ (cie : ReadCie). stands_prop bases table (cie_of cie))
+
+-- the description at an offset, by the offset of the common information entry that it names, and by what stands after that
+abbrev pub naming : Bases → Input → ℕ → ℕ → Input → Result Entry Fault
+naming bases table named offset rest = cie_at bases table named >>= λ cie. fde_body bases cie offset rest >>= λ fde. Ok (AFde fde)
