@@ -93,6 +93,6 @@ module _ (image : List Span) (x : Exception) (p : LanguagePlace) (a : ℕ) where
   abbrev pub LeavesNone : Type 0
   LeavesNone = (t : CxxTable) × DecidesAt image p a t None
 
-  -- or the exception isn't C++'s own and violates a specification
+  -- or a specification takes an exception that isn't native, by libstdc++
   abbrev pub AsksEnd : Type 0
   AsksEnd = LeavesNone ⊎ ((pad filter : ℕ) × FindsHandler pad filter × IsTrue (ends_instead x filter))

@@ -17,6 +17,10 @@ use Rattle.unwind_definitions.specs.Caller as step
 use Rattle.unwind_definitions.specs.LanguageSearch.{Head, CallSite, LanguagePlace, table_reading, address, sum_below, pad_base, call_site}
 use Rattle.unwinding_frames.specs.declared.cxx.error.CxxError.{CxxError}
 use Rattle.unwinding_frames.specs.declared.cxx.error.CxxError.TheVariants.{Table, Unmapped, NoTypes, TypeOutside, RecordOutside, RecordsLoop}
+use Rattle.unwinding_frames.specs.declared.cxx.runtime.ExceptionKind.{ExceptionKind}
+use Rattle.unwinding_frames.specs.declared.cxx.runtime.ExceptionKind.TheVariants.{Native, Foreign, Forced}
+use Rattle.unwinding_frames.specs.declared.cxx.runtime.CxxRuntime.{CxxRuntime}
+use Rattle.unwinding_frames.specs.declared.cxx.runtime.CxxRuntime.TheVariants.{Libstdcxx, Libcxxabi}
 
 -- what a function asks of an exception: nothing, to enter a landing pad for a cleanup, or for the handler or the violated
 -- specification of this number, or to end the program
@@ -27,10 +31,11 @@ pub data CxxAction : Type 0 where
   Terminate : CxxAction
 
 -- An exception as handlers see it: the addresses of the type descriptions by which it is caught, its own and those of its
--- accessible bases. One that isn't C++'s own, or a forced unwinding, has none, and no specification lists it.
+-- accessible bases; what it is to the runtime whose personality reads the tables; and which runtime that is.
 pub record Exception : Type 0 where
   pub types : List ℕ
-  pub foreign : Bool
+  pub kind : ExceptionKind
+  pub runtime : CxxRuntime
 
 abbrev pub contains : List ℕ → ℕ → Bool
 contains types t = list_any (λ u. u == t) types
@@ -137,32 +142,58 @@ allows_from (suc turns) image bases x t c = do
     type ← type_at image bases t index.0
     if contains x.types type then Ok true else allows_from turns image bases x t index.1)
 
--- Whether a specification's list, which begins so many bytes after the types' end, doesn't allow an exception. One that isn't
--- C++'s own violates an empty list alone.
-abbrev pub violates_list : List Span → Bases → Exception → Types → Input → Result Bool CxxError
-violates_list image bases x t c =
-    if x.foreign then (reading (table_reading (uleb c)) >>= λ index. Ok (index.0 == 0))
-    else (allows_from (length c.bytes + 1) image bases x t c >>= λ allowed. Ok (not allowed))
+-- Whether a specification lists no type: 0 stands first.
+abbrev pub lists_nothing : Input → Result Bool CxxError
+lists_nothing c = reading (table_reading (uleb c)) >>= λ index. Ok (index.0 == 0)
 
+-- Whether a list stops an exception of a kind: a native one that has none of its types, and any other where it lists nothing.
+abbrev pub list_stops : List Span → Bases → Exception → Types → Input → ExceptionKind → Result Bool CxxError
+list_stops image bases x t c Native = allows_from (length c.bytes + 1) image bases x t c >>= λ allowed. Ok (not allowed)
+list_stops image bases x t c Foreign = lists_nothing c
+list_stops image bases x t c Forced = lists_nothing c
+
+abbrev pub violates_list : List Span → Bases → Exception → Types → Input → Result Bool CxxError
+violates_list image bases x t c = list_stops image bases x t c x.kind
+
+-- Whether an exception violates a specification by its list, which begins so many bytes after the types' end.
 abbrev pub violates : List Span → Bases → Exception → Types → ℕ → Result Bool CxxError
 violates image bases x t offset = do
   a ← reading (sum_below t.end offset)
   violates_list image bases x t (input_at image a)
 
+-- What decides without a look at the list: by libc++abi every specification stops a foreign exception, and none a forced unwinding.
+abbrev pub unread : CxxRuntime → ExceptionKind → Option Bool
+unread Libstdcxx kind = None
+unread Libcxxabi Native = None
+unread Libcxxabi Foreign = Some true
+unread Libcxxabi Forced = Some false
+
 -- ---- the chain of action records
+
+-- whether the handler of an index takes an exception, in a table that may have no types
+abbrev pub handler_takes : List Span → Bases → Exception → Option Types → ℕ → Result Bool CxxError
+handler_takes image bases x None index = Err NoTypes
+handler_takes image bases x (Some t) index = catches image bases x t index
+
+-- whether a specification does by its list, which stands by the types
+abbrev pub listed_takes : List Span → Bases → Exception → Option Types → ℕ → Result Bool CxxError
+listed_takes image bases x None offset = Err NoTypes
+listed_takes image bases x (Some t) offset = violates image bases x t offset
+
+abbrev pub unless_unread : Option Bool → Result Bool CxxError → Result Bool CxxError
+unless_unread (Some taken) listed = Ok taken
+unless_unread None listed = listed
+
+-- Whether a specification takes an exception. Where that is decided unread, there need be no list and no types.
+abbrev pub specification_takes : List Span → Bases → Exception → Option Types → ℕ → Result Bool CxxError
+specification_takes image bases x types offset = unless_unread (unread x.runtime x.kind) (listed_takes image bases x types offset)
 
 -- Whether an action record is the one that takes an exception: 0 is a cleanup, a number above 0 the index of a handler's type,
 -- and one below 0 says where a specification lists its types: the list of -1 begins where the types end.
-abbrev pub takes : List Span → Bases → Exception → Types → ℕ → Result Bool CxxError
-takes image bases x t filter =
-    if nat_lt filter (2 ^ 63) then catches image bases x t filter else violates image bases x t (2 ^ 64 - 1 - filter)
-
-abbrev pub takes_by : List Span → Bases → Exception → ℕ → Option Types → Result Bool CxxError
-takes_by image bases x filter None = Err NoTypes
-takes_by image bases x filter (Some t) = takes image bases x t filter
-
 abbrev pub record_takes : List Span → Bases → Exception → Option Types → ℕ → Result Bool CxxError
-record_takes image bases x types filter = if filter == 0 then Ok false else takes_by image bases x filter types
+record_takes image bases x types filter =
+    if filter == 0 then Ok false
+    else (if nat_lt filter (2 ^ 63) then handler_takes image bases x types filter else specification_takes image bases x types (2 ^ 64 - 1 - filter))
 
 -- an action record: its number, and how far from the first byte of this distance the next one begins, 0 after the last
 pub record ActionRecord : Type 0 where
@@ -225,10 +256,15 @@ abbrev pub cxx_place_search : List Span → Exception → LanguagePlace → ℕ 
 cxx_place_search image x p a =
     if p.lsda == 0 then Ok NoAction else cxx_search image (record p.bases { func = Some p.start }) x p.start a (input_at image p.lsda)
 
--- The landing pad of a violated specification asks for the type of a C++ exception. One that isn't C++'s own has none: the
--- program ends there.
+-- libstdc++ enters the landing pad of a specification for a native exception alone: for another it ends the program there.
+abbrev pub ends_at_specifications : CxxRuntime → ExceptionKind → Bool
+ends_at_specifications Libstdcxx Native = false
+ends_at_specifications Libstdcxx Foreign = true
+ends_at_specifications Libstdcxx Forced = true
+ends_at_specifications Libcxxabi kind = false
+
 abbrev pub ends_instead : Exception → ℕ → Bool
-ends_instead x filter = x.foreign && nat_le (2 ^ 63) filter
+ends_instead x filter = ends_at_specifications x.runtime x.kind && nat_le (2 ^ 63) filter
 
 abbrev pub entered : Exception → CxxAction → CxxAction
 entered x (Handler pad filter) = if ends_instead x filter then Terminate else Handler pad filter

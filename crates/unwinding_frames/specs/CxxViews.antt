@@ -18,7 +18,7 @@ cxx_error (frame.Table e) = Table e
 cxx_error (frame.Unmapped a) = Unmapped a
 
 abbrev pub exception_of : Exception → tables.Exception
-exception_of x = record { types = x.types.now; foreign = x.foreign }
+exception_of x = record { types = x.types.now; kind = x.kind; runtime = x.runtime }
 
 abbrev pub types_of : Types → tables.Types
 types_of t = record { encoding = t.encoding.0; end = t.end }

@@ -9,5 +9,6 @@ pub mod actions;
 pub mod error;
 pub mod laws;
 pub mod personality;
+pub mod runtime;
 pub mod table;
 pub mod types;

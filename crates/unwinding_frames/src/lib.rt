@@ -29,6 +29,7 @@ pub use cxx::actions::{CxxAction, find_cxx_action_at};
 pub use cxx::error::CxxError;
 pub use cxx::laws::{cxx_actions_have_causes, first_record_that_takes_decides};
 pub use cxx::personality::{CxxPersonality, find_cxx_action};
+pub use cxx::runtime::{CxxRuntime, ExceptionKind};
 pub use cxx::types::Exception;
 pub use frame::{
     Frame, StepError, address_asked, frame_mark, lsda_of, personality_of, step_by_row, write_caller,

@@ -11,7 +11,8 @@ ghost use Rattle.unwinding_frames.specs.LanguageViews.{answer_seen, site_of};
 ghost use Rattle.unwinding_frames.specs.CxxTables.{action_record, chain_from, cxx_place_action};
 ghost use Rattle.unwinding_frames.specs.CxxTables.{cxx_search, cxx_site_action, entered};
 ghost use Rattle.unwinding_frames.specs.CxxTables.{indexed_action};
-ghost use Rattle.unwinding_frames.specs.CxxTables.{next_record, record_takes, takes, untaken};
+ghost use Rattle.unwinding_frames.specs.CxxTables.{next_record, record_takes, specification_takes};
+ghost use Rattle.unwinding_frames.specs.CxxTables.{untaken};
 ghost use Rattle.unwinding_frames.specs.CxxViews.{cxx_action_of, exception_of, record_of};
 ghost use Rattle.unwinding_frames.specs.CxxViews.{table_of, types_of};
 
@@ -38,7 +39,9 @@ pub enum CxxAction {
     /// specification, and its number, as a word: the index of the handler's type, or below 0 that of
     /// the specification. The landing pad finds it in the second data register.
     Handler(u64, u64),
-    /// To end the program, for no exception may leave the call.
+    /// To end the program: no exception may leave the call, since no call site holds its address, or
+    /// a specification takes an exception that isn't native, by libstdc++. By libstdc++ the cleanups
+    /// of the frames inside run first, by libc++abi none.
     Terminate,
 }
 
@@ -62,8 +65,8 @@ const LEAST_NEGATIVE: u64 = 1 << 63;
 ///
 /// The call site that holds the address leads to a chain of action records, of which the first that
 /// takes the exception decides: a handler of one of its types, or of all, or a specification that
-/// it violates. Where none does, a cleanup is asked if one stands in the chain. An exception that
-/// isn't of C++ and violates a specification ends the program, as in GNU's runtime.
+/// it violates. Where none does, a cleanup is asked if one stands in the chain. What specifications
+/// do with an exception that isn't native goes by its [`CxxRuntime`](crate::CxxRuntime).
 /// Source: Itanium C++ ABI, exception handling, level II, section 2.5.
 ///
 /// # Errors
@@ -72,7 +75,7 @@ const LEAST_NEGATIVE: u64 = 1 << 63;
 ///
 /// - `Table` and `Unmapped` as of [`find_eh_action`](crate::find_eh_action), also for the entries of
 ///   types, and `Table(UnsupportedPointerEncoding)` where these have no fixed size;
-/// - `NoTypes` where a record names a type and the table has none;
+/// - `NoTypes` where a record names a type, or a list of types that is read, and the table has none;
 /// - `TypeOutside` with the index where a type's entry would begin below the address 0;
 /// - `RecordOutside` where an index or a distance leads out of the action table;
 /// - `RecordsLoop` where the chain has more records than the action table has bytes.
@@ -82,8 +85,8 @@ pub fn find_cxx_action_at(
     exception: Exception<'_>,
     address: u64,
 ) -> Result<CxxAction, CxxError>
-    ensures { result_map cxx_action_of result ≡ cxx_place_action image.now (exception_of exception.entry)
-        (language_place_of place.now) address }
+    ensures { result_map cxx_action_of result ≡ cxx_place_action image.now
+        (exception_of exception.entry) (language_place_of place.now) address }
 {
     if place.lsda == 0 {
         return Ok(CxxAction::None);
@@ -97,14 +100,15 @@ pub fn find_cxx_action_at(
 }
 
 impl CxxAction {
-    /// What is done of it for an exception. One that isn't of C++ has no type of C++ for the landing
-    /// pad of a specification that it violates: the program ends there.
+    /// What is done of it for an exception. At a specification that takes it the program may end
+    /// before the landing pad is entered.
     fn entered_by(self, exception: Exception<'_>) -> CxxAction
         ensures { cxx_action_of result ≡ entered (exception_of exception.entry) (cxx_action_of self) }
     {
         match self {
             CxxAction::Handler(pad, filter) => {
-                if exception.foreign && LEAST_NEGATIVE <= filter {
+                let ends = exception.runtime.ends_at_specifications(exception.kind);
+                if ends && LEAST_NEGATIVE <= filter {
                     CxxAction::Terminate
                 } else {
                     CxxAction::Handler(pad, filter)
@@ -208,6 +212,27 @@ impl<'a> CxxTable<'a> {
     }
 }
 
+/// Whether the specification whose list begins so many bytes after the types' end takes an exception.
+/// Where that is decided unread, the table need have no types.
+fn specification_takes(
+    image: &MemoryImage<'_>,
+    bases: &Bases,
+    exception: Exception<'_>,
+    types: Option<Types>,
+    offset: u64,
+) -> Result<bool, CxxError>
+    ensures { result ≡ specification_takes image.now (bases_of bases.now)
+        (exception_of exception.entry) (option_map types_of types) offset }
+{
+    match exception.runtime.unread(exception.kind) {
+        Some(taken) => Ok(taken),
+        None => {
+            let types = types.ok_or(CxxError::NoTypes)?;
+            types.violates(image, bases, exception, offset)
+        }
+    }
+}
+
 /// What a chain asks that no record of it takes.
 fn untaken(pad: u64, met_cleanup: bool) -> CxxAction
     ensures { cxx_action_of result ≡ untaken pad met_cleanup }
@@ -257,11 +282,11 @@ impl ActionRecord {
         if self.filter == 0 {
             return Ok(false);
         }
-        let types = types.ok_or(CxxError::NoTypes)?;
         if self.filter < LEAST_NEGATIVE {
+            let types = types.ok_or(CxxError::NoTypes)?;
             types.catches(image, bases, exception, self.filter)
         } else {
-            types.violates(image, bases, exception, u64::MAX - self.filter)
+            specification_takes(image, bases, exception, types, u64::MAX - self.filter)
         }
     }
 

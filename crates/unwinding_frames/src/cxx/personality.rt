@@ -10,7 +10,8 @@ ghost use Rattle.fde_finders.specs.FoundViews.{found_fde_of};
 ghost use Rattle.unwinding_frames.specs.ContextSeen.{language_place_of};
 ghost use Rattle.unwinding_frames.specs.CxxPersonalities.{columns_at_handler, cxx_action_seen};
 ghost use Rattle.unwinding_frames.specs.CxxPersonalities.{cxx_answers, cxx_cleanup_answer};
-ghost use Rattle.unwinding_frames.specs.CxxPersonalities.{cxx_search_answer, exception_in};
+ghost use Rattle.unwinding_frames.specs.CxxPersonalities.{cxx_search_answer, end_in_search};
+ghost use Rattle.unwinding_frames.specs.CxxPersonalities.{exception_in};
 ghost use Rattle.unwinding_frames.specs.CxxTables.{cxx_table_action};
 ghost use Rattle.unwinding_frames.specs.CxxViews.{cxx_action_of, exception_of};
 
@@ -18,6 +19,7 @@ use crate::abi::context::UnwindContext;
 use crate::abi::{UnwindAction, UnwindReasonCode};
 use crate::cxx::actions::{CxxAction, find_cxx_action_at};
 use crate::cxx::error::CxxError;
+use crate::cxx::runtime::{CxxRuntime, ExceptionKind};
 use crate::cxx::types::Exception;
 use crate::frame::{Frame, address_asked, lsda_of, return_address};
 use crate::personality::{Personality, put};
@@ -26,18 +28,24 @@ use fde_finders::FDESearchResult;
 use memory_image::MemoryImage;
 use unwind_arch::Machine;
 
-/// The personality of C++ (`__gxx_personality_v0`), for an exception whose types are given.
+/// The personality of C++ (`__gxx_personality_v0`), for an exception whose types are given, as the
+/// runtime that the exception names has it.
 ///
 /// It knows version 1 of the interface: to another it answers `FATAL_PHASE1_ERROR`, and so it does
 /// where the language table can't be read. The class of the exception isn't looked at: `exception`
-/// says whether it is one of C++. A forced unwinding isn't.
+/// says what it is. In a forced unwinding it is `Forced` and has no types.
 ///
-/// In the search phase a handler of the exception, or a specification that it violates, is
-/// `HANDLER_FOUND`, and so is a call that no exception may leave, since the cleanups inside it run
-/// before the program ends. In the cleanup phase the context becomes that of the landing pad, which
-/// is `INSTALL_CONTEXT`: the exception's word is in the first data register, the number of the
-/// action record in the second, 0 for a cleanup, and the pad in the return address. A call that no
-/// exception may leave is `FATAL_PHASE2_ERROR`. All else goes on by `CONTINUE_UNWIND`.
+/// In the search phase a handler of the exception, or a specification that takes it, is
+/// `HANDLER_FOUND`. In the cleanup phase the context becomes that of the landing pad, which is
+/// `INSTALL_CONTEXT`: the exception's word is in the first data register, the number of the action
+/// record in the second, 0 for a cleanup, and the pad in the return address. All else goes on by
+/// `CONTINUE_UNWIND`.
+///
+/// The program ends in a call that no exception may leave, which has no call site, and by libstdc++
+/// also at a specification that takes an exception which isn't native. The answer of the cleanup
+/// phase is `FATAL_PHASE2_ERROR` there. That of the search phase is `HANDLER_FOUND` by libstdc++, by
+/// which the cleanups inside run before the program ends. By libc++abi it is `FATAL_PHASE1_ERROR`,
+/// which stands for no answer at all: the routine ends the program itself, and no cleanup runs.
 #[derive(Clone, Copy)]
 pub struct CxxPersonality<'t> {
     /// The exception that is thrown.
@@ -69,21 +77,24 @@ impl<'t, M: Machine> Personality<M> for CxxPersonality<'t> {
         let forced = actions.contains(UnwindAction::FORCE_UNWIND);
         match action(unwind_ctx, self.exception.in_unwinding(forced)) {
             Err(_) => UnwindReasonCode::FATAL_PHASE1_ERROR,
-            Ok(action) if actions.contains(UnwindAction::SEARCH_PHASE) => search_answer(action),
+            Ok(action) if actions.contains(UnwindAction::SEARCH_PHASE) => {
+                search_answer(self.exception.runtime, action)
+            }
             Ok(action) => cleanup_answer::<M>(action, exception, unwind_ctx.ctx),
         }
     }
 }
 
 impl<'t> Exception<'t> {
-    /// As handlers see it in an unwinding, which may be forced.
+    /// As handlers see it in an unwinding. One that is forced has no exception.
     fn in_unwinding(self, forced: bool) -> Exception<'t>
         ensures { exception_of result ≡ exception_in forced (exception_of self.entry) }
     {
         if forced {
             Exception {
                 types: &[],
-                foreign: true,
+                kind: ExceptionKind::Forced,
+                runtime: self.runtime,
             }
         } else {
             self
@@ -155,12 +166,23 @@ fn found_action(
 }
 
 /// The answer in the search phase.
-fn search_answer(action: CxxAction) -> UnwindReasonCode
-    ensures { result ≡ cxx_search_answer (cxx_action_of action) }
+fn search_answer(runtime: CxxRuntime, action: CxxAction) -> UnwindReasonCode
+    ensures { result ≡ cxx_search_answer runtime (cxx_action_of action) }
 {
     match action {
         CxxAction::None | CxxAction::Cleanup(_) => UnwindReasonCode::CONTINUE_UNWIND,
-        CxxAction::Handler(_, _) | CxxAction::Terminate => UnwindReasonCode::HANDLER_FOUND,
+        CxxAction::Handler(_, _) => UnwindReasonCode::HANDLER_FOUND,
+        CxxAction::Terminate => end_in_search(runtime),
+    }
+}
+
+/// The answer in the search phase where the program ends.
+fn end_in_search(runtime: CxxRuntime) -> UnwindReasonCode
+    ensures { result ≡ end_in_search runtime }
+{
+    match runtime {
+        CxxRuntime::Libstdcxx => UnwindReasonCode::HANDLER_FOUND,
+        CxxRuntime::Libcxxabi => UnwindReasonCode::FATAL_PHASE1_ERROR,
     }
 }
 

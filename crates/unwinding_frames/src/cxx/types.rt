@@ -7,11 +7,12 @@ ghost use Rattle.encoded_pointers.specs.PointerViews.{bases_of};
 ghost use Rattle.encoded_pointers.specs.CursorViews.{at};
 ghost use Rattle.unwinding_frames.specs.LanguageViews.{GivesOr};
 ghost use Rattle.unwinding_frames.specs.CxxTables.{allows_from, catches, contains, entry_address};
-ghost use Rattle.unwinding_frames.specs.CxxTables.{entry_size, type_at, type_named, types_named};
-ghost use Rattle.unwinding_frames.specs.CxxTables.{violates, violates_list};
+ghost use Rattle.unwinding_frames.specs.CxxTables.{entry_size, lists_nothing, type_at, type_named};
+ghost use Rattle.unwinding_frames.specs.CxxTables.{types_named, violates, violates_list};
 ghost use Rattle.unwinding_frames.specs.CxxViews.{exception_of, types_of};
 
 use crate::cxx::error::CxxError;
+use crate::cxx::runtime::{CxxRuntime, ExceptionKind};
 use crate::frame::StepError;
 use crate::language_table::{input_at, read_address, sum};
 use eh_frame::{Bases, Error};
@@ -21,14 +22,16 @@ use memory_image::MemoryImage;
 
 /// An exception as the handlers of C++ functions see it.
 ///
-/// Contracts see these two.
+/// Contracts see these three.
 #[derive(Clone, Copy)]
 pub struct Exception<'t> {
     /// The addresses of the type descriptions (`std::type_info` objects) by which a handler takes
-    /// it: those of its own type and of each accessible base.
+    /// it: those of its own type and of each accessible base. One that isn't native mostly has none.
     pub types: &'t [u64],
-    /// Whether it isn't one of C++ itself. A specification lists no such exception.
-    pub foreign: bool,
+    /// What it is to the runtime whose personality reads the language tables.
+    pub kind: ExceptionKind,
+    /// That runtime.
+    pub runtime: CxxRuntime,
 }
 
 impl<'t> Exception<'t> {
@@ -78,8 +81,8 @@ impl Types {
         Ok(named == 0 || exception.is_of(named))
     }
 
-    /// Whether an exception isn't allowed by the specification whose list begins so many bytes after
-    /// the types' end.
+    /// Whether an exception violates the specification whose list begins so many bytes after the
+    /// types' end, by this list.
     pub fn violates(
         self,
         image: &MemoryImage<'_>,
@@ -94,7 +97,7 @@ impl Types {
         self.violates_list(image, bases, exception, list)
     }
 
-    /// The same of a list. An exception that isn't one of C++ violates an empty list alone.
+    /// The same of a list. An exception that isn't native violates an empty list alone.
     fn violates_list(
         self,
         image: &MemoryImage<'_>,
@@ -105,11 +108,10 @@ impl Types {
         ensures { result ≡ violates_list image.now (bases_of bases.now) (exception_of exception.entry)
             (types_of self) (at list.entry) }
     {
-        if exception.foreign {
-            let mut first = list;
-            return Ok(first.read_uleb128()? == 0);
+        match exception.kind {
+            ExceptionKind::Native => Ok(!self.allows(image, bases, exception, list)?),
+            ExceptionKind::Foreign | ExceptionKind::Forced => lists_nothing(list),
         }
-        Ok(!self.allows(image, bases, exception, list)?)
     }
 
     /// Whether one of the types that a list names, before the index 0, is one of the exception's.
@@ -154,6 +156,14 @@ impl Types {
             _ => Err(CxxError::TypeOutside(index)),
         }
     }
+}
+
+/// Whether a specification's list has no type.
+fn lists_nothing(list: Cursor<'_>) -> Result<bool, CxxError>
+    ensures { result ≡ lists_nothing (at list.entry) }
+{
+    let mut first = list;
+    Ok(first.read_uleb128()? == 0)
 }
 
 /// How many bytes an entry takes by its format.
