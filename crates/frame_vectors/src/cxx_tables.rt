@@ -2,13 +2,15 @@
 // personality of its runtime answered in each frame that it was asked of.
 use crate::asserting::expect_equal;
 use crate::languages::bytes_of;
-use eh_frame::Bases;
+use eh_frame::{Bases, Error};
 use memory_image::MemoryImage;
 use std::alloc::Global;
 use std::process::Abort;
 use std::test::Fail;
 use unwinding_core::CxxAction::{Cleanup, Handler, Terminate};
-use unwinding_core::{CxxAction, CxxError, Exception, Place, find_cxx_action_at};
+use unwinding_core::{
+    CxxAction, CxxError, CxxRuntime, Exception, ExceptionKind, Place, find_cxx_action_at,
+};
 
 // What is thrown. `Derived` has the base `Base`.
 #[derive(Clone, Copy)]
@@ -330,7 +332,10 @@ fn caught_by(thrown: Thrown, types: &TypeAddresses) -> [u64; 2] {
     }
 }
 
-// Compares what is asked of a frame that is stopped in a call with what was done there.
+const RUNTIMES: [CxxRuntime; 2] = [CxxRuntime::Libstdcxx, CxxRuntime::Libcxxabi];
+
+// Compares what is asked of a frame that is stopped in a call with what was done there. Of exceptions
+// that are native both runtimes ask the same.
 fn expect_answers(
     rt: &impl Abort,
     image: &MemoryImage<'_>,
@@ -344,12 +349,15 @@ fn expect_answers(
     };
     let address = site.return_address.wrapping_sub(1);
     for (thrown, answer) in site.answers {
-        let exception = Exception {
-            types: &caught_by(*thrown, types),
-            foreign: false,
-        };
-        let action = find_cxx_action_at(image, &place, exception, address);
-        expect_equal(rt, action, Ok(*answer));
+        for runtime in RUNTIMES {
+            let exception = Exception {
+                types: &caught_by(*thrown, types),
+                kind: ExceptionKind::Native,
+                runtime,
+            };
+            let action = find_cxx_action_at(image, &place, exception, address);
+            expect_equal(rt, action, Ok(*answer));
+        }
     }
 }
 
@@ -372,9 +380,14 @@ fn handlers_are_those_that_the_runtime_chose(rt: HostRuntime) -> Result<(), Fail
     Ok(())
 }
 
-// What the language table at 0x1000 of a function at 0x100 asks at 0x120 of an exception that isn't
-// one of C++.
-fn asked_by(alloc: Global, table: &str) -> Result<Result<CxxAction, CxxError>, Fail> {
+// What the language table at 0x1000 of a function at 0x100 asks at 0x120 of an exception that has no
+// types.
+fn asked_by(
+    alloc: Global,
+    table: &str,
+    kind: ExceptionKind,
+    runtime: CxxRuntime,
+) -> Result<Result<CxxAction, CxxError>, Fail> {
     let bytes = bytes_of(alloc, table)?;
     let mut image = MemoryImage::new(alloc);
     let _ = image.add(0x1000, &bytes);
@@ -385,7 +398,8 @@ fn asked_by(alloc: Global, table: &str) -> Result<Result<CxxAction, CxxError>, F
     };
     let exception = Exception {
         types: &[],
-        foreign: true,
+        kind,
+        runtime,
     };
     Ok(find_cxx_action_at(&image, &place, exception, 0x120))
 }
@@ -394,7 +408,7 @@ fn asked_by(alloc: Global, table: &str) -> Result<Result<CxxAction, CxxError>, F
 // without a base of its pads, and then its action records.
 #[test]
 fn chains_end_or_are_refused(rt: HostRuntime) -> Result<(), Fail> {
-    let cases: [(&str, Result<CxxAction, CxxError>); 9] = [
+    let cases: [(&str, Result<CxxAction, CxxError>); 7] = [
         ("ffff0104 10204001 00 00", Ok(Cleanup(0x140))),
         ("ffff0104 10204001 007f", Err(CxxError::RecordsLoop)),
         ("ffff0104 10204001 007e", Err(CxxError::RecordOutside)),
@@ -403,12 +417,102 @@ fn chains_end_or_are_refused(rt: HostRuntime) -> Result<(), Fail> {
         ("ffff0104 10204001 0100", Err(CxxError::NoTypes)),
         // a handler of all, of four bytes: the number 0
         ("ff030c0104 10204001 0100 00000000", Ok(Handler(0x140, 1))),
-        // a specification that lists no type, and one that lists one
-        ("ff03080104 10204001 7f00 00", Ok(CxxAction::Terminate)),
-        ("ff03080104 10204001 7f00 01", Ok(CxxAction::None)),
     ];
     for (table, action) in cases {
-        expect_equal(&rt, asked_by(rt.alloc(), table)?, action);
+        for kind in [ExceptionKind::Foreign, ExceptionKind::Forced] {
+            for runtime in RUNTIMES {
+                expect_equal(&rt, asked_by(rt.alloc(), table, kind, runtime)?, action);
+            }
+        }
+    }
+    Ok(())
+}
+
+// A table, as of those above, and what libstdc++ and libc++abi ask by it: of a native exception, which
+// has none of the listed types, of a foreign one, and of a forced unwinding.
+#[derive(Clone, Copy)]
+struct Specified {
+    table: &'static str,
+    libstdcxx: [Result<CxxAction, CxxError>; 3],
+    libcxxabi: [Result<CxxAction, CxxError>; 3],
+}
+
+const KINDS: [ExceptionKind; 3] = [
+    ExceptionKind::Native,
+    ExceptionKind::Foreign,
+    ExceptionKind::Forced,
+];
+
+const CUT: Result<CxxAction, CxxError> = Err(CxxError::Table(Error::UnexpectedEof));
+
+const PASSED: Result<CxxAction, CxxError> = Ok(CxxAction::None);
+
+const ENDED: Result<CxxAction, CxxError> = Ok(Terminate);
+
+// The pad with the number -1 as a word.
+const ENTERED: Result<CxxAction, CxxError> = Ok(Handler(0x140, u64::MAX));
+
+// What the runtimes do by their sources, `__gxx_personality_v0` in eh_personality.cc of libstdc++ and
+// `scan_eh_tab` in cxa_personality.cpp of libc++abi: at exception specifications, and without a call
+// site.
+const SPECIFIED: [Specified; 7] = [
+    // a list of nothing
+    Specified {
+        table: "ff03080104 10204001 7f00 00",
+        libstdcxx: [ENTERED, ENDED, ENDED],
+        libcxxabi: [ENTERED, ENTERED, PASSED],
+    },
+    // a list of one type, whose entry is the number 0x2010
+    Specified {
+        table: "ff030c0104 10204001 7f00 10200000 0100",
+        libstdcxx: [ENTERED, PASSED, PASSED],
+        libcxxabi: [ENTERED, ENTERED, PASSED],
+    },
+    // the same, and then a cleanup in the chain
+    Specified {
+        table: "ff030e0104 10204001 7f010000 10200000 0100",
+        libstdcxx: [ENTERED, Ok(Cleanup(0x140)), Ok(Cleanup(0x140))],
+        libcxxabi: [ENTERED, ENTERED, Ok(Cleanup(0x140))],
+    },
+    // a handler of the type, which takes none of these
+    Specified {
+        table: "ff030c0104 10204001 0100 10200000",
+        libstdcxx: [PASSED, PASSED, PASSED],
+        libcxxabi: [PASSED, PASSED, PASSED],
+    },
+    // a list that isn't in memory
+    Specified {
+        table: "ff03090104 10204001 9c7f00",
+        libstdcxx: [CUT, CUT, CUT],
+        libcxxabi: [CUT, Ok(Handler(0x140, 0u64.wrapping_sub(100))), PASSED],
+    },
+    // a table that has no types, and so no lists
+    Specified {
+        table: "ffff0104 10204001 7f00",
+        libstdcxx: [
+            Err(CxxError::NoTypes),
+            Err(CxxError::NoTypes),
+            Err(CxxError::NoTypes),
+        ],
+        libcxxabi: [Err(CxxError::NoTypes), ENTERED, PASSED],
+    },
+    // a call site that begins past the call
+    Specified {
+        table: "ffff0104 30104000",
+        libstdcxx: [ENDED, ENDED, ENDED],
+        libcxxabi: [ENDED, ENDED, ENDED],
+    },
+];
+
+#[test]
+fn specifications_go_by_their_runtime(rt: HostRuntime) -> Result<(), Fail> {
+    for case in SPECIFIED {
+        for (index, kind) in KINDS.iter().enumerate() {
+            let gnu = asked_by(rt.alloc(), case.table, *kind, CxxRuntime::Libstdcxx)?;
+            expect_equal(&rt, gnu, case.libstdcxx[index]);
+            let llvm = asked_by(rt.alloc(), case.table, *kind, CxxRuntime::Libcxxabi)?;
+            expect_equal(&rt, llvm, case.libcxxabi[index]);
+        }
     }
     Ok(())
 }

@@ -47,8 +47,9 @@ pub use unwinding_frames::{
     _Unwind_DeleteException, _Unwind_GetCFA, _Unwind_GetDataRelBase, _Unwind_GetGR, _Unwind_GetIP,
     _Unwind_GetIPInfo, _Unwind_GetLanguageSpecificData, _Unwind_GetRegionStart,
     _Unwind_GetTextRelBase, _Unwind_SetGR, _Unwind_SetIP, CxxAction, CxxError, CxxPersonality,
-    DummyPersonality, EhAction, Exception, Frame, Kept, Personality, Place, RustPersonality,
-    StepError, UnwindAction, UnwindContext, UnwindException, UnwindReasonCode, address_asked,
-    eh_action_of, find_cxx_action, find_cxx_action_at, find_eh_action, find_eh_action_at,
-    frame_mark, lines_are_one, lsda_of, personality_of, step_by_row,
+    CxxRuntime, DummyPersonality, EhAction, Exception, ExceptionKind, Frame, Kept, Personality,
+    Place, RustPersonality, StepError, UnwindAction, UnwindContext, UnwindException,
+    UnwindReasonCode, address_asked, eh_action_of, find_cxx_action, find_cxx_action_at,
+    find_eh_action, find_eh_action_at, frame_mark, lines_are_one, lsda_of, personality_of,
+    step_by_row,
 };
