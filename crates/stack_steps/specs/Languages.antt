@@ -13,6 +13,9 @@ use Rattle.frame_facts.specs.FactTables.{AreSaidAt}
 use Rattle.unwind_definitions.specs.LanguageSearch.{LanguagePlace, address_of_call, personality_address, table_action}
 use Rattle.unwind_arch.specs.declared.x86_64.Context.{Context}
 use Rattle.unwinding_frames.specs.declared.cxx.error.CxxError.{CxxError}
+use Rattle.unwinding_frames.specs.declared.cxx.runtime.CxxRuntime.{CxxRuntime}
+use Rattle.unwinding_frames.specs.declared.cxx.runtime.CxxRuntime.TheVariants.{Libstdcxx, Libcxxabi}
+use Rattle.unwinding_frames.specs.declared.cxx.runtime.ExceptionKind.TheVariants.{Foreign}
 use Rattle.unwinding_frames.specs.CxxTables.{Exception, contains, cxx_table_action}
 use Rattle.unwinding_frames.specs.CxxTables as cxx
 use Rattle.unwinding_frames.specs.CxxViews.{exception_of}
@@ -28,7 +31,8 @@ use Rattle.stack_steps.specs.Frames.{FrameAt, Described, Compact, Recorded}
 -- ---- languages
 
 -- The languages of the functions on a stack, as an exception in flight meets them: the addresses of the personality routines that
--- are C++'s, and the exception as C++ functions see it. The functions of every other routine ask by the rule of Rust.
+-- are C++'s, all of one runtime, and the exception as C++ functions see it. The functions of every other routine ask by the rule of
+-- Rust.
 pub record Languages : Type 0 where
   pub cxx_routines : List ℕ
   pub exception : Exception
@@ -38,7 +42,7 @@ languages_of l = record { cxx_routines = l.cxx_routines.now; exception = excepti
 
 -- no routine is C++'s
 abbrev pub rust_alone : Languages
-rust_alone = record { cxx_routines = []; exception = record { types = []; foreign = true } }
+rust_alone = record { cxx_routines = []; exception = record { types = []; kind = Foreign; runtime = Libstdcxx } }
 
 -- The routine that reads the language table of a frame, where a description names it. That of a Mach-O or PE function isn't looked at.
 abbrev pub known_routine : Result (Option ℕ) StepFault → Option ℕ
@@ -63,19 +67,24 @@ asked_by_rust (rust.Catch pad) = Handler pad 0
 asked_by_rust (rust.Filter pad) = Handler pad 0
 asked_by_rust rust.Terminate = Terminate
 
--- By the rule of C++ a landing pad finds the number of the action record that takes the exception, and a call that no exception may
--- leave ends the program once the cleanups inside have run. A table that can't be read ends the program at once.
-abbrev pub asked_by_cxx : Result cxx.CxxAction CxxError → FrameAction
-asked_by_cxx (Ok cxx.NoAction) = Nothing
-asked_by_cxx (Ok (cxx.Cleanup pad)) = Cleanup pad
-asked_by_cxx (Ok (cxx.Handler pad filter)) = Handler pad filter
-asked_by_cxx (Ok cxx.Terminate) = TerminateAfterCleanups
-asked_by_cxx (Err e) = Terminate
+-- Where no exception may leave a call, libstdc++ ends the program once the cleanups inside have run, and libc++abi at once.
+abbrev pub ended_by : CxxRuntime → FrameAction
+ended_by Libstdcxx = TerminateAfterCleanups
+ended_by Libcxxabi = Terminate
+
+-- By the rule of C++ a landing pad finds the number of the action record that takes the exception. A table that can't be read ends
+-- the program at once.
+abbrev pub asked_by_cxx : CxxRuntime → Result cxx.CxxAction CxxError → FrameAction
+asked_by_cxx runtime (Ok cxx.NoAction) = Nothing
+asked_by_cxx runtime (Ok (cxx.Cleanup pad)) = Cleanup pad
+asked_by_cxx runtime (Ok (cxx.Handler pad filter)) = Handler pad filter
+asked_by_cxx runtime (Ok cxx.Terminate) = ended_by runtime
+asked_by_cxx runtime (Err e) = Terminate
 
 -- what the language table at a place asks at an address, by the language of the routine that reads it
 abbrev pub table_asks : Languages → List Span → ℕ → Option ℕ → Result LanguagePlace StepFault → FrameAction
 table_asks l image a routine place =
-    if is_cxx l routine then asked_by_cxx (cxx_table_action image l.exception a place) else asked_by_rust (or_terminate (table_action image a place))
+    if is_cxx l routine then asked_by_cxx l.exception.runtime (cxx_table_action image l.exception a place) else asked_by_rust (or_terminate (table_action image a place))
 
 -- nothing is asked of a frame that names no language table
 abbrev pub asks_if_named : Languages → List Span → ℕ → Option ℕ → Option (Result LanguagePlace StepFault) → FrameAction

@@ -8,7 +8,7 @@ ghost use Rattle.unwinding_frames.specs.LanguageViews.{action_of, answer_seen};
 ghost use Rattle.stack_steps.specs.Asking.{or_terminate};
 ghost use Rattle.stack_steps.specs.FrameViews.{IsFrameOf};
 ghost use Rattle.stack_steps.specs.Languages.{Languages as SpecLanguages, asked_by_cxx};
-ghost use Rattle.stack_steps.specs.Languages.{asked_by_rust, asks_if_named, frame_asks};
+ghost use Rattle.stack_steps.specs.Languages.{asked_by_rust, asks_if_named, ended_by, frame_asks};
 ghost use Rattle.stack_steps.specs.Languages.{is_taken, languages_of, pad_of, selector_of};
 ghost use Rattle.stack_steps.specs.Frames.{FrameAt};
 
@@ -19,7 +19,8 @@ use crate::languages::Languages;
 use format_frames::Stepped;
 use memory_image::MemoryImage;
 use unwinding_frames::{
-    CxxAction, EhAction, Exception, Place, StepError, find_cxx_action_at, find_eh_action_at,
+    CxxAction, CxxRuntime, EhAction, Exception, Place, StepError, find_cxx_action_at,
+    find_eh_action_at,
 };
 
 /// What a frame asks of an exception that comes to it.
@@ -90,7 +91,7 @@ pub(crate) fn asked_by_rust(action: Result<EhAction, StepError>) -> FrameAction
 }
 
 /// What the language table at a place asks at an address by the rule of C++. One that can't be read
-/// ends the program.
+/// ends the program at once.
 #[inline(never)]
 pub(crate) fn asked_by_cxx(
     exception: Exception<'_>,
@@ -98,8 +99,8 @@ pub(crate) fn asked_by_cxx(
     place: Result<Place, StepError>,
     address: u64,
 ) -> FrameAction
-    ensures { result ≡ asked_by_cxx (cxx_table_action image.now (exception_of exception.entry) address
-        (answer_seen language_place_of place)) }
+    ensures { result ≡ asked_by_cxx exception.entry.runtime (cxx_table_action image.now
+        (exception_of exception.entry) address (answer_seen language_place_of place)) }
 {
     let Ok(place) = place else {
         return FrameAction::Terminate;
@@ -108,8 +109,18 @@ pub(crate) fn asked_by_cxx(
         Ok(CxxAction::None) => FrameAction::Nothing,
         Ok(CxxAction::Cleanup(pad)) => FrameAction::Cleanup(pad),
         Ok(CxxAction::Handler(pad, number)) => FrameAction::Handler(pad, number),
-        Ok(CxxAction::Terminate) => FrameAction::TerminateAfterCleanups,
+        Ok(CxxAction::Terminate) => ended_by(exception.runtime),
         Err(_) => FrameAction::Terminate,
+    }
+}
+
+/// How a runtime of C++ ends the program.
+fn ended_by(runtime: CxxRuntime) -> FrameAction
+    ensures { result ≡ ended_by runtime }
+{
+    match runtime {
+        CxxRuntime::Libstdcxx => FrameAction::TerminateAfterCleanups,
+        CxxRuntime::Libcxxabi => FrameAction::Terminate,
     }
 }
 
@@ -136,7 +147,27 @@ fn placed_asks(image: &MemoryImage<'_>, place: Option<Place>, address: u64) -> F
 /// personality that an opcode names isn't listed in its section, or the language tables of its page
 /// can't be read; `PeInfo` and `ChainLimit` where the records of a PE frame can't be read up to one that
 /// names a handler, `PeInfo` also where the bytes of that handler are missing.
+#[inline(always)]
 pub fn frame_asks(
+    languages: &Languages<'_>,
+    image: &MemoryImage<'_>,
+    state: &Stepped,
+    frame: &FoundFrame<'_, '_>,
+) -> Result<FrameAction, DeliverError>
+    ensures { (f : FrameAt) → IsFrameOf frame.now f →
+        result ≡ frame_asks (languages_of languages.now) image.now state.now.context
+        state.now.signal f }
+{
+    match frame {
+        // So it is of most frames.
+        FoundFrame::Prepared(_, frame) if !frame.has_personality() => Ok(FrameAction::Nothing),
+        _ => named_asks(languages, image, state, frame),
+    }
+}
+
+/// The same, whatever the frame names.
+#[inline(never)]
+fn named_asks(
     languages: &Languages<'_>,
     image: &MemoryImage<'_>,
     state: &Stepped,
@@ -149,7 +180,6 @@ pub fn frame_asks(
     let address = state.address();
     match frame {
         FoundFrame::Searched(frame) => elf::described_asks(languages, image, frame.found, address),
-        FoundFrame::Prepared(_, frame) if !frame.has_personality() => Ok(FrameAction::Nothing),
         FoundFrame::Prepared(table, frame) => {
             elf::prepared_asks(languages, image, table, frame, address)
         }

@@ -218,9 +218,9 @@ fn prepared_cxx_asks(
     frame: &PreparedFrame<'_, '_>,
     address: u64,
 ) -> FrameAction
-    ensures { result ≡ asked_by_cxx (cxx_table_action image.now (exception_of exception.entry)
-        address (language_place image.now (prepared_fde table.now frame.now.fde).bases
-        frame.now.fde)) }
+    ensures { result ≡ asked_by_cxx exception.entry.runtime (cxx_table_action image.now
+        (exception_of exception.entry) address
+        (language_place image.now (prepared_fde table.now frame.now.fde).bases frame.now.fde)) }
 {
     asked_by_cxx(
         exception,

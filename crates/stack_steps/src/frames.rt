@@ -1,5 +1,5 @@
-// Frames, of modules of whatever format. Here the formats part, each question in one match; what is
-// answered stands under the same names in `elf`, `macho` and `pe`.
+// Frames of modules of any format: the frame at an address, how many bytes its arguments take, and its
+// caller, each by one match. What it answers for one format stands in `elf`, `macho` and `pe`.
 ghost use Rattle.std.specs.Prelude.{◌≡◌, ◌<◌, ◌≤◌, OnErr, Some};
 ghost use Rattle.memory_image.specs.Results.{result_map};
 ghost use Rattle.stack_steps.specs.Asking.{arguments_of};
@@ -50,6 +50,7 @@ impl<'f, 'a> FoundFrame<'f, 'a> {
             FoundFrame::Compact(_) | FoundFrame::Recorded(_) => 0,
         }
     }
+
     /// Makes a copy of the state at the frame its caller's. After a fault the copy's registers are
     /// unspecified. `stack` is a window over the image.
     #[inline(always)]

@@ -2,7 +2,7 @@
 ghost use Rattle.std.specs.Prelude.{◌≡◌};
 ghost use Rattle.stack_steps.specs.Languages.{is_cxx, languages_of, rust_alone};
 
-use unwinding_frames::Exception;
+use unwinding_frames::{CxxRuntime, Exception, ExceptionKind};
 
 /// The languages of the functions on a stack, as the exception in flight meets them: a function
 /// whose personality routine is one of C++'s asks by the rule of C++, and every other by that of
@@ -14,7 +14,7 @@ pub struct Languages<'l> {
     /// The addresses of the personality routines that are C++'s: one in most processes, or one for
     /// each module with a runtime of its own.
     pub cxx_routines: &'l [u64],
-    /// The exception as C++ functions see it.
+    /// The exception as C++ functions see it, and the runtime that those routines are of.
     pub exception: Exception<'l>,
 }
 
@@ -27,7 +27,8 @@ impl<'l> Languages<'l> {
             cxx_routines: &[],
             exception: Exception {
                 types: &[],
-                foreign: true,
+                kind: ExceptionKind::Foreign,
+                runtime: CxxRuntime::Libstdcxx,
             },
         }
     }
