@@ -345,9 +345,9 @@ module _ (space : SpaceValue) (limit : ℕ) (c : Context) (interrupted : Bool) (
   pub walk_states : room.visited ≡ front_of space limit c interrupted
   walk_states = walk_reached.0
 
-  module _ (result : Result (Option CodeStop) DeliverError) (out : IsOutward true result room (line_for None space limit c interrupted)) where
+  module _ (result : Result (Option CodeStop) DeliverError) (out : IsOutward true result room state (line_for None space limit c interrupted)) where
     line : IsWalked result room (line_of space limit c interrupted)
-    line = walked_by result room (line_for None space limit c interrupted) (line_of space limit c interrupted) out (walk_line space limit c interrupted)
+    line = walked_by result room state (line_for None space limit c interrupted) (line_of space limit c interrupted) out (walk_line space limit c interrupted)
 
     -- the end of the stack
     pub walk_ends : (stop : Option CodeStop) → result ≡ Ok stop → step_of space state.context state.signal ≡ Ok None

@@ -46,11 +46,11 @@ module _ (pass : Option Pass) (space : SpaceValue) (room n : ℕ) (at : Stepped)
   pub line_faults : (e : DeliverError) → turn_for pass space at.context at.signal ≡ Err e → whole ≡ Err e
   line_faults e fails = sym (rw fails at turned)
 
-  pub line_ends : turn_for pass space at.context at.signal ≡ Ok Ends → whole ≡ Ok (line_shown (front ++ at.context ∷ []) None)
-  line_ends ends = sym (rw ends at turned)
+  pub line_ends : (state : Stepped) → turn_for pass space at.context at.signal ≡ Ok Ends → whole ≡ Ok (line_shown (front ++ at.context ∷ []) state None)
+  line_ends state ends = sym (rw ends at turned)
 
   pub line_stops : (state : Stepped) (action : FrameAction) (arguments : ℕ) → state ≡ at → turn_for pass space at.context at.signal ≡ Ok (turn_shown state (code.Stop action arguments)) →
-      whole ≡ Ok (line_shown (front ++ at.context ∷ []) (Some (record { state = state; action = action; arguments = arguments })))
+      whole ≡ Ok (line_shown (front ++ at.context ∷ []) state (Some (record { action = action; arguments = arguments })))
   line_stops state action arguments same stops = rw same (sym (rw (stops, same) at turned))
 
   pub line_goes : (next : Stepped) → turn_for pass space at.context at.signal ≡ Ok (Goes next) → with_contexts (front ++ at.context ∷ []) (line_for pass space n next.context next.signal) ≡ whole
@@ -102,6 +102,6 @@ walk_line space (suc room) c interrupted = go (frame_of space c interrupted) (λ
     go (Err e) outer = refl
 
 -- a walk's answer
-pub walked_by : (r : Result (Option CodeStop) DeliverError) (room : RoomValue) (due : Result Line DeliverError) (line : Result (List Context) DeliverError) → IsOutward true r room due → result_map (λ (l : Line). l.contexts) due ≡ line → IsWalked r room line
-walked_by (Ok stop) room due line out is = sym is ∙ ap (result_map (λ (l : Line). l.contexts)) out.1 ∙ ap Ok (sym out.2)
-walked_by (Err e) room due line out is = sym is ∙ ap (result_map (λ (l : Line). l.contexts)) out
+pub walked_by : (r : Result (Option CodeStop) DeliverError) (room : RoomValue) (state : Stepped) (due : Result Line DeliverError) (line : Result (List Context) DeliverError) → IsOutward true r room state due → result_map (λ (l : Line). l.contexts) due ≡ line → IsWalked r room line
+walked_by (Ok stop) room state due line out is = sym is ∙ ap (result_map (λ (l : Line). l.contexts)) out.1 ∙ ap Ok (sym out.2)
+walked_by (Err e) room state due line out is = sym is ∙ ap (result_map (λ (l : Line). l.contexts)) out

@@ -88,7 +88,7 @@ input_of base bytes = record { base = base; offset = 0; bytes = bytes }
 -- the line's, the state is left as the last that it reached or, at the limit, the next, and the room keeps its cleanups and its limit.
 abbrev pub WalksOutwards : SpaceValue → ℕ → Stepped → Stepped → RoomValue → RoomValue → Result (Option Stop) DeliverError → Type 0
 WalksOutwards space limit start left before after result =
-    IsOutward true result after (line_for None space limit start.context start.signal)
+    IsOutward true result after left (line_for None space limit start.context start.signal)
     × IsReached true after left (reached_by (turned_from None space) limit start)
     × (after.trail ≡ before.trail) × (after.limit ≡ before.limit)
 

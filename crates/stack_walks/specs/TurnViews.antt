@@ -33,17 +33,18 @@ abbrev pub StaysAt : CodeTurn → Stepped → Stepped → Type 0
 StaysAt code.Caller old new = Unit {0}
 StaysAt _ old new = new ≡ old
 
-abbrev pub stop_shown : CodeStop → Stop
-stop_shown s = record {
-  context = s.state.context;
-  interrupted = s.state.signal;
+-- a stop at the frame at a state
+abbrev pub stop_shown : Stepped → CodeStop → Stop
+stop_shown state s = record {
+  context = state.context;
+  interrupted = state.signal;
   action = s.action;
-  past = past_arguments s.state.context s.arguments;
+  past = past_arguments state.context s.arguments;
 }
 
--- where it stopped on the way outwards, and the contexts that were met
-abbrev pub line_shown : List Context → Option CodeStop → Line
-line_shown contexts stop = record { contexts = contexts; stop = option_map stop_shown stop }
+-- where it stopped on the way outwards, at which state, and the contexts that were met
+abbrev pub line_shown : List Context → Stepped → Option CodeStop → Line
+line_shown contexts state stop = record { contexts = contexts; stop = option_map (stop_shown state) stop }
 
 -- contexts are visited by a walk and by the search; a cleanup pass meets them again
 abbrev pub visits_in : Phase → Bool
@@ -64,10 +65,10 @@ abbrev pub AreVisited : Bool → RoomValue → List Context → Type 0
 AreVisited true room contexts = room.visited ≡ contexts
 AreVisited false room contexts = Unit {0}
 
--- where it stopped on the way outwards, and the room after it
-abbrev pub IsOutward : Bool → Result (Option CodeStop) DeliverError → RoomValue → Result Line DeliverError → Type 0
-IsOutward visited (Ok stop) room due = (contexts : List Context) × (due ≡ Ok (line_shown contexts stop)) × AreVisited visited room contexts
-IsOutward visited (Err e) room due = due ≡ Err e
+-- where it stopped on the way outwards, and the room and the state after it
+abbrev pub IsOutward : Bool → Result (Option CodeStop) DeliverError → RoomValue → Stepped → Result Line DeliverError → Type 0
+IsOutward visited (Ok stop) room state due = (contexts : List Context) × (due ≡ Ok (line_shown contexts state stop)) × AreVisited visited room contexts
+IsOutward visited (Err e) room state due = due ≡ Err e
 
 -- contexts that were met before a pass's
 abbrev pub with_contexts : List Context → Result Line DeliverError → Result Line DeliverError

@@ -29,8 +29,8 @@ use crate::room::Room;
 use eh_frame::{Bases, EhFrame, Entries, Error, RowRoom};
 use fde_finders::{FrameInfo, FrameInfoKind};
 use memory_image::{Ledger, MemoryImage, Steps};
-use stack_steps::{DeliverError, GrownSpace, Module, ModuleTables, Space, Stepped};
-use unwind_arch::x86_64::Context;
+use stack_steps::{DeliverError, GrownSpace, Module, ModuleTables, Space, Stepped, Stepper};
+use unwind_arch::x86_64::{Context, RSP};
 
 /// Why a walk goes no further than its last state.
 ///
@@ -240,7 +240,8 @@ where
         steps.old.number steps.new.number }
 {
     let mut rows = RowRoom::new();
-    outwards_over(None, space, state, limit, room, &mut rows, steps)
+    let mut stepper = Stepper::over(space, state.context.registers[RSP]);
+    outwards_over(None, &mut stepper, state, limit, room, &mut rows, steps)
 }
 
 /// Walks as [`walk_front_into`] does, over a space that is seen over an image which has grown: so one

@@ -14,6 +14,6 @@ pub use front::{
     Front, a_walk_ends_for_one_reason, each_reason_is_given, unframed_front, walk_front_into,
     walk_front_over,
 };
-pub use outward::{Pass, Phase, Stop, outwards, outwards_over};
+pub use outward::{Pass, Phase, Stop, mark_of, outwards, outwards_over};
 pub use room::{Room, Trail};
 pub use walking::{Visited, walk, walk_into, walk_with_rows};

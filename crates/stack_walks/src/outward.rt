@@ -58,10 +58,9 @@ pub struct Pass<'l> {
     pub languages: Languages<'l>,
 }
 
-/// Where a pass stops.
+/// What a pass stops for. The frame is the one at the state that the pass leaves.
 #[derive(Clone, Copy)]
 pub struct Stop {
-    state: Stepped,
     action: FrameAction,
     // how many bytes of arguments the frame's callee removes
     arguments: u64,
@@ -75,26 +74,24 @@ impl Stop {
         self.action
     }
 
-    /// The mark by which a later pass knows the frame.
-    pub fn kept(&self) -> u64
-        ensures { result ≡ mark_at self.now.state.context self.now.state.signal }
+    /// Makes the frame's registers those with which a landing pad of it is entered.
+    pub fn enter(&self, context: &mut Context, exception: u64, pad: u64)
+        ensures { context.new ≡ enters (past_arguments context.old self.now.arguments) exception
+            (selector_of self.now.action) pad }
     {
-        frame_mark(self.state.context.registers[RSP], self.state.signal)
-    }
-
-    /// The registers with which a landing pad is entered.
-    pub fn entering(&self, exception: u64, pad: u64) -> Context
-        ensures { result ≡ enters (past_arguments self.now.state.context self.now.arguments)
-            exception (selector_of self.now.action) pad }
-    {
-        let mut context = self.state.context;
         // Past the arguments that the callee removes.
         context.registers[RSP] = context.registers[RSP].wrapping_add(self.arguments);
         context.registers[RAX] = exception;
         context.registers[RDX] = self.action.selector();
         context.ra = pad;
-        context
     }
+}
+
+/// The mark by which a later pass knows the frame at a state.
+pub fn mark_of(state: &Stepped) -> u64
+    ensures { result ≡ mark_at state.now.context state.now.signal }
+{
+    frame_mark(state.context.registers[RSP], state.signal)
 }
 
 /// What is met at a state.
@@ -192,11 +189,10 @@ fn visit(pass: Option<Pass<'_>>, state: &Stepped, room: &mut Room)
 
 /// Goes from a state outwards: a walk, which is no pass and puts each state into the room, the
 /// search, which does so too, or a cleanup pass. It answers where it stops, `None` at the end of
-/// the stack. `state` is then the last state that was met or, after `FrameLimit`, the next. The space
-/// may be seen over an image that has grown.
+/// the stack. `state` is then the last state that was met or, after `FrameLimit`, the next.
 pub fn outwards_over<'t, 'a, L: Ledger>(
     pass: Option<Pass<'_>>,
-    space: &GrownSpace<'_, 't, 'a>,
+    stepper: &mut Stepper<'_, 't, 'a>,
     state: &mut Stepped,
     limit: u32,
     room: &mut Room,
@@ -207,31 +203,25 @@ where
     't: 'a,
     requires within { limit ≤ room.old.limit }
     requires empty { visits (passing pass) ≡ true → room.old.visited ≡ [] }
-    ensures exact { IsOutward (visits (passing pass.entry)) result room.new
-        (line_for (passing pass.entry) space.now limit state.old.context
+    ensures exact { IsOutward (visits (passing pass.entry)) result room.new state.new
+        (line_for (passing pass.entry) stepper.old limit state.old.context
         state.old.signal) }
     ensures reached { IsReached (visits (passing pass.entry)) room.new state.new
-        (reached_by (turned_from (passing pass.entry) space.now) limit state.old) }
+        (reached_by (turned_from (passing pass.entry) stepper.old) limit state.old) }
     ensures kept { (room.new.trail ≡ room.old.trail) × (room.new.limit ≡ room.old.limit) }
     ensures stays { visits (passing pass.entry) ≡ false → room.new ≡ room.old }
-    ensures ticks { RisesWithin space.now
-        (contexts_met (passing pass.entry) space.now limit state.old.context
+    ensures same { stepper.new ≡ stepper.old }
+    ensures ticks { RisesWithin stepper.old
+        (contexts_met (passing pass.entry) stepper.old limit state.old.context
         state.old.signal)
         steps.old.number steps.new.number }
 {
-    let mut stepper = Stepper::over(space, state.context.registers[RSP]);
     let mut place = None;
     for _ in 0..limit {
         visit(pass, state, room);
-        match meet(pass, &mut stepper, state, &mut place, rows, steps)? {
+        match meet(pass, stepper, state, &mut place, rows, steps)? {
             Turn::End => return Ok(None),
-            Turn::Stop(action, arguments) => {
-                return Ok(Some(Stop {
-                    state: *state,
-                    action,
-                    arguments,
-                }));
-            }
+            Turn::Stop(action, arguments) => return Ok(Some(Stop { action, arguments })),
             Turn::Caller => {}
         }
     }
@@ -278,7 +268,7 @@ pub fn outwards<'a, L: Ledger>(
 ) -> Result<Option<Stop>, DeliverError>
     requires within { limit ≤ room.old.limit }
     requires empty { visits (passing pass) ≡ true → room.old.visited ≡ [] }
-    ensures exact { IsOutward (visits (passing pass.entry)) result room.new
+    ensures exact { IsOutward (visits (passing pass.entry)) result room.new state.new
         (line_for (passing pass.entry) space.now limit state.old.context
         state.old.signal) }
     ensures reached { IsReached (visits (passing pass.entry)) room.new state.new
@@ -291,5 +281,6 @@ pub fn outwards<'a, L: Ledger>(
         steps.old.number steps.new.number }
 {
     let own = space.over_own_image();
-    outwards_over(pass, &own, state, limit, room, rows, steps)
+    let mut stepper = Stepper::over(&own, state.context.registers[RSP]);
+    outwards_over(pass, &mut stepper, state, limit, room, rows, steps)
 }

@@ -54,7 +54,7 @@ returns-then-not-branch-clause-walks g c =
     let here = turned_ends None c.args.space.now c.loop.state ends in (
       (
         line.0 ++ c.loop.state.context ∷ [],
-        line_ends None c.args.space.now _ _ c.loop.state line.0 _ turns line.1 ends,
+        line_ends None c.args.space.now _ _ c.loop.state line.0 _ turns line.1 c.advance.new.state ends,
         rw c.visit.ensures (more_visited true c.loop.room c.loop.state.context line.0 line.2),
       ),
       stands true c.visit.new.room c.advance.new.state c.loop.state line.0 (reached_by (turned_from None c.args.space.now) c.args.limit c.args.state.now)

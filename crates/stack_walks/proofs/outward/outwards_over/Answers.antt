@@ -13,13 +13,13 @@ pub loop-init : goal.loop-init
 loop-init g c =
     let same : c.args.limit - 0 ≡ c.args.limit = omega arith in
     record {
-      line = ([], rw same (no_contexts (line_for (passing c.args.pass) c.args.space.now c.args.limit c.args.state.now.context c.args.state.now.signal)), start_visited (visits (passing c.args.pass)) c.args.room.now c.requires.empty, rw same (none_met (reached_by (turned_from (passing c.args.pass) c.args.space.now) c.args.limit c.args.state.now)), refl);
+      line = ([], rw same (no_contexts (line_for (passing c.args.pass) c.args.stepper.now c.args.limit c.args.state.now.context c.args.state.now.signal)), start_visited (visits (passing c.args.pass)) c.args.room.now c.requires.empty, rw same (none_met (reached_by (turned_from (passing c.args.pass) c.args.stepper.now) c.args.limit c.args.state.now)), refl);
       visited = λ visited. ap length (c.requires.empty visited);
       stays = λ unvisited. refl;
       trail = refl;
       places = refl;
-      over = c.over-stepper.ensures;
-      ticks = rises_none c.args.space.now c.args.steps.now.number;
+      over = refl;
+      ticks = rises_none c.args.stepper.now c.args.steps.now.number;
     }
 
 pub visit-requires : goal.visit-requires
@@ -30,14 +30,14 @@ returns-in_err-meet-clause-exact g c =
     let p = err_from_is_err_and c.from_residual.result c.from_residual.ensures.1 in
     let turns : c.args.limit - c.loop.counter ≡ suc (c.args.limit - (c.loop.counter + 1)) = omega arith in
     let line = c.loop.invariant.line in
-    rw (p.1, p.2) (line_faults (passing c.args.pass) c.args.space.now _ _ c.loop.state line.0 _ turns line.1 c.in_err-meet.field-0.0 (sym (rw c.loop.invariant.over at c.in_err-meet.ensures.met)))
+    rw (p.1, p.2) (line_faults (passing c.args.pass) c.args.stepper.now _ _ c.loop.state line.0 _ turns line.1 c.in_err-meet.field-0.0 (sym (rw c.loop.invariant.over at c.in_err-meet.ensures.met)))
 
 pub returns-in-End-clause-exact : goal.returns-in-End-clause-exact
 returns-in-End-clause-exact g c =
     let turns : c.args.limit - c.loop.counter ≡ suc (c.args.limit - (c.loop.counter + 1)) = omega arith in
     let line = c.loop.invariant.line in (
       line.0 ++ c.loop.state.context ∷ [],
-      line_ends (passing c.args.pass) c.args.space.now _ _ c.loop.state line.0 _ turns line.1 (sym (rw (c.loop.invariant.over, c.in-End.is) at c.in_ok-meet.ensures.met)),
+      line_ends (passing c.args.pass) c.args.stepper.now _ _ c.loop.state line.0 _ turns line.1 c.meet.new.state (sym (rw (c.loop.invariant.over, c.in-End.is) at c.in_ok-meet.ensures.met)),
       rw c.visit.ensures (more_visited (visits (passing c.args.pass)) c.loop.room c.loop.state.context line.0 line.2),
     )
 
@@ -46,7 +46,7 @@ returns-in-Stop-clause-exact g c =
     let turns : c.args.limit - c.loop.counter ≡ suc (c.args.limit - (c.loop.counter + 1)) = omega arith in
     let line = c.loop.invariant.line in (
       line.0 ++ c.loop.state.context ∷ [],
-      line_stops (passing c.args.pass) c.args.space.now _ _ c.loop.state line.0 _ turns line.1 c.meet.new.state c.in-Stop.action c.in-Stop.arguments (rw c.in-Stop.is at c.in_ok-meet.ensures.stays) (sym (rw (c.loop.invariant.over, c.in-Stop.is) at c.in_ok-meet.ensures.met)),
+      line_stops (passing c.args.pass) c.args.stepper.now _ _ c.loop.state line.0 _ turns line.1 c.meet.new.state c.in-Stop.action c.in-Stop.arguments (rw c.in-Stop.is at c.in_ok-meet.ensures.stays) (sym (rw (c.loop.invariant.over, c.in-Stop.is) at c.in_ok-meet.ensures.met)),
       rw c.visit.ensures (more_visited (visits (passing c.args.pass)) c.loop.room c.loop.state.context line.0 line.2),
     )
 
@@ -58,9 +58,9 @@ loop-preserved g c =
     record {
       line = (
         line.0 ++ c.loop.state.context ∷ [],
-        line_goes (passing c.args.pass) c.args.space.now _ _ c.loop.state line.0 _ turns line.1 c.meet.new.state (sym (rw (c.loop.invariant.over, c.in-Caller.is) at c.in_ok-meet.ensures.met)),
+        line_goes (passing c.args.pass) c.args.stepper.now _ _ c.loop.state line.0 _ turns line.1 c.meet.new.state (sym (rw (c.loop.invariant.over, c.in-Caller.is) at c.in_ok-meet.ensures.met)),
         rw c.visit.ensures (more_visited (visits (passing c.args.pass)) c.loop.room c.loop.state.context line.0 line.2),
-        reached_next (turned_from (passing c.args.pass) c.args.space.now) _ _ c.loop.state line.0 _ turns line.3 c.meet.new.state (turned_goes (passing c.args.pass) c.args.space.now c.loop.state c.meet.new.state (sym (rw (c.loop.invariant.over, c.in-Caller.is) at c.in_ok-meet.ensures.met))),
+        reached_next (turned_from (passing c.args.pass) c.args.stepper.now) _ _ c.loop.state line.0 _ turns line.3 c.meet.new.state (turned_goes (passing c.args.pass) c.args.stepper.now c.loop.state c.meet.new.state (sym (rw (c.loop.invariant.over, c.in-Caller.is) at c.in_ok-meet.ensures.met))),
         length-append line.0 (c.loop.state.context ∷ []) ∙ ap (λ (n : ℕ). n + 1) line.4,
       );
       visited = rw c.visit.ensures (visited_count (visits (passing c.args.pass)) c.loop.room c.loop.state.context c.loop.counter c.loop.invariant.visited);
@@ -68,69 +68,69 @@ loop-preserved g c =
       trail = rw c.visit.ensures (keeps.0 ∙ c.loop.invariant.trail);
       places = rw c.visit.ensures (keeps.1 ∙ c.loop.invariant.places);
       over = c.in_ok-meet.ensures.same ∙ c.loop.invariant.over;
-      ticks = rises_by_one c.args.space.now c.loop.state.context c.loop.state.signal c.loop.counter _ _ _ c.loop.invariant.ticks (rw c.loop.invariant.over at c.in_ok-meet.ensures.ticks);
+      ticks = rises_by_one c.args.stepper.now c.loop.state.context c.loop.state.signal c.loop.counter _ _ _ c.loop.invariant.ticks (rw c.loop.invariant.over at c.in_ok-meet.ensures.ticks);
     }
 
 pub returns-in_err-meet-clause-ticks : goal.returns-in_err-meet-clause-ticks
 returns-in_err-meet-clause-ticks g c =
     let turns : c.args.limit - c.loop.counter ≡ suc (c.args.limit - (c.loop.counter + 1)) = omega arith in
     let line = c.loop.invariant.line in
-    let here = turned_faults (passing c.args.pass) c.args.space.now c.loop.state c.in_err-meet.field-0.0 (sym (rw c.loop.invariant.over at c.in_err-meet.ensures.met)) in
-    rises_to c.args.space.now _ _ _ _ (sym (met_here _ line.0 c.loop.state c.loop.counter line.4 (reached_here (turned_from (passing c.args.pass) c.args.space.now) _ _ c.loop.state line.0 _ turns line.3 here)))
-    (rises_by_one c.args.space.now c.loop.state.context c.loop.state.signal c.loop.counter _ _ _ c.loop.invariant.ticks (rw c.loop.invariant.over at c.in_err-meet.ensures.ticks))
+    let here = turned_faults (passing c.args.pass) c.args.stepper.now c.loop.state c.in_err-meet.field-0.0 (sym (rw c.loop.invariant.over at c.in_err-meet.ensures.met)) in
+    rises_to c.args.stepper.now _ _ _ _ (sym (met_here _ line.0 c.loop.state c.loop.counter line.4 (reached_here (turned_from (passing c.args.pass) c.args.stepper.now) _ _ c.loop.state line.0 _ turns line.3 here)))
+    (rises_by_one c.args.stepper.now c.loop.state.context c.loop.state.signal c.loop.counter _ _ _ c.loop.invariant.ticks (rw c.loop.invariant.over at c.in_err-meet.ensures.ticks))
 
 pub returns-in-End-clause-ticks : goal.returns-in-End-clause-ticks
 returns-in-End-clause-ticks g c =
     let turns : c.args.limit - c.loop.counter ≡ suc (c.args.limit - (c.loop.counter + 1)) = omega arith in
     let line = c.loop.invariant.line in
-    let here = turned_ends (passing c.args.pass) c.args.space.now c.loop.state (sym (rw (c.loop.invariant.over, c.in-End.is) at c.in_ok-meet.ensures.met)) in
-    rises_to c.args.space.now _ _ _ _ (sym (met_here _ line.0 c.loop.state c.loop.counter line.4 (reached_here (turned_from (passing c.args.pass) c.args.space.now) _ _ c.loop.state line.0 _ turns line.3 here)))
-    (rises_by_one c.args.space.now c.loop.state.context c.loop.state.signal c.loop.counter _ _ _ c.loop.invariant.ticks (rw c.loop.invariant.over at c.in_ok-meet.ensures.ticks))
+    let here = turned_ends (passing c.args.pass) c.args.stepper.now c.loop.state (sym (rw (c.loop.invariant.over, c.in-End.is) at c.in_ok-meet.ensures.met)) in
+    rises_to c.args.stepper.now _ _ _ _ (sym (met_here _ line.0 c.loop.state c.loop.counter line.4 (reached_here (turned_from (passing c.args.pass) c.args.stepper.now) _ _ c.loop.state line.0 _ turns line.3 here)))
+    (rises_by_one c.args.stepper.now c.loop.state.context c.loop.state.signal c.loop.counter _ _ _ c.loop.invariant.ticks (rw c.loop.invariant.over at c.in_ok-meet.ensures.ticks))
 
 pub returns-in-Stop-clause-ticks : goal.returns-in-Stop-clause-ticks
 returns-in-Stop-clause-ticks g c =
     let turns : c.args.limit - c.loop.counter ≡ suc (c.args.limit - (c.loop.counter + 1)) = omega arith in
     let line = c.loop.invariant.line in
-    let here = turned_stops (passing c.args.pass) c.args.space.now c.loop.state _ _ (sym (rw (c.loop.invariant.over, c.in-Stop.is) at c.in_ok-meet.ensures.met)) in
-    rises_to c.args.space.now _ _ _ _ (sym (met_here _ line.0 c.loop.state c.loop.counter line.4 (reached_here (turned_from (passing c.args.pass) c.args.space.now) _ _ c.loop.state line.0 _ turns line.3 here)))
-    (rises_by_one c.args.space.now c.loop.state.context c.loop.state.signal c.loop.counter _ _ _ c.loop.invariant.ticks (rw c.loop.invariant.over at c.in_ok-meet.ensures.ticks))
+    let here = turned_stops (passing c.args.pass) c.args.stepper.now c.loop.state _ _ (sym (rw (c.loop.invariant.over, c.in-Stop.is) at c.in_ok-meet.ensures.met)) in
+    rises_to c.args.stepper.now _ _ _ _ (sym (met_here _ line.0 c.loop.state c.loop.counter line.4 (reached_here (turned_from (passing c.args.pass) c.args.stepper.now) _ _ c.loop.state line.0 _ turns line.3 here)))
+    (rises_by_one c.args.stepper.now c.loop.state.context c.loop.state.signal c.loop.counter _ _ _ c.loop.invariant.ticks (rw c.loop.invariant.over at c.in_ok-meet.ensures.ticks))
 
 pub returns-in_err-meet-clause-reached : goal.returns-in_err-meet-clause-reached
 returns-in_err-meet-clause-reached g c =
     let turns : c.args.limit - c.loop.counter ≡ suc (c.args.limit - (c.loop.counter + 1)) = omega arith in
     let line = c.loop.invariant.line in
-    let here = turned_faults (passing c.args.pass) c.args.space.now c.loop.state c.in_err-meet.field-0.0 (sym (rw c.loop.invariant.over at c.in_err-meet.ensures.met)) in
+    let here = turned_faults (passing c.args.pass) c.args.stepper.now c.loop.state c.in_err-meet.field-0.0 (sym (rw c.loop.invariant.over at c.in_err-meet.ensures.met)) in
     stands (visits (passing c.args.pass)) _ _ c.loop.state _ _
     (rw c.visit.ensures (more_visited (visits (passing c.args.pass)) c.loop.room c.loop.state.context line.0 line.2))
     c.in_err-meet.ensures.unmoved
-    (reached_here (turned_from (passing c.args.pass) c.args.space.now) _ _ c.loop.state line.0 _ turns line.3 here)
+    (reached_here (turned_from (passing c.args.pass) c.args.stepper.now) _ _ c.loop.state line.0 _ turns line.3 here)
 
 pub returns-in-End-clause-reached : goal.returns-in-End-clause-reached
 returns-in-End-clause-reached g c =
     let turns : c.args.limit - c.loop.counter ≡ suc (c.args.limit - (c.loop.counter + 1)) = omega arith in
     let line = c.loop.invariant.line in
-    let here = turned_ends (passing c.args.pass) c.args.space.now c.loop.state (sym (rw (c.loop.invariant.over, c.in-End.is) at c.in_ok-meet.ensures.met)) in
+    let here = turned_ends (passing c.args.pass) c.args.stepper.now c.loop.state (sym (rw (c.loop.invariant.over, c.in-End.is) at c.in_ok-meet.ensures.met)) in
     stands (visits (passing c.args.pass)) _ _ c.loop.state _ _
     (rw c.visit.ensures (more_visited (visits (passing c.args.pass)) c.loop.room c.loop.state.context line.0 line.2))
     (rw c.in-End.is at c.in_ok-meet.ensures.stays)
-    (reached_here (turned_from (passing c.args.pass) c.args.space.now) _ _ c.loop.state line.0 _ turns line.3 here)
+    (reached_here (turned_from (passing c.args.pass) c.args.stepper.now) _ _ c.loop.state line.0 _ turns line.3 here)
 
 pub returns-in-Stop-clause-reached : goal.returns-in-Stop-clause-reached
 returns-in-Stop-clause-reached g c =
     let turns : c.args.limit - c.loop.counter ≡ suc (c.args.limit - (c.loop.counter + 1)) = omega arith in
     let line = c.loop.invariant.line in
-    let here = turned_stops (passing c.args.pass) c.args.space.now c.loop.state _ _ (sym (rw (c.loop.invariant.over, c.in-Stop.is) at c.in_ok-meet.ensures.met)) in
+    let here = turned_stops (passing c.args.pass) c.args.stepper.now c.loop.state _ _ (sym (rw (c.loop.invariant.over, c.in-Stop.is) at c.in_ok-meet.ensures.met)) in
     stands (visits (passing c.args.pass)) _ _ c.loop.state _ _
     (rw c.visit.ensures (more_visited (visits (passing c.args.pass)) c.loop.room c.loop.state.context line.0 line.2))
     (rw c.in-Stop.is at c.in_ok-meet.ensures.stays)
-    (reached_here (turned_from (passing c.args.pass) c.args.space.now) _ _ c.loop.state line.0 _ turns line.3 here)
+    (reached_here (turned_from (passing c.args.pass) c.args.stepper.now) _ _ c.loop.state line.0 _ turns line.3 here)
 
 pub returns-clause-reached : goal.returns-clause-reached
 returns-clause-reached g c =
     let line = c.loop.invariant.line in
-    reached_limit (turned_from (passing c.args.pass) c.args.space.now) (visits (passing c.args.pass)) _ c.loop.state line.0 _ _ (omega arith) line.2 line.3
+    reached_limit (turned_from (passing c.args.pass) c.args.stepper.now) (visits (passing c.args.pass)) _ c.loop.state line.0 _ _ (omega arith) line.2 line.3
 
 pub returns-clause-ticks : goal.returns-clause-ticks
 returns-clause-ticks g c =
     let line = c.loop.invariant.line in
-    rises_to c.args.space.now _ _ _ _ (sym (met_all (turned_from (passing c.args.pass) c.args.space.now) _ line.0 c.loop.state c.loop.counter _ line.4 (omega arith) line.3)) c.loop.invariant.ticks
+    rises_to c.args.stepper.now _ _ _ _ (sym (met_all (turned_from (passing c.args.pass) c.args.stepper.now) _ line.0 c.loop.state c.loop.counter _ line.4 (omega arith) line.3)) c.loop.invariant.ticks

@@ -9,13 +9,13 @@ use Rattle.stack_walks.proofs.outward.outwards_over.Given as goal
 
 abbrev pub invariant-loop : goal.invariant-loop
 invariant-loop g l = record {
-  line : (front : List Context) × (with_contexts front (line_for (passing l.pass) l.space (l.limit - l.counter) l.state.context l.state.signal) ≡ line_for (passing l.pass) l.space l.limit l.fn.state.context l.fn.state.signal) ×
+  line : (front : List Context) × (with_contexts front (line_for (passing l.pass) l.fn.stepper (l.limit - l.counter) l.state.context l.state.signal) ≡ line_for (passing l.pass) l.fn.stepper l.limit l.fn.state.context l.fn.state.signal) ×
       AreVisited (visits (passing l.pass)) l.room front ×
-      (met_before front (reached_by (turned_from (passing l.pass) l.space) (l.limit - l.counter) l.state) ≡ reached_by (turned_from (passing l.pass) l.space) l.limit l.fn.state) × (length front ≡ l.counter);
+      (met_before front (reached_by (turned_from (passing l.pass) l.fn.stepper) (l.limit - l.counter) l.state) ≡ reached_by (turned_from (passing l.pass) l.fn.stepper) l.limit l.fn.state) × (length front ≡ l.counter);
   visited : visits (passing l.pass) ≡ true → length l.room.visited ≡ l.counter;
   stays : visits (passing l.pass) ≡ false → l.room ≡ l.fn.room;
   trail : l.room.trail ≡ l.fn.room.trail;
   places : l.room.limit ≡ l.fn.room.limit;
-  over : l.stepper ≡ l.space;
-  ticks : RisesWithin l.space l.counter l.fn.steps.number l.steps.number;
+  over : l.stepper ≡ l.fn.stepper;
+  ticks : RisesWithin l.fn.stepper l.counter l.fn.steps.number l.steps.number;
 }
