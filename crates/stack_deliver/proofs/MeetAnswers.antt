@@ -16,10 +16,12 @@ use Rattle.stack_steps.specs.Frames.{FrameAt}
 use Rattle.stack_steps.specs.declared.asking.FrameAction.{FrameAction}
 use Rattle.stack_steps.specs.declared.asking.FrameAction.TheVariants.{Nothing, Terminate, TerminateAfterCleanups}
 use Rattle.stack_steps.specs.Asking.{or_terminate, arguments_of, named_table}
-use Rattle.stack_steps.specs.Languages.{Languages, asked_by_cxx, asked_by_rust, asks_if_named, frame_asks, is_cxx, routine_of, table_asks}
+use Rattle.stack_steps.specs.Languages.{Languages, asked_by_cxx, asked_by_rust, asks_if_named, ended_by, frame_asks, is_cxx, routine_of, table_asks}
 use Rattle.unwinding_frames.specs.CxxTables.{CxxAction, cxx_table_action}
 use Rattle.unwinding_frames.specs.CxxTables as cxx
 use Rattle.unwinding_frames.specs.declared.cxx.error.CxxError.{CxxError}
+use Rattle.unwinding_frames.specs.declared.cxx.runtime.CxxRuntime.{CxxRuntime}
+use Rattle.unwinding_frames.specs.declared.cxx.runtime.CxxRuntime.TheVariants.{Libstdcxx, Libcxxabi}
 use Rattle.stack_walks.specs.Turns.{Pass, turn_at, stops, past_arguments, Line, Stop, Turn, Ends, Stops, Goes, turn_of, with_context, line_turn, pass_of, turn_for}
 use Rattle.stack_walks.proofs.TurnLines.{stop_in}
 use Rattle.stack_deliver.specs.Causes.{Asks, EndsAtOnce, EndsLater, GoesTo, EndsProgram, EndsProgramLater, StackEnds, CantRead, Meets, GoesOnFrom}
@@ -139,29 +141,40 @@ module _ (languages : Languages) (image : List Span) (a : ℕ) (routine : Option
   abbrev by_rust : Result rust.Action calls.StepFault
   by_rust = table_action image a place
 
+  abbrev runtime : CxxRuntime
+  runtime = languages.exception.runtime
+
   abbrev chosen : Bool → FrameAction
-  chosen b = cond b (asked_by_cxx by_cxx) (asked_by_rust (or_terminate by_rust))
+  chosen b = cond b (asked_by_cxx runtime by_cxx) (asked_by_rust (or_terminate by_rust))
+
+  abbrev CxxEnds : Type 0
+  CxxEnds = ((runtime ≡ Libcxxabi) × (by_cxx ≡ Ok cxx.Terminate)) ⊎ ((e : CxxError) × (by_cxx ≡ Err e))
 
   abbrev EndsSo : Bool → Type 0
-  EndsSo b = MatchBool b ((e : CxxError) × (by_cxx ≡ Err e)) ((by_rust ≡ Ok rust.Terminate) ⊎ ((e : calls.StepFault) × (by_rust ≡ Err e)))
+  EndsSo b = MatchBool b CxxEnds ((by_rust ≡ Ok rust.Terminate) ⊎ ((e : calls.StepFault) × (by_rust ≡ Err e)))
 
   pub at_once_asks : EndsAtOnce languages image a routine place → table_asks languages image a routine place ≡ Terminate
   at_once_asks = go (is_cxx languages routine)
     where
       go : (b : Bool) → EndsSo b → chosen b ≡ Terminate
-      go true ends = ap asked_by_cxx ends.1
+      go true (inl ends) = ap (λ r. asked_by_cxx r by_cxx) ends.0 ∙ ap (asked_by_cxx Libcxxabi) ends.1
+      go true (inr ends) = ap (asked_by_cxx runtime) ends.1
       go false (inl is) = ap (λ r. asked_by_rust (or_terminate r)) is
       go false (inr fails) = ap (λ r. asked_by_rust (or_terminate r)) fails.1
 
   pub asks_at_once : table_asks languages image a routine place ≡ Terminate → EndsAtOnce languages image a routine place
   asks_at_once = go (is_cxx languages routine)
     where
-      cxx_ends : (r : Result CxxAction CxxError) → by_cxx ≡ r → asked_by_cxx r ≡ Terminate → (e : CxxError) × (by_cxx ≡ Err e)
+      at_once : (r : CxxRuntime) → ended_by r ≡ Terminate → r ≡ Libcxxabi
+      at_once Libstdcxx ends = absurd cc
+      at_once Libcxxabi ends = refl
+
+      cxx_ends : (r : Result CxxAction CxxError) → by_cxx ≡ r → asked_by_cxx runtime r ≡ Terminate → CxxEnds
       cxx_ends (Ok cxx.NoAction) is ends = absurd cc
       cxx_ends (Ok (cxx.Cleanup pad)) is ends = absurd cc
       cxx_ends (Ok (cxx.Handler pad filter)) is ends = absurd cc
-      cxx_ends (Ok cxx.Terminate) is ends = absurd cc
-      cxx_ends (Err e) is ends = (e, is)
+      cxx_ends (Ok cxx.Terminate) is ends = inl (at_once runtime ends, is)
+      cxx_ends (Err e) is ends = inr (e, is)
 
       rust_ends : (r : Result rust.Action calls.StepFault) → by_rust ≡ r → asked_by_rust (or_terminate r) ≡ Terminate → (by_rust ≡ Ok rust.Terminate) ⊎ ((e : calls.StepFault) × (by_rust ≡ Err e))
       rust_ends (Ok rust.NoAction) is ends = absurd cc
@@ -176,16 +189,20 @@ module _ (languages : Languages) (image : List Span) (a : ℕ) (routine : Option
       go false ends = rust_ends by_rust refl ends
 
   pub later_asks : EndsLater languages image a routine place → table_asks languages image a routine place ≡ TerminateAfterCleanups
-  later_asks ends = ap chosen ends.0 ∙ ap asked_by_cxx ends.1
+  later_asks ends = ap chosen ends.0 ∙ ap (λ r. asked_by_cxx r by_cxx) ends.1 ∙ ap (asked_by_cxx Libstdcxx) ends.2
 
   pub asks_later : table_asks languages image a routine place ≡ TerminateAfterCleanups → EndsLater languages image a routine place
   asks_later = go (is_cxx languages routine) refl
     where
-      cxx_ends : (r : Result CxxAction CxxError) → asked_by_cxx r ≡ TerminateAfterCleanups → r ≡ Ok cxx.Terminate
+      later : (r : CxxRuntime) → ended_by r ≡ TerminateAfterCleanups → r ≡ Libstdcxx
+      later Libstdcxx ends = refl
+      later Libcxxabi ends = absurd cc
+
+      cxx_ends : (r : Result CxxAction CxxError) → asked_by_cxx runtime r ≡ TerminateAfterCleanups → (runtime ≡ Libstdcxx) × (r ≡ Ok cxx.Terminate)
       cxx_ends (Ok cxx.NoAction) ends = absurd cc
       cxx_ends (Ok (cxx.Cleanup pad)) ends = absurd cc
       cxx_ends (Ok (cxx.Handler pad filter)) ends = absurd cc
-      cxx_ends (Ok cxx.Terminate) ends = refl
+      cxx_ends (Ok cxx.Terminate) ends = (later runtime ends, refl)
       cxx_ends (Err e) ends = absurd cc
 
       never : (x : rust.Action) → asked_by_rust x ≡ TerminateAfterCleanups → ⊥
@@ -196,7 +213,7 @@ module _ (languages : Languages) (image : List Span) (a : ℕ) (routine : Option
       never rust.Terminate ends = absurd cc
 
       go : (b : Bool) → is_cxx languages routine ≡ b → chosen b ≡ TerminateAfterCleanups → EndsLater languages image a routine place
-      go true is ends = (is, cxx_ends by_cxx ends)
+      go true is ends = let r = cxx_ends by_cxx ends in (is, r.0, r.1)
       go false is ends = absurd (never (or_terminate by_rust) ends)
 
 module _ (languages : Languages) (space : SpaceValue) (c : Context) (interrupted : Bool) where

@@ -2,6 +2,7 @@
 use Rattle.std.specs.Prelude.{◌≡◌, ◌⊎◌, ℕ, zero, suc, ◌<◌, Bool, true, false, List, Option, Result, Some, None, Ok, Err, MatchBool}
 use Rattle.memory_image.specs.Image.{Span}
 use Rattle.unwinding_frames.specs.declared.cxx.error.CxxError.{CxxError}
+use Rattle.unwinding_frames.specs.declared.cxx.runtime.CxxRuntime.TheVariants.{Libstdcxx, Libcxxabi}
 use Rattle.unwinding_frames.specs.CxxTables.{cxx_table_action}
 use Rattle.unwinding_frames.specs.CxxTables as cxx
 use Rattle.unwind_arch.specs.declared.x86_64.Context.{Context}
@@ -38,17 +39,19 @@ pub record GoesTo (p : Pass) (space : SpaceValue) (c : Context) (interrupted : B
   pub silent : stops p.phase action ≡ false
   pub caller : step_of space c interrupted ≡ Ok (Some next)
 
--- A language table that a routine reads ends the program at once: it can't be read, or the rule of Rust reads from it that the program
--- ends.
+-- A language table that a routine reads ends the program at once: it can't be read, or the rule of Rust, or that of C++ by libc++abi,
+-- reads from it that the program ends.
 abbrev pub EndsAtOnce : Languages → List Span → ℕ → Option ℕ → Result LanguagePlace StepFault → Type 0
 EndsAtOnce languages image a routine place =
     MatchBool (is_cxx languages routine)
-    ((e : CxxError) × (cxx_table_action image languages.exception a place ≡ Err e))
+    (((languages.exception.runtime ≡ Libcxxabi) × (cxx_table_action image languages.exception a place ≡ Ok cxx.Terminate)) ⊎
+    ((e : CxxError) × (cxx_table_action image languages.exception a place ≡ Err e)))
     ((table_action image a place ≡ Ok rust.Terminate) ⊎ ((e : StepFault) × (table_action image a place ≡ Err e)))
 
--- By the rule of C++ it ends the program once the cleanups inside have run.
+-- By the rule of C++ it ends the program once the cleanups inside have run, by libstdc++.
 abbrev pub EndsLater : Languages → List Span → ℕ → Option ℕ → Result LanguagePlace StepFault → Type 0
-EndsLater languages image a routine place = (is_cxx languages routine ≡ true) × (cxx_table_action image languages.exception a place ≡ Ok cxx.Terminate)
+EndsLater languages image a routine place =
+    (is_cxx languages routine ≡ true) × (languages.exception.runtime ≡ Libstdcxx) × (cxx_table_action image languages.exception a place ≡ Ok cxx.Terminate)
 
 -- the frame at a context names a language table by which the program ends at once
 pub record EndsProgram (languages : Languages) (space : SpaceValue) (c : Context) (interrupted : Bool) : Type 0 where

@@ -1,17 +1,20 @@
 -- What the code of a pass answers, in the words of the definitions. No public clause cites this.
 use Rattle.std.specs.Prelude.{◌≡◌, ◌++◌, List, Result, Ok, Err}
 use Rattle.memory_image.specs.Results.{result_map}
+use Rattle.unwind_arch.specs.declared.x86_64.Context.{Context}
 use Rattle.stack_steps.specs.declared.answers.DeliverError.{DeliverError}
 use Rattle.stack_deliver.specs.declared.answers.Ending.{Ending}
 use Rattle.stack_walks.specs.declared.room.Trail.{Trail}
 use Rattle.stack_deliver.specs.declared.passes.PassEnd.{PassEnd as CodeEnd}
 use Rattle.stack_deliver.specs.declared.passes.PassEnd.TheVariants as pass
-use Rattle.stack_deliver.specs.Passes.{CleanupsRun, PassEnd, Finishes, Elsewhere}
+use Rattle.stack_deliver.specs.Passes.{CleanupsRun, PassEnd, Finishes, Elsewhere, ending_at, fatal}
 use Rattle.stack_walks.specs.Walking.{RoomValue}
 
-abbrev pub end_shown : CodeEnd → PassEnd
-end_shown (pass.Finished ending) = Finishes ending
-end_shown (pass.Elsewhere pad c) = Elsewhere pad c
+-- how a pass ends, which leaves a context
+abbrev pub end_shown : Context → CodeEnd → PassEnd
+end_shown c pass.Fatal = Finishes fatal
+end_shown c pass.Installed = Finishes (ending_at c)
+end_shown c (pass.Elsewhere pad) = Elsewhere pad c
 
 -- cleanups that ran before these
 abbrev pub with_cleanups : List Trail → Result CleanupsRun DeliverError → Result CleanupsRun DeliverError

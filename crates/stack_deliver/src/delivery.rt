@@ -23,10 +23,10 @@ use crate::passes::passes;
 use crate::resumes::Resumes;
 use eh_frame::RowRoom;
 use memory_image::{Ledger, NoLedger, Steps};
-use stack_steps::{DeliverError, GrownSpace, Languages, Space, Stepped};
-use stack_walks::{Pass, Phase, Room, outwards_over};
+use stack_steps::{DeliverError, GrownSpace, Languages, Space, Stepped, Stepper};
+use stack_walks::{Pass, Phase, Room, mark_of, outwards_over};
 use std::alloc::Global;
-use unwind_arch::x86_64::Context;
+use unwind_arch::x86_64::{Context, RSP};
 
 /// The search for a handler, and where a frame takes the exception the passes toward it.
 #[tactic(auto, unfolding(crate::specs::StackDelivery::delivery_through))]
@@ -53,6 +53,7 @@ where
         steps.old.number steps.new.number }
 {
     let mut rows = RowRoom::new();
+    let mut stepper = Stepper::over(space, start.registers[RSP]);
     let mut state = Stepped {
         context: start,
         signal: false,
@@ -61,7 +62,16 @@ where
         phase: Phase::Search,
         languages: *languages,
     });
-    let Some(stop) = outwards_over(pass, space, &mut state, limit, room, &mut rows, steps)? else {
+    let searched = outwards_over(
+        pass,
+        &mut stepper,
+        &mut state,
+        limit,
+        room,
+        &mut rows,
+        steps,
+    )?;
+    let Some(stop) = searched else {
         return Ok(without_landing(Outcome::EndOfStack));
     };
     if !stop.action().is_taken() {
@@ -69,10 +79,10 @@ where
     }
     passes(
         languages,
-        space,
+        &mut stepper,
         &start,
         exception,
-        stop.kept(),
+        mark_of(&state),
         resumes,
         limit,
         room,
@@ -306,9 +316,11 @@ where
 ///
 /// A frame whose description names a personality routine that is C++'s is asked by the rule of C++: the
 /// first record of the chain of actions that takes the exception decides, and its number is what the
-/// landing pad finds in RDX. A call of C++ that no exception may leave ends the program, but not before
-/// the cleanups of the frames inside it have run: the search ends there as it does at a handler, and
-/// the outcome is `FatalPhase2`. Every other frame is asked as in `deliver_into`.
+/// landing pad finds in RDX. A call of C++ that no exception may leave ends the program. By libstdc++
+/// the cleanups of the frames inside it run first: the search ends there as it does at a handler, and
+/// the outcome is `FatalPhase2`. By libc++abi none runs, and the outcome is `FatalPhase1`. A foreign
+/// exception ends the program by libstdc++ at a specification that lists nothing, after the cleanups
+/// too; by libc++abi every specification takes it. Every other frame is asked as in `deliver_into`.
 /// Source: Itanium C++ ABI, exception handling, levels I and II.
 ///
 /// # Errors
@@ -478,7 +490,7 @@ pub fn throw(
         IsOkAnd result (λ delivery. ShowsKnownThrow delivery exception s callers frames) }
 {
     let mut room = Room::new(alloc, limit)?;
-    let thrown = throw_into(
+    let ending = throw_into(
         space,
         languages,
         start,
@@ -488,8 +500,5 @@ pub fn throw(
         &mut room,
         &mut Steps::new(NoLedger),
     )?;
-    Ok(Delivery {
-        room,
-        ending: thrown,
-    })
+    Ok(Delivery { ending, room })
 }

@@ -61,4 +61,4 @@ pub use stack_walks::{
     walk_with_rows,
 };
 pub use unwind_arch::x86_64::Context;
-pub use unwinding_frames::Exception;
+pub use unwinding_frames::{CxxRuntime, Exception, ExceptionKind};

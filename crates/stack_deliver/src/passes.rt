@@ -2,7 +2,7 @@
 // cleanups on the way to it. Itanium C++ ABI, exception handling, level I, section 1.3.
 ghost use Rattle.std.specs.Prelude.{◌≡◌, ◌≤◌, ◌<◌, ◌+◌, ◌*◌, ◌++◌, ◌∷◌, Err, [], false};
 ghost use Rattle.std.specs.Prelude.{length, Some, OnOk};
-ghost use Rattle.stack_deliver.specs.Passes.{end_by, cleanup_of};
+ghost use Rattle.stack_deliver.specs.Passes.{end_by, ending_at, cleanup_of};
 ghost use Rattle.stack_deliver.specs.Passes.{cleanup_at, resume_at, passes_of};
 ghost use Rattle.stack_walks.specs.TurnViews.{stop_shown};
 ghost use Rattle.stack_deliver.specs.PassViews.{end_shown};
@@ -19,17 +19,20 @@ use crate::answers::{Ending, Outcome};
 use crate::resumes::Resumes;
 use eh_frame::RowRoom;
 use memory_image::{Ledger, Steps};
-use stack_steps::{DeliverError, GrownSpace, Languages, Stepped};
-use stack_walks::{Pass, Phase, Room, Stop, Trail, outwards_over};
+use stack_steps::{DeliverError, Languages, Stepped, Stepper};
+use stack_walks::{Pass, Phase, Room, Stop, Trail, mark_of, outwards_over};
 use unwind_arch::x86_64::{Context, RSP};
 
-/// How a cleanup pass ends.
+/// How a cleanup pass ends. Where a landing pad is entered, the pass leaves the registers with which
+/// it is.
 #[derive(Clone, Copy)]
 enum PassEnd {
-    /// The delivery ends with it.
-    Finished(Ending),
+    /// The program ends with it, or the stack has ended.
+    Fatal,
+    /// The handler of the kept frame is entered.
+    Installed,
     /// The landing pad of a frame inside the handler's is entered.
-    Elsewhere(u64, Context),
+    Elsewhere(u64),
 }
 
 const FATAL: Ending = Ending {
@@ -37,29 +40,39 @@ const FATAL: Ending = Ending {
     landing: None,
 };
 
-/// How a pass ends where it stops, toward the frame with the kept mark.
-fn pass_end(stop: &Stop, exception: u64, kept: u64) -> PassEnd
-    ensures { end_shown result ≡ end_by exception kept (Some (stop_shown stop.now)) }
+/// The handler is entered with these registers.
+fn installed(context: Context) -> Ending
+    ensures { result ≡ ending_at context }
 {
-    let Some(pad) = stop.action().pad() else {
-        return PassEnd::Finished(FATAL);
-    };
-    let entered = stop.entering(exception, pad);
-    if stop.kept() == kept {
-        PassEnd::Finished(Ending {
-            outcome: Outcome::Installed,
-            landing: Some(entered),
-        })
-    } else {
-        PassEnd::Elsewhere(pad, entered)
+    Ending {
+        outcome: Outcome::Installed,
+        landing: Some(context),
     }
 }
 
-/// A cleanup pass toward the frame with the kept mark.
+/// How a pass ends where it stops, toward the frame with the kept mark. `state` is that of the frame at
+/// which it stops.
+fn pass_end(stop: Stop, state: &mut Stepped, exception: u64, kept: u64) -> PassEnd
+    ensures { end_shown state.new.context result ≡
+        end_by exception kept (Some (stop_shown state.old stop)) }
+{
+    let Some(pad) = stop.action().pad() else {
+        return PassEnd::Fatal;
+    };
+    let is_kept = mark_of(state) == kept;
+    stop.enter(&mut state.context, exception, pad);
+    if is_kept {
+        PassEnd::Installed
+    } else {
+        PassEnd::Elsewhere(pad)
+    }
+}
+
+/// A cleanup pass from a state toward the frame with the kept mark.
 fn cleanup<'t, 'a, L: Ledger>(
     languages: &Languages<'_>,
-    space: &GrownSpace<'_, 't, 'a>,
-    start: &Context,
+    stepper: &mut Stepper<'_, 't, 'a>,
+    state: &mut Stepped,
     exception: u64,
     kept: u64,
     limit: u32,
@@ -70,41 +83,43 @@ fn cleanup<'t, 'a, L: Ledger>(
 where
     't: 'a,
     requires within { limit ≤ room.old.limit }
-    ensures exact { result_map end_shown result ≡
-        cleanup_of (languages_of languages.now) space.now exception kept limit start.now }
+    ensures exact { result_map (end_shown state.new.context) result ≡
+        cleanup_of (languages_of languages.now) stepper.old exception kept limit
+        state.old.context }
     ensures stays { room.new ≡ room.old }
-    ensures ticks { RisesWithin space.now
-        (contexts_met (Some (cleaning (languages_of languages.now))) space.now limit start.now
-        false) steps.old.number steps.new.number }
+    ensures same { stepper.new ≡ stepper.old }
+    ensures ticks { RisesWithin stepper.old
+        (contexts_met (Some (cleaning (languages_of languages.now))) stepper.old limit
+        state.old.context false) steps.old.number steps.new.number }
 {
-    let mut state = Stepped {
-        context: *start,
-        signal: false,
-    };
+    // It begins after a call.
+    state.signal = false;
     let pass = Pass {
         phase: Phase::Cleanup,
         languages: *languages,
     };
-    match outwards_over(Some(pass), space, &mut state, limit, room, rows, steps)? {
-        None => Ok(PassEnd::Finished(FATAL)),
-        Some(stop) => Ok(pass_end(&stop, exception, kept)),
+    match outwards_over(Some(pass), stepper, state, limit, room, rows, steps)? {
+        None => Ok(PassEnd::Fatal),
+        Some(stop) => Ok(pass_end(stop, state, exception, kept)),
     }
 }
 
-/// Puts the cleanup at a landing pad on the trail, and gives the registers after it.
+/// Puts the cleanup at a landing pad on the trail. The registers with which the pad was entered become
+/// those after the cleanup.
 fn resume(
     pad: u64,
-    entered: Context,
+    context: &mut Context,
     resumes: &Resumes,
     limit: u32,
     room: &mut Room,
-) -> Result<Context, DeliverError>
+) -> Result<(), DeliverError>
     requires within { limit ≤ room.old.limit }
     ensures full { limit ≤ length room.old.trail → result ≡ Err DeliverError.PassLimit }
     ensures resumed { length room.old.trail < limit →
-        result ≡ resume_at pad entered (return_of resumes.now pad) }
-    ensures trail { OnOk result
-        (room.new ≡ record room.old { trail = room.old.trail ++ cleanup_at pad entered ∷ [] }) }
+        result_map (λ _. context.new) result ≡
+        resume_at pad context.old (return_of resumes.now pad) }
+    ensures trail { OnOk result (room.new ≡
+        record room.old { trail = room.old.trail ++ cleanup_at pad context.old ∷ [] }) }
     ensures kept { (room.new.visited ≡ room.old.visited) × (room.new.limit ≡ room.old.limit) }
 {
     if room.trail_len() >= limit as usize {
@@ -112,14 +127,13 @@ fn resume(
     }
     let _ = room.run_cleanup(Trail {
         pad,
-        sp: entered.registers[RSP],
+        sp: context.registers[RSP],
     });
     match resumes.find(pad) {
         None => Err(DeliverError::NoResume(pad)),
         Some(ret) => {
-            let mut context = entered;
             context.ra = ret;
-            Ok(context)
+            Ok(())
         }
     }
 }
@@ -128,7 +142,7 @@ fn resume(
 /// one enters the handler of the frame with the kept mark or ends the program.
 pub(crate) fn passes<'t, 'a, L: Ledger>(
     languages: &Languages<'_>,
-    space: &GrownSpace<'_, 't, 'a>,
+    stepper: &mut Stepper<'_, 't, 'a>,
     start: &Context,
     exception: u64,
     kept: u64,
@@ -143,23 +157,26 @@ where
     requires within { limit ≤ room.old.limit }
     requires empty { room.old.trail ≡ [] }
     ensures exact { GivesCleanupsRun result room.new
-        (passes_of (languages_of languages.now) space.now exception kept resumes.now limit limit
+        (passes_of (languages_of languages.now) stepper.old exception kept resumes.now limit limit
         start.now) }
     ensures kept { (room.new.visited ≡ room.old.visited) × (room.new.limit ≡ room.old.limit) }
-    ensures ticks { RisesWithin space.now
-        (met_in_passes (languages_of languages.now) space.now exception kept resumes.now limit
+    ensures same { stepper.new ≡ stepper.old }
+    ensures ticks { RisesWithin stepper.old
+        (met_in_passes (languages_of languages.now) stepper.old exception kept resumes.now limit
         limit start.now) steps.old.number steps.new.number }
 {
-    let mut context = *start;
+    let mut state = Stepped {
+        context: *start,
+        signal: false,
+    };
     loop {
         let end = cleanup(
-            languages, space, &context, exception, kept, limit, room, rows, steps,
+            languages, stepper, &mut state, exception, kept, limit, room, rows, steps,
         )?;
         match end {
-            PassEnd::Finished(ending) => return Ok(ending),
-            PassEnd::Elsewhere(pad, entered) => {
-                context = resume(pad, entered, resumes, limit, room)?;
-            }
+            PassEnd::Fatal => return Ok(FATAL),
+            PassEnd::Installed => return Ok(installed(state.context)),
+            PassEnd::Elsewhere(pad) => resume(pad, &mut state.context, resumes, limit, room)?,
         }
     }
 }

@@ -8,12 +8,13 @@ use Rattle.stack_deliver.proofs.passes.passes.Given as goal
 
 abbrev pub invariant-loop-end : goal.invariant-loop-end
 invariant-loop-end g l = record {
-  passes : with_cleanups l.room.trail (passes_of (languages_of l.languages) l.space l.exception l.kept l.resumes l.limit (l.limit - length l.room.trail) l.context) ≡ passes_of (languages_of l.languages) l.space l.exception l.kept l.resumes l.limit l.limit l.start;
+  passes : with_cleanups l.room.trail (passes_of (languages_of l.languages) l.fn.stepper l.exception l.kept l.resumes l.limit (l.limit - length l.room.trail) l.state.context) ≡ passes_of (languages_of l.languages) l.fn.stepper l.exception l.kept l.resumes l.limit l.limit l.start;
   full : length l.room.trail ≤ l.limit;
   visited : l.room.visited ≡ l.fn.room.visited;
   places : l.room.limit ≡ l.fn.room.limit;
-  ticks : (before : ℕ) × RisesWithin l.space before l.fn.steps.number l.steps.number ×
-      (before + met_in_passes (languages_of l.languages) l.space l.exception l.kept l.resumes l.limit (l.limit - length l.room.trail) l.context ≡ met_in_passes (languages_of l.languages) l.space l.exception l.kept l.resumes l.limit l.limit l.start);
+  same : l.stepper ≡ l.fn.stepper;
+  ticks : (before : ℕ) × RisesWithin l.fn.stepper before l.fn.steps.number l.steps.number ×
+      (before + met_in_passes (languages_of l.languages) l.fn.stepper l.exception l.kept l.resumes l.limit (l.limit - length l.room.trail) l.state.context ≡ met_in_passes (languages_of l.languages) l.fn.stepper l.exception l.kept l.resumes l.limit l.limit l.start);
 }
 
 abbrev pub decreases-loop-end : goal.decreases-loop-end
