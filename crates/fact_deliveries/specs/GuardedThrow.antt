@@ -1,10 +1,12 @@
 -- A throw in that program by the rules of its languages: its personality is C++'s, and the exception is of the second type.
-use Rattle.std.specs.Prelude.{ℕ, false, List, [], ◌∷◌, None, Some}
+use Rattle.std.specs.Prelude.{ℕ, List, [], ◌∷◌, None, Some}
 use Rattle.unwind_definitions.specs.Delivery.{Delivery, Installed}
 use Rattle.unwind_arch.specs.declared.x86_64.Context.{Context}
 use Rattle.fde_finders.specs.declared.custom.FrameInfoKind.TheVariants.{EhFrame}
 use Rattle.stack_steps.specs.declared.space.Module.{Module}
 use Rattle.stack_steps.specs.declared.space.ModuleTables.TheVariants.{Elf}
+use Rattle.unwinding_frames.specs.declared.cxx.runtime.CxxRuntime.TheVariants.{Libstdcxx}
+use Rattle.unwinding_frames.specs.declared.cxx.runtime.ExceptionKind.TheVariants.{Native}
 use Rattle.stack_steps.specs.declared.asking.FrameAction.TheVariants.{Nothing, Cleanup, Handler}
 use Rattle.stack_steps.specs.Languages.{Languages}
 use Rattle.stack_steps.specs.Modules.{SpaceValue, without_index}
@@ -21,9 +23,10 @@ space = record { image = sample.image; modules = sample_module ∷ []; added = w
 abbrev pub start : Context
 start = registers_of sample.in_raises
 
--- the routine's address, and an exception of C++ itself that the second type's handler catches, and the first one's doesn't
+-- the routine's address, which is libstdc++'s, and an exception of C++ itself that the second type's handler catches, and the first
+-- one's doesn't
 abbrev pub languages : Languages
-languages = record { cxx_routines = 0x401060 ∷ []; exception = record { types = 0x403ff0 ∷ []; foreign = false } }
+languages = record { cxx_routines = 0x401060 ∷ []; exception = record { types = 0x403ff0 ∷ []; kind = Native; runtime = Libstdcxx } }
 
 -- the frames, each with what it asks; the chain of the third frame's call has a cleanup before the handler
 abbrev pub asking : List AskingFrame
