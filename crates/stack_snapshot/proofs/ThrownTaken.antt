@@ -6,7 +6,7 @@ use Rattle.stack_snapshot.specs.declared.errors.Field.{Field}
 use Rattle.stack_snapshot.specs.declared.errors.Field.TheVariants as fields
 use Rattle.stack_snapshot.specs.Answers.{content_of, value_of}
 use Rattle.stack_snapshot.specs.Snapshot.{needs, snapshot_of}
-use Rattle.stack_snapshot.specs.Thrown.{ThrownContent, foreign_of, thrown_by, thrown_in, thrown_of, thrown_with, words_at}
+use Rattle.stack_snapshot.specs.Thrown.{ThrownContent, foreign_of, runtime_of, thrown_by, thrown_in, thrown_of, thrown_with, words_at}
 use Rattle.stack_snapshot.proofs.Taken.{bound}
 
 abbrev ok : ThrownContent → Result ThrownContent Field
@@ -22,7 +22,8 @@ snapshot_read d s is =
     let types = bound (needs fields.Types (words_at (codes "types") d)) _ s snapshot.2 in
     let personalities = bound (needs fields.Personalities (words_at (codes "personalities") d)) _ s types.2 in
     let foreign = bound (needs fields.Foreign (foreign_of d)) _ s personalities.2 in
-    snapshot.1 ∙ ap (λ (t : ThrownContent). Ok t.snapshot) (ok_same _ s foreign.2)
+    let runtime = bound (needs fields.Runtime (runtime_of d)) _ s foreign.2 in
+    snapshot.1 ∙ ap (λ (t : ThrownContent). Ok t.snapshot) (ok_same _ s runtime.2)
 
 -- the snapshot alone is what the bytes say as one
 pub thrown_snapshot : (bytes : List ℕ) (s : ThrownContent) → thrown_in bytes ≡ Ok s → content_of bytes ≡ Ok s.snapshot

@@ -35,6 +35,8 @@ pub enum Field {
     Personalities,
     /// Whether the exception isn't one of C++ itself.
     Foreign,
+    /// The runtime of C++ whose personality routines these are.
+    Runtime,
     /// The threads that were stopped.
     Samples,
     /// The functions that are claimed.
@@ -60,6 +62,7 @@ impl Field {
             Field::Types => "types",
             Field::Personalities => "personalities",
             Field::Foreign => "foreign",
+            Field::Runtime => "runtime",
             Field::Samples => "samples",
             Field::Functions => "functions",
         }

@@ -36,6 +36,13 @@ impl Origin {
         after_slash(self.path.as_bytes())
     }
 
+    /// The path of the file.
+    pub fn path(&self) -> &[u8]
+        ensures { result.now ≡ self.now.path }
+    {
+        self.path.as_bytes()
+    }
+
     /// What was added to the addresses of the file.
     pub fn bias(&self) -> u64
         ensures { result ≡ self.now.bias }
@@ -131,8 +138,12 @@ fn origin_list(alloc: Global, items: &[Value]) -> Result<Vec<Origin>, AllocError
 }
 
 /// The files of the modules that a value names.
+///
+/// # Errors
+///
+/// `AllocError` where memory ran out.
 #[tactic(auto, unfolding(crate::specs::Origins::origins_of))]
-pub(crate) fn origins_of(alloc: Global, value: &Value) -> Result<Origins, AllocError>
+pub fn origins_of(alloc: Global, value: &Value) -> Result<Origins, AllocError>
     ensures { IfOk result (λ origins. origins ≡ origins_of (view value.now)) }
 {
     let origins = match value.get("modules").and_then(Value::as_array) {

@@ -393,8 +393,12 @@ pub(crate) fn lists_of(value: Value) -> Lists
 ///
 /// The value takes several times the memory of what it says. So each field is read, also after a
 /// faulty one, and the value let go, before it is tested whether the long lists are taken.
+///
+/// # Errors
+///
+/// `Bad` with the first faulty field. `NoMemory` may come in the place of each answer.
 #[tactic(auto, unfolding(crate::specs::Snapshot::snapshot_of, crate::specs::Snapshot::regions_of, crate::specs::Snapshot::modules_of))]
-pub(crate) fn snapshot_of(alloc: Global, value: Value) -> Result<Snapshot, SnapshotError>
+pub fn snapshot_of(alloc: Global, value: Value) -> Result<Snapshot, SnapshotError>
     ensures { Gives (λ snapshot. snapshot) result (snapshot_of (view value)) }
 {
     if !is_whole(&value) {

@@ -131,8 +131,12 @@ fn depth_of(value: &Value) -> Option<u32>
 
 /// The samples that a value says, or its first faulty field. As of a snapshot, each field is read
 /// before it is tested whether the long lists are taken.
+///
+/// # Errors
+///
+/// `Bad` with the first faulty field. `NoMemory` may come in the place of each answer.
 #[tactic(auto, unfolding(crate::specs::Sampled::sampled_of, crate::specs::Snapshot::regions_of, crate::specs::Snapshot::modules_of))]
-fn sampled_of(alloc: Global, value: Value) -> Result<SampledSnapshot, SnapshotError>
+pub fn sampled_of(alloc: Global, value: Value) -> Result<SampledSnapshot, SnapshotError>
     ensures { Gives (λ snapshot. snapshot) result (sampled_of (view value)) }
 {
     if !is_whole(&value) {

@@ -4,15 +4,15 @@ ghost use Rattle.serde_json.specs.View.{view, items_view};
 ghost use Rattle.stack_steps.specs.Languages.{languages_of};
 ghost use Rattle.stack_snapshot.specs.Answers.{Gives};
 ghost use Rattle.stack_snapshot.specs.Snapshot.{needs};
-ghost use Rattle.stack_snapshot.specs.Thrown.{foreign_of, languages_in, thrown_in, thrown_of};
-ghost use Rattle.stack_snapshot.specs.Thrown.{word_list, words_at};
+ghost use Rattle.stack_snapshot.specs.Thrown.{foreign_of, kind_of, languages_in, runtime_named};
+ghost use Rattle.stack_snapshot.specs.Thrown.{runtime_of, thrown_in, thrown_of, word_list, words_at};
 
 use crate::errors::{Field, SnapshotError};
 use crate::fields::as_word;
 use crate::reading::{snapshot_of, value_in};
 use crate::snapshot::Snapshot;
 use serde_json::Value;
-use stack_deliver::{Exception, Languages};
+use stack_deliver::{CxxRuntime, Exception, ExceptionKind, Languages};
 use std::alloc::Global;
 use std::marker::Model;
 
@@ -23,6 +23,7 @@ pub struct ThrownSnapshot {
     types: Vec<u64>,
     personalities: Vec<u64>,
     foreign: bool,
+    runtime: CxxRuntime,
 }
 
 impl Model for ThrownSnapshot {
@@ -35,6 +36,7 @@ impl Model for ThrownSnapshot {
       types = s.types.items;
       personalities = s.personalities.items;
       foreign = s.foreign;
+      runtime = s.runtime;
     } };
 }
 
@@ -54,9 +56,21 @@ impl ThrownSnapshot {
             cxx_routines: &self.personalities,
             exception: Exception {
                 types: &self.types,
-                foreign: self.foreign,
+                kind: kind_of(self.foreign),
+                runtime: self.runtime,
             },
         }
+    }
+}
+
+/// What an exception is to the runtime that reads the language tables.
+fn kind_of(foreign: bool) -> ExceptionKind
+    ensures { result ≡ kind_of foreign }
+{
+    if foreign {
+        ExceptionKind::Foreign
+    } else {
+        ExceptionKind::Native
     }
 }
 
@@ -99,6 +113,28 @@ fn foreign_of(value: &Value) -> Option<bool>
     }
 }
 
+/// The runtime of C++ that has a name.
+fn runtime_named(name: &str) -> Option<CxxRuntime>
+    ensures { result ≡ runtime_named name.now }
+{
+    match name {
+        "libstdc++" => Some(CxxRuntime::Libstdcxx),
+        "libc++abi" => Some(CxxRuntime::Libcxxabi),
+        _ => None,
+    }
+}
+
+/// The runtime that the personality routines are of, libstdc++ where the field is missing.
+#[tactic(auto, unfolding(crate::specs::Thrown::runtime_of))]
+fn runtime_of(value: &Value) -> Option<CxxRuntime>
+    ensures { result ≡ runtime_of (view value.now) }
+{
+    match value.get("runtime") {
+        Some(found) => runtime_named(found.as_str()?),
+        None => Some(CxxRuntime::Libstdcxx),
+    }
+}
+
 /// The snapshot that a value says, with these fields, or its first faulty field. They are read before
 /// the value is let go.
 #[tactic(auto, unfolding(crate::specs::Thrown::thrown_of))]
@@ -108,11 +144,13 @@ fn thrown_of(alloc: Global, value: Value) -> Result<ThrownSnapshot, SnapshotErro
     let types = words_at(alloc, &value, "types", Field::Types);
     let personalities = words_at(alloc, &value, "personalities", Field::Personalities);
     let foreign = foreign_of(&value);
+    let runtime = runtime_of(&value);
     Ok(ThrownSnapshot {
         snapshot: snapshot_of(alloc, value)?,
         types: types?,
         personalities: personalities?,
         foreign: foreign.ok_or(SnapshotError::Bad(Field::Foreign))?,
+        runtime: runtime.ok_or(SnapshotError::Bad(Field::Runtime))?,
     })
 }
 
