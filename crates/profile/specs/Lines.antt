@@ -27,4 +27,4 @@ abbrev pub refused_line : PerfError → List ℕ
 refused_line error = line (codes "refused: perf.data " ++ cause_text error)
 
 abbrev pub usage_line : List ℕ
-usage_line = line (codes "usage: profile TABLES")
+usage_line = line (codes "usage: profile [--script] TABLES")

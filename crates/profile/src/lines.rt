@@ -56,5 +56,5 @@ pub fn refused_line(alloc: Global, error: PerfError) -> Result<Report, AllocErro
 pub fn usage_line(alloc: Global) -> Result<Report, AllocError>
     ensures { IfOk result (λ report. report ≡ usage_line) }
 {
-    line_of(alloc, "usage: profile TABLES")
+    line_of(alloc, "usage: profile [--script] TABLES")
 }

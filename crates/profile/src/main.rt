@@ -1,6 +1,7 @@
 //! Reads a perf.data file from standard input and prints its folded stacks: a line for each distinct
 //! stack of its samples, with the number of the samples that show it. `profile TABLES` walks them over
-//! the modules of the file TABLES, a snapshot. docs/FORMATS.md has the lines.
+//! the modules of the file TABLES, a snapshot. `profile --script TABLES` prints the samples one after
+//! another, in the text form of `perf script`. docs/FORMATS.md has the lines.
 #![tactic(auto)]
 
 mod lines;
@@ -9,7 +10,7 @@ mod sample;
 mod words;
 
 use crate::running::run;
-use crate::words::tables_file;
+use crate::words::request_of;
 use command_ends::{Status, Words, end_program, words_of};
 use memory_image::{StdinSource, StdoutSink};
 use std::fs;
@@ -18,10 +19,10 @@ use std::process::ExitCode;
 
 /// The bytes of the file that the words name, none where they name none.
 fn tables_named(rt: &HostRuntime, words: &Words) -> Result<Vec<u8>, Status> {
-    let Some(path) = tables_file(words) else {
+    let Some(request) = request_of(words) else {
         return Ok(Vec::new(rt.alloc()));
     };
-    match fs::read(rt, path) {
+    match fs::read(rt, request.path) {
         Ok(bytes) => Ok(bytes),
         Err(error) => match error.kind() {
             ErrorKind::OutOfMemory => Err(Status::Memory),

@@ -2,6 +2,7 @@
 ghost use Rattle.std.specs.Prelude.{◌≡◌, ◌≢◌, ℕ, List, Result, IfOk, IfSome, IsSome, None, ⊤};
 ghost use Rattle.std.specs.Io.KnownBytes.{Keeps};
 ghost use Rattle.memory_image.specs.Ends.{Rose};
+ghost use Rattle.memory_image.specs.Results.{result_map};
 ghost use Rattle.command_ends.specs.Answers.{AnswersBytes, KeepsToEnds, LeavesSource};
 ghost use Rattle.command_ends.specs.Verdicts.{ComesExactly, IsReady, IsReadyOrFailed, Tells};
 ghost use Rattle.command_ends.specs.Verdicts.{verdict};
@@ -14,63 +15,98 @@ ghost use Rattle.stack_snapshot.specs.Content.{space_of};
 ghost use Rattle.stack_snapshot.specs.Origins.{OriginValue, origins_by};
 ghost use Rattle.sampled_profile.specs.Profiles.{Tables, profile_of, profile_text, stacks_of};
 ghost use Rattle.sampled_profile.specs.Profiles.{tables};
-ghost use Rattle.sampled_profile.specs.Told.{GivesProfile};
-ghost use Rattle.profile.specs.Due.{Asks, bytes_due, content_due, due_of, file_due, tables_file};
-ghost use Rattle.profile.specs.Due.{tables_of};
+ghost use Rattle.sampled_profile.specs.Scripts.{script_text};
+ghost use Rattle.sampled_profile.specs.Told.{Gives};
+ghost use Rattle.profile.specs.Due.{Asks, bytes_due, content_due, due_of, file_due};
+ghost use Rattle.profile.specs.Due.{request_in, tables_of, told_by};
 ghost use Rattle.profile.specs.Lines.{usage_line};
 
 use crate::lines::{refused_line, usage_line};
-use crate::words::tables_file;
+use crate::words::{Form, request_of};
 use command_ends::{
     Answer, Status, Words, fault_answer, read_input, silent_answer, tell, text_answer,
 };
 use memory_image::{Sink, Source};
 use perf_data::PerfFile;
-use sampled_profile::{Profile, ProfileError, profile_of};
+use sampled_profile::{ProfileError, profile_of, script_of};
 use stack_deliver::Space;
 use stack_report::Report;
 use stack_snapshot::{Origins, Snapshot, read_named_snapshot};
 use std::alloc::{AllocError, Global};
 
-/// The space of a snapshot, in which its modules are prepared where they can be. The profile over it
-/// is the same.
+/// The space of a snapshot, in which its modules are prepared where they can be. What is told of
+/// samples over it is the same.
 fn prepared_space(alloc: Global, snapshot: &Snapshot) -> Result<Space<'_>, AllocError>
-    ensures { IfOk result (λ space. (origins : List OriginValue) (limit : ℕ)
+    ensures { IfOk result (λ space. (origins : List OriginValue) (limit : ℕ) (form : Form)
         (records : List (Result RecordValue PerfError)) →
-        profile_of (tables space origins limit) records ≡
-        profile_of (tables (space_of snapshot.now) origins limit) records) }
+        told_by (tables space origins limit) form records ≡
+        told_by (tables (space_of snapshot.now) origins limit) form records) }
 {
     let mut space = snapshot.space(alloc)?;
     space.prepare()?;
     Ok(space)
 }
 
-/// The profile of a perf.data file over the modules of a snapshot.
-fn snapshot_profile(
+/// The lines of the distinct stacks of a perf.data file.
+fn folded_lines(
     alloc: Global,
-    snapshot: &Snapshot,
+    space: &Space<'_>,
     origins: &Origins,
+    limit: u32,
     file: &PerfFile<'_>,
-) -> Result<Profile, ProfileError>
-    ensures { GivesProfile result
-        (profile_of (tables_of snapshot.now origins.now) file.now.records) }
+) -> Result<Report, ProfileError>
+    ensures { Gives result (result_map profile_text
+        (profile_of (tables space.now origins.now limit) file.now.records)) }
 {
-    let space = prepared_space(alloc, snapshot)?;
-    profile_of(alloc, &space, origins, snapshot.limit(), file)
-}
-
-/// The lines of a profile.
-fn profile_lines(alloc: Global, profile: &Profile) -> Result<Report, AllocError>
-    ensures { IfOk result (λ report. report ≡ profile_text profile.now) }
-{
+    let profile = profile_of(alloc, space, origins, limit, file)?;
     let mut report = Report::new(alloc);
     profile.put_lines(&mut report)?;
     Ok(report)
 }
 
+/// The lines of a perf.data file over the modules of a space.
+fn lines_over(
+    alloc: Global,
+    form: Form,
+    space: &Space<'_>,
+    origins: &Origins,
+    limit: u32,
+    file: &PerfFile<'_>,
+) -> Result<Report, ProfileError>
+    ensures { Gives result
+        (told_by (tables space.now origins.now limit) form file.now.records) }
+{
+    match form {
+        Form::Folded => folded_lines(alloc, space, origins, limit, file),
+        Form::Script => script_of(alloc, space, origins, limit, file),
+    }
+}
+
+/// The lines of a perf.data file over the modules of a snapshot.
+fn lines_of(
+    alloc: Global,
+    form: Form,
+    snapshot: &Snapshot,
+    origins: &Origins,
+    file: &PerfFile<'_>,
+) -> Result<Report, ProfileError>
+    ensures { Gives result
+        (told_by (tables_of snapshot.now origins.now) form file.now.records) }
+{
+    let space = prepared_space(alloc, snapshot)?;
+    lines_over(alloc, form, &space, origins, snapshot.limit(), file)
+}
+
 /// The answer to a perf.data file, or to other bytes.
-fn perf_answer(alloc: Global, snapshot: &Snapshot, origins: &Origins, bytes: &[u8]) -> Answer
-    ensures answer { AnswersBytes (file_due (tables_of snapshot.now origins.now) (perf_of bytes.now))
+fn perf_answer(
+    alloc: Global,
+    form: Form,
+    snapshot: &Snapshot,
+    origins: &Origins,
+    bytes: &[u8],
+) -> Answer
+    ensures answer { AnswersBytes
+        (file_due (tables_of snapshot.now origins.now) form (perf_of bytes.now))
         result.status result.text }
     ensures kind { result.status ≢ Status.TooLong }
 {
@@ -78,8 +114,8 @@ fn perf_answer(alloc: Global, snapshot: &Snapshot, origins: &Origins, bytes: &[u
         Ok(file) => file,
         Err(error) => return text_answer(alloc, Status::Refused, refused_line(alloc, error)),
     };
-    match snapshot_profile(alloc, snapshot, origins, &file) {
-        Ok(profile) => text_answer(alloc, Status::Done, profile_lines(alloc, &profile)),
+    match lines_of(alloc, form, snapshot, origins, &file) {
+        Ok(lines) => text_answer(alloc, Status::Done, Ok(lines)),
         Err(ProfileError::NoMemory) => silent_answer(alloc, Status::Memory),
         Err(ProfileError::Unread(error)) => {
             text_answer(alloc, Status::Refused, refused_line(alloc, error))
@@ -88,26 +124,26 @@ fn perf_answer(alloc: Global, snapshot: &Snapshot, origins: &Origins, bytes: &[u
 }
 
 /// The answer to all bytes of the source, by the bytes of the tables' file.
-fn bytes_answer(alloc: Global, tables: &[u8], bytes: &[u8]) -> Answer
-    ensures answer { AnswersBytes (content_due (origins_by (value_of tables.now)) bytes.now
+fn bytes_answer(alloc: Global, form: Form, tables: &[u8], bytes: &[u8]) -> Answer
+    ensures answer { AnswersBytes (content_due (origins_by (value_of tables.now)) form bytes.now
         (content_of tables.now)) result.status result.text }
     ensures kind { result.status ≢ Status.TooLong }
 {
     match read_named_snapshot(alloc, tables) {
-        Ok((snapshot, origins)) => perf_answer(alloc, &snapshot, &origins, bytes),
+        Ok((snapshot, origins)) => perf_answer(alloc, form, &snapshot, &origins, bytes),
         Err(error) => fault_answer(alloc, error),
     }
 }
 
-fn input_answer<I: Source>(alloc: Global, tables: &[u8], input: &mut I) -> Answer
-    ensures answer { IfSome (I.left input.old)
-        (λ bytes. IsReadyOrFailed (bytes_due tables.now bytes) result.status result.text) }
+fn input_answer<I: Source>(alloc: Global, form: Form, tables: &[u8], input: &mut I) -> Answer
+    ensures answer { IfSome (I.left input.old) (λ bytes.
+        IsReadyOrFailed (bytes_due tables.now form bytes) result.status result.text) }
     ensures kind { (result.status ≢ Status.Usage) × (result.status ≢ Status.WriteFault) }
     ensures leaves { LeavesSource ⊤ result.status result.text
         (Rose (I.faults input.old) (I.faults input.new)) (I.left input.old) (I.left input.new) }
 {
     match read_input(alloc, input) {
-        Ok(bytes) => bytes_answer(alloc, tables, &bytes),
+        Ok(bytes) => bytes_answer(alloc, form, tables, &bytes),
         Err(answer) => answer,
     }
 }
@@ -115,23 +151,23 @@ fn input_answer<I: Source>(alloc: Global, tables: &[u8], input: &mut I) -> Answe
 fn decide<I: Source>(alloc: Global, words: &Words, tables: &[u8], input: &mut I) -> Answer
     ensures answer { IfSome (I.left input.old) (λ bytes.
         IsReadyOrFailed (due_of words.now tables.now bytes) result.status result.text) }
-    ensures usage { tables_file words.now ≡ None →
+    ensures usage { request_in words.now ≡ None →
         IsReady (verdict Status.Usage usage_line) result.status result.text }
-    ensures no_other { result.status ≡ Status.Usage → tables_file words.now ≡ None }
-    ensures leaves { LeavesSource (IsSome (tables_file words.now)) result.status result.text
+    ensures no_other { result.status ≡ Status.Usage → request_in words.now ≡ None }
+    ensures leaves { LeavesSource (IsSome (request_in words.now)) result.status result.text
         (Rose (I.faults input.old) (I.faults input.new)) (I.left input.old) (I.left input.new) }
-    ensures unread { tables_file words.now ≡ None →
+    ensures unread { request_in words.now ≡ None →
         (result.status ≢ Status.ReadFault) × Keeps (I.left input.old) (I.left input.new) }
     ensures kind { result.status ≢ Status.WriteFault }
 {
-    match tables_file(words) {
-        Some(_) => input_answer(alloc, tables, input),
+    match request_of(words) {
+        Some(request) => input_answer(alloc, request.form, tables, input),
         None => text_answer(alloc, Status::Usage, usage_line(alloc)),
     }
 }
 
-/// Writes the folded stacks of the perf.data file that the input is to the output, or why there are
-/// none. `tables` are the bytes of the file that the words name.
+/// Writes the folded stacks of the perf.data file that the input is to the output, or its samples one
+/// after another, or why there are none. `tables` are the bytes of the file that the words name.
 ///
 /// The input is read to its end, but for at most one byte after the 67,108,864th, and not at all
 /// where the words name no file. The checks go in this order: words, reading, JSON, snapshot,
@@ -151,18 +187,23 @@ pub fn run<I: Source, O: Sink>(
     // tables are written, in order and each once, with the number of the samples that show it.
     ensures folded { IfSome (I.left input.old) (λ bytes. (t : Tables)
         (records : List RecordValue) (lines : List StackCount) →
-        Asks words.now tables.now bytes t records → IsFolded (stacks_of t records) lines →
+        Asks Form.Folded words.now tables.now bytes t records → IsFolded (stacks_of t records) lines →
         Tells (verdict Status.Done (profile_text lines)) result (O.holds output.old)
         (O.holds output.new)) }
+    // And where this is asked for, the samples one after another.
+    ensures script { IfSome (I.left input.old) (λ bytes. (t : Tables)
+        (records : List RecordValue) → Asks Form.Script words.now tables.now bytes t records →
+        Tells (verdict Status.Done (script_text t records)) result (O.holds output.old)
+        (O.holds output.new)) }
     // Whatever the source tells, words that name no file are answered so, and no others.
-    ensures usage { ComesExactly result Status.Usage (tables_file words.now ≡ None) }
-    ensures usage_told { tables_file words.now ≡ None →
+    ensures usage { ComesExactly result Status.Usage (request_in words.now ≡ None) }
+    ensures usage_told { request_in words.now ≡ None →
         Tells (verdict Status.Usage usage_line) result (O.holds output.old) (O.holds output.new) }
-    ensures unread { tables_file words.now ≡ None →
+    ensures unread { request_in words.now ≡ None →
         (result ≢ Status.ReadFault) × Keeps (I.left input.old) (I.left input.new) }
     // Without memory, and after a fault of the source, nothing is written; a fault is answered only
     // where one rose; and the source is read to its end where the status says so.
-    ensures ends { KeepsToEnds (IsSome (tables_file words.now)) result
+    ensures ends { KeepsToEnds (IsSome (request_in words.now)) result
         (Rose (I.faults input.old) (I.faults input.new))
         (Rose (O.faults output.old) (O.faults output.new)) (I.left input.old) (I.left input.new)
         (O.holds output.old) (O.holds output.new) }

@@ -1,14 +1,21 @@
-// A run that is asked for. Nothing of it runs.
+// Runs that are asked for. Nothing of them runs.
 ghost use Rattle.std.specs.Prelude.{◌∷◌, [], codes};
 ghost use Rattle.perf_data.specs.Sample.{one_sample};
 ghost use Rattle.folded_stacks.specs.Counts.{IsFolded, counts_of};
 ghost use Rattle.sampled_profile.specs.Profiles.{stacks_of};
+ghost use Rattle.profile.specs.declared.words.Form.TheVariants.{Folded, Script};
 ghost use Rattle.profile.specs.Due.{Asks};
 ghost use Rattle.profile.specs.Sample.{file, records, walked};
 
 /// A perf.data file of 440 bytes, whose one sample was taken in a function that pushes RBX, is asked
 /// for with the tables of this function, and has lines.
 pub fn a_profile_is_asked_for()
-    ensures asked { Asks (codes "tables.json" ∷ []) file one_sample walked records }
+    ensures asked { Asks Folded (codes "tables.json" ∷ []) file one_sample walked records }
     ensures folded { IsFolded (stacks_of walked records) (counts_of (stacks_of walked records)) }
+{}
+
+/// Its samples one after another are asked for.
+pub fn a_script_is_asked_for()
+    ensures { Asks Script (codes "--script" ∷ codes "tables.json" ∷ []) file one_sample walked
+        records }
 {}

@@ -3,3 +3,4 @@ pub mod CountLemmas
 pub mod NameLemmas
 pub mod TextLemmas
 pub mod ProfileLemmas
+pub mod ScriptLemmas

@@ -46,10 +46,10 @@ module _ (s : SpaceValue) (added : List Added) where
   abbrev pub other : SpaceValue
   other = record s { added = added }
 
-  front_same : (limit : ℕ) (c : Context) → front_of other limit c true ≡ front_of s limit c true
+  pub front_same : (limit : ℕ) (c : Context) → front_of other limit c true ≡ front_of s limit c true
   front_same limit c = ap (λ r. r.contexts) (same_reached (caller_from other) (caller_from s) (λ t. ap caller_in (step_same s added t.context t.signal)) limit (start_state c true))
 
-  end_same : (limit : ℕ) (c : Context) (interrupted : Bool) → end_of other limit c interrupted ≡ end_of s limit c interrupted
+  pub end_same : (limit : ℕ) (c : Context) (interrupted : Bool) → end_of other limit c interrupted ≡ end_of s limit c interrupted
   end_same zero c interrupted = refl
   end_same (suc room) c interrupted = ap (λ (r : Result (Option Stepped) DeliverError). end_after c r (end_of other room)) (step_same s added c interrupted) ∙ go (step_of s c interrupted) (end_same room)
     where

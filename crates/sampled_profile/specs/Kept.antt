@@ -6,8 +6,10 @@ use Rattle.perf_data.specs.Records.{RecordValue}
 use Rattle.folded_stacks.specs.Counts.{counts_of}
 use Rattle.sampled_profile.specs.declared.names.ThreadNames.{ThreadNames}
 use Rattle.sampled_profile.specs.declared.profile.Tally.{Tally}
+use Rattle.sampled_profile.specs.declared.script.Script.{Script}
 use Rattle.sampled_profile.specs.Names.{name_within, own_name, parent_of}
 use Rattle.sampled_profile.specs.Profiles.{Tables, stacks_of}
+use Rattle.sampled_profile.specs.Scripts.{script_text}
 
 -- the name that is kept of a thread, and its parent
 abbrev pub own_kept : ThreadNames → ℕ → Option (List ℕ)
@@ -28,3 +30,9 @@ pub record IsTally (t : Tables) (tally : Tally) (earlier : List RecordValue) : T
   pub names : Knows tally.names earlier
   pub counts : tally.counts ≡ counts_of (stacks_of t earlier)
   pub places : tally.room.limit ≡ t.limit
+
+-- The names and the lines are those after these records, and the room has its places.
+pub record IsScript (t : Tables) (script : Script) (earlier : List RecordValue) : Type 0 where
+  pub names : Knows script.names earlier
+  pub text : script.text ≡ script_text t earlier
+  pub places : script.room.limit ≡ t.limit

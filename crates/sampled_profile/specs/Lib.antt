@@ -1,9 +1,10 @@
 -- What a profile tells, in an order to read it in: the name that a thread has, the walk of a sample and why it ends, the text of
--- a stack, and the distinct ones of a file.
+-- a stack, the distinct ones of a file, and its samples one after another.
 pub mod Names
 pub mod Walks
 pub mod Texts
 pub mod Profiles
+pub mod Scripts
 pub mod Told
 -- What the code holds.
 pub mod CountViews

@@ -8,6 +8,7 @@ ghost use Rattle.stack_walks.specs.declared.front.Front.{Front};
 ghost use Rattle.stack_walks.specs.Fronts.{ComesTo};
 ghost use Rattle.stack_snapshot.specs.Origins.{OriginValue};
 ghost use Rattle.sampled_profile.specs.Profiles.{profile_of, tables};
+ghost use Rattle.sampled_profile.specs.Scripts.{script_of};
 ghost use Rattle.sampled_profile.specs.Walks.{end_of, end_told};
 
 /// What a profile tells doesn't depend on which modules of a space are prepared.
@@ -16,6 +17,14 @@ pub fn profiles_stay_as_modules_are_prepared()
         (records : List (Result RecordValue PerfError)) →
         profile_of (tables (record space { added = added }) origins limit) records ≡
         profile_of (tables space origins limit) records }
+{}
+
+/// And so it is of the samples one after another.
+pub fn scripts_stay_as_modules_are_prepared()
+    ensures { (space : SpaceValue) (added : List Added) (origins : List OriginValue) (limit : ℕ)
+        (records : List (Result RecordValue PerfError)) →
+        script_of (tables (record space { added = added }) origins limit) records ≡
+        script_of (tables space origins limit) records }
 {}
 
 /// The end of a stack is the one that the reason of its walk tells.

@@ -1,6 +1,6 @@
 //! The stacks of a profile: each sample of a perf.data file is walked over the tables of its process
 //! and the copy of its thread's stack, and each distinct stack is told once, with the number of the
-//! samples that show it.
+//! samples that show it. Or the samples are told one after another, in the text form of `perf script`.
 //!
 //! Nothing of the tables is copied for a sample, and no memory is taken for one whose stack was seen
 //! before. A stack that goes on where nothing is known, as after the end of the copy, is told as far
@@ -9,10 +9,16 @@
 
 mod counts;
 mod laws;
+mod lines;
 mod names;
 mod profile;
+mod script;
 mod texts;
 mod walks;
 
-pub use laws::{a_reason_tells_the_end, profiles_stay_as_modules_are_prepared};
+pub use laws::{
+    a_reason_tells_the_end, profiles_stay_as_modules_are_prepared,
+    scripts_stay_as_modules_are_prepared,
+};
 pub use profile::{Profile, ProfileError, profile_of};
+pub use script::script_of;

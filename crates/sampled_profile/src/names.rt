@@ -2,11 +2,11 @@
 ghost use Rattle.std.specs.Prelude.{◌≡◌, ◌∷◌, [], List, OnOk};
 ghost use Rattle.std.specs.Option.{option_map};
 ghost use Rattle.perf_data.specs.Records.{RecordValue, Named, Forked};
-ghost use Rattle.perf_data.specs.Views.{name_value, record_value};
+ghost use Rattle.perf_data.specs.Views.{name_value, record_value, sample_value};
 ghost use Rattle.sampled_profile.specs.Kept.{Knows, name_kept, own_kept, parent_kept};
-ghost use Rattle.sampled_profile.specs.Names.{name_in};
+ghost use Rattle.sampled_profile.specs.Names.{name_in, name_of};
 
-use perf_data::{Comm, Record, Task};
+use perf_data::{Comm, Record, Sample, Task};
 use std::alloc::{AllocError, Global};
 use std::collections::BTreeMap;
 
@@ -97,5 +97,16 @@ impl<'a> ThreadNames<'a> {
             Record::Fork(task) => self.start_thread(task),
             _ => Ok(()),
         }
+    }
+}
+
+/// The name of a sample's thread.
+pub(crate) fn name_of<'a>(names: &ThreadNames<'a>, sample: &Sample<'_>) -> Option<&'a [u8]>
+    ensures { (earlier : List RecordValue) → Knows names.now earlier →
+        option_map (λ name. name.now) result ≡ name_of earlier (sample_value sample.now).thread }
+{
+    match sample.thread {
+        Some(thread) => names.name(thread.tid),
+        None => None,
     }
 }

@@ -12,10 +12,10 @@ ghost use Rattle.sampled_profile.specs.Names.{name_of};
 ghost use Rattle.sampled_profile.specs.Profiles.{profile_of, profile_text, read_all, stacks_of};
 ghost use Rattle.sampled_profile.specs.Profiles.{tables};
 ghost use Rattle.sampled_profile.specs.Texts.{sample_text};
-ghost use Rattle.sampled_profile.specs.Told.{GivesProfile};
+ghost use Rattle.sampled_profile.specs.Told.{Gives};
 
 use crate::counts::StackCounts;
-use crate::names::ThreadNames;
+use crate::names::{ThreadNames, name_of};
 use crate::texts::put_sample;
 use perf_data::{PerfError, PerfFile, Record, Records, Sample};
 use stack_deliver::{Room, Space};
@@ -99,17 +99,6 @@ fn empty_tally<'a>(alloc: Global, limit: u32) -> Result<Tally<'a>, AllocError>
     })
 }
 
-/// The name of a sample's thread.
-fn name_of<'a>(names: &ThreadNames<'a>, sample: &Sample<'_>) -> Option<&'a [u8]>
-    ensures { (earlier : List RecordValue) → Knows names.now earlier →
-        option_map (λ name. name.now) result ≡ name_of earlier (sample_value sample.now).thread }
-{
-    match sample.thread {
-        Some(thread) => names.name(thread.tid),
-        None => None,
-    }
-}
-
 /// Counts the stack of a sample.
 fn count_sample(
     space: &Space<'_>,
@@ -164,7 +153,7 @@ fn tally_records<'a>(
     records: Records<'a>,
 ) -> Result<StackCounts, ProfileError>
     requires { length (records_left records) < 2 ^ 64 }
-    ensures { GivesProfile result
+    ensures { Gives result
         (profile_of (tables space.now origins.now limit) (records_left records.entry)) }
 {
     let mut tally = empty_tally(alloc, limit)?;
@@ -198,7 +187,7 @@ pub fn profile_of(
     limit: u32,
     file: &PerfFile<'_>,
 ) -> Result<Profile, ProfileError>
-    ensures exact { GivesProfile result
+    ensures exact { Gives result
         (profile_of (tables space.now origins.now limit) file.now.records) }
     // The lines are the distinct stacks of the samples, in order and each once, with the number of
     // the samples that show it.

@@ -16,7 +16,7 @@ use stack_snapshot::{Origin, Origins};
 use std::alloc::AllocError;
 
 // the form of the registers of a program of 64 bits
-const ABI_64: u64 = 2;
+pub(crate) const ABI_64: u64 = 2;
 
 /// A byte of a name as it is written.
 fn written(byte: u8) -> u8
@@ -52,7 +52,7 @@ fn put_written(report: &mut Report, name: &[u8]) -> Result<(), AllocError>
 }
 
 /// Puts a name last, without what parts a line.
-fn put_name(report: &mut Report, name: &[u8]) -> Result<(), AllocError>
+pub(crate) fn put_name(report: &mut Report, name: &[u8]) -> Result<(), AllocError>
     ensures { OnOk result (report.new ≡ report.old ++ written_name name.now) }
 {
     if is_plain(name) {
@@ -63,7 +63,7 @@ fn put_name(report: &mut Report, name: &[u8]) -> Result<(), AllocError>
 }
 
 /// Puts the name of a thread last.
-fn put_root(report: &mut Report, name: Option<&[u8]>) -> Result<(), AllocError>
+pub(crate) fn put_root(report: &mut Report, name: Option<&[u8]>) -> Result<(), AllocError>
     ensures { OnOk result (report.new ≡ report.old ++ root_text (option_map (λ n. n.now) name.entry)) }
 {
     match name {
@@ -73,7 +73,11 @@ fn put_root(report: &mut Report, name: Option<&[u8]>) -> Result<(), AllocError>
 }
 
 /// Puts an address last, by the file that it lies in, where there is one.
-fn put_place(report: &mut Report, origin: Option<&Origin>, address: u64) -> Result<(), AllocError>
+pub(crate) fn put_place(
+    report: &mut Report,
+    origin: Option<&Origin>,
+    address: u64,
+) -> Result<(), AllocError>
     ensures { OnOk result (report.new ≡ report.old ++
         place_text (option_map (λ o. o.now) origin.entry) address) }
 {
@@ -88,7 +92,7 @@ fn put_place(report: &mut Report, origin: Option<&Origin>, address: u64) -> Resu
 
 /// An address of a frame's instruction: its own where the thread was interrupted there, else a byte
 /// of the call before it.
-fn address_inside(address: u64, interrupted: bool) -> u64
+pub(crate) fn address_inside(address: u64, interrupted: bool) -> u64
     ensures { result ≡ address_of_call address interrupted }
 {
     if interrupted {

@@ -1,0 +1,112 @@
+-- Samples one after another, in the text form of `perf script`, which collapsers and viewers of profiles read: a line with the name of the
+-- thread, its process and its own number, and when the sample was taken; a line for each frame, the innermost first, and one that says
+-- why the stack is told no further; and an empty line.
+use Rattle.std.specs.Prelude.{ℕ, zero, suc, ◌/◌, ◌%◌, ◌^◌, ◌==◌, Bool, true, false, List, [], ◌∷◌, ◌++◌, Option, Some, None, Result, codes, if◌then◌else◌}
+use Rattle.std.specs.Fmt.{decimal, digit_glyph}
+use Rattle.memory_image.specs.Results.{result_map}
+use Rattle.unwind_definitions.specs.LanguageSearch.{address_of_call}
+use Rattle.unwind_arch.specs.declared.x86_64.Context.{Context}
+use Rattle.perf_data.specs.declared.errors.PerfError.{PerfError}
+use Rattle.perf_data.specs.declared.sample.Thread.{Thread}
+use Rattle.perf_data.specs.Records.{RecordValue, Sampled, Mapped, Named, Forked, Exited, OtherKind}
+use Rattle.perf_data.specs.Registers.{RegisterWords, context_of}
+use Rattle.perf_data.specs.Samples.{SampleValue}
+use Rattle.stack_steps.specs.Modules.{SpaceValue}
+use Rattle.stack_walks.specs.Fronts.{front_of}
+use Rattle.stack_snapshot.specs.Origins.{OriginValue, origin_at}
+use Rattle.stack_report.specs.Digits.{hexadecimal}
+use Rattle.stack_report.specs.Report.{line}
+use Rattle.sampled_profile.specs.Names.{name_of}
+use Rattle.sampled_profile.specs.Profiles.{Tables, read_all}
+use Rattle.sampled_profile.specs.Texts.{place_text, root_text, written_name}
+use Rattle.sampled_profile.specs.Walks.{StackEnd, Outermost, NoTable, Cut, Faulty, Long, end_of, sample_space}
+
+-- ---- the first line
+
+-- so many decimal digits, from the highest down
+abbrev pub decimals : ℕ → ℕ → List ℕ
+decimals zero n = []
+decimals (suc k) n = decimals k (n / 10) ++ digit_glyph false (n % 10) ∷ []
+
+-- process and thread, 0 where the sample doesn't say them
+abbrev pub thread_text : Option Thread → List ℕ
+thread_text None = codes " 0/0"
+thread_text (Some t) = codes " " ++ decimal t.pid ++ (codes "/" ++ decimal t.tid)
+
+-- seconds, with nine digits for the nanoseconds
+abbrev pub seconds_text : ℕ → List ℕ
+seconds_text time = codes " " ++ decimal (time / 10 ^ 9) ++ (codes "." ++ decimals 9 (time % 10 ^ 9))
+
+abbrev pub time_text : Option ℕ → List ℕ
+time_text None = seconds_text 0
+time_text (Some time) = seconds_text time
+
+unfoldable pub head_line : Option (List ℕ) → SampleValue → List ℕ
+head_line name s = line (root_text name ++ thread_text s.thread ++ time_text s.time ++ codes ": 1 samples:")
+
+-- ---- the frames
+
+-- an address, its place and the file
+abbrev pub placed_text : Option OriginValue → ℕ → List ℕ
+placed_text None a = codes " [unknown] ([unknown])"
+placed_text (Some o) a = codes " " ++ place_text (Some o) a ++ (codes " (" ++ written_name o.path ++ codes ")")
+
+abbrev pub place_line : List OriginValue → ℕ → List ℕ
+place_line origins a = line (codes "\t" ++ hexadecimal a ++ placed_text (origin_at origins a) a)
+
+-- A frame by the address of its instruction, as perf has it: that at which the thread was interrupted, or the byte before the return address.
+-- The state outside of the outermost frame, whose return address is 0, is no frame.
+unfoldable pub frame_line : List OriginValue → Bool → ℕ → List ℕ
+frame_line origins interrupted a = if a == 0 then [] else place_line origins (address_of_call a interrupted)
+
+-- of states from the innermost outwards, of which the first was interrupted or not
+abbrev pub frame_lines : List OriginValue → Bool → List Context → List ℕ
+frame_lines origins interrupted [] = []
+frame_lines origins interrupted (c ∷ cs) = frame_line origins interrupted c.ra ++ frame_lines origins false cs
+
+-- ---- why there are no more
+
+-- a word in a frame's place, at the address 0
+abbrev pub word_line : List ℕ → List ℕ
+word_line word = line (codes "\t0x0 " ++ word ++ codes " ([unknown])")
+
+abbrev pub end_lines : StackEnd → List ℕ
+end_lines Outermost = []
+end_lines NoTable = word_line (codes "[no table]")
+end_lines Cut = word_line (codes "[cut]")
+end_lines Faulty = word_line (codes "[refused]")
+end_lines Long = word_line (codes "[limit]")
+
+-- ---- all of it
+
+-- of a walk over a space from a context that was interrupted
+abbrev pub walk_lines : SpaceValue → List OriginValue → ℕ → Context → List ℕ
+walk_lines space origins limit c = frame_lines origins true (front_of space limit c true) ++ end_lines (end_of space limit c true)
+
+-- by the form of the program, of which 2 is that of 64 bits
+abbrev pub register_lines : SpaceValue → List OriginValue → ℕ → List ℕ → Option RegisterWords → List ℕ
+register_lines space origins limit stack None = word_line (codes "[no registers]")
+register_lines space origins limit stack (Some r) =
+    if r.abi == 2 then walk_lines (sample_space space (context_of r) stack) origins limit (context_of r) else word_line (codes "[32 bits]")
+
+-- a sample of a thread of this name
+unfoldable pub sample_lines : SpaceValue → List OriginValue → ℕ → Option (List ℕ) → SampleValue → List ℕ
+sample_lines space origins limit name s = head_line name s ++ register_lines space origins limit s.stack s.registers ++ 10 ∷ []
+
+-- the lines so far with those of a record, where it is a sample, whose thread is named by the records before it
+abbrev pub with_lines : Tables → RecordValue → List RecordValue → List ℕ → List ℕ
+with_lines t (Sampled s) earlier before = before ++ sample_lines t.space t.origins t.limit (name_of earlier s.thread) s
+with_lines t (Mapped m) earlier before = before
+with_lines t (Named n) earlier before = before
+with_lines t (Forked k) earlier before = before
+with_lines t (Exited k) earlier before = before
+with_lines t (OtherKind k) earlier before = before
+
+-- of the samples of these records, the latest first, in the order in which they stand in the file
+abbrev pub script_text : Tables → List RecordValue → List ℕ
+script_text t [] = []
+script_text t (r ∷ earlier) = with_lines t r earlier (script_text t earlier)
+
+-- of the samples of a file
+unfoldable pub script_of : Tables → List (Result RecordValue PerfError) → Result (List ℕ) PerfError
+script_of t records = result_map (script_text t) (read_all records)

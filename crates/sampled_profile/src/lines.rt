@@ -1,0 +1,228 @@
+// The lines of a sample.
+ghost use Rattle.std.specs.Prelude.{◌≡◌, ◌≤◌, ◌==◌, ◌++◌, ◌∷◌, OnOk, [], true, take};
+ghost use Rattle.std.specs.Option.{option_map};
+ghost use Rattle.perf_data.specs.Views.{sample_value, words_of};
+ghost use Rattle.sampled_profile.specs.Scripts.{decimals, end_lines, frame_line, frame_lines};
+ghost use Rattle.sampled_profile.specs.Scripts.{head_line, place_line, placed_text};
+ghost use Rattle.sampled_profile.specs.Scripts.{register_lines, sample_lines, seconds_text};
+ghost use Rattle.sampled_profile.specs.Scripts.{thread_text, time_text, walk_lines, word_line};
+ghost use Rattle.sampled_profile.specs.Walks.{end_told, sample_space};
+
+use crate::texts::{ABI_64, address_inside, put_name, put_place, put_root};
+use crate::walks::walk_sample;
+use perf_data::{Sample, Thread, UserRegisters};
+use stack_deliver::{Context, DeliverError, Front, Room, Space};
+use stack_report::Report;
+use stack_snapshot::{Origin, Origins};
+use std::alloc::AllocError;
+
+const NANOSECONDS: u64 = 1_000_000_000;
+
+/// Puts so many decimal digits of a number last, from the highest down.
+fn put_decimals(report: &mut Report, count: u32, number: u64) -> Result<(), AllocError>
+    ensures { OnOk result (report.new ≡ report.old ++ decimals count number) }
+{
+    if count == 0 {
+        return Ok(());
+    }
+    put_decimals(report, count - 1, number / 10)?;
+    report.put_bytes(&[b'0' + (number % 10) as u8])
+}
+
+/// Puts a process and a thread last.
+fn put_thread(report: &mut Report, thread: Option<Thread>) -> Result<(), AllocError>
+    ensures { OnOk result (report.new ≡ report.old ++ thread_text thread) }
+{
+    match thread {
+        Some(thread) => {
+            report.put_count(" ", thread.pid as usize)?;
+            report.put_count("/", thread.tid as usize)
+        }
+        None => report.put(" 0/0"),
+    }
+}
+
+/// Puts nanoseconds last, as seconds.
+fn put_seconds(report: &mut Report, time: u64) -> Result<(), AllocError>
+    ensures { OnOk result (report.new ≡ report.old ++ seconds_text time) }
+{
+    report.put_count(" ", (time / NANOSECONDS) as usize)?;
+    report.put(".")?;
+    put_decimals(report, 9, time % NANOSECONDS)
+}
+
+/// Puts when a sample was taken last.
+fn put_time(report: &mut Report, time: Option<u64>) -> Result<(), AllocError>
+    ensures { OnOk result (report.new ≡ report.old ++ time_text time) }
+{
+    match time {
+        Some(time) => put_seconds(report, time),
+        None => put_seconds(report, 0),
+    }
+}
+
+/// Puts the first line of a sample last.
+#[tactic(auto, unfolding(crate::specs::Scripts::head_line))]
+fn put_head(report: &mut Report, name: Option<&[u8]>, sample: &Sample<'_>) -> Result<(), AllocError>
+    ensures { OnOk result (report.new ≡ report.old ++
+        head_line (option_map (λ n. n.now) name.entry) (sample_value sample.now)) }
+{
+    put_root(report, name)?;
+    put_thread(report, sample.thread)?;
+    put_time(report, sample.time)?;
+    report.put(": 1 samples:")?;
+    report.end_line()
+}
+
+/// Puts the place of an address and the file that it lies in last.
+fn put_placed(report: &mut Report, origin: Option<&Origin>, address: u64) -> Result<(), AllocError>
+    ensures { OnOk result (report.new ≡ report.old ++
+        placed_text (option_map (λ o. o.now) origin.entry) address) }
+{
+    let Some(file) = origin else {
+        return report.put(" [unknown] ([unknown])");
+    };
+    report.put(" ")?;
+    put_place(report, origin, address)?;
+    report.put(" (")?;
+    put_name(report, file.path())?;
+    report.put(")")
+}
+
+/// Puts the line of an address last.
+fn put_place_line(report: &mut Report, origins: &Origins, address: u64) -> Result<(), AllocError>
+    ensures { OnOk result (report.new ≡ report.old ++ place_line origins.now address) }
+{
+    report.put_field("\t", address)?;
+    put_placed(report, origins.at(address), address)?;
+    report.end_line()
+}
+
+/// Puts the line of a frame last.
+#[tactic(auto, unfolding(crate::specs::Scripts::frame_line))]
+fn put_frame_line(
+    report: &mut Report,
+    origins: &Origins,
+    interrupted: bool,
+    address: u64,
+) -> Result<(), AllocError>
+    ensures { OnOk result (report.new ≡ report.old ++
+        frame_line origins.now interrupted address) }
+{
+    if address == 0 {
+        return Ok(());
+    }
+    put_place_line(report, origins, address_inside(address, interrupted))
+}
+
+/// Puts the lines of the states in a room last, the innermost first.
+fn put_frame_lines(report: &mut Report, origins: &Origins, room: &Room) -> Result<(), AllocError>
+    ensures { OnOk result (report.new ≡ report.old ++
+        frame_lines origins.now true room.now.visited) }
+{
+    for i in 0..room.visited_len() {
+        let state = room.visited(i).unwrap();
+        put_frame_line(report, origins, i == 0, state.ra)?;
+    }
+    Ok(())
+}
+
+/// Puts a word in a frame's place last.
+fn put_word_line(report: &mut Report, word: &str) -> Result<(), AllocError>
+    ensures { OnOk result (report.new ≡ report.old ++ word_line word.now) }
+{
+    report.put("\t0x0 ")?;
+    report.put(word)?;
+    report.put(" ([unknown])")?;
+    report.end_line()
+}
+
+/// Puts last why a stack is told no further.
+fn put_end_lines(report: &mut Report, why: Front) -> Result<(), AllocError>
+    ensures { OnOk result (report.new ≡ report.old ++ end_lines (end_told why)) }
+{
+    match why {
+        Front::Outermost => Ok(()),
+        Front::NoModule(_) | Front::NoDescription(_) | Front::UnreadableTable { .. } => {
+            put_word_line(report, "[no table]")
+        }
+        Front::Refused {
+            error: DeliverError::Unmapped(_),
+            ..
+        } => put_word_line(report, "[cut]"),
+        Front::Refused { .. } => put_word_line(report, "[refused]"),
+        Front::Limit => put_word_line(report, "[limit]"),
+    }
+}
+
+/// Puts the lines of a thread's stack last, from where it was interrupted.
+fn put_walk_lines(
+    report: &mut Report,
+    space: &Space<'_>,
+    origins: &Origins,
+    limit: u32,
+    start: &Context,
+    stack: &[u8],
+    room: &mut Room,
+) -> Result<(), AllocError>
+    requires { limit ≤ room.old.limit }
+    ensures text { OnOk result (report.new ≡ report.old ++
+        walk_lines (sample_space space.now start.now stack.now) origins.now limit start.now) }
+    ensures places { room.new.limit ≡ room.old.limit }
+{
+    let why = walk_sample(space, start, stack, limit, room);
+    put_frame_lines(report, origins, room)?;
+    put_end_lines(report, why)
+}
+
+/// Puts the lines of a thread's stack last, by its registers, where it has some.
+fn put_register_lines(
+    report: &mut Report,
+    space: &Space<'_>,
+    origins: &Origins,
+    limit: u32,
+    registers: Option<UserRegisters<'_>>,
+    stack: &[u8],
+    room: &mut Room,
+) -> Result<(), AllocError>
+    requires { limit ≤ room.old.limit }
+    ensures text { OnOk result (report.new ≡ report.old ++
+        register_lines space.now origins.now limit stack.now (words_of registers.entry)) }
+    ensures places { room.new.limit ≡ room.old.limit }
+{
+    let Some(registers) = registers else {
+        return put_word_line(report, "[no registers]");
+    };
+    if registers.abi() == ABI_64 {
+        let start = registers.context();
+        put_walk_lines(report, space, origins, limit, &start, stack, room)
+    } else {
+        put_word_line(report, "[32 bits]")
+    }
+}
+
+/// Puts the lines of a sample of a thread of this name last.
+///
+/// # Errors
+///
+/// `AllocError` where memory ran out.
+#[tactic(auto, unfolding(crate::specs::Scripts::sample_lines))]
+pub(crate) fn put_sample_lines(
+    report: &mut Report,
+    space: &Space<'_>,
+    origins: &Origins,
+    limit: u32,
+    name: Option<&[u8]>,
+    sample: &Sample<'_>,
+    room: &mut Room,
+) -> Result<(), AllocError>
+    requires { limit ≤ room.old.limit }
+    ensures text { OnOk result (report.new ≡ report.old ++ sample_lines space.now origins.now limit
+        (option_map (λ n. n.now) name.entry) (sample_value sample.now)) }
+    ensures places { room.new.limit ≡ room.old.limit }
+{
+    put_head(report, name, sample)?;
+    let registers = sample.registers;
+    put_register_lines(report, space, origins, limit, registers, sample.stack, room)?;
+    report.end_line()
+}
