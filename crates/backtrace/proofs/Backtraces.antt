@@ -13,7 +13,7 @@ use Rattle.stack_snapshot.specs.declared.errors.SnapshotError.{SnapshotError}
 use Rattle.stack_snapshot.specs.declared.errors.SnapshotError.TheVariants as faults
 use Rattle.stack_snapshot.specs.Answers.{content_of, value_of}
 use Rattle.stack_snapshot.specs.Content.{Content, space_of}
-use Rattle.stack_snapshot.specs.Origins.{OriginValue, origins_by}
+use Rattle.backtrace.specs.Code.{CodeValue, PlacesValue, places_by}
 use Rattle.stack_snapshot.specs.Sampled.{SampledContent, sampled_in, sampled_space}
 use Rattle.stack_report.specs.Report.{line}
 use Rattle.folded_stacks.specs.declared.samples.Sample.{Sample}
@@ -36,33 +36,33 @@ one_from None space c interrupted limit t u is other =
 one_from (Some d) space c interrupted limit t u is other =
     same_parts t u (is.0 ∙ sym other.0) (is.1.states ∙ sym other.1.states) (one_front space (limit - 1) (start_state d false) t.why u.why is.1.why other.1.why)
 
-pub one_traced : (space : SpaceValue) (c : Context) (interrupted : Bool) (limit : ℕ) (t u : TraceValue) → IsTrace space c interrupted limit t → IsTrace space c interrupted limit u → t ≡ u
-one_traced space c interrupted limit t u is other = one_from (called_from space c interrupted) space c interrupted limit t u is other
+pub one_traced : (space : SpaceValue) (code : List CodeValue) (c : Context) (interrupted : Bool) (limit : ℕ) (t u : TraceValue) → IsTrace space code c interrupted limit t → IsTrace space code c interrupted limit u → t ≡ u
+one_traced space code c interrupted limit t u is other = one_from (called_from space code c interrupted) space c interrupted limit t u is other
 
 -- ---- one backtrace
 
-one_backtrace : (o : Options) (s : Content) (origins : List OriginValue) (x y : List ℕ) → IsBacktraceOf o s origins x → IsBacktraceOf o s origins y → x ≡ y
-one_backtrace o s origins x y is other = is.2 ∙ (ap (text_of o s origins) (one_traced (space_of s) s.start s.interrupted s.limit is.0 other.0 is.1 other.1) ∙ sym other.2)
+one_backtrace : (o : Options) (s : Content) (places : PlacesValue) (x y : List ℕ) → IsBacktraceOf o s places x → IsBacktraceOf o s places y → x ≡ y
+one_backtrace o s places x y is other = is.2 ∙ (ap (text_of o s places) (one_traced (space_of s) places.code s.start s.interrupted s.limit is.0 other.0 is.1 other.1) ∙ sym other.2)
 
-one_of_threads : (o : Options) (space : SpaceValue) (limit : ℕ) (origins : List OriginValue) (index : ℕ) (xs : List Sample) (a b : List ℕ) → AreThreads o space limit origins index xs a → AreThreads o space limit origins index xs b → a ≡ b
-one_of_threads o space limit origins index [] a b is other = is ∙ sym other
-one_of_threads o space limit origins index (x ∷ xs) a b is other =
-    let traced = one_traced space x.start x.interrupted limit is.2.0 other.2.0 is.2.1 other.2.1 in
-    let own : is.0 ≡ other.0 = is.2.2 ∙ (ap (λ t. thread_line index ++ backtrace_text o.registers x.interrupted origins t) traced ∙ sym other.2.2) in
-    let rest : is.1 ≡ other.1 = one_of_threads o space limit origins (index + 1) xs is.1 other.1 is.3 other.3 in
+one_of_threads : (o : Options) (space : SpaceValue) (limit : ℕ) (places : PlacesValue) (index : ℕ) (xs : List Sample) (a b : List ℕ) → AreThreads o space limit places index xs a → AreThreads o space limit places index xs b → a ≡ b
+one_of_threads o space limit places index [] a b is other = is ∙ sym other
+one_of_threads o space limit places index (x ∷ xs) a b is other =
+    let traced = one_traced space places.code x.start x.interrupted limit is.2.0 other.2.0 is.2.1 other.2.1 in
+    let own : is.0 ≡ other.0 = is.2.2 ∙ (ap (λ t. thread_line index ++ backtrace_text o.registers x.interrupted places t) traced ∙ sym other.2.2) in
+    let rest : is.1 ≡ other.1 = one_of_threads o space limit places (index + 1) xs is.1 other.1 is.3 other.3 in
     is.4 ∙ (ap (λ n. n ++ is.1) own ∙ (ap (λ n. other.0 ++ n) rest ∙ sym other.4))
 
-one_of_snapshot : (o : Options) (r : Result Content SnapshotError) (origins : List OriginValue) (x y : List ℕ) → error_of r ≡ None → IsOfSnapshot o r origins x → IsOfSnapshot o r origins y → x ≡ y
-one_of_snapshot o (Err e) origins x y none is other = absurd cc
-one_of_snapshot o (Ok s) origins x y none is other = one_backtrace o s origins x y is other
+one_of_snapshot : (o : Options) (r : Result Content SnapshotError) (places : PlacesValue) (x y : List ℕ) → error_of r ≡ None → IsOfSnapshot o r places x → IsOfSnapshot o r places y → x ≡ y
+one_of_snapshot o (Err e) places x y none is other = absurd cc
+one_of_snapshot o (Ok s) places x y none is other = one_backtrace o s places x y is other
 
-one_of_samples : (o : Options) (r : Result SampledContent SnapshotError) (origins : List OriginValue) (x y : List ℕ) → error_of r ≡ None → IsOfSamples o r origins x → IsOfSamples o r origins y → x ≡ y
-one_of_samples o (Err e) origins x y none is other = absurd cc
-one_of_samples o (Ok s) origins x y none is other = one_of_threads o (sampled_space s) s.limit origins 0 s.samples x y is other
+one_of_samples : (o : Options) (r : Result SampledContent SnapshotError) (places : PlacesValue) (x y : List ℕ) → error_of r ≡ None → IsOfSamples o r places x → IsOfSamples o r places y → x ≡ y
+one_of_samples o (Err e) places x y none is other = absurd cc
+one_of_samples o (Ok s) places x y none is other = one_of_threads o (sampled_space s) s.limit places 0 s.samples x y is other
 
 pub one_read : (several : Bool) (o : Options) (bytes x y : List ℕ) → error_in several bytes ≡ None → IsBacktraceIn several o bytes x → IsBacktraceIn several o bytes y → x ≡ y
-one_read false o bytes x y none is other = one_of_snapshot o (content_of bytes) (origins_by (value_of bytes)) x y none is other
-one_read true o bytes x y none is other = one_of_samples o (sampled_in bytes) (origins_by (value_of bytes)) x y none is other
+one_read false o bytes x y none is other = one_of_snapshot o (content_of bytes) (places_by (value_of bytes)) x y none is other
+one_read true o bytes x y none is other = one_of_samples o (sampled_in bytes) (places_by (value_of bytes)) x y none is other
 
 -- ---- what is due by it
 
@@ -102,18 +102,18 @@ if_some_both (Some x) S P Q R h p q = h x p q
 
 -- ---- of what is asked for
 
-pub asked_due : (o : Options) (words : List (List ℕ)) (source : Option (List ℕ)) (s : Content) (origins : List OriginValue) (text : List ℕ) (asks : Asks o words source s origins) → due_of words asks.bytes text ≡ verdict Done text
-asked_due o words source s origins text asks =
+pub asked_due : (o : Options) (words : List (List ℕ)) (source : Option (List ℕ)) (s : Content) (places : PlacesValue) (text : List ℕ) (asks : Asks o words source s places) → due_of words asks.bytes text ≡ verdict Done text
+asked_due o words source s places text asks =
     let read : due_of words asks.bytes text ≡ content_due text (content_of asks.bytes) = rw (asks.named, asks.single, le-ltb (2 ^ 26) (length asks.bytes) asks.short) refl in
     read ∙ ap (content_due text) asks.reads
 
-pub asked_backtrace : (o : Options) (words : List (List ℕ)) (source : Option (List ℕ)) (s : Content) (origins : List OriginValue) (t : TraceValue) (asks : Asks o words source s origins) → IsTraceOf s t → IsBacktrace words asks.bytes (text_of o s origins t)
-asked_backtrace o words source s origins t asks is = rw (asks.named, asks.single, asks.reads, asks.files) (t, is, refl)
+pub asked_backtrace : (o : Options) (words : List (List ℕ)) (source : Option (List ℕ)) (s : Content) (places : PlacesValue) (t : TraceValue) (asks : Asks o words source s places) → IsTraceOf s places t → IsBacktrace words asks.bytes (text_of o s places t)
+asked_backtrace o words source s places t asks is = rw (asks.named, asks.single, asks.reads, asks.files) (t, is, refl)
 
-pub sampled_due : (o : Options) (words : List (List ℕ)) (source : Option (List ℕ)) (s : SampledContent) (origins : List OriginValue) (text : List ℕ) (asks : AsksSamples o words source s origins) → due_of words asks.bytes text ≡ verdict Done text
-sampled_due o words source s origins text asks =
+pub sampled_due : (o : Options) (words : List (List ℕ)) (source : Option (List ℕ)) (s : SampledContent) (places : PlacesValue) (text : List ℕ) (asks : AsksSamples o words source s places) → due_of words asks.bytes text ≡ verdict Done text
+sampled_due o words source s places text asks =
     let read : due_of words asks.bytes text ≡ content_due text (sampled_in asks.bytes) = rw (asks.named, asks.several, le-ltb (2 ^ 26) (length asks.bytes) asks.short) refl in
     read ∙ ap (content_due text) asks.reads
 
-pub sampled_backtraces : (o : Options) (words : List (List ℕ)) (source : Option (List ℕ)) (s : SampledContent) (origins : List OriginValue) (text : List ℕ) (asks : AsksSamples o words source s origins) → IsThreadsOf o s origins text → IsBacktrace words asks.bytes text
-sampled_backtraces o words source s origins text asks is = rw (asks.named, asks.several, asks.reads, asks.files) is
+pub sampled_backtraces : (o : Options) (words : List (List ℕ)) (source : Option (List ℕ)) (s : SampledContent) (places : PlacesValue) (text : List ℕ) (asks : AsksSamples o words source s places) → IsThreadsOf o s places text → IsBacktrace words asks.bytes text
+sampled_backtraces o words source s places text asks is = rw (asks.named, asks.several, asks.reads, asks.files) is

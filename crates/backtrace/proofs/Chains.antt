@@ -1,7 +1,7 @@
 -- The trace of a snapshot whose tables describe a chain of calls.
-use Rattle.std.proofs.Common.{inl, inr, ◌≡◌, ◌≢◌, ℕ, ◌+◌, ◌-◌, ◌%◌, ◌^◌, ◌<◌, ◌≤◌, Bool, true, false, ◌||◌, List, [], ◌∷◌, length, set, get_or, Option, Some, None, Result, Ok, refl, sym, ap, ◌∙◌, eqb, arith}
+use Rattle.std.proofs.Common.{inl, inr, ◌≡◌, ◌≢◌, ℕ, ◌+◌, ◌-◌, ◌%◌, ◌^◌, ◌<◌, ◌≤◌, Bool, true, false, ◌||◌, ◌&&◌, List, [], ◌∷◌, length, set, get_or, Option, Some, None, Result, Ok, refl, sym, ap, ◌∙◌, eqb, arith}
 use Rattle.std.proofs.lemmas.Bool.Decides.{nat_tests}
-use Rattle.std.specs.Prelude.{map, ◌==◌}
+use Rattle.std.specs.Prelude.{map, ◌==◌, is_none, if◌then◌else◌}
 use Rattle.std.proofs.lemmas.List.{get_or-set_same, get_or-set_other}
 use Rattle.memory_image.specs.Image.{Span, IsLaidOut, word_at}
 use Rattle.unwind_definitions.specs.Columns as column
@@ -33,23 +33,31 @@ use Rattle.stack_deliver.specs.StateViews.{state_of}
 use Rattle.stack_deliver.proofs.Chains.{shown_state, shown_states}
 use Rattle.stack_snapshot.specs.Content.{Content, space_of}
 use Rattle.stack_snapshot.specs.Described.{DescribesStop, DescribesWalk}
-use Rattle.stack_snapshot.specs.Origins.{OriginValue}
+use Rattle.backtrace.specs.Code.{CodeValue, PlacesValue, code_at}
 use Rattle.backtrace.specs.declared.words.Options.{Options}
-use Rattle.backtrace.specs.Tracing.{TraceValue, IsNowhere, called_from, is_nowhere, returned_to}
+use Rattle.backtrace.specs.Tracing.{TraceValue, IsNowhere, called_from, is_nowhere, returned_caller, returned_to}
 use Rattle.backtrace.specs.Lines.{backtrace_text}
 use Rattle.backtrace.specs.Due.{IsTraceOf, DescribesCallToNowhere, text_of, chain_text, called_text}
 
 -- A stack that has a step isn't guessed at.
-stepped_somewhere : (space : SpaceValue) (c : Context) (next : Stepped) → step_of space c true ≡ Ok (Some next) → called_from space c true ≡ None
-stepped_somewhere space c next steps = go (eqb c.ra 0) refl (module_at space.modules c.ra) refl
+stepped_somewhere : (space : SpaceValue) (code : List CodeValue) (c : Context) (next : Stepped) → step_of space c true ≡ Ok (Some next) → called_from space code c true ≡ None
+stepped_somewhere space code c next steps = go (eqb c.ra 0) refl (module_at space.modules c.ra) refl
   where
     ended : EndsAt space c true → ⊥
     ended ends = let bad : ◌≡◌ {A = Result (Option Stepped) DeliverError} (Ok (Some next)) (Ok None) = sym steps ∙ ends_step space c true ends in cc
 
-    go : (b : Bool) → eqb c.ra 0 ≡ b → (o : Option Module) → module_at space.modules c.ra ≡ o → called_from space c true ≡ None
+    go : (b : Bool) → eqb c.ra 0 ≡ b → (o : Option Module) → module_at space.modules c.ra ≡ o → called_from space code c true ≡ None
     go true zero o holder = let is : c.ra ≡ 0 = grind (arith, nat_tests) in absurd (ended (inl is))
     go false some None holder = let is : c.ra ≢ 0 = grind (arith, nat_tests) in absurd (ended (inr (is, rw holder tt)))
     go false some (Some m) holder = rw (some, holder) refl
+
+-- Nor is one whose start lies in code without a table.
+pub code_is_somewhere : (space : SpaceValue) (code : List CodeValue) (c : Context) (interrupted : Bool) (range : CodeValue) → code_at code c.ra ≡ Some range → called_from space code c interrupted ≡ None
+code_is_somewhere space code c interrupted range holds = rw holds (go (interrupted && ((c.ra == 0) || is_none (module_at space.modules c.ra))))
+  where
+    go : (b : Bool) → (if b && false then returned_caller space.image c else None) ≡ None
+    go true = refl
+    go false = refl
 
 -- ---- a call to nowhere
 
@@ -95,24 +103,24 @@ returned_shows c t s whole state room below same shows = record { ra = refl; sp 
     saved R15 = ap some (kept c (popped c) 15 (λ e. cc)) ∙ shows.saved R15 ∙ ap some (same R15)
 
 -- what is nowhere is tested so
-tested : (space : SpaceValue) (c : Context) (interrupted : Bool) → IsNowhere space c interrupted → is_nowhere space c interrupted ≡ true
-tested space c interrupted (marked, inl zero) = rw (marked, zero) refl
-tested space c interrupted (marked, inr none) = rw (marked, none) (either (c.ra == 0))
+tested : (space : SpaceValue) (code : List CodeValue) (c : Context) (interrupted : Bool) → IsNowhere space code c interrupted → is_nowhere space code c interrupted ≡ true
+tested space code c interrupted (marked, inl zero, free) = rw (marked, free, zero) refl
+tested space code c interrupted (marked, inr none, free) = rw (marked, free, none) (either (c.ra == 0))
   where
-    either : (b : Bool) → (b || true) ≡ true
+    either : (b : Bool) → ((b || true) && true) ≡ true
     either true = refl
     either false = refl
 
 -- after a call to nowhere the caller that the stack names shows the caller's state
-pub called_caller : (space : SpaceValue) (c : Context) (interrupted : Bool) (t s : State) → IsWhole c → IsNowhere space c interrupted → IsEntered space.image false [] t s → IsState t → t.ra ≢ 0 → Shows (columns_of c) s →
-    (d : Context) × (called_from space c interrupted ≡ Some d) × Shows (columns_of d) t
-called_caller space c interrupted t s whole nowhere entered state returns shows =
+pub called_caller : (space : SpaceValue) (code : List CodeValue) (c : Context) (interrupted : Bool) (t s : State) → IsWhole c → IsNowhere space code c interrupted → IsEntered space.image false [] t s → IsState t → t.ra ≢ 0 → Shows (columns_of c) s →
+    (d : Context) × (called_from space code c interrupted ≡ Some d) × Shows (columns_of d) t
+called_caller space code c interrupted t s whole nowhere entered state returns shows =
     let at : get_or c.registers 7 0 ≡ s.sp = (let e : Some (get_or c.registers 7 0) ≡ Some s.sp = shows.sp in cc) in
     let below : s.sp ≡ t.sp - 8 = entered.stack in
     let word : word_at space.image (get_or c.registers 7 0) ≡ Some t.ra = rw (at, below) (entered.returns refl) in
     let some : (t.ra == 0) ≡ false = (let is : t.ra ≢ 0 = returns in grind (arith, nat_tests)) in (
       returned_to c t.ra,
-      rw (tested space c interrupted nowhere, word, some) refl,
+      rw (tested space code c interrupted nowhere, word, some) refl,
       returned_shows c t s whole state entered.room below (λ r. entered.keeps r refl) shows,
     )
 
@@ -122,46 +130,46 @@ module _ (s : Content) (apart : AreApart 0 (space_of s).modules) (laid : IsLaidO
   walked interrupted start calls =
       record { first = None; states = front_of (space_of s) s.limit s.start interrupted; why = front_of_chain (space_of s).modules (last_state start calls) }
 
-  lines_are : (o : Options) (origins : List OriginValue) (start : State) (calls : List Call) → map state_of (front_of (space_of s) s.limit s.start s.interrupted) ≡ states_of start calls →
-      text_of o s origins (walked s.interrupted start calls) ≡ chain_text o s origins start calls
+  lines_are : (o : Options) (places : PlacesValue) (start : State) (calls : List Call) → map state_of (front_of (space_of s) s.limit s.start s.interrupted) ≡ states_of start calls →
+      text_of o s places (walked s.interrupted start calls) ≡ chain_text o s places start calls
   unfolding backtrace_text
-  lines_are o origins start calls shown = rw shown refl
+  lines_are o places start calls shown = rw shown refl
 
   -- The trace of a described chain has its states, and the lines are theirs.
-  pub chain_traced : (o : Options) (origins : List OriginValue) (functions : List Function) (start : State) (calls : List Call) → DescribesWalk s functions start calls →
-      (t : TraceValue) × IsTraceOf s t × (text_of o s origins t ≡ chain_text o s origins start calls)
-  chain_traced o origins functions start calls is =
+  pub chain_traced : (o : Options) (places : PlacesValue) (functions : List Function) (start : State) (calls : List Call) → DescribesWalk s functions start calls →
+      (t : TraceValue) × IsTraceOf s places t × (text_of o s places t ≡ chain_text o s places start calls)
+  chain_traced o places functions start calls is =
       let w = chain_walked (space_of s) s.start s.limit functions start calls apart laid is.1 in
       let all : front_of (space_of s) s.limit s.start false ≡ w.0 = line_whole (space_of s) s.limit (start_state s.start false) w.0 w.1 in
       let shown : map state_of (front_of (space_of s) s.limit s.start s.interrupted) ≡ states_of start calls = rw (is.0, all) (shown_states w.0 (states_of start calls) w.2.states) in
       let why = chain_comes (space_of s) apart laid s.start s.limit functions start calls is.1 in (
         walked s.interrupted start calls,
         rw is.0 (refl, record { states = refl; why = why }),
-        lines_are o origins start calls shown,
+        lines_are o places start calls shown,
       )
 
   -- So has that of a stop in a described function.
-  pub stop_traced : (o : Options) (origins : List OriginValue) (functions : List Function) (start : State) (call : Call) (calls : List Call) → DescribesStop s functions start call calls →
-      (t : TraceValue) × IsTraceOf s t × (text_of o s origins t ≡ chain_text o s origins start (call ∷ calls))
-  stop_traced o origins functions start call calls is =
+  pub stop_traced : (o : Options) (places : PlacesValue) (functions : List Function) (start : State) (call : Call) (calls : List Call) → DescribesStop s functions start call calls →
+      (t : TraceValue) × IsTraceOf s places t × (text_of o s places t ≡ chain_text o s places start (call ∷ calls))
+  stop_traced o places functions start call calls is =
       let w = stopped_walked (space_of s) functions start call calls s.start apart laid s.limit is.1 in
       let all : front_of (space_of s) s.limit s.start true ≡ w.0 = line_whole (space_of s) s.limit (start_state s.start true) w.0 w.1 in
       let shown : map state_of (front_of (space_of s) s.limit s.start s.interrupted) ≡ states_of start (call ∷ calls) = rw (is.0, all) (shown_states w.0 (states_of start (call ∷ calls)) w.2.states) in
       let stop : IsDescribedStop (space_of s).image (formats_of (space_of s)) functions start call = is.1.stopped in
       let step : UndoneIn stop.lies.home (step_of (space_of s) s.start true) (columns_of s.start) call.caller = format_stopped (space_of s) s.start functions start call apart laid stop is.1.shows in
-      let none : called_from (space_of s) s.start true ≡ None = stepped_somewhere (space_of s) s.start step.next step.answered in
+      let none : called_from (space_of s) places.code s.start true ≡ None = stepped_somewhere (space_of s) places.code s.start step.next step.answered in
       let why = stop_comes (space_of s) apart laid s.start s.limit functions start call calls is.1 in (
         walked s.interrupted start (call ∷ calls),
         rw (is.0, none) (refl, record { states = refl; why = why }),
-        lines_are o origins start (call ∷ calls) shown,
+        lines_are o places start (call ∷ calls) shown,
       )
 
   -- And so has that of a call to nowhere, whose caller the stack names.
-  pub called_traced : IsWhole s.start → (o : Options) (origins : List OriginValue) (functions : List Function) (start caller : State) (calls : List Call) → DescribesCallToNowhere s functions start caller calls →
-      (t : TraceValue) × IsTraceOf s t × (text_of o s origins t ≡ called_text o s origins start caller calls)
+  pub called_traced : IsWhole s.start → (o : Options) (places : PlacesValue) (functions : List Function) (start caller : State) (calls : List Call) → DescribesCallToNowhere s places functions start caller calls →
+      (t : TraceValue) × IsTraceOf s places t × (text_of o s places t ≡ called_text o s places start caller calls)
   unfolding backtrace_text
-  called_traced whole o origins functions start caller calls is =
-      let d = called_caller (space_of s) s.start s.interrupted caller start whole is.nowhere is.entered (begins (space_of s).image (IsUncoveredBy (space_of s).image (formats_of (space_of s))) functions caller calls is.described.chain) is.returns is.shows in
+  called_traced whole o places functions start caller calls is =
+      let d = called_caller (space_of s) places.code s.start s.interrupted caller start whole is.nowhere is.entered (begins (space_of s).image (IsUncoveredBy (space_of s).image (formats_of (space_of s))) functions caller calls is.described.chain) is.returns is.shows in
       let short = is.shorter in
       let fewer : length calls < s.limit - 1 = omega arith in
       let starts : StartsChain (space_of s) d.0 (s.limit - 1) functions caller calls = record { described = is.described; shows = d.2; shorter = fewer } in

@@ -14,7 +14,7 @@ use Rattle.stack_walks.proofs.FrontAnswers.{line_whole}
 use Rattle.stack_deliver.specs.StateViews.{state_of}
 use Rattle.stack_deliver.proofs.Chains.{shown_state, shown_states}
 use Rattle.stack_snapshot.specs.Content.{Content, space_of}
-use Rattle.stack_snapshot.specs.Origins.{OriginValue}
+use Rattle.backtrace.specs.Code.{PlacesValue}
 use Rattle.backtrace.specs.declared.words.Options.{Options}
 use Rattle.backtrace.specs.Tracing.{TraceValue, called_from, is_nowhere}
 use Rattle.backtrace.specs.Lines.{backtrace_text}
@@ -29,36 +29,36 @@ last_returns s (t ∷ callers) = last_returns t callers
 
 module _ (s : Content) (apart : AreApart 0 (space_of s).modules) (laid : IsLaidOut 0 (space_of s).image) where
   -- of a walk that begins at the start
-  abbrev walked : (start : State) (callers : List State) → BeginsKnownStack s start callers → TraceValue
-  walked start callers is =
+  abbrev walked : (places : PlacesValue) (start : State) (callers : List State) → BeginsKnownStack s places start callers → TraceValue
+  walked places start callers is =
       record { first = None; states = front_of (space_of s) s.limit s.start s.interrupted; why = front_of_stack (space_of s) s.interrupted start callers is.starts.stack }
 
-  lines_are : (o : Options) (origins : List OriginValue) (start : State) (callers : List State) (is : BeginsKnownStack s start callers) →
-      map state_of (front_of (space_of s) s.limit s.start s.interrupted) ≡ start ∷ callers → text_of o s origins (walked start callers is) ≡ stack_text o s origins start callers is
+  lines_are : (o : Options) (places : PlacesValue) (start : State) (callers : List State) (is : BeginsKnownStack s places start callers) →
+      map state_of (front_of (space_of s) s.limit s.start s.interrupted) ≡ start ∷ callers → text_of o s places (walked places start callers is) ≡ stack_text o s places start callers is
   unfolding backtrace_text
-  lines_are o origins start callers is shown = rw shown refl
+  lines_are o places start callers is shown = rw shown refl
 
   -- It has the states of the stack, and the lines are theirs.
-  pub stack_traced : (o : Options) (origins : List OriginValue) (start : State) (callers : List State) (is : BeginsKnownStack s start callers) →
-      (t : TraceValue) × IsTraceOf s t × (text_of o s origins t ≡ stack_text o s origins start callers is)
-  stack_traced o origins start callers is =
+  pub stack_traced : (o : Options) (places : PlacesValue) (start : State) (callers : List State) (is : BeginsKnownStack s places start callers) →
+      (t : TraceValue) × IsTraceOf s places t × (text_of o s places t ≡ stack_text o s places start callers is)
+  stack_traced o places start callers is =
       let w = known_walked (space_of s) apart laid s.start s.limit s.interrupted start callers is.starts in
       let all : front_of (space_of s) s.limit s.start s.interrupted ≡ w.0 = line_whole (space_of s) s.limit (start_state s.start s.interrupted) w.0 w.1 in
       let shown : map state_of (front_of (space_of s) s.limit s.start s.interrupted) ≡ start ∷ callers = rw all (shown_states w.0 (start ∷ callers) w.2.each) in
       let why = known_comes (space_of s) apart laid s.start s.limit s.interrupted start callers is.starts in
-      let somewhere : is_nowhere (space_of s) s.start s.interrupted ≡ false = is.somewhere in
-      let none : called_from (space_of s) s.start s.interrupted ≡ None = rw somewhere refl in (
-        walked start callers is,
+      let somewhere : is_nowhere (space_of s) places.code s.start s.interrupted ≡ false = is.somewhere in
+      let none : called_from (space_of s) places.code s.start s.interrupted ≡ None = rw somewhere refl in (
+        walked places start callers is,
         rw none (refl, record { states = refl; why = why }),
-        lines_are o origins start callers is shown,
+        lines_are o places start callers is shown,
       )
 
   -- And so has that of a call to nowhere, whose caller the stack names.
-  pub called_stack_traced : IsWhole s.start → (o : Options) (origins : List OriginValue) (start caller : State) (callers : List State) (is : BeginsByCallToNowhere s start caller callers) →
-      (t : TraceValue) × IsTraceOf s t × (text_of o s origins t ≡ called_stack_text o s origins start caller callers is)
+  pub called_stack_traced : IsWhole s.start → (o : Options) (places : PlacesValue) (start caller : State) (callers : List State) (is : BeginsByCallToNowhere s places start caller callers) →
+      (t : TraceValue) × IsTraceOf s places t × (text_of o s places t ≡ called_stack_text o s places start caller callers is)
   unfolding backtrace_text
-  called_stack_traced whole o origins start caller callers is =
-      let d = called_caller (space_of s) s.start s.interrupted caller start whole is.nowhere is.entered (called_state (space_of s) caller callers is.stack) is.returns is.shows in
+  called_stack_traced whole o places start caller callers is =
+      let d = called_caller (space_of s) places.code s.start s.interrupted caller start whole is.nowhere is.entered (called_state (space_of s) caller callers is.stack) is.returns is.shows in
       let short = is.shorter in
       let fewer : length callers < s.limit - 1 = omega arith in
       let starts : StartsKnownStack (space_of s) d.0 (s.limit - 1) false caller callers = record { stack = is.stack; shows = d.2; shorter = fewer } in

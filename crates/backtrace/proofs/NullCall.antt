@@ -9,6 +9,7 @@ use Rattle.unwind_laws.proofs.RowFacts.{state_fits}
 use Rattle.format_definitions.specs.Modules.{IsDescribedChain}
 use Rattle.stack_steps.specs.SpaceViews.{formats_of}
 use Rattle.stack_snapshot.specs.Content.{space_of}
+use Rattle.backtrace.specs.Code.{without_code}
 use Rattle.backtrace.specs.Sample.{callee, caller, snapshot}
 use Rattle.backtrace.specs.Due.{DescribesCallToNowhere}
 use Rattle.backtrace.specs.KnownStacks.{BeginsByCallToNowhere}
@@ -46,13 +47,13 @@ fits = state_fits caller (lit< tt) (lit< tt) (lit< tt) (lit< tt) (lit< tt) (lit<
 alone : IsDescribedChain (space_of snapshot).image (formats_of (space_of snapshot)) [] caller []
 alone = record { chain = record { state = fits; ends = inr (returns_somewhere, λ m has. absurd (none_in_nil m has)) }; described = tt; ends = inr (λ m has. absurd (none_in_nil m has)) }
 
-pub described : DescribesCallToNowhere snapshot [] callee caller []
-described = record { nowhere = (refl, inl refl); entered = entered; returns = returns_somewhere; shows = shows; described = alone; shorter = lit< tt }
+pub described : DescribesCallToNowhere snapshot (without_code []) [] callee caller []
+described = record { nowhere = (refl, inl refl, refl); entered = entered; returns = returns_somewhere; shows = shows; described = alone; shorter = lit< tt }
 
 -- it is a known stack by itself
-pub begins : BeginsByCallToNowhere snapshot callee caller []
+pub begins : BeginsByCallToNowhere snapshot (without_code []) callee caller []
 begins = record {
-  nowhere = (refl, inl refl);
+  nowhere = (refl, inl refl, refl);
   entered = entered;
   returns = returns_somewhere;
   shows = shows;

@@ -5,7 +5,7 @@ use Rattle.std.specs.List.{slice_get}
 use Rattle.stack_steps.specs.Modules.{SpaceValue}
 use Rattle.folded_stacks.specs.declared.samples.Sample.{Sample}
 use Rattle.stack_snapshot.specs.Sampled.{SampledContent, sampled_space}
-use Rattle.stack_snapshot.specs.Origins.{OriginValue}
+use Rattle.backtrace.specs.Code.{PlacesValue}
 use Rattle.backtrace.specs.declared.words.Options.{Options}
 use Rattle.backtrace.specs.Tracing.{TraceValue}
 use Rattle.backtrace.specs.Lines.{thread_line}
@@ -13,18 +13,18 @@ use Rattle.backtrace.specs.Due.{IsTraceOf, text_of}
 use Rattle.backtrace.specs.Threads.{IsThread, AreThreads, IsThreadsOf, HasThread, alone}
 use Rattle.backtrace.proofs.Backtraces.{one_traced}
 
-module _ (o : Options) (space : SpaceValue) (limit : ℕ) (origins : List OriginValue) where
+module _ (o : Options) (space : SpaceValue) (limit : ℕ) (places : PlacesValue) where
   -- the parts of a text before a thread, of it, and after it
   pub record Parted (xs : List Sample) (k index n : ℕ) (x : Sample) (text : List ℕ) : Type 0 where
     pub before : List ℕ
     pub own : List ℕ
     pub after : List ℕ
-    pub earlier : AreThreads o space limit origins k (take index xs) before
-    pub thread : IsThread o space limit origins n x own
-    pub later : AreThreads o space limit origins (n + 1) (drop (index + 1) xs) after
+    pub earlier : AreThreads o space limit places k (take index xs) before
+    pub thread : IsThread o space limit places n x own
+    pub later : AreThreads o space limit places (n + 1) (drop (index + 1) xs) after
     pub is : text ≡ before ++ (own ++ after)
 
-  pub parted : (xs : List Sample) (k index n : ℕ) (x : Sample) (text : List ℕ) → n ≡ k + index → slice_get xs index ≡ Some x → AreThreads o space limit origins k xs text → Parted xs k index n x text
+  pub parted : (xs : List Sample) (k index n : ℕ) (x : Sample) (text : List ℕ) → n ≡ k + index → slice_get xs index ≡ Some x → AreThreads o space limit places k xs text → Parted xs k index n x text
   parted [] k zero n x text at found is = absurd cc
   parted [] k (suc index) n x text at found is = absurd cc
   parted (y ∷ ys) k zero n x text at found is =
@@ -35,8 +35,8 @@ module _ (o : Options) (space : SpaceValue) (limit : ℕ) (origins : List Origin
         own = is.0;
         after = is.1;
         earlier = refl;
-        thread = subst (λ (z : Sample). IsThread o space limit origins n z is.0) same (subst (λ m. IsThread o space limit origins m y is.0) here is.2);
-        later = subst (λ m. AreThreads o space limit origins (m + 1) ys is.1) here is.3;
+        thread = subst (λ (z : Sample). IsThread o space limit places n z is.0) same (subst (λ m. IsThread o space limit places m y is.0) here is.2);
+        later = subst (λ m. AreThreads o space limit places (m + 1) ys is.1) here is.3;
         is = is.4;
       }
   parted (y ∷ ys) k (suc index) n x text at found is =
@@ -48,15 +48,15 @@ module _ (o : Options) (space : SpaceValue) (limit : ℕ) (origins : List Origin
         after = next.after;
         earlier = (is.0, next.before, is.2, next.earlier, refl);
         thread = next.thread;
-        later = subst (λ m. AreThreads o space limit origins (n + 1) (drop m (y ∷ ys)) next.after) shifted next.later;
+        later = subst (λ m. AreThreads o space limit places (n + 1) (drop m (y ∷ ys)) next.after) shifted next.later;
         is = is.4 ∙ (ap (λ m. is.0 ++ m) next.is ∙ sym (append_assoc is.0 next.before (next.own ++ next.after)));
       }
 
 -- a thread's lines are those of its trace
-pub has_thread : (o : Options) (s : SampledContent) (origins : List OriginValue) (index : ℕ) (x : Sample) (t : TraceValue) (text : List ℕ) → slice_get s.samples index ≡ Some x → IsTraceOf (alone s x) t → IsThreadsOf o s origins text
-    → HasThread o s origins index (text_of o (alone s x) origins t) text
-has_thread o s origins index x t text found is all =
-    let p = parted o (sampled_space s) s.limit origins s.samples 0 index index x text (omega arith) found all in
-    let same = one_traced (sampled_space s) x.start x.interrupted s.limit p.thread.0 t p.thread.1 is in
-    let own : p.own ≡ thread_line index ++ text_of o (alone s x) origins t = p.thread.2 ∙ ap (λ u. thread_line index ++ text_of o (alone s x) origins u) same in
+pub has_thread : (o : Options) (s : SampledContent) (places : PlacesValue) (index : ℕ) (x : Sample) (t : TraceValue) (text : List ℕ) → slice_get s.samples index ≡ Some x → IsTraceOf (alone s x) places t → IsThreadsOf o s places text
+    → HasThread o s places index (text_of o (alone s x) places t) text
+has_thread o s places index x t text found is all =
+    let p = parted o (sampled_space s) s.limit places s.samples 0 index index x text (omega arith) found all in
+    let same = one_traced (sampled_space s) places.code x.start x.interrupted s.limit p.thread.0 t p.thread.1 is in
+    let own : p.own ≡ thread_line index ++ text_of o (alone s x) places t = p.thread.2 ∙ ap (λ u. thread_line index ++ text_of o (alone s x) places u) same in
     (p.before, p.after, p.earlier, p.later, p.is ∙ ap (λ m. p.before ++ (m ++ p.after)) own)

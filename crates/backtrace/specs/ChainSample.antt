@@ -9,8 +9,8 @@ use Rattle.stack_steps.specs.declared.space.Module.{Module}
 use Rattle.stack_steps.specs.declared.space.ModuleTables.TheVariants.{Elf}
 use Rattle.stack_steps.specs.StopSample.{pushing_module, stopped_at}
 use Rattle.stack_snapshot.specs.Content.{Content}
-use Rattle.stack_snapshot.specs.Origins.{OriginValue}
 use Rattle.stack_report.specs.Report.{line}
+use Rattle.backtrace.specs.Code.{PlacesValue, without_code}
 
 -- ---- after a call
 
@@ -32,8 +32,8 @@ calling = record {
   interrupted = false;
 }
 
-abbrev pub calling_origins : List OriginValue
-calling_origins = record { start = 0x401000; end = 0x401080; path = codes "/lib/three"; bias = 0x400000 } ∷ []
+abbrev pub calling_places : PlacesValue
+calling_places = without_code (record { start = 0x401000; end = 0x401080; path = codes "/lib/three"; bias = 0x400000 } ∷ [])
 
 abbrev pub calling_json : List ℕ
 calling_json = codes "{\"regions\":[{\"address\":\"0x500000\",\"bytes\":\"1400000000000000017a5200017810011b0c070890010000180000001c000000e00ff0ff2000000000410e108602430d064583031c00000000000000017a504c5200017810079bb92f00001b1b0c0708900100001800000024000000c40ff0ff30000000049b1f0000410e10830200002000000040000000d80ff0ff30000000048b1f0000420e10410e18440e2083038e02000000000000\"},{\"address\":\"0x502000\",\"bytes\":\"ffff01080810200020100000ff9b0c010408102001010000000000\"},{\"address\":\"0x503000\",\"bytes\":\"0040400000000000\"},{\"address\":\"0x70b0\",\"bytes\":\"000000000000000011000000000000000c0000000000000030104000000000002200000000000000601040000000000000000000000000000b000000000000000e000000000000000000000000000000\"}],\"modules\":[{\"kind\":\"elf\",\"start\":\"0x401000\",\"end\":\"0x401080\",\"eh_frame\":\"0x500000\",\"path\":\"/lib/three\",\"bias\":\"0x400000\"}],\"start\":{\"rip\":\"0x401010\",\"rsp\":\"0x70b0\",\"rbx\":\"0x7\",\"rbp\":\"0x70c0\",\"r14\":\"0x2e\"},\"limit\":8}"
@@ -59,8 +59,8 @@ stopped = record {
   interrupted = true;
 }
 
-abbrev pub stopped_origins : List OriginValue
-stopped_origins = record { start = 0x401000; end = 0x401010; path = codes "pushed_rbx"; bias = 0x400000 } ∷ []
+abbrev pub stopped_places : PlacesValue
+stopped_places = without_code (record { start = 0x401000; end = 0x401010; path = codes "pushed_rbx"; bias = 0x400000 } ∷ [])
 
 abbrev pub stopped_json : List ℕ
 stopped_json = codes "{\"regions\":[{\"address\":\"0x500000\",\"bytes\":\"1400000000000000017a5200017810011b0c070890010000140000001c000000e00ff0ff1000000000410e108302000000000000\"},{\"address\":\"0x7000\",\"bytes\":\"05000000000000000000000000000000\"}],\"modules\":[{\"kind\":\"elf\",\"start\":\"0x401000\",\"end\":\"0x401010\",\"eh_frame\":\"0x500000\",\"path\":\"pushed_rbx\",\"bias\":\"0x400000\"}],\"start\":{\"rip\":\"0x401006\",\"rsp\":\"0x7000\",\"rbx\":\"0x9\"},\"limit\":2,\"interrupted\":true}"

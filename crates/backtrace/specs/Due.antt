@@ -14,7 +14,7 @@ use Rattle.stack_walks.specs.Fronts.{front_of_chain}
 use Rattle.stack_snapshot.specs.declared.errors.SnapshotError.{SnapshotError}
 use Rattle.stack_snapshot.specs.Answers.{content_of, value_of}
 use Rattle.stack_snapshot.specs.Content.{Content, space_of}
-use Rattle.stack_snapshot.specs.Origins.{OriginValue, origins_by}
+use Rattle.backtrace.specs.Code.{PlacesValue, places_by}
 use Rattle.stack_snapshot.specs.Sampled.{SampledContent, sampled_in}
 use Rattle.backtrace.specs.declared.words.Options.{Options}
 use Rattle.backtrace.specs.Options.{options_of}
@@ -23,23 +23,23 @@ use Rattle.backtrace.specs.Threads.{IsThreadsOf}
 use Rattle.backtrace.specs.Lines.{backtrace_text, form_with, states_text, usage_line}
 
 -- the trace of a snapshot
-abbrev pub IsTraceOf : Content → TraceValue → Type 0
-IsTraceOf s t = IsTrace (space_of s) s.start s.interrupted s.limit t
+abbrev pub IsTraceOf : Content → PlacesValue → TraceValue → Type 0
+IsTraceOf s places t = IsTrace (space_of s) places.code s.start s.interrupted s.limit t
 
 -- the lines of a snapshot's trace
-abbrev pub text_of : Options → Content → List OriginValue → TraceValue → List ℕ
-text_of o s origins t = backtrace_text o.registers s.interrupted origins t
+abbrev pub text_of : Options → Content → PlacesValue → TraceValue → List ℕ
+text_of o s places t = backtrace_text o.registers s.interrupted places t
 
 -- The lines of a chain of calls whose innermost state is the snapshot's start: of the frame of each state, and last that the
 -- outermost one returns to 0, or that nothing covers the byte before its return address.
-abbrev pub chain_text : Options → Content → List OriginValue → State → List Call → List ℕ
-chain_text o s origins start calls =
-    states_text (form_with o.registers s.interrupted origins false) (states_of start calls) (front_of_chain (space_of s).modules (last_state start calls))
+abbrev pub chain_text : Options → Content → PlacesValue → State → List Call → List ℕ
+chain_text o s places start calls =
+    states_text (form_with o.registers s.interrupted places false) (states_of start calls) (front_of_chain (space_of s).modules (last_state start calls))
 
 -- The snapshot was taken after a call to the address 0 or into no module, before anything else was done. The caller's state is the
 -- innermost of a chain of calls that the modules describe, and the limit has room for the start beside it.
-pub record DescribesCallToNowhere (s : Content) (functions : List Function) (start caller : State) (calls : List Call) : Type 0 where
-  pub nowhere : IsNowhere (space_of s) s.start s.interrupted
+pub record DescribesCallToNowhere (s : Content) (places : PlacesValue) (functions : List Function) (start caller : State) (calls : List Call) : Type 0 where
+  pub nowhere : IsNowhere (space_of s) places.code s.start s.interrupted
   pub entered : IsEntered (space_of s).image false [] caller start
   pub returns : caller.ra ≢ 0
   pub shows : Shows (columns_of s.start) start
@@ -47,27 +47,27 @@ pub record DescribesCallToNowhere (s : Content) (functions : List Function) (sta
   pub shorter : length calls + 1 < s.limit
 
 -- the lines of the start and of that chain, where it is said that the return address was read from the stack
-abbrev pub called_text : Options → Content → List OriginValue → State → State → List Call → List ℕ
-called_text o s origins start caller calls =
-    states_text (form_with o.registers s.interrupted origins true) (start ∷ states_of caller calls) (front_of_chain (space_of s).modules (last_state caller calls))
+abbrev pub called_text : Options → Content → PlacesValue → State → State → List Call → List ℕ
+called_text o s places start caller calls =
+    states_text (form_with o.registers s.interrupted places true) (start ∷ states_of caller calls) (front_of_chain (space_of s).modules (last_state caller calls))
 
 -- a text is the backtrace of a snapshot
-abbrev pub IsBacktraceOf : Options → Content → List OriginValue → List ℕ → Type 0
-IsBacktraceOf o s origins text = (t : TraceValue) × IsTraceOf s t × (text ≡ text_of o s origins t)
+abbrev pub IsBacktraceOf : Options → Content → PlacesValue → List ℕ → Type 0
+IsBacktraceOf o s places text = (t : TraceValue) × IsTraceOf s places t × (text ≡ text_of o s places t)
 
 -- The same of the snapshot that bytes say, and of samples. Where they say neither any text is.
-abbrev pub IsOfSnapshot : Options → Result Content SnapshotError → List OriginValue → List ℕ → Type 0
-IsOfSnapshot o (Err e) origins text = Unit {0}
-IsOfSnapshot o (Ok s) origins text = IsBacktraceOf o s origins text
+abbrev pub IsOfSnapshot : Options → Result Content SnapshotError → PlacesValue → List ℕ → Type 0
+IsOfSnapshot o (Err e) places text = Unit {0}
+IsOfSnapshot o (Ok s) places text = IsBacktraceOf o s places text
 
-abbrev pub IsOfSamples : Options → Result SampledContent SnapshotError → List OriginValue → List ℕ → Type 0
-IsOfSamples o (Err e) origins text = Unit {0}
-IsOfSamples o (Ok s) origins text = IsThreadsOf o s origins text
+abbrev pub IsOfSamples : Options → Result SampledContent SnapshotError → PlacesValue → List ℕ → Type 0
+IsOfSamples o (Err e) places text = Unit {0}
+IsOfSamples o (Ok s) places text = IsThreadsOf o s places text
 
 -- by whether samples are asked for
 abbrev pub IsBacktraceIn : Bool → Options → List ℕ → List ℕ → Type 0
-IsBacktraceIn false o bytes text = IsOfSnapshot o (content_of bytes) (origins_by (value_of bytes)) text
-IsBacktraceIn true o bytes text = IsOfSamples o (sampled_in bytes) (origins_by (value_of bytes)) text
+IsBacktraceIn false o bytes text = IsOfSnapshot o (content_of bytes) (places_by (value_of bytes)) text
+IsBacktraceIn true o bytes text = IsOfSamples o (sampled_in bytes) (places_by (value_of bytes)) text
 
 -- A text is the backtrace that the words ask for, or those of samples. Without such words any text is.
 abbrev pub IsBacktraceBy : Option Options → List ℕ → List ℕ → Type 0
@@ -114,22 +114,22 @@ pub record IsFaulty (words : List (List ℕ)) (bytes : List ℕ) (error : Snapsh
   pub short : length bytes ≤ 2 ^ 26
   pub faulty : error_in options.samples bytes ≡ Some error
 
--- the words name options, and all bytes of the source, at most 67,108,864, are the snapshot of modules from these files
-pub record Asks (o : Options) (words : List (List ℕ)) (source : Option (List ℕ)) (s : Content) (origins : List OriginValue) : Type 0 where
+-- the words name options, and all bytes of the source, at most 67,108,864, are the snapshot, and name these files and code
+pub record Asks (o : Options) (words : List (List ℕ)) (source : Option (List ℕ)) (s : Content) (places : PlacesValue) : Type 0 where
   pub bytes : List ℕ
   pub named : options_of words ≡ Some o
   pub single : o.samples ≡ false
   pub source_is : source ≡ Some bytes
   pub short : length bytes ≤ 2 ^ 26
   pub reads : content_of bytes ≡ Ok s
-  pub files : origins_by (value_of bytes) ≡ origins
+  pub files : places_by (value_of bytes) ≡ places
 
--- the words ask for samples, and all bytes of the source, at most 67,108,864, are these, of modules from these files
-pub record AsksSamples (o : Options) (words : List (List ℕ)) (source : Option (List ℕ)) (s : SampledContent) (origins : List OriginValue) : Type 0 where
+-- the words ask for samples, and all bytes of the source, at most 67,108,864, are these, and name these files and code
+pub record AsksSamples (o : Options) (words : List (List ℕ)) (source : Option (List ℕ)) (s : SampledContent) (places : PlacesValue) : Type 0 where
   pub bytes : List ℕ
   pub named : options_of words ≡ Some o
   pub several : o.samples ≡ true
   pub source_is : source ≡ Some bytes
   pub short : length bytes ≤ 2 ^ 26
   pub reads : sampled_in bytes ≡ Ok s
-  pub files : origins_by (value_of bytes) ≡ origins
+  pub files : places_by (value_of bytes) ≡ places

@@ -6,26 +6,26 @@ use Rattle.unwind_arch.specs.ContextViews.{columns_of}
 use Rattle.stack_steps.specs.KnownStacks.{IsKnownStack}
 use Rattle.stack_walks.specs.KnownWalks.{StartsKnownStack, front_of_stack}
 use Rattle.stack_snapshot.specs.Content.{Content, space_of}
-use Rattle.stack_snapshot.specs.Origins.{OriginValue}
+use Rattle.backtrace.specs.Code.{PlacesValue}
 use Rattle.backtrace.specs.declared.words.Options.{Options}
 use Rattle.backtrace.specs.Tracing.{IsNowhere, is_nowhere}
 use Rattle.backtrace.specs.Lines.{form_with, states_text}
 
 -- The start shows the innermost state of a known stack, and it wasn't interrupted at the address 0 or in no module.
-pub record BeginsKnownStack (s : Content) (start : State) (callers : List State) : Type 0 where
+pub record BeginsKnownStack (s : Content) (places : PlacesValue) (start : State) (callers : List State) : Type 0 where
   pub starts : StartsKnownStack (space_of s) s.start s.limit s.interrupted start callers
-  pub somewhere : IsFalse (is_nowhere (space_of s) s.start s.interrupted)
+  pub somewhere : IsFalse (is_nowhere (space_of s) places.code s.start s.interrupted)
 
 -- The lines of a stack whose innermost state is the snapshot's start: of the frame of each state, and last that the outermost one
 -- returns to 0, or that nothing covers the address asked there.
-abbrev pub stack_text : (o : Options) (s : Content) (origins : List OriginValue) (start : State) (callers : List State) → BeginsKnownStack s start callers → List ℕ
-stack_text o s origins start callers begins =
-    states_text (form_with o.registers s.interrupted origins false) (start ∷ callers) (front_of_stack (space_of s) s.interrupted start callers begins.starts.stack)
+abbrev pub stack_text : (o : Options) (s : Content) (places : PlacesValue) (start : State) (callers : List State) → BeginsKnownStack s places start callers → List ℕ
+stack_text o s places start callers begins =
+    states_text (form_with o.registers s.interrupted places false) (start ∷ callers) (front_of_stack (space_of s) s.interrupted start callers begins.starts.stack)
 
 -- The snapshot was taken after a call to the address 0 or into no module, before anything else was done. The caller's state is the
 -- innermost of a known stack, and the limit has room for the start beside it.
-pub record BeginsByCallToNowhere (s : Content) (start caller : State) (callers : List State) : Type 0 where
-  pub nowhere : IsNowhere (space_of s) s.start s.interrupted
+pub record BeginsByCallToNowhere (s : Content) (places : PlacesValue) (start caller : State) (callers : List State) : Type 0 where
+  pub nowhere : IsNowhere (space_of s) places.code s.start s.interrupted
   pub entered : IsEntered (space_of s).image false [] caller start
   pub returns : caller.ra ≢ 0
   pub shows : Shows (columns_of s.start) start
@@ -33,6 +33,6 @@ pub record BeginsByCallToNowhere (s : Content) (start caller : State) (callers :
   pub shorter : length callers + 1 < s.limit
 
 -- the lines of the start and of that stack, where it is said that the return address was read from the machine's stack
-abbrev pub called_stack_text : (o : Options) (s : Content) (origins : List OriginValue) (start caller : State) (callers : List State) → BeginsByCallToNowhere s start caller callers → List ℕ
-called_stack_text o s origins start caller callers begins =
-    states_text (form_with o.registers s.interrupted origins true) (start ∷ caller ∷ callers) (front_of_stack (space_of s) false caller callers begins.stack)
+abbrev pub called_stack_text : (o : Options) (s : Content) (places : PlacesValue) (start caller : State) (callers : List State) → BeginsByCallToNowhere s places start caller callers → List ℕ
+called_stack_text o s places start caller callers begins =
+    states_text (form_with o.registers s.interrupted places true) (start ∷ caller ∷ callers) (front_of_stack (space_of s) false caller callers begins.stack)

@@ -1,4 +1,5 @@
 pub mod Options
+pub mod Code
 pub mod Tracing
 pub mod Lines
 pub mod Threads

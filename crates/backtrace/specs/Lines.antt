@@ -13,6 +13,7 @@ use Rattle.stack_snapshot.specs.Origins.{OriginValue, origin_at, file_name}
 use Rattle.stack_report.specs.Digits.{hexadecimal, word}
 use Rattle.stack_report.specs.Refusals.{error_name, refusal_text}
 use Rattle.stack_report.specs.Report.{line}
+use Rattle.backtrace.specs.Code.{CodeValue, PlacesValue, code_at}
 use Rattle.backtrace.specs.Tracing.{TraceValue}
 
 -- ---- where an address lies
@@ -32,12 +33,12 @@ place_text origins a inside = word a ++ origin_text (origin_at origins inside) a
 -- ---- frames
 
 -- What the lines say beside the states: registers too, whether the first state was interrupted, whether the second was read
--- from the stack, and from which files the modules come.
+-- from the stack, and which files and code the snapshot names.
 pub record FormValue : Type 0 where
   pub registers : Bool
   pub interrupted : Bool
   pub called : Bool
-  pub origins : List OriginValue
+  pub places : PlacesValue
 
 -- the frame's number, in two places at least
 abbrev pub gap_text : ℕ → List ℕ
@@ -65,7 +66,7 @@ unfoldable pub rest_text : FormValue → ℕ → State → List ℕ
 rest_text form i s = guess_text form i ++ registers_text form s
 
 unfoldable pub frame_line : FormValue → ℕ → State → List ℕ
-frame_line form i s = line (number_text i ++ place_text form.origins s.ra (inside_of form i s) ++ rest_text form i s)
+frame_line form i s = line (number_text i ++ place_text form.places.origins s.ra (inside_of form i s) ++ rest_text form i s)
 
 -- the state outside of the outermost frame, whose return address is 0, is no frame
 abbrev pub frame_text : FormValue → ℕ → State → List ℕ
@@ -81,6 +82,19 @@ frame_lines form i (s ∷ ss) = frame_text form i s ++ frame_lines form (i + 1) 
 unfoldable pub no_module_text : ℕ → List ℕ
 no_module_text a = codes "no module holds " ++ word a
 
+-- the name of a file, where there is one
+abbrev pub name_text : List ℕ → List ℕ
+name_text [] = []
+name_text (b ∷ bs) = codes " in " ++ (b ∷ bs)
+
+unfoldable pub code_text : CodeValue → ℕ → List ℕ
+code_text c a = codes "code without a table at " ++ word a ++ name_text (file_name c.path)
+
+-- of an address that no module holds: whether it lies in code without a table
+abbrev pub unheld_text : Option CodeValue → ℕ → List ℕ
+unheld_text None a = no_module_text a
+unheld_text (Some c) a = code_text c a
+
 unfoldable pub undescribed_text : List OriginValue → ℕ → List ℕ
 undescribed_text origins a = codes "no description of " ++ place_text origins a a
 
@@ -92,22 +106,22 @@ unfoldable pub limit_text : List ℕ
 limit_text = codes "more frames than the limit"
 
 -- why a walk goes no further
-abbrev pub why_text : List OriginValue → Front → List ℕ
-why_text origins Outermost = codes "the outermost frame, which returns to 0"
-why_text origins (NoModule a) = no_module_text a
-why_text origins (NoDescription a) = undescribed_text origins a
-why_text origins (UnreadableTable a offset e) = undescribed_text origins a ++ unread_text offset e
-why_text origins (Refused a e) = codes "no caller of " ++ place_text origins a a ++ codes ": " ++ refusal_text e
-why_text origins Limit = limit_text
+abbrev pub why_text : PlacesValue → Front → List ℕ
+why_text places Outermost = codes "the outermost frame, which returns to 0"
+why_text places (NoModule a) = unheld_text (code_at places.code a) a
+why_text places (NoDescription a) = undescribed_text places.origins a
+why_text places (UnreadableTable a offset e) = undescribed_text places.origins a ++ unread_text offset e
+why_text places (Refused a e) = codes "no caller of " ++ place_text places.origins a a ++ codes ": " ++ refusal_text e
+why_text places Limit = limit_text
 
-abbrev pub end_line : List OriginValue → Front → List ℕ
-end_line origins why = line (codes "end: " ++ why_text origins why)
+abbrev pub end_line : PlacesValue → Front → List ℕ
+end_line places why = line (codes "end: " ++ why_text places why)
 
 -- ---- the whole text
 
 -- What is written of states from the innermost outwards: a line for each frame, and last why there are no more.
 unfoldable pub states_text : FormValue → List State → Front → List ℕ
-states_text form states why = frame_lines form 0 states ++ end_line form.origins why
+states_text form states why = frame_lines form 0 states ++ end_line form.places why
 
 -- all contexts of a trace, from the start outwards
 abbrev pub contexts_of : TraceValue → List Context
@@ -117,15 +131,15 @@ contexts_of t = option_to_list t.first ++ t.states
 abbrev pub shown_states : List Context → List State
 shown_states cs = map state_of cs
 
-abbrev pub form_with : Bool → Bool → List OriginValue → Bool → FormValue
-form_with registers interrupted origins called = record { registers = registers; interrupted = interrupted; called = called; origins = origins }
+abbrev pub form_with : Bool → Bool → PlacesValue → Bool → FormValue
+form_with registers interrupted places called = record { registers = registers; interrupted = interrupted; called = called; places = places }
 
-abbrev pub form_of : Bool → Bool → List OriginValue → TraceValue → FormValue
-form_of registers interrupted origins t = form_with registers interrupted origins (is_some t.first)
+abbrev pub form_of : Bool → Bool → PlacesValue → TraceValue → FormValue
+form_of registers interrupted places t = form_with registers interrupted places (is_some t.first)
 
--- What is written of a trace: by whether registers are asked for, whether its start was interrupted, and the modules' files.
-unfoldable pub backtrace_text : Bool → Bool → List OriginValue → TraceValue → List ℕ
-backtrace_text registers interrupted origins t = states_text (form_of registers interrupted origins t) (shown_states (contexts_of t)) t.why
+-- What is written of a trace: by whether registers are asked for, whether its start was interrupted, and what the snapshot names.
+unfoldable pub backtrace_text : Bool → Bool → PlacesValue → TraceValue → List ℕ
+backtrace_text registers interrupted places t = states_text (form_of registers interrupted places t) (shown_states (contexts_of t)) t.why
 
 -- ---- the whole text of threads
 

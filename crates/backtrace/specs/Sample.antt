@@ -7,6 +7,7 @@ use Rattle.stack_walks.specs.declared.front.Front.TheVariants.{NoModule}
 use Rattle.stack_snapshot.specs.Content.{Content}
 use Rattle.stack_snapshot.specs.Sampled.{SampledContent}
 use Rattle.stack_report.specs.Report.{line}
+use Rattle.backtrace.specs.Code.{PlacesValue}
 use Rattle.backtrace.specs.Tracing.{TraceValue}
 
 -- a return address, a stack pointer, and no other register
@@ -74,3 +75,30 @@ threads = (line (codes "thread 0") ++ text) ++ ((line (codes "thread 1") ++ othe
 
 abbrev pub samples_json : List ℕ
 samples_json = codes "{\"regions\":[{\"address\":\"0x7000\",\"bytes\":\"0510000000000000\"}],\"modules\":[],\"samples\":[{\"start\":{\"rip\":\"0x0\",\"rsp\":\"0x7000\"},\"interrupted\":true},{\"start\":{\"rip\":\"0x1005\",\"rsp\":\"0x7000\"}}],\"limit\":2}"
+
+-- ---- a thread that was interrupted in code without a table, with the same word at its stack pointer
+
+abbrev pub in_code : Content
+in_code = record {
+  regions = snapshot.regions;
+  modules = [];
+  start = context 0x5000 0x7000;
+  exception = 0;
+  class = 0;
+  resumes = [];
+  limit = 2;
+  interrupted = true;
+}
+
+abbrev pub code_places : PlacesValue
+code_places = record { origins = []; code = record { start = 0x5000; end = 0x6000; path = codes "/lib/bare" } ∷ [] }
+
+abbrev pub code_trace : TraceValue
+code_trace = record { first = None; states = context 0x5000 0x7000 ∷ []; why = NoModule 0x5000 }
+
+abbrev pub in_code_text : List ℕ
+in_code_text = line (codes "#0  0x0000000000005000")
+    ++ line (codes "end: code without a table at 0x0000000000005000 in bare")
+
+abbrev pub code_json : List ℕ
+code_json = codes "{\"regions\":[{\"address\":\"0x7000\",\"bytes\":\"0510000000000000\"}],\"modules\":[],\"start\":{\"rip\":\"0x5000\",\"rsp\":\"0x7000\"},\"limit\":2,\"interrupted\":true,\"code\":[{\"start\":\"0x5000\",\"end\":\"0x6000\",\"path\":\"/lib/bare\"}]}"

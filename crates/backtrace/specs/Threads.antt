@@ -4,16 +4,16 @@ use Rattle.stack_steps.specs.Modules.{SpaceValue}
 use Rattle.folded_stacks.specs.declared.samples.Sample.{Sample}
 use Rattle.stack_snapshot.specs.Content.{Content}
 use Rattle.stack_snapshot.specs.Sampled.{SampledContent, sampled_space}
-use Rattle.stack_snapshot.specs.Origins.{OriginValue}
+use Rattle.backtrace.specs.Code.{PlacesValue}
 use Rattle.backtrace.specs.declared.words.Options.{Options}
 use Rattle.backtrace.specs.Tracing.{TraceValue, IsTrace}
 use Rattle.backtrace.specs.Lines.{backtrace_text, thread_line}
 
-module _ (o : Options) (space : SpaceValue) (limit : ℕ) (origins : List OriginValue) where
+module _ (o : Options) (space : SpaceValue) (limit : ℕ) (places : PlacesValue) where
   -- a text is the number and the backtrace of a thread
   abbrev pub IsThread : ℕ → Sample → List ℕ → Type 0
   IsThread index x text =
-      (t : TraceValue) × IsTrace space x.start x.interrupted limit t × (text ≡ thread_line index ++ backtrace_text o.registers x.interrupted origins t)
+      (t : TraceValue) × IsTrace space places.code x.start x.interrupted limit t × (text ≡ thread_line index ++ backtrace_text o.registers x.interrupted places t)
 
   -- a text is those of threads, numbered from an index on, one after another
   abbrev pub AreThreads : ℕ → List Sample → List ℕ → Type 0
@@ -27,11 +27,11 @@ abbrev pub alone : SampledContent → Sample → Content
 alone s x = record { regions = s.regions; modules = s.modules; start = x.start; exception = 0; class = 0; resumes = []; limit = s.limit; interrupted = x.interrupted }
 
 -- a text is the backtraces of samples
-abbrev pub IsThreadsOf : Options → SampledContent → List OriginValue → List ℕ → Type 0
-IsThreadsOf o s origins text = AreThreads o (sampled_space s) s.limit origins 0 s.samples text
+abbrev pub IsThreadsOf : Options → SampledContent → PlacesValue → List ℕ → Type 0
+IsThreadsOf o s places text = AreThreads o (sampled_space s) s.limit places 0 s.samples text
 
 -- a text has, in the place of a thread, its number and these lines
-abbrev pub HasThread : Options → SampledContent → List OriginValue → ℕ → List ℕ → List ℕ → Type 0
-HasThread o s origins index lines text =
-    (before : List ℕ) × (after : List ℕ) × AreThreads o (sampled_space s) s.limit origins 0 (take index s.samples) before
-    × AreThreads o (sampled_space s) s.limit origins (index + 1) (drop (index + 1) s.samples) after × (text ≡ before ++ ((thread_line index ++ lines) ++ after))
+abbrev pub HasThread : Options → SampledContent → PlacesValue → ℕ → List ℕ → List ℕ → Type 0
+HasThread o s places index lines text =
+    (before : List ℕ) × (after : List ℕ) × AreThreads o (sampled_space s) s.limit places 0 (take index s.samples) before
+    × AreThreads o (sampled_space s) s.limit places (index + 1) (drop (index + 1) s.samples) after × (text ≡ before ++ ((thread_line index ++ lines) ++ after))

@@ -6,6 +6,7 @@ use Rattle.unwind_definitions.specs.Columns as column
 use Rattle.stack_walks.specs.declared.front.Front.{Front}
 use Rattle.stack_steps.specs.Modules.{SpaceValue, module_at}
 use Rattle.stack_walks.specs.Fronts.{ComesTo, front_of}
+use Rattle.backtrace.specs.Code.{CodeValue, code_at}
 
 -- the registers after a return to an address: it is popped, and every other register stays
 abbrev pub returned_to : Context → ℕ → Context
@@ -19,16 +20,16 @@ caller_unless_zero c a = if a == 0 then None else Some (returned_to c a)
 abbrev pub returned_caller : List Span → Context → Option Context
 returned_caller image c = option_and_then (caller_unless_zero c) (word_at image (slice_index c.registers column.rsp))
 
--- a context was interrupted at the address 0, or in no module
-abbrev pub is_nowhere : SpaceValue → Context → Bool → Bool
-is_nowhere space c interrupted = interrupted && ((c.ra == 0) || is_none (module_at space.modules c.ra))
+-- a context was interrupted at the address 0, or in no module, and not in code without a table
+abbrev pub is_nowhere : SpaceValue → List CodeValue → Context → Bool → Bool
+is_nowhere space code c interrupted = (interrupted && ((c.ra == 0) || is_none (module_at space.modules c.ra))) && is_none (code_at code c.ra)
 
-abbrev pub IsNowhere : SpaceValue → Context → Bool → Type 0
-IsNowhere space c interrupted = IsTrue interrupted × ((c.ra ≡ 0) ⊎ (module_at space.modules c.ra ≡ None))
+abbrev pub IsNowhere : SpaceValue → List CodeValue → Context → Bool → Type 0
+IsNowhere space code c interrupted = IsTrue interrupted × ((c.ra ≡ 0) ⊎ (module_at space.modules c.ra ≡ None)) × (code_at code c.ra ≡ None)
 
 -- the caller of a context that was interrupted there
-abbrev pub called_from : SpaceValue → Context → Bool → Option Context
-called_from space c interrupted = if is_nowhere space c interrupted then returned_caller space.image c else None
+abbrev pub called_from : SpaceValue → List CodeValue → Context → Bool → Option Context
+called_from space code c interrupted = if is_nowhere space code c interrupted then returned_caller space.image c else None
 
 -- the start, where its caller was read from the stack; the states from there on, or from the start; and why there are no more
 pub record TraceValue : Type 0 where
@@ -47,5 +48,5 @@ IsTraceFrom None space c interrupted limit t = (t.first ≡ None) × IsFrontOf s
 IsTraceFrom (Some caller) space c interrupted limit t = (t.first ≡ Some c) × IsFrontOf space (limit - 1) caller false t
 
 -- From a context outwards at most so many states, each the caller of the one before, and why there are no more.
-abbrev pub IsTrace : SpaceValue → Context → Bool → ℕ → TraceValue → Type 0
-IsTrace space c interrupted limit t = IsTraceFrom (called_from space c interrupted) space c interrupted limit t
+abbrev pub IsTrace : SpaceValue → List CodeValue → Context → Bool → ℕ → TraceValue → Type 0
+IsTrace space code c interrupted limit t = IsTraceFrom (called_from space code c interrupted) space c interrupted limit t

@@ -7,8 +7,10 @@ ghost use Rattle.backtrace.specs.Lines.{kept_text, limit_text, no_module_text, n
 ghost use Rattle.backtrace.specs.Lines.{origin_text, place_text, registers_text, rest_text};
 ghost use Rattle.backtrace.specs.Lines.{contexts_of, shown_states, states_text};
 ghost use Rattle.backtrace.specs.Lines.{undescribed_text, unread_text, usage_line};
-ghost use Rattle.backtrace.specs.Lines.{thread_line, why_text};
+ghost use Rattle.backtrace.specs.Lines.{code_text, name_text, thread_line, unheld_text, why_text};
+ghost use Rattle.backtrace.specs.Code.{code_at};
 
+use crate::code::{CodeRange, CodeRanges, Places};
 use crate::tracing::Trace;
 use stack_deliver::{Context, DeliverError, Error, Front, Stepped};
 use stack_report::{Report, error_name, line_of};
@@ -26,8 +28,8 @@ struct Form<'a> {
     interrupted: bool,
     /// Whether the second state was read from the stack.
     called: bool,
-    /// From which files the modules come.
-    origins: &'a Origins,
+    /// Which files and code the snapshot names.
+    places: &'a Places,
 }
 
 impl<'a> Model for Form<'a> {
@@ -39,7 +41,7 @@ impl<'a> Model for Form<'a> {
       registers = f.registers;
       interrupted = f.interrupted;
       called = f.called;
-      origins = f.origins.now;
+      places = f.places.now;
     } };
 }
 
@@ -138,11 +140,12 @@ fn put_instruction(
     state: &Context,
 ) -> Result<(), AllocError>
     ensures { OnOk result (report.new ≡ report.old ++
-        place_text form.now.origins state.now.ra
+        place_text form.now.places.origins state.now.ra
         (inside_of form.now index (state_of state.now))) }
 {
     let inside = inside_of(form, index, state);
-    put_place(report, form.origins, state.ra, inside)
+    let places = form.places;
+    put_place(report, &places.origins, state.ra, inside)
 }
 
 /// Puts what a frame's line has after its place.
@@ -228,15 +231,15 @@ fn put_states(report: &mut Report, form: &Form<'_>, trace: &Trace) -> Result<(),
 /// Puts why a frame has no caller.
 fn put_refused(
     report: &mut Report,
-    origins: &Origins,
+    places: &Places,
     address: u64,
     error: DeliverError,
 ) -> Result<(), AllocError>
     ensures { OnOk result (report.new ≡ report.old ++
-        why_text origins.now (Front.Refused address error)) }
+        why_text places.now (Front.Refused address error)) }
 {
     report.put("no caller of ")?;
-    put_place(report, origins, address, address)?;
+    put_place(report, &places.origins, address, address)?;
     report.put(": ")?;
     report.put_refusal(error)
 }
@@ -248,6 +251,40 @@ fn put_no_module(report: &mut Report, address: u64) -> Result<(), AllocError>
 {
     report.put("no module holds ")?;
     report.put_word(address)
+}
+
+/// Puts the name of a file, where there is one.
+fn put_name(report: &mut Report, name: &[u8]) -> Result<(), AllocError>
+    ensures { OnOk result (report.new ≡ report.old ++ name_text name.now) }
+{
+    match name {
+        [] => Ok(()),
+        [_, ..] => {
+            report.put(" in ")?;
+            report.put_bytes(name)
+        }
+    }
+}
+
+/// Puts that an address lies in code without a table, and of which file that is.
+#[tactic(auto, unfolding(crate::specs::Lines::code_text))]
+fn put_code(report: &mut Report, code: &CodeRange, address: u64) -> Result<(), AllocError>
+    ensures { OnOk result (report.new ≡ report.old ++ code_text code.now address) }
+{
+    report.put("code without a table at ")?;
+    report.put_word(address)?;
+    put_name(report, code.name())
+}
+
+/// Puts where an address lies that no module holds.
+fn put_unheld(report: &mut Report, code: &CodeRanges, address: u64) -> Result<(), AllocError>
+    ensures { OnOk result (report.new ≡ report.old ++
+        unheld_text (code_at code.now address) address) }
+{
+    match code.at(address) {
+        Some(range) => put_code(report, range, address),
+        None => put_no_module(report, address),
+    }
 }
 
 /// Puts that there are more frames.
@@ -278,32 +315,32 @@ fn put_unread(report: &mut Report, offset: u64, error: Error) -> Result<(), Allo
 }
 
 /// Puts why a walk goes no further.
-fn put_why(report: &mut Report, origins: &Origins, why: Front) -> Result<(), AllocError>
-    ensures { OnOk result (report.new ≡ report.old ++ why_text origins.now why) }
+fn put_why(report: &mut Report, places: &Places, why: Front) -> Result<(), AllocError>
+    ensures { OnOk result (report.new ≡ report.old ++ why_text places.now why) }
 {
     match why {
         Front::Outermost => report.put("the outermost frame, which returns to 0"),
-        Front::NoModule(address) => put_no_module(report, address),
-        Front::NoDescription(address) => put_undescribed(report, origins, address),
+        Front::NoModule(address) => put_unheld(report, &places.code, address),
+        Front::NoDescription(address) => put_undescribed(report, &places.origins, address),
         Front::UnreadableTable {
             address,
             offset,
             error,
         } => {
-            put_undescribed(report, origins, address)?;
+            put_undescribed(report, &places.origins, address)?;
             put_unread(report, offset, error)
         }
-        Front::Refused { address, error } => put_refused(report, origins, address, error),
+        Front::Refused { address, error } => put_refused(report, places, address, error),
         Front::Limit => put_limit(report),
     }
 }
 
 /// Puts the last line.
-fn put_end(report: &mut Report, origins: &Origins, why: Front) -> Result<(), AllocError>
-    ensures { OnOk result (report.new ≡ report.old ++ end_line origins.now why) }
+fn put_end(report: &mut Report, places: &Places, why: Front) -> Result<(), AllocError>
+    ensures { OnOk result (report.new ≡ report.old ++ end_line places.now why) }
 {
     report.put("end: ")?;
-    put_why(report, origins, why)?;
+    put_why(report, places, why)?;
     report.end_line()
 }
 
@@ -313,20 +350,20 @@ pub fn put_backtrace(
     report: &mut Report,
     registers: bool,
     interrupted: bool,
-    origins: &Origins,
+    places: &Places,
     trace: &Trace,
 ) -> Result<(), AllocError>
     ensures { OnOk result (report.new ≡ report.old ++
-        backtrace_text registers interrupted origins.now trace.now) }
+        backtrace_text registers interrupted places.now trace.now) }
 {
     let form = Form {
         registers,
         interrupted,
         called: trace.first().is_some(),
-        origins,
+        places,
     };
     put_states(report, &form, trace)?;
-    put_end(report, origins, trace.why())
+    put_end(report, places, trace.why())
 }
 
 /// Puts a thread's number last.

@@ -2,6 +2,7 @@
 //! frame, as debuggers write it, and last why there are no more. docs/FORMATS.md has the lines.
 #![tactic(auto)]
 
+mod code;
 mod lines;
 mod running;
 mod sample;

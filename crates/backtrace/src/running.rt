@@ -10,7 +10,7 @@ ghost use Rattle.stack_snapshot.specs.declared.errors.Field.{Field};
 ghost use Rattle.stack_snapshot.specs.Content.{Content};
 ghost use Rattle.stack_snapshot.specs.Answers.{content_of, value_of};
 ghost use Rattle.stack_snapshot.specs.Described.{DescribesStop, DescribesWalk};
-ghost use Rattle.stack_snapshot.specs.Origins.{OriginValue, origins_by};
+ghost use Rattle.backtrace.specs.Code.{PlacesValue, places_by};
 ghost use Rattle.unwind_definitions.specs.State.{State};
 ghost use Rattle.unwind_definitions.specs.Function.{Function};
 ghost use Rattle.unwind_definitions.specs.Chain.{Call};
@@ -27,6 +27,7 @@ ghost use Rattle.backtrace.specs.Due.{IsOfSnapshot};
 ghost use Rattle.backtrace.specs.Threads.{IsThreadsOf};
 ghost use Rattle.stack_snapshot.specs.Sampled.{SampledContent, sampled_in};
 
+use crate::code::{Places, read_placed_samples, read_placed_snapshot};
 use crate::lines::{put_backtrace, usage_line};
 use crate::threads::threads_text;
 use crate::tracing::trace_stack;
@@ -34,7 +35,7 @@ use crate::words::{Options, options_of};
 use command_ends::{Answer, Status, Words, fault_answer, read_input, tell, text_answer};
 use memory_image::{Sink, Source};
 use stack_report::Report;
-use stack_snapshot::{Origins, Snapshot, SnapshotError, read_named_samples, read_named_snapshot};
+use stack_snapshot::{Snapshot, SnapshotError};
 use std::alloc::{AllocError, Global};
 
 /// The backtrace of a snapshot.
@@ -42,16 +43,17 @@ fn backtrace_text(
     alloc: Global,
     options: Options,
     snapshot: &Snapshot,
-    origins: &Origins,
+    places: &Places,
 ) -> Result<Report, AllocError>
-    ensures { IfOk result (λ report. IsBacktraceOf options snapshot.now origins.now report) }
+    ensures { IfOk result (λ report. IsBacktraceOf options snapshot.now places.now report) }
 {
     let space = snapshot.space(alloc)?;
     let start = snapshot.start();
     let interrupted = snapshot.interrupted();
-    let trace = trace_stack(alloc, &space, &start, interrupted, snapshot.limit())?;
+    let limit = snapshot.limit();
+    let trace = trace_stack(alloc, &space, &places.code, &start, interrupted, limit)?;
     let mut report = Report::new(alloc);
-    put_backtrace(&mut report, options.registers, interrupted, origins, &trace)?;
+    put_backtrace(&mut report, options.registers, interrupted, places, &trace)?;
     Ok(report)
 }
 
@@ -60,16 +62,16 @@ fn snapshot_answer(alloc: Global, options: Options, bytes: Vec<u8>) -> Answer
     ensures answer { AnswersBytes (content_due result.text (content_of bytes.items)) result.status
         result.text }
     ensures backtrace { result.status ≡ Status.Done → IsOfSnapshot options
-        (content_of bytes.items) (origins_by (value_of bytes.items)) result.text }
+        (content_of bytes.items) (places_by (value_of bytes.items)) result.text }
     ensures kind { (result.status ≢ Status.TooLong) × (result.status ≢ Status.Refused) }
 {
-    let named = read_named_snapshot(alloc, &bytes);
+    let read = read_placed_snapshot(alloc, &bytes);
     drop(bytes);
-    match named {
-        Ok((snapshot, origins)) => text_answer(
+    match read {
+        Ok((snapshot, places)) => text_answer(
             alloc,
             Status::Done,
-            backtrace_text(alloc, options, &snapshot, &origins),
+            backtrace_text(alloc, options, &snapshot, &places),
         ),
         Err(error) => fault_answer(alloc, error),
     }
@@ -80,16 +82,16 @@ fn samples_answer(alloc: Global, options: Options, bytes: Vec<u8>) -> Answer
     ensures answer { AnswersBytes (content_due result.text (sampled_in bytes.items)) result.status
         result.text }
     ensures backtrace { result.status ≡ Status.Done → IsOfSamples options
-        (sampled_in bytes.items) (origins_by (value_of bytes.items)) result.text }
+        (sampled_in bytes.items) (places_by (value_of bytes.items)) result.text }
     ensures kind { (result.status ≢ Status.TooLong) × (result.status ≢ Status.Refused) }
 {
-    let named = read_named_samples(alloc, &bytes);
+    let read = read_placed_samples(alloc, &bytes);
     drop(bytes);
-    match named {
-        Ok((samples, origins)) => text_answer(
+    match read {
+        Ok((samples, places)) => text_answer(
             alloc,
             Status::Done,
-            threads_text(alloc, options, &samples, &origins),
+            threads_text(alloc, options, &samples, &places),
         ),
         Err(error) => fault_answer(alloc, error),
     }
@@ -170,56 +172,56 @@ pub fn run<I: Source, O: Sink>(
         (λ bytes. (text : List ℕ) × IsBacktrace words.now bytes text ×
         Appends (O.holds output.old) (O.holds output.new) text) }
     // Of a snapshot's trace the lines are written: of each frame, and why there are no more.
-    ensures traced { (o : Options) (s : Content) (origins : List OriginValue) (t : TraceValue) →
-        Asks o words.now (I.left input.old) s origins → IsTraceOf s t →
-        Tells (verdict Status.Done (text_of o s origins t)) result (O.holds output.old)
+    ensures traced { (o : Options) (s : Content) (places : PlacesValue) (t : TraceValue) →
+        Asks o words.now (I.left input.old) s places → IsTraceOf s places t →
+        Tells (verdict Status.Done (text_of o s places t)) result (O.holds output.old)
         (O.holds output.new) }
     // Of samples the number and the backtrace of each thread are written, in order.
-    ensures threads { (o : Options) (s : SampledContent) (origins : List OriginValue)
+    ensures threads { (o : Options) (s : SampledContent) (places : PlacesValue)
         (text : List ℕ) →
-        AsksSamples o words.now (I.left input.old) s origins → IsThreadsOf o s origins text →
+        AsksSamples o words.now (I.left input.old) s places → IsThreadsOf o s places text →
         Tells (verdict Status.Done text) result (O.holds output.old) (O.holds output.new) }
     // Where its unwind tables describe a chain of calls, through modules of whatever format, these are
     // the lines of the chain's states, and the last says why its outermost state has no caller.
-    ensures chain { (o : Options) (s : Content) (origins : List OriginValue)
+    ensures chain { (o : Options) (s : Content) (places : PlacesValue)
         (functions : List Function) (start : State) (calls : List Call) →
-        Asks o words.now (I.left input.old) s origins →
+        Asks o words.now (I.left input.old) s places →
         DescribesWalk s functions start calls →
-        Tells (verdict Status.Done (chain_text o s origins start calls)) result
+        Tells (verdict Status.Done (chain_text o s places start calls)) result
         (O.holds output.old) (O.holds output.new) }
     // So they are where it was stopped at an instruction of a described function, of its state and
     // of those of the chain that begins with its caller's.
-    ensures stop { (o : Options) (s : Content) (origins : List OriginValue)
+    ensures stop { (o : Options) (s : Content) (places : PlacesValue)
         (functions : List Function) (start : State) (call : Call) (calls : List Call) →
-        Asks o words.now (I.left input.old) s origins →
+        Asks o words.now (I.left input.old) s places →
         DescribesStop s functions start call calls →
-        Tells (verdict Status.Done (chain_text o s origins start (call ∷ calls))) result
+        Tells (verdict Status.Done (chain_text o s places start (call ∷ calls))) result
         (O.holds output.old) (O.holds output.new) }
-    // And where it was interrupted right after a call to 0 or into no module, of its state and of
+    // And where it was interrupted right after a call to 0 or to where no code is, of its state and of
     // those of the chain that begins with its caller's, whose return address the stack names.
-    ensures called { (o : Options) (s : Content) (origins : List OriginValue)
+    ensures called { (o : Options) (s : Content) (places : PlacesValue)
         (functions : List Function) (start caller : State) (calls : List Call) →
-        Asks o words.now (I.left input.old) s origins →
-        DescribesCallToNowhere s functions start caller calls →
-        Tells (verdict Status.Done (called_text o s origins start caller calls)) result
+        Asks o words.now (I.left input.old) s places →
+        DescribesCallToNowhere s places functions start caller calls →
+        Tells (verdict Status.Done (called_text o s places start caller calls)) result
         (O.holds output.old) (O.holds output.new) }
     // Where its start begins a stack of each of whose frames it is known how its caller's state
     // follows, in an ELF module by facts that its tables say, at any address of code, and through a
     // signal's frame to the state that was interrupted, these are the lines of the states of that
     // stack, and the last says why its outermost state has no caller.
-    ensures known { (o : Options) (s : Content) (origins : List OriginValue) (start : State)
+    ensures known { (o : Options) (s : Content) (places : PlacesValue) (start : State)
         (callers : List State) →
-        Asks o words.now (I.left input.old) s origins →
-        (begins : BeginsKnownStack s start callers) →
-        Tells (verdict Status.Done (stack_text o s origins start callers begins)) result
+        Asks o words.now (I.left input.old) s places →
+        (begins : BeginsKnownStack s places start callers) →
+        Tells (verdict Status.Done (stack_text o s places start callers begins)) result
         (O.holds output.old) (O.holds output.new) }
-    // So they are, with the start before them, where it was interrupted right after a call to 0 or
-    // into no module and its caller's state begins such a stack.
-    ensures known_call { (o : Options) (s : Content) (origins : List OriginValue)
+    // So they are, with the start before them, where it was interrupted right after a call to 0 or to
+    // where no code is and its caller's state begins such a stack.
+    ensures known_call { (o : Options) (s : Content) (places : PlacesValue)
         (start caller : State) (callers : List State) →
-        Asks o words.now (I.left input.old) s origins →
-        (begins : BeginsByCallToNowhere s start caller callers) →
-        Tells (verdict Status.Done (called_stack_text o s origins start caller callers begins)) result
+        Asks o words.now (I.left input.old) s places →
+        (begins : BeginsByCallToNowhere s places start caller callers) →
+        Tells (verdict Status.Done (called_stack_text o s places start caller callers begins)) result
         (O.holds output.old) (O.holds output.new) }
     // Whatever the source tells, words that name no options are answered so, and no others.
     ensures usage { ComesExactly result Status.Usage (options_of words.now ≡ None) }

@@ -10,8 +10,11 @@ ghost use Rattle.frame_facts_laws.specs.SampleProgram as layouts;
 ghost use Rattle.frame_facts_laws.specs.SignalProgram as signals;
 ghost use Rattle.unwind_arch.specs.ContextViews.{columns_of};
 ghost use Rattle.stack_steps.specs.StopSample.{after_the_push};
-ghost use Rattle.stack_snapshot.specs.Content.{space_of};
-ghost use Rattle.stack_snapshot.specs.Origins.{OriginValue};
+ghost use Rattle.stack_snapshot.specs.Content.{Content, space_of};
+ghost use Rattle.backtrace.specs.Code.{CodeValue, PlacesValue, code_at, without_code};
+ghost use Rattle.backtrace.specs.Lines.{code_text, no_module_text, why_text};
+ghost use Rattle.backtrace.specs.Tracing.{TraceValue};
+ghost use Rattle.stack_walks.specs.declared.front.Front.TheVariants.{NoModule};
 ghost use Rattle.stack_snapshot.specs.Sampled.{SampledContent, sampled_in};
 ghost use Rattle.folded_stacks.specs.declared.samples.Sample.{Sample};
 ghost use Rattle.unwind_definitions.specs.Chain.{Call};
@@ -31,6 +34,7 @@ ghost use Rattle.backtrace.specs.SignalSample as signal;
 ghost use Rattle.backtrace.specs.KnownStacks.{BeginsByCallToNowhere, BeginsKnownStack};
 ghost use Rattle.backtrace.specs.KnownStacks.{called_stack_text, stack_text};
 ghost use Rattle.backtrace.specs.Sample.{callee, caller, entry, json, samples, samples_json};
+ghost use Rattle.backtrace.specs.Sample.{code_json, code_places, code_trace, in_code, in_code_text};
 ghost use Rattle.backtrace.specs.Sample.{snapshot, text, threads, trace};
 
 /// Words and bytes have one answer, where they ask for one: the backtrace of a snapshot, or those of
@@ -47,68 +51,91 @@ pub fn a_backtrace_is_there()
         options_of words ≡ Some o → (text : List ℕ) × IsBacktrace words bytes text }
 {}
 
+/// A walk that comes to an address which no module holds ends by a line of its own where that lies in
+/// code without a table. The line names the first range of code that holds the address.
+pub fn code_ends_a_backtrace()
+    ensures code { (places : PlacesValue) (c : CodeValue) (a : ℕ) → code_at places.code a ≡ Some c →
+        why_text places (NoModule a) ≡ code_text c a }
+    ensures none { (places : PlacesValue) (a : ℕ) → code_at places.code a ≡ None →
+        why_text places (NoModule a) ≡ no_module_text a }
+{}
+
+/// Of a thread that stands in code without a table no caller is read from the stack.
+pub fn nothing_is_guessed_in_code()
+    ensures { (s : Content) (places : PlacesValue) (c : CodeValue) (t : TraceValue) →
+        code_at places.code s.start.ra ≡ Some c → IsTraceOf s places t → t.first ≡ None }
+{}
+
 /// Of a thread whose start begins a stack of each of whose frames it is known how its caller's state
 /// follows, the lines of samples have, in their place, its number and the lines of that stack.
 pub fn a_known_thread_has_its_lines()
-    ensures { (o : Options) (bytes : List ℕ) (s : SampledContent) (origins : List OriginValue)
+    ensures { (o : Options) (bytes : List ℕ) (s : SampledContent) (places : PlacesValue)
         (index : ℕ) (x : Sample) (start : State) (callers : List State) (text : List ℕ) →
         sampled_in bytes ≡ Ok s → slice_get s.samples index ≡ Some x →
-        (begins : BeginsKnownStack (alone s x) start callers) → IsThreadsOf o s origins text →
-        HasThread o s origins index
-        (stack_text o (alone s x) origins start callers begins) text }
+        (begins : BeginsKnownStack (alone s x) places start callers) → IsThreadsOf o s places text →
+        HasThread o s places index
+        (stack_text o (alone s x) places start callers begins) text }
 {}
 
 /// So it has of one that begins a described chain.
 pub fn a_thread_of_a_chain_has_its_lines()
-    ensures { (o : Options) (bytes : List ℕ) (s : SampledContent) (origins : List OriginValue)
+    ensures { (o : Options) (bytes : List ℕ) (s : SampledContent) (places : PlacesValue)
         (index : ℕ) (x : Sample) (functions : List Function) (start : State) (calls : List Call)
         (text : List ℕ) →
         sampled_in bytes ≡ Ok s → slice_get s.samples index ≡ Some x →
-        DescribesWalk (alone s x) functions start calls → IsThreadsOf o s origins text →
-        HasThread o s origins index (chain_text o (alone s x) origins start calls) text }
+        DescribesWalk (alone s x) functions start calls → IsThreadsOf o s places text →
+        HasThread o s places index (chain_text o (alone s x) places start calls) text }
 {}
 
 /// A snapshot that was taken after a call through a null pointer meets what `run` asks of one whose
 /// trace is written, and this text is then written.
 pub fn null_call_is_traced()
-    ensures asked { Asks plain [] (Some json) snapshot [] }
-    ensures traced { IsTraceOf snapshot trace }
+    ensures asked { Asks plain [] (Some json) snapshot (without_code []) }
+    ensures traced { IsTraceOf snapshot (without_code []) trace }
     ensures backtrace { IsBacktrace [] json text }
-    ensures written { text_of plain snapshot [] trace ≡ text }
+    ensures written { text_of plain snapshot (without_code []) trace ≡ text }
 {}
 
-/// Samples of that thread and of one that stands after a call in no module meet what `run` asks of
+/// So does one that was taken in code without a table, though the same word stands at its stack pointer:
+/// it has one frame, and the last line names the code's file.
+pub fn stop_in_code_is_traced()
+    ensures asked { Asks plain [] (Some code_json) in_code code_places }
+    ensures traced { IsTraceOf in_code code_places code_trace }
+    ensures written { text_of plain in_code code_places code_trace ≡ in_code_text }
+{}
+
+/// Samples of the first of these and of one that stands after a call in no module meet what `run` asks of
 /// samples, from their bytes on, and these lines are then written.
 pub fn samples_are_traced()
     ensures asked { AsksSamples (record plain { samples = true }) (codes "--samples" ∷ [])
-        (Some samples_json) samples [] }
-    ensures traced { IsThreadsOf (record plain { samples = true }) samples [] threads }
+        (Some samples_json) samples (without_code []) }
+    ensures traced { IsThreadsOf (record plain { samples = true }) samples (without_code []) threads }
 {}
 
 /// A snapshot of three functions that call one another meets what `run` asks of a described chain,
 /// from its bytes on, and this text is then written.
 pub fn chain_is_described()
     ensures asked { Asks (record plain { registers = true }) (codes "--registers" ∷ [])
-        (Some sample.calling_json) sample.calling sample.calling_origins }
+        (Some sample.calling_json) sample.calling sample.calling_places }
     ensures described { DescribesWalk sample.calling three.functions three.start three.calls }
     ensures written { chain_text (record plain { registers = true }) sample.calling
-        sample.calling_origins three.start three.calls ≡ sample.calling_text }
+        sample.calling_places three.start three.calls ≡ sample.calling_text }
 {}
 
 /// A snapshot that was stopped after the push of a function that pushes RBX meets what `run` asks of
 /// a stop in a described function.
 pub fn stop_is_described()
     ensures asked { Asks plain [] (Some sample.stopped_json)
-        sample.stopped sample.stopped_origins }
+        sample.stopped sample.stopped_places }
     ensures described { DescribesStop sample.stopped (function ∷ []) start after_the_push [] }
     ensures written { chain_text plain sample.stopped
-        sample.stopped_origins start (after_the_push ∷ []) ≡ sample.stopped_text }
+        sample.stopped_places start (after_the_push ∷ []) ≡ sample.stopped_text }
 {}
 
 /// It meets what `called_from` asks too: it was entered by a call, and stands before the first step
 /// of a function.
 pub fn null_call_is_entered()
-    ensures nowhere { IsNowhere (space_of snapshot) snapshot.start true }
+    ensures nowhere { IsNowhere (space_of snapshot) [] snapshot.start true }
     ensures entered { IsEntered (space_of snapshot).image false [] caller callee }
     ensures stands { StandsAfter (space_of snapshot).image entry [] [] caller callee }
     ensures state { IsState caller }
@@ -119,8 +146,8 @@ pub fn null_call_is_entered()
 /// And what `run` asks of a call to nowhere: its caller, in no module either, is a chain by itself.
 /// The text that is written is said by the states.
 pub fn null_call_is_described()
-    ensures described { DescribesCallToNowhere snapshot [] callee caller [] }
-    ensures written { called_text plain snapshot [] callee caller [] ≡
+    ensures described { DescribesCallToNowhere snapshot (without_code []) [] callee caller [] }
+    ensures written { called_text plain snapshot (without_code []) callee caller [] ≡
         text }
 {}
 
@@ -130,10 +157,10 @@ pub fn null_call_is_described()
 /// and a realigned one, to `_start`. This text is then written.
 pub fn stop_in_an_epilogue_is_known()
     ensures asked { Asks plain [] (Some known.json) known.snapshot
-        known.origins }
-    ensures begins { BeginsKnownStack known.snapshot layouts.popped layouts.states }
-    ensures written { (begins : BeginsKnownStack known.snapshot layouts.popped layouts.states) →
-        stack_text plain known.snapshot known.origins layouts.popped
+        known.places }
+    ensures begins { BeginsKnownStack known.snapshot known.places layouts.popped layouts.states }
+    ensures written { (begins : BeginsKnownStack known.snapshot known.places layouts.popped layouts.states) →
+        stack_text plain known.snapshot known.places layouts.popped
         layouts.states begins ≡ known.text }
 {}
 
@@ -141,18 +168,18 @@ pub fn stop_in_an_epilogue_is_known()
 /// goes through the signal's frame to the function that the signal interrupted at its first
 /// instruction.
 pub fn stop_in_a_signal_handler_is_known()
-    ensures asked { Asks plain [] (Some signal.json) signal.snapshot signal.origins }
-    ensures begins { BeginsKnownStack signal.snapshot signals.in_work signals.callers }
-    ensures written { (begins : BeginsKnownStack signal.snapshot signals.in_work signals.callers) →
-        stack_text plain signal.snapshot signal.origins signals.in_work signals.callers begins ≡
+    ensures asked { Asks plain [] (Some signal.json) signal.snapshot signal.places }
+    ensures begins { BeginsKnownStack signal.snapshot signal.places signals.in_work signals.callers }
+    ensures written { (begins : BeginsKnownStack signal.snapshot signal.places signals.in_work signals.callers) →
+        stack_text plain signal.snapshot signal.places signals.in_work signals.callers begins ≡
         signal.text }
 {}
 
 /// The snapshot that was taken after a call through a null pointer meets what `run` asks where the
 /// caller's state begins such a stack: it is one by itself.
 pub fn null_call_is_known()
-    ensures begins { BeginsByCallToNowhere snapshot callee caller [] }
-    ensures written { (begins : BeginsByCallToNowhere snapshot callee caller []) →
-        called_stack_text plain snapshot [] callee caller [] begins ≡
+    ensures begins { BeginsByCallToNowhere snapshot (without_code []) callee caller [] }
+    ensures written { (begins : BeginsByCallToNowhere snapshot (without_code []) callee caller []) →
+        called_stack_text plain snapshot (without_code []) callee caller [] begins ≡
         text }
 {}

@@ -2,13 +2,14 @@
 ghost use Rattle.std.specs.Prelude.{◌≡◌, ℕ, List, ◌++◌, IfOk, OnOk};
 ghost use Rattle.backtrace.specs.Threads.{AreThreads, IsThread, IsThreadsOf};
 
+use crate::code::Places;
 use crate::lines::{put_backtrace, put_thread_line};
 use crate::tracing::trace_stack;
 use crate::words::Options;
 use folded_stacks::Sample;
 use stack_deliver::Space;
 use stack_report::Report;
-use stack_snapshot::{Origins, SampledSnapshot};
+use stack_snapshot::SampledSnapshot;
 use std::alloc::{AllocError, Global};
 
 /// What the backtraces of threads share.
@@ -17,7 +18,7 @@ struct Shared<'a, 'm> {
     options: Options,
     space: &'a Space<'m>,
     limit: u32,
-    origins: &'a Origins,
+    places: &'a Places,
 }
 
 /// Puts the number and the backtrace of a thread last.
@@ -29,13 +30,15 @@ fn put_thread(
     sample: &Sample,
 ) -> Result<(), AllocError>
     ensures { OnOk result ((own : List ℕ) × (report.new ≡ report.old ++ own) ×
-        IsThread shared.now.options shared.now.space.now shared.now.limit shared.now.origins.now
+        IsThread shared.now.options shared.now.space.now shared.now.limit shared.now.places.now
         index sample.now own) }
 {
     let interrupted = sample.interrupted;
+    let places = shared.places;
     let trace = trace_stack(
         alloc,
         shared.space,
+        &places.code,
         &sample.start,
         interrupted,
         shared.limit,
@@ -45,7 +48,7 @@ fn put_thread(
         report,
         shared.options.registers,
         interrupted,
-        shared.origins,
+        places,
         &trace,
     )
 }
@@ -55,16 +58,16 @@ pub fn threads_text(
     alloc: Global,
     options: Options,
     snapshot: &SampledSnapshot,
-    origins: &Origins,
+    places: &Places,
 ) -> Result<Report, AllocError>
-    ensures { IfOk result (λ report. IsThreadsOf options snapshot.now origins.now report) }
+    ensures { IfOk result (λ report. IsThreadsOf options snapshot.now places.now report) }
 {
     let space = snapshot.space(alloc)?;
     let shared = Shared {
         options,
         space: &space,
         limit: snapshot.limit(),
-        origins,
+        places,
     };
     let mut report = Report::new(alloc);
     for (index, sample) in snapshot.samples().as_slice().iter().enumerate() {

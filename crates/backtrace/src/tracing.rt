@@ -10,6 +10,7 @@ ghost use Rattle.unwind_arch.specs.ContextViews.{columns_of};
 ghost use Rattle.stack_steps.specs.Stepping.{EndsAt};
 ghost use Rattle.backtrace.specs.Tracing.{IsNowhere, IsTrace, called_from, is_nowhere, returned_caller};
 
+use crate::code::CodeRanges;
 use memory_image::{MemoryImage, NoLedger, Steps};
 use stack_deliver::{Context, Front, Room, Space, walk_front_into};
 use std::alloc::{AllocError, Global};
@@ -32,30 +33,36 @@ fn returned_caller(image: &MemoryImage<'_>, callee: &Context) -> Option<Context>
     Some(caller)
 }
 
-/// Whether a start is interrupted where nothing is known of its instruction: at the address 0, or in
-/// no module.
-fn is_nowhere(space: &Space<'_>, start: &Context, interrupted: bool) -> bool
-    ensures { result ≡ is_nowhere space.now start.now interrupted }
+/// Whether a start is interrupted where no code is known: at the address 0, or in no module, and not
+/// in code without a table.
+fn is_nowhere(space: &Space<'_>, code: &CodeRanges, start: &Context, interrupted: bool) -> bool
+    ensures { result ≡ is_nowhere space.now code.now start.now interrupted }
 {
-    interrupted && (start.ra == 0 || space.module_at(start.ra).is_none())
+    let unheld = start.ra == 0 || space.module_at(start.ra).is_none();
+    interrupted && unheld && code.at(start.ra).is_none()
 }
 
 /// The caller of a thread that was interrupted in no module, as after a call through a null or a wild
 /// pointer: its return address is the word at the stack pointer.
 ///
-/// `None` where the thread stands after a call or in a module, and where that word isn't mapped or
-/// is 0. No stack of another kind is guessed at.
-pub fn called_from(space: &Space<'_>, start: &Context, interrupted: bool) -> Option<Context>
-    ensures exact { result ≡ called_from space.now start.now interrupted }
+/// `None` where the thread stands after a call, in a module or in code without a table, and where that
+/// word isn't mapped or is 0. No stack of another kind is guessed at.
+pub fn called_from(
+    space: &Space<'_>,
+    code: &CodeRanges,
+    start: &Context,
+    interrupted: bool,
+) -> Option<Context>
+    ensures exact { result ≡ called_from space.now code.now start.now interrupted }
     // It is the caller where the state was entered by a call, and has done nothing since.
-    ensures entered { (t s : State) → IsNowhere space.now start.now interrupted →
+    ensures entered { (t s : State) → IsNowhere space.now code.now start.now interrupted →
         IsEntered space.now.image false [] t s → IsState t → t.ra ≢ 0 →
         Shows (columns_of start.now) s →
         IsSomeAnd result (λ caller. Shows (columns_of caller) t ×
         KeepsOthers (columns_of start.now) (columns_of caller)) }
     // So it is where a function is interrupted before the first step of its prologue.
     ensures stands { (f : Function) (later : List PrologueStep) (t s : State) →
-        IsNowhere space.now start.now interrupted →
+        IsNowhere space.now code.now start.now interrupted →
         StandsAfter space.now.image f [] later t s → IsState t → t.ra ≢ 0 →
         Shows (columns_of start.now) s →
         IsSomeAnd result (λ caller. Shows (columns_of caller) t ×
@@ -63,7 +70,7 @@ pub fn called_from(space: &Space<'_>, start: &Context, interrupted: bool) -> Opt
     // By the modules alone the stack would end at such a start.
     ensures ends { IsSome result → EndsAt space.now start.now interrupted }
 {
-    if is_nowhere(space, start, interrupted) {
+    if is_nowhere(space, code, start, interrupted) {
         returned_caller(space.image(), start)
     } else {
         None
@@ -127,15 +134,16 @@ impl Trace {
 pub fn trace_stack(
     alloc: Global,
     space: &Space<'_>,
+    code: &CodeRanges,
     start: &Context,
     interrupted: bool,
     limit: u32,
 ) -> Result<Trace, AllocError>
-    ensures { IfOk result (λ trace. IsTrace space.now start.now interrupted limit trace) }
+    ensures { IfOk result (λ trace. IsTrace space.now code.now start.now interrupted limit trace) }
 {
     let mut room = Room::new(alloc, limit)?;
     let mut steps = Steps::new(NoLedger);
-    match called_from(space, start, interrupted) {
+    match called_from(space, code, start, interrupted) {
         Some(caller) => {
             let most = limit.saturating_sub(1);
             let why = walk_front_into(space, &caller, false, most, &mut room, &mut steps);

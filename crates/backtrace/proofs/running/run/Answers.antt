@@ -41,21 +41,21 @@ returns-clause-done g c = λ is.
     ]
 
 pub returns-clause-traced : goal.returns-clause-traced
-returns-clause-traced g c = λ o s origins t asks is.
+returns-clause-traced g c = λ o s places t asks is.
     let words = c.args.words.now in
     let P : Verdict → Type 0 = λ due. Tells due c.tell.result (g.O.Sink.holds c.args.output.now) (g.O.Sink.holds c.tell.new.output) in
     let R : List ℕ → Type 0 = λ bytes. (text : List ℕ) → IsBacktrace words bytes text → P (due_of words bytes text) in
-    let text = text_of o s origins t in
-    subst P (asked_due o words (g.I.Source.left c.args.input.now) s origins text asks)
-    (of_some (g.I.Source.left c.args.input.now) asks.bytes R asks.source_is (returns-clause-told g c) text (asked_backtrace o words (g.I.Source.left c.args.input.now) s origins t asks is))
+    let text = text_of o s places t in
+    subst P (asked_due o words (g.I.Source.left c.args.input.now) s places text asks)
+    (of_some (g.I.Source.left c.args.input.now) asks.bytes R asks.source_is (returns-clause-told g c) text (asked_backtrace o words (g.I.Source.left c.args.input.now) s places t asks is))
 
 pub returns-clause-threads : goal.returns-clause-threads
-returns-clause-threads g c = λ o s origins text asks is.
+returns-clause-threads g c = λ o s places text asks is.
     let words = c.args.words.now in
     let P : Verdict → Type 0 = λ due. Tells due c.tell.result (g.O.Sink.holds c.args.output.now) (g.O.Sink.holds c.tell.new.output) in
     let R : List ℕ → Type 0 = λ bytes. (text : List ℕ) → IsBacktrace words bytes text → P (due_of words bytes text) in
-    subst P (sampled_due o words (g.I.Source.left c.args.input.now) s origins text asks)
-    (of_some (g.I.Source.left c.args.input.now) asks.bytes R asks.source_is (returns-clause-told g c) text (sampled_backtraces o words (g.I.Source.left c.args.input.now) s origins text asks is))
+    subst P (sampled_due o words (g.I.Source.left c.args.input.now) s places text asks)
+    (of_some (g.I.Source.left c.args.input.now) asks.bytes R asks.source_is (returns-clause-told g c) text (sampled_backtraces o words (g.I.Source.left c.args.input.now) s places text asks is))
 
 pub returns-clause-bad_snapshot : goal.returns-clause-bad_snapshot
 returns-clause-bad_snapshot g c =
@@ -67,31 +67,31 @@ returns-clause-bad_snapshot g c =
     if_some_weaker (g.I.Source.left c.args.input.now) R Q (λ bytes told. bad_told words bytes c.tell.result before after told) (returns-clause-told g c)
 
 pub returns-clause-chain : goal.returns-clause-chain
-returns-clause-chain g c = λ o s origins functions start calls asks described.
-    let t = chain_traced s (content_apart asks.bytes s asks.reads) (content_laid_out asks.bytes s asks.reads) o origins functions start calls described in
+returns-clause-chain g c = λ o s places functions start calls asks described.
+    let t = chain_traced s (content_apart asks.bytes s asks.reads) (content_laid_out asks.bytes s asks.reads) o places functions start calls described in
     let P : List ℕ → Type 0 = λ text. Tells (verdict Done text) c.tell.result (g.O.Sink.holds c.args.output.now) (g.O.Sink.holds c.tell.new.output) in
-    subst P t.2 (returns-clause-traced g c o s origins t.0 asks t.1)
+    subst P t.2 (returns-clause-traced g c o s places t.0 asks t.1)
 
 pub returns-clause-stop : goal.returns-clause-stop
-returns-clause-stop g c = λ o s origins functions start call calls asks described.
-    let t = stop_traced s (content_apart asks.bytes s asks.reads) (content_laid_out asks.bytes s asks.reads) o origins functions start call calls described in
+returns-clause-stop g c = λ o s places functions start call calls asks described.
+    let t = stop_traced s (content_apart asks.bytes s asks.reads) (content_laid_out asks.bytes s asks.reads) o places functions start call calls described in
     let P : List ℕ → Type 0 = λ text. Tells (verdict Done text) c.tell.result (g.O.Sink.holds c.args.output.now) (g.O.Sink.holds c.tell.new.output) in
-    subst P t.2 (returns-clause-traced g c o s origins t.0 asks t.1)
+    subst P t.2 (returns-clause-traced g c o s places t.0 asks t.1)
 
 pub returns-clause-called : goal.returns-clause-called
-returns-clause-called g c = λ o s origins functions start caller calls asks described.
-    let t = called_traced s (content_apart asks.bytes s asks.reads) (content_laid_out asks.bytes s asks.reads) (content_whole asks.bytes s asks.reads) o origins functions start caller calls described in
+returns-clause-called g c = λ o s places functions start caller calls asks described.
+    let t = called_traced s (content_apart asks.bytes s asks.reads) (content_laid_out asks.bytes s asks.reads) (content_whole asks.bytes s asks.reads) o places functions start caller calls described in
     let P : List ℕ → Type 0 = λ text. Tells (verdict Done text) c.tell.result (g.O.Sink.holds c.args.output.now) (g.O.Sink.holds c.tell.new.output) in
-    subst P t.2 (returns-clause-traced g c o s origins t.0 asks t.1)
+    subst P t.2 (returns-clause-traced g c o s places t.0 asks t.1)
 
 pub returns-clause-known : goal.returns-clause-known
-returns-clause-known g c = λ o s origins start callers asks begins.
-    let t = stack_traced s (content_apart asks.bytes s asks.reads) (content_laid_out asks.bytes s asks.reads) o origins start callers begins in
+returns-clause-known g c = λ o s places start callers asks begins.
+    let t = stack_traced s (content_apart asks.bytes s asks.reads) (content_laid_out asks.bytes s asks.reads) o places start callers begins in
     let P : List ℕ → Type 0 = λ text. Tells (verdict Done text) c.tell.result (g.O.Sink.holds c.args.output.now) (g.O.Sink.holds c.tell.new.output) in
-    subst P t.2 (returns-clause-traced g c o s origins t.0 asks t.1)
+    subst P t.2 (returns-clause-traced g c o s places t.0 asks t.1)
 
 pub returns-clause-known_call : goal.returns-clause-known_call
-returns-clause-known_call g c = λ o s origins start caller callers asks begins.
-    let t = called_stack_traced s (content_apart asks.bytes s asks.reads) (content_laid_out asks.bytes s asks.reads) (content_whole asks.bytes s asks.reads) o origins start caller callers begins in
+returns-clause-known_call g c = λ o s places start caller callers asks begins.
+    let t = called_stack_traced s (content_apart asks.bytes s asks.reads) (content_laid_out asks.bytes s asks.reads) (content_whole asks.bytes s asks.reads) o places start caller callers begins in
     let P : List ℕ → Type 0 = λ text. Tells (verdict Done text) c.tell.result (g.O.Sink.holds c.args.output.now) (g.O.Sink.holds c.tell.new.output) in
-    subst P t.2 (returns-clause-traced g c o s origins t.0 asks t.1)
+    subst P t.2 (returns-clause-traced g c o s places t.0 asks t.1)

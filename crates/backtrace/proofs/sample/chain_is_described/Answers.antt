@@ -6,6 +6,7 @@ use Rattle.hex.specs.Hex.{decode_pairs}
 use Rattle.serde_json.proofs.OnLiterals.{serde_json_on_literals}
 use Rattle.stack_snapshot.specs.Answers.{value_of}
 use Rattle.stack_snapshot.specs.Origins.{origins_of}
+use Rattle.backtrace.specs.Code.{code_of}
 use Rattle.stack_snapshot.specs.Snapshot.{regions_of, modules_of, start_of, resumes_of, limit_of, interrupted_of, whole_numbers, snapshot_of}
 use Rattle.stack_report.specs.Digits.{hexadecimal, word}
 use Rattle.backtrace.specs.Lines.{states_text, frame_line, kept_text, place_text, rest_text}
@@ -14,7 +15,7 @@ use Rattle.backtrace.proofs.CallingChain.{starts}
 use Rattle.backtrace.proofs.sample.chain_is_described.Goals as goal
 
 pub returns-clause-asked : goal.returns-clause-asked
-unfolding is_utf8 chars encode_utf8 decode_pairs serde_json_on_literals value_of regions_of modules_of start_of resumes_of limit_of interrupted_of whole_numbers snapshot_of origins_of
+unfolding is_utf8 chars encode_utf8 decode_pairs serde_json_on_literals value_of regions_of modules_of start_of resumes_of limit_of interrupted_of whole_numbers snapshot_of origins_of code_of
 returns-clause-asked c = record { bytes = calling_json; named = refl; single = refl; source_is = refl; short = lit≤ tt; reads = refl; files = refl }
 
 pub returns-clause-described : goal.returns-clause-described

@@ -3,7 +3,7 @@ use Rattle.backtrace.proofs.NullCall.{entered, kept, shows}
 use Rattle.backtrace.proofs.sample.null_call_is_entered.Goals as goal
 
 pub returns-clause-nowhere : goal.returns-clause-nowhere
-returns-clause-nowhere c = (refl, inl refl)
+returns-clause-nowhere c = (refl, inl refl, refl)
 
 pub returns-clause-entered : goal.returns-clause-entered
 returns-clause-entered c = entered
