@@ -1,13 +1,15 @@
 -- What a JSON value says as claims of what is known of code.
-use Rattle.std.specs.Prelude.{ℕ, Bool, false, ◌||◌, List, Option, Some, None, codes, option_map, option_and_then}
+use Rattle.std.specs.Prelude.{ℕ, suc, Bool, false, ◌||◌, List, [], ◌∷◌, Option, Some, None, codes, option_map, option_and_then, Result, Ok, Err}
 use Rattle.std.specs.Str.{bytes_eq}
 use Rattle.serde_json.specs.Data.{Data, Items, no_items, item}
 use Rattle.serde_json.specs.Find.{get, as_array, as_str}
+use Rattle.memory_image.specs.Results.{◌>>=◌}
 use Rattle.stack_snapshot.specs.Fields.{as_word, word_at, flag_or_false}
-use Rattle.stack_snapshot.specs.Snapshot.{each_of}
 use Rattle.fact_checks.specs.declared.facts.ClaimedFacts.{ClaimedFacts}
 use Rattle.fact_checks.specs.declared.facts.KnownRegister.{KnownRegister}
 use Rattle.fact_checks.specs.declared.facts.KnownRegisters.{KnownRegisters}
+use Rattle.fact_claims.specs.declared.errors.ClaimsError.{ClaimsError}
+use Rattle.fact_claims.specs.declared.errors.ClaimsError.TheVariants.{Claims, Claim}
 
 -- a word, where there is one
 abbrev pub optional_word : Option Data → Option (Option ℕ)
@@ -75,9 +77,23 @@ claim_in d =
     option_and_then (λ from. option_and_then (λ to. option_and_then (λ rsp. option_and_then (λ rbp. option_and_then (λ registers. option_map (claim_with from to rsp rbp registers) (outermost_in d)) (registers_in d)) (optional_word_at (codes "rbp") d)) (optional_word_at (codes "rsp") d)) (word_at (codes "to") d))
     (word_at (codes "from") d)
 
-abbrev pub claim_list : Items → Option (List ClaimedFacts)
-claim_list = each_of claim_in
+-- the claim of the item at a place
+abbrev pub needs_claim : ℕ → Option ClaimedFacts → Result ClaimedFacts ClaimsError
+needs_claim i None = Err (Claim i)
+needs_claim i (Some claim) = Ok claim
 
--- the claims that are listed
-unfoldable pub claims_in : Data → Option (List ClaimedFacts)
-claims_in d = option_and_then claim_list (option_and_then as_array (get (codes "claims") d))
+-- the claims of items whose places are counted from a number on, or the place of the first item that says none
+abbrev pub claims_from : ℕ → Items → Result (List ClaimedFacts) ClaimsError
+claims_from i no_items = Ok []
+claims_from i (item d ds) = do
+  claim ← needs_claim i (claim_in d)
+  claims ← claims_from (suc i) ds
+  Ok (claim ∷ claims)
+
+abbrev pub claim_list : Option Items → Result (List ClaimedFacts) ClaimsError
+claim_list None = Err Claims
+claim_list (Some items) = claims_from 0 items
+
+-- the claims that are listed, or why there are none
+unfoldable pub claims_in : Data → Result (List ClaimedFacts) ClaimsError
+claims_in d = claim_list (option_and_then as_array (get (codes "claims") d))

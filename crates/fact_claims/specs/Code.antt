@@ -24,8 +24,8 @@ use Rattle.stack_snapshot.specs.Answers.{value_of}
 use Rattle.stack_snapshot.specs.Content.{image_of}
 use Rattle.stack_snapshot.specs.Memory.{MemoryContent, memory_of}
 use Rattle.stack_snapshot.specs.Snapshot.{needs}
-use Rattle.fact_claims.specs.declared.code.ClaimsError.{ClaimsError}
-use Rattle.fact_claims.specs.declared.code.ClaimsError.TheVariants.{Snapshot, Claims}
+use Rattle.fact_claims.specs.declared.errors.ClaimsError.{ClaimsError}
+use Rattle.fact_claims.specs.declared.errors.ClaimsError.TheVariants.{Snapshot}
 use Rattle.fact_claims.specs.Claims.{claims_in}
 
 -- memory with one ELF module, where the module's frame table is, and what is claimed of its code
@@ -51,16 +51,12 @@ abbrev pub by_field : {A : Type 0} → Result A Field → Result A ClaimsError
 by_field (Ok x) = Ok x
 by_field (Err field) = Err (Snapshot (Bad field))
 
-abbrev pub needs_claims : Option (List ClaimedFacts) → Result (List ClaimedFacts) ClaimsError
-needs_claims None = Err Claims
-needs_claims (Some claims) = Ok claims
-
 -- the module and the claims that a value says, or what is faulty first
 unfoldable pub code_of : Data → Result CodeContent ClaimsError
 code_of d = do
   memory ← by_field (memory_of d)
   frame ← by_field (needs fields.Modules (one_frame memory.modules))
-  claims ← needs_claims (claims_in d)
+  claims ← claims_in d
   Ok (record { memory = memory; frame = frame; claims = claims })
 
 abbrev pub code_by : Option Data → Result CodeContent ClaimsError

@@ -1,3 +1,5 @@
 pub mod Claims
 pub mod Code
+pub mod Said
+pub mod Claimed
 pub mod Lines

@@ -1,52 +1,31 @@
 -- What is written of an audit.
-use Rattle.std.specs.Prelude.{ℕ, ◌+◌, ◌-◌, ◌^◌, nat_lt, Bool, true, false, ◌||◌, ◌==◌, List, [], ◌∷◌, ◌++◌, Option, Some, None, codes, if◌then◌else◌}
+use Rattle.std.specs.Prelude.{ℕ, zero, suc, ◌+◌, nat_le, nat_lt, Bool, true, false, ◌||◌, ◌==◌, List, [], ◌∷◌, ◌++◌, length, slice_get, Option, Some, None, codes, if◌then◌else◌}
 use Rattle.std.specs.Fmt.{decimal}
 use Rattle.fact_checks.specs.declared.auditing.AuditError.{AuditError}
 use Rattle.fact_checks.specs.declared.auditing.AuditError.TheVariants as error
+use Rattle.fact_checks.specs.declared.facts.ClaimedFacts.{ClaimedFacts}
 use Rattle.fact_checks.specs.declared.rows.Mismatch.{Mismatch}
 use Rattle.fact_checks.specs.declared.rows.Mismatch.TheVariants as mismatch
-use Rattle.fact_checks.specs.declared.said.SaidCfa.{SaidCfa}
-use Rattle.fact_checks.specs.declared.said.SaidCfa.TheVariants as cfa
-use Rattle.fact_checks.specs.declared.said.SaidRule.{SaidRule}
-use Rattle.fact_checks.specs.declared.said.SaidRule.TheVariants as said
 use Rattle.fact_checks.specs.declared.stretches.Difference.{Difference}
 use Rattle.stack_report.specs.Digits.{hexadecimal}
 use Rattle.stack_report.specs.Report.{line}
+use Rattle.fact_claims.specs.Claimed.{claimed_text}
+use Rattle.fact_claims.specs.Said.{mismatch_text}
 
--- an offset, a word: one from 2 ^ 63 on is below 0
-unfoldable pub offset_text : ℕ → List ℕ
-offset_text n = if nat_lt n (2 ^ 63) then codes "+" ++ hexadecimal n else codes "-" ++ hexadecimal (2 ^ 64 - n)
+-- what is claimed at a place of the list
+abbrev pub claim_text : Option ClaimedFacts → List ℕ
+claim_text None = []
+claim_text (Some c) = claimed_text c
 
--- where the CFA is by a row
-abbrev pub cfa_text : SaidCfa → List ℕ
-cfa_text (cfa.Above register n) = codes " r" ++ decimal register.0 ++ offset_text n
-cfa_text cfa.Expression = codes " expression"
+-- where a row differs, from which of the claims, why, and what that claims
+unfoldable pub difference_line : List ClaimedFacts → Difference → List ℕ
+difference_line claims d =
+    line (codes "differ " ++ hexadecimal d.address ++ codes " claim " ++ decimal d.claim
+    ++ mismatch_text d.mismatch ++ claim_text (slice_get claims d.claim))
 
--- how a register is found by a row
-abbrev pub rule_text : SaidRule → List ℕ
-rule_text said.Nothing = codes " none"
-rule_text said.Undefined = codes " undefined"
-rule_text said.SameValue = codes " same value"
-rule_text (said.Offset n) = codes " c" ++ offset_text n
-rule_text (said.ValOffset n) = codes " v" ++ offset_text n
-rule_text (said.Register register) = codes " r" ++ decimal register.0
-rule_text said.Expression = codes " expression"
-rule_text said.ValExpression = codes " value expression"
-
--- why what is claimed isn't said, and what the row says
-abbrev pub mismatch_text : Mismatch → List ℕ
-mismatch_text mismatch.NoDescription = codes " no description"
-mismatch_text mismatch.SignalFrame = codes " signal frame"
-mismatch_text (mismatch.Fault e) = codes " fault"
-mismatch_text (mismatch.Cfa cfa) = codes " cfa" ++ cfa_text cfa
-mismatch_text (mismatch.Rule register rule) = codes " rule " ++ decimal register.0 ++ rule_text rule
-
-unfoldable pub difference_line : Difference → List ℕ
-difference_line d = line (codes "differ " ++ hexadecimal d.address ++ codes " claim " ++ decimal d.claim ++ mismatch_text d.mismatch)
-
-abbrev pub difference_lines : List Difference → List ℕ
-difference_lines [] = []
-difference_lines (d ∷ ds) = difference_line d ++ difference_lines ds
+abbrev pub difference_lines : List ClaimedFacts → List Difference → List ℕ
+difference_lines claims [] = []
+difference_lines claims (d ∷ ds) = difference_line claims d ++ difference_lines claims ds
 
 -- no description has rows for the claim, or it is one of a signal's frame
 abbrev pub is_without_row : Mismatch → Bool
@@ -68,11 +47,36 @@ abbrev pub differing_after : Option ℕ → List Difference → ℕ
 differing_after last [] = 0
 differing_after last (d ∷ ds) = (if is_without_row d.mismatch || is_claim last d.claim then 0 else 1) + differing_after (Some d.claim) ds
 
-abbrev pub audit_report : ℕ → List Difference → List ℕ
-audit_report claims ds = difference_lines ds ++ line (codes "claims " ++ decimal claims) ++ line (codes "differ " ++ decimal (differing_after None ds)) ++ line (codes "without a row " ++ decimal (without_row ds))
+-- a line for each difference, and how many claims there are, how many differ, and how many have no row
+abbrev pub audit_report : List ClaimedFacts → List Difference → List ℕ
+audit_report claims ds =
+    difference_lines claims ds ++ line (codes "claims " ++ decimal (length claims))
+    ++ line (codes "differ " ++ decimal (differing_after None ds)) ++ line (codes "without a row " ++ decimal (without_row ds))
+
+-- ---- refusals
+
+abbrev pub start_of : Option ClaimedFacts → ℕ
+start_of None = 0
+start_of (Some c) = c.from
+
+-- where the range before a place of the list begins, 0 before the first
+abbrev pub start_before : List ClaimedFacts → ℕ → ℕ
+start_before claims zero = 0
+start_before claims (suc i) = start_of (slice_get claims i)
+
+-- how a claim whose range is empty, or begins below the end of the one before, is wrong: it is empty; or it begins even below that one's
+-- beginning, so that they aren't in order; or they overlap
+unfoldable pub disorder_text : ℕ → ClaimedFacts → List ℕ
+disorder_text before c =
+    if nat_le c.to c.from then codes " empty" else (if nat_lt c.from before then codes " out of order" else codes " overlaps")
+
+abbrev pub disorder_at : ℕ → Option ClaimedFacts → List ℕ
+disorder_at before None = []
+disorder_at before (Some c) = disorder_text before c
 
 -- why claims aren't audited
-abbrev pub refused_line : AuditError → List ℕ
-refused_line (error.Claim i) = line (codes "refused: claim " ++ decimal i)
-refused_line error.Tables = line (codes "refused: no frame table")
-refused_line error.NoMemory = []
+abbrev pub refused_line : List ClaimedFacts → AuditError → List ℕ
+refused_line claims (error.Claim i) =
+    line (codes "refused: claim " ++ decimal i ++ disorder_at (start_before claims i) (slice_get claims i))
+refused_line claims error.Tables = line (codes "refused: no frame table")
+refused_line claims error.NoMemory = []

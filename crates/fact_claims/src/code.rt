@@ -2,18 +2,17 @@
 ghost use Rattle.std.specs.Prelude.{◌≡◌, ◌⊎◌, Some, None, IfErr, IfOk};
 ghost use Rattle.serde_json.specs.View.{view};
 ghost use Rattle.fact_checks.specs.declared.auditing.AuditError.{AuditError as Refusal};
-ghost use Rattle.stack_snapshot.specs.declared.errors.SnapshotError.TheVariants.{NoMemory};
-ghost use Rattle.fact_claims.specs.declared.code.ClaimsError.TheVariants.{Snapshot};
 ghost use Rattle.fact_claims.specs.Code.{AreDifferencesIn, GivesCode, code_in, code_of, one_frame};
 ghost use Rattle.fact_claims.specs.Code.{refusal_in};
 
+use crate::errors::ClaimsError;
 use crate::reading::claims_in;
 use fact_checks::{AuditError, ClaimedFacts, Difference, audit};
 use fde_finders::FrameInfo;
 use serde_json::Value;
 use stack_snapshot::{Field, MemorySnapshot, SnapshotError, memory_of, value_in};
 use stack_steps::{Module, ModuleTables};
-use std::alloc::{AllocError, Global};
+use std::alloc::Global;
 use std::marker::Model;
 
 /// Memory with one ELF module in it, where the module's frame table is, and what is claimed of the
@@ -31,33 +30,6 @@ impl Model for ClaimedCode {
     ghost Value = { CodeContent };
 
     ghost view = { λ c. record { memory = c.memory; frame = c.frame; claims = c.claims.items } };
-}
-
-/// Why bytes say no claims.
-#[derive(Clone, Copy, Debug, PartialEq, Eq, thiserror::Error)]
-pub enum ClaimsError {
-    /// They are no JSON text, or another field is missing or faulty, or memory ran out.
-    #[error("{0}")]
-    Snapshot(SnapshotError),
-    /// The claims are missing, or one of them is faulty.
-    #[error("the field claims is missing or faulty")]
-    Claims,
-}
-
-impl From<SnapshotError> for ClaimsError {
-    ghost from_gives = { λ error e. e ≡ Snapshot error };
-
-    fn from(error: SnapshotError) -> ClaimsError {
-        ClaimsError::Snapshot(error)
-    }
-}
-
-impl From<AllocError> for ClaimsError {
-    ghost from_gives = { λ _ e. e ≡ Snapshot NoMemory };
-
-    fn from(_e: AllocError) -> ClaimsError {
-        ClaimsError::Snapshot(SnapshotError::NoMemory)
-    }
 }
 
 impl ClaimedCode {
@@ -110,7 +82,7 @@ fn code_of(alloc: Global, value: Value) -> Result<ClaimedCode, ClaimsError>
     Ok(ClaimedCode {
         memory,
         frame,
-        claims: claims.ok_or(ClaimsError::Claims)?,
+        claims: claims?,
     })
 }
 
@@ -119,7 +91,8 @@ fn code_of(alloc: Global, value: Value) -> Result<ClaimedCode, ClaimsError>
 /// # Errors
 ///
 /// In this order: `Snapshot` with `NotJson` where the bytes are no JSON text, or with `Bad` and the
-/// first faulty field of memory and modules; `Claims`. `NoMemory` may come in the place of each.
+/// first faulty field of memory and modules; `Claims` where there is no list of claims; `Claim` with
+/// the place of the first item that says none. `NoMemory` may come in the place of each.
 pub fn read_code(alloc: Global, bytes: &[u8]) -> Result<ClaimedCode, ClaimsError>
     ensures { GivesCode result (code_in bytes.now) }
 {

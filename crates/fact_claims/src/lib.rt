@@ -2,11 +2,15 @@
 //! lines of text. docs/FORMATS.md has what is read and the lines.
 #![tactic(auto)]
 
+mod claimed;
 mod code;
+mod errors;
 mod lines;
 mod reading;
+mod said;
 #[cfg(test)]
 mod tests;
 
-pub use code::{ClaimedCode, ClaimsError, read_code};
+pub use code::{ClaimedCode, read_code};
+pub use errors::ClaimsError;
 pub use lines::{audit_report, refused_line};

@@ -1,100 +1,57 @@
 // What an audit finds, as lines.
-ghost use Rattle.std.specs.Prelude.{◌≡◌, ◌≤◌, ◌++◌, ◌∷◌, [], None, length, IfOk, OnOk};
+ghost use Rattle.std.specs.Prelude.{◌≡◌, ◌≤◌, ◌++◌, ◌∷◌, [], None, length, slice_get, IfOk, OnOk};
 ghost use Rattle.std.specs.Fmt.{decimal};
 ghost use Rattle.stack_report.specs.Report.{line};
-ghost use Rattle.fact_claims.specs.Lines.{audit_report, cfa_text, difference_line};
-ghost use Rattle.fact_claims.specs.Lines.{difference_lines, differing_after, is_claim};
-ghost use Rattle.fact_claims.specs.Lines.{is_without_row, mismatch_text, offset_text};
-ghost use Rattle.fact_claims.specs.Lines.{refused_line, rule_text, without_row};
+ghost use Rattle.fact_checks.specs.declared.auditing.AuditError.TheVariants as Refusal;
+ghost use Rattle.fact_claims.specs.Lines.{audit_report, claim_text, difference_line};
+ghost use Rattle.fact_claims.specs.Lines.{difference_lines, differing_after, disorder_at};
+ghost use Rattle.fact_claims.specs.Lines.{disorder_text, is_claim, is_without_row, refused_line};
+ghost use Rattle.fact_claims.specs.Lines.{start_before, without_row};
 
-use fact_checks::{AuditError, Difference, Mismatch, SaidCfa, SaidRule};
+use crate::claimed::put_claimed;
+use crate::said::put_mismatch;
+use fact_checks::{AuditError, ClaimedFacts, Difference, Mismatch};
 use stack_report::{Report, line_of};
 use std::alloc::{AllocError, Global};
 
-/// Puts an offset, a word: one from 2^63 on is below 0.
-#[tactic(auto, unfolding(crate::specs::Lines::offset_text))]
-fn put_offset(report: &mut Report, offset: u64) -> Result<(), AllocError>
-    ensures { OnOk result (report.new ≡ report.old ++ offset_text offset) }
+/// Puts what is claimed at a place of the list.
+fn put_claim(report: &mut Report, claims: &[ClaimedFacts], place: usize) -> Result<(), AllocError>
+    ensures { OnOk result
+        (report.new ≡ report.old ++ claim_text (slice_get claims.now place)) }
 {
-    if offset < 1 << 63 {
-        return report.put_field("+", offset);
-    }
-    report.put_field("-", u64::MAX - offset + 1)
-}
-
-/// Puts where the CFA is by a row.
-fn put_cfa(report: &mut Report, cfa: SaidCfa) -> Result<(), AllocError>
-    ensures { OnOk result (report.new ≡ report.old ++ cfa_text cfa) }
-{
-    match cfa {
-        SaidCfa::Above(register, offset) => {
-            report.put_count(" r", usize::from(register.0))?;
-            put_offset(report, offset)
-        }
-        SaidCfa::Expression => report.put(" expression"),
+    match claims.get(place) {
+        Some(claim) => put_claimed(report, claim),
+        None => Ok(()),
     }
 }
 
-/// Puts an offset after a label.
-fn put_offset_from(report: &mut Report, label: &str, offset: u64) -> Result<(), AllocError>
-    ensures { OnOk result (report.new ≡ report.old ++ label.now ++ offset_text offset) }
-{
-    report.put(label)?;
-    put_offset(report, offset)
-}
-
-/// Puts how a register is found by a row.
-fn put_rule(report: &mut Report, rule: SaidRule) -> Result<(), AllocError>
-    ensures { OnOk result (report.new ≡ report.old ++ rule_text rule) }
-{
-    match rule {
-        SaidRule::Nothing => report.put(" none"),
-        SaidRule::Undefined => report.put(" undefined"),
-        SaidRule::SameValue => report.put(" same value"),
-        SaidRule::Offset(offset) => put_offset_from(report, " c", offset),
-        SaidRule::ValOffset(offset) => put_offset_from(report, " v", offset),
-        SaidRule::Register(register) => report.put_count(" r", usize::from(register.0)),
-        SaidRule::Expression => report.put(" expression"),
-        SaidRule::ValExpression => report.put(" value expression"),
-    }
-}
-
-/// Puts why what is claimed isn't said.
-fn put_mismatch(report: &mut Report, mismatch: Mismatch) -> Result<(), AllocError>
-    ensures { OnOk result (report.new ≡ report.old ++ mismatch_text mismatch) }
-{
-    match mismatch {
-        Mismatch::NoDescription => report.put(" no description"),
-        Mismatch::SignalFrame => report.put(" signal frame"),
-        Mismatch::Fault(_) => report.put(" fault"),
-        Mismatch::Cfa(cfa) => {
-            report.put(" cfa")?;
-            put_cfa(report, cfa)
-        }
-        Mismatch::Rule(register, rule) => {
-            report.put_count(" rule ", usize::from(register.0))?;
-            put_rule(report, rule)
-        }
-    }
-}
-
-/// Puts the line of a difference.
+/// Puts the line of a difference from one of the claims.
 #[tactic(auto, unfolding(crate::specs::Lines::difference_line))]
-fn put_difference(report: &mut Report, difference: &Difference) -> Result<(), AllocError>
-    ensures { OnOk result (report.new ≡ report.old ++ difference_line difference.now) }
+fn put_difference(
+    report: &mut Report,
+    claims: &[ClaimedFacts],
+    difference: &Difference,
+) -> Result<(), AllocError>
+    ensures { OnOk result (report.new ≡ report.old ++ difference_line claims.now difference.now) }
 {
     report.put_field("differ ", difference.address)?;
     report.put_count(" claim ", difference.claim)?;
     put_mismatch(report, difference.mismatch)?;
+    put_claim(report, claims, difference.claim)?;
     report.end_line()
 }
 
-/// Puts the lines of differences.
-fn put_differences(report: &mut Report, differences: &[Difference]) -> Result<(), AllocError>
-    ensures { OnOk result (report.new ≡ report.old ++ difference_lines differences.now) }
+/// Puts the lines of differences from claims.
+fn put_differences(
+    report: &mut Report,
+    claims: &[ClaimedFacts],
+    differences: &[Difference],
+) -> Result<(), AllocError>
+    ensures { OnOk result
+        (report.new ≡ report.old ++ difference_lines claims.now differences.now) }
 {
     for difference in differences {
-        put_difference(report, difference)?;
+        put_difference(report, claims, difference)?;
     }
     Ok(())
 }
@@ -153,33 +110,78 @@ fn put_number(report: &mut Report, label: &str, number: usize) -> Result<(), All
     report.end_line()
 }
 
-/// Says what an audit of so many claims finds: a line for each difference, and how many claims
-/// there are, how many differ, and how many have no row.
+/// Says what an audit of claims finds: a line for each difference, with what is claimed there, and
+/// how many claims there are, how many differ, and how many have no row.
 ///
 /// # Errors
 ///
 /// `AllocError` where memory ran out.
 pub fn audit_report(
     alloc: Global,
-    claims: usize,
+    claims: &[ClaimedFacts],
     differences: &[Difference],
 ) -> Result<Report, AllocError>
-    ensures { IfOk result (λ report. report ≡ audit_report claims differences.now) }
+    ensures { IfOk result (λ report. report ≡ audit_report claims.now differences.now) }
 {
     let mut report = Report::new(alloc);
-    put_differences(&mut report, differences)?;
-    put_number(&mut report, "claims ", claims)?;
+    put_differences(&mut report, claims, differences)?;
+    put_number(&mut report, "claims ", claims.len())?;
     put_number(&mut report, "differ ", differing(differences))?;
     put_number(&mut report, "without a row ", without_row(differences))?;
     Ok(report)
 }
 
-/// A line with a number after a label.
-fn numbered_line(alloc: Global, label: &str, number: usize) -> Result<Report, AllocError>
-    ensures { IfOk result (λ report. report ≡ line (label.now ++ decimal number)) }
+/// Where the range before a place of the list begins, 0 before the first.
+fn start_before(claims: &[ClaimedFacts], place: usize) -> u64
+    ensures { result ≡ start_before claims.now place }
+{
+    if place == 0 {
+        return 0;
+    }
+    match claims.get(place - 1) {
+        Some(claim) => claim.from,
+        None => 0,
+    }
+}
+
+/// Puts how a claim is wrong whose range is empty, or begins below the end of the one before, which
+/// begins at an address.
+#[tactic(auto, unfolding(crate::specs::Lines::disorder_text))]
+fn put_disorder(report: &mut Report, before: u64, claim: &ClaimedFacts) -> Result<(), AllocError>
+    ensures { OnOk result (report.new ≡ report.old ++ disorder_text before claim.now) }
+{
+    if claim.to <= claim.from {
+        return report.put(" empty");
+    }
+    if claim.from < before {
+        return report.put(" out of order");
+    }
+    report.put(" overlaps")
+}
+
+/// Puts how the claim at a place is wrong.
+fn put_disorder_at(
+    report: &mut Report,
+    claims: &[ClaimedFacts],
+    place: usize,
+) -> Result<(), AllocError>
+    ensures { OnOk result (report.new ≡ report.old ++
+        disorder_at (start_before claims.now place) (slice_get claims.now place)) }
+{
+    match claims.get(place) {
+        Some(claim) => put_disorder(report, start_before(claims, place), claim),
+        None => Ok(()),
+    }
+}
+
+/// Says that the claim at a place is wrong, and how.
+fn disorder_line(alloc: Global, claims: &[ClaimedFacts], place: usize) -> Result<Report, AllocError>
+    ensures { IfOk result (λ report. report ≡ refused_line claims.now (Refusal.Claim place)) }
 {
     let mut report = Report::new(alloc);
-    put_number(&mut report, label, number)?;
+    report.put_count("refused: claim ", place)?;
+    put_disorder_at(&mut report, claims, place)?;
+    report.end_line()?;
     Ok(report)
 }
 
@@ -188,11 +190,15 @@ fn numbered_line(alloc: Global, label: &str, number: usize) -> Result<Report, Al
 /// # Errors
 ///
 /// `AllocError` where memory ran out.
-pub fn refused_line(alloc: Global, error: AuditError) -> Result<Report, AllocError>
-    ensures { IfOk result (λ report. report ≡ refused_line error) }
+pub fn refused_line(
+    alloc: Global,
+    claims: &[ClaimedFacts],
+    error: AuditError,
+) -> Result<Report, AllocError>
+    ensures { IfOk result (λ report. report ≡ refused_line claims.now error) }
 {
     match error {
-        AuditError::Claim(i) => numbered_line(alloc, "refused: claim ", i),
+        AuditError::Claim(place) => disorder_line(alloc, claims, place),
         AuditError::Tables => line_of(alloc, "refused: no frame table"),
         AuditError::NoMemory => Ok(Report::new(alloc)),
     }

@@ -1,10 +1,12 @@
 // Claims from JSON.
-ghost use Rattle.std.specs.Prelude.{◌≡◌, IfOk, option_map};
+ghost use Rattle.std.specs.Prelude.{◌≡◌, IfOk};
+ghost use Rattle.memory_image.specs.Results.{result_map};
 ghost use Rattle.serde_json.specs.View.{view, items_view};
-ghost use Rattle.fact_claims.specs.Claims.{claim_in, claim_list, claims_in, is_kept_at, is_named};
+ghost use Rattle.fact_claims.specs.Claims.{claim_in, claims_from, claims_in, is_kept_at, is_named};
 ghost use Rattle.fact_claims.specs.Claims.{keeps, optional_word_at, outermost_in, register_at};
 ghost use Rattle.fact_claims.specs.Claims.{registers_in, slot_at};
 
+use crate::errors::ClaimsError;
 use fact_checks::{ClaimedFacts, KnownRegister, KnownRegisters};
 use serde_json::Value;
 use stack_snapshot::{as_word, word_at};
@@ -125,32 +127,35 @@ fn claim_in(value: &Value) -> Option<ClaimedFacts>
     })
 }
 
-/// Each item a claim. `None` where one is none.
-fn claim_list(alloc: Global, items: &[Value]) -> Result<Option<Vec<ClaimedFacts>>, AllocError>
+/// Each item a claim, or the place of the first one that says none.
+fn claim_list(
+    alloc: Global,
+    items: &[Value],
+) -> Result<Result<Vec<ClaimedFacts>, ClaimsError>, AllocError>
     ensures { IfOk result (λ claims.
-        option_map (λ list. list.items) claims ≡ claim_list (items_view items.now)) }
+        result_map (λ list. list.items) claims ≡ claims_from 0 (items_view items.now)) }
 {
     let mut claims = Vec::with_capacity(alloc, items.len())?;
-    for item in items {
+    for (i, item) in items.iter().enumerate() {
         let Some(claim) = claim_in(item) else {
-            return Ok(None);
+            return Ok(Err(ClaimsError::Claim(i)));
         };
         claims.push(claim)?;
     }
-    Ok(Some(claims))
+    Ok(Ok(claims))
 }
 
-/// The claims that are listed. `None` where there is no list of claims.
+/// The claims that are listed, or why there are none.
 #[tactic(auto, unfolding(crate::specs::Claims::claims_in))]
 pub(crate) fn claims_in(
     alloc: Global,
     value: &Value,
-) -> Result<Option<Vec<ClaimedFacts>>, AllocError>
+) -> Result<Result<Vec<ClaimedFacts>, ClaimsError>, AllocError>
     ensures { IfOk result (λ claims.
-        option_map (λ list. list.items) claims ≡ claims_in (view value.now)) }
+        result_map (λ list. list.items) claims ≡ claims_in (view value.now)) }
 {
     match value.get("claims").and_then(Value::as_array) {
         Some(items) => claim_list(alloc, items),
-        None => Ok(None),
+        None => Ok(Err(ClaimsError::Claims)),
     }
 }

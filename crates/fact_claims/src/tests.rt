@@ -1,6 +1,7 @@
 // Claims of a function that pushes RBX, from JSON to lines.
-use crate::code::{ClaimsError, read_code};
-use crate::lines::audit_report;
+use crate::code::read_code;
+use crate::errors::ClaimsError;
+use crate::lines::{audit_report, refused_line};
 use stack_snapshot::{Field, SnapshotError};
 use std::alloc::Global;
 
@@ -32,13 +33,11 @@ fn joined(alloc: Global, parts: &[&str]) -> Result<Vec<u8>, ClaimsError> {
 /// What is written of the claims that the texts say.
 fn reports(alloc: Global, parts: &[&str], expected: &str) -> Result<bool, ClaimsError> {
     let code = read_code(alloc, &joined(alloc, parts)?)?;
-    match code.audit(alloc) {
-        Ok(differences) => {
-            let report = audit_report(alloc, code.claims().len(), &differences)?;
-            Ok(report.bytes() == expected.as_bytes())
-        }
-        Err(_) => Ok(false),
-    }
+    let report = match code.audit(alloc) {
+        Ok(differences) => audit_report(alloc, code.claims(), &differences)?,
+        Err(error) => refused_line(alloc, code.claims(), error)?,
+    };
+    Ok(report.bytes() == expected.as_bytes())
 }
 
 #[test]
@@ -57,7 +56,9 @@ fn claims_differ(rt: HostRuntime) -> Result<(), ClaimsError> {
         reports(
             rt.alloc(),
             &text,
-            "differ 0x401000 claim 0 cfa r7+0x8\nclaims 1\ndiffer 1\nwithout a row 0\n",
+            "differ 0x401000 claim 0 cfa r7+0x8; claimed cfa r7+0x10, rule 3 c-0x10, \
+            rule 6 same value, rule 12 same value, rule 13 same value, rule 14 same value, \
+            rule 15 same value, rule 16 c-0x8\nclaims 1\ndiffer 1\nwithout a row 0\n",
         )?
     );
     let longer = "{\"from\":\"0x401001\",\"to\":\"0x401011\",";
@@ -66,9 +67,62 @@ fn claims_differ(rt: HostRuntime) -> Result<(), ClaimsError> {
         reports(
             rt.alloc(),
             &text,
-            "differ 0x401001 claim 1 no description\nclaims 2\ndiffer 0\nwithout a row 1\n",
+            "differ 0x401001 claim 1 no description; claimed cfa r7+0x10, rule 3 c-0x10, \
+            rule 6 same value, rule 12 same value, rule 13 same value, rule 14 same value, \
+            rule 15 same value, rule 16 c-0x8\nclaims 2\ndiffer 0\nwithout a row 1\n",
         )?
     );
+    Ok(())
+}
+
+/// Claims with several places, none, or some that no compiler takes.
+#[test]
+fn what_is_claimed_is_told(rt: HostRuntime) -> Result<(), ClaimsError> {
+    let both = "{\"from\":\"0x401000\",\"to\":\"0x401001\",\"rsp\":\"0x18\",\"rbp\":\"0x10\",\
+        \"saved\":{\"rbp\":\"0x10\",\"rbx\":\"0x18\"},\"kept\":[\"rbp\",\"r12\"]},";
+    let odd = "{\"from\":\"0x401001\",\"to\":\"0x401002\",\"rbp\":\"0xfffffffffffffff8\",\
+        \"saved\":{\"rbx\":\"0xfffffffffffffff0\"},\"outermost\":true},";
+    let none = "{\"from\":\"0x401002\",\"to\":\"0x401010\"}]}";
+    assert!(rt;
+        reports(
+            rt.alloc(),
+            &[MODULE, ",\"claims\":[", both, odd, none],
+            "differ 0x401000 claim 0 cfa r7+0x8; claimed cfa r7+0x18 or r6+0x10, \
+            rule 3 c-0x18, rule 6 c-0x10 or same value, rule 12 same value, rule 13 unknown, \
+            rule 14 unknown, rule 15 unknown, rule 16 c-0x8\n\
+            differ 0x401001 claim 1 cfa r7+0x10; claimed cfa r6-0x8, rule 3 c+0x10, \
+            rule 6 unknown, rule 12 unknown, rule 13 unknown, rule 14 unknown, rule 15 unknown, \
+            rule 16 undefined\n\
+            differ 0x401002 claim 2 cfa r7+0x10; claimed cfa unknown, rule 3 unknown, \
+            rule 6 unknown, rule 12 unknown, rule 13 unknown, rule 14 unknown, rule 15 unknown, \
+            rule 16 c-0x8\n\
+            claims 3\ndiffer 3\nwithout a row 0\n",
+        )?
+    );
+    Ok(())
+}
+
+/// Claims of which one is empty, or begins too low.
+#[test]
+fn disorder_is_named(rt: HostRuntime) -> Result<(), ClaimsError> {
+    let body = "{\"from\":\"0x401001\",\"to\":\"0x401010\",";
+    let text = [MODULE, ",\"claims\":[", body, PUSHED, ",", ENTRY, "]}"];
+    assert!(rt; reports(rt.alloc(), &text, "refused: claim 1 out of order\n")?);
+    let whole = "{\"from\":\"0x401000\",\"to\":\"0x401010\",";
+    let text = [
+        MODULE,
+        ",\"claims\":[",
+        whole,
+        PUSHED,
+        ",",
+        body,
+        PUSHED,
+        "]}",
+    ];
+    assert!(rt; reports(rt.alloc(), &text, "refused: claim 1 overlaps\n")?);
+    let empty = "{\"from\":\"0x401001\",\"to\":\"0x401001\",";
+    let text = [MODULE, ",\"claims\":[", ENTRY, ",", empty, PUSHED, "]}"];
+    assert!(rt; reports(rt.alloc(), &text, "refused: claim 1 empty\n")?);
     Ok(())
 }
 
@@ -81,11 +135,9 @@ fn refusal(alloc: Global, parts: &[&str]) -> Result<Option<ClaimsError>, ClaimsE
 fn texts_are_refused(rt: HostRuntime) -> Result<(), ClaimsError> {
     let none = refusal(rt.alloc(), &[MODULE, "}"])?;
     assert!(rt; none == Some(ClaimsError::Claims));
-    let open = refusal(
-        rt.alloc(),
-        &[MODULE, ",\"claims\":[{\"from\":\"0x401000\"}]}"],
-    )?;
-    assert!(rt; open == Some(ClaimsError::Claims));
+    let open = ",{\"from\":\"0x401001\"},0]}";
+    let text = [MODULE, ",\"claims\":[", ENTRY, open];
+    assert!(rt; refusal(rt.alloc(), &text)? == Some(ClaimsError::Claim(1)));
     let modules = refusal(
         rt.alloc(),
         &["{\"regions\":[],\"modules\":[],\"claims\":[]}"],

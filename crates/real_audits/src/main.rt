@@ -14,7 +14,7 @@ fn print_audit(rt: &HostRuntime, name: &str) -> Result<()> {
     let text = fs::read_to_string(rt, name)?;
     let code = read_code(rt.alloc(), text.as_bytes())?;
     let differences = code.audit(rt.alloc())?;
-    let report = audit_report(rt.alloc(), code.claims().len(), &differences)?;
+    let report = audit_report(rt.alloc(), code.claims(), &differences)?;
     let lines = str::from_utf8(report.bytes())?;
     print!(rt; "{name}\n{lines}")?;
     Ok(())
