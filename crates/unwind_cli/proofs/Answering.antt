@@ -7,8 +7,8 @@ use Rattle.claim_checks.specs.Claimed.{IsTheVerdictOn, claimed_in}
 use Rattle.claim_checks.specs.declared.claimed.ClaimedModule.{ClaimedModule}
 use Rattle.fact_checks.specs.declared.stretches.Difference.{Difference}
 use Rattle.fact_claims.specs.Code.{AreDifferencesIn, CodeContent, FailsSo, GivesCode, code_in}
-use Rattle.fact_claims.specs.declared.code.ClaimsError.{ClaimsError}
-use Rattle.fact_claims.specs.declared.code.ClaimsError.TheVariants.{Snapshot, Claims}
+use Rattle.fact_claims.specs.declared.errors.ClaimsError.{ClaimsError}
+use Rattle.fact_claims.specs.declared.errors.ClaimsError.TheVariants.{Snapshot, Claims, Claim}
 use Rattle.stack_snapshot.specs.declared.errors.SnapshotError.{SnapshotError}
 use Rattle.stack_snapshot.specs.declared.errors.SnapshotError.TheVariants as faults
 use Rattle.command_ends.specs.declared.status.Status.{Status}
@@ -95,6 +95,7 @@ module _ (given bytes : List ℕ) (equal : given ≡ bytes) (status : Status) (t
   fails_so (Snapshot faults.NotJson) fails answers = unread (Snapshot faults.NotJson) fails answers
   fails_so (Snapshot (faults.Bad field)) fails answers = unread (Snapshot (faults.Bad field)) fails answers
   fails_so Claims fails answers = unread Claims fails answers
+  fails_so (Claim i) fails answers = unread (Claim i) fails answers
 
   pub unaudited_given : (r : Result CodeContent ClaimsError) (e : ClaimsError) → r ≡ Err e → GivesCode r (code_in given) → AnswersBytes (claims_fault_due e) status text → AnswersTask Audit bytes status text
   unaudited_given r e is gives answers =

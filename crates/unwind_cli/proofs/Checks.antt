@@ -8,7 +8,7 @@ use Rattle.fact_checks.specs.declared.stretches.Difference.{Difference}
 use Rattle.fact_claims.specs.Code.{AreDifferencesIn, CodeContent, claims_of, code_in, image_in}
 use Rattle.frame_facts.specs.Claims.{SaysClaims}
 use Rattle.table_check.specs.Modules.{module_of}
-use Rattle.fact_claims.specs.declared.code.ClaimsError.{ClaimsError}
+use Rattle.fact_claims.specs.declared.errors.ClaimsError.{ClaimsError}
 use Rattle.stack_snapshot.specs.declared.errors.SnapshotError.{SnapshotError}
 use Rattle.command_ends.specs.declared.status.Status.{Status}
 use Rattle.command_ends.specs.declared.status.Status.TheVariants.{Done, ReadFault, Memory}

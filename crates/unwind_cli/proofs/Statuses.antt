@@ -33,13 +33,14 @@ use Rattle.claim_checks.specs.Claimed.{claimed_in}
 use Rattle.claim_checks.specs.declared.claimed.ClaimedModule.{ClaimedModule}
 use Rattle.fact_checks.specs.declared.auditing.AuditError.{AuditError}
 use Rattle.fact_checks.specs.declared.auditing.AuditError.TheVariants as audits
+use Rattle.fact_checks.specs.declared.facts.ClaimedFacts.{ClaimedFacts}
 use Rattle.fact_checks.specs.declared.stretches.Difference.{Difference}
 use Rattle.fact_checks.specs.Audits.{refusal_by}
 use Rattle.fact_checks.specs.InOrder.{first_out_of_order}
 use Rattle.fde_finders.specs.FrameTables.{FrameTable, table_by}
 use Rattle.fact_claims.specs.Code.{CodeContent, claims_of, code_in, image_in, refusal_in}
-use Rattle.fact_claims.specs.declared.code.ClaimsError.{ClaimsError}
-use Rattle.fact_claims.specs.declared.code.ClaimsError.TheVariants.{Snapshot, Claims}
+use Rattle.fact_claims.specs.declared.errors.ClaimsError.{ClaimsError}
+use Rattle.fact_claims.specs.declared.errors.ClaimsError.TheVariants.{Snapshot, Claims, Claim}
 use Rattle.unwind_cli.specs.Due.{Findings, LacksClaims, RefusesAudit, audited_by, claims_fault_due, code_due, code_fault, unaudited_due, checked_due, delivery_from, thrown_from, walk_from, refused_due, delivery_due, walk_due, folded_due, fault_of, read_due, core_due, core_fault, task_due, bytes_due, command_due, Refuses, RefusesCore, RefusesThrow}
 
 -- ---- what is due for a snapshot
@@ -74,11 +75,12 @@ audited_is P done memory refused c ds (Some audits.NoMemory) = memory
 audited_is P done memory refused c ds (Some (audits.Claim i)) = refused
 audited_is P done memory refused c ds (Some audits.Tables) = refused
 
-code_is : (P : Status → Option SnapshotError → Type 0) → P Done None → P Memory None → P Refused None → ((e : SnapshotError) → P (fault_due e).status (Some e)) → (ds : List Difference) (r : Result CodeContent ClaimsError) → (r ≡ Err Claims → P BadSnapshot None)
+code_is : (P : Status → Option SnapshotError → Type 0) → P Done None → P Memory None → P Refused None → ((e : SnapshotError) → P (fault_due e).status (Some e)) → (ds : List Difference) (r : Result CodeContent ClaimsError) → ((r ≡ Err Claims) ⊎ ((i : ℕ) × (r ≡ Err (Claim i))) → P BadSnapshot None)
     → P (code_due ds r).status (code_fault r)
 code_is P done memory refused bad ds (Ok c) lacking = audited_is (λ x. P x None) done memory refused c ds (refusal_in c)
 code_is P done memory refused bad ds (Err (Snapshot e)) lacking = bad e
-code_is P done memory refused bad ds (Err Claims) lacking = lacking refl
+code_is P done memory refused bad ds (Err Claims) lacking = lacking (inl refl)
+code_is P done memory refused bad ds (Err (Claim i)) lacking = lacking (inr (i, refl))
 
 task_is : (P : Status → Option SnapshotError → Type 0) → P Done None → P Memory None → P Refused None → ((e : SnapshotError) → P (fault_due e).status (Some e)) → (found : Findings) (task : Task) (bytes : List ℕ) → (LacksClaims (Some task) bytes → P BadSnapshot None)
     → P (task_due task bytes found).status (fault_of (Some task) bytes)
@@ -141,7 +143,8 @@ lacking_task found Walk bytes is = absurd is
 lacking_task found Fold bytes is = absurd is
 lacking_task found Core bytes is = absurd is
 lacking_task found Check bytes is = absurd is
-lacking_task found Audit bytes is = rw is refl
+lacking_task found Audit bytes (inl is) = rw is refl
+lacking_task found Audit bytes (inr (i, is)) = rw is refl
 
 faults_task : (found : Findings) (task : Task) (bytes : List ℕ) → IsFaultIn (Some task) bytes → (task_due task bytes found).status ≡ BadSnapshot
 faults_task found task bytes (inl (field, is)) = faulty_task field found task bytes is
@@ -296,6 +299,7 @@ task_refused found Audit bytes is = inr (inr (inl (go (code_in bytes) refl is)))
     go (Err (Snapshot faults.NotJson)) at is = absurd cc
     go (Err (Snapshot faults.NoMemory)) at is = absurd cc
     go (Err Claims) at is = absurd cc
+    go (Err (Claim i)) at is = absurd cc
 
 refused_cause : (o : Option Command) (bytes : List ℕ) (probes : ℕ) (found : Findings) → (command_due o bytes probes found).status ≡ Refused → IsRefused (task_in o) bytes
 refused_cause None bytes probes found is = absurd cc
@@ -304,10 +308,10 @@ refused_cause (Some (OnSnapshot task)) bytes probes found is =
 refused_cause (Some (Generate count seed)) bytes probes found is = absurd cc
 
 -- a refusal of claims isn't that memory ran out
-unaudited_is : (table : Option FrameTable) (o : Option ℕ) (error : AuditError) → refusal_by table o ≡ Some error → (unaudited_due error).status ≡ Refused
-unaudited_is table (Some i) error is = let same : audits.Claim i ≡ error = cc in subst (λ (e : AuditError). (unaudited_due e).status ≡ Refused) same refl
-unaudited_is None None error is = let same : audits.Tables ≡ error = cc in subst (λ (e : AuditError). (unaudited_due e).status ≡ Refused) same refl
-unaudited_is (Some table) None error is = absurd cc
+unaudited_is : (claims : List ClaimedFacts) (table : Option FrameTable) (o : Option ℕ) (error : AuditError) → refusal_by table o ≡ Some error → (unaudited_due claims error).status ≡ Refused
+unaudited_is claims table (Some i) error is = let same : audits.Claim i ≡ error = cc in subst (λ (e : AuditError). (unaudited_due claims e).status ≡ Refused) same refl
+unaudited_is claims None None error is = let same : audits.Tables ≡ error = cc in subst (λ (e : AuditError). (unaudited_due claims e).status ≡ Refused) same refl
+unaudited_is claims (Some table) None error is = absurd cc
 
 refused_task : (found : Findings) (task : Task) (bytes : List ℕ) → IsRefusalOf (Some task) bytes → (task_due task bytes found).status ≡ Refused
 refused_task found Deliver bytes (inl (s, reads, (error, other, is))) = rw (reads, is) (error_due error other)
@@ -339,8 +343,8 @@ refused_task found Audit bytes (inl (s, reads, (error, other, is))) = absurd is
 refused_task found Audit bytes (inr (inl is)) = absurd is
 refused_task found Audit bytes (inr (inr (inr is))) = absurd is
 refused_task found Audit bytes (inr (inr (inl (c, reads, (error, is))))) =
-    let due : task_due Audit bytes found ≡ unaudited_due error = ap (code_due found.differences) reads ∙ ap (audited_by c found.differences) is in
-    ap status_of due ∙ unaudited_is (table_by c.frame (image_in c)) (first_out_of_order 0 (claims_of c)) error is
+    let due : task_due Audit bytes found ≡ unaudited_due c.claims error = ap (code_due found.differences) reads ∙ ap (audited_by c found.differences) is in
+    ap status_of due ∙ unaudited_is c.claims (table_by c.frame (image_in c)) (first_out_of_order 0 (claims_of c)) error is
 
 refused_for : (o : Option Command) (bytes : List ℕ) (probes : ℕ) (found : Findings) → IsRefused (task_in o) bytes → (command_due o bytes probes found).status ≡ Refused
 refused_for None bytes probes found is = absurd (let some : IsSome {T = Task} None = is.0 in cc)

@@ -8,11 +8,11 @@ ghost use Rattle.fact_claims.specs.Code.{AreDifferencesIn};
 ghost use Rattle.unwind_cli.specs.Due.{AreFoundFor, Findings, audited_due, checked_due};
 ghost use Rattle.unwind_cli.specs.Due.{claims_fault_due, task_due, unaudited_due};
 
-use crate::lines::claims_line;
+use crate::lines::{claim_line, claims_line};
 use crate::words::Task;
 use claim_checks::{ClaimedModule, read_claims, verdict_line};
 use command_ends::{Answer, Status, fault_answer, silent_answer, text_answer};
-use fact_checks::AuditError;
+use fact_checks::{AuditError, ClaimedFacts};
 use fact_claims::{ClaimedCode, ClaimsError, audit_report, read_code, refused_line};
 use std::alloc::{AllocError, Global};
 
@@ -43,12 +43,12 @@ pub fn checked_answer(alloc: Global, bytes: Vec<u8>) -> Answer
 }
 
 /// The answer where claims aren't audited.
-fn unaudited_answer(alloc: Global, error: AuditError) -> Answer
-    ensures { AnswersBytes (unaudited_due error) result.status result.text }
+fn unaudited_answer(alloc: Global, claims: &[ClaimedFacts], error: AuditError) -> Answer
+    ensures { AnswersBytes (unaudited_due claims.now error) result.status result.text }
 {
     match error {
         AuditError::NoMemory => silent_answer(alloc, Status::Memory),
-        error => text_answer(alloc, Status::Refused, refused_line(alloc, error)),
+        error => text_answer(alloc, Status::Refused, refused_line(alloc, claims, error)),
     }
 }
 
@@ -62,9 +62,9 @@ fn differences_answer(alloc: Global, code: &ClaimedCode) -> Answer
         Ok(differences) => text_answer(
             alloc,
             Status::Done,
-            audit_report(alloc, code.claims().len(), &differences),
+            audit_report(alloc, code.claims(), &differences),
         ),
-        Err(error) => unaudited_answer(alloc, error),
+        Err(error) => unaudited_answer(alloc, code.claims(), error),
     }
 }
 
@@ -75,6 +75,9 @@ fn claims_fault_answer(alloc: Global, error: ClaimsError) -> Answer
     match error {
         ClaimsError::Snapshot(error) => fault_answer(alloc, error),
         ClaimsError::Claims => text_answer(alloc, Status::BadSnapshot, claims_line(alloc)),
+        ClaimsError::Claim(place) => {
+            text_answer(alloc, Status::BadSnapshot, claim_line(alloc, place))
+        }
     }
 }
 

@@ -51,7 +51,8 @@ static CASES: [Case; 13] = [
         input: &[CODE, WHOLE, PUSHED, "]}"],
         number: 0,
         lines: &[
-            "differ 0x401000 claim 0 cfa r7+0x8",
+            "differ 0x401000 claim 0 cfa r7+0x8; claimed cfa r7+0x10, rule 3 c-0x10, rule 6 same value, rule 12 same value, \
+            rule 13 same value, rule 14 same value, rule 15 same value, rule 16 c-0x8",
             "claims 1",
             "differ 1",
             "without a row 0",
@@ -67,7 +68,8 @@ static CASES: [Case; 13] = [
         ],
         number: 0,
         lines: &[
-            "differ 0x401001 claim 0 rule 3 c-0x10",
+            "differ 0x401001 claim 0 rule 3 c-0x10; claimed cfa r7+0x10, rule 3 same value, rule 6 same value, rule 12 same value, \
+            rule 13 same value, rule 14 same value, rule 15 same value, rule 16 c-0x8",
             "claims 1",
             "differ 1",
             "without a row 0",
@@ -79,7 +81,8 @@ static CASES: [Case; 13] = [
         input: &[CODE, ENTRY, ",", LONGER, PUSHED, "]}"],
         number: 0,
         lines: &[
-            "differ 0x401001 claim 1 no description",
+            "differ 0x401001 claim 1 no description; claimed cfa r7+0x10, rule 3 c-0x10, rule 6 same value, rule 12 same value, \
+            rule 13 same value, rule 14 same value, rule 15 same value, rule 16 c-0x8",
             "claims 2",
             "differ 0",
             "without a row 1",
@@ -90,14 +93,14 @@ static CASES: [Case; 13] = [
         words: &["audit"],
         input: &[CODE, WHOLE, PUSHED, ",", BODY, PUSHED, "]}"],
         number: 8,
-        lines: &["refused: claim 1"],
+        lines: &["refused: claim 1 overlaps"],
     },
     // The claims don't ascend.
     Case {
         words: &["audit"],
         input: &[CODE, BODY, PUSHED, ",", ENTRY, "]}"],
         number: 8,
-        lines: &["refused: claim 1"],
+        lines: &["refused: claim 1 out of order"],
     },
     // The range is empty.
     Case {
@@ -109,7 +112,7 @@ static CASES: [Case; 13] = [
             "]}",
         ],
         number: 8,
-        lines: &["refused: claim 0"],
+        lines: &["refused: claim 0 empty"],
     },
     Case {
         words: &["audit"],
@@ -117,12 +120,12 @@ static CASES: [Case; 13] = [
         number: 8,
         lines: &["refused: no frame table"],
     },
-    // The end of the range is missing.
+    // The end of the second range is missing, and what is third is no object.
     Case {
         words: &["audit"],
-        input: &[CODE, "{\"from\":\"0x401001\",", PUSHED, "]}"],
+        input: &[CODE, ENTRY, ",{\"from\":\"0x401001\",", PUSHED, ",0]}"],
         number: 7,
-        lines: &["bad snapshot: claims"],
+        lines: &["bad snapshot: claim 1"],
     },
     // The object has no claims, but functions.
     Case {

@@ -26,6 +26,11 @@ const LANGUAGE: &str =
 const UNLISTED: &str =
     "ffff01080905240032050000ff9b1901080d022c054c0500000200017d007d00741e0000681e0000";
 
+/// The same where the second action record is a specification's, whose list stands after the types and
+/// has the first one.
+const LISTED: &str =
+    "ffff01080905240032050000ff9b1901080d052c054c05000002007f7d007d00741e0000681e00000100";
+
 /// The cells of the types and of the personality, the stack, the module, and what is done; what is to come are
 /// the types and the personalities.
 const REST: &str =
@@ -54,7 +59,12 @@ const OUTSIDE: &str =
 
 const CLEANUP: &str = "cleanup pad=0x4010a4 sp=0x7fffffffed78";
 
-static CASES: [Case; 12] = [
+/// A foreign exception: no handler of a type takes it.
+const FOREIGN: &str = ",\"foreign\":true,\"types\":[],\"personalities\":[\"0x401060\"]";
+
+const OF_THROWN: &str = ",\"types\":[\"0x403ff0\"],\"personalities\":[\"0x401060\"]";
+
+static CASES: [Case; 20] = [
     // The third record takes it.
     Case {
         words: &["throw"],
@@ -143,6 +153,80 @@ static CASES: [Case; 12] = [
         number: 0,
         lines: &[RAISES, CLEANS, CATCHES, CLEANUP, "outcome fatal phase 2"],
     },
+    // So it does where the snapshot says which runtime it is.
+    Case {
+        words: &["throw"],
+        input: &[
+            TABLES,
+            UNLISTED,
+            REST,
+            OF_THROWN,
+            ",\"runtime\":\"libstdc++\"}",
+        ],
+        number: 0,
+        lines: &[RAISES, CLEANS, CATCHES, CLEANUP, "outcome fatal phase 2"],
+    },
+    // libc++abi ends it in the search.
+    Case {
+        words: &["throw"],
+        input: &[
+            TABLES,
+            UNLISTED,
+            REST,
+            OF_THROWN,
+            ",\"runtime\":\"libc++abi\"}",
+        ],
+        number: 0,
+        lines: &[RAISES, CLEANS, CATCHES, "outcome fatal phase 1"],
+    },
+    // A native exception is handled by both runtimes alike.
+    Case {
+        words: &["throw"],
+        input: &[
+            TABLES,
+            LANGUAGE,
+            REST,
+            OF_THROWN,
+            ",\"runtime\":\"libc++abi\"}",
+        ],
+        number: 0,
+        lines: &[
+            RAISES,
+            CLEANS,
+            CATCHES,
+            CLEANUP,
+            "landing ra=0x4010ec sp=0x7fffffffed98 rbx=0x9 rbp=0x0 r12=0x0 r13=0x0 r14=0x0 r15=0x0 rax=0x900000 rdx=0x2",
+            "outcome installed",
+        ],
+    },
+    // By libstdc++ a foreign exception passes a specification that lists a type.
+    Case {
+        words: &["throw"],
+        input: &[TABLES, LISTED, REST, FOREIGN, ",\"runtime\":\"libstdc++\"}"],
+        number: 0,
+        lines: &[
+            RAISES,
+            CLEANS,
+            CATCHES,
+            START_FRAME,
+            OUTSIDE,
+            "outcome end of stack",
+        ],
+    },
+    // By libc++abi its landing pad is entered.
+    Case {
+        words: &["throw"],
+        input: &[TABLES, LISTED, REST, FOREIGN, ",\"runtime\":\"libc++abi\"}"],
+        number: 0,
+        lines: &[
+            RAISES,
+            CLEANS,
+            CATCHES,
+            CLEANUP,
+            "landing ra=0x4010ec sp=0x7fffffffed98 rbx=0x9 rbp=0x0 r12=0x0 r13=0x0 r14=0x0 r15=0x0 rax=0x900000 rdx=0xffffffffffffffff",
+            "outcome installed",
+        ],
+    },
     Case {
         words: &["throw"],
         input: &[TABLES, LANGUAGE, REST, ",\"personalities\":[\"0x401060\"]}"],
@@ -184,6 +268,36 @@ static CASES: [Case; 12] = [
             LANGUAGE,
             REST,
             ",\"foreign\":null,\"types\":[],\"personalities\":[\"0x401060\"]}",
+        ],
+        number: 7,
+        lines: &["bad snapshot: foreign"],
+    },
+    Case {
+        words: &["throw"],
+        input: &[
+            TABLES,
+            LANGUAGE,
+            REST,
+            OF_THROWN,
+            ",\"runtime\":\"libc++\"}",
+        ],
+        number: 7,
+        lines: &["bad snapshot: runtime"],
+    },
+    Case {
+        words: &["throw"],
+        input: &[TABLES, LANGUAGE, REST, OF_THROWN, ",\"runtime\":null}"],
+        number: 7,
+        lines: &["bad snapshot: runtime"],
+    },
+    Case {
+        words: &["throw"],
+        input: &[
+            TABLES,
+            LANGUAGE,
+            REST,
+            OF_THROWN,
+            ",\"foreign\":0,\"runtime\":true}",
         ],
         number: 7,
         lines: &["bad snapshot: foreign"],
