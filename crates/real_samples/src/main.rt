@@ -55,13 +55,16 @@ const MORE_DELIVERIES: [&str; 3] = [
 
 /// Throws of C++ programs, to be delivered by the rule of their language: to `catch (...)` behind typed
 /// handlers, at a violated exception specification, at a `noexcept` function, by a virtual base, and of
-/// an exception that isn't one of C++ at a specification that lists nothing.
-const THROWS: [&str; 5] = [
+/// an exception that isn't one of C++ at a specification that lists nothing. And with libc++abi, of such an
+/// exception at a specification that lists types, and out of a call that no exception may leave.
+const THROWS: [&str; 7] = [
     "throw_catch_all.json",
     "throw_specification.json",
     "throw_noexcept.json",
     "throw_virtual_base.json",
     "throw_foreign.json",
+    "throw_libcxxabi_foreign.json",
+    "throw_libcxxabi_nothrow.json",
 ];
 
 /// The ends of the names of a program's two snapshots: by its module's frame table, and by its header.
