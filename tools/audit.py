@@ -1,7 +1,7 @@
 #!/usr/bin/env python3
 """Says where the frame tables of files don't say what the machine code does, by `unwind_cli audit`, with names.
 
-    audit.py FILE.. [--all | --counts] [--parts N] [--unwind-cli PROGRAM]
+    audit.py FILE.. [--all | --counts] [--code] [--parts N] [--unwind-cli PROGRAM]
 
 Of each FILE, an ELF file of x86-64, claims are made from its code (claimed_facts.py), and the built program says which of them
 the rows of its .eh_frame don't say. A line is printed for each place: its addresses, the function, and why; then what the row
@@ -14,6 +14,9 @@ than claims are, as one by an expression or by another register, or one of a sig
 are `other`, and they are printed with --all alone. The last line of a file has its descriptions, how many of its calls and of
 its instruction addresses are in reach, which is where a row says what is claimed, the numbers that the program gives, and how
 many places there are of each sort. With --counts it is the only one. docs/AUDITS.md says what is counted.
+
+With --code the instructions of each place follow its line, after those before it, with what the row and the code say at each:
+the CFA, or where that is the same, the register that differs.
 
 With --parts N a file is followed in N parts one after another, which takes less memory; of each only what its own code says
 is known, so that a function of another part is taken to return.
@@ -32,12 +35,12 @@ import sys
 from collections import Counter
 from typing import Iterator, NamedTuple
 
-from claimed_facts import Claimed, claim_object, claimed_in, tables_of
+from claimed_facts import Claimed, Facts, claim_object, claim_words, claimed_in, facts_of, tables_of
 from claims import row_text
 from code_file import CodeFile, entries_read
 from code_flow import CodeFlow
 from elf_image import ElfImage, Range, Refused
-from known_frame import CALLEE_SAVED
+from known_frame import CALLEE_SAVED, in_call
 from machine_code import Way
 from plain_names import plain_name
 from thread_reports import built_path, run
@@ -47,11 +50,14 @@ from tables import COLUMNS, Row
 
 REGISTERS = {str(column): name for name, column in COLUMNS.items() if name != "rip"}
 
-# A line of the program's report: where a row differs, from which claim, why, and what the row says.
+# A line of the program's report: where a row differs, from which claim, why, what the row says, and what is claimed.
 SAID = r"[cv][+-]0x[0-9a-f]+|r\d+|none|undefined|same value|(?:value )?expression"
 WHY = rf"(no description|signal frame|fault)|(cfa) (?:r\d+[+-]0x[0-9a-f]+|expression)|(rule \d+) (?:{SAID})"
-LINE = re.compile(rf"differ (0x[0-9a-f]+) claim (\d+) (?:{WHY})")
+LINE = re.compile(rf"differ (0x[0-9a-f]+) claim (\d+) (?:{WHY}); claimed (.+)")
 NUMBERS = ("claims", "differ", "without a row")
+
+# How many instructions are printed before a place, and of it.
+BEFORE, MOST_INSIDE = 3, 8
 WHOLE = ("no description", "signal frame")
 
 # The words of the rows that say what claims can say: the CFA by RSP or RBP, a register in a slot below the CFA or unchanged,
@@ -104,8 +110,8 @@ def texts_of(tables: Object, claims: list[Claimed], most: int) -> Iterator[tuple
     yield first, (head + ",".join(parts) + "]}").encode()
 
 
-def read_report(report: str, first: int, found: Found) -> None:
-    """Adds what a report says of claims that are counted from a number on."""
+def read_report(report: str, first: int, claims: list[Claimed], found: Found) -> None:
+    """Adds what a report says of claims that are counted from a number on. It has to tell what was claimed."""
     lines = report.splitlines()
     if len(lines) < len(NUMBERS):
         raise Refused(f"that is no report of audit: {report!r}")
@@ -117,7 +123,10 @@ def read_report(report: str, first: int, found: Found) -> None:
         match = LINE.fullmatch(line)
         if match is None:
             raise Refused(f"that is no report of audit: {line!r}")
-        found.stretches.setdefault(first + int(match[2]), []).append((int(match[1], 16), match[3] or match[4] or match[5]))
+        number = first + int(match[2])
+        if match[6] != claim_words(claim_object(claims[number])):
+            raise Refused(f"that isn't what was claimed: {line!r}")
+        found.stretches.setdefault(number, []).append((int(match[1], 16), match[3] or match[4] or match[5]))
 
 
 def asked(program: str, tables: Object, claims: list[Claimed], most: int = MOST_BYTES) -> Found:
@@ -127,7 +136,7 @@ def asked(program: str, tables: Object, claims: list[Claimed], most: int = MOST_
         answer = run([program, "audit"], text)
         if answer.fault is not None:
             raise Refused(answer.fault)
-        read_report(answer.text, first, found)
+        read_report(answer.text, first, claims, found)
     if found.numbers["claims"] != len(claims):
         raise Refused(f"{program} counts {found.numbers['claims']} claims, and there are {len(claims)}")
     return found
@@ -247,6 +256,42 @@ def line_of(place: Place, file: CodeFile, names: Names) -> str:
     return f"{place.start:#x}-{place.end:#x} {names.at(place)}: {why}; the row: {row}; the code: {place.claimed.facts}"
 
 
+def cfa_words(row: Row | None, facts: Facts | None) -> tuple[str, str]:
+    """Where the CFA is by a row, and by what is known."""
+    known = [f"{name}+{distance}" for name in ("rsp", "rbp") if facts and (distance := getattr(facts, name)) is not None]
+    return (row_text({"cfa": row["cfa"]}).removeprefix("cfa=") if row else "none"), " ".join(known) or "unknown"
+
+
+def register_words(register: str, row: Row | None, facts: Facts | None) -> tuple[str, str]:
+    """Where a register is by a row, and by what is known."""
+    slots, kept = (dict(facts.saved), facts.kept) if facts else ({}, ())
+    known = [f"{register}=c-{distance}" for name, distance in slots.items() if name == register]
+    known += [f"{register} kept" for name in kept if name == register]
+    rule = (row or {}).get(f"r{COLUMNS[register]}", "s")
+    return f"{register} kept" if rule == "s" else f"{register}={rule}", " ".join(known) or f"{register} unknown"
+
+
+def code_lines(place: Place, flow: CodeFlow) -> Iterator[str]:
+    """The instructions of a place after those before it, with what the row and the code say at each."""
+    file, owner = flow.file, place.claimed.owner
+    column = re.fullmatch(r"rule (\d+)", place.why)
+    register = REGISTERS.get(column[1]) if column else None
+    first = bisect.bisect_right(file.code, place.start, key=lambda one: one.address) - 1
+    last = bisect.bisect_left(file.code, place.end, key=lambda one: one.address)
+    low = next(number for number in range(max(first - BEFORE, 0), first + 1) if file.owner[number] == owner)
+    for number in range(low, min(last, first + MOST_INSIDE)):
+        one, frame = file.code[number], flow.frames[number]
+        called = in_call(frame) if number == first and place.start > one.address and frame is not None else frame
+        row = file.descriptions[owner].row(max(one.address, place.start) if number >= first else one.address)
+        facts = facts_of(called)
+        words = cfa_words(row, facts) if register not in CALLEE_SAVED else register_words(register, row, facts)
+        sides = f"row {words[0]}, code {words[1]}"
+        text = re.sub(r" <\S*>", "", " ".join(one.text.split()))
+        yield f"    {one.address:x}  {text:<48} {sides}"
+    if last > first + MOST_INSIDE:
+        yield f"    .. {last - first - MOST_INSIDE} more"
+
+
 def counts_of(found: Audited, others: int) -> Counter[str]:
     """The numbers of what is found, of whose places so many are of another kind."""
     file = found.flow.file
@@ -277,7 +322,8 @@ def print_places(found: Audited, words: argparse.Namespace) -> Counter[str]:
     printed = [] if words.counts else [place for place in found.places if words.all or place not in others]
     if printed:
         names = Names(file)
-        print("\n".join(line_of(place, file, names) for place in printed), flush=True)
+    for place in printed:
+        print("\n".join([line_of(place, file, names), *(code_lines(place, found.flow) if words.code else ())]), flush=True)
     return counts_of(found, len(others))
 
 
@@ -305,6 +351,7 @@ def main() -> None:
     kinds = parser.add_mutually_exclusive_group()
     kinds.add_argument("--all", action="store_true", help="print places at which a row is of another kind, too")
     kinds.add_argument("--counts", action="store_true", help="print a line for each file alone")
+    parser.add_argument("--code", action="store_true", help="print the instructions of each place, too")
     default = os.environ.get("UNWIND_CLI") or built_path("unwind_cli")
     parser.add_argument("--parts", type=int, default=1, metavar="N", help="follow the code of a large file in so many parts")
     parser.add_argument("--unwind-cli", metavar="PROGRAM", default=default, help="the built program")

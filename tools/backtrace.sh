@@ -9,25 +9,19 @@
 # built programs find the frames, and the frames are named. BACKTRACE and UNWIND_CLI name the built programs, where they
 # are neither in the out/ of their crates nor on the PATH. A link to this script may lie in a folder of the PATH.
 set -uo pipefail
-tools=$(dirname "$(readlink -f "${BASH_SOURCE[0]}")")
+self=${BASH_SOURCE[0]}
+if [ -L "$self" ]; then self=$(readlink -f "$self"); fi
+tools=${self%/*}
+[ "$tools" != "$self" ] || tools=.
 
 usage() {
     echo 'usage: backtrace.sh PID [--threads] [--frame-pointers] | PROGRAM CORE [--threads] | FILE [--strict]' >&2
     exit 2
 }
 
-# built CRATE: the program of a crate, where it is built, else the one on the PATH, else where it would be.
-built() {
-    local program
-    program=$(readlink -f "$tools/..")/crates/$1/out/$1
-    if [ ! -x "$program" ]; then program=$(type -P "$1" || echo "$program"); fi
-    echo "$program"
-}
-
 # A python3 on the PATH may be a script that takes longer to start than all the rest; the system's isn't.
 python=/usr/bin/python3
 [ -x "$python" ] || python=python3
-export BACKTRACE=${BACKTRACE:-$(built backtrace)} UNWIND_CLI=${UNWIND_CLI:-$(built unwind_cli)}
 
 options=()
 while [ $# -gt 1 ] && [[ ${*: -1} =~ ^--(threads|frame-pointers|strict)$ ]]; do

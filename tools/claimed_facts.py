@@ -23,6 +23,7 @@ from elf_image import ElfImage, Refused
 from known_frame import CALLEE_SAVED, Frame, in_call
 from machine_code import Way
 from snapshot_file import Object, Region, region_object
+from tables import COLUMNS
 
 
 class Facts(NamedTuple):
@@ -97,6 +98,23 @@ def claim_object(claimed: Claimed) -> Object:
     claim |= {name: hex(distance) for name, distance in (("rsp", facts.rsp), ("rbp", facts.rbp)) if distance is not None}
     claim |= {"saved": {name: hex(distance) for name, distance in facts.saved}, "kept": list(facts.kept)}
     return claim | {"outermost": True} if facts.outermost else claim
+
+
+def offset_words(offset: int) -> str:
+    """An offset, a word: one from 2^63 on is below 0."""
+    return f"+{offset:#x}" if offset < 1 << 63 else f"-{(1 << 64) - offset:#x}"
+
+
+def claim_words(claim: Object) -> str:
+    """What a claim's object says, in the words of a report's line (docs/FORMATS.md)."""
+    saved, kept = claim.get("saved", {}), claim.get("kept", [])
+    cfa = [f"r{COLUMNS[name]}{offset_words(int(claim[name], 16))}" for name in ("rsp", "rbp") if name in claim]
+    parts = [f"cfa {' or '.join(cfa) or 'unknown'}"]
+    for name in CALLEE_SAVED:
+        found = [f"c{offset_words((1 << 64) - int(saved[name], 16))}"] if name in saved else []
+        found += ["same value"] if name in kept else []
+        parts.append(f"rule {COLUMNS[name]} {' or '.join(found) or 'unknown'}")
+    return ", ".join([*parts, f"rule {COLUMNS['ra']} {'undefined' if claim.get('outermost') else 'c-0x8'}"])
 
 
 def region_of(elf: ElfImage, name: str) -> Region:

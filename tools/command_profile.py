@@ -1,12 +1,13 @@
 #!/usr/bin/env python3
 """Takes a profile of a command: records it with perf, finds the stack of each sample, names the frames, and draws them.
 
-    command_profile.py [--svg FILE] [--folded FILE] [--frequency N] [--profile PROGRAM] COMMAND [WORD]...
+    command_profile.py [--svg FILE] [--folded FILE] [--script FILE] [--frequency N] [--profile PROGRAM] COMMAND [WORD]...
 
 The picture goes to FILE (profile.svg), by flame_picture.py. With --folded the same stacks are written as flamegraph.pl, inferno
 and speedscope read them: the thread's name, why a stack ends early where it does, and the functions from the outermost
-inwards, with semicolons between them, a space and the number of samples. Both files are written when all is there, and else not
-at all. The command has its own standard streams; lines on standard error say how far the profile is.
+inwards, with semicolons between them, a space and the number of samples. With --script the samples are written one after
+another in the text form of `perf script`, which Firefox Profiler reads, too: with their times, and the innermost frame first. The
+files are written when all is there, and else not at all. The command has its own standard streams; lines on standard error say how far the profile is.
 
 perf takes N samples a second (499) of each thread that runs, with 8 KB of its stack. The processes that the command begins
 count, too: the samples of each program are walked over that program's tables, by the built program `profile`. It wants perf
@@ -38,6 +39,7 @@ from snapshot_file import Object, text_of
 
 LINE = re.compile(r"(.*) ([1-9]\d*)$")
 FRAME = re.compile(r"(?:(.*)\+)?0x([0-9a-f]+)$")
+PLACE = re.compile(r"\t0x([1-9a-f][0-9a-f]*) (.*) \((.*)\)")
 STACK_BYTES = 8192
 
 
@@ -102,19 +104,24 @@ def line_of(text: str, biases: dict[str, int]) -> Line:
     return Line((heads, *reasons), Stack(tuple(addresses), int(found[2])))
 
 
-def lines_of(part: Part, tables: Object, program: str) -> list[Line]:
-    """What `profile` says of a part."""
-    biases = {os.path.basename(module["path"]): int(module["bias"], 16) for module in reversed(tables["modules"])}
+def told(program: str, words: list[str], part: Part, tables: Object) -> list[str]:
+    """The lines that `profile` writes of a part."""
     found = []
     with tempfile.NamedTemporaryFile("w", suffix=".json") as stream:
         stream.write(text_of(tables))
         stream.flush()
         for content in part.files:
-            answer = run([program, stream.name], content)
+            answer = run([program, *words, stream.name], content)
             if answer.fault is not None:
                 raise Refused(answer.fault)
-            found += [line_of(text, biases) for text in answer.text.splitlines()]
+            found += answer.text.splitlines()
     return found
+
+
+def lines_of(part: Part, tables: Object, program: str) -> list[Line]:
+    """The stacks of a part."""
+    biases = {os.path.basename(module["path"]): int(module["bias"], 16) for module in reversed(tables["modules"])}
+    return [line_of(text, biases) for text in told(program, [], part, tables)]
 
 
 def counts_of(tables: Object, lines: list[Line]) -> Counts:
@@ -131,23 +138,62 @@ def counts_of(tables: Object, lines: list[Line]) -> Counts:
     return dict(counts)
 
 
+def script_frames(tables: Object, lines: list[str]) -> dict[int, ReportedFrame]:
+    """The frames of lines of `profile --script`, by the lines' numbers. The first of a sample was interrupted, as are those that a
+    handler of a signal returns to."""
+    frames, found, interrupted = Frames(trampolines_of(tables)), {}, True
+    for number, line in enumerate(lines):
+        place = PLACE.fullmatch(line)
+        if place is None:
+            interrupted = True
+        else:
+            found[number] = frames.frame(int(place[1], 16) + (not interrupted), interrupted)
+            interrupted = found[number].is_signal
+    return found
+
+
+def named_script(part: Part, tables: Object, program: str) -> list[str]:
+    """The samples of a part one after another, in the text form of `perf script`, with the names of functions. One that was inlined
+    has a line of its own, before that of the function which it stands in."""
+    lines = told(program, ["--script"], part, tables)
+    frames = script_frames(tables, lines)
+    names = Names(tables, set(frames.values()), [])
+    found = []
+    for number, line in enumerate(lines):
+        place = PLACE.fullmatch(line)
+        texts = [name.text for name in names.of(frames[number])[::-1]] if place is not None else []
+        found += [f"\t{frames[number].address:x} {text} ({place[3]})" for text in texts] if place is not None else [line]
+    return found
+
+
 def file_of(part: Part) -> str:
     """The program's file, which is what it mapped first."""
     return next((os.path.basename(mapping.path) for mapping in part.mappings if mapping.path.startswith("/")), "")
 
 
-def named_counts(content: bytes, program: str) -> tuple[Counts, str]:
-    """The samples of each stack of names of a perf.data file, and the file of the program with the most samples."""
+class Named(NamedTuple):
+    """A profile with names: the samples of each stack, their lines one after another where these are asked for, and the file of the
+    program with the most samples."""
+
+    counts: Counts
+    script: list[str]
+    file: str
+
+
+def named_profile(content: bytes, program: str, is_script: bool) -> Named:
+    """What a perf.data file says, with names."""
     parts = parts_of(content)
     total = sum(part.samples for part in parts)
     if not total:
         raise Refused("perf took no sample: the command may have run for too short a time, or have waited")
-    counts = Counter[tuple[Name, ...]]()
+    counts, script = Counter[tuple[Name, ...]](), []
     for number, part in enumerate(parts, 1):
         say(f"{counted(part.samples, 'sample')} of {file_of(part) or 'no file'}, program {number} of {len(parts)}")
         tables = tables_of(part.mappings)
         counts.update(counts_of(tables, lines_of(part, tables, program)))
-    return dict(counts), file_of(parts[0])
+        if is_script:
+            script += named_script(part, tables, program)
+    return Named(dict(counts), script, file_of(parts[0]))
 
 
 # ---- the program
@@ -158,8 +204,9 @@ def options_of(words: list[str]) -> argparse.Namespace:
     parser = argparse.ArgumentParser(prog="profile.sh", description="Takes a profile of a command.")
     parser.add_argument("--svg", metavar="FILE", default="profile.svg", help="where the picture goes (profile.svg)")
     parser.add_argument("--folded", metavar="FILE", help="where the stacks with their counts go")
+    parser.add_argument("--script", metavar="FILE", help="where the samples go, one after another, as perf script writes them")
     parser.add_argument("--frequency", metavar="N", type=natural, default=499, help="samples a second (499)")
-    default = os.environ.get("PROFILE") or built_path("profile")
+    default = built_path("profile")
     parser.add_argument("--profile", metavar="PROGRAM", default=default, help="the built program")
     parser.add_argument("command", metavar="COMMAND", nargs=argparse.REMAINDER, help="the command and its words")
     options = parser.parse_args(words)
@@ -196,15 +243,17 @@ def profile(options: argparse.Namespace) -> None:
     """Takes a profile, and writes its files."""
     if not os.access(options.profile, os.X_OK):
         raise Refused(f"{options.profile} isn't built: run `rt run` in crates/profile")
-    files = [options.svg, *([options.folded] if options.folded else [])]
+    files = [options.svg, *(path for path in (options.folded, options.script) if path)]
     check_folders(files)
     with tempfile.TemporaryDirectory() as folder:
         say(f"records {shlex.join(options.command)}")
         content = recorded(options, os.path.join(folder, "perf.data"))
-    counts, program = named_counts(content, options.profile)
+    counts, script, program = named_profile(content, options.profile, bool(options.script))
     title = shlex.join(options.command)
     if options.folded:
         write_whole(options.folded, "".join(f"{line}\n" for line in named_lines(counts)))
+    if options.script:
+        write_whole(options.script, "".join(f"{line}\n" for line in script))
     write_whole(options.svg, picture_of(counts, Drawing(title, Drawing.width, clean(program))))
     say(f"{counted(sum(counts.values()), 'sample')} in {counted(len(counts), 'stack')}: {' and '.join(files)}")
 

@@ -9,7 +9,6 @@ outermost frame are walked once more, by `backtrace`, which has the frames up to
 """
 from __future__ import annotations
 
-import os
 import signal
 import sys
 from typing import NamedTuple, NoReturn
@@ -20,7 +19,8 @@ from core_names import Loaded, ThreadStart, Walk, thread_lines, titled, walk_of
 from elf_image import Refused
 from snapshot_file import Object
 from symbols import has_symbolizer
-from thread_reports import Programs, built_path, built_programs, module_entries, reports_of
+from programs import built_path
+from thread_reports import Programs, built_programs, module_entries, reports_of
 
 SYSTEM_PATH = "[vdso]"
 USAGE = "usage: core_backtrace.py PROGRAM CORE [--threads] [--backtrace PROGRAM] [--unwind-cli PROGRAM] [--root DIR]"
@@ -45,7 +45,7 @@ def usage() -> NoReturn:
 def read_words(words: list[str]) -> Options:
     """The words. (`argparse` would do, and takes a quarter of the time in which all else is loaded.)"""
     left = [word for word in words if word != "--threads"]
-    values = {f"--{name.replace('_', '-')}": os.environ.get(name.upper()) or built_path(name) for name in Programs._fields}
+    values = {f"--{name.replace('_', '-')}": built_path(name) for name in Programs._fields}
     values["--root"] = ""
     for option in values.keys() & set(left):
         index = left.index(option)

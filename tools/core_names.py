@@ -23,9 +23,7 @@ import sys
 from typing import Callable, Iterator, NamedTuple
 
 from elf_image import SEGMENT_LOADED, WORD, ElfImage, Refused
-from names import (
-    GUESSED, Module, ReportedFrame, Symbols, all_symbols, module_at, modules_of, program_of, texts_of, why_without_table, with_reason,
-)
+from names import GUESSED, Module, ReportedFrame, Symbols, all_symbols, module_at, modules_of, program_of, texts_of
 from snapshot_file import Object, read_object
 from symbols import asked_addresses, name_without_lines
 
@@ -137,11 +135,13 @@ def frames_of(walk: Walk, start: ThreadStart, restorers: set[int]) -> Iterator[R
         interrupted = is_signal
 
 
-def without_guess(walk: Walk, start: ThreadStart, found: Object) -> Walk:
-    """A walk that ends with its first frame where that stands in code without a table (names.py)."""
-    if not walk.guessed or why_without_table(found, start.rip) is None:
-        return walk
-    return Walk([start.rip], f"end: no module holds {start.rip:#x}")
+def code_line(found: Object, address: int) -> str | None:
+    """The line of `backtrace` where a walk comes to code without a table: `unwind_cli core` says that a walk ends, and not why."""
+    for entry in found.get("code", []):
+        if int(entry["start"], 16) <= address < int(entry["end"], 16):
+            name = f" in {os.path.basename(entry['path'])}" if "path" in entry else ""
+            return f"end: code without a table at {address:#018x}{name}"
+    return None
 
 
 def ending_of(walk: Walk, loaded: Loaded, missing: Callable[[int], str] | None) -> str | None:
@@ -150,14 +150,14 @@ def ending_of(walk: Walk, loaded: Loaded, missing: Callable[[int], str] | None) 
     if unmapped and missing is not None:
         return f"{walk.last} ({missing(int(unmapped[1], 16))})"
     if walk.last != "end":
-        return None if walk.last == OUTERMOST else with_reason(walk.last or "the report ends here", loaded.found)
+        return None if walk.last == OUTERMOST else walk.last or "the report ends here"
     counter = walk.addresses[-1] if walk.addresses else 0
     if counter == 0:
         return None
     address = counter if len(walk.addresses) == 1 else counter - 1
-    module = module_at(loaded.modules, address)
-    if module is None or why_without_table(loaded.found, address):
-        return with_reason(f"end: no module holds {address:#x}", loaded.found)
+    module, without_table = module_at(loaded.modules, address), code_line(loaded.found, address)
+    if module is None or without_table is not None:
+        return without_table or f"end: no module holds {address:#018x}"
     return f"end: no description of {os.path.basename(module.path)}+{(address - module.bias) % WORD:#x}"
 
 
@@ -191,7 +191,6 @@ def thread_lines(
     """The lines of each thread: its frames, and why there are no more."""
     if len(walks) != len(starts):
         raise Refused(f"the report has {len(walks)} threads, and the core {len(starts)}")
-    walks = [without_guess(walk, start, loaded.found) for walk, start in zip(walks, starts)]
     restorers = restorers_of(loaded, walks)
     frames = [list(frames_of(walk, start, restorers)) for walk, start in zip(walks, starts)]
     names = names_of({frame for here in frames for frame in here}, loaded)

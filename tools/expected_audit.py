@@ -4,8 +4,8 @@
     tools/expected_audit.py FILE CLAIMS
 
 Of a row that differs in more than one way, the reason is the CFA, then the column of the first rule that differs, and then
-the first column that lacks one: the return address, or a callee-saved register. `readelf` prints a column without a rule and
-one that is undefined alike. It wants `readelf` (Debian: binutils).
+the first column that lacks one: the return address, or a callee-saved register. After the reason comes what is claimed.
+`readelf` prints a column without a rule and one that is undefined alike. It wants `readelf` (Debian: binutils).
 """
 from __future__ import annotations
 
@@ -15,6 +15,7 @@ import re
 import sys
 from typing import Any, Iterator
 
+from claimed_facts import claim_words
 from elf_image import ElfImage
 from fact_rows import CFA, FRAME_POINTER, STACK_POINTER
 from frame_table import Table, common_entries
@@ -102,7 +103,7 @@ def report(path: str, claims: list[dict[str, Any]]) -> Iterator[str]:
         entry = entries[place] if place >= 0 and entries[place].covers.contains(int(claim["from"], 16)) else None
         common = entry.common if entry is not None and entry.common is not None else 0
         for address, reason in differences(claim, entry, by_offset[common], commons[common].is_signal):
-            yield f"differ {address:#x} claim {number} {reason}"
+            yield f"differ {address:#x} claim {number} {reason}; claimed {claim_words(claim)}"
             if reason in ("no description", "signal frame"):
                 without += 1
             else:

@@ -6,6 +6,7 @@ a table only the CIEs are read.
 """
 from __future__ import annotations
 
+import re
 import struct
 from typing import Callable, Iterator, NamedTuple
 
@@ -19,6 +20,15 @@ OMITTED = 0xFF
 
 # The formats of numbers of a known size.
 FORMATS = {0x0: "<Q", 0x2: "<H", 0x3: "<I", 0x4: "<Q", 0xA: "<h", 0xB: "<i", 0xC: "<q"}
+
+
+# An entry's length and its identity; and where the length is this one, those of a longer entry.
+HEAD, LONG_HEAD = struct.Struct("<II"), struct.Struct("<QI")
+LONG_LENGTH = 0xFFFFFFFF
+
+# Before a CIE's augmentation stands its version.
+SIGNAL_LETTER = re.compile(rb"S[A-Za-z]*\0")
+VERSIONS = (b"\x01", b"\x03", b"\x04")
 
 
 class Table(NamedTuple):
@@ -56,18 +66,22 @@ class CommonEntry(NamedTuple):
 
 def entries(table: Table) -> Iterator[Entry]:
     """The entries up to the terminator, or up to one that doesn't fit."""
-    content, offset = table.content, 0
-    while offset + 4 <= len(content):
-        (length,) = struct.unpack_from("<I", content, offset)
+    return map(Entry._make, fields_of_entries(table))
+
+
+def fields_of_entries(table: Table) -> Iterator[tuple[int, int, int, int]]:
+    """The fields of each, which take less time than objects where there are thousands."""
+    content, offset, size, head = table.content, 0, len(table.content), HEAD.unpack_from
+    while offset + 8 <= size:
+        length, identity = head(content, offset)
         start = offset + 4
-        if length == 0xFFFFFFFF and start + 8 <= len(content):
-            (length,) = struct.unpack_from("<Q", content, start)
+        if length == LONG_LENGTH and start + 12 <= size:
+            length, identity = LONG_HEAD.unpack_from(content, start)
             start += 8
         end = start + length
-        if length < 4 or end > len(content):
+        if length < 4 or end > size:
             return
-        (identity,) = struct.unpack_from("<I", content, start)
-        yield Entry(offset, start, identity, end)
+        yield offset, start, identity, end
         offset = end
 
 
@@ -184,18 +198,36 @@ def described_at(table: Table, addresses: set[int]) -> list[Described]:
     return found
 
 
+def may_have_signals(content: bytes) -> bool:
+    """Whether a table may have a CIE with the letter S: it has such letters, after a byte that is a version."""
+    for match in SIGNAL_LETTER.finditer(content):
+        start = match.start()
+        while content[start - 1 : start].isalpha():
+            start -= 1
+        if content[start - 1 : start] in VERSIONS:
+            return True
+    return False
+
+
 def signal_trampolines(table: Table) -> list[Range]:
     """The functions that a signal's handler returns to: those of CIEs with the letter S."""
-    of_signals = {offset: entry for offset, entry in common_entries(table).items() if entry.is_signal}
+    if not may_have_signals(table.content):
+        return []
+    of_signals: dict[int, int] = {}
     found = []
-    for entry in entries(table) if of_signals else []:
-        common = of_signals.get(entry.identity_offset - entry.identity) if entry.identity else None
-        if common is None:
-            continue
-        offset, encoding = entry.identity_offset + 4, common.address_encoding
-        start = encoded_pointer(table, offset, encoding)
-        size = encoded_pointer(table, offset + encoded_size(encoding), encoding & 0x0F)
-        found.append(Range(start, start + size))
+    for offset, identity_offset, identity, end in fields_of_entries(table):
+        if identity == 0:
+            try:
+                common = common_entry(table, Entry(offset, identity_offset, identity, end))
+            except (IndexError, ValueError, Refused):
+                continue
+            if common.is_signal:
+                of_signals[offset] = common.address_encoding
+        elif identity_offset - identity in of_signals:
+            encoding = of_signals[identity_offset - identity]
+            start = encoded_pointer(table, identity_offset + 4, encoding)
+            size = encoded_pointer(table, identity_offset + 4 + encoded_size(encoding), encoding & 0x0F)
+            found.append(Range(start, start + size))
     return found
 
 

@@ -19,9 +19,10 @@ import sys
 from elf_image import Refused
 from snapshot_file import Object, joined_samples, read_object, read_snapshot, text_of
 
-# What only tells names: of a module, and of a snapshot.
+# What only tells names: of a module, of a snapshot, and of code without a table.
 NAMES_OF_MODULES = ("path", "bias", "build_id")
-NAMES_OF_SNAPSHOTS = ("thread", "code")
+NAMES_OF_SNAPSHOTS = ("thread",)
+NAMES_OF_CODE = (*NAMES_OF_MODULES, "program")
 
 
 def samples_of(files: list[str]) -> Object:
@@ -36,12 +37,15 @@ def samples_of(files: list[str]) -> Object:
     return joined_samples(read_object(tables.pop()), threads)
 
 
+def without(entry: Object, names: tuple[str, ...]) -> Object:
+    """An object without some of its members."""
+    return {key: value for key, value in entry.items() if key not in names}
+
+
 def without_names(found: Object) -> Object:
     """A snapshot without the members that only tell names."""
-    modules = [
-        {key: value for key, value in module.items() if key not in NAMES_OF_MODULES} for module in found["modules"]
-    ]
-    return {key: value for key, value in found.items() if key not in NAMES_OF_SNAPSHOTS} | {"modules": modules}
+    ranges = {name: [without(entry, NAMES_OF_CODE) for entry in found[name]] for name in ("modules", "code") if name in found}
+    return without(found, NAMES_OF_SNAPSHOTS) | ranges
 
 
 def joined(options: argparse.Namespace) -> Object:
@@ -57,7 +61,7 @@ def main() -> None:
     parser = argparse.ArgumentParser(prog="join.py", description="Join a thread's file and its tables.")
     parser.add_argument("files", nargs="+", metavar="FILE")
     parser.add_argument("--samples", action="store_true", help="all threads, for the command fold")
-    parser.add_argument("--bare", action="store_true", help="without names of modules and threads")
+    parser.add_argument("--bare", action="store_true", help="without names of modules, threads and code")
     signal.signal(signal.SIGPIPE, signal.SIG_DFL)
     try:
         sys.stdout.write(text_of(joined(parser.parse_args())))

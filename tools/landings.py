@@ -27,9 +27,12 @@ stack pointer isn't below the one that the first phase noted in the exception's 
 libunwind do. That word is set to 0 at the throw, which no one reads before it is noted.
 Where _Unwind_RaiseException returns, nothing took the exception. Where the exception is caught (__cxa_begin_catch) or raised
 again between two pads, or the process terminates there, the personality ended it, as gcc's tables ask at a function that is
-noexcept: in the first phase where nothing is noted yet. clang's tables have a handler there, whose pad ends the process: that
-is a landing, and a line after it says so, as far as the symbol __clang_call_terminate is there.
+noexcept: in the first phase where nothing is noted yet, and then the search visited the frames up to the one that the last
+personality was asked of. clang's tables have a handler there, whose pad ends the process: that is a landing, and a line after
+it says so, as far as the symbol __clang_call_terminate is there.
 A forced unwinding (_Unwind_ForcedUnwind), as the end of a thread, has no first phase, and isn't taken.
+`landings` prints a landing whose pad ends the process as `terminate`, since nothing is caught there. The report of take_throw has
+what the tables say, as `unwind_cli throw` follows them: a landing.
 """
 from __future__ import annotations
 
@@ -44,11 +47,14 @@ ENDS = ("__cxa_call_terminate", "_ZSt9terminatev", "abort")
 # What pads of C++ call first: those of handlers, and clang's at a function that is noexcept. The classes of such exceptions.
 BEGIN_CATCH, CALL_TERMINATE = "__cxa_begin_catch", "__clang_call_terminate"
 CLASSES_OF_CXX = (0x474E5543432B2B00, 0x434C4E47432B2B00)
+# What is asked of each frame of C++, and what tells which frame a personality is asked of.
+PERSONALITY, POINTER_OF = "__gxx_personality_v0", "_Unwind_GetCFA"
 # What is called between the frame that throws and the search: the frames of these are the runtime's.
 RUNTIME = ("_Unwind_", "__cxa_throw", "__cxa_rethrow")
 # The words of an exception before the language's own part: class, a function, and two that belong to the unwinder.
 NOTED_POINTER = 24
 OUTCOMES = {5: "end of stack", 3: "fatal phase 1", 2: "fatal phase 2"}
+ENDED_IN_HANDLER = "the handler ended the process"
 WORDS = 2**64
 
 
@@ -77,6 +83,16 @@ def is_known(place: str) -> bool:
         return True
     except gdb.error:
         return False
+
+
+def function_beside(name: str, address: int) -> int:
+    """Where a function begins in the file that has code at an address, 0 where it has none: of unwinders there may be several."""
+    library = gdb.current_progspace().solib_name
+    for place in gdb.decode_line(name)[1] or () if is_known(name) else ():
+        if library(place.pc) == library(address):
+            named = gdb.execute(f"info symbol {place.pc:#x}", to_string=True).split(" in ")[0]
+            return place.pc - int(named.partition(" + ")[2] or 0)
+    return 0
 
 
 def leave_wait() -> None:
@@ -115,7 +131,7 @@ class Throw:
         self.word = register_now("rdi")
         self.kind = word_at(self.word)
         self.back = gdb.newest_frame().older().pc()
-        self.found = 0
+        self.asked = self.asker = self.found = 0
         gdb.selected_inferior().write_memory(self.word + NOTED_POINTER, bytes(8))
         frame_that_threw().select()
 
@@ -126,7 +142,11 @@ class Throw:
     def next_pad(self) -> str:
         """Goes on to the next landing pad of this exception, or to where there is none: what it met there."""
         while True:
-            met = go_on_to(SET_PLACE, RAISE, BEGIN_CATCH, *ENDS, f"*{self.back:#x}")
+            searched = [PERSONALITY] if not self.noted() else []
+            met = go_on_to(SET_PLACE, RAISE, BEGIN_CATCH, *searched, *ENDS, f"*{self.back:#x}")
+            if met == PERSONALITY:
+                self.asked, self.asker = register_now("r8"), gdb.newest_frame().older().pc()
+                continue
             if met in (RAISE, BEGIN_CATCH) and register_now("rdi") != self.word:
                 continue
             if met != SET_PLACE:
@@ -139,6 +159,12 @@ class Throw:
         """The stack pointer of the frame that the first phase found, and 0 before. It is kept in `found`."""
         self.found = word_at(self.word + NOTED_POINTER)
         return self.found
+
+    def ended_at(self) -> int:
+        """The stack pointer of the frame that the last personality of the first phase was asked of, which is being asked still."""
+        asks = function_beside(POINTER_OF, self.asker) if self.asked else 0
+        call = f"((unsigned long (*)(void *)) {asks:#x})((void *) {self.asked:#x})"
+        return int(gdb.execute(f"with language c -- output/u {call}", to_string=True)) if asks else 0
 
     def is_at_handler(self) -> bool:
         """Whether the pad is that of the frame that the first phase found. It is entered past the arguments that the frame has
@@ -160,6 +186,7 @@ class Throw:
         pad it prints the outcome."""
         if met in (RAISE, BEGIN_CATCH, *ENDS):
             print(f"outcome fatal phase {2 if self.noted() else 1}\nthe personality ended the process")
+            self.found = self.found or self.ended_at()
             return False
         if met != SET_PLACE:
             answer = OUTCOMES.get(register_now("rax") & 0xFFFFFFFF, "unknown") if met else "unknown: the process stopped"
@@ -170,7 +197,7 @@ class Throw:
         if self.is_at_handler():
             print(f"landing {registers.removeprefix('frame 0 ')} {returned}\noutcome installed")
             if self.ends_in_handler():
-                print("the handler ended the process")
+                print(ENDED_IN_HANDLER)
             return False
         print(f"cleanup pad={pad:#x} sp={pointer:#x}")
         while (met := go_on_to(RESUME, *ENDS)) == RESUME and register_now("rdi") != self.word:
@@ -234,9 +261,17 @@ def lines_to_end(throw: Throw) -> list[str]:
 
 
 def report_of(frames: list[tuple[int, str]], noted: int, lines: list[str]) -> list[str]:
-    """The lines of a report: the frames that the search visits, up to the one that was noted or else all, and what came."""
+    """The lines of a report: the frames that the search visits, up to the one where it ended or else all, and what came."""
     visited = [line for pointer, line in frames if not noted or pointer <= noted]
     return visited + [line for line in lines if line.startswith(("cleanup", "landing", "outcome"))]
+
+
+def without_terminate(lines: list[str]) -> list[str]:
+    """The same for a reader: a handler's pad that ends the process is no landing, since nothing takes the exception there."""
+    if lines[-1] != ENDED_IN_HANDLER:
+        return lines
+    address, pointer = lines[-3].split()[1:3]
+    return [*lines[:-3], f"terminate pad={address.removeprefix('ra=')} {pointer}", f"outcome {OUTCOMES[2]}", ENDED_IN_HANDLER]
 
 
 class RaisedCommand(gdb.Command):
@@ -262,8 +297,7 @@ class LandingsCommand(gdb.Command):
         throw = Throw(int(words[1]) if len(words) > 1 else 1)
         for _, line in frames_to(frame_that_threw(), words[0] if words else ""):
             print(line)
-        while throw.next_landing():
-            pass
+        print("\n".join(without_terminate(lines_to_end(throw))))
         print(throw.options())
 
 

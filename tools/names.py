@@ -17,8 +17,7 @@ lives).
     #3 0x7f5c01234567 in libplain.so+0x1567    no symbol
     #4 <signal handler called>
 
-The last line is why there are no more frames, unless the last one is the outermost. Where the snapshot says that code has no
-frame table, the frames end there, and the last line names the file. Other tools ask `names_of`.
+The last line is why there are no more frames, unless the last one is the outermost. Other tools ask `names_of`.
 """
 from __future__ import annotations
 
@@ -49,12 +48,8 @@ FRAME_LINE = re.compile(
     r"^#\d+ +(0x[0-9a-f]+)\b.*?( \(.*\))?(?: sp=0x[0-9a-f]+(?: \w+=0x[0-9a-f]+)*)?$|^frame \d+ ra=(?!0x0 )(0x[0-9a-f]+) "
 )
 THREAD_LINE = re.compile(r"^[Tt]hread ")
-NO_MODULE = re.compile(r"end: no module holds (0x[0-9a-f]+)$")
 OUTERMOST = ("end: the outermost frame, which returns to 0", "end")
 GUESSED = " (return address on the stack)"
-
-# Before a CIE's augmentation stands its version. Tables without an S there have no signal's frame, and aren't read.
-OF_SIGNALS = re.compile(rb"[\x01\x03\x04][A-Za-z]*S[A-Za-z]*\0")
 
 
 class ReportedFrame(NamedTuple):
@@ -109,7 +104,7 @@ def trampolines_of(found: Object) -> list[tuple[int, int]]:
             if header is not None:
                 address = frame_table_of_header(header)
             table = None if address is None else table_from(regions, address)
-            if table is not None and OF_SIGNALS.search(table.content):
+            if table is not None:
                 trampolines += signal_trampolines(table)
         except (KeyError, Refused):
             continue
@@ -160,36 +155,6 @@ def last_line(report: str) -> str | None:
     return lines[-1] if lines and not lines[-1].startswith(("#", "frame ")) and lines[-1] not in OUTERMOST else None
 
 
-# ---- code without tables
-
-
-def why_without_table(found: Object, address: int) -> str | None:
-    """What a snapshot says of an address in code that none of its modules has."""
-    for entry in found.get("code", []):
-        if int(entry["start"], 16) <= address < int(entry["end"], 16):
-            return f"{os.path.basename(entry['path'])} has no frame table" if "path" in entry else "the code there is of no file"
-    return None
-
-
-def with_reason(line: str, found: Object) -> str:
-    """A report's last line, with the reason that no module holds an address, where it is known."""
-    match = NO_MODULE.match(line)
-    reason = why_without_table(found, int(match.group(1), 16)) if match else None
-    return f"{line}: {reason}" if reason else line
-
-
-def without_guess(report: str, found: Object, interrupted: bool) -> str:
-    """A report that ends with its first frame where that stands in code without a table. The second was guessed: the word at
-    the stack pointer is a return address after a call through a null pointer, and in code it is one at a function's first
-    instruction alone."""
-    lines = report.splitlines(keepends=True)
-    frames = reported_frames("".join(lines[:2]), interrupted, [])
-    if len(frames) < 2 or frames[1].note != GUESSED:
-        return report
-    reason = why_without_table(found, frames[0].address)
-    return f"{lines[0]}end: no module holds {frames[0].address:#018x}\n" if reason else report
-
-
 # ---- the backtrace
 
 
@@ -227,13 +192,13 @@ def program_of(found: Object, modules: list[Module]) -> str:
     return without_table[0] if without_table else modules[0].path if modules else ""
 
 
-def backtraces(report: str, found: Object, files: list[str]) -> Iterator[list[str]]:
-    """The lines of each thread's backtrace. All names are asked for at once."""
-    modules, trampolines = modules_of(found), trampolines_of(found)
-    parts = [
-        Part(part.head, without_guess(part.text, found, starts_interrupted(found, index)))
-        for index, part in enumerate(parts_of(report))
-    ]
+def backtraces(
+    report: str, found: Object, files: list[str], trampolines: list[tuple[int, int]] | None = None
+) -> Iterator[list[str]]:
+    """The lines of each thread's backtrace. All names are asked for at once. Trampolines are those of the snapshot's tables, unless
+    they are given."""
+    modules, trampolines = modules_of(found), trampolines_of(found) if trampolines is None else trampolines
+    parts = parts_of(report)
     framed = [
         reported_frames(part.text, starts_interrupted(found, index), trampolines) for index, part in enumerate(parts)
     ]
@@ -243,13 +208,13 @@ def backtraces(report: str, found: Object, files: list[str]) -> Iterator[list[st
         texts = [text for frame in frames for text in texts_of(frame, modules, symbols, program)]
         last = last_line(part.text)
         head = [] if part.head is None else [part.head]
-        yield head + [f"#{level} {text}" for level, text in enumerate(texts)] + ([with_reason(last, found)] if last else [])
+        yield head + [f"#{level} {text}" for level, text in enumerate(texts)] + ([last] if last else [])
 
 
-def backtrace(report: str, found: Object, files: list[str]) -> list[str]:
+def backtrace(report: str, found: Object, files: list[str], trampolines: list[tuple[int, int]] | None = None) -> list[str]:
     """The lines of a backtrace, and of several with an empty line between."""
     lines: list[str] = []
-    for part in backtraces(report, found, files):
+    for part in backtraces(report, found, files, trampolines):
         lines += ([""] if lines else []) + part
     return lines
 

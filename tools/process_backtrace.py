@@ -11,7 +11,6 @@ PID is a process, or one of its threads. Lines on standard error say what is mis
 """
 from __future__ import annotations
 
-import os
 import signal
 import sys
 from typing import NamedTuple
@@ -22,11 +21,13 @@ from core import (
 )
 from core_image import Mapped, Thread
 from elf_image import Refused
+from frame_table import Table, signal_trampolines
 from names import backtrace
 from process_image import DELETED, Process, stopped, thread_name
-from snapshot_file import Object, region_object
+from programs import built_path
+from snapshot_file import Object
 from symbols import has_symbolizer
-from thread_reports import Programs, built_path, built_programs, module_entries, reports_of
+from thread_reports import Programs, built_programs, module_entries, reports_of
 
 USAGE = "usage: process_backtrace.py PID [--threads] [--frame-pointers] [--backtrace PROGRAM] [--unwind-cli PROGRAM]"
 
@@ -71,8 +72,13 @@ def modules_of(process: Process, wanted: list[int]) -> Modules:
 
 def named_object(taken: Taken) -> Object:
     """What the frames are named by."""
-    tables = [region_object(one.table) for one in taken.loaded]
-    return {"regions": tables, "modules": module_entries(taken), "code": list(taken.code)}
+    return {"modules": module_entries(taken), "code": list(taken.code)}
+
+
+def trampolines_of(taken: Taken) -> list[tuple[int, int]]:
+    """The functions that handlers of signals return to, by the frame tables."""
+    tables = [Table(one.table.start, one.table.content) for one in taken.loaded]
+    return [(place.start, place.end) for table in tables for place in signal_trampolines(table)]
 
 
 def asked_threads(process: Process, number: int, all_threads: bool) -> list[Thread]:
@@ -115,7 +121,7 @@ def printed(number: int, all_threads: bool, frame_pointers: bool, programs: Prog
         reports = [f"{head}\n{report}" for head, report in zip(heads, reports)]
     if not has_symbolizer():
         say("without lines: there is no llvm-symbolizer and no addr2line (Debian: llvm, binutils)")
-    return "\n".join(backtrace("".join(reports), named_object(taken), [f"/proc/{process.number}/exe"]))
+    return "\n".join(backtrace("".join(reports), named_object(taken), [f"/proc/{process.number}/exe"], trampolines_of(taken)))
 
 
 class Options(NamedTuple):
@@ -130,7 +136,7 @@ class Options(NamedTuple):
 def read_words(words: list[str]) -> Options:
     """The words. (`argparse` takes as long to load as all the rest.)"""
     left = [word for word in words if word not in ("--threads", "--frame-pointers")]
-    paths = {name: os.environ.get(name.upper()) or built_path(name) for name in Programs._fields}
+    paths = {name: built_path(name) for name in Programs._fields}
     for name in Programs._fields:
         option = f"--{name.replace('_', '-')}"
         if option in left[:-1]:

@@ -8,6 +8,8 @@ asked. The process goes on where the block ends, and also where this program doe
 """
 from __future__ import annotations
 
+import bisect
+import collections
 import contextlib
 import ctypes
 import errno
@@ -35,7 +37,8 @@ REGISTERS = "r15 r14 r13 r12 rbp rbx r11 r10 r9 r8 rax rcx rdx rsi rdi orig_rax 
 SECONDS_TO_STOP = 2.0
 
 # A stack may be a small part of a mapping, as those that a runtime puts into its heap. So much is taken of one then, from its
-# pointer on: of a mapping that is neither the first thread's stack nor has a thread's own block.
+# pointer on: of a mapping that is neither the first thread's stack nor has the own block of one thread. (Go has those of several
+# threads in its heap.)
 MOST_OF_A_HEAP = 2**18
 FIRST_STACK = "[stack]"
 
@@ -213,6 +216,18 @@ def mappings_of(process: int) -> list[Mapping]:
         return [mapping for line in stream if (mapping := mapping_of(line.rstrip("\n"))) is not None]
 
 
+def stack_starts(mappings: list[Mapping], blocks: list[int]) -> set[int]:
+    """Where mappings begin that are a stack as a whole, by where the threads' own blocks are. The mappings ascend."""
+    starts = [mapping.place.start for mapping in mappings]
+    holders = [bisect.bisect_right(starts, block) - 1 for block in blocks]
+    counts = collections.Counter(holders)
+    found = {
+        starts[index] for index, block in zip(holders, blocks)
+        if index >= 0 and counts[index] == 1 and mappings[index].place.contains(block)
+    }
+    return found | {mapping.place.start for mapping in mappings if mapping.file == FIRST_STACK}
+
+
 class Process(Core):
     """A stopped process, with all that a core says. Its memory is that of the process, read where it is asked."""
 
@@ -231,10 +246,7 @@ class Process(Core):
         self.note_ranges: list[Range] = []
         self.notes = [auxiliary_note(number)]
         self.notes += [status_note(thread, tracer.registers(thread)) for thread in numbers]
-        self.stack_starts = {
-            mapping.place.start for mapping in self.mappings
-            if mapping.file == FIRST_STACK or any(mapping.place.contains(thread.fs_base or 0) for thread in self.threads())
-        }
+        self.stack_starts = stack_starts(self.mappings, [thread.fs_base or 0 for thread in self.threads()])
         self.size = self.end = 0
         self.memory = os.open(f"/proc/{number}/mem", os.O_RDONLY | os.O_CLOEXEC)
 

@@ -120,7 +120,7 @@ def options_of(words: list[str]) -> argparse.Namespace:
     parser.add_argument("moments", metavar="MOMENTS", type=natural, nargs="?", default=10, help="how often it is stopped (10)")
     parser.add_argument("--svg", metavar="FILE", help="where the picture goes")
     parser.add_argument("--every", metavar="MILLISECONDS", type=natural, default=50, help="from one moment to the next (50)")
-    default = os.environ.get("UNWIND_CLI") or built_path("unwind_cli")
+    default = built_path("unwind_cli")
     parser.add_argument("--unwind-cli", metavar="PROGRAM", default=default, help="the built program")
     return parser.parse_args(words)
 

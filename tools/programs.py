@@ -11,12 +11,28 @@ import signal
 from typing import NamedTuple, Sequence
 
 
+CRATES = os.path.join(os.path.dirname(os.path.realpath(__file__)), "..", "crates")
+
+
 class Done(NamedTuple):
     """What a program has printed, and its status: where a signal ended it, less than 0 by the signal's number."""
 
     status: int
     output: bytes
     errors: bytes
+
+
+def which(name: str) -> str | None:
+    """A program on the PATH. (`shutil.which` is the same; loading shutil takes long.)"""
+    paths = (os.path.join(folder, name) for folder in os.get_exec_path())
+    return next((path for path in paths if os.path.isfile(path) and os.access(path, os.X_OK)), None)
+
+
+def built_path(name: str) -> str:
+    """A built program of this repository: that which a variable names, as BACKTRACE does `backtrace`; else the one that is built
+    here, else one on the PATH, else where it would be built."""
+    built = os.path.normpath(os.path.join(CRATES, name, "out", name))
+    return os.environ.get(name.upper()) or (None if os.access(built, os.X_OK) else which(name)) or built
 
 
 def run_program(words: Sequence[str], text: bytes) -> Done:

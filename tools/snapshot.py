@@ -42,7 +42,7 @@ from snapshot_file import (  # noqa: E402
     MOST_STATES, TABLES, Object, Region, region_object, text_of, without_overlaps, write_folder, write_whole,
 )
 from stacks import StackFrame, stack_front, stack_ranges  # noqa: E402
-from thrown_types import LoadedTables, Thrown, thrown_of  # noqa: E402
+from thrown_types import LoadedTables, Names, Thrown, thrown_of  # noqa: E402
 
 REGISTERS = "rip rsp rax rbx rcx rdx rsi rdi rbp r8 r9 r10 r11 r12 r13 r14 r15".split()
 
@@ -541,6 +541,15 @@ def symbol_at(address: int) -> str:
     return gdb.execute(f"info symbol {address:#x}", to_string=True)
 
 
+def has_symbol(name: str) -> bool:
+    """Whether gdb knows a symbol."""
+    try:
+        gdb.execute(f"info address {name}", to_string=True)
+        return True
+    except gdb.error:
+        return False
+
+
 def calls_from(frame: gdb.Frame | None) -> set[int]:
     """The addresses at which the language tables of a frame and its callers are asked: those of their calls."""
     found = set()
@@ -557,13 +566,15 @@ def exception_of(frame: gdb.Frame, loaded: Loaded, options: argparse.Namespace) 
         LoadedTables(table_at(module.frame_table), [table_at(place) for place in module.language_tables])
         for module in loaded.modules
     ]
-    return thrown_of(options.exception, getattr(options, "class"), tables, calls_from(frame), memory_at, symbol_at)
+    names = Names(symbol_at, has_symbol)
+    return thrown_of(options.exception, getattr(options, "class"), tables, calls_from(frame), memory_at, names)
 
 
 def thrown_object(thrown: Thrown) -> Object:
     """The members for `unwind_cli throw`."""
     words = {"types": thrown.types, "personalities": thrown.personalities}
-    return {key: [f"{word:#x}" for word in found] for key, found in words.items()} | {"foreign": thrown.is_foreign}
+    lists = {key: [f"{word:#x}" for word in found] for key, found in words.items()}
+    return lists | {"foreign": thrown.is_foreign, "runtime": thrown.runtime}
 
 
 # ---- the snapshot
@@ -760,8 +771,8 @@ snapshot DIR --threads [--stack-bytes N] [--limit N] [--module NAME]... [--heade
 --module NAME  take this module, by its path or its file's name; without it all are taken
 --header       let modules that have an .eh_frame_hdr name it in place of .eh_frame
 --exception, --class, --resume   what the snapshot says of a delivery
---languages    also by which types handlers of C++ take the exception, and which routines are C++'s,
-               for unwind_cli throw"""
+--languages    also by which types handlers of C++ take the exception, and which routines are C++'s
+               and of which runtime, for unwind_cli throw"""
 
     def __init__(self) -> None:
         super().__init__("snapshot", gdb.COMMAND_DATA, gdb.COMPLETE_FILENAME)

@@ -11,7 +11,6 @@ refused, with the nearest name that it does: a name that was misspelt changes th
 """
 from __future__ import annotations
 
-import os
 import signal
 import sys
 from typing import Iterator, NamedTuple
@@ -19,8 +18,8 @@ from typing import Iterator, NamedTuple
 from check_schema import faults_of
 from elf_image import Refused
 from names import backtraces
-from thread_reports import built_path, short_text
-from programs import run_program
+from programs import built_path, run_program
+from thread_reports import short_text
 from snapshot_file import MOST_BYTES, Object, read_snapshot
 
 USAGE = "usage: snapshot_backtrace.py FILE [--strict] [--backtrace PROGRAM]"
@@ -97,7 +96,7 @@ def printed(options: Options) -> str:
 
 def read_words(words: list[str]) -> Options:
     """The words."""
-    program = os.environ.get("BACKTRACE") or built_path("backtrace")
+    program = built_path("backtrace")
     left = [word for word in words if word != "--strict"]
     if "--backtrace" in left[:-1]:
         index = left.index("--backtrace")

@@ -20,7 +20,7 @@ from typing import Iterable, Iterator, NamedTuple, Sequence
 
 from elf_image import WORD, ElfImage, Function, Range, Refused
 from plain_names import plain_name
-from programs import run_program
+from programs import run_program, which
 
 DEBUG_FOLDER = "/usr/lib/debug/.build-id"
 
@@ -67,12 +67,6 @@ class Question(NamedTuple):
 
 
 # ---- programs
-
-
-def which(name: str) -> str | None:
-    """A program on the PATH. (`shutil.which` is the same; loading shutil takes long.)"""
-    paths = (os.path.join(folder, name) for folder in os.get_exec_path())
-    return next((path for path in paths if os.path.isfile(path) and os.access(path, os.X_OK)), None)
 
 
 def program_on_path(name: str) -> str | None:

@@ -8,6 +8,7 @@ import io
 import json
 import os
 import pathlib
+import re
 import subprocess
 import tempfile
 import unittest
@@ -15,8 +16,9 @@ from unittest import mock
 
 import audit
 import changed_tables
-from audit import asked, audited, counts_of, is_other, line_of, print_audit, read_report, row_of, summary_of, texts_of, Found, Names
-from claimed_facts import claim_object, claimed_in, tables_of
+from audit import Found, Names, asked, audited, code_lines, counts_of, is_other, line_of, print_audit, read_report, row_of
+from audit import summary_of, texts_of
+from claimed_facts import Claimed, Facts, claim_object, claim_words, claimed_in, tables_of
 from code_file import CodeFile
 from code_flow import CodeFlow
 from collections import Counter
@@ -29,6 +31,13 @@ from tables import COLUMNS, Row
 
 SCRIPT = pathlib.Path(__file__).parent / "audit.sh"
 SAVED = ("rbx", "rbp", "r12", "r13", "r14", "r15")
+
+# A claim of a function that pushed RBX, and what a report says of it.
+PUSHED = Claimed(0x10, 0x20, 0, Facts(16, None, (("rbx", 16),), SAVED[1:], False))
+TOLD = (
+    "cfa r7+0x10, rule 3 c-0x10, rule 6 same value, rule 12 same value, rule 13 same value, rule 14 same value, "
+    "rule 15 same value, rule 16 c-0x8"
+)
 
 # Its second row is late by one instruction, and at the end R12 has a value of its own, which no row says.
 WRONG = """
@@ -114,7 +123,7 @@ def stand_in(words: list[str], text: bytes) -> Answer:
         starts = [address for address, _row in rows] + [end]
         for (address, row), after in zip(rows, starts[1:]):
             if max(address, start) < min(max(after, address + 1), end) and (why := differs(claim, row)):
-                lines.append(f"differ {max(address, start):#x} claim {number} {why}")
+                lines.append(f"differ {max(address, start):#x} claim {number} {why}; claimed {claim_words(claim)}")
                 differing.add(number)
     lines += [f"claims {len(said['claims'])}", f"differ {len(differing)}", "without a row 0"]
     return Answer("".join(f"{line}\n" for line in lines), None)
@@ -139,13 +148,26 @@ class Texts(unittest.TestCase):
 
     def test_a_report_is_read(self) -> None:
         found = Found({}, Counter())
-        read_report("differ 0x10 claim 1 cfa r7-0x8\ndiffer 0x12 claim 1 rule 3 same value\nclaims 4\ndiffer 1\nwithout a row 0\n", 3, found)
+        claims, end = [PUSHED] * 7, f"; claimed {TOLD}\n"
+        numbers = "claims 4\ndiffer 1\nwithout a row 0\n"
+        read_report(f"differ 0x10 claim 1 cfa r7-0x8{end}differ 0x12 claim 1 rule 3 same value{end}{numbers}", 3, claims, found)
         self.assertEqual(found.stretches, {4: [(0x10, "cfa"), (0x12, "rule 3")]})
         self.assertEqual(found.numbers, Counter({"claims": 4, "differ": 1, "without a row": 0}))
-        numbers = "claims 4\ndiffer 1\nwithout a row 0\n"
-        for report in ("", "claims 4\n", *(f"differ 0x10 claim 1 {why}\n{numbers}" for why in ("why", "cfa", "cfa c-0x", "rule 3 r"))):
+        wrong = [f"differ 0x10 claim 1 {why}{end}" for why in ("why", "cfa", "cfa c-0x", "rule 3 r")]
+        wrong += ["differ 0x10 claim 1 cfa r7-0x8\n", f"differ 0x10 claim 1 cfa r7-0x8{end.replace('c-0x10', 'c-0x18')}"]
+        for report in ("", "claims 4\n", *(f"{line}{numbers}" for line in wrong)):
             with self.subTest(report), self.assertRaises(Refused):
-                read_report(report, 0, Found({}, Counter()))
+                read_report(report, 0, claims, Found({}, Counter()))
+
+    def test_what_is_claimed_in_words(self) -> None:
+        self.assertEqual(claim_words(claim_object(PUSHED)), TOLD)
+        kept = {"rsp": "0x18", "rbp": "0x10", "saved": {"rbp": "0x10"}, "kept": ["rbp"]}
+        self.assertEqual(claim_words(kept), "cfa r7+0x18 or r6+0x10, rule 3 unknown, rule 6 c-0x10 or same value, "
+                         "rule 12 unknown, rule 13 unknown, rule 14 unknown, rule 15 unknown, rule 16 c-0x8")
+        below = {"rbp": "0xfffffffffffffff8", "saved": {"rbx": "0xfffffffffffffff0"}, "kept": [], "outermost": True}
+        self.assertEqual(claim_words(below), "cfa r6-0x8, rule 3 c+0x10, rule 6 unknown, rule 12 unknown, rule 13 unknown, "
+                         "rule 14 unknown, rule 15 unknown, rule 16 undefined")
+        self.assertEqual(claim_words({}).partition(",")[0], "cfa unknown")
 
     def test_numbers_have_to_agree(self) -> None:
         with mock.patch.object(audit, "run", return_value=Answer("claims 7\ndiffer 0\nwithout a row 0\n", None)):
@@ -184,21 +206,33 @@ class Places(unittest.TestCase):
         with tempfile.TemporaryDirectory() as folder, mock.patch.object(audit, "run", stand_in):
             path = built(folder)
             lasts = set()
-            for words, count in (({}, 3), ({"all": True}, 4), ({"counts": True}, 1), ({"parts": 2}, 3), ({"parts": 3}, 3)):
+            options = (({}, 3), ({"all": True}, 4), ({"counts": True}, 1), ({"code": True}, 7), ({"parts": 2}, 3), ({"parts": 3}, 3))
+            for words, count in options:
                 printed = io.StringIO()
-                options = mock.Mock(unwind_cli="p", **({"all": False, "counts": False, "parts": 1} | words))
+                given = mock.Mock(unwind_cli="p", **({"all": False, "counts": False, "code": False, "parts": 1} | words))
                 with contextlib.redirect_stdout(printed):
-                    print_audit(path, options)
+                    print_audit(path, given)
                 self.assertEqual(printed.getvalue().count("\n"), count)
                 lasts.add(printed.getvalue().splitlines()[-1])
             self.assertEqual(len(lasts), 1)
 
+    def test_the_instructions_of_a_place(self) -> None:
+        with tempfile.TemporaryDirectory() as folder, mock.patch.object(audit, "run", stand_in):
+            found = audited(CodeFlow(CodeFile(built(folder))), "unwind_cli")
+            lines = [[line.split(maxsplit=1)[1] for line in code_lines(place, found.flow)] for place in found.places]
+        self.assertEqual([[re.sub(" {2,}", "  ", line) for line in one] for one in lines], [
+            ["push rbx  row rsp+8, code rsp+8", "mov ebx,edi  row rsp+8, code rsp+16"],
+            ["xor r12d,r12d  row r12 kept, code r12 kept", "call rdi  row r12 kept, code r12 unknown"],
+            ["xor r12d,r12d  row rsp+8, code rsp+8", "call rdi  row rsp+8, code rsp+8", "ret  row exp, code rsp+8"],
+        ])
+
     def test_a_difference_where_no_row_begins_is_refused(self) -> None:
-        report = "differ 0x1 claim 0 cfa expression\nclaims {}\ndiffer 1\nwithout a row 0\n"
         with tempfile.TemporaryDirectory() as folder:
             path = built(folder)
-            count = len(claimed_in(CodeFlow(CodeFile(path))))
-            with mock.patch.object(audit, "run", return_value=Answer(report.format(count), None)):
+            claims = claimed_in(CodeFlow(CodeFile(path)))
+            line = f"differ 0x1 claim 0 cfa expression; claimed {claim_words(claim_object(claims[0]))}"
+            report = f"{line}\nclaims {len(claims)}\ndiffer 1\nwithout a row 0\n"
+            with mock.patch.object(audit, "run", return_value=Answer(report, None)):
                 with self.assertRaisesRegex(Refused, "a difference at 0x1 isn't where a row begins"):
                     audited(CodeFlow(CodeFile(path)), "unwind_cli")
 
@@ -224,9 +258,9 @@ class Script(unittest.TestCase):
     def test_what_fails_is_said(self) -> None:
         with tempfile.TemporaryDirectory() as folder:
             path, program = built(folder), pathlib.Path(folder) / "program"
-            program.write_text("#!/bin/sh\ncat >/dev/null\necho 'refused: claim 3'\nexit 8\n")
+            program.write_text("#!/bin/sh\ncat >/dev/null\necho 'refused: claim 3 overlaps'\nexit 8\n")
             program.chmod(0o755)
-            said = f"audit.sh: {path}: {program} ended with status 8: refused: claim 3\n"
+            said = f"audit.sh: {path}: {program} ended with status 8: refused: claim 3 overlaps\n"
             self.assertEqual(self.said_by(str(program), path), (1, "", said))
             status, _output, error = self.said_by("/none", path)
             self.assertEqual((status, error[:27]), (1, "audit.sh: /none isn't built"))

@@ -10,7 +10,7 @@ from pathlib import Path
 from unittest import mock
 
 import command_profile
-from command_profile import Line, counts_of, line_of, options_of
+from command_profile import Line, counts_of, line_of, options_of, script_frames
 from elf_image import Refused
 from flame_picture import Name
 from flamegraph import Stack
@@ -32,8 +32,14 @@ exec "$@"
 
 # In place of `profile`: what it reads is perf.data, and its tables are there.
 WALKS = """#!/bin/sh
+form=folded
+if test "$1" = --script; then form=$1; shift; fi
 test -s "$1" || exit 3
 test "$(head -c 8)" = PERFILE2 || exit 8
+if test $form = --script; then
+    printf 'sh 1/1 2.000000003: 1 samples:\\n\\t0x11008 library+0x1008 (/x/library)\\n\\t0x7 [unknown] ([unknown])\\n\\t0x0 [cut] ([unknown])\\n\\n'
+    exit
+fi
 printf 'sh;[cut];library+0x1008;library+0x1004 2\\nsh;0x7 1\\n'
 """
 
@@ -113,6 +119,21 @@ class Runs(unittest.TestCase):
         picture = (self.folder / "profile.svg").read_text()
         self.assertIn("<title>[cut]: 2 samples, 66.7%</title>", picture)
         self.assertIn("sh -c 'echo said; exit 7'", picture)
+
+    def test_a_script(self) -> None:
+        done = self.profiled("--script", "samples", "true")
+        self.assertEqual((done.returncode, done.stderr.splitlines()[-1]), (0, "profile.sh: 3 samples in 2 stacks: profile.svg and samples"))
+        self.assertEqual(self.written(), {"profile.svg", "samples"})
+        self.assertRegex((self.folder / "samples").read_text(), r"\Ash 1/1 2\.000000003: 1 samples:\n\t11008 \S+ \(/x/library\)\n"
+                         r"\t7 \[unknown\] \(\[unknown\]\)\n\t0x0 \[cut\] \(\[unknown\]\)\n\n\Z")
+
+    def test_frames_of_a_script(self) -> None:
+        """The first frame of a sample was interrupted, and what stands in a frame's place is none."""
+        lines = ["sh 1/2 0.000000001: 1 samples:", "\t0x10 b+0x10 (/b)", "\t0x1f b+0x1f (/b)", "\t0x0 [cut] ([unknown])", "",
+                 "sh 1/2 0.000000002: 1 samples:", "\t0x1f b+0x1f (/b)", ""]
+        frames = script_frames({"regions": [], "modules": []}, lines)
+        self.assertEqual({number: (frame.counter, frame.address) for number, frame in frames.items()},
+                         {1: (0x10, 0x10), 2: (0x20, 0x1f), 6: (0x1f, 0x1f)})
 
     def test_what_fails_is_said_and_nothing_is_written(self) -> None:
         without = self.folder / "programs" / "none"

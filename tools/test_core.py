@@ -24,7 +24,7 @@ from core import (
 )
 from core_backtrace import Options, read_words
 from core_image import Core, Mapped, Memory, core_with, mapped_of, notes_of
-from core_names import Loaded, ThreadStart, Walk, ending_of, frames_of, walk_of, walks_of, without_guess
+from core_names import Loaded, ThreadStart, Walk, ending_of, frames_of, walk_of, walks_of
 from elf_image import ElfImage, Range, Refused
 
 # e_ident: class 64, lowest byte first; e_type CORE, e_machine x86-64, e_phoff 64, e_ehsize 64, two headers of 56 bytes
@@ -310,9 +310,9 @@ class NamesTest(unittest.TestCase):
         cases = {
             None: Walk([0x401006, 0], "end"),
             "end: no description of a+0x1fff": Walk([0x401006, 0x402000], "end"),
-            "end: no module holds 0x41414140": Walk([0x401006, 0x41414141], "end"),
-            "end: no module holds 0x800006: bare has no frame table": Walk([0x401006, 0x800007], "end"),
-            "end: no module holds 0x900006: the code there is of no file": Walk([0x401006, 0x900007], "end"),
+            "end: no module holds 0x0000000041414140": Walk([0x401006, 0x41414141], "end"),
+            "end: code without a table at 0x0000000000800006 in bare": Walk([0x401006, 0x800007], "end"),
+            "end: code without a table at 0x0000000000900006": Walk([0x401006, 0x900007], "end"),
             "refused: unmapped 0x7008 (where the core is cut off)": Walk([], "refused: unmapped 0x7008"),
             "refused: table UnknownInstruction": Walk([], "refused: table UnknownInstruction"),
         }
@@ -327,8 +327,8 @@ class NamesTest(unittest.TestCase):
             "#0  0x0000000000401006 in a+0x1006\nend: the outermost frame, which returns to 0\n": None,
             "#0  0x0000000000401006 in a+0x1006\nend: no caller of 0x0000000000401006 in a b+0x1006: unmapped 0x7008\n":
                 "end: no caller of 0x0000000000401006 in a b+0x1006: unmapped 0x7008 (where the core is cut off)",
-            "#0  0x0000000000800006\nend: no module holds 0x0000000000800006\n":
-                "end: no module holds 0x0000000000800006: bare has no frame table",
+            "#0  0x0000000000800006\nend: code without a table at 0x0000000000800006 in bare\n":
+                "end: code without a table at 0x0000000000800006 in bare",
         }
         core = core_of(HAND[:540])
         for report, text in cases.items():
@@ -338,16 +338,14 @@ class NamesTest(unittest.TestCase):
                 self.assertEqual(ending_of(walk, Loaded(self.FOUND), core.missing_at), text)
 
     def test_guesses(self) -> None:
-        """After a call through a null pointer the second frame is marked. In code without a table there is none."""
-        text = "\n#0  {}\n#1  0x0000000000401006 in a+0x1006 (return address on the stack)\nend: no module holds {}\n"
-        for address, count in ((0, 2), (0x900008, 1), (0x123456, 2)):
+        """After a call through a null pointer the second frame is marked."""
+        text = "\n#0  {}\n#1  0x0000000000401006 in a+0x1006 (return address on the stack)\nend: no module holds 0x0000000000000008\n"
+        for address in (0, 0x123456):
             with self.subTest(address):
-                start = ThreadStart(77, address)
-                walk = without_guess(walk_of(text.format(f"{address:#018x}", "0x0000000000000008")), start, self.FOUND)
-                frames = list(frames_of(walk, start, set()))
-                self.assertEqual([frame.counter for frame in frames], [address, 0x401006][:count])
-                self.assertEqual([frame.note for frame in frames], ["", " (return address on the stack)"][:count])
-                self.assertEqual([frame.address for frame in frames], [address, 0x401005][:count])
+                frames = list(frames_of(walk_of(text.format(f"{address:#018x}")), ThreadStart(77, address), set()))
+                self.assertEqual([frame.counter for frame in frames], [address, 0x401006])
+                self.assertEqual([frame.note for frame in frames], ["", " (return address on the stack)"])
+                self.assertEqual([frame.address for frame in frames], [address, 0x401005])
 
 
 if __name__ == "__main__":

@@ -1,7 +1,10 @@
 """Tests of names.py and symbols.py: names as compilers and demanglers write them, what symbolizers print, and reports."""
 from __future__ import annotations
 
+import ctypes
+import io
 import os
+import pathlib
 import shutil
 import subprocess
 import tempfile
@@ -127,14 +130,14 @@ class Reports(unittest.TestCase):
     def test_code_without_a_table(self) -> None:
         found = {"regions": [], "modules": [], "interrupted": True, "start": {},
                  "code": [{"start": "0x100", "end": "0x200", "path": "/none/go", "bias": "0x0"}, {"start": "0x300", "end": "0x400"}]}
-        guess = "#0  0x0000000000000{0}10\n#1  0x00000000000000c3 (return address on the stack)\nend: no module holds 0x0000000000000{0}10\n"
-        cases = {"1": ("go+0x110", "go has no frame table"), "3": ("??", "the code there is of no file")}
-        for digit, (name, reason) in cases.items():
-            with self.subTest(reason):
-                lines = [f"#0 0x{digit}10 in {name}", f"end: no module holds 0x0000000000000{digit}10: {reason}"]
-                self.assertEqual(backtrace(guess.format(digit), found, []), lines)
-        lines = ["#0 0x510 in ??", "#1 0xc3 in ?? (return address on the stack)", "end: no module holds 0x0000000000000510"]
-        self.assertEqual(backtrace(guess.format("5"), found, []), lines)
+        for address, name, last in ((0x110, "go+0x110", " in go"), (0x310, "??", "")):
+            with self.subTest(address):
+                last = f"end: code without a table at {address:#018x}{last}"
+                report = f"#0  {address:#018x}\n{last}\n"
+                self.assertEqual(backtrace(report, found, []), [f"#0 {address:#x} in {name}", last])
+        guess = "#0  0x0000000000000510\n#1  0x00000000000000c3 (return address on the stack)\nend: no module holds 0x00000000000000c2\n"
+        lines = ["#0 0x510 in ??", "#1 0xc3 in ?? (return address on the stack)", "end: no module holds 0x00000000000000c2"]
+        self.assertEqual(backtrace(guess, found, []), lines)
 
     def test_modules_of_other_kinds(self) -> None:
         found = {"modules": [{"kind": "pe", "base": "0x1000", "size": "0x20", "path": "a.dll", "bias": "0x0"}]}
@@ -186,9 +189,39 @@ class Files(unittest.TestCase):
         with mock.patch.object(symbols, "which", return_value=None):
             self.assertEqual(names_of(self.addresses, self.modules), self.expected(False))
 
+    def test_a_file_without_a_frame_table(self) -> None:
+        """A snapshot names such files as code of which no module has a table."""
+        module, address = self.modules[1], next(address for address, (name, index) in self.addresses.items() if (name, index) == ("inner", 1))
+        code = {"start": f"{module.start:#x}", "end": f"{module.end:#x}", "path": module.path, "bias": f"{module.bias:#x}",
+                "build_id": module.build_id, "program": True}
+        report = f"#0  {address:#018x}\nend: code without a table at {address:#018x} in {os.path.basename(module.path)}\n"
+        lines = [f"#0 {address:#x} in inner", report.splitlines()[1]]
+        self.assertEqual(backtrace(report, {"regions": [], "modules": [], "code": [code], "interrupted": True}, []), lines)
+
     def test_a_file_of_another_build(self) -> None:
         other = [Module(module.path, module.bias, module.start, module.end, "00") for module in self.modules]
         self.assertEqual(names_of(self.addresses, other), {address: [] for address in self.addresses})
+
+
+class Supplied(unittest.TestCase):
+    """What the system maps into this process, whose functions the dynamic linker finds too."""
+
+    def test_a_function(self) -> None:
+        try:
+            function = ctypes.CDLL("linux-vdso.so.1").clock_gettime
+        except (OSError, AttributeError):
+            self.skipTest("wants what the system maps")
+        address = ctypes.cast(function, ctypes.c_void_p).value
+        lines = pathlib.Path("/proc/self/maps").read_text(encoding="utf-8").splitlines()
+        mapped = next(line.split()[0] for line in lines if line.endswith("[vdso]"))
+        start, end = (int(digits, 16) for digits in mapped.split("-"))
+        image = ElfImage(io.BytesIO(symbols.supplied_image()))
+        (code,) = image.code_ranges(start)
+        module = Module(symbols.SUPPLIED, start, code.start, code.end, image.build_id())
+        self.assertTrue(start <= address < end)
+        self.assertIn(names_of([address], [module])[address], ([Place("clock_gettime")], [Place("__vdso_clock_gettime")]))
+        other = module._replace(build_id="00")
+        self.assertEqual(names_of([address], [other])[address], [])
 
 
 if __name__ == "__main__":

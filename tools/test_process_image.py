@@ -15,7 +15,7 @@ from core import by_file
 from core_image import Mapped, Memory, thread_of
 from elf_image import Range, Refused
 from process_backtrace import process_of
-from process_image import Mapping, Process, mapping_of, registers_of, status_note, stopped
+from process_image import Mapping, Process, mapping_of, registers_of, stack_starts, status_note, stopped
 from process_status import why_no_process, why_untraced
 
 # A program that waits, with two threads and a word that is known in its memory.
@@ -188,6 +188,12 @@ class PartsTest(unittest.TestCase):
         self.assertEqual(found and found.place, Range(0x10000, 0x20000 + 2**18))
         found = process.memory_from(2**32 + 5)
         self.assertEqual(found and found.place, Range(2**32, 2**32 + 2**24))
+
+    def test_stacks_as_a_whole(self) -> None:
+        """The first thread's, and mappings with the own block of one thread. A heap may have those of several."""
+        places = {0x1000: "", 0x3000: "", 0x5000: "", 0x7000: "[stack]"}
+        mappings = [Mapping(Range(start, start + 0x1000), True, False, 0, file) for start, file in places.items()]
+        self.assertEqual(stack_starts(mappings, [0, 0x1800, 0x3100, 0x3200, 0x4800]), {0x1000, 0x7000})
 
     def test_the_programs_parts_come_first(self) -> None:
         parts = [Mapped(Range(0, 1), 0, "/lib/a"), Mapped(Range(1, 2), 0, "/bin/b"), Mapped(Range(2, 3), 1, "/lib/a")]

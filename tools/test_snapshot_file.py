@@ -72,7 +72,8 @@ class Threads(unittest.TestCase):
         code = [{"start": "0x9000", "end": "0xa000", "path": "/bin/b", "bias": "0x0"}]
         found = without_names(read_snapshot(self.path("thread-8.json")) | {"code": code})
         self.assertEqual(set(found["modules"][0]), {"kind", "start", "end", "eh_frame"})
-        self.assertEqual(set(found), {"regions", "modules", "start", "limit", "interrupted"})
+        self.assertEqual(set(found), {"regions", "modules", "start", "limit", "interrupted", "code"})
+        self.assertEqual(found["code"], [{"start": "0x9000", "end": "0xa000"}])
 
     def test_a_snapshot_is_no_sample(self) -> None:
         with self.assertRaises(Refused):

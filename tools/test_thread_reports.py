@@ -97,48 +97,87 @@ class RunsTest(unittest.TestCase):
         """By `struct sigcontext_64`: the interrupted RSP, 24 bytes before the segments of user space."""
         signal_frame = bytes(8) + (0x9010).to_bytes(8, "little") + bytes(16) + bytes.fromhex("3300000000002b00")
         first, other, third = Region(0x7000, bytes(8) + signal_frame), Region(0x8000, bytes(64)), Region(0x9000, bytes(64))
-        self.assertEqual(stacks_under([first, other, third], 0x7008), [first, third])
-        self.assertEqual(stacks_under([first, other, third], 0x7FF0), [other])
-        self.assertEqual(stacks_under([first], 0x9000), [])
+        self.assertEqual(stacks_under([first, other, third], [0x7008]), [first, third])
+        self.assertEqual(stacks_under([first, other, third], [0x7FF0]), [other])
+        self.assertEqual(stacks_under([first, other, third], [0x7FF0, 0x7008]), [first, other, third])
+        self.assertEqual(stacks_under([first], [0x9000]), [])
 
 
 class PointersTest(unittest.TestCase):
     """Stops in code without a table, whose callers are found by RBP, and those of these by their tables."""
 
-    def test_two_threads_in_two_runs(self) -> None:
-        words = {0x7010: 0x7030, 0x7018: 0x401006, 0x7030: 0x7050, 0x7038: 0x9999}
-        content = b"".join(words.get(address, 0).to_bytes(8, "little") for address in range(0x7000, 0x7080, 8))
-        threads = [thread_with(number, rip=0x900010, rsp=0x7008, rbp=rbp) for number, rbp in ((1, 0x7010), (2, 0x70))]
-        module = Module("/bin/a", 0, None, [Range(0x401000, 0x402000)], Range(0, 0), None, [], [])
-        code: list[Object] = [{"start": "0x900000", "end": "0x901000"}]
-        taken = Taken(threads, [Region(0x7000, content)], [Loaded(module, Region(0x500000, bytes(4)))], code)
-        asked: list[tuple[list[str], Object]] = []
+    # The chain of RBP: from 0x7010 to code with a table, from there to code without one, and from there to no code.
+    WORDS = {0x7010: 0x7030, 0x7018: 0x401006, 0x7030: 0x7050, 0x7038: 0x900020, 0x7050: 0x7060, 0x7058: 0x9999}
 
-        def first(rbp: str) -> str:
-            return (f"#0  0x0000000000900010 sp=0x7008 {REGISTERS_OF_FRAME.format(rbp)}\n"
-                    f"#1  0x0000000000000007 (return address on the stack) sp=0x7010 {REGISTERS_OF_FRAME.format('0x0')}\n"
-                    "end: no module holds 0x0000000000000006\n")
+    def taken(self, pointers: list[int]) -> Taken:
+        """Threads that stand in code without a table, by their RBP."""
+        content = b"".join(self.WORDS.get(address, 0).to_bytes(8, "little") for address in range(0x7000, 0x7080, 8))
+        threads = [thread_with(number, rip=0x900010, rsp=0x7008, rbp=rbp) for number, rbp in enumerate(pointers, 1)]
+        module = Module("/bin/a", 0, None, [Range(0x401000, 0x402000)], Range(0, 0), None, [], [])
+        code: list[Object] = [{"start": "0x900000", "end": "0x901000", "path": "/lib/bare", "bias": "0x0"}]
+        return Taken(threads, [Region(0x7000, content)], [Loaded(module, Region(0x500000, bytes(4)))], code)
+
+    def reports(self, pointers: list[int], more: dict[str, str]) -> tuple[list[str], list[Object]]:
+        """The reports, and what `backtrace` was asked in each run. It says `more` of a start with a table, by its address."""
+        asked: list[Object] = []
+
+        def report(start: dict[str, str]) -> str:
+            head = f"#0  {int(start['rip'], 16):#018x} sp={start['rsp']} {REGISTERS_OF_FRAME.format(start['rbp'])}\n"
+            inside = int(start["rip"], 16)
+            return head + more.get(start["rip"], f"end: code without a table at {inside:#018x} in bare\n")
 
         def answer(words: list[str], text: bytes) -> Answer:
-            asked.append((words, json.loads(text)))
-            if "--samples" in words:
-                return Answer(f"thread 0\n{first('0x7010')}thread 1\n{first('0x70')}")
-            return Answer(f"#0  0x0000000000401006 in a+0x401006 sp=0x7020 {REGISTERS_OF_FRAME.format('0x7030')}\n"
-                          f"#1  0x0000000000900020 sp=0x7028 {REGISTERS_OF_FRAME.format('0x7030')}\n"
-                          "end: no module holds 0x000000000090001f\n")
+            found = json.loads(text)
+            asked.append(found)
+            if "--samples" not in words:
+                return Answer(report(found["start"]))
+            starts = [sample["start"] for sample in found["samples"]]
+            return Answer("".join(f"thread {index}\n{report(start)}" for index, start in enumerate(starts)))
 
         with mock.patch.object(thread_reports, "run", answer):
-            found = reports_of(taken, Programs("backtrace", None), True)
+            return reports_of(self.taken(pointers), Programs("backtrace", None), True), asked
+
+    def test_two_threads_in_one_run(self) -> None:
+        tables = (f"#1  0x0000000000402000 in a+0x402000 sp=0x7028 {REGISTERS_OF_FRAME.format('0x0')}\n"
+                  "end: the outermost frame, which returns to 0\n")
+        found, asked = self.reports([0x7010, 0x70], {"0x401006": tables})
         self.assertEqual(found, [
             "#0  0x0000000000900010\n#1  0x0000000000401006 (a guess, by the frame pointer)\n"
-            "#2  0x0000000000900020\nend: no module holds 0x000000000090001f\n",
-            "#0  0x0000000000900010\nend: no module holds 0x0000000000900010\n",
+            "#2  0x0000000000402000\nend: the outermost frame, which returns to 0\n",
+            "#0  0x0000000000900010\nend: code without a table at 0x0000000000900010 in bare\n",
         ])
-        samples = ["backtrace", "--registers", "--samples"]
-        self.assertEqual([words for words, _ in asked], [["backtrace", "--samples"], samples, ["backtrace", "--registers"]])
-        start = asked[2][1]
-        self.assertEqual([start["start"][name] for name in ("rip", "rsp", "rbp")], ["0x401006", "0x7020", "0x7030"])
-        self.assertFalse(start["interrupted"])
+        self.assertEqual([len(one["samples"]) for one in asked], [2, 4])
+        starts = [sample["start"]["rip"] for sample in asked[1]["samples"]]
+        self.assertEqual(starts, ["0x900010", "0x401006", "0x900020", "0x900010"])
+        second = asked[1]["samples"][1]
+        self.assertEqual([second["start"][name] for name in ("rip", "rsp", "rbp")], ["0x401006", "0x7020", "0x7030"])
+        self.assertEqual([sample["interrupted"] for sample in asked[1]["samples"]], [True, False, False, True])
+
+    def test_the_code_is_named(self) -> None:
+        """`backtrace` reads which code has no table."""
+        for pointers in ([0x7010], [0x7010, 0x70]):
+            for one in self.reports(pointers, {})[1]:
+                self.assertEqual(one["code"], self.taken(pointers).code)
+
+    def test_from_tables_back_to_code_without_one(self) -> None:
+        """What lies ahead of a frame from which tables lead on doesn't count: the pointer of the last frame does."""
+        tables = (f"#1  0x0000000000900030 sp=0x7028 {REGISTERS_OF_FRAME.format('0x7050')}\n"
+                  "end: code without a table at 0x000000000090002f in bare\n")
+        found, asked = self.reports([0x7010], {"0x401006": tables})
+        self.assertEqual(found, [
+            "#0  0x0000000000900010\n#1  0x0000000000401006 (a guess, by the frame pointer)\n#2  0x0000000000900030\n"
+            "end: code without a table at 0x000000000090002f in bare\n",
+        ])
+        self.assertEqual(len(asked), 2)
+
+    def test_more_frames_than_ahead(self) -> None:
+        with mock.patch.object(thread_reports, "FIRST_AHEAD", 1):
+            found, asked = self.reports([0x7010], {})
+        self.assertEqual(found, [
+            "#0  0x0000000000900010\n#1  0x0000000000401006 (a guess, by the frame pointer)\n"
+            "#2  0x0000000000900020 (a guess, by the frame pointer)\nend: code without a table at 0x0000000000900020 in bare\n",
+        ])
+        self.assertEqual([len(one.get("samples", [0])) for one in asked], [1, 1, 2])
 
 
 if __name__ == "__main__":

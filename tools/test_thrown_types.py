@@ -1,4 +1,6 @@
 """Tests of thrown_types.py, type_info.py and language_sites.py: what a program's handlers took, and the types that it says."""
+import contextlib
+import io
 import pathlib
 import shutil
 import subprocess
@@ -7,8 +9,8 @@ import unittest
 
 from elf_image import ElfImage, Range
 from frame_table import Table, described_at, personality_routines
-from thrown_types import OF_LIBCXX, OF_LIBSTDCXX, PERSONALITY, LoadedTables
-from thrown_types import is_foreign, taken_types, thrown_of, thrown_type, types_asked
+from thrown_types import LIBCXXABI, LIBSTDCXX, OF_LIBCXX, OF_LIBSTDCXX, PERSONALITY, LoadedTables
+from thrown_types import Names, is_foreign, runtime_of, taken_types, thrown_of, thrown_type, types_asked
 from type_info import Types
 
 # Throws an exception of each type before a handler of each, and says which it took. Then it waits, and its memory is read.
@@ -237,10 +239,13 @@ class Throws(unittest.TestCase):
                 self.assertEqual(thrown_type(word, kind, running.read), own)
                 tables = running.tables()
                 routines = personality_routines(tables.frames, running.read)
-                said = thrown_of(word, kind, [tables], {handles}, running.read, lambda address: f"{PERSONALITY} in section x")
+                names = Names(lambda address: f"{PERSONALITY} in section x", lambda name: False)
+                said = thrown_of(word, kind, [tables], {handles}, running.read, names)
                 self.assertEqual((said.types, said.personalities, said.is_foreign), ([own, base], sorted(routines), False))
+                self.assertEqual(said.runtime, LIBCXXABI if running.is_libcxx else LIBSTDCXX)
                 self.assertEqual(len(routines), 1)
-                others = thrown_of(word, kind, [tables], {handles}, running.read, lambda address: "rust_eh_personality")
+                names = Names(lambda address: "rust_eh_personality", lambda name: False)
+                others = thrown_of(word, kind, [tables], {handles}, running.read, names)
                 self.assertEqual(others.personalities, [])
 
     def test_what_a_stream_throws(self) -> None:
@@ -255,10 +260,40 @@ class Throws(unittest.TestCase):
 
     def test_an_exception_of_another_language(self) -> None:
         running = next(iter(self.running.values()))
-        self.assertTrue(is_foreign(ANOTHER))
-        self.assertFalse(is_foreign(OF_LIBSTDCXX | 1))
+        for runtime, own, other in ((LIBSTDCXX, OF_LIBSTDCXX, OF_LIBCXX), (LIBCXXABI, OF_LIBCXX, OF_LIBSTDCXX)):
+            self.assertTrue(is_foreign(ANOTHER, runtime))
+            self.assertTrue(is_foreign(other, runtime))
+            self.assertFalse(is_foreign(own | 1, runtime))
         handles, *named = running.words("handles")
-        self.assertEqual(taken_types(0, ANOTHER, set(named), running.read), [])
+        self.assertEqual(taken_types(0, ANOTHER, LIBSTDCXX, set(named), running.read), [])
+
+
+class Runtimes(unittest.TestCase):
+    # What gdb 13.1 writes of the routine in Debian's libraries, in a program with its runtime within, and of a program's stub.
+    GNU = "__gxx_personality_v0 in section .text of /lib/x86_64-linux-gnu/libstdc++.so.6\n"
+    LLVM = "__gxx_personality_v0 in section .text of /lib/x86_64-linux-gnu/libc++abi.so.1\n"
+    WITHIN = "__gxx_personality_v0 in section .text\n"
+    STUB = "__gxx_personality_v0@got.plt in section .got.plt of /home/me/libstdc++/program\n"
+
+    def test_the_library_tells_the_runtime(self) -> None:
+        for kind in (OF_LIBSTDCXX, OF_LIBCXX, ANOTHER):
+            for has in (True, False):
+                with self.subTest(kind=kind, has=has):
+                    self.assertEqual(runtime_of(kind, [self.GNU], lambda name: has), LIBSTDCXX)
+                    self.assertEqual(runtime_of(kind, [self.WITHIN, self.LLVM], lambda name: has), LIBCXXABI)
+
+    def test_else_the_exception_or_a_symbol_tells_it(self) -> None:
+        for routines in ([self.WITHIN], [self.STUB], []):
+            with self.subTest(routines):
+                self.assertEqual(runtime_of(OF_LIBSTDCXX | 1, routines, lambda name: True), LIBSTDCXX)
+                self.assertEqual(runtime_of(OF_LIBCXX, routines, lambda name: False), LIBCXXABI)
+                self.assertEqual(runtime_of(ANOTHER, routines, lambda name: False), LIBSTDCXX)
+                self.assertEqual(runtime_of(ANOTHER, routines, lambda name: name == "__cxa_terminate_handler"), LIBCXXABI)
+
+    def test_two_runtimes_are_told_of(self) -> None:
+        with contextlib.redirect_stdout(io.StringIO()) as written:
+            self.assertEqual(runtime_of(OF_LIBCXX, [self.GNU, self.LLVM], lambda name: False), LIBCXXABI)
+        self.assertIn("several runtimes: libc++abi, libstdc++", written.getvalue())
 
 
 class Places(unittest.TestCase):

@@ -8,24 +8,26 @@ has the frames up to there and says why there are no more. A sample has a limite
 run of its own. Where one of the two programs isn't built, the other does all.
 
 With frame pointers a report that ends in code without a table goes on by RBP: where that is kept as a frame pointer, the word
-above it is the return address. Such a frame is marked as a guess, and from it on tables count again.
+above it is the return address. Such a frame is marked as a guess, and from it on tables count again. `backtrace` reads which
+code has no table (`code`), and says where a walk came to such code; which frames RBP leads to is found here. One run walks all
+threads, and of each as many frames ahead as RBP leads to: of these count those up to the first from which tables lead on.
 """
 from __future__ import annotations
 
+import bisect
+import itertools
 import json
 import os
 import re
-from typing import NamedTuple, Sequence
+from typing import Iterable, NamedTuple, Sequence
 
 from core import Taken, interrupted_pointers, object_of, text_path
 from core_image import Thread
 from elf_image import Refused
 from loaded_module import module_objects
 from process_image import registers_of
-from programs import run_program
+from programs import built_path, run_program
 from snapshot_file import MOST_BYTES, MOST_STATES, MOST_STATES_OF_A_SAMPLE, Object, Region, region_object
-
-CRATES = os.path.join(os.path.dirname(os.path.realpath(__file__)), "..", "crates")
 
 # How the report of a sample ends that has more frames.
 AT_LIMIT = "end: more frames than the limit\n"
@@ -52,11 +54,6 @@ class Start(NamedTuple):
     interrupted: bool = True
 
 
-def built_path(name: str) -> str:
-    """Where a program is built."""
-    return os.path.normpath(os.path.join(CRATES, name, "out", name))
-
-
 def built_programs(paths: dict[str, str]) -> Programs:
     """Those of the two programs that can be run. Refuses where there is none."""
     there = Programs(*(paths[name] if os.access(paths[name], os.X_OK) else None for name in Programs._fields))
@@ -71,8 +68,22 @@ def built_programs(paths: dict[str, str]) -> Programs:
 def short_text(found: Object) -> bytes:
     """The text in one line. Refuses one that is longer than the programs take."""
     text = json.dumps(found).encode("ascii")
+    check_size(text)
+    return text
+
+
+def check_size(text: bytes) -> None:
+    """Refuses a text that is longer than the programs take."""
     if len(text) > MOST_BYTES:
         raise Refused(f"its stacks and tables come to {len(text)} bytes of text, and {MOST_BYTES} are taken")
+
+
+def text_with_regions(found: Object) -> bytes:
+    """The same of what is made here, whose words and bytes are spelled as JSON has them: they aren't looked at once more."""
+    regions = ",".join(f'{{"address":"{region["address"]}","bytes":"{region["bytes"]}"}}' for region in found["regions"])
+    rest = short_text({name: value for name, value in found.items() if name != "regions"})
+    text = b"".join([b'{"regions":[', regions.encode("ascii"), b"],", rest[1:]])
+    check_size(text)
     return text
 
 
@@ -82,17 +93,16 @@ def module_entries(taken: Taken) -> list[Object]:
     return [entry | {"path": text_path(entry["path"])} for entry in entries]
 
 
-def stacks_under(stacks: list[Region], pointer: int) -> list[Region]:
-    """Of the stacks that on which a pointer stands, and those on which the code stood that signals interrupted there."""
-    found: list[Region] = []
-    pointers = [pointer]
-    while pointers:
-        here = pointers.pop()
-        stack = next((stack for stack in stacks if here < stack.end), None)
-        if stack is not None and stack not in found:
-            found.append(stack)
-            pointers += interrupted_pointers(stack.content)
-    return found
+def stacks_under(stacks: list[Region], pointers: Iterable[int]) -> list[Region]:
+    """Of the stacks those on which pointers stand, and those on which the code stood that signals interrupted there."""
+    found: set[int] = set()
+    left = list(pointers)
+    while left:
+        index = bisect.bisect_right(stacks, left.pop(), key=lambda stack: stack.end)
+        if index < len(stacks) and index not in found:
+            found.add(index)
+            left += interrupted_pointers(stacks[index].content)
+    return [stacks[index] for index in sorted(found)]
 
 
 def start_object(start: Start) -> Object:
@@ -101,11 +111,10 @@ def start_object(start: Start) -> Object:
 
 
 def shared_object(taken: Taken, starts: Sequence[Start]) -> Object:
-    """The memory and the modules of threads that begin so."""
-    asked = [stack for start in starts for stack in stacks_under(taken.stacks, start.registers["rsp"])]
-    stacks = [stack for stack in taken.stacks if stack in asked]
-    tables = [region_object(one.table) for one in taken.loaded]
-    return {"regions": [*tables, *map(region_object, stacks)], "modules": module_entries(taken)}
+    """The memory, the modules and the code without tables of threads that begin so."""
+    stacks = stacks_under(taken.stacks, [start.registers["rsp"] for start in starts])
+    regions = [region_object(region) for region in [*(one.table for one in taken.loaded), *stacks]]
+    return {"regions": regions, "modules": module_entries(taken), "code": list(taken.code)}
 
 
 def snapshot_of(taken: Taken, start: Start) -> Object:
@@ -148,18 +157,30 @@ def by_threads(answer: Answer, count: int, program: str) -> list[Answer]:
 
 def walks_of(taken: Taken, program: str) -> list[Answer]:
     """The walks of all threads in one run of `unwind_cli core`."""
-    return by_threads(run([program, "core"], short_text(object_of(taken, MOST_STATES))), len(taken.threads), program)
+    return by_threads(run([program, "core"], text_with_regions(object_of(taken, MOST_STATES))), len(taken.threads), program)
+
+
+def backtrace_of(taken: Taken, start: Start, words: list[str]) -> Answer:
+    """What `backtrace` reports of one thread, by a run of its own."""
+    return run(words, text_with_regions(snapshot_of(taken, start)))
+
+
+def backtraces_in_one(taken: Taken, starts: Sequence[Start], words: list[str]) -> list[Answer]:
+    """What it reports of several by one run, of each no more frames than a sample has."""
+    if len(starts) == 1:
+        return [backtrace_of(taken, starts[0], words)]
+    return by_threads(run([*words, "--samples"], text_with_regions(samples_of(taken, starts))), len(starts), words[0])
+
+
+def whole(taken: Taken, start: Start, words: list[str], answer: Answer) -> Answer:
+    """The same of one of them, by a run of its own where it has more frames."""
+    return backtrace_of(taken, start, words) if answer.text.endswith(AT_LIMIT) else answer
 
 
 def backtraces_of(taken: Taken, starts: Sequence[Start], words: list[str]) -> list[Answer]:
-    """What `backtrace` reports of threads, by one run for all, and by one of its own for each that has more frames than a sample."""
-    if len(starts) == 1:
-        return [run(words, short_text(snapshot_of(taken, starts[0])))]
-    answers = by_threads(run([*words, "--samples"], short_text(samples_of(taken, starts))), len(starts), words[0])
-    return [
-        run(words, short_text(snapshot_of(taken, start))) if answer.text.endswith(AT_LIMIT) else answer
-        for start, answer in zip(starts, answers)
-    ]
+    """What it reports of each, with all its frames."""
+    answers = backtraces_in_one(taken, starts, words)
+    return [whole(taken, start, words, answer) for start, answer in zip(starts, answers)]
 
 
 def is_whole(answer: Answer) -> bool:
@@ -187,15 +208,23 @@ def answers_of(taken: Taken, programs: Programs) -> list[Answer]:
 
 # A frame of `backtrace --registers`, and why there are no more.
 REGISTERS_LINE = re.compile(r"^#\d+ +(0x[0-9a-f]+)\b(.*?) sp=(0x[0-9a-f]+)((?: \w+=0x[0-9a-f]+)+)$", re.MULTILINE)
-NO_TABLE = re.compile(r"end: no module holds (0x[0-9a-f]+)|end: no description of 0x[0-9a-f]+ in \S+")
+NO_TABLE = re.compile(r"end: (code without a table at|no description of) 0x[0-9a-f]+( in .*)?$")
 BY_POINTER = " (a guess, by the frame pointer)"
+
+# How many frames ahead are walked at first, and how many times as many whenever tables took over from none of them.
+FIRST_AHEAD, MORE_AHEAD = 64, 4
+
+# The registers that calls keep; a guess has no others.
+KEPT = ("rip", "rsp", "rbx", "rbp", "r12", "r13", "r14", "r15")
 
 
 class Stretch(NamedTuple):
-    """What is known of a thread: the lines so far, and where it goes on, or the answer where it doesn't."""
+    """What is known of a thread: the lines so far, where it may go on, and of how many such frames it is asked at once; or the
+    answer where it doesn't go on."""
 
     lines: list[str]
-    start: Start
+    starts: list[Start]
+    ahead: int = FIRST_AHEAD
     answer: Answer | None = None
 
 
@@ -213,7 +242,7 @@ def caller_by_pointer(stacks: list[Region], registers: dict[str, int]) -> dict[s
     outer, back = word_at(stacks, pointer), word_at(stacks, pointer + 8)
     if outer is None or not back or pointer < registers["rsp"] or pointer % 8 != 0:
         return None
-    return registers | {"rip": back, "rsp": pointer + 16, "rbp": outer}
+    return {name: registers[name] for name in KEPT if name in registers} | {"rip": back, "rsp": pointer + 16, "rbp": outer}
 
 
 def frames_of(report: str) -> list[tuple[dict[str, int], str]]:
@@ -226,14 +255,11 @@ def frames_of(report: str) -> list[tuple[dict[str, int], str]]:
     return found
 
 
-def is_code(code: Sequence[Object], address: int) -> bool:
-    """Whether an address lies in code without a table."""
-    return any(int(entry["start"], 16) <= address < int(entry["end"], 16) for entry in code)
-
-
 def is_known_code(taken: Taken, address: int) -> bool:
-    """Whether an address lies in code at all."""
-    return is_code(taken.code, address) or any(place.contains(address) for one in taken.loaded for place in one.module.code)
+    """Whether an address lies in code, with a table or without."""
+    if any(place.contains(address) for one in taken.loaded for place in one.module.code):
+        return True
+    return any(int(entry["start"], 16) <= address < int(entry["end"], 16) for entry in taken.code)
 
 
 def frame_lines(frames: list[tuple[dict[str, int], str]], first: int, note: str) -> list[str]:
@@ -243,32 +269,52 @@ def frame_lines(frames: list[tuple[dict[str, int], str]], first: int, note: str)
     ]
 
 
-def gone_on(taken: Taken, before: Stretch, answer: Answer) -> Stretch:
-    """What is known of a thread with what `backtrace --registers` reports from where it went on."""
-    frames, start = frames_of(answer.text), before.start
-    if answer.fault is not None or not frames:
-        whole = Answer("".join([*before.lines, f"{answer.fault}\n"]), None if before.lines else answer.fault)
-        return before._replace(answer=whole)
-    last = answer.text.splitlines()[-1]
-    if start.interrupted and is_code(taken.code, start.registers["rip"]):
-        frames, last = frames[:1], f"end: no module holds {start.registers['rip']:#018x}"
-    lines = before.lines + frame_lines(frames, len(before.lines), "" if start.interrupted else BY_POINTER)
-    match = NO_TABLE.fullmatch(last)
-    in_code = match is not None and (match[1] is None or is_code(taken.code, int(match[1], 16)))
-    caller = caller_by_pointer(taken.stacks, frames[-1][0]) if in_code else None
-    if caller is None or not is_known_code(taken, caller["rip"] - 1):
-        return Stretch(lines, start, Answer("".join([*lines, f"{last}\n"])))
-    return Stretch(lines, Start(caller, False))
+def known_caller(taken: Taken, registers: dict[str, int]) -> Start | None:
+    """Where a frame's caller goes on by the frame pointer, if that leads to code."""
+    caller = caller_by_pointer(taken.stacks, registers)
+    return Start(caller, False) if caller is not None and is_known_code(taken, caller["rip"] - 1) else None
+
+
+def starts_ahead(taken: Taken, start: Start | None, most: int) -> list[Start]:
+    """A start, and its callers by the frame pointer, one after another, at most so many."""
+    found: list[Start] = []
+    while start is not None and len(found) < most:
+        found.append(start)
+        start = known_caller(taken, start.registers)
+    return found
+
+
+def gone_on(taken: Taken, before: Stretch, answers: list[Answer], words: list[str]) -> Stretch:
+    """What is known of a thread with what `backtrace --registers` reports from each of the starts ahead. They count in turn, as
+    long as tables lead on from none of them."""
+    lines = list(before.lines)
+    for start, short in zip(before.starts, answers):
+        answer = whole(taken, start, words, short)
+        frames = frames_of(answer.text)
+        if answer.fault is not None or not frames:
+            whole_text = "".join([*lines, f"{answer.fault}\n"])
+            return before._replace(answer=Answer(whole_text, None if lines else answer.fault))
+        lines += frame_lines(frames, len(lines), "" if start.interrupted else BY_POINTER)
+        last = answer.text.splitlines()[-1]
+        caller = known_caller(taken, frames[-1][0]) if NO_TABLE.fullmatch(last) else None
+        if caller is None:
+            return Stretch(lines, [], 0, Answer("".join([*lines, f"{last}\n"])))
+        if len(frames) > 1:
+            return Stretch(lines, starts_ahead(taken, caller, FIRST_AHEAD))
+    ahead = before.ahead * MORE_AHEAD
+    return Stretch(lines, starts_ahead(taken, caller, ahead), ahead)
 
 
 def by_pointers(taken: Taken, threads: list[Thread], program: str) -> list[Answer]:
     """The reports of threads by tables and, in code without a table, by frame pointers: in one run for all, and then in one
     for those that go on."""
-    stretches = [Stretch([], Start(registers_of(thread))) for thread in threads]
+    words = [program, "--registers"]
+    stretches = [Stretch([], starts_ahead(taken, Start(registers_of(thread)), FIRST_AHEAD)) for thread in threads]
     while open_ones := [index for index, stretch in enumerate(stretches) if stretch.answer is None]:
-        starts = [stretches[index].start for index in open_ones]
-        for index, answer in zip(open_ones, backtraces_of(taken, starts, [program, "--registers"])):
-            stretches[index] = gone_on(taken, stretches[index], answer)
+        answers = iter(backtraces_in_one(taken, [start for index in open_ones for start in stretches[index].starts], words))
+        for index in open_ones:
+            here = list(itertools.islice(answers, len(stretches[index].starts)))
+            stretches[index] = gone_on(taken, stretches[index], here, words)
     return [stretch.answer for stretch in stretches if stretch.answer is not None]
 
 

@@ -1,5 +1,5 @@
 """What a snapshot says of an exception for `unwind_cli throw`: by which types the handlers on a stack take it, which
-personality routines are C++'s, and whether the exception is one of another language.
+personality routines are C++'s and of which runtime, and whether the exception isn't one of that runtime.
 
 The header of an exception of C++ is laid out by the Itanium C++ ABI, exception handling, level II, section 2.2.1; one that
 `std::rethrow_exception` throws has a header of its own, and libstdc++'s leads to the first one. Which types are asked for
@@ -23,6 +23,13 @@ TYPE_BEFORE_WORD, TYPE_BEFORE_OBJECT = 80, 112
 FOREIGN_TYPE = "N10__cxxabiv119__foreign_exceptionE"
 # The routine that reads the language tables of C++.
 PERSONALITY = "__gxx_personality_v0"
+# The runtimes, by the names that snapshots have of them, and the classes of their own exceptions.
+LIBSTDCXX, LIBCXXABI = "libstdc++", "libc++abi"
+CLASS_OF = {LIBSTDCXX: OF_LIBSTDCXX, LIBCXXABI: OF_LIBCXX}
+# How the files of their libraries begin; some builds of libc++ have libc++abi within.
+LIBRARIES = {"libstdc++": LIBSTDCXX, "libc++": LIBCXXABI}
+# A variable that libc++abi has and libstdc++ hasn't: it tells them apart in a program that has its runtime within.
+ONLY_OF_LIBCXXABI = "__cxa_terminate_handler"
 
 
 class LoadedTables(NamedTuple):
@@ -32,18 +39,44 @@ class LoadedTables(NamedTuple):
     languages: list[Table]
 
 
+class Names(NamedTuple):
+    """What a process calls its addresses, as `info symbol` of gdb writes it, and whether it has a symbol."""
+
+    of: Callable[[int], str]
+    has: Callable[[str], bool]
+
+
 class Thrown(NamedTuple):
     """What a snapshot says, and the memory that it asks for."""
 
     types: list[int]
     personalities: list[int]
     is_foreign: bool
+    runtime: str
     cells: list[Range]
 
 
-def is_foreign(kind: int) -> bool:
-    """Whether an exception of a class isn't one of C++."""
-    return kind & ~AGAIN not in (OF_LIBSTDCXX, OF_LIBCXX)
+def library_runtime(name: str) -> str | None:
+    """The runtime in whose library a routine is, by what its address is called; None where it is in none."""
+    library = name.strip().rpartition(" of ")[2].rpartition("/")[2]
+    return next((runtime for head, runtime in LIBRARIES.items() if library.startswith(head)), None)
+
+
+def runtime_of(kind: int, routines: list[str], has_symbol: Callable[[str], bool]) -> str:
+    """The runtime whose personality reads the tables of C++: by the library that its routines are in, else by the class of the
+    exception, which is the runtime's own, and else by the symbols of the process."""
+    found = {library_runtime(name) for name in routines} - {None}
+    if len(found) == 1:
+        return str(found.pop())
+    if found:
+        print(f"  the functions' personalities are of several runtimes: {', '.join(sorted(map(str, found)))}")
+    own = [runtime for runtime, of_it in CLASS_OF.items() if of_it == kind & ~AGAIN]
+    return own[0] if own else LIBCXXABI if has_symbol(ONLY_OF_LIBCXXABI) else LIBSTDCXX
+
+
+def is_foreign(kind: int, runtime: str) -> bool:
+    """Whether an exception of a class isn't one of a runtime."""
+    return kind & ~AGAIN != CLASS_OF[runtime]
 
 
 def thrown_type(word: int, kind: int, read: Read) -> int:
@@ -78,21 +111,22 @@ def types_asked(tables: list[LoadedTables], calls: set[int], read: Read) -> Name
     return found
 
 
-def taken_types(word: int, kind: int, asked: set[int], read: Read) -> list[int]:
+def taken_types(word: int, kind: int, runtime: str, asked: set[int], read: Read) -> list[int]:
     """The type descriptions by which an exception is taken: its own, those of its bases, and all that are asked for."""
-    types = Types(read, by_text=kind & ~AGAIN != OF_LIBCXX)
-    if is_foreign(kind):
+    types = Types(read, by_text=runtime != LIBCXXABI)
+    if is_foreign(kind, runtime):
         return sorted(type for type in asked if types.name(type) == FOREIGN_TYPE)
     thrown = thrown_type(word, kind, read)
     return list(dict.fromkeys([*types.own(thrown), *sorted(type for type in asked if types.takes(type, thrown))]))
 
 
 def thrown_of(
-    word: int, kind: int, tables: list[LoadedTables], calls: set[int], read: Read, name_of: Callable[[int], str]
+    word: int, kind: int, tables: list[LoadedTables], calls: set[int], read: Read, names: Names
 ) -> Thrown:
     """What a snapshot says of an exception that is thrown within calls at these addresses."""
     asked = types_asked(tables, calls, read)
     routines = {routine for loaded in tables for routine in personality_routines(loaded.frames, read)}
-    personalities = sorted(routine for routine in routines if name_of(routine).startswith(PERSONALITY))
-    types = taken_types(word, kind, asked.types, read)
-    return Thrown(types, personalities, is_foreign(kind), sorted(asked.cells))
+    named = {routine: name for routine in sorted(routines) if (name := names.of(routine)).startswith(PERSONALITY)}
+    runtime = runtime_of(kind, list(named.values()), names.has)
+    types = taken_types(word, kind, runtime, asked.types, read)
+    return Thrown(types, list(named), is_foreign(kind, runtime), runtime, sorted(asked.cells))
