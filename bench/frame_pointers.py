@@ -33,7 +33,7 @@ ADDRESS = re.compile(r"^#\d+ +0x([0-9a-f]+)", re.MULTILINE)
 
 def programs() -> Programs:
     """The built programs."""
-    return built_programs({name: os.environ.get(name.upper()) or built_path(name) for name in Programs._fields})
+    return built_programs({name: built_path(name) for name in Programs._fields})
 
 
 def reports(number: int, built: Programs) -> list[str]:

@@ -181,10 +181,9 @@ of_threads() {
 
 # Code that a compiler makes at run time, and code without frame tables.
 of_code() {
-    local turns='function turn(n) { let s = 0; if (n > 0) return turn(n - 1) + 1; for (;;) { s = (s * 31 + 7) % 1000003 } } turn(6)'
-    waits 'node, idle' '--threads' node -e 'setTimeout(() => 0, 1e9)'
-    runs 'node, in code of its compiler' '' node -e "$turns"
-    runs 'the same, --frame-pointers' '--frame-pointers' node -e "$turns"
+    waits 'node, idle' '--threads' node turns.js wait
+    runs 'node, in code of its compiler' '' node turns.js
+    runs 'the same, --frame-pointers' '--frame-pointers' node turns.js
     javac -d "$scratch" Turns.java 2> /dev/null
     PATIENCE=3 waits 'java, the main thread' '' java -cp "$scratch" Turns
     PATIENCE=3 waits 'java -Xint, the main thread' '' java -Xint -cp "$scratch" Turns

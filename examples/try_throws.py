@@ -7,7 +7,7 @@ A PROGRAM is one of out/, built of a source in cxx/, with its build after a dash
 for each of its throws (`take_throw` of ../tools/landings.py). It gets no environment, so that addresses are the same each time.
 `cmake`, `gdb` and `apt` are those of the system. For each throw there are in out/throws a snapshot and the report of the
 process; where the command's differs, the difference is printed. FILE gets a table of all throws. The status is 0 where all are
-the same, but for those where the runtime has a rule of its own.
+the same.
 """
 from __future__ import annotations
 
@@ -39,12 +39,9 @@ CASES: dict[str, list[tuple[str, list[int]]]] = {
     "readings": [("31", [1]), ("100", [1]), ("0", [1]), ("-1", [1])],
     "faults": [("0x10", [1])],
     "plugins": [("plug", [1])],
+    "callbacks": [("native", [1]), ("foreign", [1])],
     "mixed": [("rust-cxx-rust", [1]), ("rust-cxx", [1]), ("cxx-rust-cxx", [1]), ("cxx-rust", [1])],
 }
-
-# Throws of an exception of another language at a specification: at a list that isn't empty, and at an empty one. Here libc++abi
-# has a rule of its own, and `throw` goes by libstdc++'s (../docs/LIMITS.md).
-AT_LIST, AT_EMPTY_LIST = "l-foreign", "n-foreign"
 
 CMAKE_SCRIPTS = {
     "json": 'string(JSON found GET "{\\"a\\":1}" b)',
@@ -72,10 +69,6 @@ class Try(NamedTuple):
     case: str
     count: int
 
-    def is_by_own_rule(self) -> bool:
-        """Whether libc++abi goes by a rule of its own: it enters the landing pad of each specification with a foreign exception."""
-        return "libcxx" in self.build and self.case in (AT_LIST, AT_EMPTY_LIST)
-
     def file(self) -> str:
         """The name of its files: of each case its own."""
         letters = "".join(letter if letter.isalnum() else f"_{ord(letter):x}" for letter in self.case)
@@ -100,7 +93,7 @@ class Outcome(NamedTuple):
     def row(self, tried: Try) -> str:
         """The row of a table."""
         frames, pads = (sum(line.startswith(head) for line in self.due) for head in ("frame", "cleanup"))
-        same = "the same" if self.is_same() else "by the runtime's own rule" if tried.is_by_own_rule() else "**not the same**"
+        same = "the same" if self.is_same() else "**not the same**"
         return f"| `{tried.build}` | `{tried.case}`, {tried.count} | {frames} | {pads} | {self.end()} | {same} |"
 
 
@@ -168,9 +161,8 @@ def main() -> None:
     if options.table:
         pathlib.Path(options.table).write_text("\n".join(head + rows) + "\n")
     same = sum(outcome.is_same() for outcome in outcomes)
-    own = sum(each.is_by_own_rule() and not outcome.is_same() for each, outcome in zip(tries, outcomes))
-    print(f"{len(tries)} throws, {same} the same, {own} by the runtime's own rule, {len(tries) - same - own} not the same")
-    sys.exit(0 if same + own == len(tries) else 1)
+    print(f"{len(tries)} throws, {same} the same, {len(tries) - same} not the same")
+    sys.exit(0 if same == len(tries) else 1)
 
 
 if __name__ == "__main__":
