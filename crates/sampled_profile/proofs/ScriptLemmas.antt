@@ -47,7 +47,7 @@ put_more_lines origins states i c all old new at before put =
 pub put_three : (old one two three first second third last : List ℕ) → one ≡ old ++ first → two ≡ one ++ second → three ≡ two ++ third → three ++ last ≡ old ++ ((first ++ (second ++ third)) ++ last)
 put_three old one two three first second third last e f g =
     let texts : three ≡ old ++ (first ++ (second ++ third)) =
-        g ∙ (ap (λ s. s ++ third) (f ∙ ap (λ s. s ++ second) e) ∙ (append_assoc (old ++ first) second third ∙ append_assoc old first (second ++ third))) in
+    g ∙ (ap (λ s. s ++ third) (f ∙ ap (λ s. s ++ second) e) ∙ (append_assoc (old ++ first) second third ∙ append_assoc old first (second ++ third))) in
     ap (λ s. s ++ last) texts ∙ append_assoc old (first ++ (second ++ third)) last
 
 -- ---- registers
