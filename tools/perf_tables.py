@@ -140,6 +140,17 @@ def tables_of(mappings: list[Mapping]) -> Object:
     }
 
 
+def program_mappings(content: bytes) -> list[Mapping]:
+    """The mappings of the program with the most samples. Records stand in a file by the processor that wrote them, so the one that says
+    that a program began may come after those of what it mapped; the parts of a recording are told by the records' times."""
+    from perf_parts import parts_of  # it reads records by this module
+
+    parts = [part for part in parts_of(content) if part.samples]
+    if not parts:
+        raise Refused("it has no samples")
+    return parts[0].mappings
+
+
 def main() -> None:
     parser = argparse.ArgumentParser(description="the tables that `profile` reads")
     parser.add_argument("--process", type=int, metavar="PID")
@@ -147,11 +158,12 @@ def main() -> None:
     words = parser.parse_args()
     try:
         with open(words.file, "rb") as stream:
-            profile = read_profile(stream.read())
-        if not profile.samples:
-            raise Refused("it has no samples")
-        process = words.process or profile.samples.most_common(1)[0][0]
-        print(text_of(tables_of(profile.mappings[process])))
+            content = stream.read()
+        if words.process is not None:
+            mappings = read_profile(content).mappings[words.process]
+        else:
+            mappings = program_mappings(content)
+        print(text_of(tables_of(mappings)))
     except (Refused, OSError) as error:
         sys.exit(f"{words.file}: {error}")
 
