@@ -1,14 +1,15 @@
 -- What stands at an offset of a frame table, by what is read there.
-use Rattle.std.proofs.Common.{◌≡◌, ℕ, ◌-◌, ◌<◌, ◌≤◌, Option, Some, None, Ok, Err, refl, sym, ap, ◌∙◌}
+use Rattle.std.proofs.Common.{◌≡◌, ℕ, ◌-◌, ◌<◌, ◌≤◌, length, Option, Some, None, Result, Ok, Err, refl, sym, ap, ◌∙◌}
 use Rattle.unwind_definitions.specs.Faults.{◌>>=◌}
 use Rattle.std.specs.Int.{w32}
 use Rattle.std.proofs.lemmas.Bool.{ne_eqb, le-ltb, lt-ltb}
 use Rattle.unwind_definitions.specs.declared.error.Error.{Error as Fault}
-use Rattle.unwind_definitions.specs.declared.error.Error.TheVariants.{NotCie}
+use Rattle.unwind_definitions.specs.declared.error.Error.TheVariants.{NotCie, NotFde}
 use Rattle.unwind_definitions.specs.Input.{Input, skip, number}
 use Rattle.unwind_definitions.specs.Pointers.{Bases}
 use Rattle.unwind_definitions.specs.Entries.{Cie, Fde, Entry, ACie, AFde, body, cie_body, cie_in, cie_at, fde_body, entry_in, found_in, entry_at}
-use Rattle.eh_frame.specs.Standing.{naming}
+use Rattle.unwind_definitions.specs.HeaderSearch.{fde_at, fde_in}
+use Rattle.eh_frame.specs.Standing.{description, description_in, naming}
 
 -- a body is read at an offset
 module _ (bases : Bases) (table : Input) (offset : ℕ) (c : Input) (stands : c ≡ skip offset table) where
@@ -58,3 +59,25 @@ module _ (bases : Bases) (table : Input) (offset : ℕ) (b rest : Input) (id pla
 
     pub whole_fde : (fde : Fde) → fde_body bases cie offset rest ≡ Ok fde → entry_in bases table offset b ≡ Ok (AFde fde)
     whole_fde fde whole = rw (read, ne_eqb id 0 other, ← stands, le-ltb place id within, found, whole) refl
+
+-- a description that is found with its end, without it
+described : (next : ℕ) (given : Result Entry Fault) → ((given >>= λ e. Ok (Some (record { entry = e; next = next }))) >>= λ found. fde_in found) ≡ (given >>= λ e. description e)
+described next (Err e) = refl
+described next (Ok (ACie cie)) = refl
+described next (Ok (AFde fde)) = refl
+
+-- an offset is within the table
+pub within_table : (bases : Bases) (table : Input) (offset : ℕ) → offset ≤ length table.bytes → fde_at bases table offset ≡ (entry_at bases table offset >>= λ found. fde_in found)
+within_table bases table offset within = rw (le-ltb (length table.bytes) offset within) refl
+
+-- a description is what its body says, and there is none without
+module _ (bases : Bases) (table : Input) (offset : ℕ) (c : Input) (stands : c ≡ skip offset table) where
+  pub by_fault : (e : Fault) → body c ≡ Err e → (entry_at bases table offset >>= λ found. fde_in found) ≡ Err e
+  by_fault e fault = rw (no_body bases table offset c stands e fault) refl
+
+  pub by_none : (next : Input) → body c ≡ Ok (None, next) → (entry_at bases table offset >>= λ found. fde_in found) ≡ Err NotFde
+  by_none next none = rw (no_more bases table offset c stands next none) refl
+
+  pub by_body : (b next : Input) → body c ≡ Ok (Some b, next) → (entry_at bases table offset >>= λ found. fde_in found) ≡ description_in bases table offset b
+  unfolding entry_at
+  by_body b next read = ap (λ (x : Input). (body x >>= λ r. found_in bases table offset r.0 r.1.offset) >>= λ found. fde_in found) (sym stands) ∙ rw read (described next.offset (entry_in bases table offset b))

@@ -1,11 +1,12 @@
 -- The common information entries that are known of a table.
-use Rattle.std.specs.Prelude.{ℕ, IfSome, Ok, Result}
+use Rattle.std.specs.Prelude.{ℕ, Err, IfSome, Ok, Result}
 use Rattle.std.proofs.Props.{props}
 use Rattle.unwind_definitions.specs.declared.error.Error.{Error as Fault}
 use Rattle.unwind_definitions.specs.Faults.{◌>>=◌}
 use Rattle.unwind_definitions.specs.Input.{Input}
 use Rattle.unwind_definitions.specs.Pointers.{Bases}
-use Rattle.unwind_definitions.specs.Entries.{AFde, Entry, cie_at, fde_body}
+use Rattle.unwind_definitions.specs.Entries.{ACie, AFde, Entry, Fde, cie_at, entry_in, fde_body}
+use Rattle.unwind_definitions.specs.declared.error.Error.TheVariants.{NotFde}
 use Rattle.eh_frame.specs.declared.cie.Cie.{Cie as ReadCie}
 use Rattle.eh_frame.specs.declared.known_cies.KnownCies.{KnownCies}
 use Rattle.eh_frame.specs.EntryViews.{cie_of}
@@ -21,3 +22,12 @@ standing_prop bases table known = Prim.hlevel (props, λ (cie : ReadCie). stands
 -- the description at an offset, by the offset of the common information entry that it names, and by what stands after that
 abbrev pub naming : Bases → Input → ℕ → ℕ → Input → Result Entry Fault
 naming bases table named offset rest = cie_at bases table named >>= λ cie. fde_body bases cie offset rest >>= λ fde. Ok (AFde fde)
+
+-- an entry, where it is a description
+abbrev pub description : Entry → Result Fde Fault
+description (ACie cie) = Err NotFde
+description (AFde fde) = Ok fde
+
+-- the description at an offset, by its body
+abbrev pub description_in : Bases → Input → ℕ → Input → Result Fde Fault
+description_in bases table offset b = entry_in bases table offset b >>= λ entry. description entry

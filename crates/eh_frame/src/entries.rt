@@ -11,10 +11,10 @@ ghost use Rattle.unwind_definitions.specs.Entries.{cie_in};
 ghost use Rattle.unwind_definitions.specs.Entries.{entry_in, entry_at};
 ghost use Rattle.unwind_definitions.specs.Row.{covers_pc};
 ghost use Rattle.unwind_definitions.specs.Scan.{found_or, scan};
-ghost use Rattle.unwind_definitions.specs.HeaderSearch.{fde_at, fde_at_address, fde_in};
+ghost use Rattle.unwind_definitions.specs.HeaderSearch.{fde_at, fde_at_address};
 ghost use Rattle.encoded_pointers.specs.Readers.{GivesOr, Answers};
 ghost use Rattle.eh_frame.specs.Shared.{cie_of_entry, StandsIn};
-ghost use Rattle.eh_frame.specs.Standing.{AreStanding, naming};
+ghost use Rattle.eh_frame.specs.Standing.{AreStanding, description_in, naming};
 ghost use Rattle.eh_frame.specs.Search.{IsFirst, NoneContains, IsUnreadable};
 ghost use Rattle.encoded_pointers.specs.CursorViews.{at};
 ghost use Rattle.encoded_pointers.specs.PointerViews.{bases_of};
@@ -118,7 +118,32 @@ impl<'a> EhFrame<'a> {
         if offset > self.bytes.len() as u64 {
             return Err(Error::UnexpectedEof);
         }
-        described_fde(self.entry_at(offset, &KnownCies::new(), bases)?)
+        let mut input = self.from(offset);
+        match read_body(&mut input)? {
+            None => Err(Error::NotFde),
+            Some(body) => self.fde_in(offset, body, bases),
+        }
+    }
+
+    // The description at `offset`, whose body is `body`.
+    #[inline(always)]
+    fn fde_in(&self, offset: u64, body: Cursor<'a>, bases: &Bases) -> Result<Fde<'a>, Error>
+        ensures { Answers fde_of result
+            (description_in (bases_of bases.now) (table_of self.now) offset (at body.entry)) }
+    {
+        let origin = body.offset();
+        let mut input = body;
+        let id = input.read_u32()? as u64;
+        if id == 0 {
+            // What can't be read is told before what it isn't.
+            Cie::read(offset, input, bases)?;
+            return Err(Error::NotFde);
+        }
+        if id > origin {
+            return Err(Error::NotCie);
+        }
+        let cie = self.cie_at(origin - id, bases)?;
+        Fde::read(&cie, offset, input, bases)
     }
 
     // The same at an address, which isn't below the table's.
@@ -253,8 +278,8 @@ impl<'a> EhFrame<'a> {
         Err(Error::NoUnwindInfoForAddress)
     }
 
-    // The table from an offset on.
-    fn from(&self, offset: u64) -> Cursor<'a>
+    /// The table from an offset on.
+    pub(crate) fn from(&self, offset: u64) -> Cursor<'a>
         ensures { at result ≡ skip offset (table_of self.now) }
     {
         Cursor::from_offset(self.bytes, self.address, offset)
@@ -287,9 +312,9 @@ impl<'a> EhFrame<'a> {
         }
     }
 
-    // The entry at `offset`, whose body is `body`.
+    /// The entry at `offset`, whose body is `body`.
     #[inline(always)]
-    fn entry_in(
+    pub(crate) fn entry_in(
         &self,
         offset: u64,
         body: Cursor<'a>,
@@ -380,21 +405,6 @@ impl<'a> Entry<'a> {
     }
 }
 
-// An entry, where it is a description.
-fn described_fde<'a>(found: Option<Found<'a>>) -> Result<Fde<'a>, Error>
-    ensures { Answers fde_of result (fde_in (option_map found_of found.entry)) }
-{
-    match found {
-        Some(
-            Found {
-                entry: Entry::Fde(fde),
-                ..
-            },
-        ) => Ok(fde),
-        _ => Err(Error::NotFde),
-    }
-}
-
 // Lists the common information entry at `offset`. `body` is what stands after its first four bytes.
 // `false` where it can't be read.
 #[inline(never)]
@@ -431,8 +441,8 @@ fn cie_in<'a>(offset: u64, body: Cursor<'a>, bases: &Bases) -> Result<Cie<'a>, E
     Cie::read(offset, input, bases)
 }
 
-// The body of an entry, None at the end of the list: at the end of the table, or at a length of 0.
-fn read_body<'a>(input: &mut Cursor<'a>) -> Result<Option<Cursor<'a>>, Error>
+/// The body of an entry, `None` at the end of the list: at the end of the table, or at a length of 0.
+pub(crate) fn read_body<'a>(input: &mut Cursor<'a>) -> Result<Option<Cursor<'a>>, Error>
     ensures { GivesOr (option_map at) result (body (at input.old)) (at input.new) }
 {
     if input.is_empty() {

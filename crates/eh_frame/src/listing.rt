@@ -4,7 +4,7 @@ ghost use Rattle.encoded_pointers.specs.PointerViews.{bases_of};
 ghost use Rattle.eh_frame.specs.Standing.{AreStanding, standing_prop};
 ghost use Rattle.eh_frame.specs.EntryViews.{table_of};
 
-use crate::entries::{EhFrame, Entry};
+use crate::entries::{EhFrame, Entry, read_body};
 use crate::known_cies::KnownCies;
 use encoded_pointers::Bases;
 use unwind_definitions::Error;
@@ -73,15 +73,27 @@ impl<'a> Entries<'a> {
         if self.is_over {
             return Ok(None);
         }
-        match self.table.entry_at(self.offset, &self.known, &self.bases) {
-            Ok(Some(found)) => {
-                self.known.note(&found.entry);
-                self.offset = found.next;
-                Ok(Some(found.entry))
-            }
+        // An entry is built where it is answered, and isn't moved from a record with its end.
+        let mut input = self.table.from(self.offset);
+        let body = match read_body(&mut input) {
+            Ok(Some(body)) => body,
             Ok(None) => {
                 self.is_over = true;
-                Ok(None)
+                return Ok(None);
+            }
+            Err(error) => {
+                self.is_over = true;
+                return Err(error);
+            }
+        };
+        match self
+            .table
+            .entry_in(self.offset, body, &self.known, &self.bases)
+        {
+            Ok(entry) => {
+                self.known.note(&entry);
+                self.offset = input.offset();
+                Ok(Some(entry))
             }
             Err(error) => {
                 self.is_over = true;
