@@ -154,8 +154,9 @@ fn found_action(
     exception: Exception<'_>,
     address: u64,
 ) -> Result<CxxAction, CxxError>
-    ensures { result_map cxx_action_of result ≡ cxx_table_action image.now (exception_of exception.entry) address
-        (language_place image.now (found_fde_of found.now).bases (found_fde_of found.now).fde) }
+    ensures { result_map cxx_action_of result ≡ cxx_table_action image.now
+        (exception_of exception.entry) address (language_place image.now
+        (found_fde_of found.now).bases (found_fde_of found.now).fde) }
 {
     let place = Place {
         start: found.fde.initial_address(),
