@@ -161,13 +161,16 @@ pub fn frame_asks(
     match frame {
         // So it is of most frames.
         FoundFrame::Prepared(_, frame) if !frame.has_personality() => Ok(FrameAction::Nothing),
-        _ => named_asks(languages, image, state, frame),
+        FoundFrame::Prepared(table, frame) => {
+            elf::prepared_asks(languages, image, table, frame, state.address())
+        }
+        _ => found_asks(languages, image, state, frame),
     }
 }
 
-/// The same, whatever the frame names.
+/// The same, however the frame was found.
 #[inline(never)]
-fn named_asks(
+fn found_asks(
     languages: &Languages<'_>,
     image: &MemoryImage<'_>,
     state: &Stepped,
