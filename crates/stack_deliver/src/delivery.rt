@@ -52,6 +52,8 @@ where
         (met_through (languages_of languages.now) space.now start exception resumes.now limit)
         steps.old.number steps.new.number }
 {
+    // Both are cleared once a delivery, and lent to each pass.
+    let mut place = None;
     let mut rows = RowRoom::new();
     let mut stepper = Stepper::over(space, start.registers[RSP]);
     let mut state = Stepped {
@@ -68,6 +70,7 @@ where
         &mut state,
         limit,
         room,
+        &mut place,
         &mut rows,
         steps,
     )?;
@@ -86,6 +89,7 @@ where
         resumes,
         limit,
         room,
+        &mut place,
         &mut rows,
         steps,
     )

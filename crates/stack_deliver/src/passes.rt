@@ -18,6 +18,7 @@ ghost use Rattle.stack_steps.specs.Ticking.{RisesWithin};
 use crate::answers::{Ending, Outcome};
 use crate::resumes::Resumes;
 use eh_frame::RowRoom;
+use fde_finders::FDESearchResult;
 use memory_image::{Ledger, Steps};
 use stack_steps::{DeliverError, Languages, Stepped, Stepper};
 use stack_walks::{Pass, Phase, Room, Stop, Trail, mark_of, outwards_over};
@@ -77,6 +78,7 @@ fn cleanup<'t, 'a, L: Ledger>(
     kept: u64,
     limit: u32,
     room: &mut Room,
+    place: &mut Option<FDESearchResult<'a>>,
     rows: &mut RowRoom<'a>,
     steps: &mut Steps<L>,
 ) -> Result<PassEnd, DeliverError>
@@ -98,7 +100,7 @@ where
         phase: Phase::Cleanup,
         languages: *languages,
     };
-    match outwards_over(Some(pass), stepper, state, limit, room, rows, steps)? {
+    match outwards_over(Some(pass), stepper, state, limit, room, place, rows, steps)? {
         None => Ok(PassEnd::Fatal),
         Some(stop) => Ok(pass_end(stop, state, exception, kept)),
     }
@@ -149,6 +151,7 @@ pub(crate) fn passes<'t, 'a, L: Ledger>(
     resumes: &Resumes,
     limit: u32,
     room: &mut Room,
+    place: &mut Option<FDESearchResult<'a>>,
     rows: &mut RowRoom<'a>,
     steps: &mut Steps<L>,
 ) -> Result<Ending, DeliverError>
@@ -171,7 +174,7 @@ where
     };
     loop {
         let end = cleanup(
-            languages, stepper, &mut state, exception, kept, limit, room, rows, steps,
+            languages, stepper, &mut state, exception, kept, limit, room, place, rows, steps,
         )?;
         match end {
             PassEnd::Fatal => return Ok(FATAL),

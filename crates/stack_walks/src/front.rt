@@ -241,7 +241,17 @@ where
 {
     let mut rows = RowRoom::new();
     let mut stepper = Stepper::over(space, state.context.registers[RSP]);
-    outwards_over(None, &mut stepper, state, limit, room, &mut rows, steps)
+    let mut place = None;
+    outwards_over(
+        None,
+        &mut stepper,
+        state,
+        limit,
+        room,
+        &mut place,
+        &mut rows,
+        steps,
+    )
 }
 
 /// Walks as [`walk_front_into`] does, over a space that is seen over an image which has grown: so one

@@ -108,13 +108,13 @@ enum Turn {
 /// The action for which a pass stops at a frame. A walk, which is no pass, stops for none.
 #[inline(always)]
 fn stop_action(
-    pass: Option<Pass<'_>>,
+    pass: &Option<Pass<'_>>,
     image: &MemoryImage<'_>,
     state: &Stepped,
     frame: &FoundFrame<'_, '_>,
 ) -> Result<Option<FrameAction>, DeliverError>
     ensures { (f : FrameAt) → IsFrameOf frame.now f →
-        result ≡ stop_of (passing pass.entry) image.now state.now.context
+        result ≡ stop_of (passing pass.now) image.now state.now.context
         state.now.signal f }
 {
     let Some(pass) = pass else {
@@ -132,7 +132,7 @@ fn stop_action(
 /// place. `place` is for what a search finds.
 #[tactic(auto, unfolding(crate::specs::Turns::turn_for))]
 fn meet<'t, 'a, L: Ledger>(
-    pass: Option<Pass<'_>>,
+    pass: &Option<Pass<'_>>,
     stepper: &mut Stepper<'_, 't, 'a>,
     state: &mut Stepped,
     place: &mut Option<FDESearchResult<'a>>,
@@ -143,7 +143,7 @@ where
     't: 'a,
     ensures same { stepper.new ≡ stepper.old }
     ensures met { result_map (turn_shown state.new) result ≡
-        turn_for (passing pass.entry) stepper.old state.old.context state.old.signal }
+        turn_for (passing pass.now) stepper.old state.old.context state.old.signal }
     ensures stays { IfOk result (λ turn. StaysAt turn state.old state.new) }
     ensures unmoved { OnErr result (state.new ≡ state.old) }
     ensures ticks { TicksAt stepper.old state.old.context state.old.signal steps.old.number
@@ -183,19 +183,21 @@ fn visit(pass: Option<Pass<'_>>, state: &Stepped, room: &mut Room)
     ensures { room.new ≡ visited_with (visits (passing pass.entry)) room.old state.now.context }
 {
     if visits(pass) {
-        let _ = room.visit(state.context);
+        let _ = room.visit(state.context.copied());
     }
 }
 
 /// Goes from a state outwards: a walk, which is no pass and puts each state into the room, the
 /// search, which does so too, or a cleanup pass. It answers where it stops, `None` at the end of
-/// the stack. `state` is then the last state that was met or, after `FrameLimit`, the next.
+/// the stack. `state` is then the last state that was met or, after `FrameLimit`, the next. `place`
+/// is for what a search finds, and what it holds at first doesn't matter.
 pub fn outwards_over<'t, 'a, L: Ledger>(
     pass: Option<Pass<'_>>,
     stepper: &mut Stepper<'_, 't, 'a>,
     state: &mut Stepped,
     limit: u32,
     room: &mut Room,
+    place: &mut Option<FDESearchResult<'a>>,
     rows: &mut RowRoom<'a>,
     steps: &mut Steps<L>,
 ) -> Result<Option<Stop>, DeliverError>
@@ -216,10 +218,9 @@ where
         state.old.signal)
         steps.old.number steps.new.number }
 {
-    let mut place = None;
     for _ in 0..limit {
         visit(pass, state, room);
-        match meet(pass, stepper, state, &mut place, rows, steps)? {
+        match meet(&pass, stepper, state, place, rows, steps)? {
             Turn::End => return Ok(None),
             Turn::Stop(action, arguments) => return Ok(Some(Stop { action, arguments })),
             Turn::Caller => {}
@@ -282,5 +283,15 @@ pub fn outwards<'a, L: Ledger>(
 {
     let own = space.over_own_image();
     let mut stepper = Stepper::over(&own, state.context.registers[RSP]);
-    outwards_over(pass, &mut stepper, state, limit, room, rows, steps)
+    let mut place = None;
+    outwards_over(
+        pass,
+        &mut stepper,
+        state,
+        limit,
+        room,
+        &mut place,
+        rows,
+        steps,
+    )
 }
