@@ -50,19 +50,19 @@ impl<'a> KnownCies<'a> {
             AreStanding bases table self.new }
     {
         if self.get(entry.named_offset()).is_none() {
-            self.put(entry);
+            self.put(entry.named_cie());
         }
     }
 
-    // Makes it the last, and the last the one before it.
+    // Makes one the last, and the last the one before it. By value, so that an entry in the loop that
+    // reads it needn't stand in memory.
     #[inline(never)]
-    fn put(&mut self, entry: &Entry<'a>)
+    fn put(&mut self, cie: Cie<'a>)
         ensures { (bases : Bases) (table : Input) → AreStanding bases table self.old →
-            StandsIn bases table (cie_of_entry (entry_of entry.now)) →
-            AreStanding bases table self.new }
+            StandsIn bases table (cie_of cie.entry) → AreStanding bases table self.new }
     {
         self.before = self.last;
-        self.last = Some(entry.named_cie());
+        self.last = Some(cie);
     }
 }
 
