@@ -9,7 +9,7 @@ use Rattle.unwind_definitions.specs.Input.{Input, skip, number}
 use Rattle.unwind_definitions.specs.Pointers.{Bases}
 use Rattle.unwind_definitions.specs.Entries.{Cie, Fde, Entry, ACie, AFde, body, cie_body, cie_in, cie_at, fde_body, entry_in, found_in, entry_at}
 use Rattle.unwind_definitions.specs.HeaderSearch.{fde_at, fde_in}
-use Rattle.eh_frame.specs.Standing.{description, description_in, naming}
+use Rattle.eh_frame.specs.Standing.{covering, covering_body, covering_in, description, description_in, naming}
 
 -- a body is read at an offset
 module _ (bases : Bases) (table : Input) (offset : ℕ) (c : Input) (stands : c ≡ skip offset table) where
@@ -81,3 +81,11 @@ module _ (bases : Bases) (table : Input) (offset : ℕ) (c : Input) (stands : c 
   pub by_body : (b next : Input) → body c ≡ Ok (Some b, next) → (entry_at bases table offset >>= λ found. fde_in found) ≡ description_in bases table offset b
   unfolding entry_at
   by_body b next read = ap (λ (x : Input). (body x >>= λ r. found_in bases table offset r.0 r.1.offset) >>= λ found. fde_in found) (sym stands) ∙ rw read (described next.offset (entry_in bases table offset b))
+
+-- a description that is read by its common information entry, where it contains an address
+kept : (pc : ℕ) (given : Result Fde Fault) → ((given >>= λ fde. Ok (AFde fde)) >>= λ e. Ok (covering pc e)) ≡ (given >>= λ fde. Ok (covering pc (AFde fde)))
+kept pc (Err e) = refl
+kept pc (Ok fde) = refl
+
+pub covering_by_cie : (bases : Bases) (table : Input) (offset : ℕ) (b rest : Input) (id place : ℕ) → number w32 b ≡ Ok (id, rest) → (id ≡ 0 → ⊥) → place ≡ b.offset → id ≤ place → (pc : ℕ) (cie : Cie) → cie_at bases table (place - id) ≡ Ok cie → covering_in bases table offset b pc ≡ covering_body bases cie offset rest pc
+covering_by_cie bases table offset b rest id place read other stands within pc cie found = rw (read, ne_eqb id 0 other, ← stands, le-ltb place id within, found) (kept pc (fde_body bases cie offset rest))

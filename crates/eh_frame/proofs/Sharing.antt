@@ -62,7 +62,7 @@ at_own bases table offset cie is =
     ap (cie_at bases table) same ∙ is
 
 module _ (bases : Bases) (table : Input) (offset : ℕ) where
-  in_stands : (b next : Input) (e : Entry) → body (skip offset table) ≡ Ok (Some b, next) → entry_in bases table offset b ≡ Ok e → StandsIn bases table (cie_of_entry e)
+  pub in_stands : (b next : Input) (e : Entry) → body (skip offset table) ≡ Ok (Some b, next) → entry_in bases table offset b ≡ Ok e → StandsIn bases table (cie_of_entry e)
   in_stands b next e read is = let id = before (number w32 b) _ e is in go id.0.0 id.0.1 id.1 (id.0.0 == 0) refl id.2
     where
       whole : (id : ℕ) (c : Input) (cie : Cie) → number w32 b ≡ Ok (id, c) → (id == 0) ≡ true → cie_body bases offset c ≡ Ok cie → cie_at bases table offset ≡ Ok cie

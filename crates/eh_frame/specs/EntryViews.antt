@@ -1,12 +1,11 @@
 -- The code's records as those of the definitions.
 use Rattle.std.specs.Option.{option_map}
-use Rattle.unwind_definitions.specs.Entries.{Cie, Fde, Entry, ACie, AFde, Found}
+use Rattle.unwind_definitions.specs.Entries.{Cie, Fde, Entry, ACie, AFde}
 use Rattle.eh_frame.specs.declared.cie.Cie.{Cie as CodeCie}
 use Rattle.eh_frame.specs.declared.fde.Fde.{Fde as CodeFde}
 use Rattle.eh_frame.specs.declared.entries.EhFrame.{EhFrame}
 use Rattle.eh_frame.specs.declared.entries.Entry.{Entry as CodeEntry}
 use Rattle.eh_frame.specs.declared.entries.Entry.TheVariants as entries
-use Rattle.eh_frame.specs.declared.entries.Found.{Found as CodeFound}
 use Rattle.unwind_definitions.specs.Input.{Input}
 use Rattle.encoded_pointers.specs.CursorViews.{at}
 use Rattle.encoded_pointers.specs.PointerViews.{pointer_of}
@@ -40,6 +39,3 @@ table_of t = record { base = t.address; offset = 0; bytes = t.bytes.now }
 abbrev pub entry_of : CodeEntry → Entry
 entry_of (entries.Cie cie) = ACie (cie_of cie)
 entry_of (entries.Fde fde) = AFde (fde_of fde)
-
-abbrev pub found_of : CodeFound → Found
-found_of f = record { entry = entry_of f.entry; next = f.next }

@@ -8,19 +8,19 @@ ghost use Rattle.std.specs.Option.{option_map, option_map_or};
 ghost use Rattle.unwind_definitions.specs.Input.{skip};
 ghost use Rattle.unwind_definitions.specs.Entries.{Fde as Described, body, length_after, cie_at, cie_body};
 ghost use Rattle.unwind_definitions.specs.Entries.{cie_in};
-ghost use Rattle.unwind_definitions.specs.Entries.{entry_in, entry_at};
+ghost use Rattle.unwind_definitions.specs.Entries.{entry_in};
 ghost use Rattle.unwind_definitions.specs.Row.{covers_pc};
 ghost use Rattle.unwind_definitions.specs.Scan.{found_or, scan};
 ghost use Rattle.unwind_definitions.specs.HeaderSearch.{fde_at, fde_at_address};
 ghost use Rattle.encoded_pointers.specs.Readers.{GivesOr, Answers};
 ghost use Rattle.eh_frame.specs.Shared.{cie_of_entry, StandsIn};
-ghost use Rattle.eh_frame.specs.Standing.{AreStanding, description_in, naming};
+ghost use Rattle.eh_frame.specs.Standing.{AreStanding, IsBodyAt, covering_in, description_in, naming};
 ghost use Rattle.eh_frame.specs.Search.{IsFirst, NoneContains, IsUnreadable};
 ghost use Rattle.encoded_pointers.specs.CursorViews.{at};
 ghost use Rattle.encoded_pointers.specs.PointerViews.{bases_of};
 ghost use Rattle.eh_frame.specs.Listing.{listing_of};
 ghost use Rattle.eh_frame.specs.FdeLists.{AddsCie, ListsCie, ListsEntry, ListsFdes};
-ghost use Rattle.eh_frame.specs.EntryViews.{cie_of, fde_of, entry_of, found_of, table_of};
+ghost use Rattle.eh_frame.specs.EntryViews.{cie_of, fde_of, entry_of, table_of};
 
 use crate::cie::Cie;
 use crate::fde::Fde;
@@ -47,13 +47,6 @@ pub enum Entry<'a> {
     Cie(Cie<'a>),
     /// A frame description entry: the description of a function.
     Fde(Fde<'a>),
-}
-
-/// An entry, and where the next one begins.
-#[derive(Clone, Copy)]
-pub(crate) struct Found<'a> {
-    pub(crate) entry: Entry<'a>,
-    pub(crate) next: u64,
 }
 
 impl<'a> EhFrame<'a> {
@@ -268,14 +261,51 @@ impl<'a> EhFrame<'a> {
     {
         let mut known = KnownCies::new();
         let mut offset = 0;
-        while let Some(found) = self.entry_at(offset, &known, bases)? {
-            if let Some(fde) = found.entry.containing(pc) {
+        loop {
+            let mut input = self.from(offset);
+            let Some(body) = read_body(&mut input)? else {
+                return Err(Error::NoUnwindInfoForAddress);
+            };
+            if let Some(fde) = self.covering_in(offset, body, pc, &mut known, bases)? {
                 return Ok(fde);
             }
-            known.note(&found.entry);
-            offset = found.next;
+            offset = input.offset();
         }
-        Err(Error::NoUnwindInfoForAddress)
+    }
+
+    // The description that the entry at `offset` is, where it contains an address; `body` is the
+    // entry's. A common information entry that is read is noted.
+    #[inline(always)]
+    fn covering_in(
+        &self,
+        offset: u64,
+        body: Cursor<'a>,
+        pc: u64,
+        known: &mut KnownCies<'a>,
+        bases: &Bases,
+    ) -> Result<Option<Fde<'a>>, Error>
+        requires reads { IsBodyAt (table_of self.now) offset (at body) }
+        requires known { AreStanding (bases_of bases.now) (table_of self.now) known.old }
+        ensures found { Answers (option_map fde_of) result
+            (covering_in (bases_of bases.now) (table_of self.now) offset (at body.entry) pc) }
+        ensures known { AreStanding (bases_of bases.now) (table_of self.now) known.new }
+    {
+        let origin = body.offset();
+        let mut input = body;
+        let id = input.read_u32()? as u64;
+        if id == 0 {
+            known.put(Cie::read(offset, input, bases)?);
+            return Ok(None);
+        }
+        if id > origin {
+            return Err(Error::NotCie);
+        }
+        if let Some(cie) = known.get(origin - id) {
+            return Fde::read_covering(cie, offset, input, bases, pc);
+        }
+        let cie = self.cie_at(origin - id, bases)?;
+        known.put(cie);
+        Fde::read_covering(&cie, offset, input, bases, pc)
     }
 
     /// The table from an offset on.
@@ -283,33 +313,6 @@ impl<'a> EhFrame<'a> {
         ensures { at result ≡ skip offset (table_of self.now) }
     {
         Cursor::from_offset(self.bytes, self.address, offset)
-    }
-
-    /// What stands at an offset, `None` at the end of the list. A common information entry that is
-    /// known isn't read again.
-    #[tactic(auto, unfolding(unwind_definitions::specs::Entries::entry_at))]
-    #[inline(always)]
-    pub(crate) fn entry_at(
-        &self,
-        offset: u64,
-        known: &KnownCies<'a>,
-        bases: &Bases,
-    ) -> Result<Option<Found<'a>>, Error>
-        requires { AreStanding (bases_of bases.now) (table_of self.now) known.now }
-        ensures { Answers (option_map found_of) result
-            (entry_at (bases_of bases.now) (table_of self.now) offset) }
-    {
-        let mut input = self.from(offset);
-        match read_body(&mut input)? {
-            None => Ok(None),
-            Some(body) => {
-                let entry = self.entry_in(offset, body, known, bases)?;
-                Ok(Some(Found {
-                    entry,
-                    next: input.offset(),
-                }))
-            }
-        }
     }
 
     /// The entry at `offset`, whose body is `body`.
@@ -389,18 +392,6 @@ impl<'a> Entry<'a> {
         match self {
             Entry::Cie(cie) => *cie,
             Entry::Fde(fde) => fde.cie(),
-        }
-    }
-
-    // The entry, where it is a description that contains an address.
-    fn containing(&self, pc: u64) -> Option<Fde<'a>>
-        ensures { (later : Result Described Error) →
-            found_or pc (entry_of self.now) later ≡ option_map_or
-            (λ fde. Ok (fde_of fde)) result later }
-    {
-        match self {
-            Entry::Fde(fde) if fde.contains(pc) => Some(*fde),
-            _ => None,
         }
     }
 }

@@ -41,6 +41,7 @@ impl<'a> Fde<'a> {
     ghost use Rattle.eh_frame.specs.EntryViews.{cie_of, fde_of};
     ghost use Rattle.frame_rows.specs.Rows.{GivesRow, row_in_place};
     ghost use Rattle.eh_frame.specs.FdeLists.{IsTold, fde_with};
+    ghost use Rattle.eh_frame.specs.Standing.{covering_body};
 
     // What stands after the first four bytes of the entry at `offset`, which names `cie`.
     #[inline(always)]
@@ -56,6 +57,26 @@ impl<'a> Fde<'a> {
         // it stands alone here, and is in no list
         let listed = ListedFde::read(cie, 0, offset, body, bases)?;
         Ok(Fde::with_cie(*cie, &listed))
+    }
+
+    // The same where it contains an address. A description that doesn't is read without a copy of
+    // its common information entry.
+    #[inline(always)]
+    pub(crate) fn read_covering(
+        cie: &Cie<'a>,
+        offset: u64,
+        body: Cursor<'a>,
+        bases: &Bases,
+        pc: u64,
+    ) -> Result<Option<Fde<'a>>, Error>
+        ensures { Answers (option_map fde_of) result
+            (covering_body (bases_of bases.now) (cie_of cie.now) offset (at body.entry) pc) }
+    {
+        let listed = ListedFde::read(cie, 0, offset, body, bases)?;
+        if listed.contains(pc) {
+            return Ok(Some(Fde::with_cie(*cie, &listed)));
+        }
+        Ok(None)
     }
 
     /// How many bytes of the table stand before the entry.

@@ -54,10 +54,10 @@ impl<'a> KnownCies<'a> {
         }
     }
 
-    // Makes one the last, and the last the one before it. By value, so that an entry in the loop that
-    // reads it needn't stand in memory.
+    /// Makes one the last, and the last the one before it. By value, so that an entry in the loop that
+    /// reads it needn't stand in memory.
     #[inline(never)]
-    fn put(&mut self, cie: Cie<'a>)
+    pub(crate) fn put(&mut self, cie: Cie<'a>)
         ensures { (bases : Bases) (table : Input) → AreStanding bases table self.old →
             StandsIn bases table (cie_of cie.entry) → AreStanding bases table self.new }
     {

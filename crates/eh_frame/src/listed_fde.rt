@@ -36,8 +36,9 @@ pub(crate) struct ListedFde<'a> {
 }
 
 impl<'a> ListedFde<'a> {
-    ghost use Rattle.unwind_definitions.specs.Entries.{fde_body};
+    ghost use Rattle.unwind_definitions.specs.Entries.{Cie as Common, fde_body};
     ghost use Rattle.unwind_definitions.specs.Instructions.{Program};
+    ghost use Rattle.unwind_definitions.specs.Row.{covers_pc};
     ghost use Rattle.frame_rows.specs.Begun.{HasBegun, HasBegunBefore};
     ghost use Rattle.frame_rows.specs.KeptRows.{Adds};
     ghost use Rattle.eh_frame.specs.FdeLists.{IsTold, fde_with};
@@ -82,6 +83,13 @@ impl<'a> ListedFde<'a> {
         ensures { result ≡ self.now.initial_address + self.now.len }
     {
         self.initial_address + self.len
+    }
+
+    /// Whether the function has a byte at the address `pc`.
+    pub(crate) fn contains(&self, pc: u64) -> bool
+        ensures { (cie : Common) → result ≡ covers_pc (fde_with cie self.now) pc }
+    {
+        self.initial_address <= pc && pc - self.initial_address < self.len
     }
 
     /// Adds the function's rows to those of others, and answers which they are: `None` where they

@@ -1,59 +1,83 @@
 use Rattle.encoded_pointers.specs.PointerViews.{bases_of}
-use Rattle.std.proofs.Common.{◌≡◌, suc, ◌-◌, length, arith, refl, ◌∙◌}
+use Rattle.std.proofs.Common.{◌≡◌, suc, ◌-◌, length, arith, ap, refl, sym, ◌∙◌, Some, Ok}
 use Rattle.std.proofs.lemmas.Result.{err_from_is_err_and}
 use Rattle.unwind_definitions.specs.Pointers.{Bases}
+use Rattle.unwind_definitions.specs.Entries.{Found, body, entry_at, entry_in}
 use Rattle.unwind_definitions.specs.Scan.{scan}
-use Rattle.eh_frame.specs.EntryViews.{found_of, table_of}
+use Rattle.encoded_pointers.specs.CursorViews.{at}
+use Rattle.eh_frame.specs.EntryViews.{fde_of, table_of}
 use Rattle.eh_frame.proofs.Ahead.{next_within}
-use Rattle.eh_frame.proofs.Sharing.{shared_stands}
-use Rattle.eh_frame.proofs.Scanning.{scan_fault, scan_end, scan_next}
+use Rattle.eh_frame.proofs.EntryParts.{no_body, no_entry, no_more, whole_entry}
+use Rattle.eh_frame.proofs.Scanning.{covers, faults, passes, scan_end, scan_fault, scan_next}
 use Rattle.eh_frame.proofs.entries.EhFrame.scan.Goals as goal
 
-pub loop-found-init : goal.loop-found-init
+pub loop-body-init : goal.loop-body-init
 unfolding scan
-loop-found-init c = (omega arith, suc (length c.args.self.now.bytes.now), omega arith, refl, c.new-known.ensures (bases_of c.args.bases.now) (table_of c.args.self.now))
+loop-body-init c = (omega arith, suc (length c.args.self.now.bytes.now), omega arith, refl, c.new-known.ensures (bases_of c.args.bases.now) (table_of c.args.self.now))
 
-pub returns-in_err-found : goal.returns-in_err-found
-returns-in_err-found c =
+pub returns-in_err-body : goal.returns-in_err-body
+returns-in_err-body c =
     let bases : Bases = bases_of c.args.bases.now in
     let p = err_from_is_err_and c.from_residual.result c.from_residual.ensures.1 in
-    let turns = c.loop-found.invariant.1 in let within = c.loop-found.invariant.0 in let enough = c.loop-found.invariant.2 in
+    let turns = c.loop-body.invariant.1 in let within = c.loop-body.invariant.0 in let enough = c.loop-body.invariant.2 in
     let more : turns ≡ suc (turns - 1) = omega arith in
-    rw (p.1, p.2) (c.loop-found.invariant.3 ∙ scan_fault bases (table_of c.args.self.now) c.args.pc (turns - 1) turns c.loop-found.offset more _ c.in_err-found.ensures)
+    rw (p.1, p.2) (c.loop-body.invariant.3 ∙ scan_fault bases (table_of c.args.self.now) c.args.pc (turns - 1) turns c.loop-body.offset more _
+    (no_body bases (table_of c.args.self.now) c.loop-body.offset (at c.from-input.result) c.from-input.ensures _ c.in_err-body.ensures))
 
-pub returns-in-Some-containing : goal.returns-in-Some-containing
-returns-in-Some-containing c =
+pub returns-in_default : goal.returns-in_default
+returns-in_default c =
     let bases : Bases = bases_of c.args.bases.now in
-    let turns = c.loop-found.invariant.1 in let within = c.loop-found.invariant.0 in let enough = c.loop-found.invariant.2 in
+    let turns = c.loop-body.invariant.1 in let within = c.loop-body.invariant.0 in let enough = c.loop-body.invariant.2 in
     let more : turns ≡ suc (turns - 1) = omega arith in
-    c.loop-found.invariant.3 ∙ scan_next bases (table_of c.args.self.now) c.args.pc (turns - 1) turns c.loop-found.offset more (found_of c.in-Some.found)
-    (rw c.in-Some.is at c.in_ok-found.ensures) ∙ c.in-Some-containing.ensures _
+    c.loop-body.invariant.3 ∙ scan_end bases (table_of c.args.self.now) c.args.pc (turns - 1) turns c.loop-body.offset more
+    (no_more bases (table_of c.args.self.now) c.loop-body.offset (at c.from-input.result) c.from-input.ensures _ (rw c.in_default.is at c.in_ok-body.ensures))
 
-pub loop-found-smaller : goal.loop-found-smaller
-loop-found-smaller c =
-    let within = c.loop-found.invariant.0 in
-    let next = next_within (bases_of c.args.bases.now) (table_of c.args.self.now) c.loop-found.offset (found_of c.in-Some.found) refl within (rw c.in-Some.is at c.in_ok-found.ensures) in
-    let low = next.0 in let high = next.1 in
+pub covering_in-requires-clause-reads : goal.covering_in-requires-clause-reads
+covering_in-requires-clause-reads c = (at c.read_body.new.input, ap (λ x. body x) (sym c.from-input.ensures) ∙ (rw c.in-Some.is at c.in_ok-body.ensures))
+
+pub returns-in_err-fde : goal.returns-in_err-fde
+returns-in_err-fde c =
+    let bases : Bases = bases_of c.args.bases.now in
+    let p = err_from_is_err_and c.from_residual-in_err-fde.result c.from_residual-in_err-fde.ensures.1 in
+    let turns = c.loop-body.invariant.1 in let within = c.loop-body.invariant.0 in let enough = c.loop-body.invariant.2 in
+    let more : turns ≡ suc (turns - 1) = omega arith in
+    rw (p.1, p.2) (c.loop-body.invariant.3 ∙ scan_fault bases (table_of c.args.self.now) c.args.pc (turns - 1) turns c.loop-body.offset more _
+    (no_entry bases (table_of c.args.self.now) c.loop-body.offset (at c.from-input.result) c.from-input.ensures (at c.in-Some.body) (at c.read_body.new.input)
+    (rw c.in-Some.is at c.in_ok-body.ensures) _ (faults c.args.pc (entry_in bases (table_of c.args.self.now) c.loop-body.offset (at c.in-Some.body)) _ c.in_err-fde.ensures.found)))
+
+pub returns-in-Some-2 : goal.returns-in-Some-2
+returns-in-Some-2 c =
+    let bases : Bases = bases_of c.args.bases.now in
+    let turns = c.loop-body.invariant.1 in let within = c.loop-body.invariant.0 in let enough = c.loop-body.invariant.2 in
+    let more : turns ≡ suc (turns - 1) = omega arith in
+    let entry = covers c.args.pc (entry_in bases (table_of c.args.self.now) c.loop-body.offset (at c.in-Some.body)) (fde_of c.in-Some-2.fde) (rw c.in-Some-2.is at c.in_ok-fde.ensures.found) in
+    let whole = whole_entry bases (table_of c.args.self.now) c.loop-body.offset (at c.from-input.result) c.from-input.ensures (at c.in-Some.body) (at c.read_body.new.input) (rw c.in-Some.is at c.in_ok-body.ensures) entry.0 entry.1 in
+    c.loop-body.invariant.3 ∙ scan_next bases (table_of c.args.self.now) c.args.pc (turns - 1) turns c.loop-body.offset more (record { entry = entry.0; next = (at c.read_body.new.input).offset }) whole ∙ entry.2 _
+
+pub loop-body-smaller : goal.loop-body-smaller
+loop-body-smaller c =
+    let bases : Bases = bases_of c.args.bases.now in
+    let within = c.loop-body.invariant.0 in
+    let entry = passes c.args.pc (entry_in bases (table_of c.args.self.now) c.loop-body.offset (at c.in-Some.body)) (rw c.in_default-2.is at c.in_ok-fde.ensures.found) in
+    let found : Found = record { entry = entry.0; next = (at c.read_body.new.input).offset } in
+    let whole : entry_at bases (table_of c.args.self.now) c.loop-body.offset ≡ Ok (Some found) = whole_entry bases (table_of c.args.self.now) c.loop-body.offset (at c.from-input.result) c.from-input.ensures (at c.in-Some.body) (at c.read_body.new.input) (rw c.in-Some.is at c.in_ok-body.ensures) entry.0 entry.1 in
+    let next = next_within bases (table_of c.args.self.now) c.loop-body.offset found refl within whole in
+    let low = next.0 in let high = next.1 in let same = c.offset-offset.ensures in
     omega arith
 
-pub loop-found-preserved : goal.loop-found-preserved
-loop-found-preserved c =
-    let turns = c.loop-found.invariant.1 in let within = c.loop-found.invariant.0 in let enough = c.loop-found.invariant.2 in
+pub loop-body-preserved : goal.loop-body-preserved
+loop-body-preserved c =
+    let bases : Bases = bases_of c.args.bases.now in
+    let turns = c.loop-body.invariant.1 in let within = c.loop-body.invariant.0 in let enough = c.loop-body.invariant.2 in
     let more : turns ≡ suc (turns - 1) = omega arith in
-    let next = next_within (bases_of c.args.bases.now) (table_of c.args.self.now) c.loop-found.offset (found_of c.in-Some.found) refl within (rw c.in-Some.is at c.in_ok-found.ensures) in
-    let low = next.0 in (
-      next.1,
+    let entry = passes c.args.pc (entry_in bases (table_of c.args.self.now) c.loop-body.offset (at c.in-Some.body)) (rw c.in_default-2.is at c.in_ok-fde.ensures.found) in
+    let found : Found = record { entry = entry.0; next = (at c.read_body.new.input).offset } in
+    let whole : entry_at bases (table_of c.args.self.now) c.loop-body.offset ≡ Ok (Some found) = whole_entry bases (table_of c.args.self.now) c.loop-body.offset (at c.from-input.result) c.from-input.ensures (at c.in-Some.body) (at c.read_body.new.input) (rw c.in-Some.is at c.in_ok-body.ensures) entry.0 entry.1 in
+    let next = next_within bases (table_of c.args.self.now) c.loop-body.offset found refl within whole in
+    let low = next.0 in let high = next.1 in let same = c.offset-offset.ensures in (
+      omega arith,
       turns - 1,
       omega arith,
-      c.loop-found.invariant.3
-          ∙ scan_next (bases_of c.args.bases.now) (table_of c.args.self.now) c.args.pc (turns - 1) turns c.loop-found.offset more (found_of c.in-Some.found)
-          (rw c.in-Some.is at c.in_ok-found.ensures) ∙ c.in_default-containing.ensures _,
-      c.note.ensures (bases_of c.args.bases.now) (table_of c.args.self.now) c.loop-found.invariant.4 (shared_stands (bases_of c.args.bases.now) (table_of c.args.self.now) c.loop-found.offset (found_of c.in-Some.found) (rw c.in-Some.is at c.in_ok-found.ensures)),
+      rw same (c.loop-body.invariant.3 ∙ scan_next bases (table_of c.args.self.now) c.args.pc (turns - 1) turns c.loop-body.offset more found whole ∙ entry.2 _),
+      c.in_ok-fde.ensures.known,
     )
-
-pub returns : goal.returns
-returns c =
-    let bases : Bases = bases_of c.args.bases.now in
-    let turns = c.loop-found.invariant.1 in let within = c.loop-found.invariant.0 in let enough = c.loop-found.invariant.2 in
-    let more : turns ≡ suc (turns - 1) = omega arith in
-    c.loop-found.invariant.3 ∙ scan_end bases (table_of c.args.self.now) c.args.pc (turns - 1) turns c.loop-found.offset more (rw c.in_default.is at c.in_ok-found.ensures)
