@@ -60,14 +60,27 @@ fn run_over(
     Ok((status.number(), Vec::from_slice(alloc, sink.held())?))
 }
 
+/// Runs over the pieces of an input, and compares the number and the lines with those that are due.
+fn run_case(
+    rt: &impl Abort,
+    alloc: Global,
+    words: &[&str],
+    input: &[&str],
+    number: u8,
+    lines: &[&str],
+) -> Result<(), Fail> {
+    let input = joined(alloc, input, "")?;
+    let text = joined(alloc, lines, "\n")?;
+    let (answered, written) = run_over(alloc, words, input.as_str(), &[], &[])?;
+    assert_eq!(rt; answered, number, "{text}");
+    assert_eq!(rt; written.as_slice(), text.as_bytes());
+    Ok(())
+}
+
 /// Runs the cases.
 fn run_cases(rt: &impl Abort, alloc: Global, cases: &[Case]) -> Result<(), Fail> {
     for case in cases {
-        let input = joined(alloc, case.input, "")?;
-        let text = joined(alloc, case.lines, "\n")?;
-        let (number, written) = run_over(alloc, case.words, input.as_str(), &[], &[])?;
-        assert_eq!(rt; number, case.number, "{text}");
-        assert_eq!(rt; written.as_slice(), text.as_bytes());
+        run_case(rt, alloc, case.words, case.input, case.number, case.lines)?;
     }
     Ok(())
 }

@@ -59,249 +59,207 @@ const OUTSIDE: &str =
 
 const CLEANUP: &str = "cleanup pad=0x4010a4 sp=0x7fffffffed78";
 
+/// The second action record takes it, whose number in RDX is its type's.
+const CAUGHT_BY_SECOND: &[&str] = &[
+    RAISES,
+    CLEANS,
+    CATCHES,
+    CLEANUP,
+    "landing ra=0x4010ec sp=0x7fffffffed98 rbx=0x9 rbp=0x0 r12=0x0 r13=0x0 r14=0x0 r15=0x0 rax=0x900000 rdx=0x1",
+    "outcome installed",
+];
+
+/// The third does.
+const CAUGHT_BY_THIRD: &[&str] = &[
+    RAISES,
+    CLEANS,
+    CATCHES,
+    CLEANUP,
+    "landing ra=0x4010ec sp=0x7fffffffed98 rbx=0x9 rbp=0x0 r12=0x0 r13=0x0 r14=0x0 r15=0x0 rax=0x900000 rdx=0x2",
+    "outcome installed",
+];
+
+/// The second does as a specification's, whose number is negative.
+const CAUGHT_BY_LIST: &[&str] = &[
+    RAISES,
+    CLEANS,
+    CATCHES,
+    CLEANUP,
+    "landing ra=0x4010ec sp=0x7fffffffed98 rbx=0x9 rbp=0x0 r12=0x0 r13=0x0 r14=0x0 r15=0x0 rax=0x900000 rdx=0xffffffffffffffff",
+    "outcome installed",
+];
+
+/// Nothing takes it.
+const PASSED: &[&str] = &[
+    RAISES,
+    CLEANS,
+    CATCHES,
+    START_FRAME,
+    OUTSIDE,
+    "outcome end of stack",
+];
+
+/// The program ends, after the cleanup inside.
+const ENDED_LATER: &[&str] = &[RAISES, CLEANS, CATCHES, CLEANUP, "outcome fatal phase 2"];
+
+/// It ends in the search.
+const ENDED_AT_ONCE: &[&str] = &[RAISES, CLEANS, CATCHES, "outcome fatal phase 1"];
+
 /// A foreign exception: no handler of a type takes it.
 const FOREIGN: &str = ",\"foreign\":true,\"types\":[],\"personalities\":[\"0x401060\"]";
 
 const OF_THROWN: &str = ",\"types\":[\"0x403ff0\"],\"personalities\":[\"0x401060\"]";
 
-static CASES: [Case; 20] = [
+/// A run of `throw`: the language tables, the members of the exception, and the last of them, and the
+/// number and the lines that are due.
+struct Throw {
+    tables: &'static str,
+    exception: &'static str,
+    ending: &'static str,
+    number: u8,
+    lines: &'static [&'static str],
+}
+
+static THROWS: [Throw; 18] = [
     // The third record takes it.
-    Case {
-        words: &["throw"],
-        input: &[
-            TABLES,
-            LANGUAGE,
-            REST,
-            ",\"types\":[\"0x403ff0\"],\"personalities\":[\"0x401060\"]}",
-        ],
+    Throw {
+        tables: LANGUAGE,
+        exception: OF_THROWN,
+        ending: "}",
         number: 0,
-        lines: &[
-            RAISES,
-            CLEANS,
-            CATCHES,
-            CLEANUP,
-            "landing ra=0x4010ec sp=0x7fffffffed98 rbx=0x9 rbp=0x0 r12=0x0 r13=0x0 r14=0x0 r15=0x0 rax=0x900000 rdx=0x2",
-            "outcome installed",
-        ],
+        lines: CAUGHT_BY_THIRD,
     },
     // So does the second, which comes first, where its type is among those of a derived class.
-    Case {
-        words: &["throw"],
-        input: &[
-            TABLES,
-            LANGUAGE,
-            REST,
-            ",\"types\":[\"0x1\",\"0x403fe0\",\"0x403ff0\"],\"personalities\":[\"0x401060\"]}",
-        ],
+    Throw {
+        tables: LANGUAGE,
+        exception: ",\"types\":[\"0x1\",\"0x403fe0\",\"0x403ff0\"]",
+        ending: ",\"personalities\":[\"0x401060\"]}",
         number: 0,
-        lines: &[
-            RAISES,
-            CLEANS,
-            CATCHES,
-            CLEANUP,
-            "landing ra=0x4010ec sp=0x7fffffffed98 rbx=0x9 rbp=0x0 r12=0x0 r13=0x0 r14=0x0 r15=0x0 rax=0x900000 rdx=0x1",
-            "outcome installed",
-        ],
+        lines: CAUGHT_BY_SECOND,
     },
     // None takes another type, and a cell of a type is not the type.
-    Case {
-        words: &["throw"],
-        input: &[
-            TABLES,
-            LANGUAGE,
-            REST,
-            ",\"types\":[\"0x404000\"],\"personalities\":[\"0x401060\"]}",
-        ],
+    Throw {
+        tables: LANGUAGE,
+        exception: ",\"types\":[\"0x404000\"]",
+        ending: ",\"personalities\":[\"0x401060\"]}",
         number: 0,
-        lines: &[
-            RAISES,
-            CLEANS,
-            CATCHES,
-            START_FRAME,
-            OUTSIDE,
-            "outcome end of stack",
-        ],
+        lines: PASSED,
     },
     // The personality's cell is not the routine: by the rule of Rust the first record is a cleanup.
-    Case {
-        words: &["throw"],
-        input: &[
-            TABLES,
-            LANGUAGE,
-            REST,
-            ",\"types\":[\"0x403ff0\"],\"personalities\":[\"0x404010\"]}",
-        ],
+    Throw {
+        tables: LANGUAGE,
+        exception: ",\"types\":[\"0x403ff0\"]",
+        ending: ",\"personalities\":[\"0x404010\"]}",
         number: 0,
-        lines: &[
-            RAISES,
-            CLEANS,
-            CATCHES,
-            START_FRAME,
-            OUTSIDE,
-            "outcome end of stack",
-        ],
+        lines: PASSED,
     },
     // The program ends, after the cleanup inside.
-    Case {
-        words: &["throw"],
-        input: &[
-            TABLES,
-            UNLISTED,
-            REST,
-            ",\"types\":[\"0x403ff0\"],\"personalities\":[\"0x401060\"]}",
-        ],
+    Throw {
+        tables: UNLISTED,
+        exception: OF_THROWN,
+        ending: "}",
         number: 0,
-        lines: &[RAISES, CLEANS, CATCHES, CLEANUP, "outcome fatal phase 2"],
+        lines: ENDED_LATER,
     },
     // So it does where the snapshot says which runtime it is.
-    Case {
-        words: &["throw"],
-        input: &[
-            TABLES,
-            UNLISTED,
-            REST,
-            OF_THROWN,
-            ",\"runtime\":\"libstdc++\"}",
-        ],
+    Throw {
+        tables: UNLISTED,
+        exception: OF_THROWN,
+        ending: ",\"runtime\":\"libstdc++\"}",
         number: 0,
-        lines: &[RAISES, CLEANS, CATCHES, CLEANUP, "outcome fatal phase 2"],
+        lines: ENDED_LATER,
     },
     // libc++abi ends it in the search.
-    Case {
-        words: &["throw"],
-        input: &[
-            TABLES,
-            UNLISTED,
-            REST,
-            OF_THROWN,
-            ",\"runtime\":\"libc++abi\"}",
-        ],
+    Throw {
+        tables: UNLISTED,
+        exception: OF_THROWN,
+        ending: ",\"runtime\":\"libc++abi\"}",
         number: 0,
-        lines: &[RAISES, CLEANS, CATCHES, "outcome fatal phase 1"],
+        lines: ENDED_AT_ONCE,
     },
     // A native exception is handled by both runtimes alike.
-    Case {
-        words: &["throw"],
-        input: &[
-            TABLES,
-            LANGUAGE,
-            REST,
-            OF_THROWN,
-            ",\"runtime\":\"libc++abi\"}",
-        ],
+    Throw {
+        tables: LANGUAGE,
+        exception: OF_THROWN,
+        ending: ",\"runtime\":\"libc++abi\"}",
         number: 0,
-        lines: &[
-            RAISES,
-            CLEANS,
-            CATCHES,
-            CLEANUP,
-            "landing ra=0x4010ec sp=0x7fffffffed98 rbx=0x9 rbp=0x0 r12=0x0 r13=0x0 r14=0x0 r15=0x0 rax=0x900000 rdx=0x2",
-            "outcome installed",
-        ],
+        lines: CAUGHT_BY_THIRD,
     },
     // By libstdc++ a foreign exception passes a specification that lists a type.
-    Case {
-        words: &["throw"],
-        input: &[TABLES, LISTED, REST, FOREIGN, ",\"runtime\":\"libstdc++\"}"],
+    Throw {
+        tables: LISTED,
+        exception: FOREIGN,
+        ending: ",\"runtime\":\"libstdc++\"}",
         number: 0,
-        lines: &[
-            RAISES,
-            CLEANS,
-            CATCHES,
-            START_FRAME,
-            OUTSIDE,
-            "outcome end of stack",
-        ],
+        lines: PASSED,
     },
     // By libc++abi its landing pad is entered.
-    Case {
-        words: &["throw"],
-        input: &[TABLES, LISTED, REST, FOREIGN, ",\"runtime\":\"libc++abi\"}"],
+    Throw {
+        tables: LISTED,
+        exception: FOREIGN,
+        ending: ",\"runtime\":\"libc++abi\"}",
         number: 0,
-        lines: &[
-            RAISES,
-            CLEANS,
-            CATCHES,
-            CLEANUP,
-            "landing ra=0x4010ec sp=0x7fffffffed98 rbx=0x9 rbp=0x0 r12=0x0 r13=0x0 r14=0x0 r15=0x0 rax=0x900000 rdx=0xffffffffffffffff",
-            "outcome installed",
-        ],
+        lines: CAUGHT_BY_LIST,
     },
-    Case {
-        words: &["throw"],
-        input: &[TABLES, LANGUAGE, REST, ",\"personalities\":[\"0x401060\"]}"],
+    Throw {
+        tables: LANGUAGE,
+        exception: "",
+        ending: ",\"personalities\":[\"0x401060\"]}",
         number: 7,
         lines: &["bad snapshot: types"],
     },
-    Case {
-        words: &["throw"],
-        input: &[
-            TABLES,
-            LANGUAGE,
-            REST,
-            ",\"types\":[4210688],\"personalities\":[\"0x401060\"]}",
-        ],
+    Throw {
+        tables: LANGUAGE,
+        exception: ",\"types\":[4210688]",
+        ending: ",\"personalities\":[\"0x401060\"]}",
         number: 7,
         lines: &["bad snapshot: types"],
     },
-    Case {
-        words: &["throw"],
-        input: &[TABLES, LANGUAGE, REST, ",\"types\":[]}"],
+    Throw {
+        tables: LANGUAGE,
+        exception: ",\"types\":[]",
+        ending: "}",
         number: 7,
         lines: &["bad snapshot: personalities"],
     },
-    Case {
-        words: &["throw"],
-        input: &[
-            TABLES,
-            LANGUAGE,
-            REST,
-            ",\"types\":[],\"personalities\":\"0x401060\"}",
-        ],
+    Throw {
+        tables: LANGUAGE,
+        exception: ",\"types\":[]",
+        ending: ",\"personalities\":\"0x401060\"}",
         number: 7,
         lines: &["bad snapshot: personalities"],
     },
-    Case {
-        words: &["throw"],
-        input: &[
-            TABLES,
-            LANGUAGE,
-            REST,
-            ",\"foreign\":null,\"types\":[],\"personalities\":[\"0x401060\"]}",
-        ],
+    Throw {
+        tables: LANGUAGE,
+        exception: ",\"foreign\":null,\"types\":[]",
+        ending: ",\"personalities\":[\"0x401060\"]}",
         number: 7,
         lines: &["bad snapshot: foreign"],
     },
-    Case {
-        words: &["throw"],
-        input: &[
-            TABLES,
-            LANGUAGE,
-            REST,
-            OF_THROWN,
-            ",\"runtime\":\"libc++\"}",
-        ],
+    Throw {
+        tables: LANGUAGE,
+        exception: OF_THROWN,
+        ending: ",\"runtime\":\"libc++\"}",
         number: 7,
         lines: &["bad snapshot: runtime"],
     },
-    Case {
-        words: &["throw"],
-        input: &[TABLES, LANGUAGE, REST, OF_THROWN, ",\"runtime\":null}"],
+    Throw {
+        tables: LANGUAGE,
+        exception: OF_THROWN,
+        ending: ",\"runtime\":null}",
         number: 7,
         lines: &["bad snapshot: runtime"],
     },
-    Case {
-        words: &["throw"],
-        input: &[
-            TABLES,
-            LANGUAGE,
-            REST,
-            OF_THROWN,
-            ",\"foreign\":0,\"runtime\":true}",
-        ],
+    Throw {
+        tables: LANGUAGE,
+        exception: OF_THROWN,
+        ending: ",\"foreign\":0,\"runtime\":true}",
         number: 7,
         lines: &["bad snapshot: foreign"],
     },
+];
+
+static CASES: [Case; 2] = [
     Case {
         words: &["throw"],
         input: &["{}"],
@@ -318,5 +276,16 @@ static CASES: [Case; 20] = [
 
 #[test]
 fn throws_end_where_their_types_are_handled(rt: HostRuntime) -> Result<(), Fail> {
+    for throw in &THROWS {
+        let input = [TABLES, throw.tables, REST, throw.exception, throw.ending];
+        run_case(
+            &rt,
+            rt.alloc(),
+            &["throw"],
+            &input,
+            throw.number,
+            throw.lines,
+        )?;
+    }
     run_cases(&rt, rt.alloc(), &CASES)
 }
