@@ -1,13 +1,14 @@
 -- What is kept of the steps so far, after one more.
 use Rattle.std.proofs.Common.{◌≡◌, ℕ, ◌+◌, ◌-◌, ◌^◌, ◌<◌, ◌≤◌, Bool, true, false, cond, List, [], ◌∷◌, ◌++◌, Option, Some, None, refl, sym, ap, subst, ◌∙◌, inl, inr, arith}
-use Rattle.std.specs.Prelude.{◌≢◌, ◌||◌, IsTrue, is_some, min, not}
+use Rattle.std.specs.Prelude.{◌≢◌, ◌||◌, IsTrue, is_some, max, min, not}
 use Rattle.std.specs.Bool.{Decides}
 use Rattle.std.specs.List.{AllByRecursion, sum_by, list_any}
-use Rattle.std.specs.Option.{option_or}
+use Rattle.std.specs.Option.{option_map, option_or}
 use Rattle.std.proofs.lemmas.Bool.{cases_lt}
 use Rattle.std.proofs.lemmas.List.Folds.{list_any-append}
 use Rattle.unwind_definitions.specs.State.{CalleeSaved, RBX, RBP, R12, R13, R14, R15, is_same}
 use Rattle.unwind_definitions.specs.Prologue.{Register, Followed, RDI, RSI, XMM, Step, Push, Allocate, SetFrame, Store, Save, SystemV, room_of, depth, frame_depth, frame_depth_from, distance, distance_in, saves, saves_from, is_register, may_push, pushes}
+use Rattle.unwind_definitions.specs.DescribedRows.{negative}
 use Rattle.table_check.specs.declared.prologue.FrameSoFar.{FrameSoFar}
 use Rattle.table_check.specs.Frames.{IsAbout, IsAboutOption, IsFrameAfter, MayBeSaved, slot_of, with_slot}
 use Rattle.table_check.proofs.Prologues.{saves-append, frame-append, distance-append, depth-push}
@@ -114,9 +115,24 @@ pub raised : (x k n m : ℕ) → x ≡ min (k + m) (2 ^ 128 - 1) → IsAbout (2 
 raised x k n m is (inl same) = elim (cases_lt (n + m) (2 ^ 100)) [ inl low ↦ inl (omega arith) | inr high ↦ inr (omega arith, omega arith) ]
 raised x k n m is (inr high) = inr (omega arith, omega arith)
 
-pub lowered : (x k n m : ℕ) → x ≡ k - m → m < 2 ^ 64 → IsAbout (2 ^ 100) k n → IsAbout (2 ^ 99) x (n - m)
-lowered x k n m is fits (inl same) = inl (omega arith)
-lowered x k n m is fits (inr high) = inr (omega arith, omega arith)
+pub lowered : (x k n m : ℕ) → x ≡ max (k - m) 1 → m < 2 ^ 64 → m + 16 ≤ n → IsAbout (2 ^ 100) k n → IsAbout (2 ^ 99) x (n - m)
+lowered x k n m is fits within (inl same) = inl (omega arith)
+lowered x k n m is fits within (inr high) = inr (omega arith, omega arith)
+
+-- numbers that are so high are below all offsets that are words
+same_word : (k n : ℕ) → IsAbout (2 ^ 99) k n → negative k ≡ negative n
+same_word k n (inl same) = ap negative same
+same_word k n (inr high) = let a = high.0 in let b = high.1 in omega (arith, a, b)
+
+-- ---- slots that are kept as words
+
+none_mapped : (o : Option ℕ) → option_map negative o ≡ None → o ≡ None
+none_mapped None is = refl
+none_mapped (Some n) is = absurd cc
+
+some_mapped : (o : Option ℕ) (k : ℕ) → option_map negative o ≡ Some k → (n : ℕ) × (o ≡ Some n)
+some_mapped None k is = absurd cc
+some_mapped (Some n) k is = (n, refl)
 
 -- ---- after one more step
 
@@ -124,9 +140,9 @@ or_none : (o : Option ℕ) → option_or o None ≡ o
 or_none None = refl
 or_none (Some n) = refl
 
-about_slot : (high : ℕ) (b : Bool) (a o : Option ℕ) (k n : ℕ) → IsAboutOption high a o → (b ≡ true → o ≡ None) → IsAbout high k n → IsAboutOption high (cond b (Some k) a) (option_or o (cond b (Some n) None))
-about_slot high true a o k n about none near = subst (λ p. IsAboutOption high (Some k) (option_or p (Some n))) (sym (none refl)) near
-about_slot high false a o k n about none near = subst (λ p. IsAboutOption high a p) (sym (or_none o)) about
+one_slot : (b : Bool) (a o : Option ℕ) (k n : ℕ) → a ≡ option_map negative o → (b ≡ true → o ≡ None) → k ≡ negative n → cond b (Some k) a ≡ option_map negative (option_or o (cond b (Some n) None))
+one_slot true a o k n was none word = ap Some word ∙ ap (λ p. option_map negative (option_or p (Some n))) (sym (none refl))
+one_slot false a o k n was none word = was ∙ ap (option_map negative) (sym (or_none o))
 
 keeps_frame : (xs : List Step) (s : Step) → frame_depth_from (8 + sum_by room_of xs) (s ∷ []) ≡ None → frame_depth (xs ++ s ∷ []) ≡ frame_depth xs
 keeps_frame xs s none = frame-append 8 xs (s ∷ []) ∙ ap (λ o. option_or (frame_depth xs) o) none ∙ or_none (frame_depth xs)
@@ -151,18 +167,17 @@ or_off false = refl
 none_before : (r q : CalleeSaved) (xs : List Step) → distance q xs ≡ None → is_same r q ≡ true → distance r xs ≡ None
 none_before r q xs none same = ap (λ p. distance p xs) (same_is r q same) ∙ none
 
-pub after_push : (old : FrameSoFar) (xs : List Step) (q : CalleeSaved) (d : ℕ) (p : Bool) → d ≡ min (old.depth + 8) (2 ^ 128 - 1) → p ≡ (old.is_rbp_pushed || is_same RBP q) → IsFrameAfter old xs → distance q xs ≡ None →
-    IsFrameAfter (with_slot q d (record old { depth = d; is_rbp_pushed = p })) (xs ++ Push (Followed q) ∷ [])
-after_push old xs q d p is pushed was none =
+pub after_push : (old : FrameSoFar) (xs : List Step) (q : CalleeSaved) (d w : ℕ) (p : Bool) → d ≡ min (old.depth + 8) (2 ^ 128 - 1) → w ≡ negative d → p ≡ (old.is_rbp_pushed || is_same RBP q) → IsFrameAfter old xs → distance q xs ≡ None →
+    IsFrameAfter (with_slot q w (record old { depth = d; is_rbp_pushed = p })) (xs ++ Push (Followed q) ∷ [])
+after_push old xs q d w p is word pushed was none =
     let mid : FrameSoFar = record old { depth = d; is_rbp_pushed = p } in
     let s : Step = Push (Followed q) in
     let deeper : IsAbout (2 ^ 100) d (depth xs + 8) = raised d old.depth (depth xs) 8 is was.lowered in record {
-      lowered = subst (λ n. IsAbout (2 ^ 100) n (depth (xs ++ s ∷ []))) (sym (kept_depth q d mid)) (subst (λ n. IsAbout (2 ^ 100) d n) (sym (depth-push xs s)) deeper);
-      set = subst (λ o. IsAboutOption (2 ^ 100) o (frame_depth (xs ++ s ∷ []))) (sym (kept_frame q d mid)) (subst (λ o. IsAboutOption (2 ^ 100) old.frame_depth o) (sym (keeps_frame xs s refl)) was.set);
-      pushed = kept_pushed q d mid ∙ pushed ∙ pushed_more xs s old.is_rbp_pushed (is_same RBP q) was.pushed refl;
-      saved = λ r. subst (λ o. IsAboutOption (2 ^ 99) o (distance r (xs ++ s ∷ []))) (sym (slot_with r q d mid))
-          (subst (λ o. IsAboutOption (2 ^ 99) (cond (is_same r q) (Some d) (slot_of r mid)) o) (sym (new_slot r q xs s (depth xs + 8) refl))
-          (about_slot (2 ^ 99) (is_same r q) (slot_of r mid) (distance r xs) d (depth xs + 8) (subst (λ o. IsAboutOption (2 ^ 99) o (distance r xs)) (slot_kept r) (was.saved r)) (none_before r q xs none) (weaker d (depth xs + 8) deeper)));
+      lowered = subst (λ n. IsAbout (2 ^ 100) n (depth (xs ++ s ∷ []))) (sym (kept_depth q w mid)) (subst (λ n. IsAbout (2 ^ 100) d n) (sym (depth-push xs s)) deeper);
+      set = subst (λ o. IsAboutOption (2 ^ 100) o (frame_depth (xs ++ s ∷ []))) (sym (kept_frame q w mid)) (subst (λ o. IsAboutOption (2 ^ 100) old.frame_depth o) (sym (keeps_frame xs s refl)) was.set);
+      pushed = kept_pushed q w mid ∙ pushed ∙ pushed_more xs s old.is_rbp_pushed (is_same RBP q) was.pushed refl;
+      saved = λ r. slot_with r q w mid ∙ one_slot (is_same r q) (slot_of r mid) (distance r xs) w (depth xs + 8) (sym (slot_kept r) ∙ was.saved r) (none_before r q xs none) (word ∙ same_word d (depth xs + 8) (weaker d (depth xs + 8) deeper))
+          ∙ ap (option_map negative) (sym (new_slot r q xs s (depth xs + 8) refl));
     }
   where
     slot_kept : (r : CalleeSaved) → slot_of r old ≡ slot_of r (record old { depth = d; is_rbp_pushed = p })
@@ -173,17 +188,16 @@ after_push old xs q d p is pushed was none =
     slot_kept R14 = refl
     slot_kept R15 = refl
 
-pub after_store : (old : FrameSoFar) (xs : List Step) (q : CalleeSaved) (d k : ℕ) → d ≡ old.depth - k → k < 2 ^ 64 → IsFrameAfter old xs → distance q xs ≡ None → IsFrameAfter (with_slot q d old) (xs ++ Store (Followed q) k ∷ [])
-after_store old xs q d k is fits was none =
+pub after_store : (old : FrameSoFar) (xs : List Step) (q : CalleeSaved) (d w k : ℕ) → d ≡ max (old.depth - k) 1 → w ≡ negative d → k < 2 ^ 64 → IsFrameAfter old xs → k + 16 ≤ depth xs → distance q xs ≡ None → IsFrameAfter (with_slot q w old) (xs ++ Store (Followed q) k ∷ [])
+after_store old xs q d w k is word fits was within none =
     let s : Step = Store (Followed q) k in
     let same : depth (xs ++ s ∷ []) ≡ depth xs = let h = depth-push xs s in omega (arith, h) in
-    let near : IsAbout (2 ^ 99) d (depth xs - k) = lowered d old.depth (depth xs) k is fits was.lowered in record {
-      lowered = subst (λ n. IsAbout (2 ^ 100) n (depth (xs ++ s ∷ []))) (sym (kept_depth q d old)) (subst (λ n. IsAbout (2 ^ 100) old.depth n) (sym same) was.lowered);
-      set = subst (λ o. IsAboutOption (2 ^ 100) o (frame_depth (xs ++ s ∷ []))) (sym (kept_frame q d old)) (subst (λ o. IsAboutOption (2 ^ 100) old.frame_depth o) (sym (keeps_frame xs s refl)) was.set);
-      pushed = kept_pushed q d old ∙ sym (or_off old.is_rbp_pushed) ∙ pushed_more xs s old.is_rbp_pushed false was.pushed refl;
-      saved = λ r. subst (λ o. IsAboutOption (2 ^ 99) o (distance r (xs ++ s ∷ []))) (sym (slot_with r q d old))
-          (subst (λ o. IsAboutOption (2 ^ 99) (cond (is_same r q) (Some d) (slot_of r old)) o) (sym (new_slot r q xs s (depth xs - k) refl))
-          (about_slot (2 ^ 99) (is_same r q) (slot_of r old) (distance r xs) d (depth xs - k) (was.saved r) (none_before r q xs none) near));
+    let near : IsAbout (2 ^ 99) d (depth xs - k) = lowered d old.depth (depth xs) k is fits within was.lowered in record {
+      lowered = subst (λ n. IsAbout (2 ^ 100) n (depth (xs ++ s ∷ []))) (sym (kept_depth q w old)) (subst (λ n. IsAbout (2 ^ 100) old.depth n) (sym same) was.lowered);
+      set = subst (λ o. IsAboutOption (2 ^ 100) o (frame_depth (xs ++ s ∷ []))) (sym (kept_frame q w old)) (subst (λ o. IsAboutOption (2 ^ 100) old.frame_depth o) (sym (keeps_frame xs s refl)) was.set);
+      pushed = kept_pushed q w old ∙ sym (or_off old.is_rbp_pushed) ∙ pushed_more xs s old.is_rbp_pushed false was.pushed refl;
+      saved = λ r. slot_with r q w old ∙ one_slot (is_same r q) (slot_of r old) (distance r xs) w (depth xs - k) (was.saved r) (none_before r q xs none) (word ∙ same_word d (depth xs - k) near)
+          ∙ ap (option_map negative) (sym (new_slot r q xs s (depth xs - k) refl));
     }
 
 slot_deep : (r : CalleeSaved) (old : FrameSoFar) (d : ℕ) → slot_of r (record old { depth = d }) ≡ slot_of r old
@@ -200,7 +214,7 @@ after_allocate old xs d n is was =
       lowered = subst (λ m. IsAbout (2 ^ 100) d m) (sym (depth-push xs s)) (raised d old.depth (depth xs) n is was.lowered);
       set = subst (λ o. IsAboutOption (2 ^ 100) old.frame_depth o) (sym (keeps_frame xs s refl)) was.set;
       pushed = sym (or_off old.is_rbp_pushed) ∙ pushed_more xs s old.is_rbp_pushed false was.pushed refl;
-      saved = λ r. subst (λ o. IsAboutOption (2 ^ 99) o (distance r (xs ++ s ∷ []))) (sym (slot_deep r old d)) (subst (λ o. IsAboutOption (2 ^ 99) (slot_of r old) o) (sym (keeps_slot r xs s refl)) (was.saved r));
+      saved = λ r. slot_deep r old d ∙ was.saved r ∙ ap (option_map negative) (sym (keeps_slot r xs s refl));
     }
 
 slot_set : (r : CalleeSaved) (old : FrameSoFar) (o : Option ℕ) → slot_of r (record old { frame_depth = o }) ≡ slot_of r old
@@ -219,7 +233,7 @@ after_set old xs m was none =
       lowered = subst (λ n. IsAbout (2 ^ 100) old.depth n) (sym same) was.lowered;
       set = subst (λ o. IsAboutOption (2 ^ 100) (Some old.depth) o) (sym frame) was.lowered;
       pushed = sym (or_off old.is_rbp_pushed) ∙ pushed_more xs s old.is_rbp_pushed false was.pushed refl;
-      saved = λ r. subst (λ o. IsAboutOption (2 ^ 99) o (distance r (xs ++ s ∷ []))) (sym (slot_set r old (Some old.depth))) (subst (λ o. IsAboutOption (2 ^ 99) (slot_of r old) o) (sym (keeps_slot r xs s refl)) (was.saved r));
+      saved = λ r. slot_set r old (Some old.depth) ∙ was.saved r ∙ ap (option_map negative) (sym (keeps_slot r xs s refl));
     }
 
 -- ---- what may be saved
@@ -235,7 +249,7 @@ pub may_be_saved : (frame : FrameSoFar) (before : List Step) (q : CalleeSaved) (
 may_be_saved frame before q None b reg was slot none reg_is = (
   λ h. (
     subst (λ r. IsTrue (may_push SystemV r)) (sym reg_is) refl,
-    subst (λ r. AllByRecursion (λ (s : Save). s.register ≢ r) (saves before)) (sym reg_is) (unsaved q (saves before) (none_about (2 ^ 99) (slot_of q frame) (distance q before) (was.saved q) (sym slot))),
+    subst (λ r. AllByRecursion (λ (s : Save). s.register ≢ r) (saves before)) (sym reg_is) (unsaved q (saves before) (none_mapped (distance q before) (sym (was.saved q) ∙ sym slot))),
   ),
   λ p. is_true b none,
 )
@@ -245,7 +259,7 @@ may_be_saved frame before q None b reg was slot none reg_is = (
     is_true false h = absurd cc
 may_be_saved frame before q (Some k) b reg was slot some reg_is = (
   λ h. absurd (let g : true ≡ not b = some in let e : true ≡ false = g ∙ ap not h in cc),
-  λ p. absurd (let n = some_about (2 ^ 99) k (slot_of q frame) (distance q before) (was.saved q) (sym slot) in
+  λ p. absurd (let n = some_mapped (distance q before) k (sym (was.saved q) ∙ sym slot) in
       saved_before q n.0 (saves before) n.1 (subst (λ r. AllByRecursion (λ (s : Save). s.register ≢ r) (saves before)) reg_is p.1)),
 )
 

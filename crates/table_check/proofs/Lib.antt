@@ -6,7 +6,8 @@ mod Claimed
 mod Reduced
 mod Quiet
 mod RuleEntries
-mod Noting
+mod RowRules
+mod Asking
 mod RowFits
 mod Nops
 mod WalkEnds

@@ -1,30 +1,39 @@
--- The rules of a row by the registers that functions keep. No public clause cites this.
-use Rattle.std.specs.Prelude.{◌≡◌, ℕ, ◌==◌, List, Option, Some, None, if◌then◌else◌}
-use Rattle.std.specs.Option.{option_map, option_or}
+-- The rules that a row of a frame may have. No public clause cites this.
+use Rattle.std.specs.Prelude.{◌≡◌, ◌⊎◌, ℕ, Bool, true, Option, Some, None}
 use Rattle.unwind_definitions.specs.Columns as column
-use Rattle.unwind_definitions.specs.Instructions.{Rule}
+use Rattle.unwind_definitions.specs.Instructions.{Rule, Offset, SameValue, Undefined}
 use Rattle.unwind_definitions.specs.State.{CalleeSaved, RBX, RBP, R12, R13, R14, R15, column_of}
-use Rattle.frame_rows.specs.Rules.{rule_in, rule_meaning}
-use Rattle.table_check.specs.FrameRows.{HasNoOthers}
-use Rattle.table_check.specs.declared.frame_rules.FrameRules.{FrameRules}
+use Rattle.unwind_definitions.specs.DescribedRows.{may_have_rule, negative}
+use Rattle.table_check.specs.declared.frame_rules.ReturnRule.{ReturnRule}
+use Rattle.table_check.specs.declared.frame_rules.ReturnRule.TheVariants as returning
+use Rattle.table_check.specs.declared.frame_rules.RuledRegisters.{RuledRegisters}
+use Rattle.table_check.specs.declared.prologue.FrameSoFar.{FrameSoFar}
+use Rattle.table_check.specs.Frames.{slot_of}
 
-abbrev pub kept_rule : CalleeSaved → FrameRules → Option Rule
-kept_rule RBX f = option_map rule_meaning f.rbx
-kept_rule RBP f = option_map rule_meaning f.rbp
-kept_rule R12 f = option_map rule_meaning f.r12
-kept_rule R13 f = option_map rule_meaning f.r13
-kept_rule R14 f = option_map rule_meaning f.r14
-kept_rule R15 f = option_map rule_meaning f.r15
+-- whether a register has a rule
+abbrev pub has_rule : CalleeSaved → RuledRegisters → Bool
+has_rule RBX m = m.rbx
+has_rule RBP m = m.rbp
+has_rule R12 m = m.r12
+has_rule R13 m = m.r13
+has_rule R14 m = m.r14
+has_rule R15 m = m.r15
 
-abbrev pub return_rule : FrameRules → Option Rule
-return_rule f = option_map rule_meaning f.return_address
+-- the rule of a register that is saved at an offset, or that isn't saved
+abbrev pub IsKeptRule : Option ℕ → Rule → Type 0
+IsKeptRule None rule = rule ≡ SameValue
+IsKeptRule (Some offset) rule = rule ≡ Offset offset
 
--- what is kept of a column once a register's rule is met: the first of its rules
-abbrev pub rule_noted : Option Rule → ℕ → ℕ → Rule → Option Rule
-rule_noted before c register rule = option_or before (if register == c then Some rule else None)
+abbrev pub return_rule : ReturnRule → Rule
+return_rule returning.Saved = Offset (negative 8)
+return_rule returning.Undefined = Undefined
 
--- a row has these rules, and no others
-pub record AreFrameRules (rules : List (ℕ × Rule)) (f : FrameRules) : Type 0 where
-  pub others : HasNoOthers rules
-  pub saved : (r : CalleeSaved) → kept_rule r f ≡ rule_in rules (column_of r)
-  pub ret : return_rule f ≡ rule_in rules column.ra
+-- a row may have this rule, where a frame saves registers so and the return address has that rule
+pub record FitsRule (frame : FrameSoFar) (ret_rule : Rule) (e : ℕ × Rule) : Type 0 where
+  pub known : may_have_rule e.0 ≡ true
+  pub saved : (r : CalleeSaved) → e.0 ≡ column_of r → IsKeptRule (slot_of r frame) e.1
+  pub ret : e.0 ≡ column.ra → e.1 ≡ ret_rule
+
+-- a register has a rule, or a frame doesn't save it
+abbrev pub IsFound : FrameSoFar → RuledRegisters → CalleeSaved → Type 0
+IsFound frame ruled r = (has_rule r ruled ≡ true) ⊎ (slot_of r frame ≡ None)

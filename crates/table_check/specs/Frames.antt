@@ -1,8 +1,10 @@
 -- What the steps of a prologue so far leave, as the code keeps it. No public clause cites this.
 use Rattle.std.specs.Prelude.{◌≡◌, ◌≢◌, ◌⊎◌, ℕ, ◌+◌, ◌%◌, ◌^◌, ◌<◌, ◌≤◌, List, [], ◌∷◌, ◌++◌, Option, Some, None, IsTrue}
 use Rattle.std.specs.List.{AllByRecursion, list_any}
+use Rattle.std.specs.Option.{option_map}
 use Rattle.unwind_definitions.specs.State.{CalleeSaved, RBX, RBP, R12, R13, R14, R15}
 use Rattle.unwind_definitions.specs.Prologue.{Register, Step, Push, Allocate, SetFrame, Store, Save, SystemV, PrologueStep, depth, frame_depth, distance, saves, pushes, may_push, MayFollow}
+use Rattle.unwind_definitions.specs.DescribedRows.{negative}
 use Rattle.table_check.specs.declared.prologue.CalleeSaved.{CalleeSaved as CodeCalleeSaved}
 use Rattle.table_check.specs.declared.prologue.CalleeSaved.TheVariants as code
 use Rattle.table_check.specs.declared.prologue.FrameSoFar.{FrameSoFar}
@@ -25,7 +27,7 @@ IsAboutOption high None (Some n) = ⊥
 IsAboutOption high (Some kept) None = ⊥
 IsAboutOption high (Some kept) (Some n) = IsAbout high kept n
 
--- how far below the caller's stack pointer a register is kept to be saved
+-- the offset from the caller's stack pointer at which a register is kept to be saved, as a word
 abbrev pub slot_of : CalleeSaved → FrameSoFar → Option ℕ
 slot_of RBX f = f.rbx
 slot_of RBP f = f.rbp
@@ -35,19 +37,19 @@ slot_of R14 f = f.r14
 slot_of R15 f = f.r15
 
 abbrev pub with_slot : CalleeSaved → ℕ → FrameSoFar → FrameSoFar
-with_slot RBX distance f = record f { rbx = Some distance }
-with_slot RBP distance f = record f { rbp = Some distance }
-with_slot R12 distance f = record f { r12 = Some distance }
-with_slot R13 distance f = record f { r13 = Some distance }
-with_slot R14 distance f = record f { r14 = Some distance }
-with_slot R15 distance f = record f { r15 = Some distance }
+with_slot RBX offset f = record f { rbx = Some offset }
+with_slot RBP offset f = record f { rbp = Some offset }
+with_slot R12 offset f = record f { r12 = Some offset }
+with_slot R13 offset f = record f { r13 = Some offset }
+with_slot R14 offset f = record f { r14 = Some offset }
+with_slot R15 offset f = record f { r15 = Some offset }
 
 -- the steps so far leave such a frame
 pub record IsFrameAfter (frame : FrameSoFar) (steps : List Step) : Type 0 where
   pub lowered : IsAbout (2 ^ 100) frame.depth (depth steps)
   pub set : IsAboutOption (2 ^ 100) frame.frame_depth (frame_depth steps)
   pub pushed : frame.is_rbp_pushed ≡ list_any (pushes RBP) steps
-  pub saved : (r : CalleeSaved) → IsAboutOption (2 ^ 99) (slot_of r frame) (distance r steps)
+  pub saved : (r : CalleeSaved) → slot_of r frame ≡ option_map negative (distance r steps)
 
 -- a register that a prologue saves, and that no step before saves
 abbrev pub MayBeSaved : List Step → Register → Type 0

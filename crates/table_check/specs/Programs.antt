@@ -1,10 +1,10 @@
 -- What is asked of the row at each address of a function. No public clause cites this.
-use Rattle.std.specs.Prelude.{◌≡◌, ◌⊎◌, ℕ, ◌+◌, ◌-◌, ◌<◌, ◌≤◌, true, false, List, Result, Ok, IsTrue, IsFalse}
-use Rattle.std.specs.List.{AllByRecursion}
+use Rattle.std.specs.Prelude.{◌≡◌, ◌⊎◌, ℕ, ◌+◌, ◌-◌, ◌<◌, ◌≤◌, Bool, true, false, List, Result, Ok, IsTrue, IsFalse}
+use Rattle.std.specs.List.{AllByRecursion, list_any}
 use Rattle.unwind_definitions.specs.declared.error.Error.{Error as Fault}
 use Rattle.unwind_definitions.specs.Row.{RowInstructions}
 use Rattle.unwind_definitions.specs.Prologue.{PrologueStep, steps_of}
-use Rattle.unwind_definitions.specs.Function.{Function, Range, first_body, in_body}
+use Rattle.unwind_definitions.specs.Function.{Function, Range, first_body, first_from, in_body, in_range}
 use Rattle.unwind_definitions.specs.DescribedRows.{IsBodyRow, IsOutermostRow, IsPrologueRow, ended_by}
 use Rattle.table_check.specs.declared.programs.Place.{Place}
 use Rattle.table_check.specs.declared.programs.Place.TheVariants as place
@@ -25,6 +25,18 @@ IsPlace f pc place.Body = (f.outermost ≡ false) × (in_body f pc ≡ true)
 IsPlace f pc place.Prologue = (f.outermost ≡ false) × (in_body f pc ≡ false) × (pc < first_body f)
 IsPlace f pc place.Outermost = (f.outermost ≡ true) × (in_body f pc ≡ true)
 IsPlace f pc place.Free = (in_body f pc ≡ false) × ((f.outermost ≡ true) ⊎ (first_body f ≤ pc))
+
+-- the same by the parts of a function's body
+abbrev pub IsPlaceAmong : Bool → ℕ → List Range → ℕ → Place → Type 0
+IsPlaceAmong outermost end bodies pc place.Body = (outermost ≡ false) × (list_any (in_range pc) bodies ≡ true)
+IsPlaceAmong outermost end bodies pc place.Prologue = (outermost ≡ false) × (list_any (in_range pc) bodies ≡ false) × (pc < first_from end bodies)
+IsPlaceAmong outermost end bodies pc place.Outermost = (outermost ≡ true) × (list_any (in_range pc) bodies ≡ true)
+IsPlaceAmong outermost end bodies pc place.Free = (list_any (in_range pc) bodies ≡ false) × ((outermost ≡ true) ⊎ (first_from end bodies ≤ pc))
+
+-- an address lies before another, or not
+abbrev pub IsFrontOf : Bool → ℕ → ℕ → Type 0
+IsFrontOf true pc first = pc < first
+IsFrontOf false pc first = first ≤ pc
 
 -- no range begins or ends after an address and before another
 abbrev pub AreEdgesQuiet : ℕ → ℕ → List Range → Type 0

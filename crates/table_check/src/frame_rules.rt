@@ -1,148 +1,124 @@
 //! The rules of a row that say where a function's caller has its registers. DWARF 5 section 6.4.1.
 
-ghost use Rattle.std.specs.Prelude.{◌≡◌, None, Some, false, true};
-ghost use Rattle.std.specs.Option.{option_map, option_or};
+ghost use Rattle.std.specs.Prelude.{◌≡◌, ◌||◌, ◌==◌, is_some, false, true};
+ghost use Rattle.std.specs.Bool.{Decides};
+ghost use Rattle.std.specs.List.{AllByRecursion};
 ghost use Rattle.unwind_definitions.specs.Columns as column;
+ghost use Rattle.unwind_definitions.specs.Instructions.{Offset};
 ghost use Rattle.unwind_definitions.specs.State.{CalleeSaved as Kept, column_of};
-ghost use Rattle.unwind_definitions.specs.DescribedRows.{may_have_rule};
-ghost use Rattle.frame_rows.specs.Rules.{cfa_meaning, rule_in, rule_meaning};
+ghost use Rattle.frame_rows.specs.Rules.{AscendsFrom, rule_in, rule_meaning};
 ghost use Rattle.table_check.specs.Frames.{callee_saved_of};
-ghost use Rattle.table_check.specs.FrameRows.{HasNoOthers};
-ghost use Rattle.table_check.specs.FrameRules.{AreFrameRules, kept_rule, return_rule, rule_noted};
+ghost use Rattle.table_check.specs.FrameRules.{FitsRule, IsKeptRule, has_rule, return_rule};
 
-use crate::prologue::CalleeSaved;
-use eh_frame::{CfaRule, Register, RegisterRule, RowRef};
-use std::marker::Model;
+use crate::prologue::{CalleeSaved, FrameSoFar};
+use eh_frame::{Register, RegisterRule, RowRef};
 
-/// A row that has rules for no registers but those that functions keep, and for the return address. Its
-/// rules are known by their registers.
-///
-/// Contracts see the row.
-#[derive(Drop)]
-pub(crate) struct FrameRow<'w, 'r, 'a> {
-    row: &'w RowRef<'r, 'a>,
-    rules: &'w FrameRules<'a>,
-}
+// The word of the offset of -8.
+const BELOW: u64 = 0xffff_ffff_ffff_fff8;
 
-impl<'w, 'r, 'a> Model for FrameRow<'w, 'r, 'a> {
-    ghost use Rattle.frame_rows.specs.RowValue.{RowValue};
-    ghost use Rattle.table_check.specs.FrameRules.{AreFrameRules};
-
-    ghost Value = { RowValue };
-
-    ghost view = { λ f. f.row.now };
-
-    ghost invariant = { λ f. AreFrameRules f.row.now.rules f.rules.now };
-}
-
-impl<'w, 'r, 'a> FrameRow<'w, 'r, 'a> {
-    /// A row that has these rules.
-    pub(crate) fn new(row: &'w RowRef<'r, 'a>, rules: &'w FrameRules<'a>) -> FrameRow<'w, 'r, 'a>
-        requires { AreFrameRules row.now.rules rules.now }
-        ensures { result ≡ row.now }
-    {
-        FrameRow { row, rules }
-    }
-
-    /// How the CFA is found.
-    pub(crate) fn cfa(&self) -> CfaRule<'a>
-        ensures { cfa_meaning result ≡ self.now.cfa }
-    {
-        self.row.cfa()
-    }
-
-    /// How many bytes of the stack hold arguments that the callee removes.
-    pub(crate) fn saved_args_size(&self) -> u64
-        ensures { result ≡ self.now.saved_args_size }
-    {
-        self.row.saved_args_size()
-    }
-
-    /// The rule of a register that functions keep, `None` where it has none.
-    pub(crate) fn rule(&self, register: CalleeSaved) -> Option<RegisterRule<'a>>
-        ensures { option_map rule_meaning result ≡
-            rule_in self.now.rules (column_of (callee_saved_of register)) }
-    {
-        self.rules.get(register)
-    }
-
-    /// The rule of the return address, `None` where it has none.
-    pub(crate) fn return_address(&self) -> Option<RegisterRule<'a>>
-        ensures { option_map rule_meaning result ≡ rule_in self.now.rules column.ra }
-    {
-        self.rules.return_address
-    }
-}
-
-/// The rules that a row has for the registers that functions keep, and for the return address.
+/// What a row of a frame says of the return address.
 #[derive(Clone, Copy)]
-pub(crate) struct FrameRules<'a> {
-    rbx: Option<RegisterRule<'a>>,
-    rbp: Option<RegisterRule<'a>>,
-    r12: Option<RegisterRule<'a>>,
-    r13: Option<RegisterRule<'a>>,
-    r14: Option<RegisterRule<'a>>,
-    r15: Option<RegisterRule<'a>>,
-    return_address: Option<RegisterRule<'a>>,
+pub(crate) enum ReturnRule {
+    /// It stands just below the CFA.
+    Saved,
+    /// There is none, as the frame has no caller.
+    Undefined,
 }
 
-impl<'a> FrameRules<'a> {
-    /// Those of a row without rules.
-    pub(crate) fn new() -> FrameRules<'a>
-        ensures saved { (r : Kept) → kept_rule r result ≡ None }
-        ensures ret { return_rule result ≡ None }
+/// Which registers that functions keep have a rule in a row, and whether the return address has.
+#[derive(Clone, Copy)]
+pub(crate) struct RuledRegisters {
+    rbx: bool,
+    rbp: bool,
+    r12: bool,
+    r13: bool,
+    r14: bool,
+    r15: bool,
+    return_address: bool,
+}
+
+impl RuledRegisters {
+    /// None of them.
+    pub(crate) fn none() -> RuledRegisters
+        ensures saved { (r : Kept) → has_rule r result ≡ false }
+        ensures ret { result.return_address ≡ false }
     {
-        FrameRules {
-            rbx: None,
-            rbp: None,
-            r12: None,
-            r13: None,
-            r14: None,
-            r15: None,
-            return_address: None,
+        RuledRegisters {
+            rbx: false,
+            rbp: false,
+            r12: false,
+            r13: false,
+            r14: false,
+            r15: false,
+            return_address: false,
         }
     }
 
-    /// Adds those of a row to none. `false` where it has rules for other registers too; which these
-    /// are is then unspecified.
-    pub(crate) fn read(&mut self, row: &RowRef<'_, 'a>) -> bool
-        requires saved { (r : Kept) → kept_rule r self.old ≡ None }
-        requires ret { return_rule self.old ≡ None }
-        ensures known { result ≡ true → AreFrameRules row.now.rules self.new }
-        ensures others { result ≡ false → HasNoOthers row.now.rules → ⊥ }
+    /// Goes through the rules of a row, whether each may be one of a frame. Where one may not, it is
+    /// unspecified which registers have a rule.
+    #[inline(always)]
+    pub(crate) fn read(
+        &mut self,
+        row: &RowRef<'_, '_>,
+        frame: &FrameSoFar,
+        expected: ReturnRule,
+    ) -> bool
+        requires saved { (r : Kept) → has_rule r self.old ≡ false }
+        requires ret { self.old.return_address ≡ false }
+        ensures fits { Decides result
+            (AllByRecursion (FitsRule frame.now (return_rule expected)) row.now.rules) }
+        ensures saved { result ≡ true → (r : Kept) →
+            has_rule r self.new ≡ is_some (rule_in row.now.rules (column_of r)) }
+        ensures ret { result ≡ true →
+            self.new.return_address ≡ is_some (rule_in row.now.rules column.ra) }
+        ensures ascending { AscendsFrom 0 row.now.rules }
     {
         for entry in row.registers() {
-            if !self.note(entry.0, entry.1) {
+            if !self.take(entry.0, &entry.1, frame, expected) {
                 return false;
             }
         }
         true
     }
 
-    // Notes a register's rule, unless it has one. `false` of a register that isn't one of these.
-    fn note(&mut self, register: Register, rule: RegisterRule<'a>) -> bool
-        ensures known { result ≡ may_have_rule register.0 }
-        ensures saved { result ≡ true → (r : Kept) → kept_rule r self.new ≡
-            rule_noted (kept_rule r self.old) (column_of r) register.0 (rule_meaning rule.entry) }
-        ensures ret { result ≡ true → return_rule self.new ≡
-            rule_noted (return_rule self.old) column.ra register.0 (rule_meaning rule.entry) }
+    // Takes the rule of a register, whether it may be one of a frame.
+    #[inline(always)]
+    fn take(
+        &mut self,
+        register: Register,
+        rule: &RegisterRule<'_>,
+        frame: &FrameSoFar,
+        expected: ReturnRule,
+    ) -> bool
+        ensures fits { Decides result (FitsRule frame.now (return_rule expected)
+            (register.0, rule_meaning rule.now)) }
+        ensures saved { result ≡ true → (r : Kept) →
+            has_rule r self.new ≡ (has_rule r self.old || (register.0 == column_of r)) }
+        ensures ret { result ≡ true →
+            self.new.return_address ≡ (self.old.return_address || (register.0 == column.ra)) }
     {
         match register.0 {
-            3 => note_first(&mut self.rbx, rule),
-            6 => note_first(&mut self.rbp, rule),
-            12 => note_first(&mut self.r12, rule),
-            13 => note_first(&mut self.r13, rule),
-            14 => note_first(&mut self.r14, rule),
-            15 => note_first(&mut self.r15, rule),
-            16 => note_first(&mut self.return_address, rule),
-            _ => return false,
+            3 => take_saved(&mut self.rbx, rule, frame.slot(CalleeSaved::Rbx)),
+            6 => take_saved(&mut self.rbp, rule, frame.slot(CalleeSaved::Rbp)),
+            12 => take_saved(&mut self.r12, rule, frame.slot(CalleeSaved::R12)),
+            13 => take_saved(&mut self.r13, rule, frame.slot(CalleeSaved::R13)),
+            14 => take_saved(&mut self.r14, rule, frame.slot(CalleeSaved::R14)),
+            15 => take_saved(&mut self.r15, rule, frame.slot(CalleeSaved::R15)),
+            16 => take_return(&mut self.return_address, rule, expected),
+            _ => false,
         }
-        true
     }
 
-    // The rule of a register, `None` where it has none.
-    fn get(&self, register: CalleeSaved) -> Option<RegisterRule<'a>>
-        ensures { option_map rule_meaning result ≡ kept_rule (callee_saved_of register) self.now }
+    /// Whether the return address has a rule.
+    pub(crate) fn has_return_address(&self) -> bool
+        ensures { result ≡ self.now.return_address }
+    {
+        self.return_address
+    }
+
+    /// Whether a register has a rule.
+    pub(crate) fn has(&self, register: CalleeSaved) -> bool
+        ensures { result ≡ has_rule (callee_saved_of register) self.now }
     {
         match register {
             CalleeSaved::Rbx => self.rbx,
@@ -155,11 +131,38 @@ impl<'a> FrameRules<'a> {
     }
 }
 
-// Notes a rule where there is none.
-fn note_first<'a>(place: &mut Option<RegisterRule<'a>>, rule: RegisterRule<'a>)
-    ensures { place.new ≡ option_or place.old (Some rule.entry) }
+// Notes that a register has a rule, and says whether it is that of where the register is saved.
+#[inline(always)]
+fn take_saved(has: &mut bool, rule: &RegisterRule<'_>, slot: Option<u64>) -> bool
+    ensures has { has.new ≡ true }
+    ensures fits { Decides result (IsKeptRule slot (rule_meaning rule.now)) }
 {
-    if place.is_none() {
-        *place = Some(rule);
+    *has = true;
+    match slot {
+        Some(offset) => is_offset(rule, offset),
+        None => matches!(rule, RegisterRule::SameValue),
+    }
+}
+
+// The same of the return address.
+#[inline(always)]
+fn take_return(has: &mut bool, rule: &RegisterRule<'_>, expected: ReturnRule) -> bool
+    ensures has { has.new ≡ true }
+    ensures fits { Decides result (rule_meaning rule.now ≡ return_rule expected) }
+{
+    *has = true;
+    match expected {
+        ReturnRule::Saved => is_offset(rule, BELOW),
+        ReturnRule::Undefined => matches!(rule, RegisterRule::Undefined),
+    }
+}
+
+#[inline(always)]
+fn is_offset(rule: &RegisterRule<'_>, offset: u64) -> bool
+    ensures { Decides result (rule_meaning rule.now ≡ Offset offset) }
+{
+    match rule {
+        RegisterRule::Offset(own) => *own == offset,
+        _ => false,
     }
 }

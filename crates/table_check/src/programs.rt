@@ -1,15 +1,16 @@
 //! The rows of a description, address by address, beside the steps and the body of a claim.
 //! DWARF 5 sections 6.4.1 and 6.4.3.
 
-ghost use Rattle.std.specs.Prelude.{◌≡◌, ◌⊎◌, ◌+◌, ◌-◌, ◌<◌, ◌≤◌, ℕ, MatchOption, Ok, Result};
-ghost use Rattle.std.specs.Prelude.{map};
+ghost use Rattle.std.specs.Prelude.{◌≡◌, ◌+◌, ◌-◌, ◌<◌, ◌≤◌, ℕ, List, MatchOption, Ok, Result};
+ghost use Rattle.std.specs.Prelude.{false, map, true};
 ghost use Rattle.std.specs.List.{list_any};
 ghost use Rattle.std.specs.Bool.{Decides};
 ghost use Rattle.unwind_definitions.specs.declared.error.Error.{Error as Fault};
 ghost use Rattle.unwind_definitions.specs.Instructions.{Coding};
 ghost use Rattle.unwind_definitions.specs.Row.{RowInstructions};
 ghost use Rattle.unwind_definitions.specs.Prologue.{SystemV};
-ghost use Rattle.unwind_definitions.specs.Function.{IsFunction, first_body, in_range};
+ghost use Rattle.unwind_definitions.specs.Function.{AreWithin, IsFunction, Range, first_from};
+ghost use Rattle.unwind_definitions.specs.Function.{in_range};
 ghost use Rattle.unwind_definitions.specs.DescribedRows.{DescribesRows, ended_by};
 ghost use Rattle.encoded_pointers.specs.PointerViews.{bases_of};
 ghost use Rattle.eh_frame.specs.EntryViews.{fde_of};
@@ -17,7 +18,8 @@ ghost use Rattle.frame_rows.specs.Rows.{GivesRow};
 ghost use Rattle.frame_rows.specs.Walks.{IsBefore, IsWalking, end_of};
 ghost use Rattle.table_check.specs.ClaimViews.{function_of, range_of};
 ghost use Rattle.table_check.specs.Frames.{IsFrameAfter};
-ghost use Rattle.table_check.specs.Programs.{AreEdgesQuiet, Fits, IsPlace, IsQuiet};
+ghost use Rattle.table_check.specs.Programs.{AreEdgesQuiet, Fits, IsFrontOf, IsPlace, IsPlaceAmong};
+ghost use Rattle.table_check.specs.Programs.{IsQuiet};
 ghost use Rattle.table_check.specs.Running.{IsRunning, next_end_of};
 
 use crate::claims::{AddressRange, Claim, ClaimedStep};
@@ -37,6 +39,13 @@ enum Place {
     Outermost,
     /// Nothing, as in an epilogue.
     Free,
+}
+
+/// What is asked from an address on, up to another.
+#[derive(Clone, Copy)]
+struct Asked {
+    place: Place,
+    end: u64,
 }
 
 /// Whether the rows of a description are those of a claimed function, which has its range.
@@ -60,10 +69,11 @@ pub(crate) fn has_rows<'a>(
     let mut pc = claim.start;
     while pc < claim.end {
         running.run_to(&claim.steps, pc - claim.start);
-        if !fits_at(claim, walk, &running.frame, pc) {
+        let asked = asked_at(claim, pc);
+        if !fits_at(claim, walk, &running.frame, asked.place, pc) {
             return false;
         }
-        pc = next_change(claim, walk, &running, pc);
+        pc = next_change(claim, walk, &running, pc, asked.end);
         if walk.end() == Some(pc) {
             fde.go_on(bases, walk);
         }
@@ -71,10 +81,20 @@ pub(crate) fn has_rows<'a>(
     true
 }
 
-// The next address at which another row may hold, or another be asked.
-fn next_change(claim: &Claim, walk: &RowWalk<'_>, running: &RunningFrame, pc: u64) -> u64
+// The next address at which another row may hold, or another be asked. The body doesn't begin or end
+// before `limit`.
+#[inline(always)]
+fn next_change(
+    claim: &Claim,
+    walk: &RowWalk<'_>,
+    running: &RunningFrame,
+    pc: u64,
+    limit: u64,
+) -> u64
     requires start { claim.now.start ≤ pc }
-    requires inside { pc < claim.now.end }
+    requires inside { pc < limit }
+    requires end { limit ≤ claim.now.end }
+    requires edges { AreEdgesQuiet pc limit (function_of claim.now).bodies }
     requires row { IsBefore pc (end_of walk.now) }
     requires running { IsRunning running.now (pc - claim.now.start) claim.now.steps.items }
     requires step { IsBefore (pc - claim.now.start)
@@ -84,15 +104,27 @@ fn next_change(claim: &Claim, walk: &RowWalk<'_>, running: &RunningFrame, pc: u6
     ensures row { MatchOption (end_of walk.now) (Unit {0}) (λ end. result ≤ end) }
     ensures quiet { IsQuiet (function_of claim.now) pc result }
 {
-    let mut next = claim.end;
-    if let Some(end) = walk.end() {
-        next = next.min(end);
+    let next = row_end(walk, pc, limit);
+    next_end(&claim.steps, running, claim.start, pc, next)
+}
+
+// The address at which the walk's row ends, or another one before.
+#[inline(always)]
+fn row_end(walk: &RowWalk<'_>, pc: u64, limit: u64) -> u64
+    requires inside { pc < limit }
+    requires row { IsBefore pc (end_of walk.now) }
+    ensures ahead { pc < result }
+    ensures limited { result ≤ limit }
+    ensures row { MatchOption (end_of walk.now) (Unit {0}) (λ end. result ≤ end) }
+{
+    match walk.end() {
+        Some(end) => limit.min(end),
+        None => limit,
     }
-    next = next_end(&claim.steps, running, claim.start, pc, next);
-    next_edge(&claim.bodies, pc, next)
 }
 
 // The next address at which a step has ended, below another.
+#[inline(always)]
 fn next_end(steps: &[ClaimedStep], running: &RunningFrame, start: u64, pc: u64, limit: u64) -> u64
     requires start { start ≤ pc }
     requires inside { pc < limit }
@@ -108,33 +140,19 @@ fn next_end(steps: &[ClaimedStep], running: &RunningFrame, start: u64, pc: u64, 
     }
 }
 
-// The next address at which a part of the body begins or ends, below another.
-fn next_edge(bodies: &[AddressRange], pc: u64, limit: u64) -> u64
-    requires { pc < limit }
-    ensures ahead { pc < result }
-    ensures limited { result ≤ limit }
-    ensures quiet { AreEdgesQuiet pc result (map range_of bodies.now) }
-{
-    let mut next = limit;
-    for body in bodies {
-        let begun = nearer(next, body.from, pc);
-        next = nearer(begun, body.to, pc);
-    }
-    next
-}
-
 // Whether the row that the walk has is the one that is asked at an address, where the steps that have
-// ended leave a frame.
-fn fits_at(claim: &Claim, walk: &RowWalk<'_>, frame: &FrameSoFar, pc: u64) -> bool
+// ended leave a frame. Not inlined, as it would take the registers of the loop that calls it.
+#[inline(never)]
+fn fits_at(claim: &Claim, walk: &RowWalk<'_>, frame: &FrameSoFar, place: Place, pc: u64) -> bool
     requires function { IsFunction SystemV (function_of claim.now) }
     requires start { claim.now.start ≤ pc }
     requires frame { IsFrameAfter frame.now
         (ended_by (pc - claim.now.start) (function_of claim.now).prologue) }
+    requires place { IsPlace (function_of claim.now) pc place }
     ensures { (coding : Coding) (from a : ℕ) (due : ℕ → Result RowInstructions Fault) →
         IsWalking walk.now coding from due → from ≤ a → IsBefore a (end_of walk.now) →
         Decides result (Fits (function_of claim.now) pc (due a)) }
 {
-    let place = place_of(claim, pc);
     if let Place::Free = place {
         return true;
     }
@@ -145,6 +163,7 @@ fn fits_at(claim: &Claim, walk: &RowWalk<'_>, frame: &FrameSoFar, pc: u64) -> bo
 }
 
 // Whether a row is the one that is asked at an address, where steps leave a frame.
+#[inline(always)]
 fn fits_place(
     claim: &Claim,
     row: &RowRef<'_, '_>,
@@ -168,61 +187,74 @@ fn fits_place(
     }
 }
 
-// A change after an address, where it comes before the next one, or else that one.
-fn nearer(next: u64, change: u64, pc: u64) -> u64
-    requires { pc < next }
-    ensures ahead { pc < result }
-    ensures limited { result ≤ next }
-    ensures quiet { (change ≤ pc) ⊎ (result ≤ change) }
+// What is asked at an address of a function, and up to where.
+#[inline(always)]
+fn asked_at(claim: &Claim, pc: u64) -> Asked
+    requires function { IsFunction SystemV (function_of claim.now) }
+    requires inside { pc < claim.now.end }
+    ensures place { IsPlace (function_of claim.now) pc result.place }
+    ensures ahead { pc < result.end }
+    ensures inside { result.end ≤ claim.now.end }
+    ensures quiet { AreEdgesQuiet pc result.end (function_of claim.now).bodies }
 {
-    if pc < change && change < next {
-        change
-    } else {
-        next
-    }
+    asked_among(&claim.bodies, claim.is_outermost, claim.end, pc)
 }
 
-// What is asked at an address.
-fn place_of(claim: &Claim, pc: u64) -> Place
-    ensures { IsPlace (function_of claim.now) pc result }
+// The same by the parts of a function's body, which ascend and lie before its end.
+#[inline(always)]
+fn asked_among(bodies: &[AddressRange], is_outermost: bool, end: u64, pc: u64) -> Asked
+    requires within { (low : ℕ) × AreWithin low end (map range_of bodies.now) }
+    requires inside { pc < end }
+    ensures place { IsPlaceAmong is_outermost end (map range_of bodies.now) pc result.place }
+    ensures ahead { pc < result.end }
+    ensures inside { result.end ≤ end }
+    ensures quiet { AreEdgesQuiet pc result.end (map range_of bodies.now) }
 {
-    if is_in_body(&claim.bodies, pc) {
-        return if claim.is_outermost {
-            Place::Outermost
-        } else {
-            Place::Body
-        };
-    }
-    if claim.is_outermost || !is_before_body(claim, pc) {
-        return Place::Free;
-    }
-    Place::Prologue
-}
-
-// Whether an address lies in the body.
-fn is_in_body(bodies: &[AddressRange], pc: u64) -> bool
-    ensures { result ≡ list_any (in_range pc) (map range_of bodies.now) }
-{
+    let mut is_first = true;
     for body in bodies {
-        if contains(*body, pc) {
-            return true;
+        if pc < body.from {
+            let place = place_outside(is_outermost, is_first);
+            return Asked {
+                place,
+                end: body.from,
+            };
         }
+        if pc < body.to {
+            let place = place_inside(is_outermost);
+            return Asked {
+                place,
+                end: body.to,
+            };
+        }
+        is_first = false;
     }
-    false
+    let place = place_outside(is_outermost, is_first);
+    Asked { place, end }
 }
 
-fn contains(range: AddressRange, pc: u64) -> bool
-    ensures { result ≡ in_range pc (range_of range) }
+// What is asked outside the body, before its first part or after that.
+#[inline(always)]
+fn place_outside(is_outermost: bool, is_before: bool) -> Place
+    ensures { (end pc : ℕ) (bodies : List Range) → list_any (in_range pc) bodies ≡ false →
+        IsFrontOf is_before pc (first_from end bodies) →
+        IsPlaceAmong is_outermost end bodies pc result }
 {
-    range.from <= pc && pc < range.to
+    if is_outermost || !is_before {
+        Place::Free
+    } else {
+        Place::Prologue
+    }
 }
 
-// Whether the body begins after an address.
-fn is_before_body(claim: &Claim, pc: u64) -> bool
-    ensures { Decides result (pc < first_body (function_of claim.now)) }
+// What is asked in the body.
+#[inline(always)]
+fn place_inside(is_outermost: bool) -> Place
+    ensures { (end pc : ℕ) (bodies : List Range) → list_any (in_range pc) bodies ≡ true →
+        IsPlaceAmong is_outermost end bodies pc result }
 {
-    match claim.bodies.first() {
-        Some(body) => pc < body.from,
-        None => pc < claim.end,
+    if is_outermost {
+        Place::Outermost
+    } else {
+        Place::Body
     }
 }

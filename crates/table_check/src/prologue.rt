@@ -1,12 +1,13 @@
 //! Prologues: the first instructions of a function, and what they leave on the stack.
 //! System V x86-64 psABI, section 3.2.2.
 
-ghost use Rattle.std.specs.Prelude.{◌≡◌, ℕ, [], ◌∷◌, ◌++◌, List, MatchOption, None};
+ghost use Rattle.std.specs.Prelude.{◌≡◌, ◌+◌, ◌<◌, ◌≤◌, ℕ, [], ◌∷◌, ◌++◌, List, MatchOption, None};
 ghost use Rattle.std.specs.Prelude.{false, map};
 ghost use Rattle.unwind_definitions.specs.State.{RBP, column_of, is_same};
 ghost use Rattle.unwind_definitions.specs.Prologue.{Allocate, Followed, IsPrologue, Push, SetFrame};
-ghost use Rattle.unwind_definitions.specs.Prologue.{Step, Store, SystemV, distance, frame_depth};
-ghost use Rattle.unwind_definitions.specs.Prologue.{may_push};
+ghost use Rattle.unwind_definitions.specs.Prologue.{Step, Store, SystemV, depth, distance};
+ghost use Rattle.unwind_definitions.specs.Prologue.{frame_depth, may_push};
+ghost use Rattle.unwind_definitions.specs.DescribedRows.{negative};
 ghost use Rattle.std.specs.Bool.{Decides};
 ghost use Rattle.table_check.specs.ClaimViews.{prologue_step_of, register_of, step_of};
 ghost use Rattle.table_check.specs.Frames.{IsFrameAfter, MayBeNext, MayBeSaved, MayHold};
@@ -15,6 +16,9 @@ ghost use Rattle.table_check.specs.Frames.{with_slot};
 
 use crate::claims::{ClaimStep, ClaimedStep};
 use eh_frame::Register;
+
+// How many words of 64 bits there are.
+const WORDS: u128 = 1 << 64;
 
 /// The registers that a function keeps for its caller, but for the stack pointer.
 /// System V x86-64 psABI, section 3.2.1.
@@ -76,12 +80,12 @@ pub(crate) struct FrameSoFar {
     /// How far what RBP was set to is below.
     pub(crate) frame_depth: Option<u128>,
     is_rbp_pushed: bool,
-    rbx: Option<u128>,
-    rbp: Option<u128>,
-    r12: Option<u128>,
-    r13: Option<u128>,
-    r14: Option<u128>,
-    r15: Option<u128>,
+    rbx: Option<u64>,
+    rbp: Option<u64>,
+    r12: Option<u64>,
+    r13: Option<u64>,
+    r14: Option<u64>,
+    r15: Option<u64>,
 }
 
 impl FrameSoFar {
@@ -102,8 +106,9 @@ impl FrameSoFar {
         }
     }
 
-    /// How far below a register is saved, `None` where it isn't.
-    pub(crate) fn slot(&self, register: CalleeSaved) -> Option<u128>
+    /// The offset from the caller's stack pointer at which a register is saved, as a word; `None`
+    /// where it isn't.
+    pub(crate) fn slot(&self, register: CalleeSaved) -> Option<u64>
         ensures { result ≡ slot_of (callee_saved_of register) self.now }
     {
         match register {
@@ -116,17 +121,17 @@ impl FrameSoFar {
         }
     }
 
-    // Keeps that a register is saved so far below.
-    fn save(&mut self, register: CalleeSaved, distance: u128)
-        ensures { self.new ≡ with_slot (callee_saved_of register) distance self.old }
+    // Keeps that a register is saved at an offset.
+    fn save(&mut self, register: CalleeSaved, offset: u64)
+        ensures { self.new ≡ with_slot (callee_saved_of register) offset self.old }
     {
         match register {
-            CalleeSaved::Rbx => self.rbx = Some(distance),
-            CalleeSaved::Rbp => self.rbp = Some(distance),
-            CalleeSaved::R12 => self.r12 = Some(distance),
-            CalleeSaved::R13 => self.r13 = Some(distance),
-            CalleeSaved::R14 => self.r14 = Some(distance),
-            CalleeSaved::R15 => self.r15 = Some(distance),
+            CalleeSaved::Rbx => self.rbx = Some(offset),
+            CalleeSaved::Rbp => self.rbp = Some(offset),
+            CalleeSaved::R12 => self.r12 = Some(offset),
+            CalleeSaved::R13 => self.r13 = Some(offset),
+            CalleeSaved::R14 => self.r14 = Some(offset),
+            CalleeSaved::R15 => self.r15 = Some(offset),
         }
     }
 
@@ -214,7 +219,7 @@ impl FrameSoFar {
         let depth = self.depth.saturating_add(8);
         self.depth = depth;
         self.is_rbp_pushed = self.is_rbp_pushed | register.is_rbp();
-        self.save(register, depth);
+        self.save(register, offset_of(depth));
     }
 
     fn allocate(&mut self, size: u64)
@@ -233,13 +238,21 @@ impl FrameSoFar {
 
     fn store(&mut self, register: CalleeSaved, offset: u64)
         ensures { (before : List Step) → IsFrameAfter self.old before →
-            distance (callee_saved_of register) before ≡ None →
+            offset + 16 ≤ depth before → distance (callee_saved_of register) before ≡ None →
             IsFrameAfter self.new (before ++ Store (Followed (callee_saved_of register)) offset
             ∷ []) }
     {
-        let distance = self.depth.saturating_sub(u128::from(offset));
-        self.save(register, distance);
+        let distance = self.depth.saturating_sub(u128::from(offset)).max(1);
+        self.save(register, offset_of(distance));
     }
+}
+
+// The offset from the CFA of what is so far below it, as a word.
+fn offset_of(distance: u128) -> u64
+    requires { 0 < distance }
+    ensures { result ≡ negative distance }
+{
+    WORDS.saturating_sub(distance) as u64
 }
 
 /// Whether these are the steps of a prologue: their ends ascend, each may follow those before, and
