@@ -36,7 +36,7 @@ counted() {
 
 # NAME..: what the calls of these functions cost in the proved program's last run.
 inclusive() {
-    python3 "$here/inclusive.py" "$work/unwind_cli.counts" "$@"
+    python3 "$here/calls.py" cost "$work/unwind_cli.counts" "$@"
 }
 
 # a/b with two digits after the point
@@ -64,7 +64,7 @@ measure() {
         peer_whole=$(counted "$peer" "$word")
         cmp "$work/unwind_cli.report" "$work/gimli_walk.report"
         proved_alone=$(inclusive "${alone[@]}")
-        gimli_alone=$(python3 "$here/inclusive.py" "$work/gimli_walk.counts" "gimli_walk::passes::$word")
+        gimli_alone=$(python3 "$here/calls.py" cost "$work/gimli_walk.counts" "gimli_walk::passes::$word")
         if [ -n "$before" ]; then
             more=$((count - before))
             proved_frame=$(((proved_whole - proved_before) / more))

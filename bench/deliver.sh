@@ -34,7 +34,7 @@ expect() {
 
 # How often a pass met a frame in the last run.
 steps() {
-    python3 "$here/called.py" "$work/callgrind" stack_walks::outward::meet | sed 's/^/         calls: /'
+    python3 "$here/calls.py" count "$work/callgrind" stack_walks::outward::meet | sed 's/^/         calls: /'
 }
 
 # NAME WORDS: the costs by length.
