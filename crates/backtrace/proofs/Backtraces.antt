@@ -2,53 +2,37 @@
 use Rattle.std.proofs.Common.{inl, inr, ◌≡◌, ℕ, ◌+◌, ◌-◌, ◌^◌, ◌++◌, Bool, true, false, List, [], ◌∷◌, length, Option, Some, None, Result, Ok, Err, refl, sym, ap, ◌∙◌, ltb}
 use Rattle.std.specs.Prelude.{IfSome, codes, if◌then◌else◌}
 use Rattle.std.proofs.lemmas.Bool.{le-ltb}
-use Rattle.unwind_arch.specs.declared.x86_64.Context.{Context}
 use Rattle.command_ends.specs.declared.status.Status.{Status}
 use Rattle.command_ends.specs.declared.status.Status.TheVariants.{Done, TooLong}
 use Rattle.command_ends.specs.Verdicts.{verdict, IsReadyOrFailed}
 use Rattle.stack_steps.specs.Modules.{SpaceValue}
-use Rattle.stack_walks.specs.Fronts.{start_state}
-use Rattle.stack_walks.proofs.FrontAnswers.{one_front}
 use Rattle.stack_snapshot.specs.declared.errors.SnapshotError.{SnapshotError}
 use Rattle.stack_snapshot.specs.declared.errors.SnapshotError.TheVariants as faults
 use Rattle.stack_snapshot.specs.Answers.{content_of, value_of}
 use Rattle.stack_snapshot.specs.Content.{Content, space_of}
-use Rattle.backtrace.specs.Code.{CodeValue, PlacesValue, places_by}
+use Rattle.backtrace.specs.Code.{PlacesValue, places_by}
 use Rattle.stack_snapshot.specs.Sampled.{SampledContent, sampled_in, sampled_space}
 use Rattle.stack_report.specs.Report.{line}
 use Rattle.folded_stacks.specs.declared.samples.Sample.{Sample}
 use Rattle.backtrace.specs.declared.words.Options.{Options}
 use Rattle.backtrace.specs.Options.{options_of}
-use Rattle.backtrace.specs.Tracing.{TraceValue, IsTrace, IsTraceFrom, called_from}
-use Rattle.backtrace.specs.Lines.{backtrace_text, thread_line}
+use Rattle.backtrace.specs.Tracing.{TraceValue}
+use Rattle.backtrace.specs.Lines.{thread_line}
 use Rattle.backtrace.specs.Threads.{AreThreads, IsThreadsOf}
 use Rattle.backtrace.specs.Due.{IsTraceOf, IsBacktraceOf, IsBacktraceBy, IsBacktraceIn, IsOfSamples, IsOfSnapshot, IsBacktrace, text_of}
-use Rattle.backtrace.specs.Due.{content_due, error_in, error_of, read_due, options_due, due_of, Asks, AsksSamples}
-
--- ---- one trace
-
-same_parts : (t u : TraceValue) → t.first ≡ u.first → t.states ≡ u.states → t.why ≡ u.why → t ≡ u
-same_parts t u a b c = λ i. record { first = a i; states = b i; why = c i }
-
-one_from : (o : Option Context) (space : SpaceValue) (c : Context) (interrupted : Bool) (limit : ℕ) (t u : TraceValue) → IsTraceFrom o space c interrupted limit t → IsTraceFrom o space c interrupted limit u → t ≡ u
-one_from None space c interrupted limit t u is other =
-    same_parts t u (is.0 ∙ sym other.0) (is.1.states ∙ sym other.1.states) (one_front space limit (start_state c interrupted) t.why u.why is.1.why other.1.why)
-one_from (Some d) space c interrupted limit t u is other =
-    same_parts t u (is.0 ∙ sym other.0) (is.1.states ∙ sym other.1.states) (one_front space (limit - 1) (start_state d false) t.why u.why is.1.why other.1.why)
-
-pub one_traced : (space : SpaceValue) (code : List CodeValue) (c : Context) (interrupted : Bool) (limit : ℕ) (t u : TraceValue) → IsTrace space code c interrupted limit t → IsTrace space code c interrupted limit u → t ≡ u
-one_traced space code c interrupted limit t u is other = one_from (called_from space code c interrupted) space c interrupted limit t u is other
+use Rattle.backtrace.specs.Due.{content_due, error_in, error_of, read_due, options_due, due_of, Asks, AsksFor, AsksPointers, AsksSamples, AreGuessesOf, guessed_text_of}
+use Rattle.backtrace.proofs.StackTexts.{one_stack_text, pointers_text, tables_text}
 
 -- ---- one backtrace
 
 one_backtrace : (o : Options) (s : Content) (places : PlacesValue) (x y : List ℕ) → IsBacktraceOf o s places x → IsBacktraceOf o s places y → x ≡ y
-one_backtrace o s places x y is other = is.2 ∙ (ap (text_of o s places) (one_traced (space_of s) places.code s.start s.interrupted s.limit is.0 other.0 is.1 other.1) ∙ sym other.2)
+one_backtrace o s places x y is other = one_stack_text o (space_of s) s.limit places s.start s.interrupted x y is other
 
 one_of_threads : (o : Options) (space : SpaceValue) (limit : ℕ) (places : PlacesValue) (index : ℕ) (xs : List Sample) (a b : List ℕ) → AreThreads o space limit places index xs a → AreThreads o space limit places index xs b → a ≡ b
 one_of_threads o space limit places index [] a b is other = is ∙ sym other
 one_of_threads o space limit places index (x ∷ xs) a b is other =
-    let traced = one_traced space places.code x.start x.interrupted limit is.2.0 other.2.0 is.2.1 other.2.1 in
-    let own : is.0 ≡ other.0 = is.2.2 ∙ (ap (λ t. thread_line index ++ backtrace_text o.registers x.interrupted places t) traced ∙ sym other.2.2) in
+    let stack : is.2.0 ≡ other.2.0 = one_stack_text o space limit places x.start x.interrupted is.2.0 other.2.0 is.2.1 other.2.1 in
+    let own : is.0 ≡ other.0 = is.2.2 ∙ (ap (λ t. thread_line index ++ t) stack ∙ sym other.2.2) in
     let rest : is.1 ≡ other.1 = one_of_threads o space limit places (index + 1) xs is.1 other.1 is.3 other.3 in
     is.4 ∙ (ap (λ n. n ++ is.1) own ∙ (ap (λ n. other.0 ++ n) rest ∙ sym other.4))
 
@@ -102,13 +86,21 @@ if_some_both (Some x) S P Q R h p q = h x p q
 
 -- ---- of what is asked for
 
-pub asked_due : (o : Options) (words : List (List ℕ)) (source : Option (List ℕ)) (s : Content) (places : PlacesValue) (text : List ℕ) (asks : Asks o words source s places) → due_of words asks.bytes text ≡ verdict Done text
-asked_due o words source s places text asks =
+pub asked_due : (pointers : Bool) (o : Options) (words : List (List ℕ)) (source : Option (List ℕ)) (s : Content) (places : PlacesValue) (text : List ℕ) (asks : AsksFor pointers o words source s places) → due_of words asks.bytes text ≡ verdict Done text
+asked_due pointers o words source s places text asks =
     let read : due_of words asks.bytes text ≡ content_due text (content_of asks.bytes) = rw (asks.named, asks.single, le-ltb (2 ^ 26) (length asks.bytes) asks.short) refl in
     read ∙ ap (content_due text) asks.reads
 
 pub asked_backtrace : (o : Options) (words : List (List ℕ)) (source : Option (List ℕ)) (s : Content) (places : PlacesValue) (t : TraceValue) (asks : Asks o words source s places) → IsTraceOf s places t → IsBacktrace words asks.bytes (text_of o s places t)
-asked_backtrace o words source s places t asks is = rw (asks.named, asks.single, asks.reads, asks.files) (t, is, refl)
+asked_backtrace o words source s places t asks is =
+    let text = tables_text o (space_of s) s.limit places s.start s.interrupted asks.by t is in
+    rw (asks.named, asks.single, asks.reads, asks.files) text
+
+pub asked_guesses : (o : Options) (words : List (List ℕ)) (source : Option (List ℕ)) (s : Content) (places : PlacesValue) (t : TraceValue) (ts : List TraceValue) (asks : AsksPointers o words source s places) → IsTraceOf s places t → AreGuessesOf s places t ts →
+    IsBacktrace words asks.bytes (guessed_text_of o s places t ts)
+asked_guesses o words source s places t ts asks is guesses =
+    let text = pointers_text o (space_of s) s.limit places s.start s.interrupted asks.by t ts is guesses in
+    rw (asks.named, asks.single, asks.reads, asks.files) text
 
 pub sampled_due : (o : Options) (words : List (List ℕ)) (source : Option (List ℕ)) (s : SampledContent) (places : PlacesValue) (text : List ℕ) (asks : AsksSamples o words source s places) → due_of words asks.bytes text ≡ verdict Done text
 sampled_due o words source s places text asks =

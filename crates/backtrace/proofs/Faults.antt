@@ -10,7 +10,7 @@ use Rattle.stack_snapshot.specs.Answers.{content_of}
 use Rattle.stack_snapshot.specs.Sampled.{sampled_in}
 use Rattle.stack_report.specs.Report.{line}
 use Rattle.command_ends.specs.declared.status.Status.{Status}
-use Rattle.command_ends.specs.declared.status.Status.TheVariants.{BadSnapshot, TooLong}
+use Rattle.command_ends.specs.declared.status.Status.TheVariants.{BadSnapshot, NotJson, TooLong}
 use Rattle.command_ends.specs.Verdicts.{Tells, ComesExactly, verdict}
 use Rattle.command_ends.proofs.VerdictLemmas.{comes, told_as}
 use Rattle.backtrace.specs.declared.words.Options.{Options}
@@ -72,3 +72,45 @@ bad_told words bytes result before after told =
     let due = due_of words bytes there.0 in
     let tells = told there.0 there.1 in
     comes (IsBad words bytes) due result BadSnapshot before after tells (λ is. sym (told_as due result BadSnapshot before after tells is).0) (cause words bytes there.0 (options_of words) refl) (bad_due words bytes there.0)
+
+-- ---- the same where bytes are no JSON
+
+no_json_of : {X : Type 0} (r : Result X SnapshotError) (text : List ℕ) → (content_due text r).status ≡ NotJson → error_of r ≡ Some faults.NotJson
+no_json_of (Ok x) text is = absurd cc
+no_json_of (Err (faults.Bad field)) text is = absurd cc
+no_json_of (Err faults.NotJson) text is = refl
+no_json_of (Err faults.NoMemory) text is = absurd cc
+
+of_no_json : {X : Type 0} (r : Result X SnapshotError) (text : List ℕ) → error_of r ≡ Some faults.NotJson → (content_due text r).status ≡ NotJson
+of_no_json (Ok x) text is = absurd cc
+of_no_json (Err (faults.Bad other)) text is = absurd cc
+of_no_json (Err faults.NotJson) text is = refl
+of_no_json (Err faults.NoMemory) text is = absurd cc
+
+no_json_read : (several : Bool) (bytes text : List ℕ) → (read_due several text bytes).status ≡ NotJson → error_in several bytes ≡ Some faults.NotJson
+no_json_read false bytes text is = no_json_of (content_of bytes) text is
+no_json_read true bytes text is = no_json_of (sampled_in bytes) text is
+
+read_no_json : (several : Bool) (bytes text : List ℕ) → error_in several bytes ≡ Some faults.NotJson → (read_due several text bytes).status ≡ NotJson
+read_no_json false bytes text is = of_no_json (content_of bytes) text is
+read_no_json true bytes text is = of_no_json (sampled_in bytes) text is
+
+unsized : (words : List (List ℕ)) (bytes text : List ℕ) (o : Options) → options_of words ≡ Some o → (b : Bool) → ltb (2 ^ 26) (length bytes) ≡ b
+    → (if b then verdict TooLong (line (codes "too long")) else read_due o.samples text bytes).status ≡ NotJson → IsFaulty words bytes faults.NotJson
+unsized words bytes text o named true long is = absurd cc
+unsized words bytes text o named false short is = record { options = o; named = named; short = grind (arith, nat_tests); faulty = no_json_read o.samples bytes text is }
+
+no_json_cause : (words : List (List ℕ)) (bytes text : List ℕ) (o : Option Options) → options_of words ≡ o → (options_due text o bytes).status ≡ NotJson → IsFaulty words bytes faults.NotJson
+no_json_cause words bytes text None named is = absurd cc
+no_json_cause words bytes text (Some o) named is = unsized words bytes text o named (ltb (2 ^ 26) (length bytes)) refl is
+
+no_json_due : (words : List (List ℕ)) (bytes text : List ℕ) → IsFaulty words bytes faults.NotJson → (due_of words bytes text).status ≡ NotJson
+no_json_due words bytes text f = rw (f.named, le-ltb (2 ^ 26) (length bytes) f.short) (read_no_json f.options.samples bytes text f.faulty)
+
+pub no_json_told : (words : List (List ℕ)) (bytes : List ℕ) (result : Status) (before after : Option (List ℕ)) → ((text : List ℕ) → IsBacktrace words bytes text → Tells (due_of words bytes text) result before after)
+    → ComesExactly result NotJson (IsFaulty words bytes faults.NotJson)
+no_json_told words bytes result before after told =
+    let there = asked_there (options_of words) bytes in
+    let due = due_of words bytes there.0 in
+    let tells = told there.0 there.1 in
+    comes (IsFaulty words bytes faults.NotJson) due result NotJson before after tells (λ is. sym (told_as due result NotJson before after tells is).0) (no_json_cause words bytes there.0 (options_of words) refl) (no_json_due words bytes there.0)

@@ -1,3 +1,6 @@
+pub mod FramePointers
+pub mod Guesses
+pub mod StackTexts
 pub mod Backtraces
 pub mod CallingChain
 pub mod Chains
@@ -7,3 +10,4 @@ pub mod Written
 pub mod KnownTraces
 pub mod ThreadLines
 pub mod Faults
+pub mod PointedChain

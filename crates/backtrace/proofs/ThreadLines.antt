@@ -1,5 +1,5 @@
 -- The lines of one of many threads.
-use Rattle.std.proofs.Common.{◌≡◌, ℕ, zero, suc, ◌+◌, List, [], ◌∷◌, ◌++◌, Some, refl, sym, ap, subst, ◌∙◌, append_assoc, arith}
+use Rattle.std.proofs.Common.{◌≡◌, ℕ, zero, suc, ◌+◌, false, List, [], ◌∷◌, ◌++◌, Some, refl, sym, ap, subst, ◌∙◌, append_assoc, arith}
 use Rattle.std.specs.Prelude.{take, drop}
 use Rattle.std.specs.List.{slice_get}
 use Rattle.stack_steps.specs.Modules.{SpaceValue}
@@ -11,7 +11,7 @@ use Rattle.backtrace.specs.Tracing.{TraceValue}
 use Rattle.backtrace.specs.Lines.{thread_line}
 use Rattle.backtrace.specs.Due.{IsTraceOf, text_of}
 use Rattle.backtrace.specs.Threads.{IsThread, AreThreads, IsThreadsOf, HasThread, alone}
-use Rattle.backtrace.proofs.Backtraces.{one_traced}
+use Rattle.backtrace.proofs.StackTexts.{by_tables}
 
 module _ (o : Options) (space : SpaceValue) (limit : ℕ) (places : PlacesValue) where
   -- the parts of a text before a thread, of it, and after it
@@ -53,10 +53,10 @@ module _ (o : Options) (space : SpaceValue) (limit : ℕ) (places : PlacesValue)
       }
 
 -- a thread's lines are those of its trace
-pub has_thread : (o : Options) (s : SampledContent) (places : PlacesValue) (index : ℕ) (x : Sample) (t : TraceValue) (text : List ℕ) → slice_get s.samples index ≡ Some x → IsTraceOf (alone s x) places t → IsThreadsOf o s places text
+pub has_thread : (o : Options) (s : SampledContent) (places : PlacesValue) (index : ℕ) (x : Sample) (t : TraceValue) (text : List ℕ) → o.frame_pointers ≡ false → slice_get s.samples index ≡ Some x → IsTraceOf (alone s x) places t → IsThreadsOf o s places text
     → HasThread o s places index (text_of o (alone s x) places t) text
-has_thread o s places index x t text found is all =
+has_thread o s places index x t text unasked found is all =
     let p = parted o (sampled_space s) s.limit places s.samples 0 index index x text (omega arith) found all in
-    let same = one_traced (sampled_space s) places.code x.start x.interrupted s.limit p.thread.0 t p.thread.1 is in
-    let own : p.own ≡ thread_line index ++ text_of o (alone s x) places t = p.thread.2 ∙ ap (λ u. thread_line index ++ text_of o (alone s x) places u) same in
+    let same : p.thread.0 ≡ text_of o (alone s x) places t = by_tables o (sampled_space s) s.limit places x.start x.interrupted unasked t p.thread.0 is p.thread.1 in
+    let own : p.own ≡ thread_line index ++ text_of o (alone s x) places t = p.thread.2 ∙ ap (λ u. thread_line index ++ u) same in
     (p.before, p.after, p.earlier, p.later, p.is ∙ ap (λ m. p.before ++ (m ++ p.after)) own)

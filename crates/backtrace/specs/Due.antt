@@ -19,8 +19,10 @@ use Rattle.stack_snapshot.specs.Sampled.{SampledContent, sampled_in}
 use Rattle.backtrace.specs.declared.words.Options.{Options}
 use Rattle.backtrace.specs.Options.{options_of}
 use Rattle.backtrace.specs.Tracing.{TraceValue, IsNowhere, IsTrace}
+use Rattle.backtrace.specs.FramePointers.{AreGuesses}
+use Rattle.backtrace.specs.Stacks.{IsStackText}
 use Rattle.backtrace.specs.Threads.{IsThreadsOf}
-use Rattle.backtrace.specs.Lines.{backtrace_text, form_with, states_text, usage_line}
+use Rattle.backtrace.specs.Lines.{backtrace_text, contexts_of, form_with, states_text, traces_text, usage_line}
 
 -- the trace of a snapshot
 abbrev pub IsTraceOf : Content → PlacesValue → TraceValue → Type 0
@@ -51,9 +53,17 @@ abbrev pub called_text : Options → Content → PlacesValue → State → State
 called_text o s places start caller calls =
     states_text (form_with o.registers s.interrupted places true) (start ∷ states_of caller calls) (front_of_chain (space_of s).modules (last_state caller calls))
 
+-- the walks that go on from a snapshot's trace by frame pointers
+abbrev pub AreGuessesOf : Content → PlacesValue → TraceValue → List TraceValue → Type 0
+AreGuessesOf s places t ts = AreGuesses true (space_of s) places.code s.limit (length (contexts_of t)) t ts
+
+-- the lines of a snapshot's trace and of these walks
+abbrev pub guessed_text_of : Options → Content → PlacesValue → TraceValue → List TraceValue → List ℕ
+guessed_text_of o s places t ts = traces_text o.registers s.interrupted places t ts
+
 -- a text is the backtrace of a snapshot
 abbrev pub IsBacktraceOf : Options → Content → PlacesValue → List ℕ → Type 0
-IsBacktraceOf o s places text = (t : TraceValue) × IsTraceOf s places t × (text ≡ text_of o s places t)
+IsBacktraceOf o s places text = IsStackText o (space_of s) s.limit places s.start s.interrupted text
 
 -- The same of the snapshot that bytes say, and of samples. Where they say neither any text is.
 abbrev pub IsOfSnapshot : Options → Result Content SnapshotError → PlacesValue → List ℕ → Type 0
@@ -114,15 +124,25 @@ pub record IsFaulty (words : List (List ℕ)) (bytes : List ℕ) (error : Snapsh
   pub short : length bytes ≤ 2 ^ 26
   pub faulty : error_in options.samples bytes ≡ Some error
 
--- the words name options, and all bytes of the source, at most 67,108,864, are the snapshot, and name these files and code
-pub record Asks (o : Options) (words : List (List ℕ)) (source : Option (List ℕ)) (s : Content) (places : PlacesValue) : Type 0 where
+-- The words name options, with frame pointers or without, and all bytes of the source, at most 67,108,864, are the snapshot, and
+-- name these files and code.
+pub record AsksFor (pointers : Bool) (o : Options) (words : List (List ℕ)) (source : Option (List ℕ)) (s : Content) (places : PlacesValue) : Type 0 where
   pub bytes : List ℕ
   pub named : options_of words ≡ Some o
   pub single : o.samples ≡ false
+  pub by : o.frame_pointers ≡ pointers
   pub source_is : source ≡ Some bytes
   pub short : length bytes ≤ 2 ^ 26
   pub reads : content_of bytes ≡ Ok s
   pub files : places_by (value_of bytes) ≡ places
+
+-- without frame pointers: a walk goes as far as tables lead
+abbrev pub Asks : Options → List (List ℕ) → Option (List ℕ) → Content → PlacesValue → Type 0
+Asks o words source s places = AsksFor false o words source s places
+
+-- with them
+abbrev pub AsksPointers : Options → List (List ℕ) → Option (List ℕ) → Content → PlacesValue → Type 0
+AsksPointers o words source s places = AsksFor true o words source s places
 
 -- the words ask for samples, and all bytes of the source, at most 67,108,864, are these, and name these files and code
 pub record AsksSamples (o : Options) (words : List (List ℕ)) (source : Option (List ℕ)) (s : SampledContent) (places : PlacesValue) : Type 0 where

@@ -1,7 +1,9 @@
 pub mod Options
 pub mod Code
 pub mod Tracing
+pub mod FramePointers
 pub mod Lines
+pub mod Stacks
 pub mod Threads
 pub mod Due
 pub mod Sample
@@ -9,3 +11,4 @@ pub mod ChainSample
 pub mod KnownStacks
 pub mod KnownSample
 pub mod SignalSample
+pub mod PointedSample

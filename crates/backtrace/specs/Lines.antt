@@ -1,5 +1,5 @@
 -- The lines of a backtrace.
-use Rattle.std.specs.Prelude.{ℕ, ◌+◌, ◌-◌, ◌%◌, ◌^◌, ◌==◌, ◌&&◌, Bool, List, [], ◌∷◌, ◌++◌, map, Option, Some, None, codes, nat_lt, is_some, if◌then◌else◌}
+use Rattle.std.specs.Prelude.{ℕ, ◌+◌, ◌-◌, ◌%◌, ◌^◌, ◌==◌, ◌&&◌, Bool, false, List, [], ◌∷◌, ◌++◌, length, map, Option, Some, None, codes, nat_lt, is_some, if◌then◌else◌}
 use Rattle.std.specs.Option.{option_to_list}
 use Rattle.std.specs.Fmt.{decimal}
 use Rattle.unwind_definitions.specs.State.{State}
@@ -33,11 +33,12 @@ place_text origins a inside = word a ++ origin_text (origin_at origins inside) a
 -- ---- frames
 
 -- What the lines say beside the states: registers too, whether the first state was interrupted, whether the second was read
--- from the stack, and which files and code the snapshot names.
+-- from the stack, the number of the one to which a frame pointer led, if one did, and which files and code the snapshot names.
 pub record FormValue : Type 0 where
   pub registers : Bool
   pub interrupted : Bool
   pub called : Bool
+  pub pointed : Option ℕ
   pub places : PlacesValue
 
 -- the frame's number, in two places at least
@@ -56,8 +57,13 @@ kept_text s = codes " sp=" ++ hexadecimal s.sp ++ codes " rbx=" ++ hexadecimal s
 abbrev pub inside_of : FormValue → ℕ → State → ℕ
 inside_of form i s = address_of_call s.ra (form.interrupted && (i == 0))
 
+-- what marks a frame that no table leads to
+abbrev pub pointed_mark : Option ℕ → ℕ → List ℕ
+pointed_mark None i = []
+pointed_mark (Some n) i = if n == i then codes " (a guess, by the frame pointer)" else []
+
 abbrev pub guess_text : FormValue → ℕ → List ℕ
-guess_text form i = if form.called && (i == 1) then codes " (return address on the stack)" else []
+guess_text form i = if form.called && (i == 1) then codes " (return address on the stack)" else pointed_mark form.pointed i
 
 abbrev pub registers_text : FormValue → State → List ℕ
 registers_text form s = if form.registers then kept_text s else []
@@ -132,7 +138,7 @@ abbrev pub shown_states : List Context → List State
 shown_states cs = map state_of cs
 
 abbrev pub form_with : Bool → Bool → PlacesValue → Bool → FormValue
-form_with registers interrupted places called = record { registers = registers; interrupted = interrupted; called = called; places = places }
+form_with registers interrupted places called = record { registers = registers; interrupted = interrupted; called = called; pointed = None; places = places }
 
 abbrev pub form_of : Bool → Bool → PlacesValue → TraceValue → FormValue
 form_of registers interrupted places t = form_with registers interrupted places (is_some t.first)
@@ -140,6 +146,24 @@ form_of registers interrupted places t = form_with registers interrupted places 
 -- What is written of a trace: by whether registers are asked for, whether its start was interrupted, and what the snapshot names.
 unfoldable pub backtrace_text : Bool → Bool → PlacesValue → TraceValue → List ℕ
 backtrace_text registers interrupted places t = states_text (form_of registers interrupted places t) (shown_states (contexts_of t)) t.why
+
+-- ---- the whole text with walks by frame pointers
+
+-- the same of states of which the first, with this number, is the one to which a frame pointer led
+abbrev pub pointed_form : FormValue → ℕ → FormValue
+pointed_form form n = record { registers = form.registers; interrupted = false; called = false; pointed = Some n; places = form.places }
+
+-- The lines of walks, one after another, that begin with such states, and last why the last of them goes no further, or for this
+-- reason where there are none.
+abbrev pub pointed_text : FormValue → ℕ → Front → List TraceValue → List ℕ
+pointed_text form n why [] = end_line form.places why
+pointed_text form n why (t ∷ ts) = frame_lines (pointed_form form n) n (shown_states t.states) ++ pointed_text form (n + length t.states) t.why ts
+
+-- What is written of a trace and of the walks that go on from it. Of a trace alone it is `backtrace_text`.
+unfoldable pub traces_text : Bool → Bool → PlacesValue → TraceValue → List TraceValue → List ℕ
+traces_text registers interrupted places t ts =
+    frame_lines (form_of registers interrupted places t) 0 (shown_states (contexts_of t))
+    ++ pointed_text (form_of registers interrupted places t) (length (contexts_of t)) t.why ts
 
 -- ---- the whole text of threads
 
@@ -150,4 +174,4 @@ thread_line index = line (codes "thread " ++ decimal index)
 -- ---- the lines in its place
 
 abbrev pub usage_line : List ℕ
-usage_line = line (codes "usage: backtrace [--registers] [--samples]")
+usage_line = line (codes "usage: backtrace [--registers] [--samples] [--frame-pointers]")

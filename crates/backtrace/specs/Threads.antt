@@ -6,14 +6,14 @@ use Rattle.stack_snapshot.specs.Content.{Content}
 use Rattle.stack_snapshot.specs.Sampled.{SampledContent, sampled_space}
 use Rattle.backtrace.specs.Code.{PlacesValue}
 use Rattle.backtrace.specs.declared.words.Options.{Options}
-use Rattle.backtrace.specs.Tracing.{TraceValue, IsTrace}
-use Rattle.backtrace.specs.Lines.{backtrace_text, thread_line}
+use Rattle.backtrace.specs.Stacks.{IsStackText}
+use Rattle.backtrace.specs.Lines.{thread_line}
 
 module _ (o : Options) (space : SpaceValue) (limit : ℕ) (places : PlacesValue) where
   -- a text is the number and the backtrace of a thread
   abbrev pub IsThread : ℕ → Sample → List ℕ → Type 0
   IsThread index x text =
-      (t : TraceValue) × IsTrace space places.code x.start x.interrupted limit t × (text ≡ thread_line index ++ backtrace_text o.registers x.interrupted places t)
+      (own : List ℕ) × IsStackText o space limit places x.start x.interrupted own × (text ≡ thread_line index ++ own)
 
   -- a text is those of threads, numbered from an index on, one after another
   abbrev pub AreThreads : ℕ → List Sample → List ℕ → Type 0

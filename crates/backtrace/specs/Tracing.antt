@@ -37,6 +37,11 @@ pub record TraceValue : Type 0 where
   pub states : List Context
   pub why : Front
 
+-- a trace, and for how many states there is place
+pub record TracedValue : Type 0 where
+  pub trace : TraceValue
+  pub places : ℕ
+
 -- the states are those of a walk of at most so many, which ends for this reason
 pub record IsFrontOf (space : SpaceValue) (limit : ℕ) (c : Context) (interrupted : Bool) (t : TraceValue) : Type 0 where
   pub states : t.states ≡ front_of space limit c interrupted

@@ -1,11 +1,11 @@
 // The lines of a backtrace.
-ghost use Rattle.std.specs.Prelude.{◌≡◌, ◌≤◌, ◌++◌, IfOk, OnOk, Some};
+ghost use Rattle.std.specs.Prelude.{◌≡◌, ◌^◌, ◌≤◌, ◌++◌, length, IfOk, OnOk, Some};
 ghost use Rattle.stack_deliver.specs.StateViews.{state_of};
-ghost use Rattle.backtrace.specs.Lines.{backtrace_text, end_line, frame_line};
+ghost use Rattle.backtrace.specs.Lines.{end_line, form_of, frame_line, pointed_form, pointed_mark};
 ghost use Rattle.backtrace.specs.Lines.{frame_lines, frame_text, gap_text, guess_text, inside_of};
 ghost use Rattle.backtrace.specs.Lines.{kept_text, limit_text, no_module_text, number_text};
 ghost use Rattle.backtrace.specs.Lines.{origin_text, place_text, registers_text, rest_text};
-ghost use Rattle.backtrace.specs.Lines.{contexts_of, shown_states, states_text};
+ghost use Rattle.backtrace.specs.Lines.{contexts_of, shown_states};
 ghost use Rattle.backtrace.specs.Lines.{undescribed_text, unread_text, usage_line};
 ghost use Rattle.backtrace.specs.Lines.{code_text, name_text, thread_line, unheld_text, why_text};
 ghost use Rattle.backtrace.specs.Code.{code_at};
@@ -21,13 +21,15 @@ use unwind_arch::x86_64::{R12, R13, R14, R15, RBP, RBX, RSP};
 
 /// What the lines say beside the states.
 #[derive(Drop)]
-struct Form<'a> {
+pub struct Form<'a> {
     /// Whether they have registers too.
     registers: bool,
     /// Whether the first state was interrupted, and doesn't stand after a call.
     interrupted: bool,
     /// Whether the second state was read from the stack.
     called: bool,
+    /// The number of the state to which a frame pointer led, if one did.
+    pointed: Option<usize>,
     /// Which files and code the snapshot names.
     places: &'a Places,
 }
@@ -41,8 +43,40 @@ impl<'a> Model for Form<'a> {
       registers = f.registers;
       interrupted = f.interrupted;
       called = f.called;
+      pointed = f.pointed;
       places = f.places.now;
     } };
+}
+
+/// What the lines of a trace say beside its states.
+pub fn form_of<'a>(
+    registers: bool,
+    interrupted: bool,
+    places: &'a Places,
+    trace: &Trace,
+) -> Form<'a>
+    ensures { result ≡ form_of registers interrupted places.now trace.now.trace }
+{
+    Form {
+        registers,
+        interrupted,
+        called: trace.first().is_some(),
+        pointed: None,
+        places,
+    }
+}
+
+/// The same of a walk from a state to which a frame pointer led.
+pub fn pointed_form<'a>(form: &Form<'a>, first: usize) -> Form<'a>
+    ensures { result ≡ pointed_form form.now first }
+{
+    Form {
+        registers: form.registers,
+        interrupted: false,
+        called: false,
+        pointed: Some(first),
+        places: form.places,
+    }
 }
 
 /// Puts an address's file, and its place in it.
@@ -100,14 +134,28 @@ fn put_kept(report: &mut Report, state: &Context) -> Result<(), AllocError>
     report.put_field(" r15=", state.registers[R15])
 }
 
-/// Puts that the frame was read from the stack, where it was.
+/// Puts that a frame pointer led to the frame, where one did.
+fn put_pointed_mark(
+    report: &mut Report,
+    pointed: Option<usize>,
+    index: usize,
+) -> Result<(), AllocError>
+    ensures { OnOk result (report.new ≡ report.old ++ pointed_mark pointed index) }
+{
+    match pointed {
+        Some(first) if first == index => report.put(" (a guess, by the frame pointer)"),
+        _ => Ok(()),
+    }
+}
+
+/// Puts that the frame was read from the stack, or that a frame pointer led there, where it was so.
 fn put_guess(report: &mut Report, form: &Form<'_>, index: usize) -> Result<(), AllocError>
     ensures { OnOk result (report.new ≡ report.old ++ guess_text form.now index) }
 {
     if form.called && index == 1 {
         report.put(" (return address on the stack)")
     } else {
-        Ok(())
+        put_pointed_mark(report, form.pointed, index)
     }
 }
 
@@ -197,15 +245,16 @@ fn put_state(
 }
 
 /// Puts the lines of the states of a walk, the first of which has this number.
-fn put_walked(
+pub fn put_walked(
     report: &mut Report,
     form: &Form<'_>,
     first: usize,
     trace: &Trace,
 ) -> Result<(), AllocError>
-    requires { first ≤ 1 }
+    requires first { first ≤ 2 ^ 32 }
+    requires states { length trace.now.trace.states ≤ 2 ^ 32 }
     ensures { OnOk result (report.new ≡ report.old ++
-        frame_lines form.now first (shown_states trace.now.states)) }
+        frame_lines form.now first (shown_states trace.now.trace.states)) }
 {
     for place in 0..trace.walked_len() {
         let state = trace.walked(place).unwrap();
@@ -215,9 +264,10 @@ fn put_walked(
 }
 
 /// Puts the lines of all states.
-fn put_states(report: &mut Report, form: &Form<'_>, trace: &Trace) -> Result<(), AllocError>
+pub fn put_states(report: &mut Report, form: &Form<'_>, trace: &Trace) -> Result<(), AllocError>
+    requires { length trace.now.trace.states ≤ 2 ^ 32 }
     ensures { OnOk result (report.new ≡ report.old ++ frame_lines form.now 0
-        (shown_states (contexts_of trace.now))) }
+        (shown_states (contexts_of trace.now.trace))) }
 {
     match trace.first() {
         Some(start) => {
@@ -336,34 +386,12 @@ fn put_why(report: &mut Report, places: &Places, why: Front) -> Result<(), Alloc
 }
 
 /// Puts the last line.
-fn put_end(report: &mut Report, places: &Places, why: Front) -> Result<(), AllocError>
+pub fn put_end(report: &mut Report, places: &Places, why: Front) -> Result<(), AllocError>
     ensures { OnOk result (report.new ≡ report.old ++ end_line places.now why) }
 {
     report.put("end: ")?;
     put_why(report, places, why)?;
     report.end_line()
-}
-
-/// Puts the lines of a trace last: one for each frame, and one that says why there are no more.
-#[tactic(auto, unfolding(crate::specs::Lines::backtrace_text, crate::specs::Lines::states_text))]
-pub fn put_backtrace(
-    report: &mut Report,
-    registers: bool,
-    interrupted: bool,
-    places: &Places,
-    trace: &Trace,
-) -> Result<(), AllocError>
-    ensures { OnOk result (report.new ≡ report.old ++
-        backtrace_text registers interrupted places.now trace.now) }
-{
-    let form = Form {
-        registers,
-        interrupted,
-        called: trace.first().is_some(),
-        places,
-    };
-    put_states(report, &form, trace)?;
-    put_end(report, places, trace.why())
 }
 
 /// Puts a thread's number last.
@@ -379,5 +407,8 @@ pub fn put_thread_line(report: &mut Report, index: usize) -> Result<(), AllocErr
 pub fn usage_line(alloc: Global) -> Result<Report, AllocError>
     ensures { IfOk result (λ report. report ≡ usage_line) }
 {
-    line_of(alloc, "usage: backtrace [--registers] [--samples]")
+    line_of(
+        alloc,
+        "usage: backtrace [--registers] [--samples] [--frame-pointers]",
+    )
 }

@@ -4,8 +4,10 @@
 
 mod code;
 mod lines;
+mod pointers;
 mod running;
 mod sample;
+mod stacks;
 mod threads;
 mod tracing;
 mod words;

@@ -23,14 +23,14 @@ ghost use Rattle.backtrace.specs.Due.{Asks, IsBacktrace, IsBacktraceBy, IsBacktr
 ghost use Rattle.backtrace.specs.Due.{DescribesCallToNowhere, called_text, chain_text, text_of};
 ghost use Rattle.backtrace.specs.Due.{bytes_due, content_due, due_of, read_due};
 ghost use Rattle.backtrace.specs.Due.{AsksSamples, IsBacktraceIn, IsFaulty, IsOfSamples};
-ghost use Rattle.backtrace.specs.Due.{IsOfSnapshot};
+ghost use Rattle.backtrace.specs.Due.{AreGuessesOf, AsksPointers, IsOfSnapshot, guessed_text_of};
 ghost use Rattle.backtrace.specs.Threads.{IsThreadsOf};
 ghost use Rattle.stack_snapshot.specs.Sampled.{SampledContent, sampled_in};
 
 use crate::code::{Places, read_placed_samples, read_placed_snapshot};
-use crate::lines::{put_backtrace, usage_line};
+use crate::lines::usage_line;
+use crate::stacks::{Shared, put_stack};
 use crate::threads::threads_text;
-use crate::tracing::trace_stack;
 use crate::words::{Options, options_of};
 use command_ends::{Answer, Status, Words, fault_answer, read_input, tell, text_answer};
 use memory_image::{Sink, Source};
@@ -48,12 +48,16 @@ fn backtrace_text(
     ensures { IfOk result (λ report. IsBacktraceOf options snapshot.now places.now report) }
 {
     let space = snapshot.space(alloc)?;
+    let shared = Shared {
+        options,
+        space: &space,
+        limit: snapshot.limit(),
+        places,
+    };
     let start = snapshot.start();
     let interrupted = snapshot.interrupted();
-    let limit = snapshot.limit();
-    let trace = trace_stack(alloc, &space, &places.code, &start, interrupted, limit)?;
     let mut report = Report::new(alloc);
-    put_backtrace(&mut report, options.registers, interrupted, places, &trace)?;
+    put_stack(alloc, &mut report, &shared, &start, interrupted)?;
     Ok(report)
 }
 
@@ -176,6 +180,15 @@ pub fn run<I: Source, O: Sink>(
         Asks o words.now (I.left input.old) s places → IsTraceOf s places t →
         Tells (verdict Status.Done (text_of o s places t)) result (O.holds output.old)
         (O.holds output.new) }
+    // With frame pointers these are, and then of each caller to which a frame pointer leads from where
+    // no table describes the code, marked as a guess, and of the walk by tables from there; last why
+    // the last of these walks goes no further.
+    ensures guessed { (o : Options) (s : Content) (places : PlacesValue) (t : TraceValue)
+        (ts : List TraceValue) →
+        AsksPointers o words.now (I.left input.old) s places → IsTraceOf s places t →
+        AreGuessesOf s places t ts →
+        Tells (verdict Status.Done (guessed_text_of o s places t ts)) result
+        (O.holds output.old) (O.holds output.new) }
     // Of samples the number and the backtrace of each thread are written, in order.
     ensures threads { (o : Options) (s : SampledContent) (places : PlacesValue)
         (text : List ℕ) →

@@ -1,6 +1,6 @@
 // Laws of backtraces, and worked examples that meet what the clauses ask for.
 ghost use Rattle.std.specs.Prelude.{◌≡◌, ◌≢◌, ℕ, List, [], ◌∷◌, Some, None, Ok, true, false, codes};
-ghost use Rattle.std.specs.Prelude.{slice_get};
+ghost use Rattle.std.specs.Prelude.{◌%◌, slice_get, IsTrue};
 ghost use Rattle.unwind_definitions.specs.State.{IsState, Shows};
 ghost use Rattle.unwind_definitions.specs.Entered.{IsEntered};
 ghost use Rattle.unwind_definitions.specs.Stopped.{StandsAfter};
@@ -25,8 +25,11 @@ ghost use Rattle.backtrace.specs.declared.words.Options.{Options};
 ghost use Rattle.backtrace.specs.Options.{options_of, plain};
 ghost use Rattle.backtrace.specs.Tracing.{IsNowhere};
 ghost use Rattle.backtrace.specs.ChainSample as sample;
+ghost use Rattle.backtrace.specs.PointedSample as pointed;
+ghost use Rattle.backtrace.specs.FramePointers.{AreGuesses, frame_pointer_steps, is_called_code};
+ghost use Rattle.stack_steps.specs.Modules.{SpaceValue};
 ghost use Rattle.backtrace.specs.Due.{Asks, AsksSamples, DescribesCallToNowhere, IsBacktrace};
-ghost use Rattle.backtrace.specs.Due.{IsTraceOf};
+ghost use Rattle.backtrace.specs.Due.{IsTraceOf, AreGuessesOf, AsksPointers, guessed_text_of};
 ghost use Rattle.backtrace.specs.Due.{called_text, chain_text, error_in, text_of};
 ghost use Rattle.backtrace.specs.Threads.{HasThread, IsThreadsOf, alone};
 ghost use Rattle.backtrace.specs.KnownSample as known;
@@ -71,7 +74,7 @@ pub fn nothing_is_guessed_in_code()
 pub fn a_known_thread_has_its_lines()
     ensures { (o : Options) (bytes : List ℕ) (s : SampledContent) (places : PlacesValue)
         (index : ℕ) (x : Sample) (start : State) (callers : List State) (text : List ℕ) →
-        sampled_in bytes ≡ Ok s → slice_get s.samples index ≡ Some x →
+        o.frame_pointers ≡ false → sampled_in bytes ≡ Ok s → slice_get s.samples index ≡ Some x →
         (begins : BeginsKnownStack (alone s x) places start callers) → IsThreadsOf o s places text →
         HasThread o s places index
         (stack_text o (alone s x) places start callers begins) text }
@@ -81,7 +84,7 @@ pub fn a_known_thread_has_its_lines()
 pub fn a_thread_of_a_chain_has_its_lines()
     ensures { (o : Options) (bytes : List ℕ) (s : SampledContent) (places : PlacesValue)
         (index : ℕ) (x : Sample) (functions : List Function) (start : State) (calls : List Call)
-        (text : List ℕ) →
+        (text : List ℕ) → o.frame_pointers ≡ false →
         sampled_in bytes ≡ Ok s → slice_get s.samples index ≡ Some x →
         DescribesWalk (alone s x) functions start calls → IsThreadsOf o s places text →
         HasThread o s places index (chain_text o (alone s x) places start calls) text }
@@ -102,6 +105,34 @@ pub fn stop_in_code_is_traced()
     ensures asked { Asks plain [] (Some code_json) in_code code_places }
     ensures traced { IsTraceOf in_code code_places code_trace }
     ensures written { text_of plain in_code code_places code_trace ≡ in_code_text }
+{}
+
+/// So does one whose thread stands in such code with RBP as its frame pointer, and words that ask for
+/// frame pointers: the caller to which RBP leads is marked, and tables lead on from there.
+pub fn frame_pointer_is_followed()
+    ensures asked { AsksPointers (record plain { frame_pointers = true })
+        (codes "--frame-pointers" ∷ []) (Some pointed.json) pointed.snapshot pointed.places }
+    ensures traced { IsTraceOf pointed.snapshot pointed.places pointed.trace }
+    ensures goes_on { AreGuessesOf pointed.snapshot pointed.places pointed.trace (pointed.walk ∷ []) }
+    ensures written { guessed_text_of (record plain { frame_pointers = true }) pointed.snapshot
+        pointed.places pointed.trace (pointed.walk ∷ []) ≡ pointed.text }
+{}
+
+/// It meets what `caller_by_pointer` asks too: RBP was pushed, and is the frame pointer.
+pub fn frame_pointer_leads_to_a_caller()
+    ensures entered { IsEntered (space_of pointed.snapshot).image false frame_pointer_steps
+        three.second pointed.callee }
+    ensures state { IsState three.second }
+    ensures words { three.second.sp % 8 ≡ 0 }
+    ensures called { IsTrue (is_called_code (space_of pointed.snapshot) pointed.places.code
+        three.second.ra) }
+    ensures shows { Shows (columns_of pointed.snapshot.start) pointed.callee }
+{}
+
+/// Where frame pointers aren't asked for, no walk goes on by one.
+pub fn no_guess_is_taken_unasked()
+    ensures { (space : SpaceValue) (code : List CodeValue) (limit n : ℕ) (t : TraceValue)
+        (ts : List TraceValue) → AreGuesses false space code limit n t ts → ts ≡ [] }
 {}
 
 /// Samples of the first of these and of one that stands after a call in no module meet what `run` asks of

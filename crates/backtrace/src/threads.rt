@@ -3,23 +3,13 @@ ghost use Rattle.std.specs.Prelude.{◌≡◌, ℕ, List, ◌++◌, IfOk, OnOk};
 ghost use Rattle.backtrace.specs.Threads.{AreThreads, IsThread, IsThreadsOf};
 
 use crate::code::Places;
-use crate::lines::{put_backtrace, put_thread_line};
-use crate::tracing::trace_stack;
+use crate::lines::put_thread_line;
+use crate::stacks::{Shared, put_stack};
 use crate::words::Options;
 use folded_stacks::Sample;
-use stack_deliver::Space;
 use stack_report::Report;
 use stack_snapshot::SampledSnapshot;
 use std::alloc::{AllocError, Global};
-
-/// What the backtraces of threads share.
-#[derive(Clone, Copy)]
-struct Shared<'a, 'm> {
-    options: Options,
-    space: &'a Space<'m>,
-    limit: u32,
-    places: &'a Places,
-}
 
 /// Puts the number and the backtrace of a thread last.
 fn put_thread(
@@ -34,23 +24,8 @@ fn put_thread(
         index sample.now own) }
 {
     let interrupted = sample.interrupted;
-    let places = shared.places;
-    let trace = trace_stack(
-        alloc,
-        shared.space,
-        &places.code,
-        &sample.start,
-        interrupted,
-        shared.limit,
-    )?;
     put_thread_line(report, index)?;
-    put_backtrace(
-        report,
-        shared.options.registers,
-        interrupted,
-        places,
-        &trace,
-    )
+    put_stack(alloc, report, shared, &sample.start, interrupted)
 }
 
 /// The number and the backtrace of each thread, in the order of the samples.

@@ -1,6 +1,6 @@
 // The states of a stopped thread's stack, and why there are no more.
 ghost use Rattle.std.specs.Prelude.{◌≡◌, ◌≢◌, List, [], false, IfOk, IsSome, IsSomeAnd, slice_get};
-ghost use Rattle.std.specs.Prelude.{length};
+ghost use Rattle.std.specs.Prelude.{◌^◌, ◌≤◌, length};
 ghost use Rattle.unwind_definitions.specs.State.{State, IsState, Shows, KeepsOthers};
 ghost use Rattle.unwind_definitions.specs.Entered.{IsEntered};
 ghost use Rattle.unwind_definitions.specs.Function.{Function};
@@ -9,8 +9,11 @@ ghost use Rattle.unwind_definitions.specs.Stopped.{StandsAfter};
 ghost use Rattle.unwind_arch.specs.ContextViews.{columns_of};
 ghost use Rattle.stack_steps.specs.Stepping.{EndsAt};
 ghost use Rattle.backtrace.specs.Tracing.{IsNowhere, IsTrace, called_from, is_nowhere, returned_caller};
+ghost use Rattle.backtrace.specs.FramePointers.{IsWalkFrom, guess_after, last_of};
+ghost use Rattle.backtrace.specs.Lines.{contexts_of};
 
 use crate::code::CodeRanges;
+use crate::pointers::{caller_by_pointer, is_without_table};
 use memory_image::{MemoryImage, NoLedger, Steps};
 use stack_deliver::{Context, Front, Room, Space, walk_front_into};
 use std::alloc::{AllocError, Global};
@@ -80,7 +83,7 @@ pub fn called_from(
 /// The states of a stack as far as they are known, and why there are no more.
 ///
 /// Contracts see the start where its caller was read from the stack, the states of the walk from
-/// there on or from the start, and the reason of the walk's end.
+/// there on or from the start, the reason of the walk's end, and for how many states there is place.
 #[derive(Drop)]
 pub struct Trace {
     first: Option<Context>,
@@ -89,40 +92,91 @@ pub struct Trace {
 }
 
 impl Model for Trace {
-    ghost use Rattle.backtrace.specs.Tracing.{TraceValue};
+    ghost use Rattle.backtrace.specs.Tracing.{TracedValue};
 
-    ghost Value = { TraceValue };
+    ghost Value = { TracedValue };
 
-    ghost view = { λ t. record { first = t.first; states = t.room.visited; why = t.why } };
+    ghost view = { λ t. record {
+      trace = record { first = t.first; states = t.room.visited; why = t.why };
+      places = t.room.limit;
+    } };
 }
 
 impl Trace {
     /// The start, where the walk begins at its caller, whose return address was read from the stack.
     pub fn first(&self) -> Option<Context>
-        ensures { result ≡ self.now.first }
+        ensures { result ≡ self.now.trace.first }
     {
         self.first
     }
 
     /// How many states the walk came to.
     pub fn walked_len(&self) -> usize
-        ensures { result ≡ length self.now.states }
+        ensures { result ≡ length self.now.trace.states }
     {
         self.room.visited_len()
     }
 
     /// The state of the walk at this place.
     pub fn walked(&self, i: usize) -> Option<Context>
-        ensures { result ≡ slice_get self.now.states i }
+        ensures { result ≡ slice_get self.now.trace.states i }
     {
         self.room.visited(i)
     }
 
     /// Why the walk goes no further.
     pub fn why(&self) -> Front
-        ensures { result ≡ self.now.why }
+        ensures { result ≡ self.now.trace.why }
     {
         self.why
+    }
+
+    /// How many states there are, with the start.
+    pub fn contexts_len(&self) -> usize
+        requires { length self.now.trace.states ≤ 2 ^ 32 }
+        ensures { result ≡ length (contexts_of self.now.trace) }
+    {
+        match self.first {
+            Some(_) => self.walked_len() + 1,
+            None => self.walked_len(),
+        }
+    }
+
+    /// The last state of the walk.
+    fn last(&self) -> Option<Context>
+        ensures { result ≡ last_of self.now.trace.states }
+    {
+        let count = self.walked_len();
+        self.walked(count.saturating_sub(1))
+    }
+
+    /// The caller from which the trace goes on, where frame pointers are asked for and no table
+    /// describes where its last state stands.
+    pub fn guess_after(
+        &self,
+        pointers: bool,
+        space: &Space<'_>,
+        code: &CodeRanges,
+    ) -> Option<Context>
+        ensures { result ≡ guess_after pointers space.now code.now self.now.trace }
+    {
+        if is_without_table(code, self.why) && pointers {
+            let last = self.last()?;
+            caller_by_pointer(space, code, &last)
+        } else {
+            None
+        }
+    }
+
+    /// Becomes the walk from such a caller, in the same places.
+    pub fn walk_from(&mut self, space: &Space<'_>, caller: &Context, limit: u32)
+        requires { limit ≤ self.old.places }
+        ensures walk { IsWalkFrom space.now limit caller.now self.new.trace }
+        ensures places { self.new.places ≡ self.old.places }
+    {
+        let mut steps = Steps::new(NoLedger);
+        self.first = None;
+        self.why = walk_front_into(space, caller, false, limit, &mut self.room, &mut steps);
     }
 }
 
@@ -139,7 +193,10 @@ pub fn trace_stack(
     interrupted: bool,
     limit: u32,
 ) -> Result<Trace, AllocError>
-    ensures { IfOk result (λ trace. IsTrace space.now code.now start.now interrupted limit trace) }
+    ensures trace { IfOk result (λ traced.
+        IsTrace space.now code.now start.now interrupted limit traced.trace) }
+    ensures most { IfOk result (λ traced. length traced.trace.states ≤ limit) }
+    ensures places { IfOk result (λ traced. traced.places ≡ limit) }
 {
     let mut room = Room::new(alloc, limit)?;
     let mut steps = Steps::new(NoLedger);

@@ -11,6 +11,8 @@ pub struct Options {
     pub registers: bool,
     /// Whether the input has many threads, each a sample, and no start of its own.
     pub samples: bool,
+    /// Whether a backtrace goes on by frame pointers where no table describes the code.
+    pub frame_pointers: bool,
 }
 
 /// The options that the words name.
@@ -30,6 +32,11 @@ fn options_in(words: &[String]) -> Option<Options>
             let options = with_option(word.as_str(), plain())?;
             with_option(other.as_str(), options)
         }
+        [word, other, third] => {
+            let options = with_option(word.as_str(), plain())?;
+            let options = with_option(other.as_str(), options)?;
+            with_option(third.as_str(), options)
+        }
         _ => None,
     }
 }
@@ -40,6 +47,7 @@ fn plain() -> Options
     Options {
         registers: false,
         samples: false,
+        frame_pointers: false,
     }
 }
 
@@ -53,6 +61,10 @@ fn with_option(word: &str, options: Options) -> Option<Options>
         }),
         "--samples" => Some(Options {
             samples: true,
+            ..options
+        }),
+        "--frame-pointers" => Some(Options {
+            frame_pointers: true,
             ..options
         }),
         _ => None,

@@ -1,14 +1,15 @@
-use Rattle.std.proofs.Common.{inl, inr, ◌≡◌, ℕ, List, Option, sym, subst, ◌∙◌}
+use Rattle.std.proofs.Common.{inl, inr, ◌≡◌, ℕ, true, false, List, Option, sym, subst, ◌∙◌}
 use Rattle.std.specs.Io.KnownBytes.{Appends}
-use Rattle.command_ends.specs.declared.status.Status.TheVariants.{Done, BadSnapshot}
+use Rattle.command_ends.specs.declared.status.Status.TheVariants.{Done, BadSnapshot, NotJson}
 use Rattle.command_ends.specs.Verdicts.{Verdict, IsReadyOrFailed, Tells, ComesExactly}
 use Rattle.command_ends.proofs.VerdictLemmas.{if_some_weaker, of_some}
-use Rattle.backtrace.specs.Due.{IsBacktrace, due_of, text_of}
-use Rattle.backtrace.proofs.Backtraces.{ready_with, if_some_both, asked_due, asked_backtrace, sampled_due, sampled_backtraces}
+use Rattle.backtrace.specs.Due.{IsBacktrace, IsFaulty, due_of, guessed_text_of, text_of}
+use Rattle.backtrace.proofs.Backtraces.{ready_with, if_some_both, asked_due, asked_backtrace, asked_guesses, sampled_due, sampled_backtraces}
 use Rattle.stack_snapshot.proofs.Taken.{content_apart, content_laid_out, content_whole}
 use Rattle.command_ends.specs.Verdicts.{verdict}
 use Rattle.backtrace.proofs.Chains.{called_traced, chain_traced, stop_traced}
-use Rattle.backtrace.proofs.Faults.{IsBad, bad_told}
+use Rattle.backtrace.proofs.Faults.{IsBad, bad_told, no_json_told}
+use Rattle.stack_snapshot.specs.declared.errors.SnapshotError.TheVariants as faults
 use Rattle.backtrace.proofs.KnownTraces.{stack_traced, called_stack_traced}
 use Rattle.backtrace.proofs.running.run.Goals as goal
 
@@ -46,8 +47,17 @@ returns-clause-traced g c = λ o s places t asks is.
     let P : Verdict → Type 0 = λ due. Tells due c.tell.result (g.O.Sink.holds c.args.output.now) (g.O.Sink.holds c.tell.new.output) in
     let R : List ℕ → Type 0 = λ bytes. (text : List ℕ) → IsBacktrace words bytes text → P (due_of words bytes text) in
     let text = text_of o s places t in
-    subst P (asked_due o words (g.I.Source.left c.args.input.now) s places text asks)
+    subst P (asked_due false o words (g.I.Source.left c.args.input.now) s places text asks)
     (of_some (g.I.Source.left c.args.input.now) asks.bytes R asks.source_is (returns-clause-told g c) text (asked_backtrace o words (g.I.Source.left c.args.input.now) s places t asks is))
+
+pub returns-clause-guessed : goal.returns-clause-guessed
+returns-clause-guessed g c = λ o s places t ts asks is guesses.
+    let words = c.args.words.now in
+    let P : Verdict → Type 0 = λ due. Tells due c.tell.result (g.O.Sink.holds c.args.output.now) (g.O.Sink.holds c.tell.new.output) in
+    let R : List ℕ → Type 0 = λ bytes. (text : List ℕ) → IsBacktrace words bytes text → P (due_of words bytes text) in
+    let text = guessed_text_of o s places t ts in
+    subst P (asked_due true o words (g.I.Source.left c.args.input.now) s places text asks)
+    (of_some (g.I.Source.left c.args.input.now) asks.bytes R asks.source_is (returns-clause-told g c) text (asked_guesses o words (g.I.Source.left c.args.input.now) s places t ts asks is guesses))
 
 pub returns-clause-threads : goal.returns-clause-threads
 returns-clause-threads g c = λ o s places text asks is.
@@ -56,6 +66,15 @@ returns-clause-threads g c = λ o s places text asks is.
     let R : List ℕ → Type 0 = λ bytes. (text : List ℕ) → IsBacktrace words bytes text → P (due_of words bytes text) in
     subst P (sampled_due o words (g.I.Source.left c.args.input.now) s places text asks)
     (of_some (g.I.Source.left c.args.input.now) asks.bytes R asks.source_is (returns-clause-told g c) text (sampled_backtraces o words (g.I.Source.left c.args.input.now) s places text asks is))
+
+pub returns-clause-not_json : goal.returns-clause-not_json
+returns-clause-not_json g c =
+    let words = c.args.words.now in
+    let before : Option (List ℕ) = g.O.Sink.holds c.args.output.now in
+    let after : Option (List ℕ) = g.O.Sink.holds c.tell.new.output in
+    let R : List ℕ → Type 0 = λ bytes. (text : List ℕ) → IsBacktrace words bytes text → Tells (due_of words bytes text) c.tell.result before after in
+    let Q : List ℕ → Type 0 = λ bytes. ComesExactly c.tell.result NotJson (IsFaulty words bytes faults.NotJson) in
+    if_some_weaker (g.I.Source.left c.args.input.now) R Q (λ bytes told. no_json_told words bytes c.tell.result before after told) (returns-clause-told g c)
 
 pub returns-clause-bad_snapshot : goal.returns-clause-bad_snapshot
 returns-clause-bad_snapshot g c =

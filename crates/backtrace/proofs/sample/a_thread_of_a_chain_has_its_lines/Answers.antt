@@ -6,6 +6,6 @@ use Rattle.backtrace.proofs.ThreadLines.{has_thread}
 use Rattle.backtrace.proofs.sample.a_thread_of_a_chain_has_its_lines.Goals as goal
 
 pub returns : goal.returns
-returns c = λ o bytes s places index x functions start calls text reads found describes all.
+returns c = λ o bytes s places index x functions start calls text unasked reads found describes all.
     let t = chain_traced (alone s x) (sampled_apart bytes s reads) (sampled_laid_out bytes s reads) o places functions start calls describes in
-    subst (λ lines. HasThread o s places index lines text) t.2 (has_thread o s places index x t.0 text found t.1 all)
+    subst (λ lines. HasThread o s places index lines text) t.2 (has_thread o s places index x t.0 text unasked found t.1 all)

@@ -16,7 +16,7 @@ use Rattle.backtrace.proofs.sample.chain_is_described.Goals as goal
 
 pub returns-clause-asked : goal.returns-clause-asked
 unfolding is_utf8 chars encode_utf8 decode_pairs serde_json_on_literals value_of regions_of modules_of start_of resumes_of limit_of interrupted_of whole_numbers snapshot_of origins_of code_of
-returns-clause-asked c = record { bytes = calling_json; named = refl; single = refl; source_is = refl; short = lit≤ tt; reads = refl; files = refl }
+returns-clause-asked c = record { bytes = calling_json; named = refl; single = refl; by = refl; source_is = refl; short = lit≤ tt; reads = refl; files = refl }
 
 pub returns-clause-described : goal.returns-clause-described
 returns-clause-described c = (refl, starts)

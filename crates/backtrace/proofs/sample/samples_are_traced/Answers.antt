@@ -14,7 +14,7 @@ use Rattle.backtrace.specs.Code.{code_of}
 use Rattle.stack_snapshot.specs.Sampled.{depth_of, sampled_of, sampled_space, samples_of}
 use Rattle.stack_snapshot.specs.Snapshot.{regions_of, modules_of, start_of, interrupted_of, whole_numbers}
 use Rattle.stack_report.specs.Digits.{hexadecimal, word}
-use Rattle.backtrace.specs.Lines.{backtrace_text, states_text, frame_line, no_module_text, place_text, rest_text, thread_line}
+use Rattle.backtrace.specs.Lines.{frame_line, no_module_text, place_text, rest_text, thread_line, traces_text}
 use Rattle.backtrace.specs.Tracing.{IsTrace}
 use Rattle.backtrace.specs.Sample.{context, other_text, other_trace, samples, samples_json, text, trace}
 use Rattle.backtrace.proofs.sample.samples_are_traced.Goals as goal
@@ -47,5 +47,5 @@ second_trace = (
 )
 
 pub returns-clause-traced : goal.returns-clause-traced
-unfolding digits hexadecimal word backtrace_text states_text frame_line no_module_text place_text rest_text thread_line
-returns-clause-traced c = (_, _, (trace, first_trace, refl), (_, _, (other_trace, second_trace, refl), refl, refl), refl)
+unfolding digits hexadecimal word traces_text frame_line no_module_text place_text rest_text thread_line
+returns-clause-traced c = (_, _, (_, (trace, [], first_trace, refl, refl), refl), (_, _, (_, (other_trace, [], second_trace, refl, refl), refl), refl, refl), refl)

@@ -19,7 +19,7 @@ use Rattle.backtrace.proofs.sample.stop_in_code_is_traced.Goals as goal
 
 pub returns-clause-asked : goal.returns-clause-asked
 unfolding is_utf8 chars encode_utf8 decode_pairs serde_json_on_literals value_of regions_of modules_of start_of resumes_of limit_of interrupted_of whole_numbers snapshot_of origins_of code_of
-returns-clause-asked c = record { bytes = code_json; named = refl; single = refl; source_is = refl; short = lit≤ tt; reads = refl; files = refl }
+returns-clause-asked c = record { bytes = code_json; named = refl; single = refl; by = refl; source_is = refl; short = lit≤ tt; reads = refl; files = refl }
 
 stands_somewhere : ◌≢◌ {A = ℕ} 0x5000 0
 stands_somewhere h = cc
