@@ -2,6 +2,7 @@
 from __future__ import annotations
 
 import json
+import os
 import pathlib
 import tempfile
 import unittest
@@ -13,10 +14,9 @@ from core_image import Thread, thread_of
 from elf_image import Range, Refused
 from loaded_module import Module
 from process_image import status_note
+from programs import built_path
 from snapshot_file import Object, Region
 from thread_reports import Answer, Programs, built_programs, reports_of, run, stacks_under
-
-REGISTERS_OF_FRAME = "rbx=0x0 rbp={} r12=0x0 r13=0x0 r14=0x0 r15=0x0"
 
 
 def thread_with(number: int, **words: int) -> Thread:
@@ -104,80 +104,66 @@ class RunsTest(unittest.TestCase):
 
 
 class PointersTest(unittest.TestCase):
-    """Stops in code without a table, whose callers are found by RBP, and those of these by their tables."""
+    """Stops in code without a table, with frame pointers."""
 
     # The chain of RBP: from 0x7010 to code with a table, from there to code without one, and from there to no code.
     WORDS = {0x7010: 0x7030, 0x7018: 0x401006, 0x7030: 0x7050, 0x7038: 0x900020, 0x7050: 0x7060, 0x7058: 0x9999}
+    AT_LIMIT = "#0  0x0000000000900010\nend: more frames than the limit\n"
 
     def taken(self, pointers: list[int]) -> Taken:
-        """Threads that stand in code without a table, by their RBP."""
+        """Threads that stand in code without a table, by their RBP. The module's table is empty."""
         content = b"".join(self.WORDS.get(address, 0).to_bytes(8, "little") for address in range(0x7000, 0x7080, 8))
         threads = [thread_with(number, rip=0x900010, rsp=0x7008, rbp=rbp) for number, rbp in enumerate(pointers, 1)]
-        module = Module("/bin/a", 0, None, [Range(0x401000, 0x402000)], Range(0, 0), None, [], [])
+        module = Module("/bin/a", 0, None, [Range(0x401000, 0x402000)], Range(0x500000, 0x500004), None, [], [])
         code: list[Object] = [{"start": "0x900000", "end": "0x901000", "path": "/lib/bare", "bias": "0x0"}]
         return Taken(threads, [Region(0x7000, content)], [Loaded(module, Region(0x500000, bytes(4)))], code)
 
-    def reports(self, pointers: list[int], more: dict[str, str]) -> tuple[list[str], list[Object]]:
-        """The reports, and what `backtrace` was asked in each run. It says `more` of a start with a table, by its address."""
-        asked: list[Object] = []
-
-        def report(start: dict[str, str]) -> str:
-            head = f"#0  {int(start['rip'], 16):#018x} sp={start['rsp']} {REGISTERS_OF_FRAME.format(start['rbp'])}\n"
-            inside = int(start["rip"], 16)
-            return head + more.get(start["rip"], f"end: code without a table at {inside:#018x} in bare\n")
+    def reports(self, pointers: list[int], said: list[str]) -> tuple[list[str], list[tuple[list[str], Object]]]:
+        """The reports, and what `backtrace` was asked in each run. It says this of each thread of samples, and `alone` of one."""
+        asked: list[tuple[list[str], Object]] = []
 
         def answer(words: list[str], text: bytes) -> Answer:
-            found = json.loads(text)
-            asked.append(found)
+            asked.append((words[1:], json.loads(text)))
             if "--samples" not in words:
-                return Answer(report(found["start"]))
-            starts = [sample["start"] for sample in found["samples"]]
-            return Answer("".join(f"thread {index}\n{report(start)}" for index, start in enumerate(starts)))
+                return Answer("alone\n")
+            return Answer("".join(f"thread {index}\n{report}" for index, report in enumerate(said)))
 
         with mock.patch.object(thread_reports, "run", answer):
             return reports_of(self.taken(pointers), Programs("backtrace", None), True), asked
 
-    def test_two_threads_in_one_run(self) -> None:
-        tables = (f"#1  0x0000000000402000 in a+0x402000 sp=0x7028 {REGISTERS_OF_FRAME.format('0x0')}\n"
-                  "end: the outermost frame, which returns to 0\n")
-        found, asked = self.reports([0x7010, 0x70], {"0x401006": tables})
-        self.assertEqual(found, [
-            "#0  0x0000000000900010\n#1  0x0000000000401006 (a guess, by the frame pointer)\n"
-            "#2  0x0000000000402000\nend: the outermost frame, which returns to 0\n",
-            "#0  0x0000000000900010\nend: code without a table at 0x0000000000900010 in bare\n",
-        ])
-        self.assertEqual([len(one["samples"]) for one in asked], [2, 4])
-        starts = [sample["start"]["rip"] for sample in asked[1]["samples"]]
-        self.assertEqual(starts, ["0x900010", "0x401006", "0x900020", "0x900010"])
-        second = asked[1]["samples"][1]
-        self.assertEqual([second["start"][name] for name in ("rip", "rsp", "rbp")], ["0x401006", "0x7020", "0x7030"])
-        self.assertEqual([sample["interrupted"] for sample in asked[1]["samples"]], [True, False, False, True])
+    def test_one_run_goes_on_for_all(self) -> None:
+        found, asked = self.reports([0x7010, 0x70], ["first\n", "second\n"])
+        self.assertEqual(found, ["first\n", "second\n"])
+        (words, samples), = asked
+        self.assertEqual(words, ["--frame-pointers", "--samples"])
+        self.assertEqual([sample["start"]["rbp"] for sample in samples["samples"]], ["0x7010", "0x70"])
+        self.assertEqual([sample["interrupted"] for sample in samples["samples"]], [True, True])
+        self.assertEqual(self.reports([0x7010], [])[0], ["alone\n"])
+        self.assertEqual([words for words, _ in self.reports([0x7010], [])[1]], [["--frame-pointers"]])
 
     def test_the_code_is_named(self) -> None:
         """`backtrace` reads which code has no table."""
         for pointers in ([0x7010], [0x7010, 0x70]):
-            for one in self.reports(pointers, {})[1]:
+            for _, one in self.reports(pointers, ["", ""])[1]:
                 self.assertEqual(one["code"], self.taken(pointers).code)
 
-    def test_from_tables_back_to_code_without_one(self) -> None:
-        """What lies ahead of a frame from which tables lead on doesn't count: the pointer of the last frame does."""
-        tables = (f"#1  0x0000000000900030 sp=0x7028 {REGISTERS_OF_FRAME.format('0x7050')}\n"
-                  "end: code without a table at 0x000000000090002f in bare\n")
-        found, asked = self.reports([0x7010], {"0x401006": tables})
-        self.assertEqual(found, [
-            "#0  0x0000000000900010\n#1  0x0000000000401006 (a guess, by the frame pointer)\n#2  0x0000000000900030\n"
-            "end: code without a table at 0x000000000090002f in bare\n",
-        ])
-        self.assertEqual(len(asked), 2)
+    def test_more_frames_than_a_sample_has(self) -> None:
+        found, asked = self.reports([0x7010, 0x70], ["first\n", self.AT_LIMIT])
+        self.assertEqual(found, ["first\n", "alone\n"])
+        self.assertEqual([words for words, _ in asked], [["--frame-pointers", "--samples"], ["--frame-pointers"]])
 
-    def test_more_frames_than_ahead(self) -> None:
-        with mock.patch.object(thread_reports, "FIRST_AHEAD", 1):
-            found, asked = self.reports([0x7010], {})
-        self.assertEqual(found, [
-            "#0  0x0000000000900010\n#1  0x0000000000401006 (a guess, by the frame pointer)\n"
-            "#2  0x0000000000900020 (a guess, by the frame pointer)\nend: code without a table at 0x0000000000900020 in bare\n",
-        ])
-        self.assertEqual([len(one.get("samples", [0])) for one in asked], [1, 1, 2])
+    @unittest.skipUnless(os.access(built_path("backtrace"), os.X_OK), "backtrace isn't built")
+    def test_the_built_program_goes_on(self) -> None:
+        """By RBP to code with an empty table, to code without one, and no further: 0x9999 is no code. 0x70 isn't on the stack."""
+        programs = Programs(built_path("backtrace"), None)
+        chain = (
+            "#0  0x0000000000900010\n#1  0x0000000000401006 in a+0x401006 (a guess, by the frame pointer)\n"
+            "#2  0x0000000000900020 (a guess, by the frame pointer)\nend: code without a table at 0x000000000090001f in bare\n"
+        )
+        alone = "#0  0x0000000000900010\nend: code without a table at 0x0000000000900010 in bare\n"
+        self.assertEqual(reports_of(self.taken([0x7010]), programs, True), [chain])
+        self.assertEqual(reports_of(self.taken([0x7010, 0x70]), programs, True), [chain, alone])
+        self.assertEqual(reports_of(self.taken([0x7010]), programs), [alone])
 
 
 if __name__ == "__main__":

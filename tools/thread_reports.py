@@ -7,22 +7,19 @@ threads. Those whose walk doesn't come to the outermost frame are walked once mo
 has the frames up to there and says why there are no more. A sample has a limited number of frames: a thread with more has a
 run of its own. Where one of the two programs isn't built, the other does all.
 
-With frame pointers a report that ends in code without a table goes on by RBP: where that is kept as a frame pointer, the word
-above it is the return address. Such a frame is marked as a guess, and from it on tables count again. `backtrace` reads which
-code has no table (`code`), and says where a walk came to such code; which frames RBP leads to is found here. One run walks all
-threads, and of each as many frames ahead as RBP leads to: of these count those up to the first from which tables lead on.
+With frame pointers a report that ends in code without a table goes on by RBP (`backtrace --frame-pointers`): where that is kept
+as a frame pointer, the word above it is the return address. Such a frame is marked as a guess, and from it on tables count again.
+`backtrace` reads which code has no table (`code`).
 """
 from __future__ import annotations
 
 import bisect
-import itertools
 import json
 import os
 import re
 from typing import Iterable, NamedTuple, Sequence
 
 from core import Taken, interrupted_pointers, object_of, text_path
-from core_image import Thread
 from elf_image import Refused
 from loaded_module import module_objects
 from process_image import registers_of
@@ -47,11 +44,8 @@ class Answer(NamedTuple):
     fault: str | None = None
 
 
-class Start(NamedTuple):
-    """Where a thread's walk begins: its registers, and whether it stands before its instruction."""
-
-    registers: dict[str, int]
-    interrupted: bool = True
+# The registers of a thread that was stopped before its instruction.
+Start = dict[str, int]
 
 
 def built_programs(paths: dict[str, str]) -> Programs:
@@ -107,12 +101,12 @@ def stacks_under(stacks: list[Region], pointers: Iterable[int]) -> list[Region]:
 
 def start_object(start: Start) -> Object:
     """Where a walk begins as a snapshot and a sample have it."""
-    return {"start": {name: f"{value:#x}" for name, value in start.registers.items()}, "interrupted": start.interrupted}
+    return {"start": {name: f"{value:#x}" for name, value in start.items()}, "interrupted": True}
 
 
 def shared_object(taken: Taken, starts: Sequence[Start]) -> Object:
     """The memory, the modules and the code without tables of threads that begin so."""
-    stacks = stacks_under(taken.stacks, [start.registers["rsp"] for start in starts])
+    stacks = stacks_under(taken.stacks, [start["rsp"] for start in starts])
     regions = [region_object(region) for region in [*(one.table for one in taken.loaded), *stacks]]
     return {"regions": regions, "modules": module_entries(taken), "code": list(taken.code)}
 
@@ -188,7 +182,7 @@ def is_whole(answer: Answer) -> bool:
     return answer.fault is None and WHOLE_WALK.search(answer.text) is not None
 
 
-def answers_of(taken: Taken, programs: Programs) -> list[Answer]:
+def answers_of(taken: Taken, programs: Programs, frame_pointers: bool) -> list[Answer]:
     """What is found of each thread. One thread alone, and those whose walks aren't whole, are `backtrace`'s to report."""
     alone = len(taken.threads) == 1 and programs.backtrace is not None
     no_walks = [Answer("", "no walk")] * len(taken.threads)
@@ -196,135 +190,18 @@ def answers_of(taken: Taken, programs: Programs) -> list[Answer]:
     rest = [index for index, answer in enumerate(found) if not is_whole(answer)]
     if programs.backtrace is None or not rest:
         return found
-    starts = [Start(registers_of(taken.threads[index])) for index in rest]
-    answers = dict(zip(rest, backtraces_of(taken, starts, [programs.backtrace])))
+    words = [programs.backtrace, *(["--frame-pointers"] if frame_pointers else [])]
+    starts = [registers_of(taken.threads[index]) for index in rest]
+    answers = dict(zip(rest, backtraces_of(taken, starts, words)))
     return [
         answers[index] if index in answers and (answers[index].fault is None or answer.fault is not None) else answer
         for index, answer in enumerate(found)
     ]
 
 
-# ---- frame pointers
-
-# A frame of `backtrace --registers`, and why there are no more.
-REGISTERS_LINE = re.compile(r"^#\d+ +(0x[0-9a-f]+)\b(.*?) sp=(0x[0-9a-f]+)((?: \w+=0x[0-9a-f]+)+)$", re.MULTILINE)
-NO_TABLE = re.compile(r"end: (code without a table at|no description of) 0x[0-9a-f]+( in .*)?$")
-BY_POINTER = " (a guess, by the frame pointer)"
-
-# How many frames ahead are walked at first, and how many times as many whenever tables took over from none of them.
-FIRST_AHEAD, MORE_AHEAD = 64, 4
-
-# The registers that calls keep; a guess has no others.
-KEPT = ("rip", "rsp", "rbx", "rbp", "r12", "r13", "r14", "r15")
-
-
-class Stretch(NamedTuple):
-    """What is known of a thread: the lines so far, where it may go on, and of how many such frames it is asked at once; or the
-    answer where it doesn't go on."""
-
-    lines: list[str]
-    starts: list[Start]
-    ahead: int = FIRST_AHEAD
-    answer: Answer | None = None
-
-
-def word_at(stacks: list[Region], address: int) -> int | None:
-    """A word of a stack."""
-    for stack in stacks:
-        if stack.start <= address and address + 8 <= stack.end:
-            return int.from_bytes(stack.content[address - stack.start :][:8], "little")
-    return None
-
-
-def caller_by_pointer(stacks: list[Region], registers: dict[str, int]) -> dict[str, int] | None:
-    """The registers of a frame's caller, where RBP points to the caller's RBP and the return address above it."""
-    pointer = registers["rbp"]
-    outer, back = word_at(stacks, pointer), word_at(stacks, pointer + 8)
-    if outer is None or not back or pointer < registers["rsp"] or pointer % 8 != 0:
-        return None
-    return {name: registers[name] for name in KEPT if name in registers} | {"rip": back, "rsp": pointer + 16, "rbp": outer}
-
-
-def frames_of(report: str) -> list[tuple[dict[str, int], str]]:
-    """The frames of a report with registers: these, and what is said of each."""
-    found = []
-    for address, said, pointer, kept in REGISTERS_LINE.findall(report):
-        words = {name: int(value, 16) for name, value in (field.split("=") for field in kept.split())}
-        note = re.search(r" \([^()]*\)$", said)
-        found.append((words | {"rip": int(address, 16), "rsp": int(pointer, 16)}, note[0] if note else ""))
-    return found
-
-
-def is_known_code(taken: Taken, address: int) -> bool:
-    """Whether an address lies in code, with a table or without."""
-    if any(place.contains(address) for one in taken.loaded for place in one.module.code):
-        return True
-    return any(int(entry["start"], 16) <= address < int(entry["end"], 16) for entry in taken.code)
-
-
-def frame_lines(frames: list[tuple[dict[str, int], str]], first: int, note: str) -> list[str]:
-    """The lines of frames without registers, of which the first has this number and this note."""
-    return [
-        f"#{first + index}  {here['rip']:#018x}{said if index else note}\n" for index, (here, said) in enumerate(frames)
-    ]
-
-
-def known_caller(taken: Taken, registers: dict[str, int]) -> Start | None:
-    """Where a frame's caller goes on by the frame pointer, if that leads to code."""
-    caller = caller_by_pointer(taken.stacks, registers)
-    return Start(caller, False) if caller is not None and is_known_code(taken, caller["rip"] - 1) else None
-
-
-def starts_ahead(taken: Taken, start: Start | None, most: int) -> list[Start]:
-    """A start, and its callers by the frame pointer, one after another, at most so many."""
-    found: list[Start] = []
-    while start is not None and len(found) < most:
-        found.append(start)
-        start = known_caller(taken, start.registers)
-    return found
-
-
-def gone_on(taken: Taken, before: Stretch, answers: list[Answer], words: list[str]) -> Stretch:
-    """What is known of a thread with what `backtrace --registers` reports from each of the starts ahead. They count in turn, as
-    long as tables lead on from none of them."""
-    lines = list(before.lines)
-    for start, short in zip(before.starts, answers):
-        answer = whole(taken, start, words, short)
-        frames = frames_of(answer.text)
-        if answer.fault is not None or not frames:
-            whole_text = "".join([*lines, f"{answer.fault}\n"])
-            return before._replace(answer=Answer(whole_text, None if lines else answer.fault))
-        lines += frame_lines(frames, len(lines), "" if start.interrupted else BY_POINTER)
-        last = answer.text.splitlines()[-1]
-        caller = known_caller(taken, frames[-1][0]) if NO_TABLE.fullmatch(last) else None
-        if caller is None:
-            return Stretch(lines, [], 0, Answer("".join([*lines, f"{last}\n"])))
-        if len(frames) > 1:
-            return Stretch(lines, starts_ahead(taken, caller, FIRST_AHEAD))
-    ahead = before.ahead * MORE_AHEAD
-    return Stretch(lines, starts_ahead(taken, caller, ahead), ahead)
-
-
-def by_pointers(taken: Taken, threads: list[Thread], program: str) -> list[Answer]:
-    """The reports of threads by tables and, in code without a table, by frame pointers: in one run for all, and then in one
-    for those that go on."""
-    words = [program, "--registers"]
-    stretches = [Stretch([], starts_ahead(taken, Start(registers_of(thread)), FIRST_AHEAD)) for thread in threads]
-    while open_ones := [index for index, stretch in enumerate(stretches) if stretch.answer is None]:
-        answers = iter(backtraces_in_one(taken, [start for index in open_ones for start in stretches[index].starts], words))
-        for index in open_ones:
-            here = list(itertools.islice(answers, len(stretches[index].starts)))
-            stretches[index] = gone_on(taken, stretches[index], here, words)
-    return [stretch.answer for stretch in stretches if stretch.answer is not None]
-
-
 def reports_of(taken: Taken, programs: Programs, frame_pointers: bool = False) -> list[str]:
     """The report of each thread, or the line that says why there is none. Refuses where there is none of any thread."""
-    answers = answers_of(taken, programs)
-    if frame_pointers and programs.backtrace is not None:
-        rest = [index for index, answer in enumerate(answers) if not is_whole(answer)]
-        guessed = by_pointers(taken, [taken.threads[index] for index in rest], programs.backtrace)
-        answers = [dict(zip(rest, guessed)).get(index, answer) for index, answer in enumerate(answers)]
+    answers = answers_of(taken, programs, frame_pointers)
     faults = [answer.fault for answer in answers if answer.fault is not None]
     if faults and len(faults) == len(answers):
         raise Refused(faults[0])
