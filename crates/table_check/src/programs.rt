@@ -1,7 +1,7 @@
 //! The rows of a description, address by address, beside the steps and the body of a claim.
 //! DWARF 5 sections 6.4.1 and 6.4.3.
 
-ghost use Rattle.std.specs.Prelude.{◌≡◌, ◌+◌, ◌-◌, ◌<◌, ◌≤◌, ℕ, List, MatchOption, Ok, Result};
+ghost use Rattle.std.specs.Prelude.{◌≡◌, ◌+◌, ◌-◌, ◌<◌, ◌≤◌, ℕ, List, MatchOption, Result};
 ghost use Rattle.std.specs.Prelude.{false, map, true};
 ghost use Rattle.std.specs.List.{list_any};
 ghost use Rattle.std.specs.Bool.{Decides};
@@ -14,19 +14,19 @@ ghost use Rattle.unwind_definitions.specs.Function.{in_range};
 ghost use Rattle.unwind_definitions.specs.DescribedRows.{DescribesRows, ended_by};
 ghost use Rattle.encoded_pointers.specs.PointerViews.{bases_of};
 ghost use Rattle.eh_frame.specs.EntryViews.{fde_of};
-ghost use Rattle.frame_rows.specs.Rows.{GivesRow};
 ghost use Rattle.frame_rows.specs.Walks.{IsBefore, IsWalking, end_of};
 ghost use Rattle.table_check.specs.ClaimViews.{function_of, range_of};
 ghost use Rattle.table_check.specs.Frames.{IsFrameAfter};
 ghost use Rattle.table_check.specs.Programs.{AreEdgesQuiet, Fits, IsFrontOf, IsPlace, IsPlaceAmong};
 ghost use Rattle.table_check.specs.Programs.{IsQuiet};
+ghost use Rattle.table_check.specs.declared.programs.Place.TheVariants.{Body, Outermost, Prologue};
 ghost use Rattle.table_check.specs.Running.{IsRunning, next_end_of};
 
 use crate::claims::{AddressRange, Claim, ClaimedStep};
 use crate::prologue::FrameSoFar;
 use crate::rows::{is_body_row, is_outermost_row, is_prologue_row};
 use crate::running::RunningFrame;
-use eh_frame::{Bases, Fde, RowRef, RowWalk};
+use eh_frame::{Bases, Fde, RowWalk};
 
 /// What is asked of the row at an address of a function.
 #[derive(Clone, Copy)]
@@ -64,8 +64,8 @@ pub(crate) fn has_rows<'a>(
     ensures { Decides result
         (DescribesRows (bases_of bases.now) (function_of claim.now) (fde_of fde.now)) }
 {
-    fde.begin_rows(bases, walk);
     let mut running = RunningFrame::new(&claim.steps);
+    fde.begin_rows(bases, walk);
     let mut pc = claim.start;
     while pc < claim.end {
         running.run_to(&claim.steps, pc - claim.start);
@@ -141,8 +141,8 @@ fn next_end(steps: &[ClaimedStep], running: &RunningFrame, start: u64, pc: u64, 
 }
 
 // Whether the row that the walk has is the one that is asked at an address, where the steps that have
-// ended leave a frame. Not inlined, as it would take the registers of the loop that calls it.
-#[inline(never)]
+// ended leave a frame.
+#[inline(always)]
 fn fits_at(claim: &Claim, walk: &RowWalk<'_>, frame: &FrameSoFar, place: Place, pc: u64) -> bool
     requires function { IsFunction SystemV (function_of claim.now) }
     requires start { claim.now.start ≤ pc }
@@ -153,37 +153,61 @@ fn fits_at(claim: &Claim, walk: &RowWalk<'_>, frame: &FrameSoFar, place: Place, 
         IsWalking walk.now coding from due → from ≤ a → IsBefore a (end_of walk.now) →
         Decides result (Fits (function_of claim.now) pc (due a)) }
 {
-    if let Place::Free = place {
-        return true;
+    match place {
+        Place::Free => true,
+        Place::Outermost => fits_outermost(claim, walk, pc),
+        Place::Body => fits_body(claim, walk, frame, pc),
+        Place::Prologue => fits_prologue(claim, walk, frame, pc),
     }
+}
+
+// The same in the body of an outermost function.
+#[inline(never)]
+fn fits_outermost(claim: &Claim, walk: &RowWalk<'_>, pc: u64) -> bool
+    requires function { IsFunction SystemV (function_of claim.now) }
+    requires place { IsPlace (function_of claim.now) pc Outermost }
+    ensures { (coding : Coding) (from a : ℕ) (due : ℕ → Result RowInstructions Fault) →
+        IsWalking walk.now coding from due → from ≤ a → IsBefore a (end_of walk.now) →
+        Decides result (Fits (function_of claim.now) pc (due a)) }
+{
     match walk.row() {
-        Ok(row) => fits_place(claim, &row, frame, place, pc),
+        Ok(row) => is_outermost_row(&row),
         Err(_) => false,
     }
 }
 
-// Whether a row is the one that is asked at an address, where steps leave a frame.
-#[inline(always)]
-fn fits_place(
-    claim: &Claim,
-    row: &RowRef<'_, '_>,
-    frame: &FrameSoFar,
-    place: Place,
-    pc: u64,
-) -> bool
+// The same in the body of another function. Not inlined, as it would take the registers of the loop
+// that looks at rows, most of which are those of prologues.
+#[inline(never)]
+fn fits_body(claim: &Claim, walk: &RowWalk<'_>, frame: &FrameSoFar, pc: u64) -> bool
     requires function { IsFunction SystemV (function_of claim.now) }
-    requires start { claim.now.start ≤ pc }
     requires frame { IsFrameAfter frame.now
         (ended_by (pc - claim.now.start) (function_of claim.now).prologue) }
-    requires place { IsPlace (function_of claim.now) pc place }
-    ensures { (due : Result RowInstructions Fault) → GivesRow (Ok row.now) due →
-        Decides result (Fits (function_of claim.now) pc due) }
+    requires place { IsPlace (function_of claim.now) pc Body }
+    ensures { (coding : Coding) (from a : ℕ) (due : ℕ → Result RowInstructions Fault) →
+        IsWalking walk.now coding from due → from ≤ a → IsBefore a (end_of walk.now) →
+        Decides result (Fits (function_of claim.now) pc (due a)) }
 {
-    match place {
-        Place::Free => true,
-        Place::Outermost => is_outermost_row(row),
-        Place::Body => is_body_row(row, frame),
-        Place::Prologue => is_prologue_row(row, frame),
+    match walk.row() {
+        Ok(row) => is_body_row(&row, frame),
+        Err(_) => false,
+    }
+}
+
+// The same in a prologue.
+#[inline(always)]
+fn fits_prologue(claim: &Claim, walk: &RowWalk<'_>, frame: &FrameSoFar, pc: u64) -> bool
+    requires function { IsFunction SystemV (function_of claim.now) }
+    requires frame { IsFrameAfter frame.now
+        (ended_by (pc - claim.now.start) (function_of claim.now).prologue) }
+    requires place { IsPlace (function_of claim.now) pc Prologue }
+    ensures { (coding : Coding) (from a : ℕ) (due : ℕ → Result RowInstructions Fault) →
+        IsWalking walk.now coding from due → from ≤ a → IsBefore a (end_of walk.now) →
+        Decides result (Fits (function_of claim.now) pc (due a)) }
+{
+    match walk.row() {
+        Ok(row) => is_prologue_row(&row, frame),
+        Err(_) => false,
     }
 }
 

@@ -53,7 +53,7 @@ pub(crate) fn is_prologue_row(row: &RowRef<'_, '_>, frame: &FrameSoFar) -> bool
 }
 
 /// Whether a row is that of an outermost frame, which has no caller to return to.
-#[inline(never)]
+#[inline(always)]
 pub(crate) fn is_outermost_row(row: &RowRef<'_, '_>) -> bool
     ensures { Decides result (IsOutermostValue row.now) }
 {
